@@ -1,0 +1,16 @@
+pub mod Refusal
+pub mod Patch
+pub mod Step
+pub mod StepOf
+pub mod Pile
+pub mod Execution
+pub mod Entry
+pub mod Dependency
+pub mod Ready
+pub mod State
+pub mod History
+pub mod Legal
+pub mod Crash
+pub mod Orderly
+pub mod Piles
+pub mod Member

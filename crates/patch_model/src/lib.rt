@@ -1,0 +1,20 @@
+//! The words of the patch cache: blocks, patches, steps and refusals, and the definitions that every contract cites.
+#![tactic(auto)]
+
+mod blocks;
+mod limits;
+mod lists;
+mod numbers;
+mod patches;
+mod piling;
+mod refusals;
+mod steps;
+
+pub use blocks::{BLOCK, BlockBytes};
+pub use limits::{MAX_BLOCKS, MAX_LIVE, MAX_PATCHES};
+pub use lists::{Bytes, Items, Numbers};
+pub use numbers::{BlockNo, PatchNo, WriterNo};
+pub use patches::{Mark, Patch, Undo};
+pub use piling::pile;
+pub use refusals::{OutOfMemory, RefusalKind};
+pub use steps::{Step, Steps};
