@@ -1,6 +1,7 @@
 -- Members of a list by cases on it, and what tests and filters say of them: the lemmas of every crate's proofs.
 use Rattle.std.proofs.Common.{◌≡◌, ℕ, zero, suc, ◌<◌, ◌⊎◌, ◌∙◌, inl, inr, Bool, true, List, [], ◌∷◌, length, refl, sym, ap, arith}
 use Rattle.std.proofs.lemmas.Bool.{cases_Bool, and_parts, and_from}
+use Rattle.std.specs.Prelude.{◌&&◌}
 use Rattle.std.specs.List.{Contains, filter, list_all, list_any, slice_index_or}
 
 abbrev pub In : {X : Type 0} → List X → X → Type 0
@@ -63,3 +64,19 @@ list_any-at p (y ∷ ys) t = elim (cases_Bool (p y)) [
   | inl u ↦ (y, inl refl, u)
   | inr u ↦ let r = list_any-at p ys (rw u at t) in (r.0, inr r.1, r.2)
 ]
+
+-- two filters are one that asks both
+pub filter-filter : {X : Type 0} → (p q : X → Bool) (xs : List X) → filter p (filter q xs) ≡ filter (λ x. q x && p x) xs
+filter-filter p q [] = refl
+filter-filter p q (y ∷ ys) = elim (cases_Bool (q y)) [
+  | inl u ↦ elim (cases_Bool (p y)) [
+    | inl v ↦ rw (u, v) (ap (λ zs. y ∷ zs) (filter-filter p q ys))
+    | inr v ↦ rw (u, v) (filter-filter p q ys)
+  ]
+  | inr u ↦ rw u (filter-filter p q ys)
+]
+
+-- filters that answer alike keep the same
+pub filter-same : {X : Type 0} → (p q : X → Bool) (xs : List X) → ((x : X) → p x ≡ q x) → filter p xs ≡ filter q xs
+filter-same p q [] same = refl
+filter-same p q (x ∷ xs) same = rw (same x, filter-same p q xs same) refl

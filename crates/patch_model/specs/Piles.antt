@@ -14,7 +14,7 @@ IsApart p q = (place : ℕ) → IsTrue (covers p place) → IsFalse (covers q pl
 
 -- lists of patches, of which one becomes the other as neighbours that share no byte change places
 pub data Rearranged : List Patch → List Patch → Type 0 where
-  same : {ps : List Patch} → Rearranged ps ps
+  unchanged : {ps : List Patch} → Rearranged ps ps
   exchange : {ps : List Patch} (before : List Patch) (p q : Patch) (behind : List Patch)
       → IsApart p q → Rearranged (before ++ q ∷ p ∷ behind) ps → Rearranged (before ++ p ∷ q ∷ behind) ps
 

@@ -2,6 +2,7 @@
 #![tactic(auto)]
 
 mod blocks;
+pub mod laws;
 mod limits;
 mod lists;
 mod numbers;

@@ -1,0 +1,11 @@
+use Rattle.patch_model.proofs.Sizes as sizes
+use Rattle.patch_model.proofs.laws.executions_are_limited.Goals as goal
+
+pub returns-clause-patches : goal.returns-clause-patches
+returns-clause-patches c = λ run legal. (sizes.AreFew-run run legal).made
+
+pub returns-clause-live : goal.returns-clause-live
+returns-clause-live c = λ run legal. (sizes.AreFew-run run legal).live
+
+pub returns-clause-blocks : goal.returns-clause-blocks
+returns-clause-blocks c = λ run legal. legal.few

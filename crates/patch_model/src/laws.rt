@@ -1,0 +1,233 @@
+//! Laws of the definitions. Each is the contract of a function that does nothing: who calls it may rest on the law.
+ghost use Rattle.std.specs.Prelude.{ℕ, ◌≡◌, ◌≢◌, ◌<◌, ◌≤◌, ◌+◌, ◌++◌, ◌==◌, ◌&&◌, ◌↔◌, [], IsTrue, IsFalse, List, Contains, All, count_by, length, slice_set};
+ghost use Rattle.std.specs.List.{list_any};
+ghost use Rattle.patch_model.specs.Patch.{Patch};
+ghost use Rattle.patch_model.specs.Step.{Step, Send};
+ghost use Rattle.patch_model.specs.Pile.{end, covers};
+ghost use Rattle.patch_model.specs.Execution.{Execution, extended, followed_by};
+ghost use Rattle.patch_model.specs.Entry.{Entry, is_memory, is_flight, is_live, is_among, in_memory_of};
+ghost use Rattle.patch_model.specs.Dependency.{shares_byte, depends_directly, Path, has_live};
+ghost use Rattle.patch_model.specs.Ready.{IsLargestWritable, IsRising, ready};
+ghost use Rattle.patch_model.specs.State.{class_of, has_flight, after_step, state_of, entries_of};
+ghost use Rattle.patch_model.specs.Legal.{IsLegal, IsLegalStep, IsLegalCreate, IsLegalMerge, block_at, touch};
+ghost use Rattle.patch_model.specs.History.{History, of_block, history_of, without, image, HoldsDependents, holds_dependents};
+ghost use Rattle.patch_model.specs.Orderly.{IsUnder, IsOrderly, IsNumbered, IsOrderlyBlock, MayJoin, MeetAt, IsClassUnder, CoversIt, left_behind};
+ghost use Rattle.patch_model.specs.Crash.{AreWhole, IsClosed, HasTrail, MayLeave, crash_set};
+ghost use Rattle.patch_model.specs.Piles.{NeighboursCommute, RearrangedAlike, MayComeLast, UncoveredByte, CoveredByte, TakenBack};
+
+// Piles.
+
+/// Two neighbouring patches that share no byte may be laid in either order.
+pub fn neighbours_commute()
+    ensures { NeighboursCommute }
+{}
+
+/// Lists that differ by such exchanges give one block.
+pub fn rearranged_alike()
+    ensures { RearrangedAlike }
+{}
+
+/// A patch that shares no byte with a later one may be laid last.
+pub fn may_come_last()
+    ensures { MayComeLast }
+{}
+
+/// Which patch each byte of a pile comes from.
+pub fn bytes_of_piles()
+    ensures uncovered { UncoveredByte }
+    ensures covered { CoveredByte }
+{}
+
+/// What a patch was laid over takes it back.
+pub fn taken_back()
+    ensures { TakenBack }
+{}
+
+/// Two patches share a byte where a byte of their block is in both spans.
+pub fn sharing_is_a_common_byte()
+    ensures { (p q : Patch) → IsTrue (shares_byte p q)
+        ↔ ((p.block ≡ q.block) × ((place : ℕ) × IsTrue (covers p place) × IsTrue (covers q place))) }
+{}
+
+// Executions.
+
+/// A step more is taken from the state so far.
+pub fn steps_extend()
+    ensures state { (run : Execution) (step : Step)
+        → state_of (extended run step) ≡ after_step (state_of run) step }
+    ensures legal { (run : Execution) (step : Step) → IsLegal run
+        → IsLegalStep (length run.first) (state_of run) step → IsLegal (extended run step) }
+{}
+
+/// The patches of a legal execution are orderly, and so are those of each block.
+pub fn executions_are_orderly()
+    ensures patches { (run : Execution) → IsLegal run → IsOrderly (entries_of run) }
+    ensures numbered { (run : Execution) → IsNumbered (entries_of run) }
+    ensures blocks { (run : Execution) (block : ℕ) → IsLegal run → block < length run.first
+        → IsOrderlyBlock (history_of run block) block }
+{}
+
+/// How many blocks, patches and live patches an execution has at most.
+pub fn executions_are_limited()
+    ensures blocks { (run : Execution) → IsLegal run → length run.first ≤ 4096 }
+    ensures patches { (run : Execution) → IsLegal run → length (entries_of run) ≤ 16777216 }
+    ensures live { (run : Execution) → IsLegal run → count_by is_live (entries_of run) ≤ 65536 }
+{}
+
+/// Which patches may be made, in numbers.
+pub fn creations_are_limited()
+    ensures { (blocks block start : ℕ) (all : List Entry) (bytes after : List ℕ)
+        → IsLegalCreate blocks all block start bytes after
+        ↔ ((block < blocks) × (0 < length bytes) × (start + length bytes ≤ 4096) × All (λ n. n < length all) after
+        × (length all < 16777216) × (count_by is_live all < 65536)) }
+{}
+
+/// A patch is of a block that there is, and one in flight is of a block with a flight.
+pub fn patches_are_placed()
+    ensures known { (run : Execution) (e : Entry) → IsLegal run → Contains (entries_of run) e
+        → e.patch.block < length run.first }
+    ensures flying { (run : Execution) (e : Entry) → IsLegal run → Contains (entries_of run) e
+        → IsTrue (is_flight e) → IsTrue (has_flight (state_of run) e.patch.block) }
+{}
+
+/// A block has at most one flight; a flight's number is below the count of sends, and some patch of the block is in it.
+pub fn flights_are_single()
+    ensures single { (run : Execution) (f g : ℕ × ℕ) → IsLegal run → Contains (state_of run).flights f
+        → Contains (state_of run).flights g → f.0 ≡ g.0 → f ≡ g }
+    ensures counted { (run : Execution) (f : ℕ × ℕ) → IsLegal run → Contains (state_of run).flights f
+        → f.1 < (state_of run).sends }
+    ensures holds { (run : Execution) (block : ℕ) → IsLegal run → IsTrue (has_flight (state_of run) block)
+        → IsTrue (list_any (λ e. is_flight e && e.patch.block == block) (entries_of run)) }
+{}
+
+// Dependencies, classes and marks.
+
+/// What a durable patch depends on directly is durable; what one in flight depends on is durable or in flight of its
+/// block; what a hard one depends on is durable or hard of its block.
+pub fn marks_are_closed()
+    ensures { (run : Execution) (e f : Entry) → IsLegal run → Contains (entries_of run) e → Contains (entries_of run) f
+        → IsTrue (depends_directly e.patch f.patch) → IsUnder e f }
+{}
+
+/// Dependencies of classes form no ring, and what leads to a live class is live.
+pub fn paths_form_no_ring()
+    ensures ring { (run : Execution) (a : ℕ) → IsLegal run → Path (entries_of run) a a → ⊥ }
+    ensures back { (run : Execution) (a b : ℕ) → IsLegal run → Path (entries_of run) a b
+        → Path (entries_of run) b a → ⊥ }
+    ensures live { (run : Execution) (a b : ℕ) → IsLegal run → Path (entries_of run) a b
+        → IsTrue (has_live (entries_of run) b) → IsTrue (has_live (entries_of run) a) }
+{}
+
+/// Of the patches that change a byte, those of a class are neighbours, and of two classes that change it just one
+/// depends on the other: that of the later patch, directly.
+pub fn classes_are_neighbours()
+    ensures neighbours { (run : Execution) (place : ℕ) (e f g : Entry) → IsLegal run
+        → MeetAt (entries_of run) place e f → MeetAt (entries_of run) place f g
+        → e.patch.no < f.patch.no → f.patch.no < g.patch.no → e.class ≡ g.class → f.class ≡ e.class }
+    ensures over { (run : Execution) (place : ℕ) (e f : Entry) → IsLegal run
+        → MeetAt (entries_of run) place e f → e.patch.no < f.patch.no → e.class ≢ f.class
+        → IsClassUnder (entries_of run) e f }
+    ensures marks { (run : Execution) (place : ℕ) (e f : Entry) → IsLegal run
+        → MeetAt (entries_of run) place e f → e.patch.no < f.patch.no → IsUnder f e }
+{}
+
+/// A class's patches leave no gap between them, so two classes touch where their spans do.
+pub fn spans_are_whole()
+    ensures gap { (run : Execution) (e g : Entry) (place : ℕ) → IsLegal run → Contains (entries_of run) e
+        → Contains (entries_of run) g → e.class ≡ g.class → e.patch.start ≤ place → place < end g.patch
+        → (f : Entry) × CoversIt (entries_of run) e.class place f }
+    ensures near { (run : Execution) (e e2 g g2 : Entry) → IsLegal run → Contains (entries_of run) e
+        → Contains (entries_of run) e2 → Contains (entries_of run) g → Contains (entries_of run) g2
+        → e.class ≡ e2.class → g.class ≡ g2.class → e.patch.start ≤ end g2.patch → g.patch.start ≤ end e2.patch
+        → IsTrue (touch (entries_of run) e.class g.class) }
+{}
+
+/// The classes of a legal merge may be joined, as the patches of their block alone show.
+pub fn merges_may_join()
+    ensures { (run : Execution) (a b : ℕ) → IsLegal run → IsLegalMerge (entries_of run) a b
+        → MayJoin (of_block (block_at (entries_of run) a) (entries_of run)) (class_of (entries_of run) a) (class_of (entries_of run) b) }
+{}
+
+// What a send takes.
+
+/// What a send takes is the largest set that may be written, in order of making, and no other list is.
+pub fn ready_is_largest()
+    ensures largest { (run : Execution) (block : ℕ)
+        → IsLargestWritable (entries_of run) block (ready (entries_of run) block) }
+    ensures rising { (run : Execution) (block : ℕ) → IsRising (ready (entries_of run) block) }
+    ensures only { (run : Execution) (block : ℕ) (set : List Entry)
+        → IsLargestWritable (entries_of run) block set → IsRising set → set ≡ ready (entries_of run) block }
+{}
+
+/// Where a block has no flight, each hard patch of it in memory is ready.
+pub fn hard_is_ready()
+    ensures { (run : Execution) (block : ℕ) (e : Entry) → IsLegal run → IsFalse (has_flight (state_of run) block)
+        → Contains (entries_of run) e → IsTrue (in_memory_of block e) → IsTrue e.hard
+        → Contains (ready (entries_of run) block) e }
+{}
+
+/// Where nothing is in flight and some patch is in memory, some block may be sent.
+pub fn some_is_ready()
+    ensures { (run : Execution) (e : Entry) → IsLegal run → (state_of run).flights ≡ [] → Contains (entries_of run) e
+        → IsTrue (is_memory e) → (block : ℕ) × (block < length run.first) × (ready (entries_of run) block ≢ []) }
+{}
+
+/// What a send of a block leaves in memory holds its dependents, and the block without it is the image sent.
+pub fn sends_leave()
+    ensures holds { (run : Execution) (block : ℕ) → IsLegal run → IsFalse (has_flight (state_of run) block)
+        → HoldsDependents (history_of run block) (left_behind (entries_of run) block) }
+    ensures image { (run : Execution) (block : ℕ) → IsLegal run → IsFalse (has_flight (state_of run) block)
+        → image (history_of (extended run (Send block)) block)
+        ≡ without (history_of run block) (left_behind (entries_of run) block) }
+{}
+
+/// Only a send of the block changes its image.
+pub fn images_stay()
+    ensures { (run : Execution) (step : Step) (block : ℕ) → step ≢ Send block
+        → image (history_of (extended run step) block) ≡ image (history_of run block) }
+{}
+
+// Views.
+
+/// The test of holding dependents tells it.
+pub fn holding_is_tested()
+    ensures { (h : History) (names : List ℕ) → IsTrue (holds_dependents h names) ↔ HoldsDependents h names }
+{}
+
+/// What a set that holds its dependents takes is in memory, of the block, and at each byte above all that it doesn't take.
+pub fn taken_are_last()
+    ensures last { (run : Execution) (block : ℕ) (names : List ℕ) (place : ℕ) (e f : Entry) → IsLegal run
+        → HoldsDependents (history_of run block) names → MeetAt (entries_of run) place e f → e.patch.no < f.patch.no
+        → IsTrue (is_among names e.class) → IsTrue (is_among names f.class) }
+    ensures memory { (run : Execution) (block : ℕ) (names : List ℕ) (e : Entry) → IsLegal run
+        → HoldsDependents (history_of run block) names → Contains (entries_of run) e
+        → IsTrue (is_among names e.class) → IsTrue (is_memory e) × (e.patch.block ≡ block) }
+{}
+
+/// What is left without some classes rests on which they are, and not on the order in which they were taken.
+pub fn orders_end_alike()
+    ensures { (h : History) (a b : List ℕ) → ((n : ℕ) → is_among a n ≡ is_among b n) → without h a ≡ without h b }
+{}
+
+// Crashes.
+
+/// What a crash leaves holds all that it depends on, and is made of whole classes.
+pub fn crash_sets_are_closed()
+    ensures closed { (run : Execution) (landed : List ℕ) → IsLegal run
+        → IsClosed (entries_of run) (crash_set landed) }
+    ensures whole { (run : Execution) (landed : List ℕ) → IsLegal run
+        → AreWhole (entries_of run) (crash_set landed) }
+{}
+
+/// Where a crash may leave a disk, it may also leave that disk with a block's image written.
+pub fn images_land()
+    ensures { (run : Execution) (disk : List (List ℕ)) (block : ℕ) → block < length run.first → MayLeave run disk
+        → MayLeave run (slice_set disk block (image (history_of run block))) }
+{}
+
+/// The trails of two calls, one after the other, join to one.
+pub fn trails_join()
+    ensures { (run : Execution) (more : List Step) (from : ℕ) (disks later : List (List (List ℕ))) (counts next : List ℕ)
+        → HasTrail run from disks counts → HasTrail (followed_by run more) (length run.steps) later next
+        → HasTrail (followed_by run more) from (disks ++ later) (counts ++ next) }
+{}
