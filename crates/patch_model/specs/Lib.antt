@@ -14,3 +14,4 @@ pub mod Crash
 pub mod Orderly
 pub mod Piles
 pub mod Member
+pub mod Rows

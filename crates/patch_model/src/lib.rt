@@ -19,3 +19,8 @@ pub use patches::{Mark, Patch, Undo};
 pub use piling::pile;
 pub use refusals::{OutOfMemory, RefusalKind};
 pub use steps::{Step, Steps};
+
+#[cfg(test)]
+mod rows;
+#[cfg(test)]
+mod tests;
