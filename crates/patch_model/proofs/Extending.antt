@@ -1,21 +1,11 @@
 -- Executions with more steps.
-use Rattle.std.proofs.Common.{◌≡◌, ℕ, ◌≤◌, ◌∙◌, inl, inr, Bool, true, List, [], ◌∷◌, ◌++◌, length, map, refl, sym, ap, arith, subst}
-use Rattle.std.specs.Prelude.{◌==◌, ◌&&◌, filter}
-use Rattle.std.proofs.lemmas.Bool.{cases_Bool, and_from, eq-eqb}
-use Rattle.std.proofs.lemmas.List.{map-append}
-use Rattle.std.proofs.lemmas.List.Sums.{fold_push}
+use Rattle.std.proofs.Common.{◌≡◌, ℕ, ◌≤◌, List, [], ◌∷◌, ◌++◌, length, sym, ap, arith, subst}
 use Rattle.std.proofs.lemmas.List.{take-append-le}
-use Rattle.patch_model.specs.Patch.{Patch}
-use Rattle.patch_model.specs.Step.{Step, Create}
-use Rattle.patch_model.specs.declared.patches.Undo.{Undo}
-use Rattle.patch_model.specs.Pile.{lay, pile}
+use Rattle.patch_model.specs.Step.{Step}
 use Rattle.patch_model.specs.Execution.{Execution, extended, followed_by, cut}
-use Rattle.patch_model.specs.Entry.{Entry}
-use Rattle.patch_model.specs.State.{State, fresh, after_step, after_steps, at_first, state_of, entries_of}
-use Rattle.patch_model.specs.History.{pile_of, cached}
+use Rattle.patch_model.specs.State.{State, after_step, after_steps, at_first, state_of}
 use Rattle.patch_model.specs.Legal.{IsLegal, IsLegalStep, AreLegal}
 use Rattle.patch_model.specs.Crash.{MayLeave, HasTrail}
-use Rattle.patch_model.proofs.Numbering.{state_of-extended}
 
 AreLegal-push : (blocks : ℕ) (st : State) (steps : List Step) (step : Step) → AreLegal blocks st steps → IsLegalStep blocks (after_steps st steps) step
     → AreLegal blocks st (steps ++ step ∷ [])

@@ -1,5 +1,5 @@
 -- What holds its dependents, and the test of it.
-use Rattle.std.proofs.Common.{◌≡◌, ℕ, true, List, refl, arith, subst}
+use Rattle.std.proofs.Common.{◌≡◌, ℕ, true, List, arith, subst}
 use Rattle.std.specs.Prelude.{◌==◌, ◌&&◌, ◌||◌, not, Bool}
 use Rattle.std.specs.List.{list_any, list_all}
 use Rattle.std.proofs.lemmas.Bool.{and_parts, and_from}

@@ -1,21 +1,20 @@
 -- What a send leaves behind may be taken back first, and the image stays what it was until the next send of its block.
 use Rattle.std.proofs.Common.{◌≡◌, ◌≢◌, ℕ, ◌∙◌, inl, inr, Bool, true, false, List, [], ◌∷◌, ◌++◌, length, map, refl, sym, ap, arith, subst}
-use Rattle.std.specs.Prelude.{◌==◌, ◌&&◌, ◌||◌, not, IsTrue, IsFalse, filter}
-use Rattle.std.specs.List.{list_any, list_all}
+use Rattle.std.specs.Prelude.{◌==◌, ◌&&◌, not, IsFalse, filter}
 use Rattle.std.proofs.lemmas.Bool.{cases_Bool, and_parts, and_from, both_ways, not-true}
 use Rattle.std.proofs.lemmas.Bool.Decides.{nat_tests}
 use Rattle.patch_model.specs.Step.{Step, Create, Merge, Send, Complete}
 use Rattle.patch_model.specs.Pile.{pile}
 use Rattle.patch_model.specs.Execution.{Execution, extended}
-use Rattle.patch_model.specs.Entry.{Entry, is_memory, is_flight, is_durable, is_among, in_memory_of, is_undoable}
+use Rattle.patch_model.specs.Entry.{Entry, is_memory, is_flight, is_durable, is_among, in_memory_of}
 use Rattle.patch_model.specs.Dependency.{depends_directly}
 use Rattle.patch_model.specs.Ready.{has, ready}
 use Rattle.patch_model.specs.State.{fresh, joined, sent, landed, class_of, after_step, state_of, entries_of, has_flight}
-use Rattle.patch_model.specs.History.{holds_dependents, without, image, HoldsDependents, history_of, History}
+use Rattle.patch_model.specs.History.{without, image, HoldsDependents, history_of, History}
 use Rattle.patch_model.specs.Legal.{IsLegal}
 use Rattle.patch_model.specs.Orderly.{left_behind}
-use Rattle.patch_model.specs.Member.{In, In-from_Contains, Contains-from_In, In-filter, filter-In, list_all-from, list_any-from, filter-same}
-use Rattle.patch_model.proofs.Striking.{In-has, has-In, ready-In, from_cases}
+use Rattle.patch_model.specs.Member.{In, In-from_Contains, Contains-from_In, In-filter, filter-In, filter-same}
+use Rattle.patch_model.proofs.Striking.{In-has, has-In, ready-In}
 use Rattle.patch_model.proofs.Numbering.{AreApart-run, ready_is_largest, state_of-extended, patch-joined, patch-sent, patch-landed}
 use Rattle.patch_model.proofs.Classes.{goes_along}
 use Rattle.patch_model.proofs.Crashes.{not_both, not_flying}

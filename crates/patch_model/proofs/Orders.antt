@@ -1,5 +1,5 @@
 -- The patches of a legal execution are orderly, and so are those of each of its blocks.
-use Rattle.std.proofs.Common.{◌≡◌, ◌≢◌, ℕ, zero, suc, ◌+◌, ◌<◌, ◌≤◌, ◌⊎◌, ◌∙◌, inl, inr, true, List, [], ◌∷◌, length, refl, sym, ap, arith, subst}
+use Rattle.std.proofs.Common.{◌≡◌, ◌≢◌, ℕ, zero, suc, ◌+◌, ◌<◌, ◌∙◌, inl, inr, true, List, [], ◌∷◌, length, refl, sym, arith, subst}
 use Rattle.std.specs.Prelude.{◌==◌, ◌&&◌, not, IsTrue, Contains, slice_index_or}
 use Rattle.std.specs.List.{AllByRecursion}
 use Rattle.std.proofs.lemmas.Bool.{and_parts, and_from}
@@ -7,12 +7,12 @@ use Rattle.std.proofs.lemmas.Bool.Decides.{nat_tests}
 use Rattle.std.proofs.lemmas.List.Elements.{recursion_from_All}
 use Rattle.patch_model.specs.declared.blocks.TheConstants.{BLOCK}
 use Rattle.patch_model.specs.Execution.{Execution}
-use Rattle.patch_model.specs.Entry.{Entry, marks_memory, is_memory, is_live, is_undoable}
+use Rattle.patch_model.specs.Entry.{Entry, is_memory, is_live, is_undoable}
 use Rattle.patch_model.specs.Dependency.{class_depends, Path, LiesBetween, has_live}
 use Rattle.patch_model.specs.State.{class_of, entries_of}
-use Rattle.patch_model.specs.Legal.{IsLegal, IsLegalMerge, is_undoable_at, block_at, touch}
+use Rattle.patch_model.specs.Legal.{IsLegal, IsLegalMerge, is_undoable_at, block_at}
 use Rattle.patch_model.specs.History.{of_block, history_of}
-use Rattle.patch_model.specs.Orderly.{IsOrderly, IsNumbered, IsOrderlyBlock, MayJoin, IsLike}
+use Rattle.patch_model.specs.Orderly.{IsOrderly, IsNumbered, IsOrderlyBlock, MayJoin}
 use Rattle.patch_model.specs.Member.{In, In-from_Contains, Contains-from_In, In-filter, filter-In, list_any-from}
 use Rattle.patch_model.proofs.Numbering.{Numbered, Numbered-run, AreApart-run}
 use Rattle.patch_model.proofs.Crashes.{Numbered-below}

@@ -1,17 +1,15 @@
 -- How large patches are, and how many there may be.
 use Rattle.std.proofs.Common.{◌≡◌, ℕ, ◌+◌, ◌<◌, ◌≤◌, ◌∙◌, inl, inr, Bool, true, false, List, [], ◌∷◌, ◌++◌, length, map, refl, sym, ap, arith, subst, length-append}
-use Rattle.std.specs.Prelude.{◌==◌, ◌&&◌, not, cond, count_by}
+use Rattle.std.specs.Prelude.{◌==◌, ◌&&◌, cond, count_by}
 use Rattle.std.proofs.lemmas.List.Sums.{sum_by-append, sum_by-cons, count_by-le-length}
-use Rattle.std.proofs.lemmas.Bool.{cases_Bool, and_parts}
+use Rattle.std.proofs.lemmas.Bool.{cases_Bool}
 use Rattle.patch_model.specs.declared.blocks.TheConstants.{BLOCK}
 use Rattle.patch_model.specs.declared.limits.TheConstants.{MAX_PATCHES, MAX_LIVE}
-use Rattle.patch_model.specs.declared.patches.Mark.{Mark}
-use Rattle.patch_model.specs.declared.patches.Mark.TheVariants.{Memory, Flight, Durable}
 use Rattle.patch_model.specs.Patch.{Patch}
 use Rattle.patch_model.specs.Step.{Step, Create, Merge, Send, Complete}
 use Rattle.patch_model.specs.Pile.{end}
 use Rattle.patch_model.specs.Execution.{Execution}
-use Rattle.patch_model.specs.Entry.{Entry, marks_memory, marks_durable, is_flight, is_live}
+use Rattle.patch_model.specs.Entry.{Entry, is_flight, is_live}
 use Rattle.patch_model.specs.Ready.{has, ready}
 use Rattle.patch_model.specs.State.{State, at_first, fresh, joined, sent, landed, class_of, after_step, after_steps, entries_of}
 use Rattle.patch_model.specs.Legal.{IsLegal, IsLegalStep, AreLegal}

@@ -1,18 +1,15 @@
 -- At each byte the patches that a set holding its dependents takes are the last ones.
-use Rattle.std.proofs.Common.{◌≡◌, ℕ, ◌<◌, ◌∙◌, inl, inr, true, false, List, refl, sym, arith, subst}
-use Rattle.std.specs.Prelude.{◌==◌, ◌&&◌, ◌||◌, not, IsTrue, Contains}
-use Rattle.std.specs.List.{list_any, list_all}
-use Rattle.std.proofs.lemmas.Bool.{cases_Bool, and_parts, and_from}
+use Rattle.std.proofs.Common.{◌≡◌, ℕ, ◌<◌, ◌∙◌, inl, inr, true, List, refl, sym, arith}
+use Rattle.std.specs.Prelude.{◌==◌, not, IsTrue, Contains}
+use Rattle.std.proofs.lemmas.Bool.{cases_Bool, and_parts}
 use Rattle.std.proofs.lemmas.Bool.Decides.{nat_tests}
 use Rattle.patch_model.specs.Execution.{Execution}
-use Rattle.patch_model.specs.Entry.{Entry, is_memory, is_durable, is_among, is_undoable}
-use Rattle.patch_model.specs.Dependency.{depends_directly}
+use Rattle.patch_model.specs.Entry.{Entry, is_memory, is_durable, is_among}
 use Rattle.patch_model.specs.State.{entries_of}
-use Rattle.patch_model.specs.History.{holds_dependents, HoldsDependents, history_of}
+use Rattle.patch_model.specs.History.{HoldsDependents, history_of}
 use Rattle.patch_model.specs.Legal.{IsLegal}
 use Rattle.patch_model.specs.Orderly.{MeetAt}
-use Rattle.patch_model.specs.Member.{In, In-from_Contains, list_all-at, list_any-at, In-filter, filter-In, Contains-from_In}
-use Rattle.patch_model.proofs.Striking.{implied}
+use Rattle.patch_model.specs.Member.{In, In-from_Contains, In-filter, filter-In, Contains-from_In}
 use Rattle.patch_model.proofs.Crashes.{not_both}
 use Rattle.patch_model.proofs.Marks.{IsSettled-run}
 use Rattle.patch_model.proofs.Rings.{same_name, meet-depends, marks_at_byte}

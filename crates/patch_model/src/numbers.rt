@@ -1,4 +1,7 @@
 //! Numbers of patches, blocks and writers, which contracts see as numbers.
+ghost use Rattle.std.specs.Prelude.{Some};
+ghost use Rattle.std.specs.Fmt.{decimal};
+
 use std::fmt;
 use std::marker::Model;
 
@@ -17,6 +20,8 @@ impl Model for PatchNo {
 }
 
 impl fmt::Display for PatchNo {
+    ghost output = { λ n. Some (decimal n) };
+
     fn fmt<W: fmt::Write>(&self, f: &mut fmt::Formatter<W>) -> fmt::Result {
         write!(f, "{}", self.0)
     }
@@ -37,6 +42,8 @@ impl Model for BlockNo {
 }
 
 impl fmt::Display for BlockNo {
+    ghost output = { λ n. Some (decimal n) };
+
     fn fmt<W: fmt::Write>(&self, f: &mut fmt::Formatter<W>) -> fmt::Result {
         write!(f, "{}", self.0)
     }

@@ -1,5 +1,5 @@
 //! Refusals, by their numbers and names.
-ghost use Rattle.std.specs.Prelude.{◌≡◌};
+ghost use Rattle.std.specs.Prelude.{◌≡◌, Some};
 ghost use Rattle.patch_model.specs.declared.refusals.RefusalKind.TheVariants as kind;
 ghost use Rattle.patch_model.specs.Refusal.{code_of, name_of};
 
@@ -152,8 +152,10 @@ impl RefusalKind {
 }
 
 impl fmt::Display for RefusalKind {
+    ghost output = { λ k. Some (name_of k) };
+
     fn fmt<W: fmt::Write>(&self, f: &mut fmt::Formatter<W>) -> fmt::Result {
-        write!(f, "{}", self.name())
+        f.write_str(self.name())
     }
 }
 
