@@ -12,6 +12,7 @@ pub mod Waiting
 pub mod Spans
 pub mod Sizes
 pub mod Orders
+pub mod Changing
 pub mod Holding
 pub mod Leaving
 pub mod Flights

@@ -89,7 +89,7 @@ orderly_block run block legal there = record {
 -- a legal merge's classes, among the patches of their block
 module _ (run : Execution) (a b : ℕ) (legal : IsLegal run) (m : IsLegalMerge (entries_of run) a b) where
   -- a member of the class of a patch that may be taken back
-  member : (n : ℕ) → IsTrue (is_undoable_at (entries_of run) n) → (e : Entry) → In (entries_of run) e → e.class ≡ class_of (entries_of run) n
+  pub member : (n : ℕ) → IsTrue (is_undoable_at (entries_of run) n) → (e : Entry) → In (entries_of run) e → e.class ≡ class_of (entries_of run) n
       → (is_undoable e ≡ true) × (e.patch.block ≡ block_at (entries_of run) n)
   member n h e i same =
       let x = at_number 0 (entries_of run) n is_undoable h in

@@ -1,6 +1,7 @@
 -- What has become of an execution's patches.
 use Rattle.std.specs.Prelude.{ℕ, Bool, false, ◌+◌, ◌==◌, ◌&&◌, ◌||◌, not, min, if◌then◌else◌, List, [], ◌∷◌, ◌++◌, length, map, filter, fold, slice_get, Some, None}
 use Rattle.std.specs.List.{list_any, list_all}
+use Rattle.patch_model.specs.declared.patches.Undo.{Undo}
 use Rattle.patch_model.specs.declared.patches.Undo.TheVariants.{Keep, MayDrop}
 use Rattle.patch_model.specs.declared.patches.Mark.TheVariants.{Memory, Flight, Durable}
 use Rattle.patch_model.specs.Patch.{Patch}
@@ -72,3 +73,7 @@ state_of run = after_steps at_first run.steps
 -- the execution's patches, by their numbers
 abbrev pub entries_of : Execution → List Entry
 entries_of run = (state_of run).entries
+
+-- the patch that a Create would make next
+abbrev pub next_patch : Execution → ℕ → ℕ → List ℕ → List ℕ → Undo → Patch
+next_patch run block start bytes after undo = record { no = length (entries_of run); block = block; start = start; bytes = bytes; after = after; undo = undo }

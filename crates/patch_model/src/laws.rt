@@ -1,14 +1,15 @@
 //! Laws of the definitions. Each is the contract of a function that does nothing: who calls it may rest on the law.
-ghost use Rattle.std.specs.Prelude.{ℕ, ◌≡◌, ◌≢◌, ◌<◌, ◌≤◌, ◌+◌, ◌++◌, ◌==◌, ◌&&◌, ◌↔◌, [], IsTrue, IsFalse, List, Contains, All, count_by, length, slice_set};
+ghost use Rattle.std.specs.Prelude.{ℕ, ◌≡◌, ◌≢◌, ◌<◌, ◌≤◌, ◌+◌, ◌++◌, ◌∷◌, ◌==◌, ◌&&◌, ◌↔◌, [], IsTrue, IsFalse, List, Contains, All, count_by, length, map, slice_set};
 ghost use Rattle.std.specs.List.{list_any};
+ghost use Rattle.patch_model.specs.declared.patches.Undo.{Undo};
 ghost use Rattle.patch_model.specs.Patch.{Patch};
-ghost use Rattle.patch_model.specs.Step.{Step, Send};
+ghost use Rattle.patch_model.specs.Step.{Step, Create, Merge, Send, Complete};
 ghost use Rattle.patch_model.specs.Pile.{end, covers};
 ghost use Rattle.patch_model.specs.Execution.{Execution, extended, followed_by};
 ghost use Rattle.patch_model.specs.Entry.{Entry, is_memory, is_flight, is_live, is_among, in_memory_of};
 ghost use Rattle.patch_model.specs.Dependency.{shares_byte, depends_directly, Path, has_live};
 ghost use Rattle.patch_model.specs.Ready.{IsLargestWritable, IsRising, ready};
-ghost use Rattle.patch_model.specs.State.{class_of, has_flight, after_step, state_of, entries_of};
+ghost use Rattle.patch_model.specs.State.{fresh, class_of, joined, sent, landed, has_flight, after_step, state_of, entries_of, next_patch};
 ghost use Rattle.patch_model.specs.Legal.{IsLegal, IsLegalStep, IsLegalCreate, IsLegalMerge, block_at, touch};
 ghost use Rattle.patch_model.specs.History.{History, of_block, history_of, without, image, HoldsDependents, holds_dependents};
 ghost use Rattle.patch_model.specs.Orderly.{IsUnder, IsOrderly, IsNumbered, IsOrderlyBlock, MayJoin, MeetAt, IsClassUnder, CoversIt, left_behind};
@@ -57,6 +58,30 @@ pub fn steps_extend()
         → state_of (extended run step) ≡ after_step (state_of run) step }
     ensures legal { (run : Execution) (step : Step) → IsLegal run
         → IsLegalStep (length run.first) (state_of run) step → IsLegal (extended run step) }
+{}
+
+/// What a step makes of each block's history: a patch is added to its block; a merge, a send and a completion change the
+/// entries where they stand, and those of one block alone.
+pub fn steps_change_blocks()
+    ensures made_here { (run : Execution) (block start : ℕ) (bytes after : List ℕ) (undo : Undo)
+        → (history_of (extended run (Create block start bytes after undo)) block).entries
+        ≡ (history_of run block).entries ++ fresh (entries_of run) (next_patch run block start bytes after undo) ∷ [] }
+    ensures made_elsewhere { (run : Execution) (block start : ℕ) (bytes after : List ℕ) (undo : Undo) (other : ℕ)
+        → other ≢ block → history_of (extended run (Create block start bytes after undo)) other ≡ history_of run other }
+    ensures merged { (run : Execution) (a b block : ℕ)
+        → (history_of (extended run (Merge a b)) block).entries
+        ≡ map (joined (class_of (entries_of run) a) (class_of (entries_of run) b)) (history_of run block).entries }
+    ensures merged_elsewhere { (run : Execution) (a b other : ℕ) → IsLegal run → IsLegalMerge (entries_of run) a b
+        → other ≢ block_at (entries_of run) a → history_of (extended run (Merge a b)) other ≡ history_of run other }
+    ensures sent { (run : Execution) (block other : ℕ)
+        → (history_of (extended run (Send block)) other).entries
+        ≡ map (sent (ready (entries_of run) block)) (history_of run other).entries }
+    ensures sent_elsewhere { (run : Execution) (block other : ℕ) → other ≢ block
+        → history_of (extended run (Send block)) other ≡ history_of run other }
+    ensures landed { (run : Execution) (block other : ℕ)
+        → (history_of (extended run (Complete block)) other).entries ≡ map (landed block) (history_of run other).entries }
+    ensures landed_elsewhere { (run : Execution) (block other : ℕ) → other ≢ block
+        → history_of (extended run (Complete block)) other ≡ history_of run other }
 {}
 
 /// The patches of a legal execution are orderly, and so are those of each block.
