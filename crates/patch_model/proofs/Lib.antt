@@ -17,3 +17,4 @@ pub mod Holding
 pub mod Leaving
 pub mod Flights
 pub mod Taken
+pub mod Making

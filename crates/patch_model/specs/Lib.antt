@@ -10,6 +10,7 @@ pub mod Ready
 pub mod State
 pub mod History
 pub mod Legal
+pub mod Refusing
 pub mod Crash
 pub mod Orderly
 pub mod Piles

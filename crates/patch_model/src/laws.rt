@@ -1,5 +1,5 @@
 //! Laws of the definitions. Each is the contract of a function that does nothing: who calls it may rest on the law.
-ghost use Rattle.std.specs.Prelude.{ℕ, ◌≡◌, ◌≢◌, ◌<◌, ◌≤◌, ◌+◌, ◌++◌, ◌∷◌, ◌==◌, ◌&&◌, ◌↔◌, [], IsTrue, IsFalse, List, Contains, All, count_by, length, map, slice_set};
+ghost use Rattle.std.specs.Prelude.{ℕ, ◌≡◌, ◌≢◌, ◌<◌, ◌≤◌, ◌+◌, ◌++◌, ◌∷◌, ◌==◌, ◌&&◌, ◌↔◌, [], IsTrue, IsFalse, None, List, Contains, All, count_by, length, map, slice_set};
 ghost use Rattle.std.specs.List.{list_any};
 ghost use Rattle.patch_model.specs.declared.patches.Undo.{Undo};
 ghost use Rattle.patch_model.specs.Patch.{Patch};
@@ -11,6 +11,7 @@ ghost use Rattle.patch_model.specs.Dependency.{shares_byte, depends_directly, Pa
 ghost use Rattle.patch_model.specs.Ready.{IsLargestWritable, IsRising, ready};
 ghost use Rattle.patch_model.specs.State.{fresh, class_of, joined, sent, landed, has_flight, after_step, state_of, entries_of, next_patch};
 ghost use Rattle.patch_model.specs.Legal.{IsLegal, IsLegalStep, IsLegalCreate, IsLegalMerge, block_at, touch};
+ghost use Rattle.patch_model.specs.Refusing.{why_not_made};
 ghost use Rattle.patch_model.specs.History.{History, of_block, history_of, without, image, HoldsDependents, holds_dependents};
 ghost use Rattle.patch_model.specs.Orderly.{IsUnder, IsOrderly, IsNumbered, IsOrderlyBlock, MayJoin, MeetAt, IsClassUnder, CoversIt, left_behind};
 ghost use Rattle.patch_model.specs.Crash.{AreWhole, IsClosed, HasTrail, MayLeave, crash_set};
@@ -105,6 +106,12 @@ pub fn creations_are_limited()
         → IsLegalCreate blocks all block start bytes after
         ↔ ((block < blocks) × (0 < length bytes) × (start + length bytes ≤ 4096) × All (λ n. n < length all) after
         × (length all < 16777216) × (count_by is_live all < 65536)) }
+{}
+
+/// A patch is made just where no cause of a refusal holds.
+pub fn legal_patches_are_made()
+    ensures { (blocks block start : ℕ) (all : List Entry) (bytes after : List ℕ)
+        → (why_not_made blocks all block start bytes after ≡ None) ↔ IsLegalCreate blocks all block start bytes after }
 {}
 
 /// A patch is of a block that there is, and one in flight is of a block with a flight.

@@ -1,0 +1,82 @@
+-- Why an ask is refused: the first cause of its list that holds, and the number that goes with it.
+use Rattle.std.specs.Prelude.{ℕ, ◌+◌, ◌==◌, ◌&&◌, not, min, nat_lt, nat_le, if◌then◌else◌, List, [], ◌∷◌, length, map, filter, fold, find, count_by, Option, Some, None}
+use Rattle.std.specs.List.{list_any}
+use Rattle.patch_model.specs.declared.blocks.TheConstants.{BLOCK}
+use Rattle.patch_model.specs.declared.limits.TheConstants.{MAX_PATCHES, MAX_LIVE}
+use Rattle.patch_model.specs.declared.refusals.RefusalKind.{RefusalKind}
+use Rattle.patch_model.specs.declared.refusals.RefusalKind.TheVariants as kind
+use Rattle.patch_model.specs.Entry.{Entry, is_live, is_flight, is_among}
+use Rattle.patch_model.specs.Dependency.{class_depends}
+use Rattle.patch_model.specs.History.{History}
+
+pub record Refusal : Type 0 where
+  pub kind : RefusalKind
+  pub number : Option ℕ
+
+-- a refusal that carries no number
+abbrev pub bare : RefusalKind → Refusal
+bare k = record { kind = k; number = None }
+
+abbrev pub with_number : RefusalKind → ℕ → Refusal
+with_number k n = record { kind = k; number = Some n }
+
+-- the least of some numbers
+abbrev pub least : List ℕ → Option ℕ
+least [] = None
+least (n ∷ ns) = Some (fold min n ns)
+
+-- why a patch isn't made, where there are so many blocks
+abbrev pub why_not_made : ℕ → List Entry → (block start : ℕ) (bytes after : List ℕ) → Option Refusal
+why_not_made blocks all block start bytes after =
+    if nat_le blocks block then Some (bare kind.NoSuchBlock)
+    else if length bytes == 0 then Some (bare kind.EmptyPatch)
+    else if nat_lt BLOCK (start + length bytes) then Some (bare kind.OutOfBlock)
+    else if list_any (λ n. nat_le (length all) n) after then Some (bare kind.UnknownDependency)
+    else if nat_le MAX_PATCHES (length all) then Some (bare kind.NumbersSpent)
+    else if nat_le MAX_LIVE (count_by is_live all) then Some (bare kind.TooManyLive)
+    else None
+
+-- why a span of a block isn't shown
+abbrev pub why_not_shown : (blocks block start len : ℕ) → Option Refusal
+why_not_shown blocks block start len =
+    if nat_le blocks block then Some (bare kind.NoSuchBlock)
+    else if nat_lt BLOCK (start + len) then Some (bare kind.OutOfBlock)
+    else None
+
+-- the names of the live classes of the block that depend directly on the class c and aren't taken
+abbrev pub applied_dependents : History → List ℕ → ℕ → List ℕ
+applied_dependents h taken c = filter (λ n. class_depends h.entries n c && not (is_among taken n)) (map (λ e. e.class) (filter is_live h.entries))
+
+-- the names of the taken classes on which the class c depends directly
+abbrev pub taken_dependencies : History → List ℕ → ℕ → List ℕ
+taken_dependencies h taken c = filter (λ n. class_depends h.entries c n) taken
+
+-- the number that stands in the way, if one does
+abbrev pub hindered_by : RefusalKind → Option ℕ → Option Refusal
+hindered_by k None = None
+hindered_by k (Some n) = Some (with_number k n)
+
+abbrev pub why_class_not_taken : History → List ℕ → Entry → Option Refusal
+why_class_not_taken h taken e =
+    if is_flight e then Some (bare kind.InFlight)
+    else if e.hard then Some (bare kind.Hard)
+    else if is_among taken e.class then Some (bare kind.AlreadyTaken)
+    else hindered_by kind.DependentApplied (least (applied_dependents h taken e.class))
+
+-- why the class of a patch of the block isn't taken back, where these are taken
+abbrev pub why_not_taken : History → List ℕ → ℕ → Option Refusal
+why_not_taken h taken number = elim (find (λ e. e.patch.no == number && is_live e) h.entries) [
+  | None ↦ Some (bare kind.Unknown)
+  | Some e ↦ why_class_not_taken h taken e
+]
+
+-- why the class of a patch of the block isn't put back, where these are taken
+abbrev pub why_not_put_back : History → List ℕ → ℕ → Option Refusal
+why_not_put_back h taken number = elim (find (λ e. e.patch.no == number && is_among taken e.class) h.entries) [
+  | None ↦ Some (bare kind.NotTaken)
+  | Some e ↦ hindered_by kind.DependencyTaken (least (taken_dependencies h taken e.class))
+]
+
+-- the name of the class of a patch of the block
+abbrev pub class_named : History → ℕ → ℕ
+class_named h number = elim (find (λ e. e.patch.no == number) h.entries) [ None ↦ number | Some e ↦ e.class ]
