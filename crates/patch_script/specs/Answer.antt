@@ -1,0 +1,27 @@
+-- The text of an answer.
+use Rattle.std.specs.Prelude.{ℕ, ◌++◌, ◌∷◌, [], List, Option, Some, None, codes, decimal}
+use Rattle.hex.specs.Hex.{encode_lower}
+use Rattle.patch_model.specs.Refusal.{name_of}
+use Rattle.patch_script.specs.declared.answers.Refusal.{Refusal}
+use Rattle.patch_script.specs.declared.answers.Answer.{Answer}
+use Rattle.patch_script.specs.declared.answers.Answer.TheVariants.{Made, Seen, Shown, Refused}
+
+-- a number behind a space, where there is one
+abbrev pub behind_space : Option ℕ → List ℕ
+behind_space None = []
+behind_space (Some n) = codes " " ++ decimal n
+
+abbrev pub refusal_text : Refusal → List ℕ
+refusal_text r = codes "refused " ++ name_of r.kind ++ behind_space r.number
+
+abbrev pub seen_text : List ℕ → List ℕ → List ℕ
+seen_text without cached = (codes "without " ++ encode_lower without) ++ (codes " cached " ++ encode_lower cached)
+
+abbrev pub answer_text : Answer → List ℕ
+answer_text (Made number) = codes "patch " ++ decimal number
+answer_text (Seen without cached) = seen_text without cached
+answer_text (Shown bytes) = codes "shown " ++ encode_lower bytes
+answer_text (Refused refusal) = refusal_text refusal
+
+abbrev pub answer_line : Answer → List ℕ
+answer_line answer = answer_text answer ++ 10 ∷ []

@@ -1,0 +1,67 @@
+-- What a line says.
+use Rattle.std.specs.Prelude.{ℕ, ◌==◌, ◌||◌, [], List, Bool, false, Option, Some, None, option_map, if◌then◌else◌, codes, bytes_eq}
+use Rattle.std.specs.List.{list_all}
+use Rattle.std.specs.Str.{is_utf8}
+use Rattle.serde_json.specs.Data.{Data}
+use Rattle.serde_json.specs.Find.{as_str, as_bool}
+use Rattle.serde_json.specs.Read.{read}
+use Rattle.patch_model.specs.declared.patches.Undo.{Undo}
+use Rattle.patch_model.specs.declared.patches.Undo.TheVariants.{Keep, MayDrop}
+use Rattle.patch_script.specs.declared.forms.Line.{Line}
+use Rattle.patch_script.specs.declared.forms.Line.TheVariants.{Patch, View, Show}
+use Rattle.patch_script.specs.declared.forms.Span.{Span}
+use Rattle.patch_script.specs.Field.{◌>>=◌, whole, wholes, positive, writer_number, hex_bytes, needed, optional}
+
+-- whether undo bytes may be dropped
+abbrev pub undo_of : Bool → Undo
+undo_of drop = if drop then MayDrop else Keep
+
+unfoldable pub patch_line : Data → Option Line
+patch_line line = do
+  block ← needed whole (codes "block") line
+  start ← needed whole (codes "start") line
+  bytes ← needed hex_bytes (codes "hex") line
+  after ← optional wholes [] (codes "after") line
+  drop ← optional as_bool false (codes "drop") line
+  writer ← optional writer_number 0 (codes "writer") line
+  Some (Patch block start bytes after (undo_of drop) writer)
+
+abbrev pub span_of : Data → Option Span
+span_of line = do
+  block ← needed whole (codes "block") line
+  start ← needed whole (codes "start") line
+  len ← needed positive (codes "len") line
+  Some (record { block = block; start = start; len = len })
+
+unfoldable pub view_line : Data → Option Line
+view_line line = do
+  take ← needed wholes (codes "take") line
+  back ← optional wholes [] (codes "back") line
+  span ← span_of line
+  Some (View take back span)
+
+-- each op by its name
+unfoldable pub op_line : List ℕ → Data → Option Line
+op_line op line =
+    if bytes_eq op (codes "patch") then patch_line line
+    else if bytes_eq op (codes "view") then view_line line
+    else if bytes_eq op (codes "show") then option_map Show (span_of line)
+    else None
+
+abbrev pub object_line : Data → Option Line
+object_line line = needed as_str (codes "op") line >>= λ op. op_line op line
+
+-- the JSON value of some bytes
+abbrev pub json_of : List ℕ → Option Data
+json_of bytes = if is_utf8 bytes then read bytes else None
+
+-- a space, a tab or a carriage return
+abbrev pub is_space : ℕ → Bool
+is_space b = (b == 32) || (b == 9) || (b == 13)
+
+abbrev pub is_blank : List ℕ → Bool
+is_blank bytes = list_all is_space bytes
+
+-- what is on a line: nothing on a blank one
+unfoldable pub line_of : List ℕ → Option (Option Line)
+line_of bytes = if is_blank bytes then Some None else (json_of bytes >>= object_line >>= λ line. Some (Some line))

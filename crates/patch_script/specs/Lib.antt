@@ -1,0 +1,5 @@
+pub mod Field
+pub mod Form
+pub mod Gives
+pub mod Script
+pub mod Answer

@@ -1,0 +1,80 @@
+//! What a line is answered, and how that is written.
+ghost use Rattle.std.specs.Prelude.{◌≡◌, ◌++◌, ◌∷◌, [], List, OnOk, IfOk, string_bytes};
+ghost use Rattle.hex.specs.Hex.{encode_lower};
+ghost use Rattle.patch_script.specs.Answer.{answer_text, answer_line as the_line, refusal_text, seen_text};
+
+use patch_model::{Bytes, PatchNo, RefusalKind};
+use std::alloc::{AllocError, Global};
+
+/// Why a line did nothing, and the number that goes with it.
+#[derive(Clone, Copy, Debug, PartialEq, Eq)]
+pub struct Refusal {
+    pub kind: RefusalKind,
+    pub number: Option<PatchNo>,
+}
+
+/// What a line is answered.
+#[derive(Debug, Drop)]
+pub enum Answer {
+    /// A patch was made, of this number.
+    Made(PatchNo),
+    /// The bytes of a span without the patches that were taken back, and with them.
+    Seen { without: Bytes, cached: Bytes },
+    Shown(Bytes),
+    Refused(Refusal),
+}
+
+/// A word, and bytes in lower case hexadecimal.
+fn push_hex(alloc: Global, out: &mut String, word: &str, bytes: &[u8]) -> Result<(), AllocError>
+    ensures { OnOk result (string_bytes out.new ≡ string_bytes out.old ++ (word.now ++ encode_lower bytes.now)) }
+{
+    let text = hex::encode(alloc, bytes)?;
+    out.push_str(word)?;
+    out.push_str(text.as_str())
+}
+
+fn push_refusal(out: &mut String, refusal: Refusal) -> Result<(), AllocError>
+    ensures { OnOk result (string_bytes out.new ≡ string_bytes out.old ++ refusal_text refusal) }
+{
+    let name = refusal.kind.name();
+    match refusal.number {
+        Some(number) => write!(out, "refused {name} {number}"),
+        None => write!(out, "refused {name}"),
+    }
+}
+
+fn push_seen(
+    alloc: Global,
+    out: &mut String,
+    without: &[u8],
+    cached: &[u8],
+) -> Result<(), AllocError>
+    ensures { OnOk result (string_bytes out.new ≡ string_bytes out.old ++ seen_text without.now cached.now) }
+{
+    push_hex(alloc, out, "without ", without)?;
+    push_hex(alloc, out, " cached ", cached)?;
+    Ok(())
+}
+
+fn push_answer(alloc: Global, out: &mut String, answer: &Answer) -> Result<(), AllocError>
+    ensures { OnOk result (string_bytes out.new ≡ string_bytes out.old ++ answer_text answer.now) }
+{
+    match answer {
+        Answer::Made(number) => write!(out, "patch {number}"),
+        Answer::Seen { without, cached } => {
+            push_seen(alloc, out, without.as_slice(), cached.as_slice())
+        }
+        Answer::Shown(bytes) => push_hex(alloc, out, "shown ", bytes.as_slice()),
+        Answer::Refused(refusal) => push_refusal(out, *refusal),
+    }
+}
+
+/// The line of an answer, its line feed at the end.
+pub fn answer_line(alloc: Global, answer: &Answer) -> Result<String, AllocError>
+    ensures { IfOk result (λ text. string_bytes text ≡ the_line answer.now) }
+{
+    let mut out = String::new(alloc);
+    push_answer(alloc, &mut out, answer)?;
+    out.push_str("\n")?;
+    Ok(out)
+}

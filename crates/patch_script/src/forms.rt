@@ -1,0 +1,32 @@
+//! The forms of lines.
+use patch_model::{BlockNo, Bytes, Numbers, Undo, WriterNo};
+
+/// Some bytes of a block: `len` of them from `start` on, at least one.
+#[derive(Clone, Copy, Debug, PartialEq, Eq)]
+pub struct Span {
+    pub block: BlockNo,
+    pub start: u32,
+    pub len: u32,
+}
+
+/// What a line asks for.
+#[derive(Debug, Drop)]
+pub enum Line {
+    /// Make a patch.
+    Patch {
+        block: BlockNo,
+        start: u32,
+        bytes: Bytes,
+        after: Numbers,
+        undo: Undo,
+        writer: WriterNo,
+    },
+    /// Take patches back in their order, put some of them back in theirs, and show the span.
+    View {
+        take: Numbers,
+        back: Numbers,
+        span: Span,
+    },
+    /// Show the cached bytes of the span.
+    Show(Span),
+}

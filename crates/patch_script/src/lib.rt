@@ -1,0 +1,16 @@
+//! Scripts of lines: what each line asks for, and the text of its answer.
+#![tactic(auto)]
+
+mod answers;
+mod fields;
+mod forms;
+mod lines;
+mod reading;
+mod scripts;
+
+pub use answers::{Answer, Refusal, answer_line};
+pub use forms::{Line, Span};
+pub use scripts::{MAX_BYTES, MAX_LINES, ScriptError, passes_limit, read_script};
+
+#[cfg(test)]
+mod tests;

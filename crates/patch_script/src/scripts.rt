@@ -1,0 +1,53 @@
+//! A script: its limits, and what its lines ask for.
+ghost use Rattle.std.specs.Prelude.{◌≡◌, ◌<◌, ◌+◌, ◌∷◌, ◌≤◌, length, MatchResult};
+ghost use Rattle.patch_script.specs.Script.{lines_of, script_of, Reads, is_too_long};
+
+use crate::fields::LineError;
+use crate::forms::Line;
+use crate::lines::Lines;
+use crate::reading::read_line;
+use std::alloc::Global;
+
+/// The most bytes of a script.
+pub const MAX_BYTES: usize = 16_777_216;
+
+/// The most lines of a script, blank ones too.
+pub const MAX_LINES: usize = 100_000;
+
+/// Why a script isn't run.
+#[derive(Clone, Copy, Debug, PartialEq, Eq)]
+pub enum ScriptError {
+    /// The first unreadable line, counted from 1.
+    BadLine(usize),
+    OutOfMemory,
+}
+
+/// Whether a script passes a limit.
+pub fn passes_limit(text: &[u8]) -> bool
+    ensures { result ≡ is_too_long text.now }
+{
+    text.len() > MAX_BYTES || Lines::of(text).count() > MAX_LINES
+}
+
+/// What the lines ask for, blank ones nothing.
+pub fn read_script(alloc: Global, text: &[u8]) -> Result<Vec<Line>, ScriptError>
+    requires { length (lines_of text.now) ≤ MAX_LINES }
+    ensures { Reads result (script_of text.now) }
+{
+    let mut lines = Vec::new(alloc);
+    let mut number = 0;
+    for bytes in Lines::of(text) {
+        number += 1;
+        match read_line(alloc, bytes) {
+            Ok(None) => {}
+            Ok(Some(line)) => {
+                if lines.push(line).is_err() {
+                    return Err(ScriptError::OutOfMemory);
+                }
+            }
+            Err(LineError::Unreadable) => return Err(ScriptError::BadLine(number)),
+            Err(LineError::OutOfMemory) => return Err(ScriptError::OutOfMemory),
+        }
+    }
+    Ok(lines)
+}
