@@ -10,7 +10,7 @@ use std::alloc::{AllocError, Global};
 #[derive(Clone, Copy, Debug, PartialEq, Eq)]
 pub struct Refusal {
     pub kind: RefusalKind,
-    pub number: Option<PatchNo>,
+    pub number: Option<u32>,
 }
 
 /// What a line is answered.

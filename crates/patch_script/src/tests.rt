@@ -208,7 +208,7 @@ fn writes_answers(rt: HostRuntime) -> Result<(), Fail> {
     let shown: Bytes = Items::from_vec([0xffu8].to_vec(alloc)?);
     let named = Refusal {
         kind: RefusalKind::DependentApplied,
-        number: Some(PatchNo(1)),
+        number: Some(1),
     };
     let bare = Refusal {
         kind: RefusalKind::Hard,
