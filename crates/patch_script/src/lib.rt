@@ -13,4 +13,6 @@ pub use forms::{Line, Span};
 pub use scripts::{MAX_BYTES, MAX_LINES, ScriptError, passes_limit, read_script};
 
 #[cfg(test)]
+mod rows;
+#[cfg(test)]
 mod tests;
