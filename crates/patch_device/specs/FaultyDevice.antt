@@ -1,0 +1,35 @@
+-- A device that fails one call.
+use Rattle.std.specs.Prelude.{ℕ, zero, suc, ◌+◌, ◌≤◌, min, Bool, Option, Some, None}
+use Rattle.std.proofs.Math.Nat.{min-le_right}
+use Rattle.patch_device.specs.Device.{most_faults}
+use Rattle.patch_device.specs.declared.faulty.FaultyDevice.{FaultyDevice}
+
+-- the device that it calls
+abbrev pub inner_of : {D : Type 0} → FaultyDevice D → D
+inner_of d = d.inner
+
+-- how many calls are still to come before the one that fails; none is to come once that one has failed
+abbrev pub calls_before : {D : Type 0} → FaultyDevice D → Option ℕ
+calls_before d = d.calls_left
+
+-- whether the failing call, a write, lands
+abbrev pub does_land : {D : Type 0} → FaultyDevice D → Bool
+does_land d = d.lands
+
+-- how many calls are still to come, after one more
+abbrev pub after_a_call : Option ℕ → Option ℕ
+after_a_call None = None
+after_a_call (Some zero) = None
+after_a_call (Some (suc n)) = Some n
+
+-- its own faults: one, once the call has failed
+abbrev pub own_faults : Option ℕ → ℕ
+own_faults None = 1
+own_faults (Some n) = 0
+
+-- its own faults and the inner device's
+abbrev pub faults_of_both : Option ℕ → ℕ → ℕ
+faults_of_both calls_left inner = min (own_faults calls_left + inner) most_faults
+
+pub faults_of_both_fit : (calls_left : Option ℕ) (inner : ℕ) → faults_of_both calls_left inner ≤ most_faults
+faults_of_both_fit calls_left inner = min-le_right (own_faults calls_left + inner) most_faults
