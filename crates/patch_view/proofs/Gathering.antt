@@ -1,0 +1,217 @@
+-- One class brought up to another.
+use Rattle.std.proofs.Common.{◌≡◌, ℕ, ◌+◌, ◌-◌, ◌<◌, ◌≤◌, ◌∙◌, true, false, not, inl, inr, List, [], ◌∷◌, length, map, min, refl, sym, ap, arith, subst}
+use Rattle.std.specs.Prelude.{◌≢◌, ◌==◌, ◌&&◌, ◌||◌, Some, None, nat_le}
+use Rattle.std.specs.List.{list_any}
+use Rattle.patch_model.specs.Member.{list_any-at, list_any-from, In, Contains-from_In}
+use Rattle.patch_model.specs.Dependency.{Path, one, onward, class_depends}
+use Rattle.patch_model.specs.Legal.{touch}
+use Rattle.patch_model.specs.Pile.{end, covers}
+use Rattle.patch_model.specs.Entry.{Entry, is_memory, is_undoable}
+use Rattle.patch_model.specs.State.{joined}
+use Rattle.patch_model.specs.History.{History}
+use Rattle.patch_model.specs.Orderly.{MayJoin}
+use Rattle.patch_view.proofs.Resting.{linked_as}
+use Rattle.patch_view.proofs.Laying.{covers-to}
+use Rattle.patch_view.proofs.Exchange.{spans-at}
+use Rattle.patch_view.proofs.Joining.{joins, cases_in, joined-out}
+use Rattle.patch_view.proofs.Chain.{undoable-not_durable}
+use Rattle.patch_view.proofs.Answering.{no_place}
+use Rattle.patch_view.proofs.Marking.{named_place}
+use Rattle.patch_view.specs.Answers.{IsPatch}
+use Rattle.std.proofs.lemmas.Bool.{cases_eq, cases_lt, both_ways, and_parts, and_from, or_left, or_right, eq-eqb, eqb-true, leb-true, false_from_ne_true}
+use Rattle.patch_view.specs.History.{IsCoherent, with_joined}
+use Rattle.patch_view.specs.State.{Class, Block, class_at, follows, moved_down, spans, may_be_taken, IsMerged, settled_at, place_of}
+use Rattle.patch_view.specs.Meaning.{IsClassOf, Represents, IsGatheredTo}
+use Rattle.patch_view.proofs.Moving.{came, moves, length-moved, at_came, came_is}
+
+pub gathered_none : (b : Block) (low high : ℕ) → low < high → IsGatheredTo b b low high low (low + 1)
+gathered_none b low high less = record {
+  from = omega arith;
+  to = omega arith;
+  long = refl;
+  same_low = refl;
+  same_rest = λ i f. refl;
+  represents = λ h r. r;
+  carried = λ h r i f t. absurd (omega arith);
+}
+
+-- the next class depends on those gathered
+pub gathered_keep : (old new : Block) (low high front k : ℕ) → k < length old.classes → IsGatheredTo old new low high front k
+    → (m : ℕ) × (front ≤ m) × (m < k) × (follows new k m ≡ true) → IsGatheredTo old new low high front (k + 1)
+gathered_keep old new low high front k within g on =
+    let to = g.to in
+    let long = g.long in
+    record {
+      from = g.from;
+      to = omega arith;
+      long = g.long;
+      same_low = g.same_low;
+      same_rest = λ i f. g.same_rest i (omega arith);
+      represents = g.represents;
+      carried = λ h r i f t. elim (cases_lt i k) [
+        | inl before ↦ g.carried h r i f before
+        | inr here ↦ let e : i ≡ k = omega arith in
+            let s = g.represents h r in
+            let w_k : k < length new.classes = omega arith in
+            let below : on.0 < k = on.2 in
+            let w_m : on.0 < length new.classes = omega arith in
+            let apart : (class_at new k).name ≢ (class_at new on.0).name = (λ q. let z : k ≡ on.0 = s.distinct k on.0 w_k w_m q in absurd (omega arith)) in
+            let d : class_depends h.entries (class_at new k).name (class_at new on.0).name ≡ true = sym (linked_as s k on.0 w_k w_m apart) ∙ on.3 in
+            subst (λ n. Path h.entries (class_at new n).name (class_at new front).name) (sym e) (elim (cases_eq on.0 front) [
+              | inl is ↦ one (ap (λ n. class_depends h.entries (class_at new k).name (class_at new n).name) (sym is) ∙ d)
+              | inr ne ↦ let from : front ≤ on.0 = on.1 in onward d (g.carried h r on.0 (omega arith) on.2)
+            ])
+      ];
+    }
+
+-- the next class doesn't: it goes below them
+pub gathered_move : (old new : Block) (low high front k : ℕ) → k < length old.classes → IsGatheredTo old new low high front k
+    → ((m : ℕ) → front ≤ m → m < k → follows new k m ≡ false) → IsGatheredTo old (moved_down new front k) low high (front + 1) (k + 1)
+gathered_move old new low high front k within g free =
+    let to = g.to in
+    let long = g.long in
+    let from = g.from in
+    let down : front ≤ k = omega arith in
+    let w_k : k < length new.classes = omega arith in
+    let at_ : (i : ℕ) → class_at (moved_down new front k) i ≡ class_at new (came front k i) = (λ i. at_came new front k i down w_k) in
+    let past : (i : ℕ) → front < i → i ≤ k → came front k i ≡ i - 1 = (λ i f t. elim (came_is front k i) [ inl s ↦ absurd (omega arith) | inr o ↦ elim o [ inl s ↦ absurd (omega arith) | inr o ↦ elim o [ inl s ↦ s.2 | inr s ↦ absurd (omega arith) ] ] ]) in
+    let behind : (i : ℕ) → k < i → came front k i ≡ i = (λ i t. elim (came_is front k i) [ inl s ↦ absurd (omega arith) | inr o ↦ elim o [ inl s ↦ absurd (omega arith) | inr o ↦ elim o [ inl s ↦ absurd (omega arith) | inr s ↦ s.2 ] ] ]) in
+    let first : class_at (moved_down new front k) (front + 1) ≡ class_at new front =
+    at_ (front + 1) ∙ ap (class_at new) (let p : came front k (front + 1) ≡ front + 1 - 1 = past (front + 1) (omega arith) (omega arith) in let q : came front k (front + 1) ≡ front = omega arith in q) in
+    record {
+      from = omega arith;
+      to = omega arith;
+      long = length-moved new.classes (class_at new k) front k down w_k ∙ g.long;
+      same_low = first ∙ g.same_low;
+      same_rest = λ i f. at_ i ∙ ap (class_at new) (behind i (omega arith)) ∙ g.same_rest i (omega arith);
+      represents = λ h r. moves new [] h front k (g.represents h r) down w_k free;
+      carried = λ h r i f t.
+          let e : class_at (moved_down new front k) i ≡ class_at new (i - 1) = at_ i ∙ ap (class_at new) (past i (omega arith) (omega arith)) in
+          subst (λ c. Path h.entries c.name (class_at (moved_down new front k) (front + 1)).name) (sym e)
+          (subst (λ c. Path h.entries (class_at new (i - 1)).name c.name) (sym first) (g.carried h r (i - 1) (omega arith) (omega arith)));
+    }
+
+-- a patch's bytes are in its class's span
+member-span : (h : History) (k : Class) (e : Entry) → IsCoherent h → IsClassOf h [] k → In h.entries e → e.class ≡ k.name → (k.start ≤ e.patch.start) × (end e.patch ≤ k.stop)
+member-span h k e o r i is =
+    let some : 0 < length e.patch.bytes = o.some e i in
+    let on : (x : ℕ) → e.patch.start ≤ x → x < end e.patch → spans k x ≡ true =
+    (λ x f t. r.span x ∙ list_any-from (λ g. g.class == k.name && covers g.patch x) h.entries e i (and_from _ _ (eq-eqb _ _ is) (covers-to e.patch x f t))) in
+    let a = spans-at k e.patch.start (on e.patch.start (omega arith) (omega arith)) in
+    let b = spans-at k (end e.patch - 1) (on (end e.patch - 1) (omega arith) (omega arith)) in
+    let last : end e.patch - 1 < k.stop = b.1 in
+    (a.0, omega arith)
+
+undoable-may : (h : History) (k : Class) → IsClassOf h [] k → ((e : Entry) → In h.entries e → e.class ≡ k.name → is_undoable e ≡ true) → may_be_taken k ≡ true
+undoable-may h k r soft =
+    let q = list_any-at (λ e. e.class == k.name) h.entries r.known in
+    let is : q.0.class ≡ k.name = eqb-true _ _ q.2 in
+    let m = r.marked q.0 q.1 is in
+    ap (λ z. z && not k.hard) (sym m.1) ∙ ap (λ z. is_memory q.0 && not z) (sym m.2) ∙ soft q.0 q.1 is
+
+-- gathered, the two may be made one
+pub gathered-joins : (old new : Block) (h : History) (low high front : ℕ) (c : Class) → IsMerged (class_at old low) (class_at old high) c → low < high → high < length old.classes → Represents old [] h → IsGatheredTo old new low high front high
+    → MayJoin h.entries (class_at old low).name (class_at old high).name
+    → Represents (settled_at new front high c) [] (with_joined h (class_at old low).name (class_at old high).name)
+gathered-joins old new h low high front c is_c less within r g may =
+    let s = g.represents h r in
+    let long = g.long in
+    let to = g.to in
+    let w_f : front < length new.classes = omega arith in
+    let w_h : high < length new.classes = omega arith in
+    let same_low : class_at old low ≡ class_at new front = sym g.same_low in
+    let same_high : class_at old high ≡ class_at new high = sym (g.same_rest high (omega arith)) in
+    let m : MayJoin h.entries (class_at new front).name (class_at new high).name =
+    subst (λ n. MayJoin h.entries n (class_at new high).name) (ap (λ c. c.name) same_low) (subst (λ n. MayJoin h.entries (class_at old low).name n) (ap (λ c. c.name) same_high) may) in
+    let q = list_any-at (λ e. e.class == (class_at new front).name && list_any (λ f. f.class == (class_at new high).name && nat_le e.patch.start (end f.patch) && nat_le f.patch.start (end e.patch)) h.entries) h.entries m.near in
+    let p = and_parts _ _ q.2 in
+    let v = list_any-at (λ f. f.class == (class_at new high).name && nat_le q.0.patch.start (end f.patch) && nat_le f.patch.start (end q.0.patch)) h.entries p.1 in
+    let u = and_parts _ _ v.2 in
+    let u2 = and_parts _ _ u.0 in
+    let a = member-span h (class_at new front) q.0 s.coherent (s.classes front w_f) q.1 (eqb-true _ _ p.0) in
+    let b = member-span h (class_at new high) v.0 s.coherent (s.classes high w_h) v.1 (eqb-true _ _ u2.0) in
+    let t1 : q.0.patch.start ≤ end v.0.patch = leb-true _ _ u2.1 in
+    let t2 : v.0.patch.start ≤ end q.0.patch = leb-true _ _ u.1 in
+    let a0 : (class_at new front).start ≤ q.0.patch.start = a.0 in
+    let a1 : end q.0.patch ≤ (class_at new front).stop = a.1 in
+    let b0 : (class_at new high).start ≤ v.0.patch.start = b.0 in
+    let b1 : end v.0.patch ≤ (class_at new high).stop = b.1 in
+    let is_new : IsMerged (class_at new front) (class_at new high) c =
+    subst (λ z. IsMerged z (class_at new high) c) same_low (subst (λ z. IsMerged (class_at old low) z c) same_high is_c) in
+    subst (λ z. Represents (settled_at new front high c) [] (with_joined h z.name (class_at old high).name)) (sym same_low)
+    (subst (λ z. Represents (settled_at new front high c) [] (with_joined h (class_at new front).name z.name)) (sym same_high)
+    (joins new h front high c s (record {
+      less = to;
+      within = w_h;
+      may_low = undoable-may h (class_at new front) (s.classes front w_f) (λ e i is. m.undoable e (Contains-from_In h.entries e i) (inl is));
+      may_high = undoable-may h (class_at new high) (s.classes high w_h) (λ e i is. m.undoable e (Contains-from_In h.entries e i) (inr is));
+      near_a = omega arith;
+      near_b = omega arith;
+      free = λ k f t. false_from_ne_true (class_depends h.entries (class_at new high).name (class_at new k).name) (λ on.
+          let w_k : k < length new.classes = omega arith in
+          let not_high : (class_at new high).name ≢ (class_at new k).name = (λ z. let e : high ≡ k = s.distinct high k w_h w_k z in omega arith) in
+          let not_low : (class_at new k).name ≢ (class_at new front).name = (λ z. let e : k ≡ front = s.distinct k front w_k w_f z in omega arith) in
+          m.none_between (class_at new k).name not_low (λ z. not_high (sym z))
+          (inr (one on, g.carried h r k f t)));
+    }) is_new))
+
+pub joined-comm : (c d : ℕ) (e : Entry) → joined c d e ≡ joined d c e
+joined-comm c d e = elim (cases_in c d e) [
+  | inr out ↦ joined-out c d e out.0 out.1 ∙ sym (joined-out d c e out.1 out.0)
+  | inl is ↦ let m : min c d ≡ min d c = omega arith in elim is [
+    | inl i ↦ let t : (e.class == c || e.class == d) ≡ true = or_left _ (e.class == d) (eq-eqb _ _ i) in
+        let u : (e.class == d || e.class == c) ≡ true = or_right (e.class == d) _ (eq-eqb _ _ i) in rw (t, u) (ap (λ n. record e { class = n }) m)
+    | inr i ↦ let t : (e.class == c || e.class == d) ≡ true = or_right (e.class == c) _ (eq-eqb _ _ i) in
+        let u : (e.class == d || e.class == c) ≡ true = or_left _ (e.class == c) (eq-eqb _ _ i) in rw (t, u) (ap (λ n. record e { class = n }) m)
+  ]
+]
+
+map-comm : (c d : ℕ) (es : List Entry) → map (joined c d) es ≡ map (joined d c) es
+map-comm c d [] = refl
+map-comm c d (e ∷ es) = ap (λ z. z ∷ map (joined c d) es) (joined-comm c d e) ∙ ap (λ zs. joined d c e ∷ zs) (map-comm c d es)
+
+pub with_joined-comm : (h : History) (c d : ℕ) → with_joined h c d ≡ with_joined h d c
+with_joined-comm h c d = ap (λ es. let k : History = record h { entries = es } in k) (map-comm c d h.entries)
+
+touch-comm : (h : History) (c d : ℕ) → touch h.entries c d ≡ true → touch h.entries d c ≡ true
+touch-comm h c d t =
+    let q = list_any-at (λ e. e.class == c && list_any (λ f. f.class == d && nat_le e.patch.start (end f.patch) && nat_le f.patch.start (end e.patch)) h.entries) h.entries t in
+    let p = and_parts _ _ q.2 in
+    let v = list_any-at (λ f. f.class == d && nat_le q.0.patch.start (end f.patch) && nat_le f.patch.start (end q.0.patch)) h.entries p.1 in
+    let u = and_parts _ _ v.2 in
+    let w = and_parts _ _ u.0 in
+    list_any-from (λ e. e.class == d && list_any (λ f. f.class == c && nat_le e.patch.start (end f.patch) && nat_le f.patch.start (end e.patch)) h.entries) h.entries v.0 v.1
+    (and_from _ _ w.0 (list_any-from (λ f. f.class == c && nat_le v.0.patch.start (end f.patch) && nat_le f.patch.start (end v.0.patch)) h.entries q.0 q.1 (and_from _ _ (and_from _ _ p.0 u.1) w.1)))
+
+pub may_join-comm : (h : History) (c d : ℕ) → MayJoin h.entries c d → MayJoin h.entries d c
+may_join-comm h c d m = record {
+  two = λ q. m.two (sym q);
+  undoable = λ e i is. m.undoable e i (elim is [ inl q ↦ inr q | inr q ↦ inl q ]);
+  near = touch-comm h c d m.near;
+  none_between = λ k a z b. m.none_between k z a (elim b [ inl q ↦ inr q | inr q ↦ inl q ]);
+}
+
+pub joins_named : (b new : Block) (h : History) (x y i j : ℕ) (e f : Entry) → Represents b [] h → place_of b x ≡ Some i → place_of b y ≡ Some j → IsPatch h x e → IsPatch h y f
+    → MayJoin h.entries e.class f.class
+    → ((k : History) → Represents b [] k → MayJoin k.entries (class_at b i).name (class_at b j).name → Represents new [] (with_joined k (class_at b i).name (class_at b j).name))
+    → Represents new [] (with_joined h e.class f.class)
+joins_named b new h x y i j e f r is_i is_j p q may answer =
+    let a = (named_place b h x i e r is_i p).1 in
+    let z = (named_place b h y j f r is_j q).1 in
+    subst (λ n. Represents new [] (with_joined h n f.class)) a (subst (λ n. Represents new [] (with_joined h (class_at b i).name n)) z
+    (answer h r (subst (λ n. MayJoin h.entries n (class_at b j).name) (sym a) (subst (λ n. MayJoin h.entries e.class n) (sym z) may))))
+
+pub joins_swapped : (b new : Block) (h : History) (x y i j : ℕ) (e f : Entry) → Represents b [] h → place_of b x ≡ Some i → place_of b y ≡ Some j → IsPatch h x e → IsPatch h y f
+    → MayJoin h.entries e.class f.class
+    → ((k : History) → Represents b [] k → MayJoin k.entries (class_at b j).name (class_at b i).name → Represents new [] (with_joined k (class_at b j).name (class_at b i).name))
+    → Represents new [] (with_joined h e.class f.class)
+joins_swapped b new h x y i j e f r is_i is_j p q may answer =
+    subst (λ k. Represents new [] k) (with_joined-comm h f.class e.class) (joins_named b new h y x j i f e r is_j is_i q p (may_join-comm h e.class f.class may) answer)
+
+pub joins_same : (b : Block) (h : History) (x y i j : ℕ) (e f : Entry) → Represents b [] h → place_of b x ≡ Some i → place_of b y ≡ Some j → IsPatch h x e → IsPatch h y f
+    → MayJoin h.entries e.class f.class → i ≡ j → ⊥
+joins_same b h x y i j e f r is_i is_j p q may same =
+    may.two (sym (named_place b h x i e r is_i p).1 ∙ ap (λ n. (class_at b n).name) same ∙ (named_place b h y j f r is_j q).1)
+
+pub joins_nowhere : (b : Block) (h : History) (x : ℕ) (e : Entry) → Represents b [] h → place_of b x ≡ None → IsPatch h x e → is_undoable e ≡ true → ⊥
+joins_nowhere b h x e r none p u = both_ways _ (undoable-not_durable e u) (no_place b [] h x r none e p)

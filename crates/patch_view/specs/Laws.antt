@@ -1,0 +1,65 @@
+-- Laws of histories, of the sets that may be taken, and of the records that represent them.
+use Rattle.std.specs.Prelude.{ℕ, ◌≡◌, ◌≢◌, IsTrue, List, [], ◌∷◌, fold}
+use Rattle.patch_model.specs.declared.patches.Mark.TheVariants.{Durable}
+use Rattle.patch_model.specs.Entry.{Entry, is_among, is_flight, is_memory, is_live, is_undoable}
+use Rattle.patch_model.specs.Dependency.{depends_directly}
+use Rattle.patch_model.specs.History.{History, HoldsDependents, Move, moved, IsPermitted, without, image}
+use Rattle.patch_model.specs.Orderly.{IsOrderlyBlock}
+use Rattle.patch_model.specs.Member.{In}
+use Rattle.patch_view.specs.History.{IsCoherent, IsNext, MayLand, laid, with_mark, undoable_classes}
+use Rattle.patch_view.specs.State.{Block, outline}
+use Rattle.patch_view.specs.Meaning.{Represents}
+
+-- the two lists name the same classes
+abbrev pub NameTheSame : List ℕ → List ℕ → Type 0
+NameTheSame names others = (n : ℕ) → is_among names n ≡ is_among others n
+
+-- the names that are taken after the moves
+abbrev pub taken_after : List Move → List ℕ
+taken_after moves = fold moved [] moves
+
+-- an orderly block is coherent
+abbrev pub OrderlyIsCoherent : Type 0
+OrderlyIsCoherent = (h : History) (block : ℕ) → IsOrderlyBlock h block → IsCoherent h
+
+-- the last patch of an orderly block could come next
+abbrev pub LastIsNext : Type 0
+LastIsNext = (h : History) (e : Entry) (block : ℕ) → IsOrderlyBlock (laid h e) block → IsNext h e
+
+-- each class in flight of an orderly block may land
+abbrev pub FlightMayLand : Type 0
+FlightMayLand = (h : History) (block : ℕ) (e : Entry) → IsOrderlyBlock h block → In h.entries e → IsTrue (is_flight e) → MayLand h e.class
+
+-- and it still may when another one has landed
+abbrev pub OthersMayLand : Type 0
+OthersMayLand = (h : History) (c d : ℕ) → MayLand h c → c ≢ d → MayLand (with_mark h Durable d) c
+
+-- an undoable class may be taken where each live class that depends directly on it is taken
+abbrev pub UppermostMayBeTaken : Type 0
+UppermostMayBeTaken =
+    (h : History) (taken : List ℕ) (e : Entry) → IsCoherent h → HoldsDependents h taken → In h.entries e → IsTrue (is_undoable e)
+    → ((f g : Entry) → In h.entries f → In h.entries g → IsTrue (is_live f) → g.class ≡ e.class → f.class ≢ e.class
+    → IsTrue (depends_directly f.patch g.patch) → IsTrue (is_among taken f.class))
+    → HoldsDependents h (e.class ∷ taken)
+
+-- sets of the same names leave the same bytes
+abbrev pub SameNamesSameBytes : Type 0
+SameNamesSameBytes = (h : History) (names others : List ℕ) → NameTheSame names others → without h names ≡ without h others
+
+-- records of one outline that represent one history, with the same classes taken, are equal
+abbrev pub OneValue : Type 0
+OneValue =
+    (h : History) (names others : List ℕ) (a b : Block)
+    → Represents a names h → Represents b others h → NameTheSame names others → outline a ≡ outline b → a ≡ b
+
+-- permitted orders that end in one set leave the same bytes
+abbrev pub OrdersMeet : Type 0
+OrdersMeet =
+    (h : History) (some others : List Move) → IsPermitted h [] some → IsPermitted h [] others
+    → NameTheSame (taken_after some) (taken_after others) → without h (taken_after some) ≡ without h (taken_after others)
+
+-- where all that is in memory may be taken back, the block without it is the image
+abbrev pub ImageIsWithout : Type 0
+ImageIsWithout =
+    (h : History) → IsCoherent h → ((e : Entry) → In h.entries e → IsTrue (is_memory e) → IsTrue (is_undoable e))
+    → without h (undoable_classes h) ≡ image h

@@ -1,0 +1,8 @@
+pub mod History
+pub mod State
+pub mod Meaning
+pub mod Refusal
+pub mod Answers
+pub mod View
+pub mod Laws
+pub mod Steps

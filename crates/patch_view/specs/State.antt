@@ -1,0 +1,168 @@
+-- What one block's records look like.
+use Rattle.std.specs.Prelude.{ℕ, Bool, true, false, ◌≡◌, ◌<◌, ◌≤◌, Some, None, ◌+◌, ◌&&◌, ◌||◌, not, nat_le, nat_lt, List, [], ◌∷◌, ◌++◌, length, take, drop, slice_range, slice_index_or, slice_set, replicate, min, max, ◌-◌, Option, position, zero, suc, map, if◌then◌else◌, IsPermutation}
+use Rattle.std.specs.List.{list_any, remove, insert}
+use Rattle.patch_model.specs.Entry.{is_among}
+
+-- a live class: its name and members, its span, the bytes that the block would have there in the other state, the numbers
+-- that its members name, whether it is in flight, whether it is hard, and whether it is taken back
+pub record Class : Type 0 where
+  pub name : ℕ
+  pub members : List ℕ
+  pub start : ℕ
+  pub stop : ℕ
+  pub saved : List ℕ
+  pub after : List ℕ
+  pub flying : Bool
+  pub hard : Bool
+  pub taken : Bool
+
+pub record Block : Type 0 where
+  pub bytes : List ℕ
+  pub classes : List Class
+
+abbrev pub no_class : Class
+no_class = record { name = 0; members = []; start = 0; stop = 0; saved = []; after = []; flying = false; hard = false; taken = false }
+
+abbrev pub class_at : Block → ℕ → Class
+class_at b at = slice_index_or b.classes at no_class
+
+abbrev pub spans : Class → ℕ → Bool
+spans c x = nat_le c.start x && nat_lt x c.stop
+
+abbrev pub may_be_taken : Class → Bool
+may_be_taken c = not c.flying && not c.hard
+
+-- some member of the class c names some member of the class d
+abbrev pub names : Class → Class → Bool
+names c d = list_any (λ n. is_among d.members n) c.after
+
+-- the two spans have a common byte
+abbrev pub meets : Class → Class → Bool
+meets c d = nat_lt c.start d.stop && nat_lt d.start c.stop
+
+-- the class at the place i depends directly on that at the place j, which stands below it
+abbrev pub follows : Block → ℕ → ℕ → Bool
+follows b i j = nat_lt j i && (meets (class_at b i) (class_at b j) || names (class_at b i) (class_at b j))
+
+abbrev pub place_of : Block → ℕ → Option ℕ
+place_of b number = position (λ c. is_among c.members number) b.classes
+
+-- What keeps the class at a place from being taken, where true: the one at the place k depends directly on it and isn't
+-- taken. And from being put back, where false: it depends directly on the one at the place k, which is taken.
+abbrev pub hinders : Bool → Block → ℕ → ℕ → Bool
+hinders true b at k = not (class_at b k).taken && follows b k at
+hinders false b at k = (class_at b k).taken && follows b at k
+
+-- among the first n places, the least name of a class at one that passes
+abbrev pub IsLeastBelow : (ℕ → Bool) → Block → ℕ → Option ℕ → Type 0
+IsLeastBelow p b n None = (k : ℕ) → k < n → p k ≡ false
+IsLeastBelow p b n (Some m) =
+    ((k : ℕ) × (k < n) × (p k ≡ true) × ((class_at b k).name ≡ m)) × ((k : ℕ) → k < n → p k ≡ true → m ≤ (class_at b k).name)
+
+abbrev pub IsLeast : (ℕ → Bool) → Block → Option ℕ → Type 0
+IsLeast p b o = IsLeastBelow p b (length b.classes) o
+
+-- the bytes with the class's saved bytes laid on them
+abbrev pub laid_on : Class → List ℕ → List ℕ
+laid_on c bytes = take c.start bytes ++ c.saved ++ drop (c.start + length c.saved) bytes
+
+-- the class with the bytes that were there
+abbrev pub exchanged_with : Class → List ℕ → Bool → Class
+exchanged_with c bytes mark = record c { saved = slice_range bytes c.start (c.start + length c.saved); taken = mark }
+
+-- the block with one class exchanged
+abbrev pub exchanged_at : Block → ℕ → Bool → Block
+exchanged_at b at mark = record { bytes = laid_on (class_at b at) b.bytes; classes = slice_set b.classes at (exchanged_with (class_at b at) b.bytes mark) }
+
+-- with the first n classes put back, the lowest place first
+abbrev pub restored_to : ℕ → Block → Block
+restored_to zero b = b
+restored_to (suc n) b = let r = restored_to n b in if (class_at r n).taken then exchanged_at r n false else r
+
+-- the class may be taken and isn't
+abbrev pub is_left : Class → Bool
+is_left c = may_be_taken c && not c.taken
+
+-- with each of the last n classes taken that may be, the highest place first
+abbrev pub swept_to : ℕ → Block → Block
+swept_to zero b = b
+swept_to (suc n) b =
+    let r = swept_to n b in
+    let at = length b.classes - suc n in
+    if is_left (class_at r at) then exchanged_at r at true else r
+
+-- what a view leaves of the records: all but the saved bytes, and that a class is taken
+abbrev pub bare : Class → Class
+bare c = record c { saved = []; taken = false }
+
+abbrev pub outline : Block → List Class
+outline b = map bare b.classes
+
+-- a new class that names these
+abbrev pub new_class : Block → ℕ → ℕ → List ℕ → List ℕ → Bool → Class
+new_class b number start bytes after hard = record {
+  name = number;
+  members = number ∷ [];
+  start = start;
+  stop = start + length bytes;
+  saved = if hard then [] else slice_range b.bytes start (start + length bytes);
+  after = after;
+  flying = false;
+  hard = hard;
+  taken = false;
+}
+
+-- the block with one more class, which names these
+abbrev pub with_laid : Block → ℕ → ℕ → List ℕ → List ℕ → Bool → Block
+with_laid b number start bytes after hard = record {
+  bytes = take start b.bytes ++ bytes ++ drop (start + length bytes) b.bytes;
+  classes = b.classes ++ new_class b number start bytes after hard ∷ [];
+}
+
+-- the block has one more class, which names these, in any order
+pub record IsLaid (old : Block) (number start : ℕ) (bytes after : List ℕ) (hard : Bool) (new : Block) : Type 0 where
+  pub all : List ℕ
+  pub same : IsPermutation after all
+  pub is : new ≡ with_laid old number start bytes all hard
+
+abbrev pub departed : Class → Class
+departed c = record c { flying = true; saved = [] }
+
+abbrev pub departed_at : Block → ℕ → Block
+departed_at b at = record b { classes = slice_set b.classes at (departed (class_at b at)) }
+
+abbrev pub landed_at : Block → ℕ → Block
+landed_at b at = record b { classes = remove b.classes at }
+
+-- the bytes with others laid on them
+abbrev pub laid_over : ℕ → List ℕ → List ℕ → List ℕ
+laid_over place over bytes = take place bytes ++ over ++ drop (place + length over) bytes
+
+-- two classes as one, with these members, which name these: on the bytes that they share, what the lower one saved
+abbrev pub merged : Class → Class → List ℕ → List ℕ → Class
+merged low high members after = record {
+  name = min low.name high.name;
+  members = members;
+  start = min low.start high.start;
+  stop = max low.stop high.stop;
+  saved = laid_over (low.start - min low.start high.start) low.saved
+      (laid_over (high.start - min low.start high.start) high.saved (replicate (max low.stop high.stop - min low.start high.start) 0));
+  after = after;
+  flying = false;
+  hard = false;
+  taken = false;
+}
+
+-- the class is the two as one
+pub record IsMerged (low high c : Class) : Type 0 where
+  pub members : IsPermutation (low.members ++ high.members) c.members
+  pub after : IsPermutation (low.after ++ high.after) c.after
+  pub is : c ≡ merged low high c.members c.after
+
+-- the class at k moved down to the place front
+abbrev pub moved_down : Block → ℕ → ℕ → Block
+moved_down b front k = record b { classes = insert (remove b.classes k) front (class_at b k) }
+
+-- the class c in place of the two
+abbrev pub settled_at : Block → ℕ → ℕ → Class → Block
+settled_at b low high c = record b { classes = remove (slice_set b.classes low c) high }

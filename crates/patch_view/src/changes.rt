@@ -1,0 +1,239 @@
+//! What becomes of a block's records as patches are made, merged, sent and completed.
+ghost use Rattle.std.specs.Prelude.{◌≡◌, ◌+◌, ◌<◌, ◌≤◌, ◌++◌, length, [], IfOk, OnOk, OnErr, ℕ, true, false, IsTrue, IsFalse, IsPermutation};
+ghost use Rattle.std.specs.List.Sorted.{IsNonDecreasing};
+ghost use Rattle.patch_model.specs.declared.patches.Undo.{Undo};
+ghost use Rattle.patch_model.specs.declared.patches.Mark.TheVariants.{Flight, Durable};
+ghost use Rattle.patch_model.specs.Entry.{Entry, is_memory};
+ghost use Rattle.patch_model.specs.History.{History};
+ghost use Rattle.patch_model.specs.Orderly.{MayJoin};
+ghost use Rattle.patch_view.specs.State.{class_at, follows, with_laid, IsLaid, departed_at, landed_at, moved_down, IsMerged, settled_at};
+ghost use Rattle.patch_view.specs.History.{unpatched, IsNext, MayLand, laid, made, with_mark, with_joined};
+ghost use Rattle.patch_view.specs.Meaning.{Represents, IsGathered};
+ghost use Rattle.patch_view.specs.Answers.{IsPatch};
+
+use crate::classes::{Class, sort};
+use crate::spans::swap_span;
+use crate::states::BlockState;
+use patch_model::{BLOCK, BlockBytes, OutOfMemory, PatchNo};
+use std::alloc::Allocator;
+
+impl<A: Allocator> BlockState<A> {
+    /// A block of these bytes with no patch yet; its records take their memory from `alloc`.
+    pub fn of(alloc: A, first: BlockBytes<A>) -> BlockState<A>
+        ensures { Represents result [] (unpatched first) }
+    {
+        BlockState {
+            bytes: first.into_vec(),
+            classes: Vec::new(alloc),
+        }
+    }
+
+    /// Lays a patch on the block, in memory and a class of its own. Its number is above those of the block's other patches,
+    /// its bytes are at least one, and what it names was made before it. Of a hard patch, which is never taken back, no bytes
+    /// are kept. Without memory nothing is changed.
+    pub fn lay(
+        &mut self,
+        no: PatchNo,
+        start: usize,
+        bytes: &[u8],
+        after: &[PatchNo],
+        hard: bool,
+    ) -> Result<(), OutOfMemory>
+    where
+        A: Clone,
+        requires { start + length bytes.now ≤ BLOCK }
+        ensures answer { (h : History) (block : ℕ) (undo : Undo) → Represents self.old [] h → IsNext h (made no block start bytes.now after.now undo hard)
+            → OnOk result (Represents self.new [] (laid h (made no block start bytes.now after.now undo hard))) }
+        ensures refused { OnErr result (self.new ≡ self.old) }
+    {
+        self.lay_exactly(no, start, bytes, after, hard)?;
+        Ok(())
+    }
+
+    fn lay_exactly(
+        &mut self,
+        no: PatchNo,
+        start: usize,
+        bytes: &[u8],
+        after: &[PatchNo],
+        hard: bool,
+    ) -> Result<(), OutOfMemory>
+    where
+        A: Clone,
+        requires { start + length bytes.now ≤ BLOCK }
+        ensures done { OnOk result (IsLaid self.old no start bytes.now after.now hard self.new) }
+        ensures refused { OnErr result (self.new ≡ self.old) }
+    {
+        let mut all = Vec::from_slice(self.bytes.allocator().clone()?, after)?;
+        sort(all.as_mut_slice());
+        self.lay_with(no, start, bytes, all, hard)
+    }
+
+    /// Lays a patch that names these.
+    fn lay_with(
+        &mut self,
+        no: PatchNo,
+        start: usize,
+        bytes: &[u8],
+        all: Vec<PatchNo, A>,
+        hard: bool,
+    ) -> Result<(), OutOfMemory>
+    where
+        A: Clone,
+        requires fits { start + length bytes.now ≤ BLOCK }
+        requires rising { IsNonDecreasing all.items }
+        ensures done { OnOk result (self.new ≡ with_laid self.old no start bytes.now all.items hard) }
+        ensures refused { OnErr result (self.new ≡ self.old) }
+    {
+        self.classes.reserve(1)?;
+        let stop = start + bytes.len();
+        let members = Vec::from_slice(self.bytes.allocator().clone()?, &[no])?;
+        let kept = if hard { &bytes[..0] } else { bytes };
+        let mut saved = Vec::from_slice(self.bytes.allocator().clone()?, kept)?;
+        if hard {
+            self.bytes[start..stop].copy_from_slice(bytes);
+        } else {
+            swap_span(self.bytes.as_mut_slice(), start, saved.as_mut_slice());
+        }
+        let class = Class::new(no, members, start, stop, saved, all, hard);
+        self.classes.push(class).unwrap();
+        Ok(())
+    }
+
+    /// Puts the class of this patch, which is in memory, in flight. Its saved bytes go.
+    pub fn depart(&mut self, no: PatchNo)
+        ensures answer { (h : History) (e : Entry) → Represents self.old [] h → IsPatch h no e → is_memory e ≡ true
+            → Represents self.new [] (with_mark h Flight e.class) }
+    {
+        if let Some(at) = self.place_of(no) {
+            self.depart_at(at);
+        }
+    }
+
+    /// Moves the class at `k` down to the place `front`.
+    fn move_down(&mut self, front: usize, k: usize)
+        requires down { front ≤ k }
+        requires within { k < length self.old.classes }
+        ensures { self.new ≡ moved_down self.old front k }
+    {
+        let passed = &mut self.classes[front..k + 1];
+        passed.rotate_right(1);
+    }
+
+    /// Whether the class at `k` depends directly on one from `front` up to it.
+    fn follows_any(&self, front: usize, k: usize) -> bool
+        requires down { front ≤ k }
+        requires within { k < length self.now.classes }
+        ensures no { IsFalse result → (m : ℕ) → front ≤ m → m < k → follows self.now k m ≡ false }
+        ensures yes { IsTrue result → (m : ℕ) × (front ≤ m) × (m < k) × (follows self.now k m ≡ true) }
+    {
+        for m in front..k {
+            if self.follows_at(k, m) {
+                return true;
+            }
+        }
+        false
+    }
+
+    /// Brings the class at `low` up to the one at `high`: what lies between and doesn't depend on it, directly or through
+    /// others, is moved below it. Answers its new place.
+    fn gather(&mut self, low: usize, high: usize) -> usize
+        requires less { low < high }
+        requires within { high < length self.old.classes }
+        ensures { IsGathered self.old self.new low high result }
+    {
+        let mut front = low;
+        for k in low + 1..high {
+            if !self.follows_any(front, k) {
+                self.move_down(front, k);
+                front += 1;
+            }
+        }
+        front
+    }
+
+    fn merged_at(&self, alloc: A, low: usize, high: usize) -> Result<Class<A>, OutOfMemory>
+    where
+        A: Clone,
+        requires first { low < length self.now.classes }
+        requires second { high < length self.now.classes }
+        ensures { IfOk result (λ c. IsMerged (class_at self.now low) (class_at self.now high) c) }
+    {
+        let class = &self.classes[low];
+        class.merged(alloc, &self.classes[high])
+    }
+
+    fn settle(&mut self, low: usize, high: usize, class: Class<A>)
+        requires less { low < high }
+        requires within { high < length self.old.classes }
+        ensures { self.new ≡ settled_at self.old low high class }
+    {
+        self.classes[low] = class;
+        let _gone = self.classes.remove(high);
+    }
+
+    /// Makes the classes of two patches one, under the lesser name. Both may be taken back, their spans meet or touch, and no
+    /// third class lies on a path from one to the other. Without memory nothing is changed.
+    pub fn join(&mut self, a: PatchNo, b: PatchNo) -> Result<(), OutOfMemory>
+    where
+        A: Clone,
+        ensures answer { (h : History) (e f : Entry) → Represents self.old [] h → IsPatch h a e → IsPatch h b f → MayJoin h.entries e.class f.class
+            → OnOk result (Represents self.new [] (with_joined h e.class f.class)) }
+        ensures refused { OnErr result (self.new ≡ self.old) }
+    {
+        let Some(i) = self.place_of(a) else {
+            return Ok(());
+        };
+        let Some(j) = self.place_of(b) else {
+            return Ok(());
+        };
+        if i < j {
+            self.join_at(i, j)?;
+        } else if j < i {
+            self.join_at(j, i)?;
+        }
+        Ok(())
+    }
+
+    /// Makes the classes at two places one. Without memory nothing is changed.
+    fn join_at(&mut self, low: usize, high: usize) -> Result<(), OutOfMemory>
+    where
+        A: Clone,
+        requires less { low < high }
+        requires within { high < length self.old.classes }
+        ensures answer { (h : History) → Represents self.old [] h → MayJoin h.entries (class_at self.old low).name (class_at self.old high).name
+            → OnOk result (Represents self.new [] (with_joined h (class_at self.old low).name (class_at self.old high).name)) }
+        ensures refused { OnErr result (self.new ≡ self.old) }
+    {
+        let class = self.merged_at(self.bytes.allocator().clone()?, low, high)?;
+        let front = self.gather(low, high);
+        self.settle(front, high, class);
+        Ok(())
+    }
+
+    fn depart_at(&mut self, at: usize)
+        requires { at < length self.old.classes }
+        ensures { self.new ≡ departed_at self.old at }
+    {
+        let class = &mut self.classes[at];
+        class.depart();
+    }
+
+    /// Makes the class of this patch durable: its record goes. The class is in flight, and no class of the block on which it
+    /// depends directly is in memory.
+    pub fn land(&mut self, no: PatchNo)
+        ensures answer { (h : History) (e : Entry) → Represents self.old [] h → IsPatch h no e → MayLand h e.class
+            → Represents self.new [] (with_mark h Durable e.class) }
+    {
+        if let Some(at) = self.place_of(no) {
+            self.land_at(at);
+        }
+    }
+
+    fn land_at(&mut self, at: usize)
+        requires { at < length self.old.classes }
+        ensures { self.new ≡ landed_at self.old at }
+    {
+        let _gone = self.classes.remove(at);
+    }
+}

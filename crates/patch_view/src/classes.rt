@@ -1,0 +1,270 @@
+//! What a block keeps of a live class.
+ghost use Rattle.std.specs.Prelude.{◌≡◌, ◌||◌, ◌+◌, ◌≤◌, ◌++◌, length, IfOk, IsPermutation, false, min, max, replicate, ◌-◌};
+ghost use Rattle.std.specs.List.{list_any};
+ghost use Rattle.std.specs.List.Sorted.{IsNonDecreasing};
+ghost use Rattle.patch_model.specs.Entry.{is_among};
+ghost use Rattle.patch_view.specs.State.{is_left, laid_on, exchanged_with, meets, names, departed, merged, IsMerged};
+
+use crate::spans::swap_span;
+use patch_model::{BLOCK, OutOfMemory, PatchNo};
+use std::alloc::{Allocator, Global};
+use std::marker::Model;
+
+/// A live class of the block. The numbers of its members, and those that they name, rise.
+#[derive(Drop)]
+pub(crate) struct Class<A: Allocator = Global> {
+    name: PatchNo,
+    members: Vec<PatchNo, A>,
+    start: usize,
+    stop: usize,
+    saved: Vec<u8, A>,
+    after: Vec<PatchNo, A>,
+    flying: bool,
+    hard: bool,
+    taken: bool,
+}
+
+impl<A: Allocator> Model for Class<A> {
+    ghost use Rattle.std.specs.Prelude.{◌+◌, ◌≤◌, length};
+    ghost use Rattle.std.specs.List.Sorted.{IsNonDecreasing};
+    ghost use Rattle.patch_view.specs.State.{Class as Seen};
+
+    ghost Value = { Seen };
+
+    ghost view = { λ c. record {
+      name = c.name;
+      members = c.members.items;
+      start = c.start;
+      stop = c.stop;
+      saved = c.saved.items;
+      after = c.after.items;
+      flying = c.flying;
+      hard = c.hard;
+      taken = c.taken;
+    } };
+
+    ghost invariant = { λ c. (c.start + length c.saved.items ≤ c.stop) × (c.stop ≤ 4096)
+        × IsNonDecreasing c.members.items × IsNonDecreasing c.after.items };
+}
+
+impl<A: Allocator> Class<A> {
+    pub(crate) fn name(&self) -> PatchNo
+        ensures { result ≡ self.now.name }
+    {
+        self.name
+    }
+
+    pub(crate) fn is_flying(&self) -> bool
+        ensures { result ≡ self.now.flying }
+    {
+        self.flying
+    }
+
+    pub(crate) fn is_hard(&self) -> bool
+        ensures { result ≡ self.now.hard }
+    {
+        self.hard
+    }
+
+    pub(crate) fn is_taken(&self) -> bool
+        ensures { result ≡ self.now.taken }
+    {
+        self.taken
+    }
+
+    /// It may be taken and isn't.
+    pub(crate) fn is_left(&self) -> bool
+        ensures { result ≡ is_left self.now }
+    {
+        !self.flying && !self.hard && !self.taken
+    }
+
+    pub(crate) fn includes(&self, no: PatchNo) -> bool
+        ensures { result ≡ is_among self.now.members no }
+    {
+        is_listed(&self.members, no)
+    }
+
+    fn includes_any(&self, numbers: &[PatchNo]) -> bool
+        ensures { result ≡ list_any (λ n. is_among self.now.members n) numbers.now }
+    {
+        numbers.iter().any(|n| self.includes(*n))
+    }
+
+    fn names(&self, no: PatchNo) -> bool
+        ensures { result ≡ is_among self.now.after no }
+    {
+        is_listed(&self.after, no)
+    }
+
+    fn names_any(&self, numbers: &[PatchNo]) -> bool
+        ensures { result ≡ list_any (λ n. is_among self.now.after n) numbers.now }
+    {
+        numbers.iter().any(|n| self.names(*n))
+    }
+
+    /// The two spans have a common byte, or some member of this class names some member of the other.
+    pub(crate) fn rests_on(&self, other: &Class<A>) -> bool
+        ensures { result ≡ (meets self.now other.now || names self.now other.now) }
+    {
+        self.meets(other) || self.names_some_of(other)
+    }
+
+    fn meets(&self, other: &Class<A>) -> bool
+        ensures { result ≡ meets self.now other.now }
+    {
+        self.start < other.stop && other.start < self.stop
+    }
+
+    /// The shorter list is gone through, and the longer one is searched for each of its numbers.
+    fn names_some_of(&self, other: &Class<A>) -> bool
+        ensures { result ≡ names self.now other.now }
+    {
+        if self.after.len() <= other.members.len() {
+            other.includes_any(&self.after)
+        } else {
+            self.names_any(&other.members)
+        }
+    }
+
+    /// The record of a class of one patch, in memory and applied.
+    pub(crate) fn new(
+        no: PatchNo,
+        members: Vec<PatchNo, A>,
+        start: usize,
+        stop: usize,
+        saved: Vec<u8, A>,
+        after: Vec<PatchNo, A>,
+        hard: bool,
+    ) -> Class<A>
+        requires long { start + length saved.items ≤ stop }
+        requires fits { stop ≤ BLOCK }
+        requires members { IsNonDecreasing members.items }
+        requires after { IsNonDecreasing after.items }
+        ensures { result ≡ record {
+          name = no;
+          members = members.items;
+          start = start;
+          stop = stop;
+          saved = saved.items;
+          after = after.items;
+          flying = false;
+          hard = hard;
+          taken = false;
+        } }
+    {
+        Class {
+            name: no,
+            members,
+            start,
+            stop,
+            saved,
+            after,
+            flying: false,
+            hard,
+            taken: false,
+        }
+    }
+
+    /// This class and a higher one as one class: on the bytes that they share it has what this one saved.
+    pub(crate) fn merged(&self, alloc: A, high: &Class<A>) -> Result<Class<A>, OutOfMemory>
+    where
+        A: Clone,
+        ensures { IfOk result (λ c. IsMerged self.now high.now c) }
+    {
+        let width = self.stop.max(high.stop) - self.start.min(high.start);
+        let members = both_lists(alloc.clone()?, &self.members, &high.members)?;
+        let after = both_lists(alloc.clone()?, &self.after, &high.after)?;
+        let saved = vec![in alloc; 0u8; width]?;
+        Ok(self.merged_with(high, members, after, saved))
+    }
+
+    /// The record of both, with these members, which name these, in whose saved bytes the room is zeros.
+    fn merged_with(
+        &self,
+        high: &Class<A>,
+        members: Vec<PatchNo, A>,
+        after: Vec<PatchNo, A>,
+        room: Vec<u8, A>,
+    ) -> Class<A>
+        requires members { IsNonDecreasing members.items }
+        requires after { IsNonDecreasing after.items }
+        requires room { room.items ≡ replicate (max self.now.stop high.now.stop - min self.now.start high.now.start) 0 }
+        ensures { result ≡ merged self.now high.now members.items after.items }
+    {
+        let start = self.start.min(high.start);
+        let stop = self.stop.max(high.stop);
+        let upper = high.start - start;
+        let lower = self.start - start;
+        let mut saved = room;
+        saved[upper..upper + high.saved.len()].copy_from_slice(&high.saved);
+        saved[lower..lower + self.saved.len()].copy_from_slice(&self.saved);
+        Class {
+            name: lesser(self.name, high.name),
+            members,
+            start,
+            stop,
+            saved,
+            after,
+            flying: false,
+            hard: false,
+            taken: false,
+        }
+    }
+
+    pub(crate) fn depart(&mut self)
+        ensures { self.new ≡ departed self.old }
+    {
+        self.flying = true;
+        self.saved.clear();
+    }
+
+    /// Exchanges the saved bytes with the block's, and marks the class.
+    pub(crate) fn exchange(&mut self, bytes: &mut [u8], taken: bool)
+        requires { length bytes.old ≡ 4096 }
+        ensures laid { bytes.new ≡ laid_on self.old bytes.old }
+        ensures class { self.new ≡ exchanged_with self.old bytes.old taken }
+    {
+        let start = self.start;
+        let saved = self.saved.as_mut_slice();
+        swap_span(bytes, start, saved);
+        self.taken = taken;
+    }
+}
+
+/// Whether the number is in a list that rises.
+fn is_listed(numbers: &[PatchNo], no: PatchNo) -> bool
+    requires { IsNonDecreasing numbers.now }
+    ensures { result ≡ is_among numbers.now no }
+{
+    numbers.binary_search(&no).is_ok()
+}
+
+/// The numbers of both lists, rising.
+fn both_lists<A: Allocator>(
+    alloc: A,
+    these: &[PatchNo],
+    those: &[PatchNo],
+) -> Result<Vec<PatchNo, A>, OutOfMemory>
+    ensures all { IfOk result (λ all. IsPermutation (these.now ++ those.now) all.items) }
+    ensures rising { IfOk result (λ all. IsNonDecreasing all.items) }
+{
+    let mut all = Vec::from_slice(alloc, these)?;
+    all.extend_from_slice(those)?;
+    sort(&mut all);
+    Ok(all)
+}
+
+/// Puts the numbers into rising order.
+pub(crate) fn sort(numbers: &mut [PatchNo])
+    ensures same { IsPermutation numbers.old numbers.new }
+    ensures rising { IsNonDecreasing numbers.new }
+{
+    numbers.sort_unstable();
+}
+
+fn lesser(a: PatchNo, b: PatchNo) -> PatchNo
+    ensures { result ≡ min a b }
+{
+    a.min(b)
+}

@@ -1,0 +1,57 @@
+//! Laws of the definitions, each the contract of a function that does nothing.
+ghost use Rattle.patch_view.specs.Steps.{AfterCreate, AfterMerge, AfterSend, AfterComplete, DepartedOneByOne, LandedOneByOne, JoinedOnBlock, SendLeavesTheImage};
+ghost use Rattle.patch_view.specs.Laws.{OrderlyIsCoherent, LastIsNext, FlightMayLand, OthersMayLand, UppermostMayBeTaken, SameNamesSameBytes, OneValue, OrdersMeet, ImageIsWithout};
+
+/// What the calls ask of a block's history is true of each block of an execution.
+pub fn blocks_are_coherent()
+    ensures coherent { OrderlyIsCoherent }
+    ensures next { LastIsNext }
+{}
+
+/// The classes of a completed write may land one after another, in any order.
+pub fn flights_may_land()
+    ensures first { FlightMayLand }
+    ensures others { OthersMayLand }
+{}
+
+/// An undoable class may be taken once each live class that depends directly on it is taken: so one on which none depends
+/// may always be.
+pub fn uppermost_may_be_taken()
+    ensures { UppermostMayBeTaken }
+{}
+
+/// Permitted orders that end in one set leave the same bytes.
+pub fn orders_meet()
+    ensures bytes { SameNamesSameBytes }
+    ensures orders { OrdersMeet }
+{}
+
+/// Of records with one outline, one history and one set of taken classes leave one value.
+pub fn one_value()
+    ensures { OneValue }
+{}
+
+/// With all that is in memory taken back, the block is its image; and what a send leaves behind may be taken all at once.
+pub fn image_is_without()
+    ensures image { ImageIsWithout }
+    ensures send { SendLeavesTheImage }
+{}
+
+/// What each step of an execution makes of a block's history.
+pub fn steps_on_a_block()
+    ensures create { AfterCreate }
+    ensures merge { AfterMerge }
+    ensures send { AfterSend }
+    ensures complete { AfterComplete }
+{}
+
+/// Class by class a send and a completion come to the same as at once.
+pub fn class_by_class()
+    ensures departed { DepartedOneByOne }
+    ensures landed { LandedOneByOne }
+{}
+
+/// Classes of one block that may be joined may be joined in its history.
+pub fn joined_on_a_block()
+    ensures { JoinedOnBlock }
+{}

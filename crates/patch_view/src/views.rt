@@ -1,0 +1,86 @@
+//! A block lent with classes to be taken back, which has to be put right again.
+ghost use Rattle.std.specs.Prelude.{◌≡◌, ℕ, List, [], length, OnErr, MatchResult, IsOk, ◌↔◌};
+ghost use Rattle.patch_model.specs.History.{History, HoldsDependents, without};
+ghost use Rattle.patch_view.specs.History.{undoable_classes};
+ghost use Rattle.patch_view.specs.State.{Block, outline};
+ghost use Rattle.patch_view.specs.Meaning.{Represents};
+ghost use Rattle.patch_view.specs.View.{seen_by, borrow_of};
+ghost use Rattle.patch_view.specs.Answers.{MayTake, MayPutBack, IsTaken, IsWhyNotTaken, IsPutBack, IsWhyNotPutBack};
+
+use crate::refusals::{PutBackRefusal, TakeRefusal};
+use crate::states::BlockState;
+use patch_model::{BLOCK, PatchNo};
+use std::alloc::{Allocator, Global};
+
+/// A view of a block, of which classes are taken back for a while. [`restore`](BlockView::restore) alone spends it: a view
+/// cannot be let go, so no block stays as a view left it.
+pub struct BlockView<'a, A: Allocator = Global> {
+    state: &'a mut BlockState<A>,
+}
+
+impl<A: Allocator> BlockState<A> {
+    /// Lends the block as a view. It takes no memory, nor do the view's calls.
+    pub fn view(&mut self) -> BlockView<'_, A>
+        ensures same_reference { borrow_of result ≡ self.entry.ghost_name }
+        ensures same { seen_by result ≡ self.old }
+    {
+        BlockView { state: self }
+    }
+}
+
+impl<'a, A: Allocator> BlockView<'a, A> {
+    /// Takes the class of this patch back.
+    pub fn take(&mut self, no: PatchNo) -> Result<(), TakeRefusal>
+        ensures same_reference { borrow_of self.new ≡ borrow_of self.old }
+        ensures answer { (h : History) (taken : List ℕ) → Represents (seen_by self.old) taken h
+            → MatchResult result (λ done. IsTaken h taken no (seen_by self.new)) (λ refusal. IsWhyNotTaken h taken no refusal) }
+        ensures accepted { (h : History) (taken : List ℕ) → Represents (seen_by self.old) taken h → IsOk result ↔ MayTake h taken no }
+        ensures outline { outline (seen_by self.new) ≡ outline (seen_by self.old) }
+        ensures refused { OnErr result (seen_by self.new ≡ seen_by self.old) }
+    {
+        self.state.take(no)
+    }
+
+    /// Puts the class of this patch back.
+    pub fn put_back(&mut self, no: PatchNo) -> Result<(), PutBackRefusal>
+        ensures same_reference { borrow_of self.new ≡ borrow_of self.old }
+        ensures answer { (h : History) (taken : List ℕ) → Represents (seen_by self.old) taken h
+            → MatchResult result (λ done. IsPutBack h taken no (seen_by self.new)) (λ refusal. IsWhyNotPutBack h taken no refusal) }
+        ensures accepted { (h : History) (taken : List ℕ) → Represents (seen_by self.old) taken h → IsOk result ↔ MayPutBack h taken no }
+        ensures outline { outline (seen_by self.new) ≡ outline (seen_by self.old) }
+        ensures refused { OnErr result (seen_by self.new ≡ seen_by self.old) }
+    {
+        self.state.put_back(no)
+    }
+
+    /// Takes every class back that is in memory and not hard, in one pass over the records. The condition is that together
+    /// they hold their dependents.
+    pub fn take_all(&mut self)
+        ensures same_reference { borrow_of self.new ≡ borrow_of self.old }
+        ensures answer { (h : History) (taken : List ℕ) → Represents (seen_by self.old) taken h → HoldsDependents h (undoable_classes h)
+            → Represents (seen_by self.new) (undoable_classes h) h }
+        ensures outline { outline (seen_by self.new) ≡ outline (seen_by self.old) }
+    {
+        self.state.take_all();
+    }
+
+    /// The block's bytes without the classes that are taken.
+    pub fn bytes(&self) -> &[u8]
+        ensures length { length result.now ≡ BLOCK }
+        ensures answer { (h : History) (taken : List ℕ) → Represents (seen_by self.now) taken h → result.now ≡ without h taken }
+    {
+        self.state.bytes()
+    }
+
+    /// Puts every class back, and spends the view.
+    pub fn restore(self)
+        ensures answer { (h : History) (taken : List ℕ) → Represents (seen_by self.entry) taken h → Represents self.exit.0.now [] h }
+        ensures outline { outline self.exit.0.now ≡ outline (seen_by self.entry) }
+        ensures as_before { (h : History) (taken : List ℕ) (before : Block)
+            → Represents (seen_by self.entry) taken h → Represents before [] h → outline before ≡ outline (seen_by self.entry)
+            → self.exit.0.now ≡ before }
+    {
+        let BlockView { state } = self;
+        state.put_all_back();
+    }
+}
