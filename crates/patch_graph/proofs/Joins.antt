@@ -1,0 +1,58 @@
+-- The graph with two classes made one.
+use Rattle.std.proofs.Common.{◌≡◌, ℕ, ◌∙◌, inl, inr, refl, sym, ap, subst, Some, None}
+use Rattle.std.specs.Prelude.{◌≢◌, slice_set}
+use Rattle.std.specs.Option.{option_map_or}
+use Rattle.std.proofs.lemmas.Bool.{cases_eq}
+use Rattle.std.proofs.lemmas.List.{get_or-set_same, get_or-set_other}
+use Rattle.slab.specs.Slab.{Slab, Updates}
+use Rattle.patch_graph.specs.State.{Class, Slots, Numbers, class_at}
+use Rattle.patch_graph.specs.Joining.{joined_class, absorbed_at, AreRedirected, IsJoined, KeepsBlocks}
+use Rattle.patch_graph.specs.Listing.{Lists, listed, AreListed, KeepsLive}
+use Rattle.patch_graph.proofs.Flights.{cases_class}
+use Rattle.patch_model.specs.Member.{In}
+use Rattle.std.specs.Prelude.{is_some}
+use Rattle.std.proofs.lemmas.Bool.{cases_eq}
+use Rattle.std.specs.Option.{option_map_or}
+use Rattle.patch_graph.proofs.Readying.{class_same}
+use Rattle.patch_graph.proofs.Rounds.{below-slots}
+
+pub joins-at : (s0 : Slots) (s1 s2 : Slab Class) (n0 n1 : Numbers) (keep gone : ℕ) (c d other : Class) → keep ≢ gone → class_at s0 keep ≡ Some c → class_at s0 gone ≡ Some d
+    → class_at s0 gone ≡ Some other → s1.slots ≡ absorbed_at s0 keep other → Updates s1 s2 gone None → AreRedirected other.members keep n0 n1 → IsJoined keep gone c d s0 s2.slots n0 n1
+joins-at s0 s1 s2 n0 n1 keep gone c d other differ at at2 there absorbed removed turned =
+    let same = class_same other d (sym there ∙ at2) in
+    let is : s1.slots ≡ slice_set s0 keep (Some (joined_class c other)) = absorbed ∙ ap (λ o. option_map_or (λ c. slice_set s0 keep (Some (joined_class c other))) o s0) at in
+    record {
+      here = removed.others keep differ ∙ ap (λ s. class_at s keep) is ∙ get_or-set_same s0 keep (Some (joined_class c other)) None (below-slots s0 keep c at) ∙ ap (λ z. Some (joined_class c z)) same;
+      none = removed.changed;
+      others = λ k dk dg. removed.others k dg ∙ ap (λ s. class_at s k) is ∙ get_or-set_other s0 keep k (Some (joined_class c other)) None dk;
+      numbers = subst (λ z. AreRedirected z.members keep n0 n1) same turned;
+    }
+
+pub blocks-same : (slots : Slots) → KeepsBlocks slots slots
+blocks-same slots key d at = (d, at, refl)
+
+-- a join keeps each class in its block
+pub blocks-at : (s0 : Slots) (s1 s2 : Slab Class) (keep gone : ℕ) (other : Class) → s1.slots ≡ absorbed_at s0 keep other → Updates s1 s2 gone None → KeepsBlocks s0 s2.slots
+blocks-at s0 s1 s2 keep gone other absorbed removed key e at = elim (cases_eq key gone) [
+  | inl g ↦ let none : class_at s2.slots key ≡ None = ap (class_at s2.slots) g ∙ removed.changed in absurd (cc)
+  | inr og ↦
+      let at1 : class_at s1.slots key ≡ Some e = sym (removed.others key og) ∙ at in
+      elim (cases_class s0 keep) [
+        | inl none ↦ (e, sym (ap (λ s. class_at s key) (absorbed ∙ ap (λ o. option_map_or (λ c. slice_set s0 keep (Some (joined_class c other))) o s0) none)) ∙ at1, refl)
+        | inr c ↦
+            let is : s1.slots ≡ slice_set s0 keep (Some (joined_class c.0 other)) = absorbed ∙ ap (λ o. option_map_or (λ c. slice_set s0 keep (Some (joined_class c other))) o s0) c.1 in
+            elim (cases_eq key keep) [
+              | inl k ↦
+                  let here : class_at s1.slots key ≡ Some (joined_class c.0 other) = ap (λ s. class_at s key) is ∙ ap (class_at (slice_set s0 keep (Some (joined_class c.0 other)))) k ∙ get_or-set_same s0 keep (Some (joined_class c.0 other)) None (below-slots s0 keep c.0 c.1) in
+                  (c.0, ap (class_at s0) k ∙ c.1, ap (λ z. z.block) (class_same e (joined_class c.0 other) (sym at1 ∙ here)))
+              | inr ok ↦ (e, sym (ap (λ s. class_at s key) is ∙ get_or-set_other s0 keep key (Some (joined_class c.0 other)) None ok) ∙ at1, refl)
+            ]
+      ]
+]
+
+-- where classes keep their blocks they stay where they are listed
+pub blocks-listed : (old new : Slots) (lists : Lists) → KeepsBlocks old new → AreListed old lists → AreListed new lists
+blocks-listed old new lists b l key d at = let c = b key d at in subst (λ n. In (listed lists n) key) (sym c.2) (l key c.0 c.1)
+
+pub live-listed : (slots : Slots) (old new : Lists) → KeepsLive slots old new → AreListed slots old → AreListed slots new
+live-listed slots old new k l key d at = k d.block key (ap is_some at) (l key d at)

@@ -1,0 +1,64 @@
+-- What one more patch adds.
+use Rattle.std.specs.Prelude.{ℕ, Bool, true, false, ◌≡◌, ◌≢◌, ◌+◌, ◌==◌, ◌&&◌, nat_lt, if◌then◌else◌, List, [], ◌∷◌, ◌++◌, Some, None}
+use Rattle.std.specs.List.{list_all}
+use Rattle.std.specs.Option.{option_map_or}
+use Rattle.patch_model.specs.Patch.{Patch}
+use Rattle.patch_model.specs.Pile.{end}
+use Rattle.patch_model.specs.declared.patches.Mark.TheVariants.{Memory}
+use Rattle.patch_model.specs.declared.patches.Undo.{Undo}
+use Rattle.patch_model.specs.declared.patches.Undo.TheVariants.{Keep, MayDrop}
+use Rattle.patch_graph.specs.Listing.{HoldsKeys}
+use Rattle.patch_graph.specs.State.{Class, Graph, Slots, Numbers, find, class_at}
+
+abbrev pub overlaps : ℕ → ℕ → ℕ → Class → Bool
+overlaps block start stop c = c.block == block && nat_lt c.start stop && nat_lt start c.stop
+
+-- the name of the class at the key, if it overlaps
+abbrev pub overlap_at : Slots → ℕ → ℕ → ℕ → ℕ → List ℕ
+overlap_at slots block start stop key = option_map_or (λ c. if overlaps block start stop c then c.name ∷ [] else []) (class_at slots key) []
+
+-- of these keys
+abbrev pub overlapped : Slots → ℕ → ℕ → ℕ → List ℕ → List ℕ
+overlapped slots block start stop [] = []
+overlapped slots block start stop (key ∷ keys) = overlap_at slots block start stop key ++ overlapped slots block start stop keys
+
+abbrev pub dependencies : Slots → ℕ → ℕ → ℕ → List ℕ → List ℕ → List ℕ
+dependencies slots block start stop after keys = after ++ overlapped slots block start stop keys
+
+-- the number isn't live, or that of a hard class of the block
+abbrev pub lets_drop : Slots → Numbers → ℕ → ℕ → Bool
+lets_drop slots numbers block n = option_map_or (λ k. option_map_or (λ c. c.hard && c.block == block) (class_at slots k) false) (find numbers n) true
+
+abbrev pub is_hard : Slots → Numbers → ℕ → Undo → List ℕ → Bool
+is_hard slots numbers block Keep deps = false
+is_hard slots numbers block MayDrop deps = list_all (lets_drop slots numbers block) deps
+
+abbrev pub new_class : ℕ → ℕ → ℕ → ℕ → List ℕ → Bool → Class
+new_class number block start stop deps hard =
+    record { name = number; members = number ∷ []; block = block; mark = Memory; hard = hard; start = start; stop = stop; after = deps }
+
+-- the graph with one more class
+pub record IsAdded (old new : Graph) (key : ℕ) (c : Class) : Type 0 where
+  pub made : new.made ≡ old.made + 1
+  pub vacant : class_at old.slots key ≡ None
+  pub here : class_at new.slots key ≡ Some c
+  pub others : (k : ℕ) → k ≢ key → class_at new.slots k ≡ class_at old.slots k
+  pub number : find new.numbers old.made ≡ Some key
+  pub rest : (n : ℕ) → n ≢ old.made → find new.numbers n ≡ find old.numbers n
+
+-- what was added, at some key, where these keys were looked at
+pub record HasAdded (old new : Graph) (block start stop : ℕ) (undo : Undo) (after : List ℕ) (hard : Bool) : Type 0 where
+  pub key : ℕ
+  pub keys : List ℕ
+  pub enough : HoldsKeys old.slots block keys
+  pub hard_is : hard ≡ is_hard old.slots old.numbers block undo (dependencies old.slots block start stop after keys)
+  pub added : IsAdded old new key (new_class old.made block start stop (dependencies old.slots block start stop after keys) hard)
+
+-- a patch of this number, span and order
+pub record IsPatch (p : Patch) (number block start stop : ℕ) (after : List ℕ) (undo : Undo) : Type 0 where
+  pub no : p.no ≡ number
+  pub block_is : p.block ≡ block
+  pub start_is : p.start ≡ start
+  pub end_is : end p ≡ stop
+  pub after_is : p.after ≡ after
+  pub undo_is : p.undo ≡ undo

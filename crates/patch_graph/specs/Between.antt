@@ -1,0 +1,48 @@
+-- The least name of a class between two others.
+use Rattle.std.specs.Prelude.{ℕ, Bool, true, false, not, ◌+◌, ◌<◌, ◌≡◌, ◌≢◌, ◌≤◌, ◌==◌, ◌&&◌, nat_lt, if◌then◌else◌, List, length, slice_index_or, Option, Some, None}
+use Rattle.std.specs.Option.{option_map, option_map_or}
+use Rattle.patch_model.specs.Entry.{Entry}
+use Rattle.patch_model.specs.Dependency.{Path, LiesBetween}
+use Rattle.patch_graph.specs.State.{Class, Slots, class_at}
+use Rattle.patch_graph.specs.Marks.{is_marked}
+
+-- reached, not left over, and neither end
+abbrev pub lies : List Bool → List Bool → ℕ → ℕ → ℕ → Bool
+lies marks rest from to key = is_marked marks key && not (is_marked rest key) && (not (key == from) && not (key == to))
+
+abbrev pub lesser : Option ℕ → Option ℕ → Option ℕ
+lesser None o = o
+lesser (Some a) None = Some a
+lesser (Some a) (Some b) = if nat_lt a b then Some a else Some b
+
+abbrev pub name_if : Slots → (ℕ → Bool) → ℕ → Option ℕ
+name_if slots test key = if test key then option_map (λ c. c.name) (class_at slots key) else None
+
+-- of the classes of the first so many keys that pass, the least name
+abbrev pub IsLeastOf : Slots → (ℕ → Bool) → List ℕ → ℕ → Option ℕ → Type 0
+IsLeastOf slots test keys upto None = (i : ℕ) (c : Class) → i < upto → class_at slots (slice_index_or keys i 0) ≡ Some c → test (slice_index_or keys i 0) ≡ true → ⊥
+IsLeastOf slots test keys upto (Some m) =
+    ((k : ℕ) × (c : Class) × (class_at slots k ≡ Some c) × (test k ≡ true) × (c.name ≡ m))
+    × ((i : ℕ) (c : Class) → i < upto → class_at slots (slice_index_or keys i 0) ≡ Some c → test (slice_index_or keys i 0) ≡ true → m ≤ c.name)
+
+-- the marks without one key
+abbrev pub AreWithout : ℕ → List Bool → List Bool → Type 0
+AreWithout to marks rest = (key : ℕ) → is_marked rest key ≡ (is_marked marks key && not (key == to))
+
+-- so far, where the copy was clear at first
+pub record IsPartWithout (to : ℕ) (marks : List Bool) (keys : List ℕ) (old rest : List Bool) (upto : ℕ) : Type 0 where
+  pub sound : (key : ℕ) → is_marked rest key ≡ true → (is_marked marks key && not (key == to)) ≡ true
+  pub complete : (i : ℕ) → i < upto → (is_marked marks (slice_index_or keys i 0) && not (slice_index_or keys i 0 == to)) ≡ true → is_marked rest (slice_index_or keys i 0) ≡ true
+  pub long : length rest ≡ length old
+
+-- the class at the key has the last number that was made
+abbrev pub is_newest : Slots → ℕ → ℕ → Bool
+is_newest slots key made = option_map_or (λ c. c.name + 1 == made) (class_at slots key) false
+
+-- no two classes depend on each other
+abbrev pub HasNoRing : List Entry → Type 0
+HasNoRing all = (a b : ℕ) → a ≢ b → Path all a b → Path all b a → ⊥
+
+abbrev pub IsLeastBetween : List Entry → ℕ → ℕ → Option ℕ → Type 0
+IsLeastBetween all a b None = (c : ℕ) → LiesBetween all a b c → ⊥
+IsLeastBetween all a b (Some m) = LiesBetween all a b m × ((c : ℕ) → LiesBetween all a b c → m ≤ c)

@@ -1,0 +1,43 @@
+-- Two classes made one.
+use Rattle.std.specs.Prelude.{ℕ, ◌≡◌, ◌≢◌, ◌++◌, min, max, if◌then◌else◌, List, Some, None, slice_set, slice_index_or, ◌<◌}
+use Rattle.std.specs.Option.{option_map, option_map_or}
+use Rattle.patch_model.specs.Entry.{is_among}
+use Rattle.patch_graph.specs.State.{Class, Slots, Numbers, find, class_at}
+
+-- the class with another one's patches
+abbrev pub joined_class : Class → Class → Class
+joined_class c d = record c {
+  name = min c.name d.name;
+  members = c.members ++ d.members;
+  start = min c.start d.start;
+  stop = max c.stop d.stop;
+  after = c.after ++ d.after;
+}
+
+-- with the other class's patches in the class at the key, if there is one
+abbrev pub absorbed_at : Slots → ℕ → Class → Slots
+absorbed_at slots key d = option_map_or (λ c. slice_set slots key (Some (joined_class c d))) (class_at slots key) slots
+
+-- the numbers that are among these lead to the key, and the others where they led
+abbrev pub AreRedirected : List ℕ → ℕ → Numbers → Numbers → Type 0
+AreRedirected members key old new = (n : ℕ) → find new n ≡ (if is_among members n then option_map (λ k. key) (find old n) else find old n)
+
+-- so far, for the first of them
+pub record ArePartRedirected (members : List ℕ) (key : ℕ) (old new : Numbers) (upto : ℕ) : Type 0 where
+  pub turned : (i : ℕ) → i < upto → find new (slice_index_or members i 0) ≡ option_map (λ k. key) (find old (slice_index_or members i 0))
+  pub kept : (n : ℕ) → ((i : ℕ) → i < upto → slice_index_or members i 0 ≢ n) → find new n ≡ find old n
+
+-- the class that was at the one key is part of that at the other
+pub record IsJoined (keep gone : ℕ) (c d : Class) (old_slots new_slots : Slots) (old new : Numbers) : Type 0 where
+  pub here : class_at new_slots keep ≡ Some (joined_class c d)
+  pub none : class_at new_slots gone ≡ None
+  pub others : (k : ℕ) → k ≢ keep → k ≢ gone → class_at new_slots k ≡ class_at old_slots k
+  pub numbers : AreRedirected d.members keep old new
+
+abbrev pub HasJoined : ℕ → ℕ → Slots → Slots → Numbers → Numbers → Type 0
+HasJoined keep gone old_slots new_slots old new =
+    (c d : Class) → keep ≢ gone → class_at old_slots keep ≡ Some c → class_at old_slots gone ≡ Some d → IsJoined keep gone c d old_slots new_slots old new
+
+-- each class is of the block of that which was at its key
+abbrev pub KeepsBlocks : Slots → Slots → Type 0
+KeepsBlocks old new = (key : ℕ) (d : Class) → class_at new key ≡ Some d → (c : Class) × (class_at old key ≡ Some c) × (d.block ≡ c.block)

@@ -1,0 +1,10 @@
+pub mod State
+pub mod Marks
+pub mod Meaning
+pub mod Adding
+pub mod Search
+pub mod Flying
+pub mod Between
+pub mod Landing
+pub mod Joining
+pub mod Listing

@@ -1,0 +1,98 @@
+//! What a new patch depends on.
+ghost use Rattle.std.specs.Prelude.{◌≡◌, ◌≤◌, ◌++◌, length, IfOk, OnOk, OnErr};
+ghost use Rattle.std.specs.List.{list_all};
+ghost use Rattle.std.specs.Option.{option_map_or};
+ghost use Rattle.std.specs.Prelude.{◌&&◌, ◌==◌, false};
+ghost use Rattle.patch_graph.specs.State.{class_at};
+ghost use Rattle.patch_graph.specs.Adding.{overlap_at, dependencies, lets_drop, is_hard};
+
+use crate::classes::{Classes, Keys, find};
+use patch_model::{BlockNo, PatchNo, Undo};
+use std::alloc::{AllocError, Allocator};
+
+fn add_overlap<A: Allocator>(
+    classes: &Classes<A>,
+    block: BlockNo,
+    start: usize,
+    stop: usize,
+    key: usize,
+    all: &mut Vec<PatchNo, A>,
+) -> Result<(), AllocError>
+    ensures { OnOk result (all.new.items ≡ all.old.items ++ overlap_at classes.now.slots block start stop key) }
+{
+    if let Some(class) = classes.get(key) {
+        if class.overlaps(block, start, stop) {
+            all.push(class.name)?;
+        }
+    }
+    Ok(())
+}
+
+/// The numbers that a patch of this span names, and the classes that it overlaps, of these keys.
+pub fn dependencies<A: Allocator>(
+    alloc: A,
+    classes: &Classes<A>,
+    block: BlockNo,
+    start: usize,
+    stop: usize,
+    after: &[PatchNo],
+    listed: &[usize],
+) -> Result<Vec<PatchNo, A>, AllocError>
+    ensures { IfOk result (λ all. all.items ≡ dependencies classes.now.slots block start stop after.now listed.now) }
+{
+    let mut all = Vec::from_slice(alloc, after)?;
+    for key in listed {
+        add_overlap(classes, block, start, stop, *key, &mut all)?;
+    }
+    Ok(all)
+}
+
+fn is_hard_at<A: Allocator>(classes: &Classes<A>, block: BlockNo, key: usize) -> bool
+    ensures { result ≡ option_map_or (λ c. c.hard && c.block == block) (class_at classes.now.slots key) false }
+{
+    match classes.get(key) {
+        Some(class) => class.hard && class.block == block,
+        None => false,
+    }
+}
+
+fn lets_drop<A: Allocator>(
+    classes: &Classes<A>,
+    keys: &Keys<A>,
+    block: BlockNo,
+    no: PatchNo,
+) -> bool
+    ensures { result ≡ lets_drop classes.now.slots keys.now.entries block no }
+{
+    match find(keys, no) {
+        Some(key) => is_hard_at(classes, block, key),
+        None => true,
+    }
+}
+
+fn let_drop<A: Allocator>(
+    classes: &Classes<A>,
+    keys: &Keys<A>,
+    block: BlockNo,
+    deps: &[PatchNo],
+) -> bool
+    ensures { result ≡ list_all (lets_drop classes.now.slots keys.now.entries block) deps.now }
+{
+    deps.iter().all(|no| lets_drop(classes, keys, block, *no))
+}
+
+/// Whether a patch is hard that depends on these.
+pub fn is_hard<A: Allocator>(
+    classes: &Classes<A>,
+    keys: &Keys<A>,
+    block: BlockNo,
+    undo: Undo,
+    deps: &[PatchNo],
+) -> bool
+    ensures { result ≡ is_hard classes.now.slots keys.now.entries block undo deps.now }
+{
+    match undo {
+        Undo::Keep => false,
+        Undo::MayDrop => let_drop(classes, keys, block, deps),
+    }
+}

@@ -1,0 +1,254 @@
+//! The graph of the classes that are live.
+ghost use Rattle.std.specs.Prelude.{◌≡◌, ◌≢◌, ◌<◌, ◌≤◌, ◌+◌, ◌==◌, ◌^◌, ℕ, List, [], ◌∷◌, ◌++◌, ◌↔◌, IsTrue, MatchOption, map, max, min, length, IfOk, OnOk, OnErr};
+ghost use Rattle.patch_model.specs.Patch.{Patch};
+ghost use Rattle.patch_model.specs.Entry.{Entry};
+ghost use Rattle.patch_model.specs.Ready.{ready};
+ghost use Rattle.patch_model.specs.State.{class_of, fresh, joined, landed, sent};
+ghost use Rattle.patch_model.specs.Dependency.{Path};
+ghost use Rattle.patch_model.specs.Legal.{IsLegalMerge};
+ghost use Rattle.patch_model.specs.Orderly.{IsOrderly};
+ghost use Rattle.patch_graph.specs.Meaning.{Represents, IsNotLive, IsLiveClass, HasMark};
+ghost use Rattle.patch_graph.specs.Between.{HasNoRing, IsLeastBetween};
+ghost use Rattle.patch_graph.specs.Adding.{IsPatch, HasAdded};
+
+use crate::adding::{dependencies, is_hard};
+use crate::answering::{between, is_any_ready, numbers_ready, reaches};
+use crate::classes::{Class, Classes, Keys, enter, find, mark_at, name_at};
+use crate::flying::fly_ready;
+use crate::joining;
+use crate::landing::land;
+use crate::listing::{BlockKeys, list, listed, unlist, unlist_by};
+use crate::rooms::Room;
+use patch_model::{BlockNo, Mark, OutOfMemory, PatchNo, Undo};
+use std::alloc::{AllocError, Allocator, Global};
+use std::marker::Model;
+
+/// A patch that was added: its number, and whether it is hard.
+#[derive(Clone, Copy, Debug, PartialEq, Eq)]
+pub struct Added {
+    pub no: PatchNo,
+    pub hard: bool,
+}
+
+/// The live classes of all blocks, and what each of them depends on.
+///
+/// Durable classes are forgotten: a number below the next one that isn't live is durable. Only `add`, `merge` and
+/// `ready` take memory.
+#[derive(Drop)]
+pub struct Graph<A: Allocator + Copy = Global> {
+    alloc: A,
+    made: u32,
+    classes: Classes<A>,
+    keys: Keys<A>,
+    lists: BlockKeys<A>,
+    room: Room<A>,
+}
+
+impl<A: Allocator + Copy> Model for Graph<A> {
+    ghost use Rattle.std.specs.Prelude.{◌≤◌, length};
+    ghost use Rattle.patch_graph.specs.State.{Graph as Seen};
+    ghost use Rattle.patch_graph.specs.Listing.{AreListed};
+
+    ghost Value = { Seen };
+
+    ghost view = { λ g. record { made = g.made; slots = g.classes.slots; numbers = g.keys.entries } };
+
+    ghost invariant = { λ g. (length g.classes.slots ≤ g.room) × AreListed g.classes.slots g.lists.entries };
+}
+
+impl<A: Allocator + Copy> Graph<A> {
+    /// No patch yet.
+    pub fn new(alloc: A) -> Graph<A>
+        ensures { Represents result [] }
+    {
+        Graph {
+            alloc,
+            made: 0,
+            classes: Classes::new(alloc),
+            keys: Keys::new(alloc),
+            lists: BlockKeys::new(alloc),
+            room: Room::new(alloc),
+        }
+    }
+
+    /// How many patches were made.
+    pub fn made(&self) -> u32
+        ensures { result ≡ self.now.made }
+    {
+        self.made
+    }
+
+    /// The patches that a send of the block takes, rising.
+    pub fn ready<B: Allocator>(
+        &mut self,
+        alloc: B,
+        block: BlockNo,
+    ) -> Result<Vec<PatchNo, B>, OutOfMemory>
+        ensures answer { (all : List Entry) → Represents self.old all
+            → IfOk result (λ numbers. numbers.items ≡ map (λ e. e.patch.no) (ready all block)) }
+        ensures same { self.new ≡ self.old }
+    {
+        let numbers = numbers_ready(
+            alloc,
+            &self.classes,
+            &self.keys,
+            block,
+            listed(&self.lists, block),
+            &mut self.room,
+        )?;
+        Ok(numbers)
+    }
+
+    /// Whether a send of the block takes any patch.
+    pub fn any_ready(&mut self, block: BlockNo) -> bool
+        ensures answer { (all : List Entry) → Represents self.old all → IsTrue result ↔ (ready all block ≢ []) }
+        ensures same { self.new ≡ self.old }
+    {
+        is_any_ready(
+            &self.classes,
+            &self.keys,
+            block,
+            listed(&self.lists, block),
+            &mut self.room,
+        )
+    }
+
+    /// Adds a patch of the bytes from `start` to `stop`, in memory and a class of its own. It depends on the patches that
+    /// it names and on each class that it overlaps. It is hard if it may drop its undo bytes and each patch that it depends
+    /// on is durable or a hard one of its block (Featherstitch's hard patches, by the rule of our profile).
+    pub fn add(
+        &mut self,
+        block: BlockNo,
+        start: usize,
+        stop: usize,
+        after: &[PatchNo],
+        undo: Undo,
+    ) -> Result<Added, OutOfMemory>
+        requires numbers { self.old.made < 2 ^ 24 }
+        requires span { start < stop }
+        ensures answer { (all : List Entry) (p : Patch) → Represents self.old all → IsPatch p self.old.made block start stop after.now undo
+            → IsOrderly (all ++ fresh all p ∷ [])
+            → IfOk result (λ added. Represents self.new (all ++ fresh all p ∷ []) × (added.no ≡ p.no) × (added.hard ≡ (fresh all p).hard)) }
+        ensures made { OnOk result (self.new.made ≡ self.old.made + 1) }
+        ensures refused { OnErr result (self.new ≡ self.old) }
+    {
+        let no = PatchNo(self.made);
+        let hard = self.add_exactly(block, start, stop, after, undo)?;
+        Ok(Added { no, hard })
+    }
+
+    fn add_exactly(
+        &mut self,
+        block: BlockNo,
+        start: usize,
+        stop: usize,
+        after: &[PatchNo],
+        undo: Undo,
+    ) -> Result<bool, AllocError>
+        requires { self.old.made < 2 ^ 24 }
+        ensures made { OnOk result (self.new.made ≡ self.old.made + 1) }
+        ensures done { IfOk result (λ hard. HasAdded self.old self.new block start stop undo after.now hard) }
+        ensures refused { OnErr result (self.new ≡ self.old) }
+    {
+        self.classes.reserve(1)?;
+        self.keys.reserve(1)?;
+        let count = self.classes.capacity();
+        self.room.grow(count)?;
+        let no = PatchNo(self.made);
+        let next = self.classes.vacant_key();
+        let near = listed(&self.lists, block);
+        let deps = dependencies(self.alloc, &self.classes, block, start, stop, after, near)?;
+        let members = Vec::from_slice(self.alloc, &[no])?;
+        list(self.alloc, &mut self.lists, block, next)?;
+        let hard = is_hard(&self.classes, &self.keys, block, undo, deps.as_slice());
+        let class = Class {
+            name: no,
+            members,
+            block,
+            mark: Mark::Memory,
+            hard,
+            start,
+            stop,
+            after: deps,
+        };
+        let key = self.classes.insert_reserved(class);
+        let _count = self.classes.capacity();
+        enter(&mut self.keys, no, key);
+        self.made += 1;
+        Ok(hard)
+    }
+
+    /// Makes one class of the classes of two patches, where that is legal. Its name.
+    pub fn merge(&mut self, a: PatchNo, b: PatchNo) -> Result<PatchNo, OutOfMemory>
+        ensures answer { (all : List Entry) → Represents self.old all → IsLegalMerge all a b
+            → IsOrderly (map (joined (class_of all a) (class_of all b)) all)
+            → IfOk result (λ name. Represents self.new (map (joined (class_of all a) (class_of all b)) all) × (name ≡ min (class_of all a) (class_of all b))) }
+        ensures made { self.new.made ≡ self.old.made }
+        ensures refused { OnErr result (self.new ≡ self.old) }
+    {
+        let name = joining::merge(self.alloc, &mut self.classes, &mut self.keys, a, b)?;
+        unlist_by(&mut self.lists, &self.classes, &self.keys, a);
+        Ok(name.unwrap_or(a))
+    }
+
+    /// The least name of a third live class on a path from the class of the one live patch to that of the other.
+    pub fn between(&mut self, a: PatchNo, b: PatchNo) -> Option<PatchNo>
+        ensures answer { (all : List Entry) (x y : ℕ) → Represents self.old all → HasNoRing all → IsLiveClass all a x → IsLiveClass all b y → IsLeastBetween all x y result }
+        ensures same { self.new ≡ self.old }
+    {
+        between(&self.classes, &self.keys, self.made, a, b, &mut self.room)
+    }
+
+    /// Puts in flight what a send of the block takes.
+    pub fn mark_flight(&mut self, block: BlockNo)
+        ensures answer { (all : List Entry) → Represents self.old all → IsOrderly (map (sent (ready all block)) all)
+            → Represents self.new (map (sent (ready all block)) all) }
+        ensures made { self.new.made ≡ self.old.made }
+    {
+        let near = listed(&self.lists, block);
+        fly_ready(&mut self.classes, &self.keys, block, near, &mut self.room);
+    }
+
+    /// Makes durable what is in flight of the block, and forgets it.
+    pub fn mark_durable(&mut self, block: BlockNo)
+        ensures answer { (all : List Entry) → Represents self.old all → IsOrderly (map (landed block) all)
+            → Represents self.new (map (landed block) all) }
+        ensures made { self.new.made ≡ self.old.made }
+    {
+        let near = listed(&self.lists, block);
+        land(&mut self.classes, &mut self.keys, block, near);
+        unlist(&mut self.lists, &self.classes, block);
+    }
+
+    /// Whether the class of the one live patch depends on that of the other, directly or through others.
+    pub fn reaches(&mut self, a: PatchNo, b: PatchNo) -> bool
+        ensures answer { (all : List Entry) (x y : ℕ) → Represents self.old all → IsLiveClass all a x → IsLiveClass all b y → x ≢ y
+            → IsTrue result ↔ Path all x y }
+        ensures same { self.new ≡ self.old }
+    {
+        reaches(&self.classes, &self.keys, a, b, &mut self.room)
+    }
+
+    /// The name of a live patch's class.
+    pub fn class_of(&self, no: PatchNo) -> Option<PatchNo>
+        ensures { (all : List Entry) → Represents self.now all → MatchOption result (IsNotLive all no) (IsLiveClass all no) }
+    {
+        match find(&self.keys, no) {
+            Some(key) => name_at(&self.classes, key),
+            None => None,
+        }
+    }
+
+    /// How far a patch has come. None for one that wasn't made.
+    pub fn mark_of(&self, no: PatchNo) -> Option<Mark>
+        ensures { (all : List Entry) → Represents self.now all → MatchOption result (length all ≤ no) (HasMark all no) }
+    {
+        if no.0 >= self.made {
+            return None;
+        }
+        match find(&self.keys, no) {
+            Some(key) => mark_at(&self.classes, key),
+            None => Some(Mark::Durable),
+        }
+    }
+}
