@@ -1,0 +1,80 @@
+//! Laws of the formats. Each is the contract of a function that does nothing: who calls it may rest on the law.
+ghost use Rattle.std.specs.Prelude.{◌≡◌, ◌<◌, ◌≤◌, ◌^◌, ◌+◌, ◌++◌, ℕ, List, [], Option, Ok, take, drop, slice_range, length};
+ghost use Rattle.patch_frame.specs.declared.geometries.Format.{Format as FormatFields};
+ghost use Rattle.patch_frame.specs.declared.geometries.Format.TheVariants.{One, Two};
+ghost use Rattle.patch_frame.specs.declared.geometries.Geometry.{Geometry as GeometryFields};
+ghost use Rattle.patch_frame.specs.declared.pointers.Pointer.{Pointer as PointerFields};
+ghost use Rattle.patch_frame.specs.Frame.{Content, Fits, spelling, length_of, frame_at};
+ghost use Rattle.patch_frame.specs.Geometry.{IsFormat, IsGeometry, value_limit, longest_frame, largest_pointer, extent_blocks, first_block, pointer_block, block_count, slot_count, slot_block};
+ghost use Rattle.patch_frame.specs.Pointer as pointer;
+ghost use Rattle.patch_frame.specs.Run.{run, AllFit};
+ghost use Rattle.patch_frame.specs.Slot as slot;
+ghost use Rattle.patch_frame.specs.Superblock as superblock;
+
+// Frames.
+
+/// No frame is a proper front of another one.
+pub fn no_frame_begins_another()
+    ensures { (limit : ℕ) (a b : Content) (rest : List ℕ) → limit < 2 ^ 32 → Fits limit a → Fits limit b
+        → spelling b ≡ spelling a ++ rest → (rest ≡ []) × (a ≡ b) }
+{}
+
+/// What is spelled is read, whatever follows it, and a frame has as many bytes as is said.
+pub fn frames_are_read_again()
+    ensures read { (limit : ℕ) (c : Content) (rest : List ℕ) → limit < 2 ^ 32 → Fits limit c
+        → frame_at limit (spelling c ++ rest) ≡ Ok c }
+    ensures length { (c : Content) → length (spelling c) ≡ length_of c }
+{}
+
+/// Bytes divide into frames in one way.
+pub fn runs_divide_in_one_way()
+    ensures { (limit : ℕ) (a b : List Content) → limit < 2 ^ 32 → AllFit limit a → AllFit limit b
+        → run a ≡ run b → a ≡ b }
+{}
+
+/// A frame whose value keeps the limit of a version may be named by a slot of it, and fits one of its extents.
+pub fn frames_fit_extents()
+    ensures { (f : FormatFields) (c : Content) → IsFormat f → Fits (value_limit f) c
+        → (17 ≤ length_of c) × (length_of c ≤ longest_frame f) × (length_of c ≤ largest_pointer f) }
+{}
+
+// Slots, pointer records and the superblock.
+
+/// What is spelled is read, so different slots have different bytes.
+pub fn slots_are_read_again()
+    ensures read { (longest : ℕ) (s : Option slot.SlotFields) → longest < 2 ^ 32 → slot.Fits longest s
+        → slot.slot_at longest (slot.spelling s) ≡ Ok s }
+    ensures length { (longest : ℕ) (s : Option slot.SlotFields) → slot.Fits longest s → length (slot.spelling s) ≡ 64 }
+{}
+
+/// What is spelled is read, so different records have different bytes.
+pub fn pointers_are_read_again()
+    ensures { (largest : ℕ) (p : PointerFields) → largest < 2 ^ 32 → pointer.Fits largest p
+        → pointer.pointer_at largest (pointer.spelling p) ≡ Ok p }
+{}
+
+/// What is spelled is read, so different divisions of a disk have different superblocks.
+pub fn superblocks_are_read_again()
+    ensures read { (g : GeometryFields) → IsGeometry g → superblock.superblock_at (superblock.spelling g) ≡ Ok g }
+    ensures length { (g : GeometryFields) → length (superblock.spelling g) ≡ 4096 }
+{}
+
+/// The superblocks of version 1 and of version 2 with extents of 16 blocks differ in bytes 8 to 23 alone, and the disks
+/// are divided alike.
+pub fn versions_differ_in_sixteen_bytes()
+    ensures bytes { (index extents : ℕ) →
+        let one = superblock.spelling (record { index = index; extents = extents; format = One }) in
+        let two = superblock.spelling (record { index = index; extents = extents; format = Two 16 }) in
+        two ≡ take 8 one ++ slice_range two 8 24 ++ drop 24 one }
+    ensures blocks { (index extents : ℕ) →
+        block_count (record { index = index; extents = extents; format = Two 16 })
+        ≡ block_count (record { index = index; extents = extents; format = One }) }
+{}
+
+/// Slots lie before the pointer block. The extents lie behind it, one behind the other, and end with the disk.
+pub fn areas_lie_apart()
+    ensures index { (g : GeometryFields) (slot : ℕ) → slot < slot_count g → slot_block slot < pointer_block g }
+    ensures first { (g : GeometryFields) (extent : ℕ) → pointer_block g < first_block g extent }
+    ensures apart { (g : GeometryFields) (a b : ℕ) → a < b → first_block g a + extent_blocks g.format ≤ first_block g b }
+    ensures last { (g : GeometryFields) → first_block g g.extents ≡ block_count g }
+{}

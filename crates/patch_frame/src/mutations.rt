@@ -1,0 +1,284 @@
+//! Readers against plain ones, written from the tables of the formats, on damaged bytes.
+use crate::*;
+use std::alloc::Global;
+use std::test::Fail;
+
+// Whether the bytes from one place to another are these.
+fn stands(bytes: &[u8], from: usize, want: &[u8]) -> bool {
+    let to = from.saturating_add(want.len());
+    bytes.get(from..to) == Some(want)
+}
+
+// The number of the bytes from one place to another, the highest one first.
+fn number(bytes: &[u8], from: usize, to: usize) -> u64 {
+    let mut sum = 0u64;
+    for byte in bytes.get(from..to).unwrap_or(&[]) {
+        sum = sum.wrapping_mul(256).wrapping_add(u64::from(*byte));
+    }
+    sum
+}
+
+// The number of four bytes.
+fn word(bytes: &[u8], from: usize) -> u32 {
+    (number(bytes, from, from.saturating_add(4)) % 0x1_0000_0000) as u32
+}
+
+fn zeros(bytes: &[u8], from: usize, to: usize) -> bool {
+    bytes
+        .get(from..to)
+        .is_some_and(|part| part.iter().all(|byte| *byte == 0))
+}
+
+fn plain_frame(bytes: &[u8], limit: u64) -> Result<Frame<'_>, FrameFault> {
+    if bytes.len() < 12 {
+        return Err(FrameFault::Short);
+    }
+    if !stands(bytes, 0, b"FCH1") {
+        return Err(FrameFault::BadMagic);
+    }
+    let key_length = (number(bytes, 4, 5) % 256) as usize;
+    if !(1..=32).contains(&key_length) {
+        return Err(FrameFault::BadKey);
+    }
+    if !zeros(bytes, 5, 8) {
+        return Err(FrameFault::NotZero);
+    }
+    let value_length = number(bytes, 8, 12);
+    if value_length > limit {
+        return Err(FrameFault::BadValue);
+    }
+    let key_end = key_length.saturating_add(12);
+    let value_end = key_end.saturating_add(value_length as usize);
+    let length = value_end.saturating_add(4);
+    if bytes.len() < length {
+        return Err(FrameFault::Short);
+    }
+    if !stands(bytes, value_end, b"1HCF") {
+        return Err(FrameFault::BadMagic);
+    }
+    Ok(Frame {
+        key: bytes.get(12..key_end).unwrap_or(&[]),
+        value: bytes.get(key_end..value_end).unwrap_or(&[]),
+        length,
+    })
+}
+
+fn plain_slot(bytes: &[u8], longest: u64) -> Result<SlotState<'_>, FrameFault> {
+    let state = number(bytes, 0, 1);
+    if state > 1 {
+        return Err(FrameFault::BadMagic);
+    }
+    if state == 0 && zeros(bytes, 0, 64) {
+        return Ok(SlotState::Empty);
+    }
+    if state == 0 {
+        return Err(FrameFault::NotZero);
+    }
+    let key_length = (number(bytes, 1, 2) % 256) as usize;
+    if !(1..=32).contains(&key_length) {
+        return Err(FrameFault::BadKey);
+    }
+    let key_end = key_length.saturating_add(16);
+    if !zeros(bytes, key_end, 48) || !zeros(bytes, 48, 64) {
+        return Err(FrameFault::NotZero);
+    }
+    let length = number(bytes, 12, 16);
+    if length < 17 || length > longest {
+        return Err(FrameFault::BadValue);
+    }
+    Ok(SlotState::Used(Slot {
+        key: bytes.get(16..key_end).unwrap_or(&[]),
+        extent: (number(bytes, 2, 4) % 65_536) as u16,
+        generation: word(bytes, 4),
+        offset: word(bytes, 8),
+        length: word(bytes, 12),
+    }))
+}
+
+fn plain_pointer(bytes: &[u8], largest: u64) -> Result<Pointer, FrameFault> {
+    let offset = number(bytes, 4, 8);
+    if offset > largest {
+        return Err(FrameFault::BadValue);
+    }
+    Ok(Pointer {
+        generation: word(bytes, 0),
+        offset: word(bytes, 4),
+    })
+}
+
+fn plain_superblock(bytes: &[u8]) -> Result<Geometry, FrameFault> {
+    let version = number(bytes, 8, 12);
+    if !stands(bytes, 0, b"FSTCHUNK") || !(1..=2).contains(&version) {
+        return Err(FrameFault::BadMagic);
+    }
+    let index = number(bytes, 12, 16);
+    let extents = number(bytes, 16, 20);
+    let length = if version == 1 {
+        16
+    } else {
+        number(bytes, 20, 24)
+    };
+    let blocks = extents
+        .wrapping_mul(length)
+        .wrapping_add(index)
+        .wrapping_add(2);
+    let ranges = (1..=16).contains(&index)
+        && (2..=254).contains(&extents)
+        && (16..=64).contains(&length);
+    if !ranges || blocks > 4096 {
+        return Err(FrameFault::BadValue);
+    }
+    if !zeros(bytes, if version == 1 { 20 } else { 24 }, 4096) {
+        return Err(FrameFault::NotZero);
+    }
+    let format = if version == 1 {
+        Format::One
+    } else {
+        Format::Two {
+            length: word(bytes, 20),
+        }
+    };
+    Ok(Geometry {
+        index: word(bytes, 12),
+        extents: word(bytes, 16),
+        format,
+    })
+}
+
+// Numbers that look like chance and are the same in every run.
+#[derive(Drop)]
+struct Chance {
+    state: u64,
+}
+
+impl Chance {
+    fn next(&mut self) -> u64 {
+        self.state = self
+            .state
+            .wrapping_mul(6_364_136_223_846_793_005)
+            .wrapping_add(1_442_695_040_888_963_407);
+        self.state >> 33
+    }
+
+    // A number below the limit, which is not 0.
+    fn below(&mut self, limit: usize) -> usize {
+        let next = self.next() as usize;
+        next.checked_rem(limit).unwrap_or(0)
+    }
+}
+
+// Some bytes changed a little or a lot, most of them among the first forty.
+fn damage(chance: &mut Chance, bytes: &mut Vec<u8>) {
+    for _ in 0..=chance.below(3) {
+        let reach = if chance.below(4) == 0 {
+            bytes.len()
+        } else {
+            bytes.len().min(40)
+        };
+        let place = chance.below(reach);
+        let other = (chance.next() % 256) as u8;
+        let how = chance.below(5);
+        if let Some(byte) = bytes.get_mut(place) {
+            *byte = match how {
+                0 => 0,
+                1 => byte.wrapping_add(1),
+                2 => byte.wrapping_sub(1),
+                3 => 1,
+                _ => other,
+            };
+        }
+    }
+}
+
+fn whole(alloc: Global, which: usize) -> Result<Vec<u8>, Fail> {
+    let geometry = |format| Geometry {
+        index: 1,
+        extents: 60,
+        format,
+    };
+    let key = b"0123456789abcdefghijklmnopqrstuv";
+    let bytes = match which {
+        0 => encode(alloc, b"k", &[1, 2])?,
+        1 => encode(alloc, key, &[7; 40])?,
+        2 => write_slot(alloc, &SlotState::Empty)?,
+        3 => {
+            let slot = Slot {
+                key,
+                extent: 3,
+                generation: 9,
+                offset: 800,
+                length: 32_816,
+            };
+            write_slot(alloc, &SlotState::Used(slot))?
+        }
+        4 => write_pointer(Pointer {
+            generation: 7,
+            offset: 65_536,
+        })
+        .to_vec(alloc)?,
+        5 => write_superblock(alloc, geometry(Format::One))?.into_vec(),
+        _ => write_superblock(alloc, geometry(Format::Two { length: 64 }))?.into_vec(),
+    };
+    Ok(bytes)
+}
+
+#[test]
+fn damaged_bytes(rt: HostRuntime) -> Result<(), Fail> {
+    let mut chance = Chance { state: 1 };
+    let mut accepted = 0u32;
+    for turn in 0..10_000usize {
+        let which = turn % 7;
+        let mut bytes = whole(rt.alloc(), which)?;
+        damage(&mut chance, &mut bytes);
+        let ok = match which {
+            0 | 1 => {
+                if chance.below(4) == 0 {
+                    let length = chance.below(bytes.len());
+                    bytes.truncate(length);
+                }
+                let read = decode(&bytes);
+                assert_eq!(rt; read, plain_frame(&bytes, 32_768), "{turn}");
+                assert_eq!(rt;
+                    decode_within(&bytes, 39),
+                    plain_frame(&bytes, 39),
+                    "{turn}"
+                );
+                read.is_ok()
+            }
+            2 | 3 => {
+                assert!(rt; bytes.len() == SLOT_BYTES);
+                let read = read_slot(&bytes);
+                assert_eq!(rt; read, plain_slot(&bytes, 32_816), "{turn}");
+                assert_eq!(rt;
+                    read_slot_within(&bytes, MAX_FRAME),
+                    plain_slot(&bytes, 131_120),
+                    "{turn}"
+                );
+                read.is_ok()
+            }
+            4 => {
+                assert!(rt; bytes.len() == POINTER_BYTES);
+                let read = read_pointer(&bytes);
+                assert_eq!(rt; read, plain_pointer(&bytes, 65_536), "{turn}");
+                assert_eq!(rt;
+                    read_pointer_within(&bytes, 262_144),
+                    plain_pointer(&bytes, 262_144),
+                    "{turn}"
+                );
+                read.is_ok()
+            }
+            _ => {
+                assert!(rt; bytes.len() == 4096);
+                let read = read_superblock(&bytes);
+                assert_eq!(rt; read, plain_superblock(&bytes), "{turn}");
+                read.is_ok()
+            }
+        };
+        if ok {
+            accepted = accepted.saturating_add(1);
+        }
+    }
+    assert!(rt; accepted > 500, "accepted {accepted}");
+    assert!(rt; accepted < 9_500, "accepted {accepted}");
+    Ok(())
+}
