@@ -1,0 +1,259 @@
+//! Replays a script: all is read, then its limits are tested, then it is parsed, and then it is answered.
+ghost use Rattle.std.specs.Prelude.{ℕ, ◌≡◌, ◌⊎◌, ◌<◌, ◌++◌, ◌∷◌, [], List, length, nat_lt, if◌then◌else◌, IfOk, IfErr, OnOk, IfSome, Some, None, codes, decimal, string_bytes};
+ghost use Rattle.std.specs.Io.KnownBytes.{Appends};
+ghost use Rattle.patch_model.specs.Execution.{Execution};
+ghost use Rattle.patch_script.specs.Answer.{answer_line as line_told};
+ghost use Rattle.patch_tool.specs.Answering.{start, answer_to, after};
+ghost use Rattle.patch_tool.specs.Replay.{HasAnswered, Stopped, Starved, answers_text, bad_line, replay_text, replay_status, IsInput, IsEnd, Replayed, too_long_text};
+ghost use Rattle.patch_tool.specs.declared.replaying.Status.TheVariants.{Unreadable, Failed, OutOfMemory as NoMemory};
+ghost use Rattle.patch_tool.specs.declared.replaying.Fault.TheVariants.{Write as WriteFault};
+
+use crate::answering::Core;
+use crate::one_block::OneBlock;
+use patch_model::OutOfMemory;
+use patch_script::{Line, MAX_BYTES, ScriptError, answer_line, passes_limit, read_script};
+use std::alloc::{AllocError, Global};
+use std::io::{ErrorKind, Read, Write};
+
+/// The most reads of one input.
+pub const MAX_READS: u32 = 33_554_432;
+
+// How many bytes are asked for at a time.
+const CHUNK: usize = 65_536;
+
+/// How a replay ended.
+#[derive(Clone, Copy, Debug, PartialEq, Eq)]
+pub enum Status {
+    Done,
+    /// The script is too long, or a line of it is unreadable.
+    Unreadable,
+    /// The reader or the writer failed.
+    Failed,
+    OutOfMemory,
+}
+
+/// Why a replay stopped.
+#[derive(Clone, Copy, Debug, PartialEq, Eq)]
+pub enum Fault {
+    Read,
+    Write,
+    OutOfMemory,
+}
+
+/// All that the reader has, or `None` where it is more than a script may have.
+pub fn read_input<R: Read>(alloc: Global, reader: &mut R) -> Result<Option<Vec<u8>>, Fault>
+    ensures { IfOk result (λ found. IfSome (R.remaining reader.old) (IsInput found)) }
+{
+    let mut chunk = new_chunk(alloc)?;
+    let mut script = Vec::new(alloc);
+    let mut over = false;
+    'reads: for _ in 0..MAX_READS {
+        match reader.read(chunk.as_mut_slice()) {
+            Ok(0) => return Ok(if over { None } else { Some(script) }),
+            Ok(count) => {
+                if over || count > MAX_BYTES - script.len() {
+                    over = true;
+                } else {
+                    append(&mut script, &chunk[..count])?;
+                }
+            }
+            Err(e) => {
+                if e.kind() != ErrorKind::Interrupted {
+                    return Err(Fault::Read);
+                }
+            }
+        }
+    }
+    Err(Fault::Read)
+}
+
+fn new_chunk(alloc: Global) -> Result<Vec<u8>, Fault>
+    ensures { IfOk result (λ chunk. length chunk.items ≡ CHUNK) }
+{
+    let chunk = vec![in alloc; 0u8; CHUNK].map_err(|_| Fault::OutOfMemory)?;
+    Ok(chunk)
+}
+
+fn append(script: &mut Vec<u8>, bytes: &[u8]) -> Result<(), Fault>
+    ensures { OnOk result (script.new.items ≡ script.old.items ++ bytes.now) }
+{
+    script
+        .extend_from_slice(bytes)
+        .map_err(|_| Fault::OutOfMemory)
+}
+
+fn write_text<W: Write>(writer: &mut W, text: &[u8]) -> Result<(), Fault>
+    ensures done { OnOk result (Appends (W.contents writer.old) (W.contents writer.new) text.now) }
+    ensures failed { IfErr result (λ fault. fault ≡ WriteFault) }
+{
+    writer.write_all(text).map_err(|_| Fault::Write)
+}
+
+/// Answers a line, as text.
+fn answered<C: Core>(alloc: Global, core: &mut C, line: &Line) -> Result<String, Fault>
+    ensures { (run : Execution) → C.IsAt core.old run → IfOk result (λ text.
+        (string_bytes text ≡ line_told (answer_to run line.now)) × C.IsAt core.new (after run line.now)) }
+{
+    let Ok(answer) = core.answer(alloc, line) else {
+        return Err(Fault::OutOfMemory);
+    };
+    match answer_line(alloc, &answer) {
+        Ok(text) => Ok(text),
+        Err(AllocError) => Err(Fault::OutOfMemory),
+    }
+}
+
+/// Answers the lines in order, each by a line of text.
+fn write_answers<W: Write, C: Core>(
+    alloc: Global,
+    writer: &mut W,
+    core: &mut C,
+    lines: &[Line],
+) -> Result<(), Fault>
+    ensures done { (run : Execution) → C.IsAt core.old run → OnOk result
+        (Appends (W.contents writer.old) (W.contents writer.new) (answers_text run lines.now)) }
+    ensures stopped { (run : Execution) → C.IsAt core.old run → IfErr result (λ fault.
+        HasAnswered fault run lines.now (W.contents writer.old) (W.contents writer.new)) }
+{
+    for line in lines {
+        let text = answered(alloc, core, line)?;
+        write_text(writer, text.as_bytes())?;
+    }
+    Ok(())
+}
+
+/// What was read is refused, or parsed and answered.
+#[tactic(auto, unfolding(crate::specs::Replay::replay_text, crate::specs::Replay::replay_status))]
+fn run<W: Write, C: Core>(
+    alloc: Global,
+    writer: &mut W,
+    core: &mut C,
+    input: Option<Vec<u8>>,
+) -> Result<Status, Fault>
+    ensures done { C.IsAt core.old start → (text : List ℕ) → IsInput input text → IfOk result (λ status.
+        Replayed text status (W.contents writer.old) (W.contents writer.new)) }
+    ensures ended { IfOk result IsEnd }
+    ensures stopped { C.IsAt core.old start → (text : List ℕ) → IsInput input text → IfErr result (λ fault.
+        Stopped fault text (W.contents writer.old) (W.contents writer.new)) }
+{
+    let script = match input {
+        Some(script) => script,
+        None => return too_long(writer),
+    };
+    if passes_limit(script.as_slice()) {
+        return too_long(writer);
+    }
+    match read_script(alloc, script.as_slice()) {
+        Ok(lines) => {
+            write_answers(alloc, writer, core, lines.as_slice())?;
+            Ok(Status::Done)
+        }
+        Err(ScriptError::BadLine(number)) => {
+            write_bad_line(alloc, writer, number)?;
+            Ok(Status::Unreadable)
+        }
+        Err(ScriptError::OutOfMemory) => Err(Fault::OutOfMemory),
+    }
+}
+
+fn too_long<W: Write>(writer: &mut W) -> Result<Status, Fault>
+    ensures done { IfOk result (λ status. (status ≡ Unreadable)
+        × Appends (W.contents writer.old) (W.contents writer.new) too_long_text) }
+    ensures failed { IfErr result (λ fault. fault ≡ WriteFault) }
+{
+    write_text(writer, b"fault ScriptTooLong\n")?;
+    Ok(Status::Unreadable)
+}
+
+fn write_bad_line<W: Write>(alloc: Global, writer: &mut W, number: usize) -> Result<(), Fault>
+    ensures done { OnOk result (Appends (W.contents writer.old) (W.contents writer.new) (bad_line number)) }
+    ensures stopped { IfErr result (λ fault. Stopped fault [] (W.contents writer.old) (W.contents writer.new)) }
+{
+    match format!(in alloc; "bad line {number}\n") {
+        Ok(text) => write_text(writer, text.as_bytes()),
+        Err(AllocError) => Err(Fault::OutOfMemory),
+    }
+}
+
+/// Replays the script that the reader gives on one block of zeros, and writes the answers.
+///
+/// All of the script is read and parsed before anything is done. A fault of the reader or of memory is told by a last
+/// line, behind the answers of the lines before it; after a fault of the writer nothing more is written.
+pub fn replay<R: Read, W: Write>(alloc: Global, reader: &mut R, writer: &mut W) -> Status
+    ensures done { IsEnd result → IfSome (R.remaining reader.old) (λ text.
+        Replayed text result (W.contents writer.old) (W.contents writer.new)) }
+    ensures starved { result ≡ NoMemory → IfSome (R.remaining reader.old) (λ text.
+        Starved text (W.contents writer.old) (W.contents writer.new)) }
+{
+    match OneBlock::new(alloc) {
+        Ok(mut core) => replay_over(alloc, reader, writer, &mut core),
+        Err(OutOfMemory) => tell(writer, b"fault OutOfMemory\n", Status::OutOfMemory),
+    }
+}
+
+/// Replays a script over any core.
+pub fn replay_over<R: Read, W: Write, C: Core>(
+    alloc: Global,
+    reader: &mut R,
+    writer: &mut W,
+    core: &mut C,
+) -> Status
+    ensures done { C.IsAt core.old start → IsEnd result → IfSome (R.remaining reader.old) (λ text.
+        Replayed text result (W.contents writer.old) (W.contents writer.new)) }
+    ensures starved { C.IsAt core.old start → result ≡ NoMemory → IfSome (R.remaining reader.old) (λ text.
+        Starved text (W.contents writer.old) (W.contents writer.new)) }
+{
+    match read_and_run(alloc, reader, writer, core) {
+        Ok(status) => status,
+        Err(Fault::Write) => Status::Failed,
+        Err(Fault::Read) => tell(writer, b"fault Read\n", Status::Failed),
+        Err(Fault::OutOfMemory) => tell(writer, b"fault OutOfMemory\n", Status::OutOfMemory),
+    }
+}
+
+fn read_and_run<R: Read, W: Write, C: Core>(
+    alloc: Global,
+    reader: &mut R,
+    writer: &mut W,
+    core: &mut C,
+) -> Result<Status, Fault>
+    ensures done { C.IsAt core.old start → IfOk result (λ status. IfSome (R.remaining reader.old) (λ text.
+        Replayed text status (W.contents writer.old) (W.contents writer.new))) }
+    ensures ended { IfOk result IsEnd }
+    ensures stopped { C.IsAt core.old start → IfErr result (λ fault. IfSome (R.remaining reader.old) (λ text.
+        Stopped fault text (W.contents writer.old) (W.contents writer.new))) }
+{
+    let input = read_input(alloc, reader)?;
+    let status = run(alloc, writer, core, input)?;
+    if writer.flush().is_err() {
+        return Err(Fault::Write);
+    }
+    Ok(status)
+}
+
+/// Writes the last line of a program that fails.
+fn tell<W: Write>(writer: &mut W, text: &[u8], status: Status) -> Status
+    ensures same { (result ≡ Failed) ⊎ (result ≡ status) }
+    ensures told { result ≡ NoMemory → Appends (W.contents writer.old) (W.contents writer.new) text.now }
+{
+    if writer.write_all(text).is_err() || writer.flush().is_err() {
+        return Status::Failed;
+    }
+    status
+}
+
+impl Status {
+    ghost use Rattle.patch_tool.specs.Replay.{exit_of};
+
+    /// The exit status of the program.
+    pub fn code(self) -> u8
+        ensures { result ≡ exit_of self }
+    {
+        match self {
+            Status::Done => 0,
+            Status::Unreadable => 3,
+            Status::Failed => 4,
+            Status::OutOfMemory => 5,
+        }
+    }
+}

@@ -1,0 +1,197 @@
+//! Worked scripts, and replays whose reader, writer or memory fails.
+use crate::answering::Core;
+use crate::one_block::OneBlock;
+use crate::replaying::{Status, replay, replay_over};
+use crate::rows::rows;
+use patch_model::OutOfMemory;
+use patch_script::{Answer, Line};
+use std::alloc::{AllocError, Global};
+use std::io;
+use std::io::{ErrorKind, Read, Write};
+use std::process::Abort;
+use std::test::Fail;
+
+const SCRIPT: &str = r#"{"op":"patch","block":0,"start":0,"hex":"a1a2a3a4"}
+
+{"op":"patch","block":0,"start":2,"hex":"b1b2b3b4"}
+{"op":"view","block":0,"take":[1],"start":0,"len":6}"#;
+
+const ANSWERS: &str = "patch 0\npatch 1\nwithout a1a2a3a40000 cached a1a2b1b2b3b4\n";
+
+fn check(rt: &impl Abort, alloc: Global, name: &str, script: &[u8], answers: &str, status: Status) {
+    let mut out = Vec::new(alloc);
+    let mut left = script;
+    assert_eq!(rt; replay(alloc, &mut left, &mut out), status, "{name}");
+    assert_eq!(rt; out.as_slice(), answers.as_bytes(), "{name}");
+}
+
+#[test]
+fn worked_scripts(rt: HostRuntime) {
+    for row in rows() {
+        check(
+            &rt,
+            rt.alloc(),
+            row.name,
+            row.script.as_bytes(),
+            row.answers,
+            row.status,
+        );
+    }
+}
+
+fn filled(alloc: Global, byte: u8, count: usize) -> Result<Vec<u8>, AllocError> {
+    Ok(vec![in alloc; byte; count]?)
+}
+
+#[test]
+fn long_scripts(rt: HostRuntime) -> Result<(), Fail> {
+    let alloc = rt.alloc();
+    let too_long = "fault ScriptTooLong\n";
+    let scripts = [
+        (b' ', 16_777_216, "", Status::Done),
+        (b' ', 16_777_217, too_long, Status::Unreadable),
+        (b'\n', 100_000, "", Status::Done),
+        (b'\n', 100_001, too_long, Status::Unreadable),
+    ];
+    for (byte, count, answers, status) in scripts {
+        let script = filled(alloc, byte, count)?;
+        check(&rt, alloc, "long", script.as_slice(), answers, status);
+    }
+    Ok(())
+}
+
+/// Gives its bytes in pieces, is interrupted at each second call, and fails for good after some calls.
+#[derive(Drop)]
+struct Reader<'a> {
+    left: &'a [u8],
+    calls: u32,
+}
+
+impl Read for Reader<'_> {
+    fn read(&mut self, buf: &mut [u8]) -> io::Result<usize> {
+        if self.calls == 0 {
+            return Err(io::Error::from(ErrorKind::BrokenPipe));
+        }
+        self.calls -= 1;
+        if self.calls % 2 == 1 {
+            return Err(io::Error::from(ErrorKind::Interrupted));
+        }
+        let count = 40.min(buf.len());
+        self.left.read(&mut buf[..count])
+    }
+}
+
+#[test]
+fn failing_readers(rt: HostRuntime) -> Result<(), Fail> {
+    let alloc = rt.alloc();
+    let mut failed = 0u32;
+    for calls in 0..64u32 {
+        let mut reader = Reader {
+            left: SCRIPT.as_bytes(),
+            calls,
+        };
+        let mut out = Vec::new(alloc);
+        let status = replay(alloc, &mut reader, &mut out);
+        if status == Status::Done {
+            assert_eq!(rt; out.as_slice(), ANSWERS.as_bytes());
+            break;
+        }
+        assert_eq!(rt; (status, status.code()), (Status::Failed, 4));
+        assert_eq!(rt; out.as_slice(), b"fault Read\n".as_slice());
+        failed = failed.saturating_add(1);
+    }
+    assert!(rt; failed > 8 && failed < 60, "failed {failed}");
+    Ok(())
+}
+
+/// Takes text until so many calls were made, and fails from then on.
+#[derive(Drop)]
+struct Writer {
+    taken: Vec<u8>,
+    calls: u32,
+}
+
+impl Writer {
+    fn count(&mut self) -> io::Result<()> {
+        if self.calls == 0 {
+            return Err(io::Error::from(ErrorKind::StorageFull));
+        }
+        self.calls -= 1;
+        Ok(())
+    }
+}
+
+impl Write for Writer {
+    fn write(&mut self, buf: &[u8]) -> io::Result<usize> {
+        self.count()?;
+        let count = 10.min(buf.len());
+        if self.taken.extend_from_slice(&buf[..count]).is_err() {
+            return Err(io::Error::from(ErrorKind::OutOfMemory));
+        }
+        Ok(count)
+    }
+
+    fn flush(&mut self) -> io::Result<()> {
+        self.count()
+    }
+}
+
+#[test]
+fn failing_writers(rt: HostRuntime) -> Result<(), Fail> {
+    let alloc = rt.alloc();
+    let mut failed = 0u32;
+    for calls in 0..64u32 {
+        let mut writer = Writer {
+            taken: Vec::new(alloc),
+            calls,
+        };
+        let status = replay(alloc, &mut SCRIPT.as_bytes(), &mut writer);
+        if status == Status::Done {
+            assert_eq!(rt; writer.taken.as_slice(), ANSWERS.as_bytes());
+            break;
+        }
+        assert_eq!(rt; (status, status.code()), (Status::Failed, 4));
+        assert!(rt; ANSWERS.as_bytes().starts_with(writer.taken.as_slice()));
+        failed = failed.saturating_add(1);
+    }
+    assert!(rt; failed > 5 && failed < 60, "failed {failed}");
+    Ok(())
+}
+
+/// A block that answers some lines, and then meets want of memory.
+#[derive(Drop)]
+struct Starved {
+    block: OneBlock,
+    lines: u32,
+}
+
+impl Core for Starved {
+    ghost IsAt = { λ core run. ⊥ };
+
+    fn answer(&mut self, alloc: Global, line: &Line) -> Result<Answer, OutOfMemory> {
+        if self.lines == 0 {
+            return Err(OutOfMemory);
+        }
+        self.lines -= 1;
+        self.block.answer(alloc, line)
+    }
+}
+
+#[test]
+fn starved_cores(rt: HostRuntime) -> Result<(), Fail> {
+    let alloc = rt.alloc();
+    let want = [
+        (0, "fault OutOfMemory\n"),
+        (1, "patch 0\nfault OutOfMemory\n"),
+        (2, "patch 0\npatch 1\nfault OutOfMemory\n"),
+    ];
+    for (lines, text) in want {
+        let block = OneBlock::new(alloc)?;
+        let mut core = Starved { block, lines };
+        let mut out = Vec::new(alloc);
+        let status = replay_over(alloc, &mut SCRIPT.as_bytes(), &mut out, &mut core);
+        assert_eq!(rt; (status, status.code()), (Status::OutOfMemory, 5));
+        assert_eq!(rt; out.as_slice(), text.as_bytes());
+    }
+    Ok(())
+}
