@@ -1,12 +1,16 @@
 -- Why an ask is refused: the first cause of its list that holds, and the number that goes with it.
-use Rattle.std.specs.Prelude.{ℕ, ◌+◌, ◌==◌, ◌&&◌, not, min, nat_lt, nat_le, if◌then◌else◌, List, [], ◌∷◌, length, map, filter, fold, find, count_by, Option, Some, None}
+use Rattle.std.specs.Prelude.{ℕ, Bool, false, ◌+◌, ◌≤◌, ◌⊎◌, ◌==◌, ◌&&◌, ◌||◌, not, min, nat_lt, nat_le, if◌then◌else◌, List, [], ◌∷◌, length, map, filter, fold, find, count_by, slice_get, Option, Some, None}
 use Rattle.std.specs.List.{list_any}
 use Rattle.patch_model.specs.declared.blocks.TheConstants.{BLOCK}
 use Rattle.patch_model.specs.declared.limits.TheConstants.{MAX_PATCHES, MAX_LIVE}
 use Rattle.patch_model.specs.declared.refusals.RefusalKind.{RefusalKind}
 use Rattle.patch_model.specs.declared.refusals.RefusalKind.TheVariants as kind
-use Rattle.patch_model.specs.Entry.{Entry, is_live, is_flight, is_among}
-use Rattle.patch_model.specs.Dependency.{class_depends}
+use Rattle.patch_model.specs.Execution.{Execution}
+use Rattle.patch_model.specs.Entry.{Entry, is_memory, is_live, is_flight, is_among}
+use Rattle.patch_model.specs.Dependency.{class_depends, LiesBetween}
+use Rattle.patch_model.specs.Ready.{ready}
+use Rattle.patch_model.specs.State.{class_of, has_flight, state_of, entries_of}
+use Rattle.patch_model.specs.Legal.{touch, block_at}
 use Rattle.patch_model.specs.History.{History}
 
 pub record Refusal : Type 0 where
@@ -34,6 +38,44 @@ why_not_made blocks all block start bytes after =
     else if list_any (λ n. nat_le (length all) n) after then Some (bare kind.UnknownDependency)
     else if nat_le MAX_PATCHES (length all) then Some (bare kind.NumbersSpent)
     else if nat_le MAX_LIVE (count_by is_live all) then Some (bare kind.TooManyLive)
+    else None
+
+-- the patch of this number is in memory
+abbrev pub is_memory_at : List Entry → ℕ → Bool
+is_memory_at all n = elim (slice_get all n) [ Some e ↦ is_memory e | None ↦ false ]
+
+-- the patch of this number is hard
+abbrev pub is_hard_at : List Entry → ℕ → Bool
+is_hard_at all n = elim (slice_get all n) [ Some e ↦ e.hard | None ↦ false ]
+
+-- why the classes of two patches aren't merged, but for a third class between them
+abbrev pub why_not_near : List Entry → (a b : ℕ) → Option Refusal
+why_not_near all a b =
+    if nat_le (length all) a || nat_le (length all) b then Some (bare kind.Unknown)
+    else if not (is_memory_at all a) then Some (with_number kind.NotInMemory a)
+    else if not (is_memory_at all b) then Some (with_number kind.NotInMemory b)
+    else if class_of all a == class_of all b then Some (bare kind.Same)
+    else if not (block_at all a == block_at all b) then Some (bare kind.OtherBlock)
+    else if is_hard_at all a then Some (with_number kind.Hard a)
+    else if is_hard_at all b then Some (with_number kind.Hard b)
+    else if not (touch all (class_of all a) (class_of all b)) then Some (bare kind.Apart)
+    else None
+
+-- the class of this name lies between those of two patches, one way or the other
+abbrev pub IsBetween : List Entry → (a b c : ℕ) → Type 0
+IsBetween all a b c = LiesBetween all (class_of all a) (class_of all b) c ⊎ LiesBetween all (class_of all b) (class_of all a) c
+
+-- the least name of a class between those of two patches
+pub record IsLeastThird (all : List Entry) (a b n : ℕ) : Type 0 where
+  pub is : IsBetween all a b n
+  pub least : (m : ℕ) → IsBetween all a b m → n ≤ m
+
+-- why no write of a block begins
+abbrev pub why_not_sent : Execution → ℕ → Option Refusal
+why_not_sent run block =
+    if nat_le (length run.first) block then Some (bare kind.NoSuchBlock)
+    else if has_flight (state_of run) block then Some (bare kind.AlreadyInFlight)
+    else if length (ready (entries_of run) block) == 0 then Some (bare kind.NothingReady)
     else None
 
 -- why a span of a block isn't shown

@@ -77,3 +77,15 @@ entries_of run = (state_of run).entries
 -- the patch that a Create would make next
 abbrev pub next_patch : Execution → ℕ → ℕ → List ℕ → List ℕ → Undo → Patch
 next_patch run block start bytes after undo = record { no = length (entries_of run); block = block; start = start; bytes = bytes; after = after; undo = undo }
+
+-- what is in flight of the block
+abbrev pub flying_of : List Entry → ℕ → List Entry
+flying_of all block = filter (λ e. is_flight e && e.patch.block == block) all
+
+-- the numbers of some patches
+abbrev pub numbers_of : List Entry → List ℕ
+numbers_of patches = map (λ e. e.patch.no) patches
+
+-- of these numbers, those that name their class
+abbrev pub own_names : List Entry → List ℕ → List ℕ
+own_names all numbers = filter (λ n. class_of all n == n) numbers
