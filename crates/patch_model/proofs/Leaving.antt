@@ -128,7 +128,7 @@ pub leaving_holds : (run : Execution) (block : ℕ) → IsLegal run → IsFalse 
 leaving_holds run block legal none = left_holds run block legal none
 
 -- the patches that pass, of a list and of what it became
-kept_same : (g : Entry → Entry) (p q : Entry → Bool) (es : List Entry) → ((e : Entry) → (g e).patch ≡ e.patch) → ((e : Entry) → In es e → p (g e) ≡ q e)
+pub kept_same : (g : Entry → Entry) (p q : Entry → Bool) (es : List Entry) → ((e : Entry) → (g e).patch ≡ e.patch) → ((e : Entry) → In es e → p (g e) ≡ q e)
     → map (λ e. e.patch) (filter p (map g es)) ≡ map (λ e. e.patch) (filter q es)
 kept_same g p q [] patch same = refl
 kept_same g p q (x ∷ xs) patch same =
@@ -139,7 +139,7 @@ kept_same g p q (x ∷ xs) patch same =
       | inr u ↦ rw (u, at ∙ u) rest
     ]
 
-filter-last : (p : Entry → Bool) (es : List Entry) (x : Entry) → p x ≡ false → filter p (es ++ x ∷ []) ≡ filter p es
+pub filter-last : (p : Entry → Bool) (es : List Entry) (x : Entry) → p x ≡ false → filter p (es ++ x ∷ []) ≡ filter p es
 filter-last p [] x h = rw h refl
 filter-last p (y ∷ ys) x h = elim (cases_Bool (p y)) [ inl u ↦ rw u (ap (λ zs. y ∷ zs) (filter-last p ys x h)) | inr u ↦ rw u (filter-last p ys x h) ]
 
@@ -147,7 +147,7 @@ abbrev in_image : ℕ → Entry → Bool
 in_image block e = e.patch.block == block && not (is_memory e)
 
 -- the patches after one more step
-entries_on : (run : Execution) (step : Step) → entries_of (extended run step) ≡ (after_step (state_of run) step).entries
+pub entries_on : (run : Execution) (step : Step) → entries_of (extended run step) ≡ (after_step (state_of run) step).entries
 entries_on run step = ap (λ st. st.entries) (state_of-extended run step)
 
 image_on : (run : Execution) (step : Step) (block : ℕ)

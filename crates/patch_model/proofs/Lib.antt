@@ -18,3 +18,5 @@ pub mod Leaving
 pub mod Flights
 pub mod Taken
 pub mod Making
+pub mod Staying
+pub mod Nearing

@@ -12,7 +12,7 @@ use Rattle.patch_model.specs.Legal.{IsLegalCreate}
 use Rattle.patch_model.specs.Refusing.{Refusal, why_not_made}
 
 -- the one of two that a test doesn't choose
-passed : (b : Bool) (r : Refusal) (rest : Option Refusal) → cond b (Some r) rest ≡ None → (b ≡ false) × (rest ≡ None)
+pub passed : (b : Bool) (r : Refusal) (rest : Option Refusal) → cond b (Some r) rest ≡ None → (b ≡ false) × (rest ≡ None)
 passed true r rest h = absurd (cc)
 passed false r rest h = (refl, h)
 

@@ -11,7 +11,7 @@ ghost use Rattle.patch_model.specs.Dependency.{shares_byte, depends_directly, Pa
 ghost use Rattle.patch_model.specs.Ready.{IsLargestWritable, IsRising, ready};
 ghost use Rattle.patch_model.specs.State.{fresh, class_of, joined, sent, landed, has_flight, after_step, state_of, entries_of, next_patch};
 ghost use Rattle.patch_model.specs.Legal.{IsLegal, IsLegalStep, IsLegalCreate, IsLegalMerge, block_at, touch};
-ghost use Rattle.patch_model.specs.Refusing.{why_not_made};
+ghost use Rattle.patch_model.specs.Refusing.{IsBetween, why_not_made, why_not_near, why_not_sent};
 ghost use Rattle.patch_model.specs.History.{History, of_block, history_of, without, image, HoldsDependents, holds_dependents};
 ghost use Rattle.patch_model.specs.Orderly.{IsUnder, IsOrderly, IsNumbered, IsOrderlyBlock, MayJoin, MeetAt, IsClassUnder, CoversIt, left_behind};
 ghost use Rattle.patch_model.specs.Crash.{AreWhole, IsClosed, HasTrail, MayLeave, crash_set};
@@ -174,6 +174,15 @@ pub fn spans_are_whole()
         → IsTrue (touch (entries_of run) e.class g.class) }
 {}
 
+/// Two classes merge just where no cause of a refusal holds and no third class lies between them, and a write of a block
+/// begins just where none holds.
+pub fn near_classes_merge()
+    ensures legal { (all : List Entry) (a b : ℕ)
+        → ((why_not_near all a b ≡ None) × ((c : ℕ) → IsBetween all a b c → ⊥)) ↔ IsLegalMerge all a b }
+    ensures sent { (run : Execution) (block : ℕ) → (why_not_sent run block ≡ None)
+        ↔ ((block < length run.first) × IsLegalStep (length run.first) (state_of run) (Send block)) }
+{}
+
 /// The classes of a legal merge may be joined, as the patches of their block alone show.
 pub fn merges_may_join()
     ensures { (run : Execution) (a b : ℕ) → IsLegal run → IsLegalMerge (entries_of run) a b
@@ -262,4 +271,23 @@ pub fn trails_join()
     ensures { (run : Execution) (more : List Step) (from : ℕ) (disks later : List (List (List ℕ))) (counts next : List ℕ)
         → HasTrail run from disks counts → HasTrail (followed_by run more) (length run.steps) later next
         → HasTrail (followed_by run more) from (disks ++ later) (counts ++ next) }
+{}
+
+/// A crash before any step leaves the first bytes.
+pub fn first_bytes_are_left()
+    ensures { (first : List (List ℕ)) → MayLeave (record { first = first; steps = [] }) first }
+{}
+
+/// A disk that a crash may leave it may also leave after one more step that ends no write.
+pub fn disks_stay()
+    ensures { (run : Execution) (step : Step) (disk : List (List ℕ)) → IsLegal run
+        → IsLegalStep (length run.first) (state_of run) step → ((block : ℕ) → step ≢ Complete block)
+        → MayLeave run disk → MayLeave (extended run step) disk }
+{}
+
+/// Where a write of a block ends, a crash may leave the disks of before with the block's image written.
+pub fn writes_end()
+    ensures { (run : Execution) (disk : List (List ℕ)) (block : ℕ) → IsLegal run → block < length run.first
+        → MayLeave run disk
+        → MayLeave (extended run (Complete block)) (slice_set disk block (image (history_of run block))) }
 {}
