@@ -45,7 +45,7 @@ keeps-flying g all patch block stays f = record {
   here = ap (λ p. p.block) (patch f.it) ∙ f.here;
 }
 
-first_of_some : (es : List Entry) → es ≢ [] → (e : Entry) × In es e
+pub first_of_some : (es : List Entry) → es ≢ [] → (e : Entry) × In es e
 first_of_some [] h = absurd (h refl)
 first_of_some (x ∷ xs) h = (x, inl refl)
 

@@ -8,13 +8,8 @@ use Rattle.patch_model.specs.Entry.{Entry, is_live, is_undoable, is_among}
 use Rattle.patch_model.specs.Dependency.{depends_directly}
 use Rattle.patch_model.specs.History.{History, HoldsDependents, holds_dependents}
 use Rattle.patch_model.specs.Member.{In, In-from_Contains, Contains-from_In, list_all-at, list_all-from, list_any-at, list_any-from}
+use Rattle.patch_model.proofs.Among.{among-In, In-among}
 use Rattle.patch_model.proofs.Striking.{implied, from_cases}
-
-pub among-In : (names : List ℕ) (n : ℕ) → is_among names n ≡ true → In names n
-among-In names n h = let r = list_any-at (λ m. m == n) names h in let same : r.0 ≡ n = grind (arith, nat_tests, r.2) in subst (λ m. In names m) same r.1
-
-pub In-among : (names : List ℕ) (n : ℕ) → In names n → is_among names n ≡ true
-In-among names n i = list_any-from (λ m. m == n) names n i (let same : (n == n) ≡ true = grind (arith, nat_tests) in same)
 
 module _ (h : History) (names : List ℕ) where
   -- the class has an undoable patch

@@ -14,6 +14,7 @@ use Rattle.patch_model.specs.History.{without, image, HoldsDependents, history_o
 use Rattle.patch_model.specs.Legal.{IsLegal}
 use Rattle.patch_model.specs.Orderly.{left_behind}
 use Rattle.patch_model.specs.Member.{In, In-from_Contains, Contains-from_In, In-filter, filter-In, filter-same}
+use Rattle.patch_model.proofs.Among.{among_map-at, among_map-from}
 use Rattle.patch_model.proofs.Striking.{In-has, has-In, ready-In}
 use Rattle.patch_model.proofs.Numbering.{AreApart-run, ready_is_largest, state_of-extended, patch-joined, patch-sent, patch-landed}
 use Rattle.patch_model.proofs.Classes.{goes_along}
@@ -22,24 +23,6 @@ use Rattle.patch_model.proofs.Marks.{never, IsSettled-run, mark-joined, sent_fro
 use Rattle.patch_model.proofs.Rings.{same_name}
 use Rattle.patch_model.proofs.Waiting.{hard_in_ready, memory_left}
 use Rattle.patch_model.proofs.Images.{pile_of-history}
-
--- the classes of some patches
-among-at : (es : List Entry) (c : ℕ) → is_among (map (λ e. e.class) es) c ≡ true → (e : Entry) × In es e × (e.class ≡ c)
-among-at [] c h = absurd (never h)
-among-at (x ∷ xs) c h = elim (cases_Bool (x.class == c)) [
-  | inl u ↦ (x, inl refl, grind (arith, nat_tests))
-  | inr u ↦ let r = among-at xs c (rw u at h) in (r.0, inr r.1, r.2)
-]
-
-among-from : (es : List Entry) (e : Entry) → In es e → is_among (map (λ x. x.class) es) e.class ≡ true
-among-from [] e i = absurd i
-among-from (x ∷ xs) e (inl same) = let u : (x.class == e.class) ≡ true = same_name x.class e.class (ap (λ z. z.class) same) in rw u refl
-among-from (x ∷ xs) e (inr i) = elim (cases_Bool (x.class == e.class)) [ inl u ↦ rw u refl | inr u ↦ rw u (among-from xs e i) ]
-
-In-names : (es : List Entry) (c : ℕ) → In (map (λ e. e.class) es) c → (e : Entry) × In es e × (e.class ≡ c)
-In-names [] c h = absurd h
-In-names (x ∷ xs) c (inl e) = (x, inl refl, e)
-In-names (x ∷ xs) c (inr h) = let r = In-names xs c h in (r.0, inr r.1, r.2)
 
 abbrev stays_behind : List Entry → ℕ → Entry → Bool
 stays_behind all block e = in_memory_of block e && not (has (ready all block) e)
@@ -59,7 +42,7 @@ module _ (run : Execution) (block : ℕ) (legal : IsLegal run) (none : has_fligh
       record { inside = r.0; memory = q.0; here = grind (arith, nat_tests, q.1); behind = not-true (has (ready (entries_of run) block) e) p.1 }
 
   left-from : (e : Entry) → IsLeft e → is_among (left_behind (entries_of run) block) e.class ≡ true
-  left-from e l = among-from (filter (stays_behind (entries_of run) block) (entries_of run)) e
+  left-from e l = among_map-from (λ x. x.class) (filter (stays_behind (entries_of run) block) (entries_of run)) e
       (In-filter (stays_behind (entries_of run) block) (entries_of run) e l.inside (and_from _ _ (and_from _ _ l.memory (same_name e.patch.block block l.here)) (rw l.behind refl)))
 
   -- with a patch that is left its class is
@@ -78,7 +61,7 @@ module _ (run : Execution) (block : ℕ) (legal : IsLegal run) (none : has_fligh
 
   left-named : (f : Entry) → In (entries_of run) f → is_among (left_behind (entries_of run) block) f.class ≡ true → IsLeft f
   left-named f j h =
-      let r = among-at (filter (stays_behind (entries_of run) block) (entries_of run)) f.class h in
+      let r = among_map-at (λ x. x.class) (filter (stays_behind (entries_of run) block) (entries_of run)) f.class h in
       left-class r.0 f (left-parts r.0 r.1) j r.2
 
   not_hard : (e : Entry) → IsLeft e → e.hard ≡ false
@@ -114,7 +97,7 @@ module _ (run : Execution) (block : ℕ) (legal : IsLegal run) (none : has_fligh
   left_holds : HoldsDependents (history_of run block) (left_behind (entries_of run) block)
   left_holds = record {
     undoable = λ c h.
-        let r = among-at (filter (stays_behind (entries_of run) block) (entries_of run)) c h in
+        let r = among_map-at (λ x. x.class) (filter (stays_behind (entries_of run) block) (entries_of run)) c h in
         let l = left-parts r.0 r.1 in
         let hard : not r.0.hard ≡ true = rw (not_hard r.0 l) refl in
         (r.0, Contains-from_In _ r.0 (In-filter (λ e. e.patch.block == block) (entries_of run) r.0 l.inside (same_name r.0.patch.block block l.here)), r.2, and_from _ _ l.memory hard);

@@ -1,3 +1,4 @@
+pub mod Among
 pub mod Laying
 pub mod Striking
 pub mod Numbering
@@ -20,3 +21,5 @@ pub mod Taken
 pub mod Making
 pub mod Staying
 pub mod Nearing
+pub mod Counting
+pub mod Sending

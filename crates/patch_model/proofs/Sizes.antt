@@ -1,7 +1,7 @@
 -- How large patches are, and how many there may be.
 use Rattle.std.proofs.Common.{◌≡◌, ℕ, ◌+◌, ◌<◌, ◌≤◌, ◌∙◌, inl, inr, Bool, true, false, List, [], ◌∷◌, ◌++◌, length, map, refl, sym, ap, arith, subst, length-append}
 use Rattle.std.specs.Prelude.{◌==◌, ◌&&◌, cond, count_by}
-use Rattle.std.proofs.lemmas.List.Sums.{sum_by-append, sum_by-cons, count_by-le-length}
+use Rattle.std.proofs.lemmas.List.{length-map}
 use Rattle.std.proofs.lemmas.Bool.{cases_Bool}
 use Rattle.patch_model.specs.declared.blocks.TheConstants.{BLOCK}
 use Rattle.patch_model.specs.declared.limits.TheConstants.{MAX_PATCHES, MAX_LIVE}
@@ -15,6 +15,7 @@ use Rattle.patch_model.specs.State.{State, at_first, fresh, joined, sent, landed
 use Rattle.patch_model.specs.Legal.{IsLegal, IsLegalStep, AreLegal}
 use Rattle.patch_model.specs.Member.{In}
 use Rattle.patch_model.proofs.Numbering.{Numbered, Numbered-after_step, apart-from_Numbered, patch-joined, patch-sent, patch-landed}
+use Rattle.patch_model.proofs.Counting.{count-push, count-map_le}
 use Rattle.patch_model.proofs.Crashes.{In-map, In-push}
 use Rattle.patch_model.proofs.Marks.{mark-joined, sent_from}
 use Rattle.patch_model.proofs.Rings.{memory_live}
@@ -29,35 +30,13 @@ pub record AreFew (all : List Entry) : Type 0 where
   pub made : length all ≤ MAX_PATCHES
   pub live : count_by is_live all ≤ MAX_LIVE
 
-length-map : (g : Entry → Entry) (xs : List Entry) → length (map g xs) ≡ length xs
-length-map g [] = refl
-length-map g (x ∷ xs) = let rest = length-map g xs in omega arith
-
-count-push : (p : Entry → Bool) (xs : List Entry) (x : Entry) → count_by p (xs ++ x ∷ []) ≤ count_by p xs + 1
-count-push p xs x =
-    let both = sum_by-append (λ y. cond (p y) 1 0) xs (x ∷ []) in
-    let last = count_by-le-length p (x ∷ []) in omega arith
-
-bit_le : (a b : Bool) → (a ≡ true → b ≡ true) → cond a 1 0 ≤ cond b 1 0
-bit_le true b h = let t : b ≡ true = h refl in rw t (omega arith)
-bit_le false b h = omega arith
-
--- a change of entries after which no more pass
-count-map : (p : Entry → Bool) (g : Entry → Entry) (xs : List Entry) → ((e : Entry) → In xs e → p (g e) ≡ true → p e ≡ true) → count_by p (map g xs) ≤ count_by p xs
-count-map p g [] keeps = omega arith
-count-map p g (x ∷ xs) keeps =
-    let rest = count-map p g xs (λ e i. keeps e (inr i)) in
-    let after = sum_by-cons (λ y. cond (p y) 1 0) (g x) (map g xs) in
-    let before = sum_by-cons (λ y. cond (p y) 1 0) x xs in
-    let one = bit_le (p (g x)) (p x) (keeps x (inl refl)) in omega arith
-
 -- a change that leaves patches, and makes nothing live
 keeps-few : (g : Entry → Entry) (all : List Entry) → ((e : Entry) → (g e).patch ≡ e.patch) → ((e : Entry) → In all e → is_live (g e) ≡ true → is_live e ≡ true)
     → AreFew all → AreFew (map g all)
 keeps-few g all same live few = record {
   sized = λ e i. let r = In-map g all e i in subst (λ p. IsSized p) (sym (same r.0) ∙ ap (λ x. x.patch) r.2) (few.sized r.0 r.1);
-  made = rw (length-map g all) few.made;
-  live = (let less = count-map is_live g all live in let most : count_by is_live all ≤ MAX_LIVE = few.live in omega arith);
+  made = rw (length-map all g) few.made;
+  live = (let less = count-map_le is_live g all live in let most : count_by is_live all ≤ MAX_LIVE = few.live in omega arith);
 }
 
 live-joined : (a b : ℕ) (e : Entry) → is_live (joined a b e) ≡ true → is_live e ≡ true
@@ -87,7 +66,7 @@ AreFew-after_step blocks st (Create block begin bytes after undo) n legal few =
         | inr same ↦ subst (λ x. IsSized x.patch) same (record { filled = legal.some; fits = legal.fits })
       ];
       made = (let left : length st.entries < MAX_PATCHES = legal.numbers_left in omega (arith, length-append {A = Entry}));
-      live = (let left : count_by is_live st.entries < MAX_LIVE = legal.room in let more = count-push is_live st.entries new in omega arith);
+      live = (let left : count_by is_live st.entries < MAX_LIVE = legal.room in let more : count_by is_live (st.entries ++ new ∷ []) ≡ count_by is_live st.entries + 1 = count-push is_live st.entries new in omega arith);
     }
 
 AreFew-after_steps : (blocks : ℕ) (st : State) (steps : List Step) → Numbered 0 st.entries → AreLegal blocks st steps → AreFew st.entries → AreFew (after_steps st steps).entries

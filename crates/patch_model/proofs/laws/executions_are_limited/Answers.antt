@@ -1,4 +1,5 @@
 use Rattle.patch_model.proofs.Sizes as sizes
+use Rattle.patch_model.proofs.Sending as sending
 use Rattle.patch_model.proofs.laws.executions_are_limited.Goals as goal
 
 pub returns-clause-patches : goal.returns-clause-patches
@@ -9,3 +10,6 @@ returns-clause-live c = λ run legal. (sizes.AreFew-run run legal).live
 
 pub returns-clause-blocks : goal.returns-clause-blocks
 returns-clause-blocks c = λ run legal. legal.few
+
+pub returns-clause-sends : goal.returns-clause-sends
+returns-clause-sends c = sending.few_sends
