@@ -1,7 +1,7 @@
 -- What is among some numbers, and among those of them that pass a test.
 use Rattle.std.proofs.Common.{◌≡◌, ℕ, ◌∙◌, inl, inr, Bool, true, false, List, [], ◌∷◌, map, refl, sym, ap, arith, subst}
 use Rattle.std.specs.Prelude.{◌==◌, ◌&&◌, ◌||◌, filter}
-use Rattle.std.proofs.lemmas.Bool.{cases_Bool}
+use Rattle.std.proofs.lemmas.Bool.{cases_Bool, and_right}
 use Rattle.std.proofs.lemmas.Bool.Decides.{nat_tests}
 use Rattle.patch_model.specs.Entry.{is_among}
 use Rattle.patch_model.specs.Member.{In, list_any-at, list_any-from}
@@ -35,11 +35,7 @@ among-filter p (m ∷ ms) n =
           let alike : p m ≡ p n = ap p same in
           elim (cases_Bool (p n)) [
             | inl v ↦ rw (alike ∙ v, u, v) refl
-            | inr v ↦ rw (alike ∙ v, u) (rest ∙ end_false (is_among ms n) (p n) v ∙ sym v)
+            | inr v ↦ rw (alike ∙ v, u) (rest ∙ and_right (is_among ms n) (p n) v ∙ sym v)
           ]
       | inr u ↦ elim (cases_Bool (p m)) [ inl v ↦ rw (v, u) rest | inr v ↦ rw (v, u) rest ]
     ]
-  where
-    end_false : (a b : Bool) → b ≡ false → (a && b) ≡ false
-    end_false true b h = h
-    end_false false b h = refl

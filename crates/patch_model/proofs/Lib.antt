@@ -23,3 +23,5 @@ pub mod Staying
 pub mod Nearing
 pub mod Counting
 pub mod Sending
+pub mod Flying
+pub mod Naming

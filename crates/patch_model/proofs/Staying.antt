@@ -2,7 +2,7 @@
 use Rattle.std.proofs.Common.{◌≡◌, ◌≢◌, ℕ, ◌<◌, ◌∙◌, inl, inr, Bool, true, false, List, [], ◌∷◌, length, map, get_or, refl, sym, ap, arith, subst}
 use Rattle.std.specs.Prelude.{◌==◌, ◌&&◌, ◌||◌, not, filter, slice_set}
 use Rattle.std.specs.List.{range_with_len}
-use Rattle.std.proofs.lemmas.Bool.{cases_Bool, and_parts, both_ways}
+use Rattle.std.proofs.lemmas.Bool.{cases_Bool, and_parts, and_right}
 use Rattle.std.proofs.lemmas.Bool.Decides.{nat_tests}
 use Rattle.std.proofs.lemmas.List.{same_lists, get_or_default}
 use Rattle.std.proofs.lemmas.List.FromFn.{get_or-map-range_with_len, length-map-range_with_len}
@@ -20,7 +20,8 @@ use Rattle.patch_model.specs.Legal.{IsLegal, IsLegalStep}
 use Rattle.patch_model.specs.Crash.{crash_set, disk_of, MayLeave}
 use Rattle.patch_model.specs.Member.{In}
 use Rattle.patch_model.proofs.Numbering.{AreApart-run, patch-joined, patch-sent, patch-landed}
-use Rattle.patch_model.proofs.Marks.{IsSettled-run, mark-joined, sent_from}
+use Rattle.patch_model.proofs.Marks.{mark-joined, sent_from}
+use Rattle.patch_model.proofs.Waiting.{no_flying}
 use Rattle.patch_model.proofs.Leaving.{entries_on, kept_same, filter-last}
 use Rattle.patch_model.proofs.Images.{pile_of-history, image_over_crash}
 
@@ -59,10 +60,6 @@ disk_changed run step g set before changed patch same =
     (λ e i. ap (λ p. (p.block == block) && set (g e)) (patch e) ∙ ap (λ b. (e.patch.block == block) && b) (same e i)))
     ∙ sym (pile_of-history run block before)))
 
-and_false : (b : Bool) → (b && false) ≡ false
-and_false true = refl
-and_false false = refl
-
 -- a patch in memory is in no crash's set
 disk_made : (run : Execution) (block start : ℕ) (bytes after : List ℕ) (undo : Undo) (blocks : List ℕ)
     → disk_of run (crash_set blocks) ≡ disk_of (extended run (Create block start bytes after undo)) (crash_set blocks)
@@ -71,7 +68,7 @@ disk_made run block start bytes after undo blocks =
     map-alike (λ k. pile_of (history_of run k) (crash_set blocks)) (λ k. pile_of (history_of (extended run step) k) (crash_set blocks)) (range_with_len 0 (length run.first)) (λ k. sym (
     pile_on run step k (crash_set blocks)
     ∙ ap (λ es. pile (history_of run k).first (map (λ e. e.patch) es))
-    (filter-last (passes_of k (crash_set blocks)) (entries_of run) (fresh (entries_of run) (next_patch run block start bytes after undo)) (and_false (block == k)))
+    (filter-last (passes_of k (crash_set blocks)) (entries_of run) (fresh (entries_of run) (next_patch run block start bytes after undo)) (and_right (block == k) false refl))
     ∙ sym (pile_of-history run k (crash_set blocks))))
 
 crash-joined : (a b : ℕ) (blocks : List ℕ) (e : Entry) → crash_set blocks (joined a b e) ≡ crash_set blocks e
@@ -112,12 +109,7 @@ crash-sent run block blocks legal none e i = elim (cases_Bool (has (ready (entri
       rw u (off ∙ sym (of_memory e.mark (is_among blocks e.patch.block) p.0))
   | inr u ↦ rw u (elim (cases_Bool (e.patch.block == block)) [
     | inl v ↦
-        let still : is_flight e ≡ false = elim (cases_Bool (is_flight e)) [
-          | inl w ↦
-              let here : e.patch.block ≡ block = grind (arith, nat_tests, v) in
-              absurd (both_ways (has_flight (state_of run) block) none (subst (λ n. has_flight (state_of run) n ≡ true) here ((IsSettled-run run legal).flights e i w)))
-          | inr w ↦ w
-        ] in
+        let still : is_flight e ≡ false = no_flying run block legal none e i (grind (arith, nat_tests, v)) in
         rw still refl
     | inr v ↦ ap (λ b. is_durable e || (is_flight e && b)) (among-others block e.patch.block blocks v)
   ])

@@ -34,7 +34,7 @@ module _ (run : Execution) (block : ℕ) (legal : IsLegal run) (none : has_fligh
   hard_from : (e : Entry) → is_memory e ≡ true → e.patch.block ≡ block → e.hard ≡ true → is_hard_here e ≡ true
   hard_from e m b h = and_from _ _ (and_from _ _ m (grind (arith, nat_tests))) h
 
-  no_flying : (e : Entry) → In (entries_of run) e → e.patch.block ≡ block → is_flight e ≡ false
+  pub no_flying : (e : Entry) → In (entries_of run) e → e.patch.block ≡ block → is_flight e ≡ false
   no_flying e i b = elim (cases_Bool (is_flight e)) [
     | inl u ↦ absurd (both_ways (has_flight (state_of run) block) none (subst (λ n. has_flight (state_of run) n ≡ true) b ((IsSettled-run run legal).flights e i u)))
     | inr u ↦ u

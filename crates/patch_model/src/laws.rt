@@ -1,6 +1,7 @@
 //! Laws of the definitions. Each is the contract of a function that does nothing: who calls it may rest on the law.
 ghost use Rattle.std.specs.Prelude.{ℕ, ◌≡◌, ◌≢◌, ◌<◌, ◌≤◌, ◌+◌, ◌++◌, ◌∷◌, ◌==◌, ◌&&◌, ◌↔◌, [], IsTrue, IsFalse, None, List, Contains, All, count_by, length, map, slice_set};
 ghost use Rattle.std.specs.List.{list_any};
+ghost use Rattle.std.specs.List.Sorted.{IsStrictlyIncreasing};
 ghost use Rattle.patch_model.specs.declared.patches.Undo.{Undo};
 ghost use Rattle.patch_model.specs.Patch.{Patch};
 ghost use Rattle.patch_model.specs.Step.{Step, Create, Merge, Send, Complete};
@@ -8,8 +9,8 @@ ghost use Rattle.patch_model.specs.Pile.{end, covers};
 ghost use Rattle.patch_model.specs.Execution.{Execution, extended, followed_by};
 ghost use Rattle.patch_model.specs.Entry.{Entry, is_memory, is_flight, is_live, is_among, in_memory_of};
 ghost use Rattle.patch_model.specs.Dependency.{shares_byte, depends_directly, Path, has_live};
-ghost use Rattle.patch_model.specs.Ready.{IsLargestWritable, IsRising, ready};
-ghost use Rattle.patch_model.specs.State.{fresh, class_of, joined, sent, landed, has_flight, after_step, state_of, entries_of, next_patch};
+ghost use Rattle.patch_model.specs.Ready.{IsLargestWritable, IsRising, has, ready};
+ghost use Rattle.patch_model.specs.State.{fresh, class_of, joined, sent, landed, has_flight, after_step, state_of, entries_of, next_patch, flying_of, numbers_of, own_names};
 ghost use Rattle.patch_model.specs.Legal.{IsLegal, IsLegalStep, IsLegalCreate, IsLegalMerge, block_at, touch};
 ghost use Rattle.patch_model.specs.Refusing.{IsBetween, why_not_made, why_not_near, why_not_sent};
 ghost use Rattle.patch_model.specs.History.{History, of_block, history_of, without, image, HoldsDependents, holds_dependents};
@@ -133,6 +134,39 @@ pub fn flights_are_single()
         → IsTrue (list_any (λ e. is_flight e && e.patch.block == block) (entries_of run)) }
 {}
 
+/// What a send puts in flight is what was ready; no other step changes what is in flight of a block until its write ends.
+pub fn flights_are_ready()
+    ensures sent { (run : Execution) (block : ℕ) → IsLegal run → IsFalse (has_flight (state_of run) block)
+        → numbers_of (flying_of (entries_of (extended run (Send block))) block)
+        ≡ numbers_of (ready (entries_of run) block) }
+    ensures made { (run : Execution) (at start : ℕ) (bytes after : List ℕ) (undo : Undo) (block : ℕ)
+        → numbers_of (flying_of (entries_of (extended run (Create at start bytes after undo))) block)
+        ≡ numbers_of (flying_of (entries_of run) block) }
+    ensures merged { (run : Execution) (a b block : ℕ)
+        → numbers_of (flying_of (entries_of (extended run (Merge a b))) block)
+        ≡ numbers_of (flying_of (entries_of run) block) }
+    ensures sent_elsewhere { (run : Execution) (other block : ℕ) → other ≢ block
+        → numbers_of (flying_of (entries_of (extended run (Send other))) block)
+        ≡ numbers_of (flying_of (entries_of run) block) }
+    ensures landed_elsewhere { (run : Execution) (other block : ℕ) → other ≢ block
+        → numbers_of (flying_of (entries_of (extended run (Complete other))) block)
+        ≡ numbers_of (flying_of (entries_of run) block) }
+{}
+
+/// How many patches are live after each step: a patch that is made is, and those whose write ends no more.
+pub fn live_are_counted()
+    ensures made { (run : Execution) (block start : ℕ) (bytes after : List ℕ) (undo : Undo)
+        → count_by is_live (entries_of (extended run (Create block start bytes after undo)))
+        ≡ count_by is_live (entries_of run) + 1 }
+    ensures merged { (run : Execution) (a b : ℕ)
+        → count_by is_live (entries_of (extended run (Merge a b))) ≡ count_by is_live (entries_of run) }
+    ensures sent { (run : Execution) (block : ℕ)
+        → count_by is_live (entries_of (extended run (Send block))) ≡ count_by is_live (entries_of run) }
+    ensures landed { (run : Execution) (block : ℕ)
+        → count_by is_live (entries_of (extended run (Complete block))) + length (numbers_of (flying_of (entries_of run) block))
+        ≡ count_by is_live (entries_of run) }
+{}
+
 // Dependencies, classes and marks.
 
 /// What a durable patch depends on directly is durable; what one in flight depends on is durable or in flight of its
@@ -182,6 +216,22 @@ pub fn near_classes_merge()
         → ((why_not_near all a b ≡ None) × ((c : ℕ) → IsBetween all a b c → ⊥)) ↔ IsLegalMerge all a b }
     ensures sent { (run : Execution) (block : ℕ) → (why_not_sent run block ≡ None)
         ↔ ((block < length run.first) × IsLegalStep (length run.first) (state_of run) (Send block)) }
+{}
+
+/// Of the numbers of what is ready of a block, and of what is in flight of it, those that name their class name each class
+/// of it, and each once.
+pub fn classes_have_names()
+    ensures ready { (run : Execution) (block : ℕ) (e : Entry) → IsLegal run → Contains (entries_of run) e
+        → is_among (own_names (entries_of run) (numbers_of (ready (entries_of run) block))) e.class
+        ≡ has (ready (entries_of run) block) e }
+    ensures flying { (run : Execution) (block : ℕ) (e : Entry) → IsLegal run → Contains (entries_of run) e
+        → e.patch.block ≡ block
+        → is_among (own_names (entries_of run) (numbers_of (flying_of (entries_of run) block))) e.class ≡ is_flight e }
+    ensures own { (run : Execution) (n : ℕ) (numbers : List ℕ)
+        → is_among (own_names (entries_of run) numbers) n ≡ (is_among numbers n && (class_of (entries_of run) n == n)) }
+    ensures apart { (run : Execution) (block : ℕ) → IsLegal run
+        → IsStrictlyIncreasing (own_names (entries_of run) (numbers_of (ready (entries_of run) block)))
+        × IsStrictlyIncreasing (own_names (entries_of run) (numbers_of (flying_of (entries_of run) block))) }
 {}
 
 /// The classes of a legal merge may be joined, as the patches of their block alone show.
