@@ -6,10 +6,9 @@ use Rattle.std.proofs.lemmas.Bool.Decides.{nat_tests}
 use Rattle.patch_model.specs.declared.patches.Mark.{Mark}
 use Rattle.patch_model.specs.declared.patches.Mark.TheVariants.{Memory, Flight, Durable}
 use Rattle.patch_model.specs.declared.patches.Undo.{Undo}
-use Rattle.patch_model.specs.Patch.{Patch}
 use Rattle.patch_model.specs.Step.{Step, Create, Merge, Send, Complete}
 use Rattle.patch_model.specs.Execution.{Execution, extended}
-use Rattle.patch_model.specs.Entry.{Entry, marks_flight, marks_durable, is_memory, is_flight, is_live}
+use Rattle.patch_model.specs.Entry.{Entry, marks_flight, marks_durable, is_flight, is_live}
 use Rattle.patch_model.specs.Ready.{has, ready}
 use Rattle.patch_model.specs.State.{fresh, joined, sent, landed, class_of, after_step, state_of, entries_of, has_flight, next_patch, flying_of, numbers_of}
 use Rattle.patch_model.specs.Legal.{IsLegal}
@@ -46,7 +45,6 @@ numbers_on run step block g q changed patch same =
 -- the ready patches, as a filter of all
 ready_is_filter : (run : Execution) (block : ℕ) → filter (has (ready (entries_of run) block)) (entries_of run) ≡ ready (entries_of run) block
 ready_is_filter run block =
-    let set = ready (entries_of run) block in
     let inside : (e : Entry) → In (ready (entries_of run) block) e → In (entries_of run) e = λ e i. (ready-In (entries_of run) block (AreApart-run run) e i).0 in
     rising_same (filter (has (ready (entries_of run) block)) (entries_of run)) (ready (entries_of run) block)
     (rising-filter (has (ready (entries_of run) block)) (entries_of run) (rising-from_Numbered 0 (entries_of run) (Numbered-run run)))

@@ -1,5 +1,5 @@
 -- What holds its dependents, and the test of it.
-use Rattle.std.proofs.Common.{◌≡◌, ℕ, true, List, arith, subst}
+use Rattle.std.proofs.Common.{◌≡◌, ℕ, true, List, arith}
 use Rattle.std.specs.Prelude.{◌==◌, ◌&&◌, ◌||◌, not, Bool}
 use Rattle.std.specs.List.{list_any, list_all}
 use Rattle.std.proofs.lemmas.Bool.{and_parts, and_from}
@@ -7,7 +7,7 @@ use Rattle.std.proofs.lemmas.Bool.Decides.{nat_tests}
 use Rattle.patch_model.specs.Entry.{Entry, is_live, is_undoable, is_among}
 use Rattle.patch_model.specs.Dependency.{depends_directly}
 use Rattle.patch_model.specs.History.{History, HoldsDependents, holds_dependents}
-use Rattle.patch_model.specs.Member.{In, In-from_Contains, Contains-from_In, list_all-at, list_all-from, list_any-at, list_any-from}
+use Rattle.patch_model.specs.Member.{In-from_Contains, Contains-from_In, list_all-at, list_all-from, list_any-at, list_any-from}
 use Rattle.patch_model.proofs.Among.{among-In, In-among}
 use Rattle.patch_model.proofs.Striking.{implied, from_cases}
 

@@ -19,7 +19,7 @@ use Rattle.patch_model.proofs.Striking.{In-has, has-In, ready-In}
 use Rattle.patch_model.proofs.Numbering.{AreApart-run, ready_is_largest, state_of-extended, patch-joined, patch-sent, patch-landed}
 use Rattle.patch_model.proofs.Classes.{goes_along}
 use Rattle.patch_model.proofs.Crashes.{not_both, not_flying}
-use Rattle.patch_model.proofs.Marks.{never, IsSettled-run, mark-joined, sent_from}
+use Rattle.patch_model.proofs.Marks.{IsSettled-run, mark-joined, sent_from}
 use Rattle.patch_model.proofs.Rings.{same_name}
 use Rattle.patch_model.proofs.Waiting.{hard_in_ready, memory_left}
 use Rattle.patch_model.proofs.Images.{pile_of-history}

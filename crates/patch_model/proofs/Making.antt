@@ -1,6 +1,6 @@
 -- A patch is made just where no cause of a refusal holds.
 use Rattle.std.proofs.Common.{◌≡◌, ℕ, ◌+◌, ◌<◌, ◌≤◌, inl, inr, Bool, true, false, Option, Some, None, List, [], ◌∷◌, length, refl, arith}
-use Rattle.std.specs.Prelude.{nat_lt, nat_le, ◌==◌, All, count_by, cond}
+use Rattle.std.specs.Prelude.{nat_lt, nat_le, ◌==◌, count_by, cond}
 use Rattle.std.specs.List.{AllByRecursion, list_any}
 use Rattle.std.proofs.lemmas.Bool.{cases_Bool}
 use Rattle.std.proofs.lemmas.Bool.Decides.{nat_tests}

@@ -1,8 +1,8 @@
 -- Of a set that is made of whole classes, the numbers that name their class are the names of its classes.
-use Rattle.std.proofs.Common.{◌≡◌, ℕ, zero, suc, ◌+◌, ◌<◌, ◌≤◌, ◌∙◌, inl, inr, Bool, true, false, Some, List, [], ◌∷◌, length, refl, sym, ap, arith, subst}
+use Rattle.std.proofs.Common.{◌≡◌, ℕ, zero, suc, ◌+◌, ◌<◌, ◌≤◌, ◌∙◌, inl, inr, Bool, true, false, Some, List, [], ◌∷◌, refl, sym, ap, arith, subst}
 use Rattle.std.specs.Prelude.{◌==◌, ◌&&◌, slice_get, slice_index, Contains}
 use Rattle.std.specs.List.Sorted.{IsStrictlyIncreasing}
-use Rattle.std.proofs.lemmas.Bool.{cases_Bool, and_parts, and_from, both_ways}
+use Rattle.std.proofs.lemmas.Bool.{and_parts, and_from}
 use Rattle.std.proofs.lemmas.Bool.Decides.{nat_tests}
 use Rattle.std.proofs.lemmas.List.Kept.{IsStrictlyIncreasing-filter}
 use Rattle.patch_model.specs.Execution.{Execution}
@@ -68,7 +68,6 @@ module _ (run : Execution) (legal : IsLegal run) (set : List Entry) (inside : (e
 pub ready_names : (run : Execution) (block : ℕ) (e : Entry) → IsLegal run → Contains (entries_of run) e
     → is_among (own_names (entries_of run) (numbers_of (ready (entries_of run) block))) e.class ≡ has (ready (entries_of run) block) e
 ready_names run block e legal i =
-    let set = ready (entries_of run) block in
     let inside : (f : Entry) → In (ready (entries_of run) block) f → In (entries_of run) f = λ f j. (ready-In (entries_of run) block (AreApart-run run) f j).0 in
     let taken : (f : Entry) → In (entries_of run) f → has (ready (entries_of run) block) f ≡ true → In (ready (entries_of run) block) f =
     λ f. has-In (entries_of run) (ready (entries_of run) block) f (AreApart-run run) inside in

@@ -1,6 +1,6 @@
 -- Two classes merge, and a write begins, just where no cause of a refusal holds.
-use Rattle.std.proofs.Common.{◌≡◌, ◌≢◌, ℕ, zero, suc, ◌<◌, ◌≤◌, inl, inr, Bool, true, false, None, List, [], ◌∷◌, length, refl, ap, arith}
-use Rattle.std.specs.Prelude.{◌==◌, ◌&&◌, ◌||◌, not, nat_le, IsFalse, ◌↔◌}
+use Rattle.std.proofs.Common.{◌≡◌, ◌≢◌, ℕ, zero, suc, ◌<◌, inl, inr, true, false, None, List, [], ◌∷◌, length, refl, ap, arith}
+use Rattle.std.specs.Prelude.{◌==◌, ◌||◌, not, nat_le, ◌↔◌}
 use Rattle.std.proofs.lemmas.Bool.{cases_Bool, and_parts, and_from, not-true, not-false}
 use Rattle.std.proofs.lemmas.Bool.Decides.{nat_tests}
 use Rattle.std.proofs.lemmas.List.{nil_from_length}

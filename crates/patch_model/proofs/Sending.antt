@@ -1,19 +1,16 @@
 -- Each send puts a patch in flight that was in memory, so there are no more sends than patches.
-use Rattle.std.proofs.Common.{◌≡◌, ℕ, ◌+◌, ◌≤◌, inl, inr, true, false, List, [], ◌∷◌, ◌++◌, length, map, refl, ap, arith, length-append}
+use Rattle.std.proofs.Common.{◌≡◌, ℕ, ◌+◌, ◌≤◌, inl, inr, true, false, List, [], ◌∷◌, ◌++◌, length, refl, arith, length-append}
 use Rattle.std.specs.Prelude.{◌==◌, ◌&&◌, count_by}
 use Rattle.std.proofs.lemmas.Bool.{cases_Bool, and_parts}
 use Rattle.std.proofs.lemmas.List.{length-map}
-use Rattle.std.proofs.lemmas.List.Sums.{count_by-le-length}
 use Rattle.patch_model.specs.declared.limits.TheConstants.{MAX_PATCHES}
 use Rattle.patch_model.specs.Step.{Step, Create, Merge, Send, Complete}
 use Rattle.patch_model.specs.Execution.{Execution}
-use Rattle.patch_model.specs.Entry.{Entry, marks_memory, is_memory, is_flight}
+use Rattle.patch_model.specs.Entry.{Entry, is_memory, is_flight}
 use Rattle.patch_model.specs.Ready.{has, ready}
 use Rattle.patch_model.specs.State.{State, at_first, fresh, joined, sent, landed, class_of, after_step, after_steps, state_of, entries_of}
 use Rattle.patch_model.specs.Legal.{IsLegal, IsLegalStep, AreLegal}
-use Rattle.patch_model.specs.Member.{In}
 use Rattle.patch_model.proofs.Counting.{count-push, count-map_le, count-map_lt}
-use Rattle.patch_model.proofs.Crashes.{not_flying}
 use Rattle.patch_model.proofs.Flights.{first_of_some}
 use Rattle.patch_model.proofs.Marks.{never, mark-joined}
 use Rattle.patch_model.proofs.Numbering.{Numbered, Numbered-after_step, apart-from_Numbered}
@@ -49,7 +46,6 @@ AreSends-after_step blocks st (Merge a b) n legal s =
     let long = length-map st.entries (joined x y) in omega arith
 AreSends-after_step blocks st (Send block) n legal s =
     let old : st.sends + count_by is_memory st.entries ≤ length st.entries = s in
-    let set = ready st.entries block in
     let first = first_of_some (ready st.entries block) legal.1 in
     let r = ready-In st.entries block (apart-from_Numbered 0 st.entries n) first.0 first.1 in
     let in_set = In-has (ready st.entries block) first.0 first.1 in

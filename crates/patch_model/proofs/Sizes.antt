@@ -1,6 +1,6 @@
 -- How large patches are, and how many there may be.
-use Rattle.std.proofs.Common.{◌≡◌, ℕ, ◌+◌, ◌<◌, ◌≤◌, ◌∙◌, inl, inr, Bool, true, false, List, [], ◌∷◌, ◌++◌, length, map, refl, sym, ap, arith, subst, length-append}
-use Rattle.std.specs.Prelude.{◌==◌, ◌&&◌, cond, count_by}
+use Rattle.std.proofs.Common.{◌≡◌, ℕ, ◌+◌, ◌<◌, ◌≤◌, ◌∙◌, inl, inr, true, List, [], ◌∷◌, ◌++◌, length, map, sym, ap, arith, subst, length-append}
+use Rattle.std.specs.Prelude.{◌==◌, ◌&&◌, count_by}
 use Rattle.std.proofs.lemmas.List.{length-map}
 use Rattle.std.proofs.lemmas.Bool.{cases_Bool}
 use Rattle.patch_model.specs.declared.blocks.TheConstants.{BLOCK}

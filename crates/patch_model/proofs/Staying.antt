@@ -12,7 +12,7 @@ use Rattle.patch_model.specs.declared.patches.Undo.{Undo}
 use Rattle.patch_model.specs.Step.{Step, Create, Merge, Send, Complete}
 use Rattle.patch_model.specs.Pile.{pile}
 use Rattle.patch_model.specs.Execution.{Execution, extended}
-use Rattle.patch_model.specs.Entry.{Entry, marks_memory, marks_flight, marks_durable, is_memory, is_flight, is_durable, is_among}
+use Rattle.patch_model.specs.Entry.{Entry, marks_memory, marks_flight, marks_durable, is_flight, is_durable, is_among}
 use Rattle.patch_model.specs.Ready.{has, ready}
 use Rattle.patch_model.specs.State.{fresh, joined, sent, landed, class_of, after_step, state_of, entries_of, has_flight, next_patch}
 use Rattle.patch_model.specs.History.{pile_of, image, history_of}
