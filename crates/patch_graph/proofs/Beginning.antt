@@ -1,6 +1,7 @@
 -- A graph of no patches.
 use Rattle.std.proofs.Common.{[], refl, arith}
 use Rattle.patch_graph.specs.Meaning.{Represents}
+use Rattle.patch_graph.specs.Listing.{AreListed}
 
 pub begins : Represents (record { made = 0; slots = []; numbers = [] }) []
 begins = record {
@@ -21,3 +22,6 @@ begins = record {
   found = λ e i alive. absurd i;
   live = λ n key at. absurd (cc);
 }
+
+pub lists-nothing : AreListed [] []
+lists-nothing = record { complete = λ key c at. absurd (cc); sound = λ block key i. absurd i }

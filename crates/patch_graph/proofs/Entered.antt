@@ -10,7 +10,7 @@ use Rattle.patch_graph.specs.Adding.{dependencies, is_hard, HasAdded}
 
 -- the keys that are listed for a block are all that its classes have
 pub held-by : (slots : Slots) (lists : Lists) (block : ℕ) (keys : List ℕ) → AreListed slots lists → keys ≡ listed lists block → HoldsKeys slots block keys
-held-by slots lists block keys l is key c at same = subst (λ k. In k key) (sym is) (subst (λ b. In (listed lists b) key) same (l key c at))
+held-by slots lists block keys l is key c at same = subst (λ k. In k key) (sym is) (subst (λ b. In (listed lists b) key) same (l.complete key c at))
 
 pub has-added : (made : ℕ) (slots now new : Slots) (numbers found rest : Numbers) (block start stop : ℕ) (after keys members deps : List ℕ) (undo : Undo) (hard : Bool) (key : ℕ)
     → now ≡ slots → found ≡ numbers → HoldsKeys slots block keys → deps ≡ dependencies now block start stop after keys → hard ≡ is_hard now found block undo deps → members ≡ made ∷ []

@@ -103,13 +103,18 @@ fly-all marks keys old new upto all held p key = elim (cases_Bool (is_marked mar
 
 -- classes put in flight stay where they are listed
 pub flown-listed : (set : ℕ → Bool) (old new : Slots) (lists : Lists) → AreFlown set old new → AreListed old lists → AreListed new lists
-flown-listed set old new lists a l key d at = elim (cases_class old key) [
-  | inl none ↦ let e : class_at new key ≡ None = a key ∙ ap (option_map (λ c. if set key then flown c else c)) none in absurd (cc)
-  | inr c ↦
-      let same = class_same d (if set key then flown c.0 else c.0) (sym at ∙ a key ∙ ap (option_map (λ c. if set key then flown c else c)) c.1) in
-      let block : d.block ≡ c.0.block = ap (λ z. z.block) same ∙ block-turned (set key) c.0 in
-      subst (λ b. In (listed lists b) key) (sym block) (l key c.0 c.1)
-]
+flown-listed set old new lists a l = record {
+  complete = λ key d at. elim (cases_class old key) [
+    | inl none ↦ let e : class_at new key ≡ None = a key ∙ ap (option_map (λ c. if set key then flown c else c)) none in absurd (cc)
+    | inr c ↦
+        let same = class_same d (if set key then flown c.0 else c.0) (sym at ∙ a key ∙ ap (option_map (λ c. if set key then flown c else c)) c.1) in
+        let block : d.block ≡ c.0.block = ap (λ z. z.block) same ∙ block-turned (set key) c.0 in
+        subst (λ b. In (listed lists b) key) (sym block) (l.complete key c.0 c.1)
+  ];
+  sound = λ block key i.
+      let c = l.sound block key i in
+      ((if set key then flown c.0 else c.0), a key ∙ ap (option_map (λ c. if set key then flown c else c)) c.1, block-turned (set key) c.0 ∙ c.2);
+}
   where
     block-turned : (b : Bool) (c : Class) → (if b then flown c else c).block ≡ c.block
     block-turned true c = refl

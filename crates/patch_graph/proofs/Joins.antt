@@ -7,12 +7,8 @@ use Rattle.std.proofs.lemmas.List.{get_or-set_same, get_or-set_other}
 use Rattle.slab.specs.Slab.{Slab, Updates}
 use Rattle.patch_graph.specs.State.{Class, Slots, Numbers, class_at}
 use Rattle.patch_graph.specs.Joining.{joined_class, absorbed_at, AreRedirected, IsJoined, KeepsBlocks}
-use Rattle.patch_graph.specs.Listing.{Lists, listed, AreListed, KeepsLive}
+use Rattle.patch_graph.specs.Listing.{LosesOf}
 use Rattle.patch_graph.proofs.Flights.{cases_class}
-use Rattle.patch_model.specs.Member.{In}
-use Rattle.std.specs.Prelude.{is_some}
-use Rattle.std.proofs.lemmas.Bool.{cases_eq}
-use Rattle.std.specs.Option.{option_map_or}
 use Rattle.patch_graph.proofs.Readying.{class_same}
 use Rattle.patch_graph.proofs.Rounds.{below-slots}
 
@@ -50,9 +46,26 @@ blocks-at s0 s1 s2 keep gone other absorbed removed key e at = elim (cases_eq ke
       ]
 ]
 
--- where classes keep their blocks they stay where they are listed
-pub blocks-listed : (old new : Slots) (lists : Lists) → KeepsBlocks old new → AreListed old lists → AreListed new lists
-blocks-listed old new lists b l key d at = let c = b key d at in subst (λ n. In (listed lists n) key) (sym c.2) (l key c.0 c.1)
-
-pub live-listed : (slots : Slots) (old new : Lists) → KeepsLive slots old new → AreListed slots old → AreListed slots new
-live-listed slots old new k l key d at = k d.block key (ap is_some at) (l key d at)
+-- a join takes one class away
+pub gone-at : (s0 : Slots) (s1 s2 : Slab Class) (keep gone : ℕ) (other : Class) → class_at s0 gone ≡ Some other → s1.slots ≡ absorbed_at s0 keep other → Updates s1 s2 gone None
+    → LosesOf other.block s0 s2.slots
+gone-at s0 s1 s2 keep gone other there absorbed removed key c at none = elim (cases_eq key gone) [
+  | inl g ↦ ap (λ z. z.block) (class_same c other (sym at ∙ ap (class_at s0) g ∙ there))
+  | inr og ↦
+      let none1 : class_at s1.slots key ≡ None = sym (removed.others key og) ∙ none in
+      elim (cases_class s0 keep) [
+        | inl free ↦
+            let same : class_at s1.slots key ≡ class_at s0 key = ap (λ s. class_at s key) (absorbed ∙ ap (λ o. option_map_or (λ c. slice_set s0 keep (Some (joined_class c other))) o s0) free) in
+            absurd (cc)
+        | inr d ↦
+            let is : s1.slots ≡ slice_set s0 keep (Some (joined_class d.0 other)) = absorbed ∙ ap (λ o. option_map_or (λ c. slice_set s0 keep (Some (joined_class c other))) o s0) d.1 in
+            elim (cases_eq key keep) [
+              | inl k ↦
+                  let here : class_at s1.slots key ≡ Some (joined_class d.0 other) = ap (λ s. class_at s key) is ∙ ap (class_at (slice_set s0 keep (Some (joined_class d.0 other)))) k ∙ get_or-set_same s0 keep (Some (joined_class d.0 other)) None (below-slots s0 keep d.0 d.1) in
+                  absurd (cc)
+              | inr ok ↦
+                  let same : class_at s1.slots key ≡ class_at s0 key = ap (λ s. class_at s key) is ∙ get_or-set_other s0 keep key (Some (joined_class d.0 other)) None ok in
+                  absurd (cc)
+            ]
+      ]
+]

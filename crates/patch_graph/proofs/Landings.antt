@@ -13,6 +13,7 @@ use Rattle.patch_model.specs.Member.{In, list_any-at, list_any-from}
 use Rattle.patch_graph.specs.State.{Class, Graph, Slots, Numbers, find, class_at, leads, leads_at}
 use Rattle.patch_graph.specs.Meaning.{Leads, one, onward, DependsOn, IsClassOf, Represents}
 use Rattle.patch_graph.specs.Landing.{lands, lands_at, AreLanded, HasLanding}
+use Rattle.patch_graph.specs.Listing.{LosesOf}
 use Rattle.patch_graph.proofs.Facts.{known}
 use Rattle.patch_graph.proofs.Steps.{patch-landed, In-map, map-In, length-map, numbered-map}
 use Rattle.patch_graph.proofs.Readying.{placed, cases_found, some_same, class_same}
@@ -39,6 +40,13 @@ pub was-there : (old new : Slots) (numbers rest : Numbers) (block : ℕ) (set : 
 was-there old new numbers rest block set a key d at = elim (cases_Bool (set key && lands_at old block key)) [
   | inl t ↦ let none : class_at new key ≡ None = a.slots key ∙ ap (λ b. if b then None else class_at old key) t in absurd (cc)
   | inr t ↦ sym (a.slots key ∙ ap (λ b. if b then None else class_at old key) t) ∙ at
+]
+
+-- a class that is gone was of the block
+pub gone-of : (old new : Slots) (numbers rest : Numbers) (block : ℕ) (set : ℕ → Bool) → AreLanded old new numbers rest block set → LosesOf block old new
+gone-of old new numbers rest block set a key c at none = elim (cases_Bool (set key && lands_at old block key)) [
+  | inl t ↦ eqb-true c.block block (and_parts _ _ (sym (lands-here old block key c at) ∙ (and_parts _ _ t).1)).1
+  | inr t ↦ let same : class_at new key ≡ class_at old key = a.slots key ∙ ap (λ b. if b then None else class_at old key) t in absurd (cc)
 ]
 
 module _ (made block : ℕ) (old new : Slots) (numbers rest : Numbers) (all : List Entry) (set : ℕ → Bool)

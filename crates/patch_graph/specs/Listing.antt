@@ -1,5 +1,5 @@
 -- Which keys are those of a block's classes.
-use Rattle.std.specs.Prelude.{ℕ, Bool, true, false, ◌≡◌, nat_eq, List, [], is_some, Some, None}
+use Rattle.std.specs.Prelude.{ℕ, Bool, true, false, ◌≡◌, ◌≢◌, nat_eq, List, [], ◌∷◌, ◌++◌, is_some, Some, None}
 use Rattle.std.specs.Option.{option_map_or}
 use Rattle.std.specs.Map.{lookup}
 use Rattle.patch_model.specs.Member.{In}
@@ -17,23 +17,27 @@ listed lists block = option_map_or (λ keys. keys) (lookup (nat_eq block) lists)
 abbrev pub HoldsKeys : Slots → ℕ → List ℕ → Type 0
 HoldsKeys slots block keys = (key : ℕ) (c : Class) → class_at slots key ≡ Some c → c.block ≡ block → In keys key
 
--- each class's key is listed for its block
-abbrev pub AreListed : Slots → Lists → Type 0
-AreListed slots lists = (key : ℕ) (c : Class) → class_at slots key ≡ Some c → In (listed lists c.block) key
+-- what is listed for each block is the keys of its classes
+pub record AreListed (slots : Slots) (lists : Lists) : Type 0 where
+  -- each class's key is listed for its block
+  pub complete : (key : ℕ) (c : Class) → class_at slots key ≡ Some c → In (listed lists c.block) key
+  -- each key that is listed for a block is that of one of its classes
+  pub sound : (block key : ℕ) → In (listed lists block) key → (c : Class) × (class_at slots key ≡ Some c) × (c.block ≡ block)
 
--- what was listed is listed
-abbrev pub KeepsListed : Lists → Lists → Type 0
-KeepsListed old new = (block key : ℕ) → In (listed old block) key → In (listed new block) key
+-- these keys are listed for the block now, and for the others what was
+pub record IsRelisted (old new : Lists) (block : ℕ) (keys : List ℕ) : Type 0 where
+  pub here : listed new block ≡ keys
+  pub others : (other : ℕ) → other ≢ block → listed new other ≡ listed old other
 
 -- the key was put at the end of the block's list, or there was no list
 abbrev pub HasPushed : Lists → Lists → ℕ → ℕ → Bool → Type 0
-HasPushed old new block key true = In (listed new block) key
+HasPushed old new block key true = IsRelisted old new block (listed old block ++ key ∷ [])
 HasPushed old new block key false = (new ≡ old) × (lookup (nat_eq block) old ≡ None)
 
 -- there is a class at the key
 abbrev pub is_key : Slots → ℕ → Bool
 is_key slots key = is_some (class_at slots key)
 
--- what was listed of the classes that there are is listed
-abbrev pub KeepsLive : Slots → Lists → Lists → Type 0
-KeepsLive slots old new = (block key : ℕ) → is_key slots key ≡ true → In (listed old block) key → In (listed new block) key
+-- each class that is gone was of the block
+abbrev pub LosesOf : ℕ → Slots → Slots → Type 0
+LosesOf block old new = (key : ℕ) (c : Class) → class_at old key ≡ Some c → class_at new key ≡ None → c.block ≡ block

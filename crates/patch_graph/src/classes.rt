@@ -99,14 +99,3 @@ pub fn mark_at<A: Allocator>(classes: &Classes<A>, key: usize) -> Option<Mark>
         None => None,
     }
 }
-
-/// The block of a live patch.
-pub fn block_of<A: Allocator>(
-    classes: &Classes<A>,
-    keys: &Keys<A>,
-    no: PatchNo,
-) -> Option<BlockNo> {
-    let key = find(keys, no)?;
-    let class = classes.get(key)?;
-    Some(class.block)
-}

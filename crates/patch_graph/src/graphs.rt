@@ -17,7 +17,7 @@ use crate::classes::{Class, Classes, Keys, enter, find, mark_at, name_at};
 use crate::flying::fly_ready;
 use crate::joining;
 use crate::landing::land;
-use crate::listing::{BlockKeys, list, listed, unlist, unlist_by};
+use crate::listing::{BlockKeys, list, listed, unlist};
 use crate::rooms::Room;
 use patch_model::{BlockNo, Mark, OutOfMemory, PatchNo, Undo};
 use std::alloc::{AllocError, Allocator, Global};
@@ -75,7 +75,8 @@ impl<A: Allocator + Copy> Graph<A> {
     pub fn made(&self) -> u32
         ensures { result ≡ self.now.made }
     {
-        self.made
+        let Graph { made, .. } = self;
+        *made
     }
 
     /// The patches that a send of the block takes, rising.
@@ -186,8 +187,14 @@ impl<A: Allocator + Copy> Graph<A> {
         ensures made { self.new.made ≡ self.old.made }
         ensures refused { OnErr result (self.new ≡ self.old) }
     {
-        let name = joining::merge(self.alloc, &mut self.classes, &mut self.keys, a, b)?;
-        unlist_by(&mut self.lists, &self.classes, &self.keys, a);
+        let name = joining::merge(
+            self.alloc,
+            &mut self.classes,
+            &mut self.keys,
+            &mut self.lists,
+            a,
+            b,
+        )?;
         Ok(name.unwrap_or(a))
     }
 

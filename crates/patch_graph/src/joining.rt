@@ -8,8 +8,10 @@ ghost use Rattle.patch_model.specs.Orderly.{IsOrderly};
 ghost use Rattle.patch_graph.specs.State.{class_at, find};
 ghost use Rattle.patch_graph.specs.Meaning.{Represents};
 ghost use Rattle.patch_graph.specs.Joining.{joined_class, absorbed_at, AreRedirected, HasJoined, KeepsBlocks};
+ghost use Rattle.patch_graph.specs.Listing.{AreListed};
 
 use crate::classes::{Class, Classes, Keys, find, name_at};
+use crate::listing::{BlockKeys, unlist};
 use patch_model::PatchNo;
 use std::alloc::{AllocError, Allocator};
 
@@ -106,6 +108,7 @@ fn join<A: Allocator + Copy>(
     alloc: A,
     classes: &mut Classes<A>,
     keys: &mut Keys<A>,
+    lists: &mut BlockKeys<A>,
     keep: usize,
     gone: usize,
 ) -> Result<(), AllocError>
@@ -114,11 +117,13 @@ fn join<A: Allocator + Copy>(
     ensures refused_keys { OnErr result (keys.new.entries ≡ keys.old.entries) }
     ensures length { length classes.new.slots ≡ length classes.old.slots }
     ensures blocks { KeepsBlocks classes.old.slots classes.new.slots }
+    ensures listed { AreListed classes.old.slots lists.old.entries → AreListed classes.new.slots lists.new.entries }
 {
     if let Some(other) = copy_at(alloc, classes, gone)? {
         absorb_at(classes, keep, &other)?;
         classes.try_remove(gone);
         redirect(keys, other.members.as_slice(), keep);
+        unlist(lists, classes, other.block);
     }
     Ok(())
 }
@@ -135,6 +140,7 @@ pub fn merge<A: Allocator + Copy>(
     alloc: A,
     classes: &mut Classes<A>,
     keys: &mut Keys<A>,
+    lists: &mut BlockKeys<A>,
     a: PatchNo,
     b: PatchNo,
 ) -> Result<Option<PatchNo>, AllocError>
@@ -146,6 +152,7 @@ pub fn merge<A: Allocator + Copy>(
     ensures refused_keys { OnErr result (keys.new.entries ≡ keys.old.entries) }
     ensures length { length classes.new.slots ≡ length classes.old.slots }
     ensures blocks { KeepsBlocks classes.old.slots classes.new.slots }
+    ensures listed { AreListed classes.old.slots lists.old.entries → AreListed classes.new.slots lists.new.entries }
 {
     let Some(first) = find(keys, a) else {
         return Ok(None);
@@ -154,10 +161,10 @@ pub fn merge<A: Allocator + Copy>(
         return Ok(None);
     };
     if members_at(classes, first) < members_at(classes, second) {
-        join(alloc, classes, keys, second, first)?;
+        join(alloc, classes, keys, lists, second, first)?;
         Ok(name_at(classes, second))
     } else {
-        join(alloc, classes, keys, first, second)?;
+        join(alloc, classes, keys, lists, first, second)?;
         Ok(name_at(classes, first))
     }
 }

@@ -5,7 +5,7 @@ ghost use Rattle.patch_model.specs.State.{landed};
 ghost use Rattle.patch_model.specs.Orderly.{IsOrderly};
 ghost use Rattle.patch_graph.specs.Meaning.{Represents};
 ghost use Rattle.patch_graph.specs.State.{Class as TheClass, class_at};
-ghost use Rattle.patch_graph.specs.Listing.{HoldsKeys};
+ghost use Rattle.patch_graph.specs.Listing.{HoldsKeys, LosesOf};
 ghost use Rattle.patch_graph.specs.Landing.{lands, lands_at, AreForgotten, AreLanded};
 
 use crate::classes::{Class, Classes, Keys};
@@ -71,6 +71,7 @@ pub fn land<A: Allocator>(
         → Represents (record { made = made; slots = classes.new.slots; numbers = keys.new.entries }) (map (landed block) all) }
     ensures length { length classes.new.slots ≡ length classes.old.slots }
     ensures fewer { (key : ℕ) (c : TheClass) → class_at classes.new.slots key ≡ Some c → class_at classes.old.slots key ≡ Some c }
+    ensures gone { LosesOf block classes.old.slots classes.new.slots }
 {
     land_all(classes, keys, block, listed);
 }

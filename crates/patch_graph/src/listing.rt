@@ -1,16 +1,15 @@
 //! Which keys are those of a block's classes.
-ghost use Rattle.std.specs.Prelude.{◌≡◌, ◌∷◌, ◌++◌, [], ℕ, filter, IfOk, OnOk, OnErr};
-ghost use Rattle.patch_model.specs.Member.{In};
-ghost use Rattle.patch_graph.specs.Listing.{listed, is_key, KeepsListed, KeepsLive, HasPushed};
+ghost use Rattle.std.specs.Prelude.{◌≡◌, ◌∷◌, ◌++◌, [], filter, IfOk, OnOk, OnErr};
+ghost use Rattle.patch_graph.specs.Listing.{listed, is_key, IsRelisted, HasPushed};
 
-use crate::classes::{Classes, Keys, block_of};
+use crate::classes::Classes;
 use indexmap::IndexMap;
-use patch_model::{BlockNo, PatchNo};
+use patch_model::BlockNo;
 use std::alloc::{AllocError, Allocator, Global};
 use std::hash::{BuildHasherDefault, FoldHasher};
 use std::marker::Model;
 
-/// Some keys of classes: those of one block, the oldest first, and perhaps some that are none by now.
+/// The keys of one block's classes, the oldest class first.
 #[derive(Drop)]
 pub struct KeyList<A: Allocator = Global> {
     keys: Vec<usize, A>,
@@ -74,8 +73,8 @@ fn push_to<A: Allocator>(
     block: BlockNo,
     key: usize,
 ) -> Result<bool, AllocError>
-    ensures kept { KeepsListed lists.old.entries lists.new.entries }
     ensures added { IfOk result (λ found. HasPushed lists.old.entries lists.new.entries block key found) }
+    ensures refused { OnErr result (IsRelisted lists.old.entries lists.new.entries block (listed lists.old.entries block)) }
 {
     match lists.get_mut(&block) {
         Some(list) => {
@@ -86,15 +85,15 @@ fn push_to<A: Allocator>(
     }
 }
 
-/// Lists a key for the block.
+/// Lists a key for the block, behind those that are.
 pub fn list<A: Allocator + Copy>(
     alloc: A,
     lists: &mut BlockKeys<A>,
     block: BlockNo,
     key: usize,
 ) -> Result<(), AllocError>
-    ensures kept { KeepsListed lists.old.entries lists.new.entries }
-    ensures added { OnOk result (In (listed lists.new.entries block) key) }
+    ensures added { OnOk result (IsRelisted lists.old.entries lists.new.entries block (listed lists.old.entries block ++ key ∷ [])) }
+    ensures refused { OnErr result (IsRelisted lists.old.entries lists.new.entries block (listed lists.old.entries block)) }
 {
     if !push_to(lists, block, key)? {
         let list = KeyList::of(alloc, key)?;
@@ -105,23 +104,9 @@ pub fn list<A: Allocator + Copy>(
 
 /// Leaves out the block's keys that have no class.
 pub fn unlist<A: Allocator>(lists: &mut BlockKeys<A>, classes: &Classes<A>, block: BlockNo)
-    ensures { KeepsLive classes.now.slots lists.old.entries lists.new.entries }
+    ensures { IsRelisted lists.old.entries lists.new.entries block (filter (is_key classes.now.slots) (listed lists.old.entries block)) }
 {
     if let Some(list) = lists.get_mut(&block) {
         list.keep_live(classes);
-    }
-}
-
-/// Leaves out the keys that have no class, of the block of a live patch.
-pub fn unlist_by<A: Allocator>(
-    lists: &mut BlockKeys<A>,
-    classes: &Classes<A>,
-    keys: &Keys<A>,
-    no: PatchNo,
-)
-    ensures { KeepsLive classes.now.slots lists.old.entries lists.new.entries }
-{
-    if let Some(block) = block_of(classes, keys, no) {
-        unlist(lists, classes, block);
     }
 }

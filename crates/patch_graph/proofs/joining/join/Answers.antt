@@ -1,7 +1,9 @@
-use Rattle.std.proofs.Common.{sym, ap, subst, ◌∙◌, Some, ◌≡◌, ℕ, List}
+use Rattle.std.proofs.Common.{sym, ap, subst, ◌∙◌, Some, ◌≡◌, ℕ, List, filter}
 use Rattle.patch_graph.specs.State.{Class, class_at}
 use Rattle.patch_graph.specs.Joining.{AreRedirected}
-use Rattle.patch_graph.proofs.Joins.{joins-at, blocks-at}
+use Rattle.patch_graph.specs.Listing.{listed, is_key, IsRelisted}
+use Rattle.patch_graph.proofs.Joins.{joins-at, blocks-at, gone-at}
+use Rattle.patch_graph.proofs.Lists.{listed-fewer}
 use Rattle.patch_graph.proofs.joining.join.Goals as goal
 
 pub returns-in_ok-absorb_at-clause-joined : goal.returns-in_ok-absorb_at-clause-joined
@@ -14,3 +16,12 @@ returns-in_ok-absorb_at-clause-joined g c x y differ at at2 =
 
 pub returns-in_ok-absorb_at-clause-blocks : goal.returns-in_ok-absorb_at-clause-blocks
 returns-in_ok-absorb_at-clause-blocks g c = blocks-at _ _ _ c.args.keep c.args.gone c.in-Some.other c.in_ok-absorb_at.ensures.joined c.try_remove.ensures.updates
+
+pub returns-in_ok-absorb_at-clause-listed : goal.returns-in_ok-absorb_at-clause-listed
+returns-in_ok-absorb_at-clause-listed g c l =
+    let there : class_at c.args.classes.now.slots c.args.gone ≡ Some c.in-Some.other = sym c.in_ok-other.ensures ∙ c.in-Some.is in
+    listed-fewer c.args.classes.now.slots c.try_remove.new.self.slots c.args.lists.now.entries c.unlist.new.lists.entries c.in-Some.other.block
+    (blocks-at _ _ _ c.args.keep c.args.gone c.in-Some.other c.in_ok-absorb_at.ensures.joined c.try_remove.ensures.updates)
+    (gone-at _ _ _ c.args.keep c.args.gone c.in-Some.other there c.in_ok-absorb_at.ensures.joined c.try_remove.ensures.updates)
+    (subst (λ (b : ℕ). IsRelisted c.args.lists.now.entries c.unlist.new.lists.entries b (filter (is_key c.try_remove.new.self.slots) (listed c.args.lists.now.entries b)))
+    (ap (λ (z : Class). z.block) c.other.view_is) c.unlist.ensures) l

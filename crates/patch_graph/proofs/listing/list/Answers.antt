@@ -1,12 +1,12 @@
-use Rattle.std.proofs.Common.{ap, subst, ◌∙◌}
-use Rattle.std.specs.Map.{lookup}
-use Rattle.std.specs.Prelude.{nat_eq}
-use Rattle.patch_graph.specs.Listing.{Lists, KeepsListed}
-use Rattle.patch_graph.proofs.Lists.{kept-new, pushed-not}
+use Rattle.std.proofs.Common.{ap, subst, sym, ◌∙◌, [], ◌∷◌, ◌++◌, List, ℕ}
+use Rattle.patch_graph.specs.Listing.{Lists, IsRelisted}
+use Rattle.patch_graph.proofs.Lists.{listed-none, pushed-not, relisted}
 use Rattle.patch_graph.proofs.listing.list.Goals as goal
 
-pub returns-in_ok-insert-clause-kept : goal.returns-in_ok-insert-clause-kept
-returns-in_ok-insert-clause-kept g c =
+pub returns-in_ok-insert-clause-added : goal.returns-in_ok-insert-clause-added
+returns-in_ok-insert-clause-added g c =
     let p = pushed-not c.args.lists.now.entries c.push_to.new.lists.entries c.args.block c.args.key c.in_ok-push_to.field-0 c.if-not-branch.true c.in_ok-push_to.ensures.added in
-    subst (λ (z : Lists). KeepsListed z c.insert.new.self.entries) p.0
-    (kept-new c.push_to.new.lists.entries c.insert.new.self.entries c.args.block (ap (lookup (nat_eq c.args.block)) p.0 ∙ p.1) c.in_ok-insert.ensures.updates.2)
+    subst (λ (l : List ℕ). IsRelisted c.args.lists.now.entries c.insert.new.self.entries c.args.block l)
+    (c.in_ok-list.ensures ∙ ap (λ (l : List ℕ). l ++ c.args.key ∷ []) (sym (listed-none c.args.lists.now.entries c.args.block p.1)))
+    (subst (λ (z : Lists). IsRelisted z c.insert.new.self.entries c.args.block c.in_ok-list.list) p.0
+    (relisted c.push_to.new.lists.entries c.insert.new.self.entries c.args.block c.in_ok-list.list c.in_ok-insert.ensures.updates.1 c.in_ok-insert.ensures.updates.2))

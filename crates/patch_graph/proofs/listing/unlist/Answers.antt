@@ -1,12 +1,10 @@
-use Rattle.std.proofs.Common.{sym, subst, ℕ, List}
-use Rattle.patch_model.specs.Member.{In, In-filter}
+use Rattle.std.proofs.Common.{sym, filter}
 use Rattle.patch_graph.specs.Listing.{is_key}
-use Rattle.patch_graph.proofs.Lists.{is_some-from, kept-live}
+use Rattle.patch_graph.proofs.Lists.{is_some-from, relisted-by}
 use Rattle.patch_graph.proofs.listing.unlist.Goals as goal
 
 pub returns-in-Some : goal.returns-in-Some
 returns-in-Some g c =
     let h = c.get_mut.follows.holds c.keep_live.new.self in
     let u = h.3 (is_some-from _ c.in-Some.list.now (sym c.in-Some.ensures.value)) in
-    kept-live c.args.classes.now.slots _ _ c.args.block c.in-Some.list.now c.keep_live.new.self (sym c.in-Some.ensures.value) u.1
-    (λ key t i. subst (λ (l : List ℕ). In l key) (sym c.keep_live.ensures) (In-filter (is_key c.args.classes.now.slots) c.in-Some.list.now key i t)) u.2
+    relisted-by _ _ c.args.block (filter (is_key c.args.classes.now.slots)) c.in-Some.list.now c.keep_live.new.self (sym c.in-Some.ensures.value) u.1 c.keep_live.ensures u.2

@@ -1,5 +1,9 @@
-use Rattle.patch_graph.proofs.Beginning.{begins}
+use Rattle.std.proofs.Common.{arith}
+use Rattle.patch_graph.proofs.Beginning.{begins, lists-nothing}
 use Rattle.patch_graph.proofs.graphs.Graph.new.Goals as goal
 
 pub returns : goal.returns
 returns g c = rw (c.new.ensures.empty, c.new-2.ensures.empty) begins
+
+pub invariant_of-result : goal.invariant_of-result
+invariant_of-result g c = rw (c.new.ensures.empty, c.new-3.ensures.empty) (omega arith, lists-nothing)
