@@ -20,7 +20,6 @@ use Rattle.patch_graph.proofs.Facts.{known}
 use Rattle.patch_graph.specs.Meaning.{Leads, one, onward, DependsOn, IsClassOf, Represents}
 use Rattle.patch_graph.specs.Marks.{is_marked, HoldsMarked, picks, IsLargestMet}
 use Rattle.patch_graph.specs.Flying.{flown, flown_at, AreFlown, ArePartFlown}
-use Rattle.patch_graph.specs.Listing.{Lists, listed, AreListed}
 use Rattle.patch_graph.proofs.Places.{place-of}
 use Rattle.patch_graph.proofs.Readying.{placed, chosen, chosen_set, chosen-ready, chosen-at, at-chosen, some_same, class_same}
 use Rattle.patch_graph.proofs.Rounds.{below-slots}
@@ -100,25 +99,6 @@ fly-all marks keys old new upto all held p key = elim (cases_Bool (is_marked mar
   | inr t ↦ elim (p.either key) [ inl e ↦ e | inr e ↦ absurd (both_ways _ t e.0) ]
       ∙ sym (ap (λ b. option_map (λ c. if b then flown c else c) (class_at old key)) t ∙ same_map (class_at old key))
 ]
-
--- classes put in flight stay where they are listed
-pub flown-listed : (set : ℕ → Bool) (old new : Slots) (lists : Lists) → AreFlown set old new → AreListed old lists → AreListed new lists
-flown-listed set old new lists a l = record {
-  complete = λ key d at. elim (cases_class old key) [
-    | inl none ↦ let e : class_at new key ≡ None = a key ∙ ap (option_map (λ c. if set key then flown c else c)) none in absurd (cc)
-    | inr c ↦
-        let same = class_same d (if set key then flown c.0 else c.0) (sym at ∙ a key ∙ ap (option_map (λ c. if set key then flown c else c)) c.1) in
-        let block : d.block ≡ c.0.block = ap (λ z. z.block) same ∙ block-turned (set key) c.0 in
-        subst (λ b. In (listed lists b) key) (sym block) (l.complete key c.0 c.1)
-  ];
-  sound = λ block key i.
-      let c = l.sound block key i in
-      ((if set key then flown c.0 else c.0), a key ∙ ap (option_map (λ c. if set key then flown c else c)) c.1, block-turned (set key) c.0 ∙ c.2);
-}
-  where
-    block-turned : (b : Bool) (c : Class) → (if b then flown c else c).block ≡ c.block
-    block-turned true c = refl
-    block-turned false c = refl
 
 class-sent : (set : List Entry) (e : Entry) → (sent set e).class ≡ e.class
 class-sent set e = elim (cases_Bool (has set e)) [ inl u ↦ rw u refl | inr u ↦ rw u refl ]

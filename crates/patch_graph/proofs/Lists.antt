@@ -49,16 +49,6 @@ last-in [] key k (inr i) = absurd i
 last-in (x ∷ l) key k (inl e) = inl (inl e)
 last-in (x ∷ l) key k (inr i) = elim (last-in l key k i) [ inl j ↦ inl (inr j) | inr e ↦ inr e ]
 
--- where no class is new or gone, what is listed stays right
-pub listed-same : (slots : Slots) (old new : Lists) (block : ℕ) → IsRelisted old new block (listed old block) → AreListed slots old → AreListed slots new
-listed-same slots old new block r a = record {
-  complete = λ key c at. subst (λ l. In l key) (sym (same c.block)) (a.complete key c at);
-  sound = λ b key i. a.sound b key (subst (λ l. In l key) (same b) i);
-}
-  where
-    same : (b : ℕ) → listed new b ≡ listed old b
-    same b = elim (cases_eq b block) [ inl e ↦ subst (λ x. listed new x ≡ listed old x) (sym e) r.here | inr d ↦ r.others b d ]
-
 -- one more class, listed last for its block
 pub listed-more : (s0 s1 : Slots) (old new : Lists) (block key : ℕ) (c : Class) → class_at s0 key ≡ None → class_at s1 key ≡ Some c → c.block ≡ block
     → ((k : ℕ) → k ≢ key → class_at s1 k ≡ class_at s0 k) → IsRelisted old new block (listed old block ++ key ∷ []) → AreListed s0 old → AreListed s1 new

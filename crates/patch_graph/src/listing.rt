@@ -9,7 +9,7 @@ use std::alloc::{AllocError, Allocator, Global};
 use std::hash::{BuildHasherDefault, FoldHasher};
 use std::marker::Model;
 
-/// The keys of one block's classes, the oldest class first.
+/// The keys of one block's classes, the oldest first.
 #[derive(Drop)]
 pub struct KeyList<A: Allocator = Global> {
     keys: Vec<usize, A>,
