@@ -15,6 +15,8 @@ use Rattle.patch_graph.proofs.Rising.{rising-filter, rising-struck, rising_same}
 use Rattle.patch_graph.specs.State.{Class, Graph, Slots, Numbers, find, class_at, leads, leads_at}
 use Rattle.patch_graph.specs.Marks.{is_marked, is_candidate, picks, is_met_at, AreMet, IsWithin, IsLargestMet, gathered, members_at, HoldsMarked, AreRising, IsArranged}
 use Rattle.patch_graph.proofs.Facts.{known}
+use Rattle.patch_graph.specs.declared.classes.LiveClass.{LiveClass}
+use Rattle.patch_graph.specs.Showing.{shown, IsShown}
 use Rattle.patch_graph.specs.Meaning.{Leads, one, onward, Represents, IsNotLive, IsLiveClass, HasMark}
 use Rattle.patch_graph.proofs.Arranging.{rising_same as numbers_same}
 
@@ -385,3 +387,25 @@ mark_answer g all n key o r at is =
     let c = class_live g all n key r at in
     let e : o ≡ Some c.0.mark = is ∙ ap (option_map (λ c. c.mark)) c.1 in
     rw e c.3
+
+pub shown_answer : (g : Graph) (all : List Entry) (n key : ℕ) (o : Option LiveClass) → Represents g all → find g.numbers n ≡ Some key
+    → o ≡ option_map shown (class_at g.slots key) → MatchOption o (IsNotLive all n) (IsShown all n)
+shown_answer g all n key o r at is =
+    let e = r.live n key at in
+    let f = r.found e.0 e.1 e.3 in
+    let here : f.0 ≡ key = let two : Some f.0 ≡ Some key = sym f.2 ∙ ap (find g.numbers) e.2 ∙ at in cc in
+    let at_key : class_at g.slots key ≡ Some f.1 = ap (class_at g.slots) (sym here) ∙ f.3 in
+    let whose = r.classes key f.1 at_key in
+    let looks = whose.looks e.0 e.1 (sym f.4) in
+    let gives : o ≡ Some (shown f.1) = is ∙ ap (option_map shown) at_key in
+    rw gives (record {
+      patch = e.0;
+      inside = e.1;
+      number = e.2;
+      live = e.3;
+      name = sym f.4;
+      mark = looks.0;
+      block = looks.1;
+      hard = looks.2;
+      span = whose.span;
+    })

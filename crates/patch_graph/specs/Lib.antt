@@ -8,3 +8,4 @@ pub mod Between
 pub mod Landing
 pub mod Joining
 pub mod Listing
+pub mod Showing

@@ -3,6 +3,7 @@ ghost use Rattle.std.specs.Prelude.{◌≡◌, ◌≢◌, ◌<◌, ℕ, Some};
 ghost use Rattle.indexmap.specs.IndexMap.{spare};
 ghost use Rattle.std.specs.Option.{option_map};
 ghost use Rattle.patch_graph.specs.State.{find, class_at};
+ghost use Rattle.patch_graph.specs.Showing.{shown};
 ghost use Rattle.patch_graph.specs.Adding.{overlaps};
 ghost use Rattle.patch_graph.specs.Marks.{is_candidate};
 
@@ -46,6 +47,19 @@ impl<A: Allocator> Model for Class<A> {
     } };
 }
 
+/// A live class, as it is shown: its members and what they depend on stay inside.
+#[derive(Clone, Copy, Debug, PartialEq, Eq)]
+pub struct LiveClass {
+    /// The least of its members.
+    pub name: PatchNo,
+    pub block: BlockNo,
+    pub mark: Mark,
+    pub hard: bool,
+    /// Its span, from the first byte to that behind the last one.
+    pub start: usize,
+    pub stop: usize,
+}
+
 /// The live classes, by their keys.
 pub type Classes<A> = Slab<Class<A>, A>;
 
@@ -53,6 +67,19 @@ pub type Classes<A> = Slab<Class<A>, A>;
 pub type Keys<A> = IndexMap<PatchNo, usize, BuildHasherDefault<FoldHasher>, A>;
 
 impl<A: Allocator> Class<A> {
+    fn shown(&self) -> LiveClass
+        ensures { result ≡ shown self.now }
+    {
+        LiveClass {
+            name: self.name,
+            block: self.block,
+            mark: self.mark,
+            hard: self.hard,
+            start: self.start,
+            stop: self.stop,
+        }
+    }
+
     pub fn overlaps(&self, block: BlockNo, start: usize, stop: usize) -> bool
         ensures { result ≡ overlaps block start stop self.now }
     {
@@ -96,6 +123,16 @@ pub fn mark_at<A: Allocator>(classes: &Classes<A>, key: usize) -> Option<Mark>
 {
     match classes.get(key) {
         Some(class) => Some(class.mark),
+        None => None,
+    }
+}
+
+/// What the class at a key shows.
+pub fn shown_at<A: Allocator>(classes: &Classes<A>, key: usize) -> Option<LiveClass>
+    ensures { result ≡ option_map shown (class_at classes.now.slots key) }
+{
+    match classes.get(key) {
+        Some(class) => Some(class.shown()),
         None => None,
     }
 }

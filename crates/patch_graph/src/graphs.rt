@@ -8,12 +8,13 @@ ghost use Rattle.patch_model.specs.Dependency.{Path};
 ghost use Rattle.patch_model.specs.Legal.{IsLegalMerge};
 ghost use Rattle.patch_model.specs.Orderly.{IsOrderly};
 ghost use Rattle.patch_graph.specs.Meaning.{Represents, IsNotLive, IsLiveClass, HasMark};
+ghost use Rattle.patch_graph.specs.Showing.{IsShown};
 ghost use Rattle.patch_graph.specs.Between.{HasNoRing, IsLeastBetween};
 ghost use Rattle.patch_graph.specs.Adding.{IsPatch, HasAdded};
 
 use crate::adding::{dependencies, is_hard};
 use crate::answering::{between, is_any_ready, numbers_ready, reaches};
-use crate::classes::{Class, Classes, Keys, enter, find, mark_at, name_at};
+use crate::classes::{Class, Classes, Keys, LiveClass, enter, find, mark_at, name_at, shown_at};
 use crate::flying::fly_ready;
 use crate::joining;
 use crate::landing::land;
@@ -242,6 +243,16 @@ impl<A: Allocator + Copy> Graph<A> {
     {
         match find(&self.keys, no) {
             Some(key) => name_at(&self.classes, key),
+            None => None,
+        }
+    }
+
+    /// The class of a live patch.
+    pub fn live_class(&self, no: PatchNo) -> Option<LiveClass>
+        ensures { (all : List Entry) → Represents self.now all → MatchOption result (IsNotLive all no) (IsShown all no) }
+    {
+        match find(&self.keys, no) {
+            Some(key) => shown_at(&self.classes, key),
             None => None,
         }
     }

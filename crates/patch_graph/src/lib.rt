@@ -16,4 +16,5 @@ mod searching;
 #[cfg(test)]
 mod tests;
 
+pub use classes::LiveClass;
 pub use graphs::{Added, Graph};
