@@ -10,6 +10,7 @@ pub mod Accepting
 pub mod Same
 pub mod Restoring
 pub mod Adding
+pub mod Newest
 pub mod Marking
 pub mod Joining
 pub mod Moving

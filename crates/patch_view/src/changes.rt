@@ -1,12 +1,12 @@
 //! What becomes of a block's records as patches are made, merged, sent and completed.
-ghost use Rattle.std.specs.Prelude.{◌≡◌, ◌+◌, ◌<◌, ◌≤◌, ◌++◌, length, [], IfOk, OnOk, OnErr, ℕ, true, false, IsTrue, IsFalse, IsPermutation};
+ghost use Rattle.std.specs.Prelude.{◌≡◌, ◌+◌, ◌<◌, ◌≤◌, ◌++◌, length, [], IfOk, OnOk, OnErr, ℕ, List, true, false, IsTrue, IsFalse, IsPermutation};
 ghost use Rattle.std.specs.List.Sorted.{IsNonDecreasing};
 ghost use Rattle.patch_model.specs.declared.patches.Undo.{Undo};
 ghost use Rattle.patch_model.specs.declared.patches.Mark.TheVariants.{Flight, Durable};
 ghost use Rattle.patch_model.specs.Entry.{Entry, is_memory};
 ghost use Rattle.patch_model.specs.History.{History};
 ghost use Rattle.patch_model.specs.Orderly.{MayJoin};
-ghost use Rattle.patch_view.specs.State.{class_at, follows, with_laid, IsLaid, departed_at, landed_at, moved_down, IsMerged, settled_at};
+ghost use Rattle.patch_view.specs.State.{Block, class_at, follows, with_laid, IsLaid, without_newest, with_newest_hard, departed_at, landed_at, moved_down, IsMerged, settled_at};
 ghost use Rattle.patch_view.specs.History.{unpatched, IsNext, MayLand, laid, made, with_mark, with_joined};
 ghost use Rattle.patch_view.specs.Meaning.{Represents, IsGathered};
 ghost use Rattle.patch_view.specs.Answers.{IsPatch};
@@ -44,6 +44,7 @@ impl<A: Allocator> BlockState<A> {
         requires { start + length bytes.now ≤ BLOCK }
         ensures answer { (h : History) (block : ℕ) (undo : Undo) → Represents self.old [] h → IsNext h (made no block start bytes.now after.now undo hard)
             → OnOk result (Represents self.new [] (laid h (made no block start bytes.now after.now undo hard))) }
+        ensures laid { OnOk result (IsLaid self.old no start bytes.now after.now hard self.new) }
         ensures refused { OnErr result (self.new ≡ self.old) }
     {
         self.lay_exactly(no, start, bytes, after, hard)?;
@@ -98,6 +99,40 @@ impl<A: Allocator> BlockState<A> {
         let class = Class::new(no, members, start, stop, saved, all, hard);
         self.classes.push(class).unwrap();
         Ok(())
+    }
+
+    /// Takes the patch off that was laid last, which isn't hard: the block is as if it had never been laid. It exchanges the
+    /// span's bytes, looks at no other record, and takes no memory.
+    pub fn unlay(&mut self)
+        ensures { (before : Block) (no start : ℕ) (bytes after : List ℕ) → IsLaid before no start bytes after false self.old
+            → length before.bytes ≡ BLOCK → start + length bytes ≤ BLOCK → self.new ≡ before }
+    {
+        self.unlay_newest();
+    }
+
+    fn unlay_newest(&mut self)
+        ensures { self.new ≡ without_newest self.old }
+    {
+        if let Some(mut class) = self.classes.pop() {
+            class.exchange(self.bytes.as_mut_slice(), true);
+        }
+    }
+
+    /// Makes the patch that was laid last hard: the bytes kept of it go. It looks at no other record, and takes no memory.
+    pub fn harden(&mut self)
+        ensures { (before : Block) (h : History) (no block start : ℕ) (bytes after : List ℕ) (undo : Undo)
+            → IsLaid before no start bytes after false self.old → Represents before [] h → IsNext h (made no block start bytes after undo true)
+            → start + length bytes ≤ BLOCK → Represents self.new [] (laid h (made no block start bytes after undo true)) }
+    {
+        self.harden_newest();
+    }
+
+    fn harden_newest(&mut self)
+        ensures { self.new ≡ with_newest_hard self.old }
+    {
+        if let Some(class) = self.classes.last_mut() {
+            class.harden();
+        }
     }
 
     /// Puts the class of this patch, which is in memory, in flight. Its saved bytes go.

@@ -3,7 +3,7 @@ ghost use Rattle.std.specs.Prelude.{◌≡◌, ◌||◌, ◌+◌, ◌≤◌, ◌
 ghost use Rattle.std.specs.List.{list_any};
 ghost use Rattle.std.specs.List.Sorted.{IsNonDecreasing};
 ghost use Rattle.patch_model.specs.Entry.{is_among};
-ghost use Rattle.patch_view.specs.State.{is_left, laid_on, exchanged_with, meets, names, departed, merged, IsMerged};
+ghost use Rattle.patch_view.specs.State.{is_left, laid_on, exchanged_with, meets, names, hardened, departed, merged, IsMerged};
 
 use crate::spans::swap_span;
 use patch_model::{BLOCK, OutOfMemory, PatchNo};
@@ -210,6 +210,15 @@ impl<A: Allocator> Class<A> {
             hard: false,
             taken: false,
         }
+    }
+
+    /// Makes the class hard. Its saved bytes go, and the memory that they took.
+    pub(crate) fn harden(&mut self)
+        ensures { self.new ≡ hardened self.old }
+    {
+        self.hard = true;
+        self.saved.clear();
+        self.saved.shrink_to_fit();
     }
 
     pub(crate) fn depart(&mut self)

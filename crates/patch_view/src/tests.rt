@@ -26,6 +26,8 @@ struct Change {
 #[derive(Clone, Copy)]
 enum Deed {
     Lay(Change),
+    Unlay,
+    Harden,
     Join(u32, u32),
     Depart(u32),
     Land(u32),
@@ -120,6 +122,8 @@ fn lay(rt: &impl Abort, block: &mut BlockState, laid: &Change) -> Result<(), Out
 fn act(rt: &impl Abort, block: &mut BlockState, deed: &Deed) -> Result<(), Fail> {
     match deed {
         Deed::Lay(laid) => lay(rt, block, laid)?,
+        Deed::Unlay => block.unlay(),
+        Deed::Harden => block.harden(),
         Deed::Join(a, b) => block.join(PatchNo(*a), PatchNo(*b))?,
         Deed::Depart(no) => block.depart(PatchNo(*no)),
         Deed::Land(no) => block.land(PatchNo(*no)),
@@ -283,6 +287,63 @@ fn hard_over_hard(rt: HostRuntime) -> Result<(), Fail> {
         done(Deed::Restore, &[]),
     ];
     walk(&rt, rt.alloc(), &lines)
+}
+
+#[test]
+fn taken_off_and_laid_again(rt: HostRuntime) -> Result<(), Fail> {
+    let lines = [
+        soft(0, 0, &[0xa1, 0xa2, 0xa3, 0xa4]),
+        soft(1, 2, &[0xb1, 0xb2, 0xb3, 0xb4]),
+        done(Deed::Unlay, &[1]),
+        done(Deed::Take(1, Err(TakeRefusal::Unknown)), &[1]),
+        soft(1, 2, &[0xb1, 0xb2, 0xb3, 0xb4]),
+        done(
+            Deed::Take(0, Err(TakeRefusal::DependentApplied(PatchNo(1)))),
+            &[],
+        ),
+        done(Deed::Take(1, Ok(())), &[1]),
+        done(Deed::Restore, &[]),
+        done(Deed::Unlay, &[1]),
+        done(Deed::Take(0, Ok(())), &[0, 1]),
+        done(Deed::Restore, &[1]),
+        done(Deed::Unlay, &[0, 1]),
+        done(Deed::Unlay, &[0, 1]),
+    ];
+    walk(&rt, rt.alloc(), &lines)
+}
+
+#[test]
+fn made_hard_once_laid(rt: HostRuntime) -> Result<(), Fail> {
+    let lines = [
+        soft(0, 0, &[0xa1, 0xa2, 0xa3, 0xa4]),
+        soft(1, 2, &[0xb1, 0xb2, 0xb3, 0xb4]),
+        done(Deed::Harden, &[]),
+        done(Deed::Take(1, Err(TakeRefusal::Hard)), &[]),
+        done(
+            Deed::Take(0, Err(TakeRefusal::DependentApplied(PatchNo(1)))),
+            &[],
+        ),
+        soft(2, 3, &[0xcc]),
+        done(Deed::Take(2, Ok(())), &[2]),
+        done(Deed::Restore, &[]),
+    ];
+    walk(&rt, rt.alloc(), &lines)
+}
+
+#[test]
+fn memory_is_given_back(rt: HostRuntime) -> Result<(), Fail> {
+    let heap = LocalHeap::new(rt.alloc(), 16384)?;
+    let mut block = BlockState::of(&heap, BlockBytes::zeros(&heap)?);
+    block.lay(PatchNo(0), 0, &[1; 500], &[], false)?;
+    block.lay(PatchNo(1), 0, &[2; 500], &[PatchNo(0)], false)?;
+    let soft = heap.used();
+    block.harden();
+    let hard = heap.used();
+    assert!(rt; soft.saturating_sub(hard) >= 500);
+    block.lay(PatchNo(2), 0, &[3; 500], &[], false)?;
+    block.unlay();
+    assert_eq!(rt; heap.used(), hard);
+    Ok(())
 }
 
 #[test]
