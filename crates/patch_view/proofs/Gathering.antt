@@ -1,5 +1,5 @@
 -- One class brought up to another.
-use Rattle.std.proofs.Common.{◌≡◌, ℕ, ◌+◌, ◌-◌, ◌<◌, ◌≤◌, ◌∙◌, true, false, not, inl, inr, List, [], ◌∷◌, length, map, min, refl, sym, ap, arith, subst}
+use Rattle.std.proofs.Common.{◌≡◌, ℕ, ◌+◌, ◌-◌, ◌<◌, ◌≤◌, ◌∙◌, true, false, not, inl, inr, List, Option, [], ◌∷◌, ◌⊎◌, length, map, min, refl, sym, ap, arith, subst}
 use Rattle.std.specs.Prelude.{◌≢◌, ◌==◌, ◌&&◌, ◌||◌, Some, None, nat_le}
 use Rattle.std.specs.List.{list_any}
 use Rattle.patch_model.specs.Member.{list_any-at, list_any-from, In, Contains-from_In}
@@ -18,9 +18,10 @@ use Rattle.patch_view.proofs.Chain.{undoable-not_durable}
 use Rattle.patch_view.proofs.Answering.{no_place}
 use Rattle.patch_view.proofs.Marking.{named_place}
 use Rattle.patch_view.specs.Answers.{IsPatch}
+use Rattle.std.proofs.lemmas.List.Quantifiers.{position-Some}
 use Rattle.std.proofs.lemmas.Bool.{cases_eq, cases_lt, both_ways, and_parts, and_from, or_left, or_right, eq-eqb, eqb-true, leb-true, false_from_ne_true}
 use Rattle.patch_view.specs.History.{IsCoherent, with_joined}
-use Rattle.patch_view.specs.State.{Class, Block, class_at, follows, moved_down, spans, may_be_taken, IsMerged, settled_at, place_of}
+use Rattle.patch_view.specs.State.{Class, Block, Joint, IsJoint, class_at, no_class, follows, moved_down, spans, may_be_taken, IsMerged, settled_at, place_of}
 use Rattle.patch_view.specs.Meaning.{IsClassOf, Represents, IsGatheredTo}
 use Rattle.patch_view.proofs.Moving.{came, moves, length-moved, at_came, came_is}
 
@@ -215,3 +216,34 @@ joins_same b h x y i j e f r is_i is_j p q may same =
 
 pub joins_nowhere : (b : Block) (h : History) (x : ℕ) (e : Entry) → Represents b [] h → place_of b x ≡ None → IsPatch h x e → is_undoable e ≡ true → ⊥
 joins_nowhere b h x e r none p u = both_ways _ (undoable-not_durable e u) (no_place b [] h x r none e p)
+
+place-or-none : (o : Option ℕ) → ((i : ℕ) × (o ≡ Some i)) ⊎ (o ≡ None)
+place-or-none None = inr refl
+place-or-none (Some i) = inl (i, refl)
+
+-- of two patches that may be made one there is a joint
+pub joint-none : (b : Block) (h : History) (x y : ℕ) (e f : Entry) → IsJoint b x y None → Represents b [] h → IsPatch h x e → IsPatch h y f → MayJoin h.entries e.class f.class → ⊥
+joint-none b h x y e f none r p q may = elim (place-or-none (place_of b x)) [
+  | inr away ↦ joins_nowhere b h x e r away p (may.undoable e (Contains-from_In h.entries e p.is_in) (inl refl))
+  | inl i ↦ elim (place-or-none (place_of b y)) [
+    | inr away ↦ joins_nowhere b h y f r away q (may.undoable f (Contains-from_In h.entries f q.is_in) (inr refl))
+    | inl j ↦ joins_same b h x y i.0 j.0 e f r i.1 j.1 p q may (none i.0 j.0 i.1 j.1)
+  ]
+]
+
+pub joint-as : (b : Block) (x y : ℕ) (o : Option Joint) (joint drawn : Joint) → IsJoint b x y o → o ≡ Some joint → drawn ≡ joint → IsJoint b x y (Some drawn)
+joint-as b x y o joint drawn is some same = subst (λ z. IsJoint b x y (Some z)) (sym same) (subst (IsJoint b x y) some is)
+
+pub joint-within : (b : Block) (x y : ℕ) (joint : Joint) → IsJoint b x y (Some joint) → joint.high < length b.classes
+joint-within b x y joint is = elim is.1 [
+  | inl at_ ↦ (position-Some _ b.classes joint.high no_class at_.1).0
+  | inr at_ ↦ (position-Some _ b.classes joint.high no_class at_.0).0
+]
+
+pub joint-joins : (b new : Block) (h : History) (x y : ℕ) (e f : Entry) (joint : Joint) → IsJoint b x y (Some joint) → Represents b [] h → IsPatch h x e → IsPatch h y f → MayJoin h.entries e.class f.class
+    → ((k : History) → Represents b [] k → MayJoin k.entries (class_at b joint.low).name (class_at b joint.high).name → Represents new [] (with_joined k (class_at b joint.low).name (class_at b joint.high).name))
+    → Represents new [] (with_joined h e.class f.class)
+joint-joins b new h x y e f joint is r p q may answer = elim is.1 [
+  | inl at_ ↦ joins_named b new h x y joint.low joint.high e f r at_.0 at_.1 p q may answer
+  | inr at_ ↦ joins_swapped b new h x y joint.high joint.low e f r at_.0 at_.1 p q may answer
+]

@@ -1,5 +1,5 @@
 -- What one block's records look like.
-use Rattle.std.specs.Prelude.{ℕ, Bool, true, false, ◌≡◌, ◌<◌, ◌≤◌, Some, None, ◌+◌, ◌&&◌, ◌||◌, not, nat_le, nat_lt, List, [], ◌∷◌, ◌++◌, length, take, drop, slice_range, slice_index_or, slice_set, replicate, min, max, ◌-◌, Option, position, zero, suc, map, if◌then◌else◌, IsPermutation}
+use Rattle.std.specs.Prelude.{ℕ, Bool, true, false, ◌≡◌, ◌<◌, ◌≤◌, Some, None, ◌+◌, ◌&&◌, ◌||◌, not, nat_le, nat_lt, List, [], ◌∷◌, ◌++◌, ◌⊎◌, length, take, drop, slice_range, slice_index_or, slice_set, replicate, min, max, ◌-◌, Option, position, zero, suc, map, if◌then◌else◌, IsPermutation}
 use Rattle.std.specs.List.{list_any, remove, insert}
 use Rattle.patch_model.specs.Entry.{is_among}
 
@@ -174,6 +174,24 @@ pub record IsMerged (low high c : Class) : Type 0 where
   pub members : IsPermutation (low.members ++ high.members) c.members
   pub after : IsPermutation (low.after ++ high.after) c.after
   pub is : c ≡ merged low high c.members c.after
+
+-- a record of the classes at two places as one
+pub record Joint : Type 0 where
+  pub low : ℕ
+  pub high : ℕ
+  pub class : Class
+
+-- the joint is that of the classes at these places
+abbrev pub IsJointAt : Block → ℕ → ℕ → Joint → Type 0
+IsJointAt b low high joint = (joint.low ≡ low) × (joint.high ≡ high) × IsMerged (class_at b low) (class_at b high) joint.class
+
+-- The joint is that of the classes of two patches, which stand at two places, in either order. There is none where they
+-- aren't two classes of the block: one of them has no place, or both have the same.
+abbrev pub IsJoint : Block → ℕ → ℕ → Option Joint → Type 0
+IsJoint b x y None = (i j : ℕ) → place_of b x ≡ Some i → place_of b y ≡ Some j → i ≡ j
+IsJoint b x y (Some joint) = (joint.low < joint.high)
+    × (((place_of b x ≡ Some joint.low) × (place_of b y ≡ Some joint.high)) ⊎ ((place_of b x ≡ Some joint.high) × (place_of b y ≡ Some joint.low)))
+    × IsMerged (class_at b joint.low) (class_at b joint.high) joint.class
 
 -- the class at k moved down to the place front
 abbrev pub moved_down : Block → ℕ → ℕ → Block

@@ -6,7 +6,7 @@ ghost use Rattle.patch_model.specs.declared.patches.Mark.TheVariants.{Flight, Du
 ghost use Rattle.patch_model.specs.Entry.{Entry, is_memory};
 ghost use Rattle.patch_model.specs.History.{History};
 ghost use Rattle.patch_model.specs.Orderly.{MayJoin};
-ghost use Rattle.patch_view.specs.State.{Block, class_at, follows, with_laid, IsLaid, without_newest, with_newest_hard, departed_at, landed_at, moved_down, IsMerged, settled_at};
+ghost use Rattle.patch_view.specs.State.{Block, class_at, follows, with_laid, IsLaid, without_newest, with_newest_hard, departed_at, landed_at, moved_down, IsMerged, settled_at, IsJoint, IsJointAt};
 ghost use Rattle.patch_view.specs.History.{unpatched, IsNext, MayLand, laid, made, with_mark, with_joined};
 ghost use Rattle.patch_view.specs.Meaning.{Represents, IsGathered};
 ghost use Rattle.patch_view.specs.Answers.{IsPatch};
@@ -15,7 +15,24 @@ use crate::classes::{Class, sort};
 use crate::spans::swap_span;
 use crate::states::BlockState;
 use patch_model::{BLOCK, BlockBytes, OutOfMemory, PatchNo};
-use std::alloc::Allocator;
+use std::alloc::{Allocator, Global};
+use std::marker::Model;
+
+/// Two classes of a block as one record, drawn up by [`joint`](BlockState::joint) and not yet in place.
+#[derive(Drop)]
+pub struct Joint<A: Allocator = Global> {
+    low: usize,
+    high: usize,
+    class: Class<A>,
+}
+
+impl<A: Allocator> Model for Joint<A> {
+    ghost use Rattle.patch_view.specs.State.{Joint as Drawn};
+
+    ghost Value = { Drawn };
+
+    ghost view = { λ j. record { low = j.low; high = j.high; class = j.class } };
+}
 
 impl<A: Allocator> BlockState<A> {
     /// A block of these bytes with no patch yet; its records take their memory from `alloc`.
@@ -187,15 +204,17 @@ impl<A: Allocator> BlockState<A> {
         front
     }
 
-    fn merged_at(&self, alloc: A, low: usize, high: usize) -> Result<Class<A>, OutOfMemory>
+    /// Draws up the classes at two places as one.
+    fn joint_at(&self, low: usize, high: usize) -> Result<Joint<A>, OutOfMemory>
     where
         A: Clone,
         requires first { low < length self.now.classes }
         requires second { high < length self.now.classes }
-        ensures { IfOk result (λ c. IsMerged (class_at self.now low) (class_at self.now high) c) }
+        ensures { IfOk result (λ joint. IsJointAt self.now low high joint) }
     {
         let class = &self.classes[low];
-        class.merged(alloc, &self.classes[high])
+        let class = class.merged(self.bytes.allocator().clone()?, &self.classes[high])?;
+        Ok(Joint { low, high, class })
     }
 
     fn settle(&mut self, low: usize, high: usize, class: Class<A>)
@@ -207,6 +226,52 @@ impl<A: Allocator> BlockState<A> {
         let _gone = self.classes.remove(high);
     }
 
+    /// Puts the record of the classes at two places in place of both.
+    fn join_at(&mut self, low: usize, high: usize, class: Class<A>)
+        requires less { low < high }
+        requires within { high < length self.old.classes }
+        ensures { (h : History) → IsMerged (class_at self.old low) (class_at self.old high) class → Represents self.old [] h
+            → MayJoin h.entries (class_at self.old low).name (class_at self.old high).name
+            → Represents self.new [] (with_joined h (class_at self.old low).name (class_at self.old high).name) }
+    {
+        let front = self.gather(low, high);
+        self.settle(front, high, class);
+    }
+
+    /// Draws up the classes of two patches as one. Both may be taken back, their spans meet or touch, and no third class lies
+    /// on a path from one to the other. None where they aren't two classes of the block.
+    pub fn joint(&self, a: PatchNo, b: PatchNo) -> Result<Option<Joint<A>>, OutOfMemory>
+    where
+        A: Clone,
+        ensures { IfOk result (λ joint. IsJoint self.now a b joint) }
+    {
+        let Some(i) = self.place_of(a) else {
+            return Ok(None);
+        };
+        let Some(j) = self.place_of(b) else {
+            return Ok(None);
+        };
+        if i == j {
+            return Ok(None);
+        }
+        let joint = self.joint_at(i.min(j), i.max(j))?;
+        Ok(Some(joint))
+    }
+
+    /// Puts a joint that was drawn up of this block in place. It takes no memory.
+    pub fn join_by(&mut self, joint: Option<Joint<A>>)
+        ensures { (h : History) (a b : ℕ) (e f : Entry) → IsJoint self.old a b joint → Represents self.old [] h
+            → IsPatch h a e → IsPatch h b f → MayJoin h.entries e.class f.class
+            → Represents self.new [] (with_joined h e.class f.class) }
+    {
+        if let Some(joint) = joint {
+            let Joint { low, high, class } = joint;
+            if low < high && high < self.len() {
+                self.join_at(low, high, class);
+            }
+        }
+    }
+
     /// Makes the classes of two patches one, under the lesser name. Both may be taken back, their spans meet or touch, and no
     /// third class lies on a path from one to the other. Without memory nothing is changed.
     pub fn join(&mut self, a: PatchNo, b: PatchNo) -> Result<(), OutOfMemory>
@@ -216,33 +281,8 @@ impl<A: Allocator> BlockState<A> {
             → OnOk result (Represents self.new [] (with_joined h e.class f.class)) }
         ensures refused { OnErr result (self.new ≡ self.old) }
     {
-        let Some(i) = self.place_of(a) else {
-            return Ok(());
-        };
-        let Some(j) = self.place_of(b) else {
-            return Ok(());
-        };
-        if i < j {
-            self.join_at(i, j)?;
-        } else if j < i {
-            self.join_at(j, i)?;
-        }
-        Ok(())
-    }
-
-    /// Makes the classes at two places one. Without memory nothing is changed.
-    fn join_at(&mut self, low: usize, high: usize) -> Result<(), OutOfMemory>
-    where
-        A: Clone,
-        requires less { low < high }
-        requires within { high < length self.old.classes }
-        ensures answer { (h : History) → Represents self.old [] h → MayJoin h.entries (class_at self.old low).name (class_at self.old high).name
-            → OnOk result (Represents self.new [] (with_joined h (class_at self.old low).name (class_at self.old high).name)) }
-        ensures refused { OnErr result (self.new ≡ self.old) }
-    {
-        let class = self.merged_at(self.bytes.allocator().clone()?, low, high)?;
-        let front = self.gather(low, high);
-        self.settle(front, high, class);
+        let joint = self.joint(a, b)?;
+        self.join_by(joint);
         Ok(())
     }
 

@@ -15,6 +15,7 @@ mod states;
 mod tests;
 mod views;
 
+pub use changes::Joint;
 pub use refusals::{PutBackRefusal, TakeRefusal};
 pub use spans::swap_span;
 pub use states::BlockState;
