@@ -29,6 +29,10 @@ enum Deed {
     Unlay,
     Harden,
     Join(u32, u32),
+    /// Draws a joint up and lets it go.
+    Draw(u32, u32),
+    /// Draws a joint up and puts it in place.
+    JoinBy(u32, u32),
     Depart(u32),
     Land(u32),
     Take(u32, Result<(), TakeRefusal>),
@@ -125,6 +129,13 @@ fn act(rt: &impl Abort, block: &mut BlockState, deed: &Deed) -> Result<(), Fail>
         Deed::Unlay => block.unlay(),
         Deed::Harden => block.harden(),
         Deed::Join(a, b) => block.join(PatchNo(*a), PatchNo(*b))?,
+        Deed::Draw(a, b) => {
+            let _unused = block.joint(PatchNo(*a), PatchNo(*b))?;
+        }
+        Deed::JoinBy(a, b) => {
+            let joint = block.joint(PatchNo(*a), PatchNo(*b))?;
+            block.join_by(joint);
+        }
         Deed::Depart(no) => block.depart(PatchNo(*no)),
         Deed::Land(no) => block.land(PatchNo(*no)),
         Deed::Take(no, want) => assert_eq!(rt; &block.take(PatchNo(*no)), want),
@@ -212,13 +223,16 @@ fn named_and_hard(rt: HostRuntime) -> Result<(), Fail> {
     walk(&rt, rt.alloc(), &lines)
 }
 
-#[test]
-fn merged_over_a_gap(rt: HostRuntime) -> Result<(), Fail> {
+/// The first and the last of three patches are made one by this deed.
+fn merge_over_a_gap(rt: &impl Abort, alloc: Global, join: Deed) -> Result<(), Fail> {
     let lines = [
         soft(0, 0, &[0xaa, 0xaa]),
         soft(1, 4, &[0xbb, 0xbb]),
         soft(2, 2, &[0xcc, 0xcc, 0xcc]),
-        done(Deed::Join(0, 2), &[]),
+        done(Deed::Draw(0, 2), &[]),
+        done(Deed::Take(0, Ok(())), &[0]),
+        done(Deed::Restore, &[]),
+        done(join, &[]),
         done(
             Deed::Take(1, Err(TakeRefusal::DependentApplied(PatchNo(0)))),
             &[],
@@ -241,7 +255,14 @@ fn merged_over_a_gap(rt: HostRuntime) -> Result<(), Fail> {
         done(Deed::Take(0, Ok(())), &[0, 2]),
         done(Deed::Restore, &[]),
     ];
-    walk(&rt, rt.alloc(), &lines)
+    walk(rt, alloc, &lines)
+}
+
+#[test]
+fn merged_over_a_gap(rt: HostRuntime) -> Result<(), Fail> {
+    merge_over_a_gap(&rt, rt.alloc(), Deed::Join(0, 2))?;
+    merge_over_a_gap(&rt, rt.alloc(), Deed::JoinBy(0, 2))?;
+    merge_over_a_gap(&rt, rt.alloc(), Deed::JoinBy(2, 0))
 }
 
 #[test]
@@ -347,6 +368,43 @@ fn memory_is_given_back(rt: HostRuntime) -> Result<(), Fail> {
 }
 
 #[test]
+fn a_joint_takes_memory_once(rt: HostRuntime) -> Result<(), Fail> {
+    let heap = LocalHeap::new(rt.alloc(), 16384)?;
+    let mut block = BlockState::of(&heap, BlockBytes::zeros(&heap)?);
+    block.lay(PatchNo(0), 0, &[1; 500], &[], false)?;
+    block.lay(PatchNo(1), 400, &[2; 500], &[], false)?;
+    let apart = heap.used();
+    assert!(rt; block.joint(PatchNo(1), PatchNo(0))?.is_some());
+    assert_eq!(rt; heap.used(), apart);
+    let joint = block.joint(PatchNo(0), PatchNo(1))?;
+    let drawn = heap.used();
+    block.join_by(joint);
+    assert!(rt; apart < drawn && heap.used() < drawn);
+    assert_eq!(rt; block.take(PatchNo(0)), Ok(()));
+    assert_eq!(rt; &block.bytes()[399..401], [0, 0].as_slice());
+    Ok(())
+}
+
+#[test]
+fn no_joint_of_one_class(rt: HostRuntime) -> Result<(), Fail> {
+    let alloc = rt.alloc();
+    let mut block = BlockState::of(alloc, BlockBytes::zeros(alloc)?);
+    block.lay(PatchNo(0), 0, &[1, 2], &[], false)?;
+    block.lay(PatchNo(1), 2, &[3], &[], false)?;
+    assert!(rt; block.joint(PatchNo(0), PatchNo(0))?.is_none());
+    assert!(rt; block.joint(PatchNo(0), PatchNo(7))?.is_none());
+    assert!(rt; block.joint(PatchNo(7), PatchNo(0))?.is_none());
+    block.join_by(None);
+    assert_eq!(rt; block.take(PatchNo(0)), Ok(()));
+    block.put_all_back();
+    let joint = block.joint(PatchNo(0), PatchNo(1))?;
+    block.unlay();
+    block.join_by(joint);
+    assert_eq!(rt; &block.cached()[..3], [1, 2, 0].as_slice());
+    Ok(())
+}
+
+#[test]
 fn a_view_is_put_right(rt: HostRuntime) -> Result<(), Fail> {
     let alloc = rt.alloc();
     let mut block = BlockState::of(alloc, BlockBytes::zeros(alloc)?);
@@ -422,9 +480,19 @@ fn spans_are_exchanged(rt: HostRuntime) {
     assert_eq!(rt; (buffer, saved), ([1, 8, 9, 4], [2, 3]));
 }
 
+/// Makes the first two patches one, at once or in two steps.
+fn merge(block: &mut BlockState<&LocalHeap>, at_once: bool) -> Result<(), OutOfMemory> {
+    if at_once {
+        return block.join(PatchNo(0), PatchNo(1));
+    }
+    let joint = block.joint(PatchNo(0), PatchNo(1))?;
+    block.join_by(joint);
+    Ok(())
+}
+
 /// Lays two patches and makes them one, in a heap of this size. It tells whether all was done: after a refusal the block
 /// shows what it showed before.
-fn grow(rt: &impl Abort, heap: &LocalHeap) -> Result<bool, Fail> {
+fn grow(rt: &impl Abort, heap: &LocalHeap, at_once: bool) -> Result<bool, Fail> {
     let Ok(first) = BlockBytes::zeros(heap) else {
         return Ok(false);
     };
@@ -443,7 +511,7 @@ fn grow(rt: &impl Abort, heap: &LocalHeap) -> Result<bool, Fail> {
         assert_eq!(rt; block.take(PatchNo(0)), Ok(()));
         return Ok(false);
     }
-    if block.join(PatchNo(0), PatchNo(1)).is_err() {
+    if merge(&mut block, at_once).is_err() {
         assert_eq!(rt; &block.cached()[..4], [1, 2, 4, 5].as_slice());
         assert_eq!(rt;
             block.take(PatchNo(0)),
@@ -456,13 +524,12 @@ fn grow(rt: &impl Abort, heap: &LocalHeap) -> Result<bool, Fail> {
     Ok(true)
 }
 
-#[test]
-fn each_allocation_refused_in_turn(rt: HostRuntime) -> Result<(), Fail> {
+fn grow_from_nothing(rt: &impl Abort, alloc: Global, at_once: bool) -> Result<(), Fail> {
     let mut refused = 0u32;
     let mut done = false;
     for size in 0..600usize {
-        let heap = LocalHeap::new(rt.alloc(), 4096 + size * 16)?;
-        if grow(&rt, &heap)? {
+        let heap = LocalHeap::new(alloc, 4096 + size * 16)?;
+        if grow(rt, &heap, at_once)? {
             done = true;
             break;
         }
@@ -471,4 +538,10 @@ fn each_allocation_refused_in_turn(rt: HostRuntime) -> Result<(), Fail> {
     assert!(rt; done);
     assert!(rt; refused > 8, "refused {refused}");
     Ok(())
+}
+
+#[test]
+fn each_allocation_refused_in_turn(rt: HostRuntime) -> Result<(), Fail> {
+    grow_from_nothing(&rt, rt.alloc(), true)?;
+    grow_from_nothing(&rt, rt.alloc(), false)
 }
