@@ -1,5 +1,5 @@
 //! Walks through the calls, and each allocation refused in turn.
-use crate::{Added, Graph};
+use crate::{Added, Graph, LiveClass};
 use linked_list_allocator::LocalHeap;
 use patch_model::{BlockNo, MAX_PATCHES, Mark, OutOfMemory, PatchNo, Undo};
 use std::alloc::{Allocator, Global};
@@ -100,6 +100,41 @@ fn send(graph: &mut Graph, block: u32) {
 
 fn complete(graph: &mut Graph, block: u32) {
     graph.mark_durable(BlockNo(block));
+}
+
+// What is shown of a live class, also of a merged one and of one in flight.
+#[test]
+fn a_live_class_is_shown(rt: HostRuntime) -> Result<(), Fail> {
+    let asks = [
+        ask_for(3, 10, 14, None),
+        ask_for(3, 14, 20, None),
+        Ask {
+            block: 3,
+            start: 30,
+            stop: 31,
+            after: None,
+            drops: true,
+        },
+    ];
+    let mut graph = graph_of(&rt, rt.alloc(), &asks)?;
+    merge(&rt, &mut graph, 1, 0, 0)?;
+    let mut merged = LiveClass {
+        name: PatchNo(0),
+        block: BlockNo(3),
+        mark: Mark::Memory,
+        hard: false,
+        start: 10,
+        stop: 20,
+    };
+    assert_eq!(rt; graph.live_class(PatchNo(1)), Some(merged));
+    assert_eq!(rt; graph.live_class(PatchNo(2)).map(|class| class.hard), Some(true));
+    assert_eq!(rt; graph.live_class(PatchNo(3)), None);
+    send(&mut graph, 3);
+    merged.mark = Mark::Flight;
+    assert_eq!(rt; graph.live_class(PatchNo(0)), Some(merged));
+    complete(&mut graph, 3);
+    assert_eq!(rt; graph.live_class(PatchNo(0)), None);
+    Ok(())
 }
 
 // To and fro across two blocks: what is in flight, on either block, is not met.
