@@ -1,0 +1,30 @@
+use Rattle.std.proofs.Common.{◌∙◌, inl, inr, length, refl, sym, ap, subst}
+use Rattle.patch_model.specs.State.{entries_of}
+use Rattle.patch_model.specs.Refusing.{why_not_made}
+use Rattle.patch_cache.specs.Contents.{Contents}
+use Rattle.patch_cache.specs.Meaning.{Represents}
+use Rattle.patch_cache.specs.Asks.{Made, unless}
+use Rattle.patch_cache.proofs.GivingUp.{refused}
+use Rattle.patch_cache.proofs.caches.Cache.answer_create.Goals as goal
+
+pub returns-in-Ok : goal.returns-in-Ok
+returns-in-Ok g c run r =
+    let a = c.args in
+    let made = c.in-Ok.ensures.made run r in
+    record {
+      right = inl (ap Made made.1 ∙ sym (ap (λ why. unless why (Made (length (entries_of run)))) made.0));
+      cache_is = made.2;
+    }
+
+pub returns-in-Err : goal.returns-in-Err
+returns-in-Err g c run r =
+    let a = c.args in
+    let why = why_not_made (length run.first) (entries_of run) a.block a.start a.bytes.now a.after.now in
+    let same : Represents c.create.new.self run = subst (λ (x : Contents). Represents x run) (sym c.in-Err.ensures.refused) r in
+    elim (refused why _ _ (Made (length (entries_of run))) c.from.ensures (c.in-Err.ensures.cause run r)) [
+      | inl is ↦ record { right = inl is; cache_is = same }
+      | inr none ↦ record {
+        right = inr (record { done = Made (length (entries_of run)); right = sym (ap (λ w. unless w (Made (length (entries_of run)))) none.0); not_refused = refl; gives_up = inl none.1 });
+        cache_is = same;
+      }
+    ]

@@ -1,0 +1,84 @@
+use Rattle.std.proofs.Common.{◌≡◌, ◌<◌, ◌+◌, ◌∙◌, ℕ, List, [], Some, ◌-◌, ◌^◌, min, length, get_or, map, refl, sym, ap, subst, arith}
+use Rattle.std.specs.Prelude.{count_by, ◌==◌}
+use Rattle.std.proofs.lemmas.List.{get_or_read_under}
+use Rattle.patch_model.specs.declared.patches.Mark.TheVariants.{Flight}
+use Rattle.patch_model.specs.Entry.{Entry, is_live, is_among}
+use Rattle.patch_model.specs.Execution.{Execution, extended}
+use Rattle.patch_model.specs.History.{History, HoldsDependents, history_of, image, without}
+use Rattle.patch_model.specs.Legal.{IsLegal, IsLegalStep}
+use Rattle.patch_model.specs.Member.{In, filter-In, Contains-from_In}
+use Rattle.patch_model.specs.Orderly.{IsOrderly}
+use Rattle.patch_model.specs.Ready.{has, ready}
+use Rattle.patch_model.specs.State.{state_of, entries_of, after_step, sent, own_names, numbers_of, flying_of}
+use Rattle.patch_model.specs.Step.{Send}
+use Rattle.patch_view.specs.History.{undoable_classes}
+use Rattle.patch_view.specs.Meaning.{Represents as IsBlockOf}
+use Rattle.patch_graph.specs.Meaning.{Represents as IsGraphOf}
+use Rattle.patch_cache.specs.Contents.{Contents, no_block}
+use Rattle.patch_cache.specs.Marking.{AreOfLive, MayDepart}
+use Rattle.patch_cache.specs.Meaning.{Represents, IsWriteOf}
+use Rattle.patch_cache.proofs.Apart.{ready_live, ready_departs}
+use Rattle.patch_cache.proofs.Marking.{marked}
+use Rattle.patch_cache.proofs.Writing.{IsStepOf, stepped, sent_here, sent_other}
+use Rattle.patch_cache.proofs.caches.Cache.begin.Goals as goal
+
+pub returns-clause-answer : goal.returns-clause-answer
+returns-clause-answer g c = λ run at why numbers.
+    let block : ℕ = c.args.block in
+    let all : List Entry = entries_of run in
+    let set : List Entry = ready all block in
+    let names : List ℕ = own_names all (numbers_of set) in
+    let next : Execution = extended run (Send block) in
+    let h : History = history_of run block in
+    let after : History = history_of next block in
+    let lawful : (block < length run.first) × IsLegalStep (length run.first) (state_of run) (Send block) = (c.near_classes_merge.ensures.sent run block).0 why in
+    let legal : IsLegal next = c.steps_extend.ensures.legal run (Send block) at.legal lawful.1 in
+    let state : state_of next ≡ after_step (state_of run) (Send block) = c.steps_extend.ensures.state run (Send block) in
+    let entries : entries_of next ≡ map (sent set) all = ap (λ st. st.entries) state in
+    let seen = subst (λ (v : Contents). Represents v run) (sym c.self.view_is) at in
+    let rising = (c.classes_have_names.ensures.apart run block at.legal).0 in
+    let largest = c.ready_is_largest.ensures.largest run block in
+    let place : c.block.inside.0 ≡ block = c.block.view_is in
+    let within : c.block.inside.0 < c.self.inside.blocks.len = let known = lawful.0 in let count = seen.count in let long = c.self.inside.blocks.ok.0 in omega arith in
+    let found : c.index_mut-state.result.now ≡ get_or c.self.inside.blocks.items block no_block =
+    get_or_read_under c.self.inside.blocks.items c.block.inside.0 c.self.inside.blocks.len c.index_mut-state.result.now no_block c.index_mut-state.ensures.value within c.self.inside.blocks.ok.0
+    ∙ ap (λ (i : ℕ). get_or c.self.inside.blocks.items i no_block) place in
+    let here : IsBlockOf c.index_mut-state.result.now [] h = subst (λ z. IsBlockOf z [] h) (sym found) (seen.blocks block lawful.0) in
+    let slice : c.as_slice-2.result.now ≡ numbers_of set = c.as_slice-2.ensures.value ∙ numbers in
+    let live : AreOfLive all c.as_slice-2.result.now = subst (AreOfLive all) (sym slice) (ready_live all block largest) in
+    let may : MayDepart h (own_names all c.as_slice-2.result.now) = subst (λ ns. MayDepart h (own_names all ns)) (sym slice)
+    (ready_departs all block h.first (c.executions_are_orderly.ensures.patches run at.legal) (c.executions_are_orderly.ensures.numbered run) largest rising) in
+    let met : (e : Entry) → In h.entries e → is_among names e.class ≡ has set e =
+    λ e i. c.classes_have_names.ensures.ready run block e at.legal (Contains-from_In all e (filter-In (λ f. f.patch.block == block) all e i).0) in
+    let gone : marked Flight h (own_names all c.as_slice-2.result.now) ≡ after =
+    ap (λ ns. marked Flight h (own_names all ns)) slice ∙ c.class_by_class.ensures.departed h names set met ∙ sym (c.steps_on_a_block.ensures.send run block block) in
+    let flies : IsBlockOf c.depart_each.new.state [] after = subst (IsBlockOf c.depart_each.new.state []) gone (c.depart_each.ensures h all here seen.graph live may) in
+    let holds : HoldsDependents after (undoable_classes after) × (without after (undoable_classes after) ≡ image after) =
+    c.image_is_without.ensures.send run block
+    (c.blocks_are_coherent.ensures.coherent h block (c.executions_are_orderly.ensures.blocks run block at.legal lawful.0))
+    (c.blocks_are_coherent.ensures.coherent after block (c.executions_are_orderly.ensures.blocks next block legal lawful.0))
+    (c.sends_leave.ensures.holds run block at.legal lawful.1.0) in
+    let restored : IsBlockOf c.copy_image.new.state [] after = c.copy_image.ensures.restored after flies holds.0 in
+    let copied : c.from_vec-2.result ≡ image after = c.from_vec-2.ensures ∙ c.copy_image.ensures.copied after flies holds.0 ∙ holds.1 in
+    let graph : IsGraphOf c.mark_flight.new.self (entries_of next) = subst (IsGraphOf c.mark_flight.new.self) (sym entries)
+    (c.mark_flight.ensures.answer all seen.graph (subst IsOrderly entries (c.executions_are_orderly.ensures.patches next legal))) in
+    let sends : c.saturating_add-self-inside.result ≡ (state_of next).sends =
+    let sum : c.saturating_add-self-inside.result ≡ min (c.self.inside.sends + 1) (2 ^ 32 - 1) = c.saturating_add-self-inside.ensures in
+    let one : (state_of next).sends ≡ (state_of run).sends + 1 = ap (λ st. st.sends) state in
+    let before : c.self.inside.sends ≡ (state_of run).sends = seen.sends in
+    let limit = c.executions_are_limited.ensures.sends run at.legal in omega arith in
+    let counted : c.self.inside.live ≡ count_by is_live (entries_of next) = seen.live ∙ sym (c.live_are_counted.ensures.sent run block) in
+    let noted : c.from_vec-noted.result ≡ numbers_of (flying_of (entries_of next) block) =
+    c.from_vec-noted.ensures ∙ c.in_ok-from_slice.ensures.items ∙ c.as_slice.ensures.value ∙ numbers ∙ sym (c.flights_are_ready.ensures.sent run block at.legal lawful.1.0) in
+    let write : IsWriteOf next block (Some (record { number = c.self.inside.sends; numbers = c.from_vec-noted.result })) =
+    sent_here run block c.self.inside.sends c.from_vec-noted.result state seen.sends noted in
+    let is : IsStepOf run (Send block) block = record {
+      known = lawful.0;
+      legal = legal;
+      others = λ other differ. c.steps_change_blocks.ensures.sent_elsewhere run block other differ;
+      writes = λ other w differ. sent_other run block other w state differ (c.flights_are_ready.ensures.sent_elsewhere run block other (λ e. differ (sym e)));
+    } in (
+      record { block_is = refl; number_is = seen.sends; numbers_are = c.from_vec.ensures ∙ numbers; image_is = copied },
+      stepped run (Send block) _ c.block.inside.0 block c.copy_image.new.state _ c.mark_flight.new.self c.saturating_add-self-inside.result c.self.inside.live _
+          c.block.view_is seen c.self.invariant.0 is restored write graph sends counted,
+    )

@@ -1,0 +1,52 @@
+use Rattle.std.proofs.Common.{◌≡◌, ◌∙◌, ℕ, List, [], None, Ok, length, inl, sym, ap}
+use Rattle.patch_model.specs.Execution.{Execution}
+use Rattle.patch_model.specs.History.{history_of, without, cached}
+use Rattle.patch_model.specs.Refusing.{why_not_shown}
+use Rattle.patch_cache.specs.Asks.{Seen, unless, seen}
+use Rattle.patch_cache.specs.Viewing.{with_moves, bytes_at}
+use Rattle.patch_cache.specs.declared.asks.Move.{Move}
+use Rattle.patch_cache.proofs.Showing.{none_yet, its_own_view}
+use Rattle.patch_cache.proofs.caches.Cache.look.Goals as goal
+
+shown : (run : Execution) (block : ℕ) (moves : List Move) (start len : ℕ) (names rest all : List ℕ) → why_not_shown (length run.first) block start len ≡ None
+    → with_moves run block [] moves ≡ Ok names → rest ≡ bytes_at (without (history_of run block) names) start len → all ≡ bytes_at (cached (history_of run block)) start len
+    → Seen rest all ≡ unless (why_not_shown (length run.first) block start len) (seen run block start len (with_moves run block [] moves))
+shown run block moves start len names rest all none moved is_rest is_all =
+    ap (λ x. Seen x all) is_rest ∙ ap (Seen (bytes_at (without (history_of run block) names) start len)) is_all
+    ∙ sym (ap (λ w. unless w (seen run block start len (with_moves run block [] moves))) none ∙ ap (seen run block start len) moved)
+
+pub returns-in-Err-clause-restored : goal.returns-in-Err-clause-restored
+returns-in-Err-clause-restored g c = λ run at.
+    let stands = c.without-without.ensures.stands run at in c.restore_of.ensures.answer run stands.0 stands.1
+
+pub returns-in-Ok-copied-clause-answer : goal.returns-in-Ok-copied-clause-answer
+returns-in-Ok-copied-clause-answer g c = λ run at.
+    let stands = c.without-without.ensures.stands run at in
+    let back = c.restore_of.ensures.answer run stands.0 stands.1 in
+    let moved = c.in-Ok.ensures.answer run at in
+    let cause = c.in_default.ensures.cause run at in
+    inl (shown run c.args.block c.args.moves.now c.args.start c.args.len moved.0 _ _ (sym cause) moved.1 moved.2
+    (c.in-Ok-copied.ensures.bytes run [] (none_yet c.restore_of.new.self c.args.block run back)))
+
+pub returns-in-Ok-copied-clause-restored : goal.returns-in-Ok-copied-clause-restored
+returns-in-Ok-copied-clause-restored g c = λ run at.
+    let stands = c.without-without.ensures.stands run at in c.restore_of.ensures.answer run stands.0 stands.1
+
+pub returns-in-Err-copied-clause-restored : goal.returns-in-Err-copied-clause-restored
+returns-in-Err-copied-clause-restored g c = λ run at.
+    let stands = c.without-without.ensures.stands run at in c.restore_of.ensures.answer run stands.0 stands.1
+
+pub returns-in-Err-clause-same : goal.returns-in-Err-clause-same
+returns-in-Err-clause-same g c = λ run at.
+    let stands = c.without-without.ensures.stands run at in
+    c.restore_of.ensures.as_before run stands.0 c.args.self.now stands.1 at (c.without-without.ensures.view c.args.self.now (its_own_view c.args.self.now c.args.block))
+
+pub returns-in-Ok-copied-clause-same : goal.returns-in-Ok-copied-clause-same
+returns-in-Ok-copied-clause-same g c = λ run at.
+    let stands = c.without-without.ensures.stands run at in
+    c.restore_of.ensures.as_before run stands.0 c.args.self.now stands.1 at (c.without-without.ensures.view c.args.self.now (its_own_view c.args.self.now c.args.block))
+
+pub returns-in-Err-copied-clause-same : goal.returns-in-Err-copied-clause-same
+returns-in-Err-copied-clause-same g c = λ run at.
+    let stands = c.without-without.ensures.stands run at in
+    c.restore_of.ensures.as_before run stands.0 c.args.self.now stands.1 at (c.without-without.ensures.view c.args.self.now (its_own_view c.args.self.now c.args.block))

@@ -1,0 +1,39 @@
+use Rattle.std.proofs.Common.{◌∙◌, List, map, length, refl, sym, ap, subst, arith}
+use Rattle.patch_model.specs.Step.{Step, Create}
+use Rattle.patch_model.specs.StepOf.{step_of}
+use Rattle.patch_model.specs.Entry.{Entry}
+use Rattle.patch_model.specs.State.{entries_of}
+use Rattle.patch_model.specs.Legal.{IsLegalCreate}
+use Rattle.patch_cache.specs.Contents.{Contents}
+use Rattle.patch_cache.specs.Meaning.{Represents}
+use Rattle.patch_cache.proofs.Stepping.{StepsOn, stepped, lent, put_back, unchanged, on_err}
+use Rattle.patch_cache.proofs.caches.Cache.make.Goals as goal
+
+pub returns-in_err-reserve-clause-refused : goal.returns-in_err-reserve-clause-refused
+returns-in_err-reserve-clause-refused g c = on_err _ (unchanged _ _ _ _ refl refl (ap (map step_of) c.reserve.ensures.items) ∙ c.self.view_is)
+
+pub returns-in_err-no-clause-refused : goal.returns-in_err-no-clause-refused
+returns-in_err-no-clause-refused g c =
+    let same = put_back _ _ _ _ c.in_err-no.ensures.refused.0 c.index_mut-state.ensures.value in
+    on_err _ (unchanged _ _ _ _ same c.in_err-no.ensures.refused.1 (ap (map step_of) c.reserve.ensures.items) ∙ c.self.view_is)
+
+pub returns-clause-answer : goal.returns-clause-answer
+returns-clause-answer g c = λ run at why.
+    let a = c.args in
+    let all : List Entry = entries_of run in
+    let step : Step = Create a.block a.start a.bytes.now a.after.now a.undo in
+    let lawful : IsLegalCreate (length run.first) all a.block a.start a.bytes.now a.after.now =
+    (c.legal_patches_are_made.ensures (length run.first) a.block a.start all a.bytes.now a.after.now).0 why in
+    let on : StepsOn run step a.block = record {
+      legal = c.steps_extend.ensures.legal run step at.legal lawful;
+      flights = ap (λ st. st.flights) (c.steps_extend.ensures.state run step);
+      sends = ap (λ st. st.sends) (c.steps_extend.ensures.state run step);
+      flying = λ b. c.flights_are_ready.ensures.made run a.block a.start a.bytes.now a.after.now a.undo b;
+      elsewhere = λ b other. c.steps_change_blocks.ensures.made_elsewhere run a.block a.start a.bytes.now a.after.now a.undo b other;
+    } in
+    let seen = subst (λ (s : Contents). Represents s run) (sym c.self.view_is) at in
+    let here = lent _ a.block c.block.inside.0 _ run c.block.view_is c.index_mut-state.ensures.value seen lawful.known in
+    let made = c.in_ok-no.ensures.answer run at.legal here seen.graph lawful in
+    let one = c.live_are_counted.ensures.made run a.block a.start a.bytes.now a.after.now a.undo in
+    let live = seen.live in
+    (made.number, stepped _ run step a.block c.block.inside.0 _ _ _ _ c.block.view_is seen on lawful.known made.on_block made.in_graph (omega (arith, one, live)))

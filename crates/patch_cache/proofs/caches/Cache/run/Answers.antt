@@ -1,0 +1,74 @@
+use Rattle.std.proofs.Common.{◌≡◌, ◌∙◌, ◌<◌, ◌++◌, ◌∷◌, inl, inr, [], length, map, get_or, ◌+◌, refl, sym, ap, subst, arith}
+use Rattle.std.proofs.lemmas.List.{length-append, map-append}
+use Rattle.patch_model.specs.Execution.{Execution}
+use Rattle.patch_cache.specs.Asks.{ask_of, answer_of, after_all}
+use Rattle.patch_cache.specs.Running.{HasFault, IsCrashSafe}
+use Rattle.patch_cache.proofs.Asking.{all_first, risen_more, risen_before, among_more}
+use Rattle.patch_cache.proofs.Crashing.{unmoved, joined_ask}
+use Rattle.patch_cache.proofs.Runs.{begun, stepped, no_fault, after_begun}
+use Rattle.patch_cache.proofs.caches.Cache.run.Goals as goal
+
+pub loop-ask-init : goal.loop-ask-init
+loop-ask-init g c =
+    let device = g.D.Device in
+    let asks = map ask_of c.args.asks.now in
+    let none : c.new-answers.result.items ≡ [] = c.new-answers.ensures.items in
+    record {
+      many = ap length none;
+      honesty = (λ h. h, λ h. h);
+      count = refl;
+      faults = omega arith;
+      so_far = λ run r count. rw none (begun run asks _ _ r);
+      fault = λ run r count fault. absurd (no_fault (subst (λ answers. HasFault (map answer_of answers)) none fault));
+      crash = λ run r count honest left.
+          rw none (subst (λ now. IsCrashSafe run now (device.had c.args.device.now) (device.had c.args.device.now) (device.contents c.args.device.now)) (sym (after_begun run asks)) (unmoved run _ _ left));
+    }
+
+pub loop-ask-preserved : goal.loop-ask-preserved
+loop-ask-preserved g c =
+    let device = g.D.Device in
+    let before = c.loop-ask.invariant in
+    let asks = c.args.asks.now in
+    let answers = c.loop-ask.answers.items in
+    let answer = c.answer-answer.result in
+    let old = c.args.device.now in
+    let now = c.loop-ask.device in
+    let next = c.answer-answer.new.device in
+    let told = c.answer-answer.ensures in
+    let at : length answers ≡ c.loop-ask.ask-index = before.many in
+    let pushed : c.push_reserved.new.self.items ≡ answers ++ answer ∷ [] = c.push_reserved.ensures.items ∙ ap (λ xs. xs ++ answer ∷ []) c.reserve.ensures.items in
+    let within : length answers < length asks = omega (arith, at, c.loop-ask-test.true) in
+    let item = ap (λ n. get_or asks n c.ask-item.result) at ∙ sym c.ask-item.is in
+    let so_far : Execution → Execution = λ run. after_all run (map ask_of asks) (map answer_of answers) in
+    let fits : (run : Execution) → device.block_count old ≡ length run.first → device.block_count now ≡ length (so_far run).first = λ run count.
+    before.count ∙ count ∙ ap length (sym (all_first run (map ask_of asks) (map answer_of answers))) in
+    record {
+      many = ap length pushed ∙ length-append answers (answer ∷ []) ∙ ap (λ n. n + 1) at;
+      honesty = (λ h. told.honesty.0 (before.honesty.0 h), λ h. before.honesty.1 (told.honesty.1 h));
+      count = told.count ∙ before.count;
+      faults = let a = before.faults in let b = told.faults in omega (arith, a, b);
+      so_far = λ run r count.
+          let done = before.so_far run r count in
+          rw pushed (stepped run asks answers c.ask-item.result answer _ _ _ _ within item done (told.answer (so_far run) done.runs (fits run count))).0;
+      fault = λ run r count fault.
+          let done = before.so_far run r count in
+          let either = among_more (map answer_of answers) (answer_of answer) _ (subst HasFault (ap (map answer_of) pushed ∙ map-append answer_of answers (answer ∷ [])) fault) in
+          elim either [
+            | inl early ↦ risen_more _ _ _ (before.fault run r count early) told.faults (g.met.D.Device.faults_fit next)
+            | inr late ↦ risen_before _ _ _ before.faults (told.fault (so_far run) done.runs (fits run count) late) (g.met.D.Device.faults_fit now)
+          ];
+      crash = λ run r count honest left.
+          let done = before.so_far run r count in
+          let goes = (stepped run asks answers c.ask-item.result answer _ _ _ _ within item done (told.answer (so_far run) done.runs (fits run count))).1 in
+          let safe = before.crash run r count honest left in
+          let one = told.crash (so_far run) done.runs (fits run count) (before.honesty.0 honest) safe.left in
+          rw pushed (subst (λ last. IsCrashSafe run last (device.had old) (device.had next) (device.contents next)) (sym goes)
+          (joined_ask c.trails_join.ensures run (so_far run) (ask_of c.ask-item.result) (answer_of answer) _ _ _ _ _ safe one));
+    }
+
+pub returns-in-Err-clause-fault : goal.returns-in-Err-clause-fault
+returns-in-Err-clause-fault g c run r count fault =
+    c.loop-ask.invariant.fault run r count (subst (λ xs. HasFault (map answer_of xs)) c.reserve.ensures.items fault)
+
+pub returns-in-Err-clause-crash : goal.returns-in-Err-clause-crash
+returns-in-Err-clause-crash g c run r count honest left = rw c.reserve.ensures.items (c.loop-ask.invariant.crash run r count honest left)

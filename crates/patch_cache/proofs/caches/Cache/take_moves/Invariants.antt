@@ -1,0 +1,16 @@
+use Rattle.std.proofs.Common.{◌≡◌, ℕ, List, drop, length}
+use Rattle.patch_model.specs.Execution.{Execution}
+use Rattle.patch_cache.specs.Contents.{Contents}
+use Rattle.patch_cache.specs.Meaning.{ShowsWithout}
+use Rattle.patch_cache.specs.Viewing.{with_moves, IsViewOf}
+use Rattle.patch_cache.proofs.caches.Cache.take_moves.Given as goal
+
+-- what is left to do gives what all of it gives
+abbrev pub invariant-loop-step : goal.invariant-loop-step
+invariant-loop-step g l = record {
+  count : length l.self.blocks ≡ length l.fn.self.blocks;
+  trace : l.self.trace ≡ l.fn.self.trace;
+  view : (before : Contents) → IsViewOf before l.block l.fn.self → IsViewOf before l.block l.self;
+  so_far : (run : Execution) (names : List ℕ) → ShowsWithout l.fn.self l.block names run
+      → (now : List ℕ) × (with_moves run l.block names l.moves ≡ with_moves run l.block now (drop l.step-index l.moves)) × ShowsWithout l.self l.block now run;
+}

@@ -1,0 +1,16 @@
+use Rattle.std.proofs.Common.{◌∙◌, ◌++◌, ◌∷◌, [], ap, sym, subst, append_assoc}
+use Rattle.patch_cache.specs.Opening.{AreUnpatched}
+use Rattle.patch_cache.proofs.Opening.{one_more}
+use Rattle.patch_cache.proofs.caches.unpatched.Goals as goal
+
+pub loop-block-preserved : goal.loop-block-preserved
+loop-block-preserved g c =
+    let before = c.loop-block.invariant.2 in (
+      tt,
+      tt,
+      (
+        before.0 ++ c.in-Some.block ∷ [],
+        append_assoc before.0 (c.in-Some.block ∷ []) _ ∙ ap (λ xs. before.0 ++ xs) (sym c.in-Some.ensures.steps.0) ∙ before.1,
+        subst (λ xs. AreUnpatched xs (before.0 ++ c.in-Some.block ∷ [])) (sym c.in_ok-push.ensures.items) (one_more _ before.0 _ c.in-Some.block before.2 c.of.ensures),
+      ),
+    )

@@ -1,0 +1,34 @@
+-- Writes on their way to the disk.
+use Rattle.std.specs.Prelude.{ℕ, ◌≡◌, List, Option, Some, None, Contains, slice_get, slice_set, IsTrue}
+use Rattle.patch_model.specs.Execution.{Execution, extended}
+use Rattle.patch_model.specs.Step.{Send}
+use Rattle.patch_model.specs.Ready.{ready}
+use Rattle.patch_model.specs.State.{entries_of, state_of, has_flight, flying_of, numbers_of}
+use Rattle.patch_model.specs.History.{history_of, image}
+use Rattle.patch_model.specs.Member.{In}
+use Rattle.patch_cache.specs.Contents.{Write}
+use Rattle.patch_cache.specs.declared.writes.Flight.{Flight}
+
+-- the write of the block that begins next: how many began before it, all that is ready, and the block's image with it
+pub record IsSent {A : Type 0} (run : Execution) (block : ℕ) (flight : Flight A) : Type 0 where
+  pub block_is : flight.block ≡ block
+  pub number_is : flight.number ≡ (state_of run).sends
+  pub numbers_are : flight.numbers ≡ numbers_of (ready (entries_of run) block)
+  pub image_is : flight.image ≡ image (history_of (extended run (Send block)) block)
+
+-- a write that was begun and not completed, with what is in flight of its block, and the block's image
+pub record IsFlightOf {A : Type 0} (run : Execution) (flight : Flight A) : Type 0 where
+  pub known : Contains (state_of run).flights (flight.block, flight.number)
+  pub numbers_are : flight.numbers ≡ numbers_of (flying_of (entries_of run) flight.block)
+  pub image_is : flight.image ≡ image (history_of run flight.block)
+
+-- these are all the writes of the execution that were begun and not completed, each once
+pub record AreFlightsOf {A : Type 0} (run : Execution) (held : List (Flight A)) : Type 0 where
+  pub each : (flight : Flight A) → In held flight → IsFlightOf run flight
+  pub all : (block : ℕ) → IsTrue (has_flight (state_of run) block) → (flight : Flight A) × In held flight × (flight.block ≡ block)
+  pub once : (i j : ℕ) (f g : Flight A) → slice_get held i ≡ Some f → slice_get held j ≡ Some g → f.block ≡ g.block → i ≡ j
+
+-- the block's write, if it has this number, was taken out of the writes
+abbrev pub IsWithdrawn : List (Option Write) → ℕ → ℕ → Option Write → List (Option Write) → Type 0
+IsWithdrawn old block number None new = (new ≡ old) × ((write : Write) → slice_get old block ≡ Some (Some write) → write.number ≡ number → ⊥)
+IsWithdrawn old block number (Some write) new = (slice_get old block ≡ Some (Some write)) × (write.number ≡ number) × (new ≡ slice_set old block None)

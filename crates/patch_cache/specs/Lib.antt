@@ -1,0 +1,14 @@
+pub mod Contents
+pub mod Meaning
+pub mod Opening
+pub mod Refusals
+pub mod Marking
+pub mod Flights
+pub mod Viewing
+pub mod Lending
+pub mod Asks
+pub mod Looking
+pub mod Running
+pub mod Promise
+pub mod Creating
+pub mod Merging

@@ -1,0 +1,41 @@
+-- The promise, by the definitions of executions alone.
+use Rattle.std.specs.Prelude.{ℕ, ◌≡◌, not, IsFalse, List, [], map, filter, fold}
+use Rattle.patch_model.specs.Pile.{pile}
+use Rattle.patch_model.specs.Execution.{Execution, extended}
+use Rattle.patch_model.specs.Step.{Send}
+use Rattle.patch_model.specs.Entry.{is_memory, is_among}
+use Rattle.patch_model.specs.State.{entries_of, state_of, has_flight}
+use Rattle.patch_model.specs.History.{Move, history_of, moved, IsPermitted, HoldsDependents, without, cached, image}
+use Rattle.patch_model.specs.Legal.{IsLegal}
+use Rattle.patch_model.specs.Crash.{IsClosed, AreWhole, crash_set}
+
+-- the names that are taken after the moves
+abbrev pub taken_by : List Move → List ℕ
+taken_by moves = fold moved [] moves
+
+-- In any permitted order, each taken set holds its dependents; what it leaves is the block's other patches over its first
+-- bytes, whichever order led to it; and with all put back it is the cached block.
+abbrev pub TakingBack : Type 0
+TakingBack =
+    (run : Execution) (block : ℕ) (moves : List Move)
+    → IsLegal run → IsPermitted (history_of run block) [] moves
+    → let h = history_of run block in
+    (HoldsDependents h (taken_by moves))
+    × (without h (taken_by moves) ≡ pile h.first (map (λ e. e.patch) (filter (λ e. not (is_among (taken_by moves) e.class)) h.entries)))
+    × ((others : List Move) → IsPermitted h [] others → ((n : ℕ) → is_among (taken_by others) n ≡ is_among (taken_by moves) n)
+    → without h (taken_by others) ≡ without h (taken_by moves))
+    × (taken_by moves ≡ [] → without h (taken_by moves) ≡ cached h)
+
+-- the image sent is the pile, over the first bytes, of the block's patches that are durable or in flight once it is sent
+abbrev pub ImagesSent : Type 0
+ImagesSent =
+    (run : Execution) (block : ℕ)
+    → IsLegal run → IsFalse (has_flight (state_of run) block)
+    → let h = history_of (extended run (Send block)) block in
+    image h ≡ pile h.first (map (λ e. e.patch) (filter (λ e. not (is_memory e)) h.entries))
+
+-- what a crash can leave holds each patch that one of it depends on, and is made of whole classes
+abbrev pub CrashesClosed : Type 0
+CrashesClosed =
+    (run : Execution) (landed : List ℕ)
+    → IsLegal run → IsClosed (entries_of run) (crash_set landed) × AreWhole (entries_of run) (crash_set landed)

@@ -1,0 +1,88 @@
+-- What the refusals of a cache tell.
+use Rattle.std.specs.Prelude.{ℕ, ◌≡◌, List, Option, Some, None}
+use Rattle.patch_model.specs.declared.refusals.RefusalKind.TheVariants as kind
+use Rattle.patch_model.specs.Entry.{Entry}
+use Rattle.patch_model.specs.Legal.{IsLegalMerge}
+use Rattle.patch_model.specs.Refusing.{Refusal as Cause, bare, with_number, why_not_near, IsLeastThird}
+use Rattle.patch_view.specs.declared.refusals.TakeRefusal.{TakeRefusal as ViewTakeRefusal}
+use Rattle.patch_view.specs.declared.refusals.TakeRefusal.TheVariants as view
+use Rattle.patch_view.specs.declared.refusals.PutBackRefusal.{PutBackRefusal}
+use Rattle.patch_view.specs.declared.refusals.PutBackRefusal.TheVariants as back
+use Rattle.patch_cache.specs.declared.refusals.Refusal.{Refusal}
+use Rattle.patch_cache.specs.declared.refusals.ReadRefusal.{ReadRefusal}
+use Rattle.patch_cache.specs.declared.refusals.ReadRefusal.TheVariants as read
+use Rattle.patch_cache.specs.declared.refusals.CreateRefusal.{CreateRefusal}
+use Rattle.patch_cache.specs.declared.refusals.CreateRefusal.TheVariants as create
+use Rattle.patch_cache.specs.declared.refusals.MergeRefusal.{MergeRefusal}
+use Rattle.patch_cache.specs.declared.refusals.MergeRefusal.TheVariants as merge
+use Rattle.patch_cache.specs.declared.refusals.SendRefusal.{SendRefusal}
+use Rattle.patch_cache.specs.declared.refusals.SendRefusal.TheVariants as send
+use Rattle.patch_cache.specs.declared.refusals.TakeRefusal.{TakeRefusal}
+use Rattle.patch_cache.specs.declared.refusals.TakeRefusal.TheVariants as take
+
+-- a refusal of an ask, by its kind and its number
+abbrev pub cause_of : Refusal → Cause
+cause_of refusal = record { kind = refusal.kind; number = refusal.number }
+
+abbrev pub read_cause : ReadRefusal → Cause
+read_cause read.NoSuchBlock = bare kind.NoSuchBlock
+read_cause read.OutOfBlock = bare kind.OutOfBlock
+
+abbrev pub create_cause : CreateRefusal → Cause
+create_cause create.NoSuchBlock = bare kind.NoSuchBlock
+create_cause create.EmptyPatch = bare kind.EmptyPatch
+create_cause create.OutOfBlock = bare kind.OutOfBlock
+create_cause create.UnknownDependency = bare kind.UnknownDependency
+create_cause create.NumbersSpent = bare kind.NumbersSpent
+create_cause create.TooManyLive = bare kind.TooManyLive
+create_cause create.OutOfMemory = bare kind.OutOfMemory
+
+abbrev pub merge_cause : MergeRefusal → Cause
+merge_cause merge.Unknown = bare kind.Unknown
+merge_cause (merge.NotInMemory n) = with_number kind.NotInMemory n
+merge_cause merge.Same = bare kind.Same
+merge_cause merge.OtherBlock = bare kind.OtherBlock
+merge_cause (merge.Hard n) = with_number kind.Hard n
+merge_cause merge.Apart = bare kind.Apart
+merge_cause (merge.WouldCycle n) = with_number kind.WouldCycle n
+merge_cause merge.OutOfMemory = bare kind.OutOfMemory
+
+abbrev pub send_cause : SendRefusal → Cause
+send_cause send.NoSuchBlock = bare kind.NoSuchBlock
+send_cause send.AlreadyInFlight = bare kind.AlreadyInFlight
+send_cause send.NothingReady = bare kind.NothingReady
+send_cause send.OutOfMemory = bare kind.OutOfMemory
+
+abbrev pub take_cause : TakeRefusal → Cause
+take_cause take.Unknown = bare kind.Unknown
+take_cause take.Durable = bare kind.Durable
+take_cause take.InFlight = bare kind.InFlight
+take_cause take.Hard = bare kind.Hard
+take_cause take.AlreadyTaken = bare kind.AlreadyTaken
+take_cause (take.DependentApplied n) = with_number kind.DependentApplied n
+
+abbrev pub view_take_cause : ViewTakeRefusal → Cause
+view_take_cause view.Unknown = bare kind.Unknown
+view_take_cause view.InFlight = bare kind.InFlight
+view_take_cause view.Hard = bare kind.Hard
+view_take_cause view.AlreadyTaken = bare kind.AlreadyTaken
+view_take_cause (view.DependentApplied n) = with_number kind.DependentApplied n
+
+abbrev pub put_back_cause : PutBackRefusal → Cause
+put_back_cause back.NotTaken = bare kind.NotTaken
+put_back_cause (back.DependencyTaken n) = with_number kind.DependencyTaken n
+
+-- the refusal has this cause; with no cause there was no memory
+abbrev pub IsCause : Option Cause → Cause → Type 0
+IsCause None refusal = refusal ≡ bare kind.OutOfMemory
+IsCause (Some cause) refusal = refusal ≡ cause
+
+-- why two classes aren't merged
+pub data IsWhyNotMerged (all : List Entry) (a b : ℕ) : Cause → Type 0 where
+  sooner : {cause : Cause} → why_not_near all a b ≡ Some cause → IsWhyNotMerged all a b cause
+  between : {n : ℕ} → why_not_near all a b ≡ None → IsLeastThird all a b n → IsWhyNotMerged all a b (with_number kind.WouldCycle n)
+
+-- the refusal of a merge has such a cause; where the merge is legal there was no memory
+pub data IsMergeCause (all : List Entry) (a b : ℕ) : Cause → Type 0 where
+  against : {cause : Cause} → IsWhyNotMerged all a b cause → IsMergeCause all a b cause
+  no_memory : IsLegalMerge all a b → IsMergeCause all a b (bare kind.OutOfMemory)

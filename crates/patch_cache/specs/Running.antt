@@ -1,0 +1,49 @@
+-- A list of asks, answered one after another.
+use Rattle.std.specs.Prelude.{ℕ, ◌≡◌, ◌⊎◌, ◌++◌, List, length, Contains}
+use Rattle.patch_model.specs.declared.refusals.RefusalKind.TheVariants as kind
+use Rattle.patch_model.specs.Execution.{Execution}
+use Rattle.patch_model.specs.Crash.{HasTrail, MayLeave}
+use Rattle.patch_model.specs.Refusing.{bare}
+use Rattle.patch_cache.specs.Contents.{Contents}
+use Rattle.patch_cache.specs.Meaning.{Represents}
+use Rattle.patch_cache.specs.Flights.{AreFlightsOf}
+use Rattle.patch_cache.specs.Asks.{Ask, Answer, Refused, IsAnswer, IsGivenUp, AreAnswers, after, after_all}
+use Rattle.patch_cache.specs.declared.writes.Flight.{Flight}
+use Rattle.patch_cache.specs.declared.flights.Flights.{Flights}
+
+-- the flights that are held
+abbrev pub held_by : {A : Type 0} → Flights A → List (Flight A)
+held_by flights = flights.held.items
+
+-- the cache represents the execution, and its flights are the held ones
+pub record Runs {A : Type 0} (cache : Contents) (flights : Flights A) (run : Execution) : Type 0 where
+  pub cache_is : Represents cache run
+  pub flights_are : AreFlightsOf run (held_by flights)
+
+-- the ask is answered right or given up, and the cache stands after its step
+pub record IsDone (run : Execution) (ask : Ask) (answer : Answer) (cache : Contents) : Type 0 where
+  pub right : IsAnswer run ask answer ⊎ IsGivenUp run ask answer
+  pub cache_is : Represents cache (after run ask answer)
+
+-- and so do the flights that are held
+pub record IsAnswered {A : Type 0} (run : Execution) (ask : Ask) (answer : Answer) (cache : Contents) (flights : Flights A) : Type 0 where
+  pub right : IsAnswer run ask answer ⊎ IsGivenUp run ask answer
+  pub runs : Runs cache flights (after run ask answer)
+
+-- Each contents that the device had on the way is a disk that a crash may leave, of the execution as it was then; and so is
+-- what it holds in the end.
+pub record IsCrashSafe (old new : Execution) (had had_now : List (List (List ℕ))) (contents : List (List ℕ)) : Type 0 where
+  pub disks : List (List (List ℕ))
+  pub counts : List ℕ
+  pub added : had_now ≡ had ++ disks
+  pub trail : HasTrail new (length old.steps) disks counts
+  pub left : MayLeave new contents
+
+-- Each ask that was answered is answered right or given up, and the cache stands after their steps.
+pub record HasRun {A : Type 0} (run : Execution) (asks : List Ask) (answers : List Answer) (cache : Contents) (flights : Flights A) : Type 0 where
+  pub right : AreAnswers run asks answers
+  pub runs : Runs cache flights (after_all run asks answers)
+
+-- some completion met a fault
+abbrev pub HasFault : List Answer → Type 0
+HasFault answers = Contains answers (Refused (bare kind.Fault))

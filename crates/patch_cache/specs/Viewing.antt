@@ -1,0 +1,64 @@
+-- What a view of one block of a cache answers.
+use Rattle.std.specs.Prelude.{ℕ, ◌≡◌, ◌+◌, ◌==◌, not, List, [], ◌∷◌, filter, slice_get, slice_range, Option, Some, None, Result, Ok, Err, if◌then◌else◌}
+use Rattle.std.specs.Borrow.{GName}
+use Rattle.patch_model.specs.declared.refusals.RefusalKind.TheVariants as kind
+use Rattle.patch_model.specs.Entry.{is_durable}
+use Rattle.patch_model.specs.Execution.{Execution}
+use Rattle.patch_model.specs.State.{entries_of}
+use Rattle.patch_model.specs.History.{history_of}
+use Rattle.patch_model.specs.Refusing.{Refusal as Cause, bare, why_not_taken, why_not_put_back, class_named}
+use Rattle.patch_view.specs.State.{outline as the_outline}
+use Rattle.patch_cache.specs.Contents.{Contents, block_at, with_block}
+use Rattle.patch_cache.specs.Meaning.{ShowsWithout}
+use Rattle.patch_cache.specs.declared.asks.Move.{Move}
+use Rattle.patch_cache.specs.declared.asks.Move.TheVariants.{Take, Back}
+use Rattle.patch_cache.specs.declared.views.CacheView.{CacheView}
+
+-- why the class of a patch isn't taken back of the block, where these are taken
+abbrev pub why_not_taken_of : Execution → ℕ → List ℕ → ℕ → Option Cause
+why_not_taken_of run block names number = elim (slice_get (entries_of run) number) [
+  | None ↦ Some (bare kind.Unknown)
+  | Some e ↦ if is_durable e then Some (bare kind.Durable) else why_not_taken (history_of run block) names number
+]
+
+abbrev pub names_unless : Option Cause → List ℕ → Result (List ℕ) Cause
+names_unless None names = Ok names
+names_unless (Some cause) names = Err cause
+
+-- the names of the classes that are taken of the block after one more move
+abbrev pub with_move : Execution → ℕ → List ℕ → Move → Result (List ℕ) Cause
+with_move run block names (Take number) = names_unless (why_not_taken_of run block names number) (class_named (history_of run block) number ∷ names)
+with_move run block names (Back number) =
+    names_unless (why_not_put_back (history_of run block) names number) (filter (λ n. not (n == class_named (history_of run block) number)) names)
+
+abbrev pub go_on : {A B E : Type 0} → Result A E → (A → Result B E) → Result B E
+go_on (Ok x) f = f x
+go_on (Err e) f = Err e
+
+-- and after some moves, up to the first that is refused
+abbrev pub with_moves : Execution → ℕ → List ℕ → List Move → Result (List ℕ) Cause
+with_moves run block names [] = Ok names
+with_moves run block names (move ∷ moves) = go_on (with_move run block names move) (λ now. with_moves run block now moves)
+
+-- the bytes of a span
+abbrev pub bytes_at : List ℕ → (start len : ℕ) → List ℕ
+bytes_at bytes start len = slice_range bytes start (start + len)
+
+-- the cache stands where some classes of the block are taken
+abbrev pub Stands : Execution → ℕ → Contents → Type 0
+Stands run block c = (names : List ℕ) × ShowsWithout c block names run
+
+-- the cache is this one but for what a view changes of the block: its bytes, which classes are taken, and what they keep
+pub record IsViewOf (before : Contents) (block : ℕ) (c : Contents) : Type 0 where
+  pub others : c ≡ with_block before block (block_at c block)
+  pub outline : the_outline (block_at c block) ≡ the_outline (block_at before block)
+
+-- what a view sees, which block it is of, and which borrow it is
+abbrev pub seen_by : {A : Type 0} → CacheView A → Contents
+seen_by v = v.cache.now
+
+abbrev pub block_of : {A : Type 0} → CacheView A → ℕ
+block_of v = v.block
+
+abbrev pub borrow_of : {A : Type 0} → CacheView A → GName
+borrow_of v = v.cache.ghost_name

@@ -1,0 +1,179 @@
+//! The cache, and what is read of it.
+ghost use Rattle.std.specs.Prelude.{◌≡◌, ◌<◌, ◌≤◌, ℕ, [], None, length, replicate, map, count_by, IsTrue, IsSome, MatchOption, IfOk, OnOk, OnErr, Contains};
+ghost use Rattle.patch_model.specs.Execution.{Execution};
+ghost use Rattle.patch_model.specs.State.{entries_of, state_of};
+ghost use Rattle.patch_model.specs.Entry.{Entry, is_live, is_memory};
+ghost use Rattle.patch_model.specs.Refusing.{why_not_sent};
+ghost use Rattle.patch_model.specs.StepOf.{step_of};
+ghost use Rattle.patch_graph.specs.Meaning.{HasMark};
+ghost use Rattle.patch_cache.specs.Contents.{drained};
+ghost use Rattle.patch_cache.specs.Meaning.{Represents};
+ghost use Rattle.patch_cache.specs.Opening.{AreUnpatched};
+
+use crate::writes::Write;
+use patch_graph::Graph;
+use patch_model::{
+    BlockBytes, BlockNo, MAX_BLOCKS, Mark, OutOfMemory, PatchNo, Step, laws as model_laws,
+};
+use patch_view::BlockState;
+use std::alloc::{Allocator, Global};
+use std::marker::Model;
+
+/// The blocks of a disk, with the patches that were made of them and are not all on the disk yet.
+///
+/// Patches are made by `create` and become one by `merge`. `send` begins a write of all that may go to the disk of a block,
+/// and `complete` ends it. Each of them is a step, and is noted in the trace.
+#[derive(Drop)]
+pub struct Cache<A: Allocator + Copy = Global> {
+    pub(crate) alloc: A,
+    pub(crate) blocks: Vec<BlockState<A>, A>,
+    pub(crate) writes: Vec<Option<Write<A>>, A>,
+    pub(crate) graph: Graph<A>,
+    pub(crate) sends: u32,
+    pub(crate) live: u32,
+    pub(crate) trace: Vec<Step<A>, A>,
+    /// How many blocks have a write under way: the trace keeps room for the completion of each.
+    pub(crate) under_way: usize,
+}
+
+impl<A: Allocator + Copy> Model for Cache<A> {
+    ghost use Rattle.std.specs.Prelude.{◌≡◌, ◌≤◌, ◌+◌, map, length, count_by, is_some, vec_capacity};
+    ghost use Rattle.patch_model.specs.StepOf.{step_of};
+    ghost use Rattle.patch_cache.specs.Contents.{Contents};
+
+    ghost Value = { Contents };
+
+    ghost view = { λ c. record {
+      blocks = c.blocks.items;
+      writes = c.writes.items;
+      graph = c.graph;
+      sends = c.sends;
+      live = c.live;
+      trace = map step_of c.trace.items;
+    } };
+
+    ghost invariant = { λ c. (length c.writes.items ≡ length c.blocks.items)
+        × (length c.blocks.items ≤ 4096)
+        × (c.under_way ≡ count_by is_some c.writes.items)
+        × (length c.trace.items + c.under_way ≤ vec_capacity c.trace) };
+}
+
+impl<A: Allocator + Copy> Cache<A> {
+    /// A cache of these blocks, of which there are 1 to 4,096, with no patch yet. Where there is no memory the blocks are
+    /// given up.
+    pub fn open(alloc: A, blocks: Vec<BlockBytes<A>, A>) -> Result<Cache<A>, OutOfMemory>
+        requires some { 0 < length blocks.items }
+        requires few { length blocks.items ≤ MAX_BLOCKS }
+        ensures answer { IfOk result (λ cache. Represents cache (record { first = blocks.items; steps = [] })) }
+        ensures trace { IfOk result (λ cache. cache.trace ≡ []) }
+    {
+        let count = blocks.len();
+        let writes = no_writes(alloc, count)?;
+        Ok(Cache {
+            alloc,
+            blocks: unpatched(alloc, blocks)?,
+            writes,
+            graph: Graph::new(alloc),
+            sends: 0,
+            live: 0,
+            trace: Vec::new(alloc),
+            under_way: 0,
+        })
+    }
+
+    /// How many blocks there are.
+    pub fn blocks(&self) -> u32
+        ensures value { result ≡ length self.now.blocks }
+        ensures answer { (run : Execution) → Represents self.now run → result ≡ length run.first }
+    {
+        self.blocks.len() as u32
+    }
+
+    /// How many patches were made.
+    pub fn made(&self) -> u32
+        ensures value { result ≡ self.now.graph.made }
+        ensures answer { (run : Execution) → Represents self.now run → result ≡ length (entries_of run) }
+    {
+        self.graph.made()
+    }
+
+    /// How many patches are in memory or in flight.
+    pub fn live(&self) -> u32
+        ensures value { result ≡ self.now.live }
+        ensures answer { (run : Execution) → Represents self.now run → result ≡ count_by is_live (entries_of run) }
+    {
+        self.live
+    }
+
+    /// How far a patch has come. None for one that wasn't made.
+    pub fn mark_of(&self, no: PatchNo) -> Option<Mark>
+        ensures { (run : Execution) → Represents self.now run → MatchOption result (length (entries_of run) ≤ no) (HasMark (entries_of run) no) }
+    {
+        self.graph.mark_of(no)
+    }
+
+    /// The least block of which a write can begin. It takes no memory.
+    pub fn next_ready(&mut self) -> Option<BlockNo>
+        ensures answer { (run : Execution) → Represents self.old run → MatchOption result
+            ((b : ℕ) → why_not_sent run b ≡ None → ⊥)
+            (λ block. (why_not_sent run block ≡ None) × ((b : ℕ) → why_not_sent run b ≡ None → block ≤ b)) }
+        ensures some { (run : Execution) (e : Entry) → Represents self.old run → (state_of run).flights ≡ []
+            → Contains (entries_of run) e → IsTrue (is_memory e) → IsSome result }
+        ensures same { self.new ≡ self.old }
+    {
+        model_laws::some_is_ready();
+        model_laws::near_classes_merge();
+        for at in 0..self.blocks() {
+            let block = BlockNo(at);
+            if self.why_not_sent(block).is_none() {
+                return Some(block);
+            }
+        }
+        None
+    }
+
+    /// The steps that were accepted since the trace was drained last, the oldest first.
+    pub fn trace(&self) -> &[Step<A>]
+        ensures { map step_of result.now ≡ self.now.trace }
+    {
+        self.trace.as_slice()
+    }
+
+    /// The steps of the trace, which is empty then.
+    pub fn drain_trace(&mut self) -> Result<Vec<Step<A>, A>, OutOfMemory>
+        ensures steps { IfOk result (λ steps. map step_of steps.items ≡ self.old.trace) }
+        ensures drained { OnOk result (self.new ≡ drained self.old) }
+        ensures same { (run : Execution) → Represents self.old run → Represents self.new run }
+        ensures refused { OnErr result (self.new ≡ self.old) }
+    {
+        let kept = Vec::with_capacity(self.alloc, self.under_way)?;
+        Ok(std::mem::replace(&mut self.trace, kept))
+    }
+}
+
+#[tactic(auto, using(crate::proofs::Opening::one_more))]
+fn unpatched<A: Allocator + Copy>(
+    alloc: A,
+    blocks: Vec<BlockBytes<A>, A>,
+) -> Result<Vec<BlockState<A>, A>, OutOfMemory>
+    ensures { IfOk result (λ states. AreUnpatched states.items blocks.items) }
+{
+    let mut states = Vec::with_capacity(alloc, blocks.len())?;
+    for block in blocks {
+        states.push(BlockState::of(alloc, block))?;
+    }
+    Ok(states)
+}
+
+fn no_writes<A: Allocator + Copy>(
+    alloc: A,
+    count: usize,
+) -> Result<Vec<Option<Write<A>>, A>, OutOfMemory>
+    ensures { IfOk result (λ writes. writes.items ≡ replicate count None) }
+{
+    let mut writes = Vec::with_capacity(alloc, count)?;
+    for _ in 0..count {
+        writes.push(None)?;
+    }
+    Ok(writes)
+}

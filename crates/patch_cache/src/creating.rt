@@ -1,0 +1,177 @@
+//! How a patch is made.
+ghost use Rattle.std.specs.Prelude.{◌≡◌, ◌+◌, ◌<◌, ◌≤◌, ◌++◌, ◌∷◌, ℕ, List, [], Some, None, length, nat_le, count_by, option_map, IfOk, IfErr, IfSome, IsNone, OnOk, OnErr};
+ghost use Rattle.std.specs.List.{list_any};
+ghost use Rattle.patch_model.specs.Entry.{Entry, is_live};
+ghost use Rattle.patch_model.specs.Execution.{Execution, extended};
+ghost use Rattle.patch_model.specs.Refusing.{why_not_made as the_cause};
+ghost use Rattle.patch_model.specs.Step.{Create};
+ghost use Rattle.patch_model.specs.State.{entries_of};
+ghost use Rattle.patch_model.specs.History.{history_of};
+ghost use Rattle.patch_model.specs.Legal.{IsLegal, IsLegalCreate};
+ghost use Rattle.patch_view.specs.Meaning.{Represents as IsBlockOf};
+ghost use Rattle.patch_graph.specs.Meaning.{Represents as IsGraphOf};
+ghost use Rattle.patch_cache.specs.Creating.{IsMadeOn};
+ghost use Rattle.patch_cache.specs.Meaning.{Represents};
+ghost use Rattle.patch_cache.specs.Refusals.{create_cause, IsCause};
+
+use crate::caches::Cache;
+use crate::refusals::CreateRefusal;
+use patch_graph::Graph;
+use patch_model::{
+    BLOCK, BlockNo, Bytes, MAX_LIVE, MAX_PATCHES, Numbers, OutOfMemory, PatchNo, Step, Undo,
+    laws as model_laws,
+};
+use patch_view::{BlockState, laws as view_laws};
+use std::alloc::Allocator;
+
+impl<A: Allocator + Copy> Cache<A> {
+    /// Makes a patch: the bytes that it puts in the block from `start` on, and the patches that it names as going to the
+    /// disk before it, or with it. It depends on these, and on each earlier patch of the block that shares a byte with it
+    /// (Featherstitch's overlap rule). Its number is the next one. `MayDrop` lets it go without undo bytes where it never
+    /// has to be taken back.
+    pub fn create(
+        &mut self,
+        block: BlockNo,
+        start: usize,
+        bytes: &[u8],
+        after: &[PatchNo],
+        undo: Undo,
+    ) -> Result<PatchNo, CreateRefusal>
+        ensures made { (run : Execution) → Represents self.old run → IfOk result (λ no.
+            (the_cause (length run.first) (entries_of run) block start bytes.now after.now ≡ None)
+            × (no ≡ length (entries_of run))
+            × Represents self.new (extended run (Create block start bytes.now after.now undo))) }
+        ensures cause { (run : Execution) → Represents self.old run → IfErr result (λ refusal.
+            IsCause (the_cause (length run.first) (entries_of run) block start bytes.now after.now) (create_cause refusal)) }
+        ensures trace { OnOk result (self.new.trace ≡ self.old.trace ++ Create block start bytes.now after.now undo ∷ []) }
+        ensures refused { OnErr result (self.new ≡ self.old) }
+    {
+        match self.why_not_made(block, start, bytes, after) {
+            Some(refusal) => Err(refusal),
+            None => Ok(self.make(block, start, bytes, after, undo)?),
+        }
+    }
+
+    /// The first cause against the patch.
+    fn why_not_made(
+        &self,
+        block: BlockNo,
+        start: usize,
+        bytes: &[u8],
+        after: &[PatchNo],
+    ) -> Option<CreateRefusal>
+        ensures cause { (run : Execution) → Represents self.now run
+            → option_map create_cause result ≡ the_cause (length run.first) (entries_of run) block start bytes.now after.now }
+        ensures known { IsNone result → block < length self.now.blocks }
+        ensures some { IsNone result → 0 < length bytes.now }
+        ensures fits { IsNone result → start + length bytes.now ≤ BLOCK }
+        ensures left { IsNone result → self.now.graph.made < MAX_PATCHES }
+        ensures room { IsNone result → self.now.live < MAX_LIVE }
+    {
+        let refusal = if block.0 as usize >= self.blocks.len() {
+            CreateRefusal::NoSuchBlock
+        } else if bytes.is_empty() {
+            CreateRefusal::EmptyPatch
+        } else if bytes.len() > BLOCK || start > BLOCK - bytes.len() {
+            CreateRefusal::OutOfBlock
+        } else if names_unmade(self.graph.made(), after) {
+            CreateRefusal::UnknownDependency
+        } else if self.graph.made() >= MAX_PATCHES {
+            CreateRefusal::NumbersSpent
+        } else if self.live >= MAX_LIVE {
+            CreateRefusal::TooManyLive
+        } else {
+            return None;
+        };
+        Some(refusal)
+    }
+
+    /// Makes a patch that there is no cause to refuse.
+    fn make(
+        &mut self,
+        block: BlockNo,
+        start: usize,
+        bytes: &[u8],
+        after: &[PatchNo],
+        undo: Undo,
+    ) -> Result<PatchNo, OutOfMemory>
+        requires known { block < length self.old.blocks }
+        requires some { 0 < length bytes.now }
+        requires fits { start + length bytes.now ≤ BLOCK }
+        requires left { self.old.graph.made < MAX_PATCHES }
+        requires room { self.old.live < MAX_LIVE }
+        ensures answer { (run : Execution) → Represents self.old run
+            → the_cause (length run.first) (entries_of run) block start bytes.now after.now ≡ None
+            → IfOk result (λ no. (no ≡ length (entries_of run)) × Represents self.new (extended run (Create block start bytes.now after.now undo))) }
+        ensures trace { OnOk result (self.new.trace ≡ self.old.trace ++ Create block start bytes.now after.now undo ∷ []) }
+        ensures refused { OnErr result (self.new ≡ self.old) }
+    {
+        model_laws::legal_patches_are_made();
+        model_laws::steps_extend();
+        model_laws::steps_change_blocks();
+        model_laws::live_are_counted();
+        model_laws::flights_are_ready();
+        let step = Step::Create {
+            block,
+            start,
+            bytes: Bytes::from_vec(Vec::from_slice(self.alloc, bytes)?),
+            after: Numbers::from_vec(Vec::from_slice(self.alloc, after)?),
+            undo,
+        };
+        self.trace.reserve(self.under_way + 1)?;
+        let state = &mut self.blocks[block.0 as usize];
+        let no = lay_on(state, &mut self.graph, block, start, bytes, after, undo)?;
+        self.live += 1;
+        self.trace.push_reserved(step);
+        Ok(no)
+    }
+}
+
+/// Lays a patch on its block, and adds it to the graph. Its undo bytes are kept at first, since only the graph says whether
+/// it is hard; where the graph lacks memory, it is taken off again.
+fn lay_on<A: Allocator + Copy>(
+    state: &mut BlockState<A>,
+    graph: &mut Graph<A>,
+    block: BlockNo,
+    start: usize,
+    bytes: &[u8],
+    after: &[PatchNo],
+    undo: Undo,
+) -> Result<PatchNo, OutOfMemory>
+    requires some { 0 < length bytes.now }
+    requires fits { start + length bytes.now ≤ BLOCK }
+    requires left { graph.old.made < MAX_PATCHES }
+    ensures answer { (run : Execution) → IsLegal run → IsBlockOf state.old [] (history_of run block) → IsGraphOf graph.old (entries_of run)
+        → IsLegalCreate (length run.first) (entries_of run) block start bytes.now after.now
+        → IfOk result (λ no. IsMadeOn run block start bytes.now after.now undo no state.new graph.new) }
+    ensures refused { OnErr result ((state.new ≡ state.old) × (graph.new ≡ graph.old)) }
+{
+    model_laws::steps_extend();
+    model_laws::steps_change_blocks();
+    model_laws::executions_are_orderly();
+    view_laws::blocks_are_coherent();
+    // That the block is whole, on which taking the patch off rests.
+    let _whole = state.cached();
+    let no = PatchNo(graph.made());
+    state.lay(no, start, bytes, after, false)?;
+    let stop = start + bytes.len();
+    match graph.add(block, start, stop, after, undo) {
+        Ok(added) => {
+            if added.hard {
+                state.harden();
+            }
+            Ok(added.no)
+        }
+        Err(refusal) => {
+            state.unlay();
+            Err(refusal)
+        }
+    }
+}
+
+/// Whether one of the numbers isn't that of a patch, where so many were made.
+fn names_unmade(made: u32, numbers: &[PatchNo]) -> bool
+    ensures { result ≡ list_any (λ n. nat_le made n) numbers.now }
+{
+    numbers.iter().any(|no| no.0 >= made)
+}

@@ -1,0 +1,25 @@
+//! The patch cache: patches are made, merged, sent and completed over the blocks of a disk, in an order that a crash keeps.
+#![tactic(auto)]
+
+mod asks;
+mod caches;
+mod completing;
+mod creating;
+mod flights;
+pub mod laws;
+mod merging;
+mod reading;
+mod refusals;
+mod running;
+mod sending;
+mod views;
+mod writes;
+
+pub use asks::{Answer, Ask, Move};
+pub use caches::Cache;
+pub use flights::Flights;
+pub use refusals::{
+    CreateRefusal, Fault, MergeRefusal, NoSuchBlock, ReadRefusal, Refusal, SendRefusal, TakeRefusal,
+};
+pub use views::CacheView;
+pub use writes::{Done, Flight, Landed, write_out};

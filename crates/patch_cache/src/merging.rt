@@ -1,0 +1,158 @@
+//! How two classes become one.
+ghost use Rattle.std.specs.Prelude.{◌≡◌, ◌<◌, ◌++◌, ◌∷◌, ℕ, false, List, [], None, Some, length, min, option_map, MatchResult, MatchOption, IfOk, IfErr, OnOk, OnErr};
+ghost use Rattle.patch_model.specs.Entry.{Entry};
+ghost use Rattle.patch_model.specs.Execution.{Execution, extended};
+ghost use Rattle.patch_model.specs.Refusing.{why_not_near as the_cause, is_memory_at, IsBetween, IsLeastThird};
+ghost use Rattle.patch_model.specs.Step.{Merge};
+ghost use Rattle.patch_model.specs.State.{entries_of, class_of};
+ghost use Rattle.patch_model.specs.History.{history_of};
+ghost use Rattle.patch_model.specs.Legal.{IsLegal, IsLegalMerge, block_at};
+ghost use Rattle.patch_view.specs.Meaning.{Represents as IsBlockOf};
+ghost use Rattle.patch_graph.specs.Meaning.{Represents as IsGraphOf};
+ghost use Rattle.patch_cache.specs.Meaning.{Represents};
+ghost use Rattle.patch_cache.specs.Merging.{IsInMemory, IsMergedOn, why_apart as as_apart};
+ghost use Rattle.patch_cache.specs.Refusals.{merge_cause, IsMergeCause};
+
+use crate::caches::Cache;
+use crate::refusals::MergeRefusal;
+use patch_graph::{Graph, LiveClass};
+use patch_model::{BlockNo, Mark, OutOfMemory, PatchNo, Step, laws as model_laws};
+use patch_view::{BlockState, laws as view_laws};
+use std::alloc::Allocator;
+
+impl<A: Allocator + Copy> Cache<A> {
+    /// Makes one class of the classes of two patches, whose numbers are any members'. Its name is the lesser of theirs.
+    pub fn merge(&mut self, a: PatchNo, b: PatchNo) -> Result<PatchNo, MergeRefusal>
+        ensures merged { (run : Execution) → Represents self.old run → IfOk result (λ name.
+            IsLegalMerge (entries_of run) a b
+            × (name ≡ min (class_of (entries_of run) a) (class_of (entries_of run) b))
+            × Represents self.new (extended run (Merge a b))) }
+        ensures cause { (run : Execution) → Represents self.old run → IfErr result (λ refusal.
+            IsMergeCause (entries_of run) a b (merge_cause refusal)) }
+        ensures trace { OnOk result (self.new.trace ≡ self.old.trace ++ Merge a b ∷ []) }
+        ensures refused { OnErr result (self.new ≡ self.old) }
+    {
+        model_laws::near_classes_merge();
+        let block = self.near(a, b)?;
+        if let Some(third) = self.third(a, b) {
+            return Err(MergeRefusal::WouldCycle(third));
+        }
+        Ok(self.make_one(a, b, block)?)
+    }
+
+    /// The block of both classes, or the first cause against the merge, but for a third class between them.
+    fn near(&self, a: PatchNo, b: PatchNo) -> Result<BlockNo, MergeRefusal>
+        ensures answer { (run : Execution) → Represents self.now run → MatchResult result
+            (λ block. (the_cause (entries_of run) a b ≡ None) × (block ≡ block_at (entries_of run) a))
+            (λ refusal. the_cause (entries_of run) a b ≡ Some (merge_cause refusal)) }
+        ensures known { IfOk result (λ block. block < length self.now.blocks) }
+    {
+        model_laws::spans_are_whole();
+        model_laws::patches_are_placed();
+        let made = self.graph.made();
+        if a.0 >= made || b.0 >= made {
+            return Err(MergeRefusal::Unknown);
+        }
+        let Some(first) = self.in_memory(a) else {
+            return Err(MergeRefusal::NotInMemory(a));
+        };
+        let Some(second) = self.in_memory(b) else {
+            return Err(MergeRefusal::NotInMemory(b));
+        };
+        if let Some(refusal) = why_apart(a, &first, b, &second) {
+            return Err(refusal);
+        }
+        // Each patch is of a block of the cache.
+        if first.block.0 as usize >= self.blocks.len() {
+            return Err(MergeRefusal::OtherBlock);
+        }
+        Ok(first.block)
+    }
+
+    /// The class of a patch that is in memory.
+    fn in_memory(&self, no: PatchNo) -> Option<LiveClass>
+        ensures { (all : List Entry) → IsGraphOf self.now.graph all → MatchOption result (is_memory_at all no ≡ false) (IsInMemory all no) }
+    {
+        match self.graph.live_class(no) {
+            Some(class) => match class.mark {
+                Mark::Memory => Some(class),
+                Mark::Flight | Mark::Durable => None,
+            },
+            None => None,
+        }
+    }
+
+    /// The least name of a third class between those of two live patches, one way or the other.
+    fn third(&mut self, a: PatchNo, b: PatchNo) -> Option<PatchNo>
+        ensures answer { (run : Execution) → Represents self.old run → the_cause (entries_of run) a b ≡ None
+            → MatchOption result ((c : ℕ) → IsBetween (entries_of run) a b c → ⊥) (IsLeastThird (entries_of run) a b) }
+        ensures same { self.new ≡ self.old }
+    {
+        model_laws::paths_form_no_ring();
+        match self.graph.between(a, b) {
+            Some(name) => Some(name),
+            None => self.graph.between(b, a),
+        }
+    }
+
+    /// Makes one class of two that may be merged.
+    fn make_one(&mut self, a: PatchNo, b: PatchNo, block: BlockNo) -> Result<PatchNo, OutOfMemory>
+        requires known { block < length self.old.blocks }
+        ensures answer { (run : Execution) → Represents self.old run → IsLegalMerge (entries_of run) a b → block ≡ block_at (entries_of run) a
+            → IfOk result (λ name. (name ≡ min (class_of (entries_of run) a) (class_of (entries_of run) b)) × Represents self.new (extended run (Merge a b))) }
+        ensures trace { OnOk result (self.new.trace ≡ self.old.trace ++ Merge a b ∷ []) }
+        ensures refused { OnErr result (self.new ≡ self.old) }
+    {
+        model_laws::steps_extend();
+        model_laws::steps_change_blocks();
+        model_laws::live_are_counted();
+        model_laws::flights_are_ready();
+        self.trace.reserve(self.under_way + 1)?;
+        let state = &mut self.blocks[block.0 as usize];
+        let name = join_on(state, &mut self.graph, a, b)?;
+        self.trace.push_reserved(Step::Merge { a, b });
+        Ok(name)
+    }
+}
+
+/// Makes one class of two of a block, whose state this is, also in the graph. The block draws it up first, which takes
+/// memory, and puts it in place when the graph has done the same.
+fn join_on<A: Allocator + Copy>(
+    state: &mut BlockState<A>,
+    graph: &mut Graph<A>,
+    a: PatchNo,
+    b: PatchNo,
+) -> Result<PatchNo, OutOfMemory>
+    ensures answer { (run : Execution) → IsLegal run → IsLegalMerge (entries_of run) a b
+        → IsBlockOf state.old [] (history_of run (block_at (entries_of run) a)) → IsGraphOf graph.old (entries_of run)
+        → IfOk result (λ name. IsMergedOn run a b name state.new graph.new) }
+    ensures refused { OnErr result ((state.new ≡ state.old) × (graph.new ≡ graph.old)) }
+{
+    model_laws::steps_extend();
+    model_laws::executions_are_orderly();
+    model_laws::merges_may_join();
+    view_laws::steps_on_a_block();
+    let joint = state.joint(a, b)?;
+    let name = graph.merge(a, b)?;
+    state.join_by(joint);
+    Ok(name)
+}
+
+/// The first cause against a merge of two classes in memory that the classes themselves show.
+fn why_apart(a: PatchNo, first: &LiveClass, b: PatchNo, second: &LiveClass) -> Option<MergeRefusal>
+    ensures { option_map merge_cause result ≡ as_apart a first.now b second.now }
+{
+    if first.name == second.name {
+        Some(MergeRefusal::Same)
+    } else if first.block != second.block {
+        Some(MergeRefusal::OtherBlock)
+    } else if first.hard {
+        Some(MergeRefusal::Hard(a))
+    } else if second.hard {
+        Some(MergeRefusal::Hard(b))
+    } else if first.start > second.stop || second.start > first.stop {
+        Some(MergeRefusal::Apart)
+    } else {
+        None
+    }
+}

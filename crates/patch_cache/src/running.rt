@@ -1,0 +1,227 @@
+//! A list of asks, answered one after another.
+ghost use Rattle.std.specs.Prelude.{◌≡◌, ◌≢◌, ◌+◌, ◌<◌, ◌≤◌, ◌↔◌, ◌++◌, ◌∷◌, ◌⊎◌, ℕ, List, [], Some, None, length, map, IfOk, IfErr, OnOk, OnErr, MatchResult};
+ghost use Rattle.patch_model.specs.declared.refusals.RefusalKind.TheVariants as kind;
+ghost use Rattle.patch_model.specs.Execution.{Execution, extended};
+ghost use Rattle.patch_model.specs.Crash.{MayLeave};
+ghost use Rattle.patch_model.specs.Refusing.{bare, why_not_sent};
+ghost use Rattle.patch_device.specs.Device.{HasRisen};
+ghost use Rattle.patch_cache.specs.Contents.{write_at};
+ghost use Rattle.patch_cache.specs.Meaning.{Represents};
+ghost use Rattle.patch_cache.specs.Asks.{Create, Merge, Send, Complete, Refused, ask_of, answer_of, after, after_all};
+ghost use Rattle.patch_cache.specs.Running.{Runs, IsDone, IsAnswered, IsCrashSafe, HasRun, HasFault};
+
+use crate::asks::{Answer, Ask};
+use crate::caches::Cache;
+use crate::flights::Flights;
+use crate::refusals::Refusal;
+use crate::writes::write_image;
+use patch_device::Device;
+use patch_model::{
+    BLOCK, BlockBytes, BlockNo, Numbers, OutOfMemory, PatchNo, RefusalKind, Undo,
+    laws as model_laws,
+};
+use std::alloc::Allocator;
+
+impl<A: Allocator + Copy> Cache<A> {
+    /// Answers a list of asks, in order. Where there is no room for one more answer, the answers so far come back.
+    ///
+    /// This is the cache's promise over whole runs. Each answer is what the definitions say of the steps before it: a view
+    /// shows the other patches of its block over its first bytes, whichever classes were taken back in whatever permitted
+    /// order, and leaves all as it was; an image sent holds just the durable and in-flight patches of its block. On an honest
+    /// device that held at first what a crash may leave, each contents on the way is a disk that a crash may leave, closed
+    /// under dependencies ([`promise`](crate::laws::promise)).
+    ///
+    /// `flights` holds the cache's flights that are not completed, all of them and no others, and the device has the cache's
+    /// blocks. The answer of an ask for which there is no memory is `OutOfMemory`; a completion that the device refuses is
+    /// answered `Fault`, and its flight is held as before.
+    pub fn run<D: Device>(
+        &mut self,
+        flights: &mut Flights<A>,
+        device: &mut D,
+        asks: &[Ask<A>],
+    ) -> Result<Vec<Answer<A>, A>, (Vec<Answer<A>, A>, OutOfMemory)>
+        ensures answers { (run : Execution) → Runs self.old flights.old run → D.block_count device.old ≡ length run.first → MatchResult result
+            (λ answers. HasRun run (map ask_of asks.now) (map answer_of answers.items) self.new flights.new)
+            (λ stopped. HasRun run (map ask_of asks.now) (map answer_of stopped.0.items) self.new flights.new) }
+        ensures all { IfOk result (λ answers. length answers.items ≡ length asks.now) }
+        ensures honesty { D.is_honest device.old ↔ D.is_honest device.new }
+        ensures count { D.block_count device.new ≡ D.block_count device.old }
+        ensures faults { D.fault_count device.old ≤ D.fault_count device.new }
+        ensures fault { (run : Execution) → Runs self.old flights.old run → D.block_count device.old ≡ length run.first → MatchResult result
+            (λ answers. HasFault (map answer_of answers.items) → HasRisen (D.fault_count device.old) (D.fault_count device.new))
+            (λ stopped. HasFault (map answer_of stopped.0.items) → HasRisen (D.fault_count device.old) (D.fault_count device.new)) }
+        ensures crash { (run : Execution) → Runs self.old flights.old run → D.block_count device.old ≡ length run.first
+            → D.is_honest device.old → MayLeave run (D.contents device.old) → MatchResult result
+            (λ answers. IsCrashSafe run (after_all run (map ask_of asks.now) (map answer_of answers.items)) (D.had device.old) (D.had device.new) (D.contents device.new))
+            (λ stopped. IsCrashSafe run (after_all run (map ask_of asks.now) (map answer_of stopped.0.items)) (D.had device.old) (D.had device.new) (D.contents device.new)) }
+    {
+        model_laws::trails_join();
+        let mut answers = Vec::new(self.alloc);
+        for ask in asks {
+            if let Err(_) = answers.reserve(1) {
+                return Err((answers, OutOfMemory));
+            }
+            let answer = self.answer(flights, device, ask);
+            answers.push_reserved(answer);
+        }
+        Ok(answers)
+    }
+
+    /// Answers one ask.
+    fn answer<D: Device>(
+        &mut self,
+        flights: &mut Flights<A>,
+        device: &mut D,
+        ask: &Ask<A>,
+    ) -> Answer<A>
+        ensures answer { (run : Execution) → Runs self.old flights.old run → D.block_count device.old ≡ length run.first
+            → IsAnswered run (ask_of ask.now) (answer_of result) self.new flights.new }
+        ensures honesty { D.is_honest device.old ↔ D.is_honest device.new }
+        ensures count { D.block_count device.new ≡ D.block_count device.old }
+        ensures faults { D.fault_count device.old ≤ D.fault_count device.new }
+        ensures fault { (run : Execution) → Runs self.old flights.old run → D.block_count device.old ≡ length run.first
+            → answer_of result ≡ Refused (bare kind.Fault) → HasRisen (D.fault_count device.old) (D.fault_count device.new) }
+        ensures crash { (run : Execution) → Runs self.old flights.old run → D.block_count device.old ≡ length run.first
+            → D.is_honest device.old → MayLeave run (D.contents device.old)
+            → IsCrashSafe run (after run (ask_of ask.now) (answer_of result)) (D.had device.old) (D.had device.new) (D.contents device.new) }
+    {
+        model_laws::steps_extend();
+        model_laws::flights_are_ready();
+        model_laws::images_stay();
+        model_laws::disks_stay();
+        match ask {
+            Ask::Create {
+                block,
+                start,
+                bytes,
+                after,
+                undo,
+            } => self.answer_create(*block, *start, bytes.as_slice(), after.as_slice(), *undo),
+            Ask::Merge { a, b } => self.answer_merge(*a, *b),
+            Ask::Send { block } => self.answer_send(flights, *block),
+            Ask::Complete { block } => self.answer_complete(flights, device, *block),
+            Ask::View {
+                block,
+                moves,
+                start,
+                len,
+            } => self.look(*block, moves.as_slice(), *start, *len),
+        }
+    }
+
+    fn answer_create(
+        &mut self,
+        block: BlockNo,
+        start: usize,
+        bytes: &[u8],
+        after: &[PatchNo],
+        undo: Undo,
+    ) -> Answer<A>
+        ensures { (run : Execution) → Represents self.old run
+            → IsDone run (Create block start bytes.now after.now undo) (answer_of result) self.new }
+    {
+        match self.create(block, start, bytes, after, undo) {
+            Ok(no) => Answer::Made(no),
+            Err(refusal) => Answer::Refused(Refusal::from(refusal)),
+        }
+    }
+
+    fn answer_merge(&mut self, a: PatchNo, b: PatchNo) -> Answer<A>
+        ensures answer { (run : Execution) → Represents self.old run → IsDone run (Merge a b) (answer_of result) self.new }
+        ensures no_fault { answer_of result ≢ Refused (bare kind.Fault) }
+    {
+        match self.merge(a, b) {
+            Ok(name) => Answer::Merged(name),
+            Err(refusal) => Answer::Refused(Refusal::from(refusal)),
+        }
+    }
+
+    /// Begins a write and holds its flight.
+    fn answer_send(&mut self, flights: &mut Flights<A>, block: BlockNo) -> Answer<A>
+        ensures answer { (run : Execution) → Runs self.old flights.old run → IsAnswered run (Send block) (answer_of result) self.new flights.new }
+    {
+        if let Some(refusal) = self.why_not_sent(block) {
+            return Answer::Refused(Refusal::from(refusal));
+        }
+        match self.send_and_hold(flights, block) {
+            Ok(answer) => answer,
+            Err(OutOfMemory) => Answer::Refused(Refusal::bare(RefusalKind::OutOfMemory)),
+        }
+    }
+
+    /// Begins a write that there is no cause to refuse. Its flight is held, and what it holds is answered: all memory for that
+    /// is taken before the write begins.
+    fn send_and_hold(
+        &mut self,
+        flights: &mut Flights<A>,
+        block: BlockNo,
+    ) -> Result<Answer<A>, OutOfMemory>
+        requires known { block < length self.old.blocks }
+        requires grounded { write_at self.old block ≡ None }
+        ensures answer { (run : Execution) → Runs self.old flights.old run → why_not_sent run block ≡ None → IfOk result (λ answer.
+            IsAnswered run (Send block) (answer_of answer) self.new flights.new) }
+        ensures refused { OnErr result (self.new ≡ self.old) }
+        ensures held { OnErr result (flights.new.held.items ≡ flights.old.held.items) }
+    {
+        model_laws::steps_extend();
+        model_laws::near_classes_merge();
+        model_laws::flights_are_ready();
+        model_laws::images_stay();
+        let numbers = self.graph.ready(self.alloc, block)?;
+        let told = Vec::from_slice(self.alloc, numbers.as_slice())?;
+        let mut shown = Vec::with_capacity(self.alloc, BLOCK)?;
+        flights.held.reserve(1)?;
+        let flight = self.begin(block, numbers)?;
+        shown.extend_from_slice(flight.image()).unwrap();
+        flights.held.push_reserved(flight);
+        Ok(Answer::Sent {
+            block,
+            numbers: Numbers::from_vec(told),
+            image: BlockBytes::from_vec(shown),
+        })
+    }
+
+    /// Writes the held flight of the block out, and completes it. After a fault it is held as before.
+    fn answer_complete<D: Device>(
+        &mut self,
+        flights: &mut Flights<A>,
+        device: &mut D,
+        block: BlockNo,
+    ) -> Answer<A>
+        ensures answer { (run : Execution) → Runs self.old flights.old run → D.block_count device.old ≡ length run.first
+            → IsAnswered run (Complete block) (answer_of result) self.new flights.new }
+        ensures honesty { D.is_honest device.old ↔ D.is_honest device.new }
+        ensures count { D.block_count device.new ≡ D.block_count device.old }
+        ensures faults { D.fault_count device.old ≤ D.fault_count device.new }
+        ensures fault { (run : Execution) → Runs self.old flights.old run → D.block_count device.old ≡ length run.first
+            → answer_of result ≡ Refused (bare kind.Fault) → HasRisen (D.fault_count device.old) (D.fault_count device.new) }
+        ensures crash { (run : Execution) → Runs self.old flights.old run → D.block_count device.old ≡ length run.first
+            → D.is_honest device.old → MayLeave run (D.contents device.old)
+            → IsCrashSafe run (after run (Complete block) (answer_of result)) (D.had device.old) (D.had device.new) (D.contents device.new) }
+    {
+        model_laws::steps_extend();
+        model_laws::flights_are_ready();
+        model_laws::flights_are_single();
+        model_laws::patches_are_placed();
+        model_laws::images_stay();
+        model_laws::images_land();
+        model_laws::writes_end();
+        let Some(at) = flights.place_of(block) else {
+            return Answer::Refused(Refusal::bare(RefusalKind::Stranger));
+        };
+        if write_image(device, &flights.held[at]).is_err() {
+            return Answer::Refused(Refusal::bare(RefusalKind::Fault));
+        }
+        let landed = flights.held.swap_remove(at).landed();
+        match self.complete(landed) {
+            Ok(done) => Answer::Landed {
+                block: done.block,
+                numbers: done.numbers,
+            },
+            Err(stranger) => {
+                stranger.abandon();
+                Answer::Refused(Refusal::bare(RefusalKind::Stranger))
+            }
+        }
+    }
+}

@@ -1,0 +1,151 @@
+//! How a write of a block begins.
+ghost use Rattle.std.specs.Prelude.{◌≡◌, ◌<◌, ◌≤◌, ◌++◌, ◌∷◌, List, [], Some, None, length, fold, option_map, vec_len, vec_capacity, IfOk, IfErr, IsNone, OnOk, OnErr};
+ghost use Rattle.patch_model.specs.declared.blocks.TheConstants.{BLOCK};
+ghost use Rattle.patch_model.specs.declared.patches.Mark.TheVariants.{Flight as Flying};
+ghost use Rattle.patch_model.specs.Entry.{Entry};
+ghost use Rattle.patch_model.specs.Execution.{Execution, extended};
+ghost use Rattle.patch_model.specs.Refusing.{why_not_sent as the_cause};
+ghost use Rattle.patch_model.specs.Ready.{ready};
+ghost use Rattle.patch_model.specs.Step.{Send};
+ghost use Rattle.patch_model.specs.State.{entries_of, numbers_of, own_names};
+ghost use Rattle.patch_model.specs.History.{History, HoldsDependents, without};
+ghost use Rattle.patch_view.specs.History.{with_mark, undoable_classes};
+ghost use Rattle.patch_view.specs.Meaning.{Represents as IsBlockOf};
+ghost use Rattle.patch_graph.specs.Meaning.{Represents as IsGraphOf};
+ghost use Rattle.patch_cache.specs.Contents.{write_at};
+ghost use Rattle.patch_cache.specs.Meaning.{Represents};
+ghost use Rattle.patch_cache.specs.Flights.{IsSent};
+ghost use Rattle.patch_cache.specs.Marking.{AreOfLive, MayDepart};
+ghost use Rattle.patch_cache.specs.Refusals.{send_cause, IsCause};
+
+use crate::caches::Cache;
+use crate::refusals::SendRefusal;
+use crate::writes::{Flight, Write};
+use patch_graph::Graph;
+use patch_model::{
+    BLOCK, BlockBytes, BlockNo, Numbers, OutOfMemory, PatchNo, Step, laws as model_laws,
+};
+use patch_view::{BlockState, laws as view_laws};
+use std::alloc::Allocator;
+
+impl<A: Allocator + Copy> Cache<A> {
+    /// Begins a write of the block: takes all of its classes that may go to the disk together, which is the largest such
+    /// set, and gives their image. What stays behind in memory is reverted in the image and in nothing else.
+    pub fn send(&mut self, block: BlockNo) -> Result<Flight<A>, SendRefusal>
+        ensures sent { (run : Execution) → Represents self.old run → IfOk result (λ flight.
+            (the_cause run block ≡ None) × IsSent run block flight × Represents self.new (extended run (Send block))) }
+        ensures cause { (run : Execution) → Represents self.old run → IfErr result (λ refusal. IsCause (the_cause run block) (send_cause refusal)) }
+        ensures trace { OnOk result (self.new.trace ≡ self.old.trace ++ Send block ∷ []) }
+        ensures refused { OnErr result (self.new ≡ self.old) }
+    {
+        match self.why_not_sent(block) {
+            Some(refusal) => Err(refusal),
+            None => {
+                let numbers = self.graph.ready(self.alloc, block)?;
+                Ok(self.begin(block, numbers)?)
+            }
+        }
+    }
+
+    /// The first cause against a write of the block.
+    pub(crate) fn why_not_sent(&mut self, block: BlockNo) -> Option<SendRefusal>
+        ensures cause { (run : Execution) → Represents self.old run → option_map send_cause result ≡ the_cause run block }
+        ensures known { IsNone result → block < length self.old.blocks }
+        ensures grounded { IsNone result → write_at self.old block ≡ None }
+        ensures same { self.new ≡ self.old }
+    {
+        let at = block.0 as usize;
+        if at >= self.blocks.len() {
+            return Some(SendRefusal::NoSuchBlock);
+        }
+        if self.writes[at].is_some() {
+            return Some(SendRefusal::AlreadyInFlight);
+        }
+        if !self.graph.any_ready(block) {
+            return Some(SendRefusal::NothingReady);
+        }
+        None
+    }
+
+    /// Begins a write of the block that takes these patches. All memory is taken before anything changes, also the room for
+    /// the completion in the trace.
+    pub(crate) fn begin(
+        &mut self,
+        block: BlockNo,
+        numbers: Vec<PatchNo, A>,
+    ) -> Result<Flight<A>, OutOfMemory>
+        requires known { block < length self.old.blocks }
+        requires grounded { write_at self.old block ≡ None }
+        ensures answer { (run : Execution) → Represents self.old run → the_cause run block ≡ None → numbers.items ≡ numbers_of (ready (entries_of run) block)
+            → IfOk result (λ flight. IsSent run block flight × Represents self.new (extended run (Send block))) }
+        ensures trace { OnOk result (self.new.trace ≡ self.old.trace ++ Send block ∷ []) }
+        ensures refused { OnErr result (self.new ≡ self.old) }
+    {
+        model_laws::steps_extend();
+        model_laws::steps_change_blocks();
+        model_laws::executions_are_orderly();
+        model_laws::executions_are_limited();
+        model_laws::live_are_counted();
+        model_laws::flights_are_ready();
+        model_laws::classes_have_names();
+        model_laws::near_classes_merge();
+        model_laws::ready_is_largest();
+        model_laws::sends_leave();
+        view_laws::blocks_are_coherent();
+        view_laws::class_by_class();
+        view_laws::image_is_without();
+        view_laws::steps_on_a_block();
+        let noted = Numbers::from_vec(Vec::from_slice(self.alloc, numbers.as_slice())?);
+        let mut image = Vec::with_capacity(self.alloc, BLOCK)?;
+        self.trace.reserve(self.under_way + 2)?;
+        let at = block.0 as usize;
+        let state = &mut self.blocks[at];
+        depart_each(state, &self.graph, numbers.as_slice());
+        self.graph.mark_flight(block);
+        copy_image(state, &mut image);
+        let number = self.sends;
+        self.writes[at] = Some(Write {
+            number,
+            numbers: noted,
+        });
+        self.under_way += 1;
+        self.sends = number.saturating_add(1);
+        self.trace.push_reserved(Step::Send { block });
+        Ok(Flight {
+            block,
+            number,
+            numbers: Numbers::from_vec(numbers),
+            image: BlockBytes::from_vec(image),
+        })
+    }
+}
+
+/// Puts in flight each class that one of the numbers names.
+fn depart_each<A: Allocator + Copy>(
+    state: &mut BlockState<A>,
+    graph: &Graph<A>,
+    numbers: &[PatchNo],
+)
+    ensures { (h : History) (all : List Entry) → IsBlockOf state.old [] h → IsGraphOf graph.now all → AreOfLive all numbers.now → MayDepart h (own_names all numbers.now)
+        → IsBlockOf state.new [] (fold (λ k c. with_mark k Flying c) h (own_names all numbers.now)) }
+{
+    for no in numbers {
+        if graph.class_of(*no) == Some(*no) {
+            state.depart(*no);
+        }
+    }
+}
+
+/// Copies the block's bytes without the patches that are in memory, which are put back behind it.
+fn copy_image<A: Allocator>(state: &mut BlockState<A>, image: &mut Vec<u8, A>)
+    requires empty { vec_len image.old ≡ 0 }
+    requires room { BLOCK ≤ vec_capacity image.old }
+    ensures long { length image.new.items ≡ BLOCK }
+    ensures copied { (h : History) → IsBlockOf state.old [] h → HoldsDependents h (undoable_classes h) → image.new.items ≡ without h (undoable_classes h) }
+    ensures restored { (h : History) → IsBlockOf state.old [] h → HoldsDependents h (undoable_classes h) → IsBlockOf state.new [] h }
+{
+    let mut view = state.view();
+    view.take_all();
+    image.extend_from_slice(view.bytes()).unwrap();
+    view.restore();
+}

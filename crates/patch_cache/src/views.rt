@@ -1,0 +1,159 @@
+//! A block of the cache lent with classes to be taken back, which has to be put right again.
+ghost use Rattle.std.specs.Prelude.{◌≡◌, ◌<◌, ◌↔◌, ◌∷◌, [], ℕ, List, Ok, Err, length, MatchResult, IsOk, IfOk, OnErr};
+ghost use Rattle.std.specs.Borrow.{sem};
+ghost use Rattle.patch_model.specs.declared.blocks.TheConstants.{BLOCK};
+ghost use Rattle.patch_model.specs.Execution.{Execution};
+ghost use Rattle.patch_model.specs.History.{history_of, without};
+ghost use Rattle.patch_view.specs.Answers.{MayTake, MayPutBack};
+ghost use Rattle.patch_cache.specs.Contents.{Contents, block_at, with_block};
+ghost use Rattle.patch_cache.specs.Meaning.{Represents, ShowsWithout};
+ghost use Rattle.patch_cache.specs.Refusals.{take_cause, put_back_cause};
+ghost use Rattle.patch_cache.specs.declared.asks.Move.TheVariants.{Take, Back};
+
+use crate::caches::Cache;
+use crate::refusals::{NoSuchBlock, TakeRefusal};
+use patch_model::{BlockNo, Mark, PatchNo};
+use patch_view::PutBackRefusal;
+use std::alloc::{Allocator, Global};
+
+/// A view of one block of a cache, of which classes are taken back for a while. [`restore`](CacheView::restore) alone
+/// spends it: a view can't be let go, so no block stays as a view left it. None of its calls takes memory.
+pub struct CacheView<'a, A: Allocator + Copy = Global> {
+    pub(crate) cache: &'a mut Cache<A>,
+    pub(crate) block: BlockNo,
+    ghost in_range: { block < length cache.now.blocks },
+}
+
+impl<A: Allocator + Copy> Cache<A> {
+    ghost use Rattle.patch_cache.specs.Lending.{RestsView};
+    ghost use Rattle.patch_cache.specs.Viewing.{with_move, seen_by, block_of, borrow_of, IsViewOf};
+
+    /// Lends a block as a view.
+    pub fn view(&mut self, block: BlockNo) -> Result<CacheView<'_, A>, NoSuchBlock>
+        ensures* refused { sem 𝓛 (RestsView A.row A.Allocator self.entry result) }
+        ensures same_reference { IfOk result (λ v. borrow_of v ≡ self.entry.ghost_name) }
+        ensures exists { IsOk result ↔ (block < length self.old.blocks) }
+        ensures same { IfOk result (λ v. seen_by v ≡ self.old) }
+        ensures view { IfOk result (λ v. IsViewOf self.old block (seen_by v)) }
+        ensures block { IfOk result (λ v. block_of v ≡ block) }
+    {
+        if block.0 as usize >= self.blocks.len() {
+            return Err(NoSuchBlock);
+        }
+        Ok(CacheView { cache: self, block })
+    }
+
+    /// Takes the class of a patch back of the block.
+    pub(crate) fn take_of(&mut self, block: BlockNo, no: PatchNo) -> Result<(), TakeRefusal>
+        requires { block < length self.old.blocks }
+        ensures answer { (run : Execution) (names : List ℕ) → ShowsWithout self.old block names run → MatchResult result
+            (λ done. (now : List ℕ) × (with_move run block names (Take no) ≡ Ok now) × ShowsWithout self.new block now run)
+            (λ refusal. with_move run block names (Take no) ≡ Err (take_cause refusal)) }
+        ensures accepted { (run : Execution) (names : List ℕ) → ShowsWithout self.old block names run → IsOk result ↔ MayTake (history_of run block) names no }
+        ensures others { self.new ≡ with_block self.old block (block_at self.new block) }
+        ensures view { (before : Contents) → IsViewOf before block self.old → IsViewOf before block self.new }
+        ensures refused { OnErr result (self.new ≡ self.old) }
+    {
+        let Some(mark) = self.graph.mark_of(no) else {
+            return Err(TakeRefusal::Unknown);
+        };
+        if mark == Mark::Durable {
+            return Err(TakeRefusal::Durable);
+        }
+        let state = &mut self.blocks[block.0 as usize];
+        state.take(no)?;
+        Ok(())
+    }
+
+    /// Puts the class of a patch back.
+    pub(crate) fn put_back_of(&mut self, block: BlockNo, no: PatchNo) -> Result<(), PutBackRefusal>
+        requires { block < length self.old.blocks }
+        ensures answer { (run : Execution) (names : List ℕ) → ShowsWithout self.old block names run → MatchResult result
+            (λ done. (now : List ℕ) × (with_move run block names (Back no) ≡ Ok now) × ShowsWithout self.new block now run)
+            (λ refusal. with_move run block names (Back no) ≡ Err (put_back_cause refusal)) }
+        ensures accepted { (run : Execution) (names : List ℕ) → ShowsWithout self.old block names run → IsOk result ↔ MayPutBack (history_of run block) names no }
+        ensures others { self.new ≡ with_block self.old block (block_at self.new block) }
+        ensures view { (before : Contents) → IsViewOf before block self.old → IsViewOf before block self.new }
+        ensures refused { OnErr result (self.new ≡ self.old) }
+    {
+        let state = &mut self.blocks[block.0 as usize];
+        state.put_back(no)
+    }
+
+    /// The block's bytes without the classes that are taken of it.
+    pub(crate) fn bytes_of(&self, block: BlockNo) -> &[u8]
+        requires { block < length self.now.blocks }
+        ensures length { length result.now ≡ BLOCK }
+        ensures answer { (run : Execution) (names : List ℕ) → ShowsWithout self.now block names run → result.now ≡ without (history_of run block) names }
+    {
+        self.blocks[block.0 as usize].bytes()
+    }
+
+    /// Puts everything back that is taken of the block.
+    pub(crate) fn restore_of(&mut self, block: BlockNo)
+        requires { block < length self.old.blocks }
+        ensures answer { (run : Execution) (names : List ℕ) → ShowsWithout self.old block names run → Represents self.new run }
+        ensures as_before { (run : Execution) (names : List ℕ) (before : Contents) → ShowsWithout self.old block names run → Represents before run
+            → IsViewOf before block self.old → self.new ≡ before }
+        ensures others { self.new ≡ with_block self.old block (block_at self.new block) }
+    {
+        let state = &mut self.blocks[block.0 as usize];
+        state.put_all_back();
+    }
+}
+
+impl<'a, A: Allocator + Copy> CacheView<'a, A> {
+    ghost use Rattle.patch_cache.specs.Viewing.{with_move, seen_by, block_of, borrow_of, IsViewOf};
+
+    /// Takes the class of this patch back.
+    pub fn take(&mut self, no: PatchNo) -> Result<(), TakeRefusal>
+        ensures same_reference { borrow_of self.new ≡ borrow_of self.old }
+        ensures same_block { block_of self.new ≡ block_of self.old }
+        ensures answer { (run : Execution) (names : List ℕ) → ShowsWithout (seen_by self.old) (block_of self.old) names run → MatchResult result
+            (λ done. (now : List ℕ) × (with_move run (block_of self.old) names (Take no) ≡ Ok now) × ShowsWithout (seen_by self.new) (block_of self.old) now run)
+            (λ refusal. with_move run (block_of self.old) names (Take no) ≡ Err (take_cause refusal)) }
+        ensures accepted { (run : Execution) (names : List ℕ) → ShowsWithout (seen_by self.old) (block_of self.old) names run
+            → IsOk result ↔ MayTake (history_of run (block_of self.old)) names no }
+        ensures others { seen_by self.new ≡ with_block (seen_by self.old) (block_of self.old) (block_at (seen_by self.new) (block_of self.old)) }
+        ensures view { (before : Contents) → IsViewOf before (block_of self.old) (seen_by self.old) → IsViewOf before (block_of self.old) (seen_by self.new) }
+        ensures refused { OnErr result (seen_by self.new ≡ seen_by self.old) }
+    {
+        self.cache.take_of(self.block, no)
+    }
+
+    /// Puts the class of this patch back.
+    pub fn put_back(&mut self, no: PatchNo) -> Result<(), PutBackRefusal>
+        ensures same_reference { borrow_of self.new ≡ borrow_of self.old }
+        ensures same_block { block_of self.new ≡ block_of self.old }
+        ensures answer { (run : Execution) (names : List ℕ) → ShowsWithout (seen_by self.old) (block_of self.old) names run → MatchResult result
+            (λ done. (now : List ℕ) × (with_move run (block_of self.old) names (Back no) ≡ Ok now) × ShowsWithout (seen_by self.new) (block_of self.old) now run)
+            (λ refusal. with_move run (block_of self.old) names (Back no) ≡ Err (put_back_cause refusal)) }
+        ensures accepted { (run : Execution) (names : List ℕ) → ShowsWithout (seen_by self.old) (block_of self.old) names run
+            → IsOk result ↔ MayPutBack (history_of run (block_of self.old)) names no }
+        ensures others { seen_by self.new ≡ with_block (seen_by self.old) (block_of self.old) (block_at (seen_by self.new) (block_of self.old)) }
+        ensures view { (before : Contents) → IsViewOf before (block_of self.old) (seen_by self.old) → IsViewOf before (block_of self.old) (seen_by self.new) }
+        ensures refused { OnErr result (seen_by self.new ≡ seen_by self.old) }
+    {
+        self.cache.put_back_of(self.block, no)
+    }
+
+    /// The block's bytes without the classes that are taken.
+    pub fn bytes(&self) -> &[u8]
+        ensures length { length result.now ≡ BLOCK }
+        ensures answer { (run : Execution) (names : List ℕ) → ShowsWithout (seen_by self.now) (block_of self.now) names run
+            → result.now ≡ without (history_of run (block_of self.now)) names }
+    {
+        self.cache.bytes_of(self.block)
+    }
+
+    /// Puts every class back, and spends the view. The cache is then as it was before the view.
+    pub fn restore(self)
+        ensures answer { (run : Execution) (names : List ℕ) → ShowsWithout (seen_by self.entry) (block_of self.entry) names run → Represents self.exit.0.now run }
+        ensures as_before { (run : Execution) (names : List ℕ) (before : Contents) → ShowsWithout (seen_by self.entry) (block_of self.entry) names run → Represents before run
+            → IsViewOf before (block_of self.entry) (seen_by self.entry) → self.exit.0.now ≡ before }
+        ensures others { self.exit.0.now ≡ with_block (seen_by self.entry) (block_of self.entry) (block_at self.exit.0.now (block_of self.entry)) }
+    {
+        let CacheView { cache, block } = self;
+        cache.restore_of(block);
+    }
+}
