@@ -18,6 +18,7 @@ mod writes;
 pub use asks::{Answer, Ask, Move};
 pub use caches::Cache;
 pub use flights::Flights;
+pub use patch_view::PutBackRefusal;
 pub use refusals::{
     CreateRefusal, Fault, MergeRefusal, NoSuchBlock, ReadRefusal, Refusal, SendRefusal, TakeRefusal,
 };

@@ -127,7 +127,10 @@ fn a_live_class_is_shown(rt: HostRuntime) -> Result<(), Fail> {
         stop: 20,
     };
     assert_eq!(rt; graph.live_class(PatchNo(1)), Some(merged));
-    assert_eq!(rt; graph.live_class(PatchNo(2)).map(|class| class.hard), Some(true));
+    assert_eq!(rt;
+        graph.live_class(PatchNo(2)).map(|class| class.hard),
+        Some(true)
+    );
     assert_eq!(rt; graph.live_class(PatchNo(3)), None);
     send(&mut graph, 3);
     merged.mark = Mark::Flight;
