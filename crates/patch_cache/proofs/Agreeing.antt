@@ -29,7 +29,7 @@ not_flight Memory t = refl
 not_flight Flight t = absurd (cc)
 not_flight Durable t = absurd (cc)
 
-memory_live : (m : Mark) → marks_memory m ≡ true → not (marks_durable m) ≡ true
+pub memory_live : (m : Mark) → marks_memory m ≡ true → not (marks_durable m) ≡ true
 memory_live Memory t = refl
 memory_live Flight t = absurd (cc)
 memory_live Durable t = absurd (cc)
@@ -50,7 +50,7 @@ found h number e p r is t =
     find_is (λ f. f.patch.no == number && p f) h.entries e is.is_in (and_from _ _ (eq-eqb _ _ is.number) t)
     (λ f in_f u. numbered h number e f r is in_f (eqb-true _ _ (and_parts (f.patch.no == number) (p f) u).0))
 
-class_is : (h : History) (number : ℕ) (e : Entry) → IsCoherent h → IsPatch h number e → class_named h number ≡ e.class
+pub class_is : (h : History) (number : ℕ) (e : Entry) → IsCoherent h → IsPatch h number e → class_named h number ≡ e.class
 class_is h number e r is =
     let f : find (λ f. f.patch.no == number) h.entries ≡ Some e =
     find_is (λ f. f.patch.no == number) h.entries e is.is_in (eq-eqb _ _ is.number) (λ f in_f u. numbered h number e f r is in_f (eqb-true _ _ u)) in
@@ -92,7 +92,7 @@ applied_is h taken c n i =
       applied = not-true _ d.1;
     }
 
-is_applied : (h : History) (taken : List ℕ) (c n : ℕ) → IsAppliedDependent h taken c n → In (applied_dependents h taken c) n
+pub is_applied : (h : History) (taken : List ℕ) (c n : ℕ) → IsAppliedDependent h taken c n → In (applied_dependents h taken c) n
 is_applied h taken c n d =
     let g = list_any-at (λ e. e.class == n && is_live e) h.entries d.live in
     let p = and_parts (g.0.class == n) (is_live g.0) g.2 in
@@ -122,7 +122,7 @@ why_class : (h : History) (taken : List ℕ) (number : ℕ) (e : Entry) → IsCo
     → why_not_taken h taken number ≡ why_class_not_taken h taken e
 why_class h taken number e r is live = let f = found h number e is_live r is live in rw (f, why_not_taken) refl
 
-take_done : (h : History) (taken : List ℕ) (number : ℕ) (e : Entry) → IsCoherent h → IsPatch h number e → is_undoable e ≡ true → is_among taken e.class ≡ false
+pub take_done : (h : History) (taken : List ℕ) (number : ℕ) (e : Entry) → IsCoherent h → IsPatch h number e → is_undoable e ≡ true → is_among taken e.class ≡ false
     → HoldsDependents h (e.class ∷ taken) → why_not_taken h taken number ≡ None
 take_done h taken number e r is undoable applied holds =
     let p = and_parts (is_memory e) (not e.hard) undoable in
@@ -164,16 +164,16 @@ taken_agrees h names number new r t = (
 taken_is : (h : History) (taken : List ℕ) (c n : ℕ) → In (taken_dependencies h taken c) n → IsTakenDependency h taken c n
 taken_is h taken c n i = let p = filter-In (λ n. class_depends h.entries c n) taken n i in record { depends = p.1; is_taken = In-among taken n p.0 }
 
-is_taken_one : (h : History) (taken : List ℕ) (c n : ℕ) → IsTakenDependency h taken c n → In (taken_dependencies h taken c) n
+pub is_taken_one : (h : History) (taken : List ℕ) (c n : ℕ) → IsTakenDependency h taken c n → In (taken_dependencies h taken c) n
 is_taken_one h taken c n d = In-filter (λ n. class_depends h.entries c n) taken n (among-In taken n d.is_taken) d.depends
 
 -- a name among those left without another
-not_removed : (c : ℕ) (taken : List ℕ) → is_among (removed c taken) c ≡ true → ⊥
+pub not_removed : (c : ℕ) (taken : List ℕ) → is_among (removed c taken) c ≡ true → ⊥
 not_removed c taken t =
     let p = filter-In (λ n. not (n == c)) taken c (among-In (removed c taken) c t) in
     both_ways _ (not-true _ p.1) (eq-eqb c c refl)
 
-is_left : (c n : ℕ) (taken : List ℕ) → (n == c) ≡ false → is_among taken n ≡ true → is_among (removed c taken) n ≡ true
+pub is_left : (c n : ℕ) (taken : List ℕ) → (n == c) ≡ false → is_among taken n ≡ true → is_among (removed c taken) n ≡ true
 is_left c n taken apart t = In-among (removed c taken) n (In-filter (λ n. not (n == c)) taken n (among-In taken n t) (not_from_false _ apart))
 
 -- a taken class is live
@@ -201,7 +201,7 @@ why_back : (h : History) (taken : List ℕ) (number : ℕ) (e : Entry) → IsCoh
     → why_not_put_back h taken number ≡ hindered_by kind.DependencyTaken (least (taken_dependencies h taken e.class))
 why_back h taken number e r is t = let f = found h number e (λ e. is_among taken e.class) r is t in rw (f, why_not_put_back) refl
 
-back_done : (h : History) (taken : List ℕ) (number : ℕ) (e : Entry) → IsCoherent h → HoldsDependents h taken → IsPatch h number e → is_among taken e.class ≡ true
+pub back_done : (h : History) (taken : List ℕ) (number : ℕ) (e : Entry) → IsCoherent h → HoldsDependents h taken → IsPatch h number e → is_among taken e.class ≡ true
     → HoldsDependents h (removed e.class taken) → why_not_put_back h taken number ≡ None
 back_done h taken number e r old is t holds =
     let none : least (taken_dependencies h taken e.class) ≡ None =

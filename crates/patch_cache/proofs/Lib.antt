@@ -2,6 +2,7 @@ pub mod Opening
 pub mod GivingUp
 pub mod Permitting
 pub mod Asking
+pub mod Accepting
 pub mod Plain
 pub mod Faultless
 pub mod Runs

@@ -182,7 +182,7 @@ rising_room e (x ∷ es) top h below =
     let c : e.patch.no < x.patch.no = h.0.0 in omega arith
 
 -- so one of as many as the bound stands at the place of its number
-at_its_place : (es : List Entry) (low k : ℕ) (e : Entry) → IsRising es → ((x : Entry) → In es x → low ≤ x.patch.no) → ((x : Entry) → In es x → x.patch.no < low + length es)
+pub at_its_place : (es : List Entry) (low k : ℕ) (e : Entry) → IsRising es → ((x : Entry) → In es x → low ≤ x.patch.no) → ((x : Entry) → In es x → x.patch.no < low + length es)
     → In es e → e.patch.no ≡ low + k → slice_get es k ≡ Some e
 at_its_place [] low k e h above below i is = absurd i
 at_its_place (x ∷ es) low zero e h above below (inl same) is = ap (λ y. Some y) same
@@ -199,7 +199,7 @@ at_its_place (x ∷ es) low (suc k) e h above below (inr i) is =
     (λ z j. let b = below z (inr j) in omega arith) i (omega arith)
 
 -- the patch of this number, which has this mark, is the one at that place
-marked_at : (all : List Entry) (n : ℕ) (mark : Mark) → IsOrderly all → IsNumbered all → HasMark all n mark → (e : Entry) × (slice_get all n ≡ Some e) × (e.mark ≡ mark)
+pub marked_at : (all : List Entry) (n : ℕ) (mark : Mark) → IsOrderly all → IsNumbered all → HasMark all n mark → (e : Entry) × (slice_get all n ≡ Some e) × (e.mark ≡ mark)
 marked_at all n mark o m (e, i, number, is) = (
   e,
   at_its_place all 0 n e o.rising (λ x j. omega arith) (λ x j. let b = m.below x (Contains-from_In all x j) in omega arith) i (omega arith),
@@ -247,7 +247,7 @@ take_is_refused now c block place number b names run mark refusal l r live m why
     rw (some, with_move) refl
 
 -- a class may be taken only of a patch that was made and isn't on the disk
-in_all : (all : List Entry) (h : History) (block : ℕ) (e : Entry) → h.entries ≡ of_block block all → In h.entries e → In all e
+pub in_all : (all : List Entry) (h : History) (block : ℕ) (e : Entry) → h.entries ≡ of_block block all → In h.entries e → In all e
 in_all all h block e is i = (filter-In (λ e. e.patch.block == block) all e (subst (λ (es : List Entry). In es e) is i)).0
 
 pub not_made : (now : Contents) (block number : ℕ) (names : List ℕ) (run : Execution) → ShowsWithout now block names run → length (entries_of run) ≤ number

@@ -1,13 +1,17 @@
 -- The promise, by the definitions of executions alone.
-use Rattle.std.specs.Prelude.{ℕ, ◌≡◌, not, IsFalse, List, [], map, filter, fold}
+use Rattle.std.specs.Prelude.{ℕ, ◌≡◌, ◌<◌, ◌↔◌, not, IsFalse, List, [], length, map, filter, fold, Ok}
 use Rattle.patch_model.specs.Pile.{pile}
 use Rattle.patch_model.specs.Execution.{Execution, extended}
 use Rattle.patch_model.specs.Step.{Send}
 use Rattle.patch_model.specs.Entry.{is_memory, is_among}
 use Rattle.patch_model.specs.State.{entries_of, state_of, has_flight}
-use Rattle.patch_model.specs.History.{Move, history_of, moved, IsPermitted, HoldsDependents, without, cached, image}
+use Rattle.patch_model.specs.History.{History, Move, Take, Back, history_of, moved, IsPermitted, HoldsDependents, without, cached, image}
 use Rattle.patch_model.specs.Legal.{IsLegal}
+use Rattle.patch_model.specs.Refusing.{class_named}
 use Rattle.patch_model.specs.Crash.{IsClosed, AreWhole, crash_set}
+use Rattle.patch_cache.specs.Viewing.{with_moves}
+use Rattle.patch_cache.specs.declared.asks.Move.{Move as PatchMove}
+use Rattle.patch_cache.specs.declared.asks.Move.TheVariants as patch
 
 -- the names that are taken after the moves
 abbrev pub taken_by : List Move → List ℕ
@@ -39,3 +43,17 @@ abbrev pub CrashesClosed : Type 0
 CrashesClosed =
     (run : Execution) (landed : List ℕ)
     → IsLegal run → IsClosed (entries_of run) (crash_set landed) × AreWhole (entries_of run) (crash_set landed)
+
+-- the move of a patch's class
+abbrev pub class_move : History → PatchMove → Move
+class_move h (patch.Take number) = Take (class_named h number)
+class_move h (patch.Back number) = Back (class_named h number)
+
+-- Moves of patches are accepted in a view just where the moves of their classes are a permitted order, and then they take
+-- what that order takes.
+abbrev pub MovesArePermitted : Type 0
+MovesArePermitted =
+    (run : Execution) (block : ℕ) (moves : List PatchMove) (names : List ℕ)
+    → IsLegal run → block < length run.first
+    → let order = map (class_move (history_of run block)) moves in
+    (with_moves run block [] moves ≡ Ok names) ↔ (IsPermitted (history_of run block) [] order × (taken_by order ≡ names))

@@ -1,16 +1,20 @@
 //! The cache's promise once more, by the definitions alone: the contract of a function that does nothing.
-ghost use Rattle.patch_cache.specs.Promise.{TakingBack, ImagesSent, CrashesClosed};
+ghost use Rattle.patch_cache.specs.Promise.{TakingBack, MovesArePermitted, ImagesSent, CrashesClosed};
 
 /// For every execution of patch, merge, send and completion steps: taking back in any permitted order a set of undoable
 /// patches that holds its dependents leaves the block's other patches over its first bytes, and putting them back restores
 /// the cached block; every image sent holds exactly its block's durable and in-flight patches; and what a crash can leave is
-/// closed under dependencies.
+/// closed under dependencies. And what a view accepts is just the permitted orders.
 pub fn promise()
     ensures taking_back { TakingBack }
+    ensures moves { MovesArePermitted }
     ensures images { ImagesSent }
     ensures crashes { CrashesClosed }
 {
     patch_model::laws::crash_sets_are_closed();
     patch_model::laws::sends_leave();
+    patch_model::laws::executions_are_orderly();
     patch_view::laws::orders_meet();
+    patch_view::laws::blocks_are_coherent();
+    patch_view::laws::uppermost_may_be_taken();
 }

@@ -1,5 +1,7 @@
-use Rattle.std.proofs.Common.{[], refl, ap}
+use Rattle.std.proofs.Common.{[], ◌∙◌, refl, ap}
+use Rattle.std.specs.Prelude.{Ok}
 use Rattle.patch_model.specs.History.{history_of, without}
+use Rattle.patch_cache.proofs.Accepting.{accepted, permitted_ones}
 use Rattle.patch_cache.proofs.Permitting.{none_taken, permitted}
 use Rattle.patch_cache.proofs.laws.promise.Goals as goal
 
@@ -7,3 +9,15 @@ pub returns-clause-taking_back : goal.returns-clause-taking_back
 returns-clause-taking_back c = λ run block moves legal p.
     let h = history_of run block in
     (permitted h [] moves (none_taken h) p, refl, (λ others q same. c.orders_meet.ensures.bytes h _ _ same), λ none. ap (without h) none)
+
+pub returns-clause-moves : goal.returns-clause-moves
+returns-clause-moves c = λ run block moves names legal known.
+    let h = history_of run block in
+    let orderly = c.executions_are_orderly.ensures in
+    let whole = orderly.blocks run block legal known in
+    let coherent = c.blocks_are_coherent.ensures.coherent h block whole in
+    let all = orderly.patches run legal in
+    let numbered = orderly.numbered run in (
+      λ is. accepted run block all numbered whole coherent c.uppermost_may_be_taken.ensures [] names moves (none_taken h) is,
+      λ p. permitted_ones run block all numbered whole coherent c.uppermost_may_be_taken.ensures [] moves (none_taken h) p.0 ∙ ap Ok p.1,
+    )
