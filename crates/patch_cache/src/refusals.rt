@@ -256,13 +256,13 @@ impl MergeRefusal {
     pub fn code(self) -> u8
         ensures { result ≡ code_of (merge_cause self).kind }
     {
-        self.kind().code()
+        RefusalKind::code(self.kind())
     }
 
     pub fn name(self) -> &'static str
         ensures { result.now ≡ name_of (merge_cause self).kind }
     {
-        self.kind().name()
+        RefusalKind::name(self.kind())
     }
 }
 
