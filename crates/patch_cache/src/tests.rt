@@ -258,3 +258,18 @@ fn walk(rt: &impl Abort, alloc: Global, lines: &[(&str, &str)]) -> Result<(), Fa
     flights.abandon();
     walked
 }
+
+// Writes the flight out, which the device takes.
+fn landed_of<A: Allocator, D: Device>(
+    rt: &impl Abort,
+    device: &mut D,
+    flight: Flight<A>,
+) -> Landed {
+    match write_out(device, flight) {
+        Ok(landed) => landed,
+        Err((flight, fault)) => {
+            flight.abandon();
+            panic!(rt; "{fault}")
+        }
+    }
+}

@@ -1,7 +1,7 @@
 //! The calls, one by one.
 use super::*;
 use patch_device::FaultyDevice;
-use patch_model::{Mark, RefusalKind};
+use patch_model::{MAX_LIVE, Mark, RefusalKind};
 use patch_view::PutBackRefusal;
 
 // A cache of two blocks of zeros, with a patch of one byte on the second.
@@ -10,17 +10,6 @@ fn with_one_patch(rt: &impl Abort, alloc: Global) -> Result<Cache, Fail> {
     let no = cache.create(BlockNo(1), 3, &[0xaa], &[], Undo::Keep)?;
     assert_eq!(rt; no, PatchNo(0));
     Ok(cache)
-}
-
-// Writes the flight out, which the device takes.
-fn landed_of<D: Device>(rt: &impl Abort, device: &mut D, flight: Flight) -> Landed {
-    match write_out(device, flight) {
-        Ok(landed) => landed,
-        Err((flight, fault)) => {
-            flight.abandon();
-            panic!(rt; "{fault}")
-        }
-    }
 }
 
 // Completes the write, which the cache waits for.
@@ -261,5 +250,27 @@ fn a_device_with_too_few_blocks(rt: HostRuntime) -> Result<(), Fail> {
             assert_eq!(rt; (fault, fault.kind()), (Fault, RefusalKind::Fault));
         }
     }
+    Ok(())
+}
+
+// As many as may be live, one on each byte of the first 256 of as many blocks, and one more.
+#[test]
+fn as_many_as_may_be_live(rt: HostRuntime) -> Result<(), Fail> {
+    let mut cache = open_zeros(&rt, rt.alloc(), 256)?;
+    for block in 0..256u32 {
+        for byte in 0..256usize {
+            cache.create(BlockNo(block), byte, &[0xaa], &[], Undo::Keep)?;
+        }
+    }
+    assert_eq!(rt; (cache.live(), cache.made()), (MAX_LIVE, 65536));
+    let refused = cache.create(BlockNo(0), 0, &[0xbb], &[], Undo::Keep);
+    assert_eq!(rt; refused, Err(CreateRefusal::TooManyLive));
+    let named = cache.create(BlockNo(0), 0, &[0xbb], &[PatchNo(65536)], Undo::Keep);
+    assert_eq!(rt; named, Err(CreateRefusal::UnknownDependency));
+    assert_eq!(rt;
+        (cache.live(), cache.made(), cache.trace().len()),
+        (65536, 65536, 65536)
+    );
+    assert_eq!(rt; cache.read(BlockNo(0), 0, 1)?, [0xaa].as_slice());
     Ok(())
 }

@@ -252,6 +252,13 @@ fn walk_at(
     walked
 }
 
+// A hole larger than that of the size before it.
+fn hole_of(size: usize) -> usize {
+    let small = size.min(64);
+    let large = size.saturating_sub(small).min(1000);
+    small * 16 + large * 64
+}
+
 // Each hole is larger than the one before it, so that one allocation more succeeds now and then.
 fn refuse_each(rt: &impl Abort, alloc: Global, by_run: bool) -> Result<(), Fail> {
     let heap = LocalHeap::new(alloc, 65536)?;
@@ -262,8 +269,8 @@ fn refuse_each(rt: &impl Abort, alloc: Global, by_run: bool) -> Result<(), Fail>
         }
         let mut refused = 0u32;
         let mut done = false;
-        for size in 1..1200usize {
-            if !walk_at(rt, alloc, &heap, by_run, place, size * 16)? {
+        for size in 1..400usize {
+            if !walk_at(rt, alloc, &heap, by_run, place, hole_of(size))? {
                 done = true;
                 break;
             }
@@ -283,4 +290,190 @@ fn of_calls(rt: HostRuntime) -> Result<(), Fail> {
 #[test]
 fn of_lists_of_one_ask(rt: HostRuntime) -> Result<(), Fail> {
     refuse_each(&rt, rt.alloc(), true)
+}
+
+// How many of the answers are those of the script, up to the first that is refused for want of memory.
+fn answers_before_refusal(
+    rt: &impl Abort,
+    alloc: Global,
+    answers: &[Answer<&LocalHeap>],
+) -> Result<usize, Fail> {
+    for (at, (answer, (line, want))) in answers.iter().zip(LINES.as_slice()).enumerate() {
+        let text = text_of_answer(alloc, answer)?;
+        if text.as_str() == REFUSED {
+            return Ok(at);
+        }
+        assert_eq!(rt; text.as_str(), *want, "{line}");
+    }
+    Ok(answers.len())
+}
+
+// Asks the whole script in one list where only this much memory is left. How many answers came before the first refusal.
+fn run_list<'a>(
+    rt: &impl Abort,
+    alloc: Global,
+    heap: &'a LocalHeap,
+    bench: &mut Bench<'a>,
+    hole: usize,
+) -> Result<usize, Fail> {
+    let asks = asks_in(alloc, heap)?;
+    let ballast = fill(alloc, heap, hole)?;
+    let ran = bench
+        .cache
+        .run(&mut bench.flights, &mut bench.device, &asks);
+    drop(ballast);
+    let answered = match ran {
+        Ok(answers) => {
+            assert_eq!(rt; answers.len(), asks.len());
+            answers_before_refusal(rt, alloc, &answers)?
+        }
+        Err((answers, OutOfMemory)) => {
+            assert!(rt; answers.len() < asks.len());
+            answers_before_refusal(rt, alloc, &answers)?
+        }
+    };
+    if answered == 0 {
+        // Nothing that went before is left over.
+        assert_eq!(rt; bench.cache.mark_of(PatchNo(3)), None);
+    }
+    Ok(answered)
+}
+
+#[test]
+fn of_a_list_of_each_kind_of_ask(rt: HostRuntime) -> Result<(), Fail> {
+    let alloc = rt.alloc();
+    let heap = LocalHeap::new(alloc, 65536)?;
+    let mut counts = [0u32; 10];
+    for size in 1..800usize {
+        let mut bench = Bench {
+            cache: open_zeros(&rt, &heap, 2)?,
+            device: MemDevice::new(alloc, 2)?,
+            flights: Flights::new(&heap),
+        };
+        let answered = run_list(&rt, alloc, &heap, &mut bench, hole_of(size));
+        let Bench {
+            cache: _,
+            flights,
+            device: _,
+        } = bench;
+        flights.abandon();
+        let answered = answered?;
+        assert!(rt; answered < counts.len());
+        counts[answered] = counts[answered].saturating_add(1);
+        if answered == LINES.len() {
+            break;
+        }
+    }
+    let stopped = counts[..9].iter().filter(|count| **count > 0).count();
+    assert!(rt; counts[9] == 1 && stopped > 4, "{counts:?}");
+    assert_eq!(rt; heap.used(), 0);
+    Ok(())
+}
+
+// Opens a cache where only this much memory is left, and again with memory where that is refused. Whether it was.
+fn open_twice(rt: &impl Abort, alloc: Global, heap: &LocalHeap, hole: usize) -> Result<bool, Fail> {
+    let mut blocks = Vec::new(heap);
+    blocks.push(BlockBytes::zeros(heap)?)?;
+    blocks.push(BlockBytes::zeros(heap)?)?;
+    assert!(rt; !blocks.is_empty() && blocks.len() <= MAX_BLOCKS);
+    let ballast = fill(alloc, heap, hole)?;
+    let used = heap.used();
+    let opened = Cache::open(heap, blocks);
+    let left = heap.used();
+    drop(ballast);
+    let (mut cache, refused) = match opened {
+        Ok(cache) => (cache, false),
+        Err(OutOfMemory) => {
+            assert!(rt; left < used);
+            (open_zeros(rt, heap, 2)?, true)
+        }
+    };
+    assert_eq!(rt;
+        text_of_cache(alloc, &mut cache)?.as_str(),
+        "0 made, 0 live, none ready, none, none, none, none, , , "
+    );
+    assert_eq!(rt;
+        cache.create(BlockNo(1), 0, &[0xaa], &[], Undo::Keep),
+        Ok(PatchNo(0))
+    );
+    Ok(refused)
+}
+
+#[test]
+fn of_opening(rt: HostRuntime) -> Result<(), Fail> {
+    let heap = LocalHeap::new(rt.alloc(), 65536)?;
+    let mut refused = 0u32;
+    let mut done = false;
+    for size in 1..400usize {
+        if !open_twice(&rt, rt.alloc(), &heap, hole_of(size))? {
+            done = true;
+            break;
+        }
+        refused = refused.saturating_add(1);
+    }
+    assert!(rt; done && refused > 2, "refused {refused}");
+    assert_eq!(rt; heap.used(), 0);
+    Ok(())
+}
+
+// A trace can't be drained where no room is left for the completion of a write that is under way.
+#[test]
+fn of_draining(rt: HostRuntime) -> Result<(), Fail> {
+    let alloc = rt.alloc();
+    let heap = LocalHeap::new(alloc, 65536)?;
+    let mut cache = open_zeros(&rt, &heap, 2)?;
+    cache.create(BlockNo(1), 0, &[0xaa], &[], Undo::Keep)?;
+    cache.send(BlockNo(1))?.abandon();
+    let before = text_of_cache(alloc, &mut cache)?;
+    let ballast = fill(alloc, &heap, 16)?;
+    assert_eq!(rt; cache.drain_trace().err(), Some(OutOfMemory));
+    let after = text_of_cache(alloc, &mut cache)?;
+    assert_eq!(rt; after.as_str(), before.as_str());
+    drop(ballast);
+    let steps = cache.drain_trace()?;
+    let text = text_of_steps(alloc, &steps)?;
+    assert_eq!(rt; text.as_str(), "create 1 0;send 1;");
+    assert!(rt; cache.trace().is_empty());
+    Ok(())
+}
+
+// Views, looks for a ready block and completions where no memory is left at all.
+#[test]
+fn of_calls_that_take_none(rt: HostRuntime) -> Result<(), Fail> {
+    let alloc = rt.alloc();
+    let heap = LocalHeap::new(alloc, 65536)?;
+    let mut device = MemDevice::new(alloc, 2)?;
+    let mut cache = open_zeros(&rt, &heap, 2)?;
+    cache.create(BlockNo(0), 0, &[0xaa], &[], Undo::Keep)?;
+    cache.create(BlockNo(1), 0, &[0xbb], &[], Undo::Keep)?;
+    let flight = cache.send(BlockNo(0))?;
+    let landed = landed_of(&rt, &mut device, flight);
+    let steps = cache.drain_trace().ok();
+    let ballast = match fill(alloc, &heap, 0) {
+        Ok(ballast) => ballast,
+        Err(fail) => {
+            landed.abandon();
+            return Err(fail);
+        }
+    };
+    assert_eq!(rt; cache.next_ready(), Some(BlockNo(1)));
+    match cache.complete(landed) {
+        Ok(done) => assert_eq!(rt; done.numbers.as_slice(), [PatchNo(0)].as_slice()),
+        Err(landed) => landed.abandon(),
+    }
+    assert_eq!(rt; cache.mark_of(PatchNo(0)), Some(Mark::Durable));
+    let mut view = cache.view(BlockNo(1))?;
+    let taken = view.take(PatchNo(0)).err();
+    let own = view.take(PatchNo(1));
+    let byte = view.bytes()[0];
+    view.restore();
+    assert_eq!(rt; (taken, own, byte), (Some(TakeRefusal::Durable), Ok(()), 0));
+    assert_eq!(rt; cache.read(BlockNo(1), 0, 1)?, [0xbb].as_slice());
+    drop(ballast);
+    assert_eq!(rt; steps.ok_or("no memory")?.len(), 3);
+    assert_eq!(rt;
+        text_of_steps(alloc, cache.trace())?.as_str(),
+        "complete 0;"
+    );
+    Ok(())
 }
