@@ -437,15 +437,14 @@ fn of_draining(rt: HostRuntime) -> Result<(), Fail> {
     Ok(())
 }
 
-// Views, looks for a ready block and completions where no memory is left at all.
+// Where no memory is left at all.
 #[test]
-fn of_calls_that_take_none(rt: HostRuntime) -> Result<(), Fail> {
+fn completions_take_none(rt: HostRuntime) -> Result<(), Fail> {
     let alloc = rt.alloc();
     let heap = LocalHeap::new(alloc, 65536)?;
     let mut device = MemDevice::new(alloc, 2)?;
     let mut cache = open_zeros(&rt, &heap, 2)?;
     cache.create(BlockNo(0), 0, &[0xaa], &[], Undo::Keep)?;
-    cache.create(BlockNo(1), 0, &[0xbb], &[], Undo::Keep)?;
     let flight = cache.send(BlockNo(0))?;
     let landed = landed_of(&rt, &mut device, flight);
     let steps = cache.drain_trace().ok();
@@ -456,24 +455,35 @@ fn of_calls_that_take_none(rt: HostRuntime) -> Result<(), Fail> {
             return Err(fail);
         }
     };
-    assert_eq!(rt; cache.next_ready(), Some(BlockNo(1)));
     match cache.complete(landed) {
         Ok(done) => assert_eq!(rt; done.numbers.as_slice(), [PatchNo(0)].as_slice()),
         Err(landed) => landed.abandon(),
     }
-    assert_eq!(rt; cache.mark_of(PatchNo(0)), Some(Mark::Durable));
-    let mut view = cache.view(BlockNo(1))?;
-    let taken = view.take(PatchNo(0)).err();
-    let own = view.take(PatchNo(1));
-    let byte = view.bytes()[0];
-    view.restore();
-    assert_eq!(rt; (taken, own, byte), (Some(TakeRefusal::Durable), Ok(()), 0));
-    assert_eq!(rt; cache.read(BlockNo(1), 0, 1)?, [0xbb].as_slice());
     drop(ballast);
-    assert_eq!(rt; steps.ok_or("no memory")?.len(), 3);
+    assert_eq!(rt; cache.mark_of(PatchNo(0)), Some(Mark::Durable));
+    assert_eq!(rt; steps.ok_or("no memory")?.len(), 2);
     assert_eq!(rt;
         text_of_steps(alloc, cache.trace())?.as_str(),
         "complete 0;"
     );
+    Ok(())
+}
+
+#[test]
+fn looks_and_views_take_none(rt: HostRuntime) -> Result<(), Fail> {
+    let heap = LocalHeap::new(rt.alloc(), 65536)?;
+    let mut cache = open_zeros(&rt, &heap, 2)?;
+    cache.create(BlockNo(1), 0, &[0xaa], &[], Undo::Keep)?;
+    cache.create(BlockNo(1), 0, &[0xbb], &[], Undo::Keep)?;
+    let _ballast = fill(rt.alloc(), &heap, 0)?;
+    assert_eq!(rt; cache.next_ready(), Some(BlockNo(1)));
+    let mut view = cache.view(BlockNo(1))?;
+    let early = view.take(PatchNo(0));
+    let taken = view.take(PatchNo(1));
+    let byte = view.bytes()[0];
+    view.restore();
+    assert_eq!(rt; early, Err(TakeRefusal::DependentApplied(PatchNo(1))));
+    assert_eq!(rt; (taken, byte), (Ok(()), 0xaa));
+    assert_eq!(rt; cache.read(BlockNo(1), 0, 1)?, [0xbb].as_slice());
     Ok(())
 }

@@ -12,12 +12,19 @@ struct Named {
     text: String,
 }
 
-fn expect_named(rt: &impl Abort, named: &Named, kind: RefusalKind, code: u8, text: &str) {
-    assert_eq!(rt; named.kind, kind, "{text}");
+fn refusal_of(named: &Named) -> Refusal {
+    Refusal {
+        kind: named.kind,
+        number: named.number,
+    }
+}
+
+fn expect_named(rt: &impl Abort, named: &Named, code: u8, text: &str) {
     assert_eq!(rt; (named.code, named.kind.code()), (code, code), "{text}");
     assert_eq!(rt; named.text.as_str(), text);
     let name = text.split_whitespace().next();
     assert_eq!(rt; Some(named.name), name, "{text}");
+    assert_eq!(rt; Some(named.kind.name()), name, "{text}");
     let number = text
         .split_whitespace()
         .nth(1)
@@ -28,50 +35,15 @@ fn expect_named(rt: &impl Abort, named: &Named, kind: RefusalKind, code: u8, tex
 #[test]
 fn of_creations(rt: HostRuntime) -> Result<(), Fail> {
     let table = [
-        (
-            CreateRefusal::NoSuchBlock,
-            RefusalKind::NoSuchBlock,
-            2,
-            "NoSuchBlock",
-        ),
-        (
-            CreateRefusal::EmptyPatch,
-            RefusalKind::EmptyPatch,
-            14,
-            "EmptyPatch",
-        ),
-        (
-            CreateRefusal::OutOfBlock,
-            RefusalKind::OutOfBlock,
-            15,
-            "OutOfBlock",
-        ),
-        (
-            CreateRefusal::UnknownDependency,
-            RefusalKind::UnknownDependency,
-            16,
-            "UnknownDependency",
-        ),
-        (
-            CreateRefusal::NumbersSpent,
-            RefusalKind::NumbersSpent,
-            17,
-            "NumbersSpent",
-        ),
-        (
-            CreateRefusal::TooManyLive,
-            RefusalKind::TooManyLive,
-            18,
-            "TooManyLive",
-        ),
-        (
-            CreateRefusal::OutOfMemory,
-            RefusalKind::OutOfMemory,
-            1,
-            "OutOfMemory",
-        ),
+        (CreateRefusal::NoSuchBlock, 2, "NoSuchBlock"),
+        (CreateRefusal::EmptyPatch, 14, "EmptyPatch"),
+        (CreateRefusal::OutOfBlock, 15, "OutOfBlock"),
+        (CreateRefusal::UnknownDependency, 16, "UnknownDependency"),
+        (CreateRefusal::NumbersSpent, 17, "NumbersSpent"),
+        (CreateRefusal::TooManyLive, 18, "TooManyLive"),
+        (CreateRefusal::OutOfMemory, 1, "OutOfMemory"),
     ];
-    for (refusal, kind, code, text) in table {
+    for (refusal, code, text) in table {
         let named = Named {
             kind: refusal.kind(),
             code: refusal.code(),
@@ -79,12 +51,8 @@ fn of_creations(rt: HostRuntime) -> Result<(), Fail> {
             number: refusal.number(),
             text: format!(in rt.alloc(); "{refusal}")?,
         };
-        expect_named(&rt, &named, kind, code, text);
-        assert_eq!(rt;
-            Refusal::from(refusal),
-            Refusal { kind, number: None },
-            "{text}"
-        );
+        expect_named(&rt, &named, code, text);
+        assert_eq!(rt; Refusal::from(refusal), refusal_of(&named), "{text}");
     }
     Ok(())
 }
@@ -92,41 +60,16 @@ fn of_creations(rt: HostRuntime) -> Result<(), Fail> {
 #[test]
 fn of_merges(rt: HostRuntime) -> Result<(), Fail> {
     let table = [
-        (MergeRefusal::Unknown, RefusalKind::Unknown, 6, "Unknown"),
-        (
-            MergeRefusal::NotInMemory(PatchNo(3)),
-            RefusalKind::NotInMemory,
-            19,
-            "NotInMemory 3",
-        ),
-        (MergeRefusal::Same, RefusalKind::Same, 20, "Same"),
-        (
-            MergeRefusal::OtherBlock,
-            RefusalKind::OtherBlock,
-            21,
-            "OtherBlock",
-        ),
-        (
-            MergeRefusal::Hard(PatchNo(4)),
-            RefusalKind::Hard,
-            9,
-            "Hard 4",
-        ),
-        (MergeRefusal::Apart, RefusalKind::Apart, 22, "Apart"),
-        (
-            MergeRefusal::WouldCycle(PatchNo(5)),
-            RefusalKind::WouldCycle,
-            23,
-            "WouldCycle 5",
-        ),
-        (
-            MergeRefusal::OutOfMemory,
-            RefusalKind::OutOfMemory,
-            1,
-            "OutOfMemory",
-        ),
+        (MergeRefusal::Unknown, 6, "Unknown"),
+        (MergeRefusal::NotInMemory(PatchNo(3)), 19, "NotInMemory 3"),
+        (MergeRefusal::Same, 20, "Same"),
+        (MergeRefusal::OtherBlock, 21, "OtherBlock"),
+        (MergeRefusal::Hard(PatchNo(4)), 9, "Hard 4"),
+        (MergeRefusal::Apart, 22, "Apart"),
+        (MergeRefusal::WouldCycle(PatchNo(5)), 23, "WouldCycle 5"),
+        (MergeRefusal::OutOfMemory, 1, "OutOfMemory"),
     ];
-    for (refusal, kind, code, text) in table {
+    for (refusal, code, text) in table {
         let named = Named {
             kind: refusal.kind(),
             code: refusal.code(),
@@ -134,9 +77,8 @@ fn of_merges(rt: HostRuntime) -> Result<(), Fail> {
             number: refusal.number(),
             text: format!(in rt.alloc(); "{refusal}")?,
         };
-        expect_named(&rt, &named, kind, code, text);
-        let number = named.number;
-        assert_eq!(rt; Refusal::from(refusal), Refusal { kind, number }, "{text}");
+        expect_named(&rt, &named, code, text);
+        assert_eq!(rt; Refusal::from(refusal), refusal_of(&named), "{text}");
     }
     Ok(())
 }
@@ -144,32 +86,12 @@ fn of_merges(rt: HostRuntime) -> Result<(), Fail> {
 #[test]
 fn of_sends(rt: HostRuntime) -> Result<(), Fail> {
     let table = [
-        (
-            SendRefusal::NoSuchBlock,
-            RefusalKind::NoSuchBlock,
-            2,
-            "NoSuchBlock",
-        ),
-        (
-            SendRefusal::AlreadyInFlight,
-            RefusalKind::AlreadyInFlight,
-            24,
-            "AlreadyInFlight",
-        ),
-        (
-            SendRefusal::NothingReady,
-            RefusalKind::NothingReady,
-            25,
-            "NothingReady",
-        ),
-        (
-            SendRefusal::OutOfMemory,
-            RefusalKind::OutOfMemory,
-            1,
-            "OutOfMemory",
-        ),
+        (SendRefusal::NoSuchBlock, 2, "NoSuchBlock"),
+        (SendRefusal::AlreadyInFlight, 24, "AlreadyInFlight"),
+        (SendRefusal::NothingReady, 25, "NothingReady"),
+        (SendRefusal::OutOfMemory, 1, "OutOfMemory"),
     ];
-    for (refusal, kind, code, text) in table {
+    for (refusal, code, text) in table {
         let named = Named {
             kind: refusal.kind(),
             code: refusal.code(),
@@ -177,12 +99,8 @@ fn of_sends(rt: HostRuntime) -> Result<(), Fail> {
             number: refusal.number(),
             text: format!(in rt.alloc(); "{refusal}")?,
         };
-        expect_named(&rt, &named, kind, code, text);
-        assert_eq!(rt;
-            Refusal::from(refusal),
-            Refusal { kind, number: None },
-            "{text}"
-        );
+        expect_named(&rt, &named, code, text);
+        assert_eq!(rt; Refusal::from(refusal), refusal_of(&named), "{text}");
     }
     Ok(())
 }
@@ -190,24 +108,18 @@ fn of_sends(rt: HostRuntime) -> Result<(), Fail> {
 #[test]
 fn of_views(rt: HostRuntime) -> Result<(), Fail> {
     let table = [
-        (TakeRefusal::Unknown, RefusalKind::Unknown, 6, "Unknown"),
-        (TakeRefusal::Durable, RefusalKind::Durable, 7, "Durable"),
-        (TakeRefusal::InFlight, RefusalKind::InFlight, 8, "InFlight"),
-        (TakeRefusal::Hard, RefusalKind::Hard, 9, "Hard"),
-        (
-            TakeRefusal::AlreadyTaken,
-            RefusalKind::AlreadyTaken,
-            10,
-            "AlreadyTaken",
-        ),
+        (TakeRefusal::Unknown, 6, "Unknown"),
+        (TakeRefusal::Durable, 7, "Durable"),
+        (TakeRefusal::InFlight, 8, "InFlight"),
+        (TakeRefusal::Hard, 9, "Hard"),
+        (TakeRefusal::AlreadyTaken, 10, "AlreadyTaken"),
         (
             TakeRefusal::DependentApplied(PatchNo(6)),
-            RefusalKind::DependentApplied,
             11,
             "DependentApplied 6",
         ),
     ];
-    for (refusal, kind, code, text) in table {
+    for (refusal, code, text) in table {
         let named = Named {
             kind: refusal.kind(),
             code: refusal.code(),
@@ -215,30 +127,19 @@ fn of_views(rt: HostRuntime) -> Result<(), Fail> {
             number: refusal.number(),
             text: format!(in rt.alloc(); "{refusal}")?,
         };
-        expect_named(&rt, &named, kind, code, text);
-        let number = named.number;
-        assert_eq!(rt; Refusal::from(refusal), Refusal { kind, number }, "{text}");
+        expect_named(&rt, &named, code, text);
+        assert_eq!(rt; Refusal::from(refusal), refusal_of(&named), "{text}");
     }
     Ok(())
 }
 
 #[test]
-fn of_reads_and_writes(rt: HostRuntime) -> Result<(), Fail> {
+fn of_reads(rt: HostRuntime) -> Result<(), Fail> {
     let table = [
-        (
-            ReadRefusal::NoSuchBlock,
-            RefusalKind::NoSuchBlock,
-            2,
-            "NoSuchBlock",
-        ),
-        (
-            ReadRefusal::OutOfBlock,
-            RefusalKind::OutOfBlock,
-            15,
-            "OutOfBlock",
-        ),
+        (ReadRefusal::NoSuchBlock, 2, "NoSuchBlock"),
+        (ReadRefusal::OutOfBlock, 15, "OutOfBlock"),
     ];
-    for (refusal, kind, code, text) in table {
+    for (refusal, code, text) in table {
         let named = Named {
             kind: refusal.kind(),
             code: refusal.code(),
@@ -246,13 +147,14 @@ fn of_reads_and_writes(rt: HostRuntime) -> Result<(), Fail> {
             number: refusal.number(),
             text: format!(in rt.alloc(); "{refusal}")?,
         };
-        expect_named(&rt, &named, kind, code, text);
-        assert_eq!(rt;
-            Refusal::from(refusal),
-            Refusal { kind, number: None },
-            "{text}"
-        );
+        expect_named(&rt, &named, code, text);
+        assert_eq!(rt; Refusal::from(refusal), refusal_of(&named), "{text}");
     }
+    Ok(())
+}
+
+#[test]
+fn of_missing_blocks_and_faults(rt: HostRuntime) -> Result<(), Fail> {
     let none = Named {
         kind: NoSuchBlock.kind(),
         code: NoSuchBlock.code(),
@@ -260,7 +162,7 @@ fn of_reads_and_writes(rt: HostRuntime) -> Result<(), Fail> {
         number: None,
         text: format!(in rt.alloc(); "{NoSuchBlock}")?,
     };
-    expect_named(&rt, &none, RefusalKind::NoSuchBlock, 2, "NoSuchBlock");
+    expect_named(&rt, &none, 2, "NoSuchBlock");
     let fault = Named {
         kind: Fault.kind(),
         code: Fault.code(),
@@ -268,6 +170,6 @@ fn of_reads_and_writes(rt: HostRuntime) -> Result<(), Fail> {
         number: None,
         text: format!(in rt.alloc(); "{Fault}")?,
     };
-    expect_named(&rt, &fault, RefusalKind::Fault, 3, "Fault");
+    expect_named(&rt, &fault, 3, "Fault");
     Ok(())
 }
