@@ -49,14 +49,16 @@ impl<A: Allocator> Flight<A> {
     pub fn block(&self) -> BlockNo
         ensures { result ≡ self.now.block }
     {
-        self.block
+        let Flight { block, .. } = self;
+        *block
     }
 
     /// How many writes of the cache began before this one.
     pub fn number(&self) -> u32
         ensures { result ≡ self.now.number }
     {
-        self.number
+        let Flight { number, .. } = self;
+        *number
     }
 
     /// The patches that it makes durable, rising.
@@ -98,13 +100,15 @@ impl Landed {
     pub fn block(&self) -> BlockNo
         ensures { result ≡ self.now.block }
     {
-        self.block
+        let Landed { block, .. } = self;
+        *block
     }
 
     pub fn number(&self) -> u32
         ensures { result ≡ self.now.number }
     {
-        self.number
+        let Landed { number, .. } = self;
+        *number
     }
 
     /// Gives the completion up. Its block stays in flight for the cache's life.
