@@ -8,7 +8,7 @@ use Rattle.serde_json.specs.Read.{read}
 use Rattle.patch_model.specs.declared.patches.Undo.{Undo}
 use Rattle.patch_model.specs.declared.patches.Undo.TheVariants.{Keep, MayDrop}
 use Rattle.patch_script.specs.declared.forms.Line.{Line}
-use Rattle.patch_script.specs.declared.forms.Line.TheVariants.{Patch, View, Show}
+use Rattle.patch_script.specs.declared.forms.Line.TheVariants.{Patch, Merge, Send, Complete, View, Show, Disk}
 use Rattle.patch_script.specs.declared.forms.Span.{Span}
 use Rattle.patch_script.specs.Field.{◌>>=◌, whole, wholes, positive, writer_number, hex_bytes, needed, optional}
 
@@ -25,6 +25,12 @@ patch_line line = do
   drop ← optional as_bool false (codes "drop") line
   writer ← optional writer_number 0 (codes "writer") line
   Some (Patch block start bytes after (undo_of drop) writer)
+
+unfoldable pub merge_line : Data → Option Line
+merge_line line = do
+  a ← needed whole (codes "a") line
+  b ← needed whole (codes "b") line
+  Some (Merge a b)
 
 abbrev pub span_of : Data → Option Span
 span_of line = do
@@ -44,8 +50,12 @@ view_line line = do
 unfoldable pub op_line : List ℕ → Data → Option Line
 op_line op line =
     if bytes_eq op (codes "patch") then patch_line line
+    else if bytes_eq op (codes "merge") then merge_line line
+    else if bytes_eq op (codes "send") then option_map Send (needed whole (codes "block") line)
+    else if bytes_eq op (codes "complete") then option_map Complete (needed whole (codes "block") line)
     else if bytes_eq op (codes "view") then view_line line
     else if bytes_eq op (codes "show") then option_map Show (span_of line)
+    else if bytes_eq op (codes "disk") then option_map Disk (span_of line)
     else None
 
 abbrev pub object_line : Data → Option Line

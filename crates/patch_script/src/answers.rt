@@ -1,9 +1,9 @@
 //! What a line is answered, and how that is written.
 ghost use Rattle.std.specs.Prelude.{◌≡◌, ◌++◌, ◌∷◌, [], List, OnOk, IfOk, string_bytes};
 ghost use Rattle.hex.specs.Hex.{encode_lower};
-ghost use Rattle.patch_script.specs.Answer.{answer_text, answer_line as the_line, refusal_text, seen_text};
+ghost use Rattle.patch_script.specs.Answer.{answer_text, answer_line as the_line, refusal_text, seen_text, numbers_text, flight_text};
 
-use patch_model::{Bytes, PatchNo, RefusalKind};
+use patch_model::{BlockNo, Bytes, Numbers, PatchNo, RefusalKind};
 use std::alloc::{AllocError, Global};
 
 /// Why a line did nothing, and the number that goes with it.
@@ -18,9 +18,17 @@ pub struct Refusal {
 pub enum Answer {
     /// A patch was made, of this number.
     Made(PatchNo),
+    /// Two classes became one, of this name.
+    Merged(PatchNo),
+    /// A write of the block began, with these patches in it.
+    Sent { block: BlockNo, numbers: Numbers },
+    /// A write of the block ended; these patches are durable.
+    Landed { block: BlockNo, numbers: Numbers },
     /// The bytes of a span without the patches that were taken back, and with them.
     Seen { without: Bytes, cached: Bytes },
     Shown(Bytes),
+    /// The bytes on the device.
+    OnDisk(Bytes),
     Refused(Refusal),
 }
 
@@ -43,6 +51,34 @@ fn push_refusal(out: &mut String, refusal: Refusal) -> Result<(), AllocError>
     }
 }
 
+/// Each number behind a comma but the first.
+fn push_numbers(out: &mut String, numbers: &[PatchNo]) -> Result<(), AllocError>
+    ensures { OnOk result (string_bytes out.new ≡ string_bytes out.old ++ numbers_text numbers.now) }
+{
+    let Some((first, rest)) = numbers.split_first() else {
+        return Ok(());
+    };
+    write!(out, "{first}")?;
+    for number in rest {
+        write!(out, ",{number}")?;
+    }
+    Ok(())
+}
+
+/// A word, the block of a flight and the numbers of its patches.
+fn push_flight(
+    out: &mut String,
+    word: &str,
+    block: BlockNo,
+    numbers: &[PatchNo],
+) -> Result<(), AllocError>
+    ensures { OnOk result (string_bytes out.new ≡ string_bytes out.old ++ (word.now ++ flight_text block numbers.now)) }
+{
+    out.push_str(word)?;
+    write!(out, "{block} ")?;
+    push_numbers(out, numbers)
+}
+
 fn push_seen(
     alloc: Global,
     out: &mut String,
@@ -61,10 +97,16 @@ fn push_answer(alloc: Global, out: &mut String, answer: &Answer) -> Result<(), A
 {
     match answer {
         Answer::Made(number) => write!(out, "patch {number}"),
+        Answer::Merged(number) => write!(out, "merged {number}"),
+        Answer::Sent { block, numbers } => push_flight(out, "sent ", *block, numbers.as_slice()),
+        Answer::Landed { block, numbers } => {
+            push_flight(out, "durable ", *block, numbers.as_slice())
+        }
         Answer::Seen { without, cached } => {
             push_seen(alloc, out, without.as_slice(), cached.as_slice())
         }
         Answer::Shown(bytes) => push_hex(alloc, out, "shown ", bytes.as_slice()),
+        Answer::OnDisk(bytes) => push_hex(alloc, out, "disk ", bytes.as_slice()),
         Answer::Refused(refusal) => push_refusal(out, *refusal),
     }
 }

@@ -1,5 +1,5 @@
 //! The forms of lines.
-use patch_model::{BlockNo, Bytes, Numbers, Undo, WriterNo};
+use patch_model::{BlockNo, Bytes, Numbers, PatchNo, Undo, WriterNo};
 
 /// Some bytes of a block: `len` of them from `start` on, at least one.
 #[derive(Clone, Copy, Debug, PartialEq, Eq)]
@@ -21,6 +21,15 @@ pub enum Line {
         undo: Undo,
         writer: WriterNo,
     },
+    /// Make one class of those of two patches.
+    Merge {
+        a: PatchNo,
+        b: PatchNo,
+    },
+    /// Begin a write of a block.
+    Send(BlockNo),
+    /// Write the image of the block's write under way to the device, and complete it.
+    Complete(BlockNo),
     /// Take patches back in their order, put some of them back in theirs, and show the span.
     View {
         take: Numbers,
@@ -29,4 +38,6 @@ pub enum Line {
     },
     /// Show the cached bytes of the span.
     Show(Span),
+    /// Show the bytes of the span that are on the device.
+    Disk(Span),
 }

@@ -1,14 +1,14 @@
 //! The reading of a line.
 ghost use Rattle.std.specs.Prelude.{◌≡◌, IfOk, IfErr, Some};
 ghost use Rattle.patch_script.specs.Gives.{Gives, Fails};
-ghost use Rattle.patch_script.specs.Form.{patch_line, view_line, span_of, op_line, object_line, json_of, is_blank, line_of};
+ghost use Rattle.patch_script.specs.Form.{patch_line, merge_line, view_line, span_of, op_line, object_line, json_of, is_blank, line_of};
 ghost use Rattle.serde_json.specs.View.{view};
 
 use crate::fields::{
     LineError, bytes, flag_or, number, numbers, numbers_or_none, positive_number, text, writer,
 };
 use crate::forms::{Line, Span};
-use patch_model::{BlockNo, Undo};
+use patch_model::{BlockNo, PatchNo, Undo};
 use serde_json::Value;
 use std::alloc::Global;
 
@@ -31,6 +31,15 @@ fn read_patch(alloc: Global, line: &Value) -> Result<Line, LineError>
         undo,
         writer,
     })
+}
+
+#[tactic(auto, unfolding(crate::specs::Form::merge_line))]
+fn read_merge(line: &Value) -> Result<Line, LineError>
+    ensures { Gives result (merge_line (view line.now)) }
+{
+    let a = PatchNo(number(line, "a")?);
+    let b = PatchNo(number(line, "b")?);
+    Ok(Line::Merge { a, b })
 }
 
 fn read_span(line: &Value) -> Result<Span, LineError>
@@ -58,8 +67,12 @@ fn read_op(alloc: Global, op: &str, line: &Value) -> Result<Line, LineError>
 {
     match op {
         "patch" => read_patch(alloc, line),
+        "merge" => read_merge(line),
+        "send" => Ok(Line::Send(BlockNo(number(line, "block")?))),
+        "complete" => Ok(Line::Complete(BlockNo(number(line, "block")?))),
         "view" => read_view(alloc, line),
         "show" => Ok(Line::Show(read_span(line)?)),
+        "disk" => Ok(Line::Disk(read_span(line)?)),
         _ => Err(LineError::Unreadable),
     }
 }

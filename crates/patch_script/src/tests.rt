@@ -72,7 +72,6 @@ fn reads_lines(rt: HostRuntime) -> Result<(), Fail> {
 fn refuses_unreadable_lines(rt: HostRuntime) -> Result<(), Fail> {
     let unreadable = [
         "{\"op\":\"fly\"}",
-        "{\"op\":\"merge\",\"a\":0,\"b\":1}",
         "{\"op\":7}",
         "{}",
         "[]",
