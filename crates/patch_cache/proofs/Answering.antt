@@ -1,6 +1,6 @@
 -- Sends and completions, as they are answered.
 use Rattle.std.proofs.Common.{◌≡◌, ℕ, ◌<◌, true, false, inl, inr, ◌∙◌, List, Result, Ok, Err, Some, None, length, OnOk, OnErr, refl, sym, ap, subst}
-use Rattle.std.specs.Prelude.{◌==◌, ◌&&◌, IsTrue, Contains, slice_get, is_err}
+use Rattle.std.specs.Prelude.{◌==◌, ◌&&◌, IsTrue, Contains, slice_get, slice_set, is_err}
 use Rattle.std.specs.List.{list_any, position}
 use Rattle.std.proofs.Math.ListN.{get_or}
 use Rattle.patch_model.specs.declared.refusals.RefusalKind.TheVariants as kind
@@ -19,7 +19,8 @@ use Rattle.patch_model.specs.Member.{In}
 use Rattle.patch_cache.specs.Contents.{Contents}
 use Rattle.patch_cache.specs.Flights.{IsFlightOf, AreFlightsOf}
 use Rattle.patch_cache.specs.Asks.{Send, Complete, Sent, Landed, Refused, IsAnswer}
-use Rattle.patch_cache.specs.Running.{Runs, IsAnswered, held_by}
+use Rattle.patch_device.specs.Device.{IsOldOrNew}
+use Rattle.patch_cache.specs.Running.{Runs, IsAnswered, HasWritten, held_by}
 use Rattle.patch_cache.specs.declared.writes.Flight.{Flight}
 use Rattle.patch_cache.specs.declared.flights.Flights.{Flights}
 use Rattle.patch_cache.proofs.Holding.{stands_at, get_in, held_flies, flying_known}
@@ -92,6 +93,17 @@ pub landed_answered : {A : Type 0} (run : Execution) (block ended : ℕ) (number
     → numbers ≡ numbers_of (flying_of (entries_of run) block) → Runs cache flights (extended run (the.Complete block)) → IsAnswered run (Complete block) (Landed ended numbers) cache flights
 landed_answered run block ended numbers cache flights flies is same runs =
     record { right = inl (subst (λ b. IsAnswer run (Complete block) (Landed b numbers)) (sym is) (landed_right run block numbers flies same)); runs = runs }
+
+-- what a written flight has made of an honest disk
+pub written_for : {A : Type 0} (run : Execution) (block : ℕ) (flight : Flight A) (old new : List (List ℕ)) → flight.block ≡ block → flight.image ≡ image (history_of run flight.block)
+    → new ≡ slice_set old flight.block flight.image → new ≡ slice_set old block (image (history_of run block))
+written_for run block flight old new at is same = same ∙ ap (slice_set old flight.block) is ∙ ap (λ b. slice_set old b (image (history_of run b))) at
+
+-- and one that the device refused
+pub written_or_not : {A : Type 0} (run : Execution) (block : ℕ) (flight : Flight A) (cause : Cause) (old new : List (List ℕ)) → cause ≡ bare kind.Fault → flight.block ≡ block
+    → flight.image ≡ image (history_of run flight.block) → IsOldOrNew old flight.block flight.image new → HasWritten run (Complete block) (Refused cause) old new
+written_or_not run block flight cause old new why at is (inl same) = inl same
+written_or_not run block flight cause old new why at is (inr done) = inr (ap Refused why, written_for run block flight old new at is done)
 
 -- a send that was done
 pub sent_answered : {A : Type 0} (run : Execution) (block : ℕ) (numbers bytes : List ℕ) (cache : Contents) (flights : Flights A) → why_not_sent run block ≡ None

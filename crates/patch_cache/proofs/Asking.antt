@@ -1,5 +1,5 @@
 -- Answers, one more at a time.
-use Rattle.std.proofs.Common.{◌≡◌, ℕ, ◌<◌, ◌≤◌, ◌⊎◌, ◌∙◌, inl, inr, Bool, true, false, Option, Some, None, List, [], ◌∷◌, ◌++◌, length, get_or, refl, sym, ap, arith}
+use Rattle.std.proofs.Common.{◌≡◌, ℕ, ◌<◌, ◌≤◌, ◌⊎◌, ◌∙◌, inl, inr, Bool, true, false, Option, Some, None, List, [], ◌∷◌, ◌++◌, length, get_or, refl, sym, ap, subst, arith}
 use Rattle.std.specs.Prelude.{nat_lt, Contains}
 use Rattle.std.proofs.lemmas.Bool.{cases_Bool}
 use Rattle.std.proofs.lemmas.Bool.Decides.{nat_tests}
@@ -9,6 +9,7 @@ use Rattle.patch_model.specs.Execution.{Execution, followed_by}
 use Rattle.patch_model.specs.Member.{In, In-from_Contains, Contains-from_In}
 use Rattle.patch_device.specs.Device.{HasRisen, most_faults}
 use Rattle.patch_cache.specs.Asks.{Ask, Answer, IsAnswer, IsGivenUp, AreAnswers, is_refused, step_for, extended_by, after, after_all}
+use Rattle.patch_cache.specs.Running.{HasWritten, HaveWritten}
 
 pub after_none : (run : Execution) (asks : List Ask) → after_all run asks [] ≡ run
 after_none run [] = refl
@@ -33,6 +34,17 @@ one_more run [] answers ask answer h at so_far right = absurd (omega arith)
 one_more run (a ∷ asks) [] ask answer h at so_far right = rw at ((right, tt), after_none (after run ask answer) asks)
 one_more run (a ∷ asks) (b ∷ answers) ask answer h at so_far right =
     let r = one_more (after run a b) asks answers ask answer (omega arith) at so_far.1 right in ((so_far.0, r.0), r.1)
+
+-- and what it has made of the disk
+pub one_more_written : (run : Execution) (asks : List Ask) (answers : List Answer) (ask : Ask) (answer : Answer) (old between new : List (List ℕ))
+    → length answers < length asks → get_or asks (length answers) ask ≡ ask → HaveWritten run asks answers old between
+    → HasWritten (after_all run asks answers) ask answer between new
+    → HaveWritten run asks (answers ++ answer ∷ []) old new
+one_more_written run [] answers ask answer old between new h at so_far one = absurd (omega arith)
+one_more_written run (a ∷ asks) [] ask answer old between new h at so_far one =
+    (new, subst (λ d. HasWritten run a answer d new) so_far (subst (λ k. HasWritten run k answer between new) (sym at) one), refl)
+one_more_written run (a ∷ asks) (b ∷ answers) ask answer old between new h at so_far one =
+    (so_far.0, so_far.1, one_more_written (after run a b) asks answers ask answer so_far.0 between new (omega arith) at so_far.2 one)
 
 -- An ask adds at most one step.
 

@@ -1,14 +1,14 @@
 -- A run of asks, one more at a time.
-use Rattle.std.proofs.Common.{◌≡◌, ◌<◌, ◌∙◌, List, [], ◌∷◌, ◌++◌, length, map, get_or, sym, ap, subst, arith}
+use Rattle.std.proofs.Common.{ℕ, ◌≡◌, ◌<◌, ◌∙◌, List, [], ◌∷◌, ◌++◌, length, map, get_or, sym, ap, subst, arith}
 use Rattle.std.proofs.lemmas.List.{map-append, get_or-map, length-map}
 use Rattle.patch_model.specs.Execution.{Execution}
 use Rattle.patch_cache.specs.Contents.{Contents}
 use Rattle.patch_cache.specs.Asks.{Ask, Answer, ask_of, answer_of, after, after_all}
-use Rattle.patch_cache.specs.Running.{Runs, HasRun, HasFault, IsAnswered}
+use Rattle.patch_cache.specs.Running.{Runs, HasRun, HasFault, IsAnswered, HasWritten, HaveWritten}
 use Rattle.patch_cache.specs.declared.flights.Flights.{Flights}
 use Rattle.patch_cache.specs.declared.asks.Ask.{Ask as CodeAsk}
 use Rattle.patch_cache.specs.declared.asks.Answer.{Answer as CodeAnswer}
-use Rattle.patch_cache.proofs.Asking.{after_none, one_more}
+use Rattle.patch_cache.proofs.Asking.{after_none, one_more, one_more_written}
 
 -- nothing is answered yet
 pub begun : {A : Type 0} (run : Execution) (asks : List Ask) (cache : Contents) (flights : Flights A) → Runs cache flights run → HasRun run asks [] cache flights
@@ -33,6 +33,22 @@ stepped run asks answers ask answer cache next flights more within at so_far one
       record { right = rw is r.0; runs = subst (Runs next more) (sym goes) one.runs },
       goes,
     )
+
+-- and of the disk
+pub stepped_written : {A : Type 0} (run : Execution) (asks : List (CodeAsk A)) (answers : List (CodeAnswer A)) (ask : CodeAsk A) (answer : CodeAnswer A) (old between new : List (List ℕ))
+    → length answers < length asks → get_or asks (length answers) ask ≡ ask
+    → HaveWritten run (map ask_of asks) (map answer_of answers) old between
+    → HasWritten (after_all run (map ask_of asks) (map answer_of answers)) (ask_of ask) (answer_of answer) between new
+    → HaveWritten run (map ask_of asks) (map answer_of (answers ++ answer ∷ [])) old new
+stepped_written run asks answers ask answer old between new within at so_far one =
+    let told : List Answer = map answer_of answers in
+    let long : length told ≡ length answers = length-map answers answer_of in
+    let asked : length (map ask_of asks) ≡ length asks = length-map asks ask_of in
+    let here : get_or (map ask_of asks) (length told) (ask_of ask) ≡ ask_of ask =
+    ap (λ n. get_or (map ask_of asks) n (ask_of ask)) long ∙ get_or-map ask_of asks (length answers) ask (ask_of ask) within ∙ ap ask_of at in
+    let is : map answer_of (answers ++ answer ∷ []) ≡ told ++ answer_of answer ∷ [] = map-append answer_of answers (answer ∷ []) in
+    subst (λ all. HaveWritten run (map ask_of asks) all old new) (sym is) (one_more_written run (map ask_of asks) told (ask_of ask) (answer_of answer) old between new
+    (omega (arith, within, long, asked)) here so_far one)
 
 pub after_begun : (run : Execution) (asks : List Ask) → after_all run asks [] ≡ run
 after_begun = after_none

@@ -1,13 +1,14 @@
 -- A list of asks, answered one after another.
-use Rattle.std.specs.Prelude.{ℕ, ◌≡◌, ◌⊎◌, ◌++◌, List, length, Contains}
+use Rattle.std.specs.Prelude.{ℕ, true, false, ◌≡◌, ◌⊎◌, ◌++◌, List, [], ◌∷◌, length, slice_set, Contains}
 use Rattle.patch_model.specs.declared.refusals.RefusalKind.TheVariants as kind
 use Rattle.patch_model.specs.Execution.{Execution}
 use Rattle.patch_model.specs.Crash.{HasTrail, MayLeave}
+use Rattle.patch_model.specs.History.{history_of, image}
 use Rattle.patch_model.specs.Refusing.{bare}
 use Rattle.patch_cache.specs.Contents.{Contents}
 use Rattle.patch_cache.specs.Meaning.{Represents}
 use Rattle.patch_cache.specs.Flights.{AreFlightsOf}
-use Rattle.patch_cache.specs.Asks.{Ask, Answer, Refused, IsAnswer, IsGivenUp, AreAnswers, after, after_all}
+use Rattle.patch_cache.specs.Asks.{Ask, Answer, Create, Merge, Send, Complete, View, Refused, IsAnswer, IsGivenUp, AreAnswers, is_refused, after, after_all}
 use Rattle.patch_cache.specs.declared.writes.Flight.{Flight}
 use Rattle.patch_cache.specs.declared.flights.Flights.{Flights}
 
@@ -47,3 +48,22 @@ pub record HasRun {A : Type 0} (run : Execution) (asks : List Ask) (answers : Li
 -- some completion met a fault
 abbrev pub HasFault : List Answer → Type 0
 HasFault answers = Contains answers (Refused (bare kind.Fault))
+
+-- What an answered ask has made of an honest disk: a completion has put the image in its block, at a fault it may have, and
+-- nothing else changes the disk.
+abbrev pub HasWritten : Execution → Ask → Answer → List (List ℕ) → List (List ℕ) → Type 0
+HasWritten run (Complete block) answer old new = elim (is_refused answer) [
+  | true ↦ (new ≡ old) ⊎ ((answer ≡ Refused (bare kind.Fault)) × (new ≡ slice_set old block (image (history_of run block))))
+  | false ↦ new ≡ slice_set old block (image (history_of run block))
+]
+HasWritten run (Create block start bytes after undo) answer old new = new ≡ old
+HasWritten run (Merge a b) answer old new = new ≡ old
+HasWritten run (Send block) answer old new = new ≡ old
+HasWritten run (View block moves start len) answer old new = new ≡ old
+
+-- and what a list of them has made of it
+abbrev pub HaveWritten : Execution → List Ask → List Answer → List (List ℕ) → List (List ℕ) → Type 0
+HaveWritten run asks [] old new = new ≡ old
+HaveWritten run [] (answer ∷ answers) old new = ⊥
+HaveWritten run (ask ∷ asks) (answer ∷ answers) old new =
+    (between : List (List ℕ)) × HasWritten run ask answer old between × HaveWritten (after run ask answer) asks answers between new

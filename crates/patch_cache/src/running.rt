@@ -8,7 +8,7 @@ ghost use Rattle.patch_device.specs.Device.{HasRisen};
 ghost use Rattle.patch_cache.specs.Contents.{write_at};
 ghost use Rattle.patch_cache.specs.Meaning.{Represents};
 ghost use Rattle.patch_cache.specs.Asks.{Create, Merge, Send, Complete, Refused, ask_of, answer_of, after, after_all};
-ghost use Rattle.patch_cache.specs.Running.{Runs, IsDone, IsAnswered, IsCrashSafe, HasRun, HasFault};
+ghost use Rattle.patch_cache.specs.Running.{Runs, IsDone, IsAnswered, IsCrashSafe, HasRun, HasFault, HasWritten, HaveWritten};
 
 use crate::asks::{Answer, Ask};
 use crate::caches::Cache;
@@ -50,6 +50,10 @@ impl<A: Allocator + Copy> Cache<A> {
         ensures fault { (run : Execution) → Runs self.old flights.old run → D.block_count device.old ≡ length run.first → MatchResult result
             (λ answers. HasFault (map answer_of answers.items) → HasRisen (D.fault_count device.old) (D.fault_count device.new))
             (λ stopped. HasFault (map answer_of stopped.0.items) → HasRisen (D.fault_count device.old) (D.fault_count device.new)) }
+        ensures written { (run : Execution) → Runs self.old flights.old run → D.block_count device.old ≡ length run.first
+            → D.is_honest device.old → MatchResult result
+            (λ answers. HaveWritten run (map ask_of asks.now) (map answer_of answers.items) (D.contents device.old) (D.contents device.new))
+            (λ stopped. HaveWritten run (map ask_of asks.now) (map answer_of stopped.0.items) (D.contents device.old) (D.contents device.new)) }
         ensures crash { (run : Execution) → Runs self.old flights.old run → D.block_count device.old ≡ length run.first
             → D.is_honest device.old → MayLeave run (D.contents device.old) → MatchResult result
             (λ answers. IsCrashSafe run (after_all run (map ask_of asks.now) (map answer_of answers.items)) (D.had device.old) (D.had device.new) (D.contents device.new))
@@ -81,6 +85,8 @@ impl<A: Allocator + Copy> Cache<A> {
         ensures faults { D.fault_count device.old ≤ D.fault_count device.new }
         ensures fault { (run : Execution) → Runs self.old flights.old run → D.block_count device.old ≡ length run.first
             → answer_of result ≡ Refused (bare kind.Fault) → HasRisen (D.fault_count device.old) (D.fault_count device.new) }
+        ensures written { (run : Execution) → Runs self.old flights.old run → D.block_count device.old ≡ length run.first
+            → D.is_honest device.old → HasWritten run (ask_of ask.now) (answer_of result) (D.contents device.old) (D.contents device.new) }
         ensures crash { (run : Execution) → Runs self.old flights.old run → D.block_count device.old ≡ length run.first
             → D.is_honest device.old → MayLeave run (D.contents device.old)
             → IsCrashSafe run (after run (ask_of ask.now) (answer_of result)) (D.had device.old) (D.had device.new) (D.contents device.new) }
@@ -195,6 +201,8 @@ impl<A: Allocator + Copy> Cache<A> {
         ensures faults { D.fault_count device.old ≤ D.fault_count device.new }
         ensures fault { (run : Execution) → Runs self.old flights.old run → D.block_count device.old ≡ length run.first
             → answer_of result ≡ Refused (bare kind.Fault) → HasRisen (D.fault_count device.old) (D.fault_count device.new) }
+        ensures written { (run : Execution) → Runs self.old flights.old run → D.block_count device.old ≡ length run.first
+            → D.is_honest device.old → HasWritten run (Complete block) (answer_of result) (D.contents device.old) (D.contents device.new) }
         ensures crash { (run : Execution) → Runs self.old flights.old run → D.block_count device.old ≡ length run.first
             → D.is_honest device.old → MayLeave run (D.contents device.old)
             → IsCrashSafe run (after run (Complete block) (answer_of result)) (D.had device.old) (D.had device.new) (D.contents device.new) }

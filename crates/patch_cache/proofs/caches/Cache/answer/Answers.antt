@@ -1,7 +1,7 @@
 use Rattle.std.proofs.Common.{◌≡◌, refl, sym, ap, subst}
 use Rattle.patch_model.specs.Legal.{IsLegal}
 use Rattle.patch_cache.specs.Asks.{Create, Merge, Send, View, ask_of, answer_of, after}
-use Rattle.patch_cache.specs.Running.{IsAnswered, IsCrashSafe}
+use Rattle.patch_cache.specs.Running.{IsAnswered, IsCrashSafe, HasWritten}
 use Rattle.patch_cache.proofs.Crashing.{unwritten}
 use Rattle.patch_cache.proofs.Faultless.{view_faultless}
 use Rattle.patch_cache.proofs.Plain.{create_held, merge_held, view_kept}
@@ -77,3 +77,31 @@ returns-in-View-clause-crash g c run r count honest left =
     subst (λ a. IsCrashSafe run (after run a (answer_of c.look.result)) (device.had c.args.device.now) (device.had c.args.device.now) (device.contents c.args.device.now)) (sym same)
     (unwritten c.disks_stay.ensures run ask (answer_of c.look.result) _ _ refl r.cache_is.legal
     (view_kept IsLegal run i.block c.as_slice-in-View.result.now i.start i.len (answer_of c.look.result) r.cache_is.legal) left)
+
+pub returns-in-Create-clause-written : goal.returns-in-Create-clause-written
+returns-in-Create-clause-written g c run r count honest =
+    let i = c.in-Create in
+    let device = g.D.Device in
+    let same : ask_of c.args.ask.now ≡ Create i.block i.start c.as_slice.result.now c.as_slice-in-Create.result.now i.undo = rw (c.as_slice.ensures, c.as_slice-in-Create.ensures) (ap ask_of i.is) in
+    subst (λ a. HasWritten run a (answer_of c.answer_create.result) (device.contents c.args.device.now) (device.contents c.args.device.now)) (sym same) refl
+
+pub returns-in-View-clause-written : goal.returns-in-View-clause-written
+returns-in-View-clause-written g c run r count honest =
+    let i = c.in-View in
+    let device = g.D.Device in
+    let same : ask_of c.args.ask.now ≡ View i.block c.as_slice-in-View.result.now i.start i.len = rw c.as_slice-in-View.ensures (ap ask_of i.is) in
+    subst (λ a. HasWritten run a (answer_of c.look.result) (device.contents c.args.device.now) (device.contents c.args.device.now)) (sym same) refl
+
+pub returns-in-Merge-clause-written : goal.returns-in-Merge-clause-written
+returns-in-Merge-clause-written g c run r count honest =
+    let i = c.in-Merge in
+    let device = g.D.Device in
+    let same : ask_of c.args.ask.now ≡ Merge i.a i.b = ap ask_of i.is in
+    subst (λ a. HasWritten run a (answer_of c.answer_merge.result) (device.contents c.args.device.now) (device.contents c.args.device.now)) (sym same) refl
+
+pub returns-in-Send-clause-written : goal.returns-in-Send-clause-written
+returns-in-Send-clause-written g c run r count honest =
+    let i = c.in-Send in
+    let device = g.D.Device in
+    let same : ask_of c.args.ask.now ≡ Send i.block = ap ask_of i.is in
+    subst (λ a. HasWritten run a (answer_of c.answer_send.result) (device.contents c.args.device.now) (device.contents c.args.device.now)) (sym same) refl

@@ -7,9 +7,9 @@ use Rattle.patch_cache.specs.Flights.{AreFlightsOf}
 use Rattle.patch_device.specs.Device.{HasRisen, IsOldOrNew}
 use Rattle.patch_cache.specs.Running.{IsCrashSafe}
 use Rattle.patch_cache.proofs.caches.Cache.answer_complete.Goals as goal
-use Rattle.std.proofs.Common.{sym, subst, ◌∙◌}
+use Rattle.std.proofs.Common.{inl, refl, sym, subst, ◌∙◌}
 use Rattle.patch_cache.specs.Refusals.{cause_of}
-use Rattle.patch_cache.proofs.Answering.{found, no_stranger, on_err, on_ok, none_answered, fault_answered, landed_answered}
+use Rattle.patch_cache.proofs.Answering.{found, no_stranger, on_err, on_ok, none_answered, fault_answered, landed_answered, written_or_not, written_for}
 use Rattle.patch_cache.proofs.Crashing.{unmoved, write_refused, write_completed}
 use Rattle.patch_cache.proofs.Holding.{held_complete, none_stands}
 
@@ -21,6 +21,9 @@ returns-in_default-clause-answer g c = λ run runs count.
 
 pub returns-in_default-clause-crash : goal.returns-in_default-clause-crash
 returns-in_default-clause-crash g c = λ run runs count honest left. unmoved run _ _ left
+
+pub returns-in_default-clause-written : goal.returns-in_default-clause-written
+returns-in_default-clause-written g c = λ run runs count honest. inl refl
 
 -- the device refused the write
 pub returns-then-is_err-clause-answer : goal.returns-then-is_err-clause-answer
@@ -50,6 +53,17 @@ returns-then-is_err-clause-crash g c = λ run runs count honest left.
     write_refused c.images_land.ensures run flight.block flight.image (g.D.Device.had c.args.device.now) (g.D.Device.had c.write_image.new.device) contents now s.known s.is.image_is
     (on_err c.write_image.result (IsOldOrNew contents flight.block flight.image now) (sym c.is_err.ensures.value ∙ c.if-is_err.true) (c.write_image.ensures.refused honest))
     (c.write_image.ensures.had honest) left
+
+pub returns-then-is_err-clause-written : goal.returns-then-is_err-clause-written
+returns-then-is_err-clause-written g c = λ run runs count honest.
+    let s =
+    found c.flights_are_single.ensures.holds c.patches_are_placed.ensures.known run c.args.flights.now.held.items c.args.block c.in-Some.at c.index.result.now runs.cache_is.legal
+    runs.flights_are (sym c.place_of.ensures ∙ c.in-Some.is) c.index.ensures in
+    let contents = g.D.Device.contents c.args.device.now in
+    let now = g.D.Device.contents c.write_image.new.device in
+    let flight = c.index.result.now in
+    written_or_not run c.args.block flight (cause_of c.bare-then-is_err.result) contents now c.bare-then-is_err.ensures s.block_is s.is.image_is
+    (on_err c.write_image.result (IsOldOrNew contents flight.block flight.image now) (sym c.is_err.ensures.value ∙ c.if-is_err.true) (c.write_image.ensures.refused honest))
 
 -- the write is completed
 pub returns-in-Ok-clause-answer : goal.returns-in-Ok-clause-answer
@@ -85,9 +99,28 @@ returns-in-Ok-clause-crash g c = λ run runs count honest left.
     (on_ok c.write_image.result (now ≡ slice_set contents flight.block flight.image) (sym c.is_err.ensures.value ∙ c.if-is_err.false) (c.write_image.ensures.written honest))
     (c.write_image.ensures.had honest) left)
 
+pub returns-in-Ok-clause-written : goal.returns-in-Ok-clause-written
+returns-in-Ok-clause-written g c = λ run runs count honest.
+    let s =
+    found c.flights_are_single.ensures.holds c.patches_are_placed.ensures.known run c.args.flights.now.held.items c.args.block c.in-Some.at c.index.result.now runs.cache_is.legal
+    runs.flights_are (sym c.place_of.ensures ∙ c.in-Some.is) c.index.ensures in
+    let contents = g.D.Device.contents c.args.device.now in
+    let now = g.D.Device.contents c.write_image.new.device in
+    let flight = c.index.result.now in
+    written_for run c.args.block flight contents now s.block_is s.is.image_is
+    (on_ok c.write_image.result (now ≡ slice_set contents flight.block flight.image) (sym c.is_err.ensures.value ∙ c.if-is_err.false) (c.write_image.ensures.written honest))
+
 -- the flight is the cache's, and can't be a stranger
 pub returns-in-Err-clause-answer : goal.returns-in-Err-clause-answer
 returns-in-Err-clause-answer g c = λ run runs count.
+    let s =
+    found c.flights_are_single.ensures.holds c.patches_are_placed.ensures.known run c.args.flights.now.held.items c.args.block c.in-Some.at c.swap_remove.result runs.cache_is.legal
+    runs.flights_are (sym c.place_of.ensures ∙ c.in-Some.is) c.swap_remove.ensures.value in
+    absurd (no_stranger run c.args.flights.now.held.items c.args.block c.in-Some.at c.landed-landed.result.block c.landed-landed.result.number c.swap_remove.result s c.landed-landed.ensures.block
+    c.landed-landed.ensures.number (c.in-Err.ensures.stranger run runs.cache_is))
+
+pub returns-in-Err-clause-written : goal.returns-in-Err-clause-written
+returns-in-Err-clause-written g c = λ run runs count honest.
     let s =
     found c.flights_are_single.ensures.holds c.patches_are_placed.ensures.known run c.args.flights.now.held.items c.args.block c.in-Some.at c.swap_remove.result runs.cache_is.legal
     runs.flights_are (sym c.place_of.ensures ∙ c.in-Some.is) c.swap_remove.ensures.value in

@@ -2,10 +2,10 @@ use Rattle.std.proofs.Common.{◌≡◌, ◌∙◌, ◌<◌, ◌++◌, ◌∷◌
 use Rattle.std.proofs.lemmas.List.{length-append, map-append}
 use Rattle.patch_model.specs.Execution.{Execution}
 use Rattle.patch_cache.specs.Asks.{ask_of, answer_of, after_all}
-use Rattle.patch_cache.specs.Running.{HasFault, IsCrashSafe}
+use Rattle.patch_cache.specs.Running.{HasFault, IsCrashSafe, HaveWritten}
 use Rattle.patch_cache.proofs.Asking.{all_first, risen_more, risen_before, among_more}
 use Rattle.patch_cache.proofs.Crashing.{unmoved, joined_ask}
-use Rattle.patch_cache.proofs.Runs.{begun, stepped, no_fault, after_begun}
+use Rattle.patch_cache.proofs.Runs.{begun, stepped, stepped_written, no_fault, after_begun}
 use Rattle.patch_cache.proofs.caches.Cache.run.Goals as goal
 
 pub loop-ask-init : goal.loop-ask-init
@@ -20,6 +20,7 @@ loop-ask-init g c =
       faults = omega arith;
       so_far = λ run r count. rw none (begun run asks _ _ r);
       fault = λ run r count fault. absurd (no_fault (subst (λ answers. HasFault (map answer_of answers)) none fault));
+      written = λ run r count honest. rw none refl;
       crash = λ run r count honest left.
           rw none (subst (λ now. IsCrashSafe run now (device.had c.args.device.now) (device.had c.args.device.now) (device.contents c.args.device.now)) (sym (after_begun run asks)) (unmoved run _ _ left));
     }
@@ -57,6 +58,10 @@ loop-ask-preserved g c =
             | inl early ↦ risen_more _ _ _ (before.fault run r count early) told.faults (g.met.D.Device.faults_fit next)
             | inr late ↦ risen_before _ _ _ before.faults (told.fault (so_far run) done.runs (fits run count) late) (g.met.D.Device.faults_fit now)
           ];
+      written = λ run r count honest.
+          let done = before.so_far run r count in
+          rw pushed (stepped_written run asks answers c.ask-item.result answer _ _ _ within item (before.written run r count honest)
+          (told.written (so_far run) done.runs (fits run count) (before.honesty.0 honest)));
       crash = λ run r count honest left.
           let done = before.so_far run r count in
           let goes = (stepped run asks answers c.ask-item.result answer _ _ _ _ within item done (told.answer (so_far run) done.runs (fits run count))).1 in
@@ -72,3 +77,9 @@ returns-in-Err-clause-fault g c run r count fault =
 
 pub returns-in-Err-clause-crash : goal.returns-in-Err-clause-crash
 returns-in-Err-clause-crash g c run r count honest left = rw c.reserve.ensures.items (c.loop-ask.invariant.crash run r count honest left)
+
+pub returns-in-Err-clause-written : goal.returns-in-Err-clause-written
+returns-in-Err-clause-written g c run r count honest =
+    let device = g.D.Device in
+    subst (λ answers. HaveWritten run (map ask_of c.args.asks.now) (map answer_of answers) (device.contents c.args.device.now) (device.contents c.loop-ask.device)) (sym c.reserve.ensures.items)
+    (c.loop-ask.invariant.written run r count honest)
