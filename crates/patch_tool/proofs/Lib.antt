@@ -1,6 +1,3 @@
-pub mod Finding
-pub mod Agreeing
 pub mod Leading
-pub mod Moving
-pub mod Making
-pub mod Refused
+pub mod Asking
+pub mod Looking

@@ -1,90 +1,121 @@
--- What a line of a script is answered, and what it makes of the execution.
-use Rattle.std.specs.Prelude.{ℕ, ◌==◌, ◌+◌, not, List, [], ◌∷◌, length, replicate, slice_range, filter, Option, Some, None, Result, Ok, Err}
-use Rattle.patch_model.specs.declared.blocks.TheConstants.{BLOCK}
-use Rattle.patch_model.specs.Step.{Step, Create}
-use Rattle.patch_model.specs.Execution.{Execution, extended}
-use Rattle.patch_model.specs.State.{entries_of}
-use Rattle.patch_model.specs.History.{History, history_of, without, cached}
-use Rattle.patch_model.specs.Refusing.{Refusal as Cause, why_not_made, why_not_shown, why_not_taken, why_not_put_back, class_named}
+-- What a line of a script is answered, and what it makes of the blocks and their disk.
+use Rattle.std.specs.Prelude.{ℕ, ◌≡◌, ◌++◌, Bool, true, false, List, [], ◌∷◌, map, length, slice_index_or, slice_set, Option, Some, None, if◌then◌else◌}
+use Rattle.patch_model.specs.Execution.{Execution}
+use Rattle.patch_model.specs.History.{history_of, cached, image}
+use Rattle.patch_model.specs.Refusing.{Refusal as Cause, why_not_shown}
+use Rattle.patch_device.specs.Blocks.{zeros}
+use Rattle.patch_cache.specs.Asks.{Ask, Create, Merge, Send, Complete, View, IsAnswer, step_for, extended_by}
+use Rattle.patch_cache.specs.Asks as given
+use Rattle.patch_cache.specs.Viewing.{bytes_at}
+use Rattle.patch_cache.specs.declared.asks.Move.{Move}
+use Rattle.patch_cache.specs.declared.asks.Move.TheVariants.{Take, Back}
 use Rattle.patch_script.specs.declared.answers.Refusal.{Refusal}
 use Rattle.patch_script.specs.declared.answers.Answer.{Answer}
-use Rattle.patch_script.specs.declared.answers.Answer.TheVariants.{Made, Seen, Shown, Refused}
+use Rattle.patch_script.specs.declared.answers.Answer.TheVariants.{Made, Merged, Sent, Landed, Seen, Shown, OnDisk, Refused}
 use Rattle.patch_script.specs.declared.forms.Line.{Line}
-use Rattle.patch_script.specs.declared.forms.Line.TheVariants.{Patch, View, Show}
+use Rattle.patch_script.specs.declared.forms.Line.TheVariants as line
 use Rattle.patch_script.specs.declared.forms.Span.{Span}
 
-abbrev pub zeros : List ℕ
-zeros = replicate BLOCK 0
+-- an execution, and a disk that is a plain list of blocks
+pub record World : Type 0 where
+  pub run : Execution
+  pub disk : List (List ℕ)
 
--- one block of zeros, and no patch yet
-abbrev pub start : Execution
-start = record { first = zeros ∷ []; steps = [] }
+-- so many blocks of zeros with no patch yet, and a disk of zeros
+abbrev pub start : ℕ → World
+start blocks = record { run = record { first = zeros blocks; steps = [] }; disk = zeros blocks }
+
+-- all takes in their order, and then the puts back in theirs
+abbrev pub moves_of : (take back : List ℕ) → List Move
+moves_of take back = map Take take ++ map Back back
+
+-- What a line asks of a cache. A look at a block's cached bytes, or at the disk, asks it nothing.
+abbrev pub asked : Line → Option Ask
+asked (line.Patch block start bytes named undo writer) = Some (Create block start bytes named undo)
+asked (line.Merge a b) = Some (Merge a b)
+asked (line.Send block) = Some (Send block)
+asked (line.Complete block) = Some (Complete block)
+asked (line.View take back span) = Some (View span.block (moves_of take back) span.start span.len)
+asked (line.Show span) = None
+asked (line.Disk span) = None
 
 -- a cause, as a line is told it
-abbrev pub told : Cause → Refusal
-told cause = record { kind = cause.kind; number = cause.number }
+abbrev pub refusal_of : Cause → Refusal
+refusal_of cause = record { kind = cause.kind; number = cause.number }
+
+-- a cache's answer, as a line is told it: of what is sent, the patches alone
+abbrev pub told : given.Answer → Answer
+told (given.Made number) = Made number
+told (given.Merged name) = Merged name
+told (given.Sent block numbers image) = Sent block numbers
+told (given.Landed block numbers) = Landed block numbers
+told (given.Seen without cached) = Seen without cached
+told (given.Refused cause) = Refused (refusal_of cause)
 
 -- the answer, unless there is a cause to refuse it
 abbrev pub answer_unless : Option Cause → Answer → Answer
 answer_unless None answer = answer
-answer_unless (Some cause) answer = Refused (told cause)
-
--- the execution with one more step, unless there is a cause to refuse it
-abbrev pub extended_unless : Option Cause → Execution → Step → Execution
-extended_unless None run step = extended run step
-extended_unless (Some cause) run step = run
-
--- why the execution takes no such patch
-abbrev pub why_no_patch : Execution → (block start : ℕ) (bytes after : List ℕ) → Option Cause
-why_no_patch run block start bytes after = why_not_made (length run.first) (entries_of run) block start bytes after
-
--- why the execution shows no such span
-abbrev pub why_no_span : Execution → Span → Option Cause
-why_no_span run span = why_not_shown (length run.first) span.block span.start span.len
+answer_unless (Some cause) answer = Refused (refusal_of cause)
 
 -- the bytes of a span
-abbrev pub bytes_at : List ℕ → Span → List ℕ
-bytes_at bytes span = slice_range bytes span.start (span.start + span.len)
+abbrev pub bytes_in : List ℕ → Span → List ℕ
+bytes_in bytes span = bytes_at bytes span.start span.len
 
--- Views: the names of the classes that are taken, or the first refusal.
+-- why a span isn't shown
+abbrev pub why_no_span : World → Span → Option Cause
+why_no_span w span = why_not_shown (length w.run.first) span.block span.start span.len
 
-abbrev pub names_unless : Option Cause → List ℕ → Result (List ℕ) Refusal
-names_unless None names = Ok names
-names_unless (Some cause) names = Err (told cause)
+-- the line is told what the definitions answer to its ask
+pub record IsTold (run : Execution) (ask : Ask) (answer : Answer) : Type 0 where
+  pub answered : given.Answer
+  pub right : IsAnswer run ask answered
+  pub is : answer ≡ told answered
 
--- the class of a patch is taken back
-abbrev pub with_taken : History → List ℕ → ℕ → Result (List ℕ) Refusal
-with_taken h names number = names_unless (why_not_taken h names number) (class_named h number ∷ names)
+-- What the definitions answer to a line.
+unfoldable pub IsAnswerTo : World → Line → Answer → Type 0
+IsAnswerTo w (line.Patch block start bytes named undo writer) answer = IsTold w.run (Create block start bytes named undo) answer
+IsAnswerTo w (line.Merge a b) answer = IsTold w.run (Merge a b) answer
+IsAnswerTo w (line.Send block) answer = IsTold w.run (Send block) answer
+IsAnswerTo w (line.Complete block) answer = IsTold w.run (Complete block) answer
+IsAnswerTo w (line.View take back span) answer = IsTold w.run (View span.block (moves_of take back) span.start span.len) answer
+IsAnswerTo w (line.Show span) answer = answer ≡ answer_unless (why_no_span w span) (Shown (bytes_in (cached (history_of w.run span.block)) span))
+IsAnswerTo w (line.Disk span) answer = answer ≡ answer_unless (why_no_span w span) (OnDisk (bytes_in (slice_index_or w.disk span.block []) span))
 
--- the class of a patch is put back
-abbrev pub with_put_back : History → List ℕ → ℕ → Result (List ℕ) Refusal
-with_put_back h names number = names_unless (why_not_put_back h names number) (filter (λ n. not (n == class_named h number)) names)
+abbrev pub is_refused : Answer → Bool
+is_refused (Refused refusal) = true
+is_refused (Made number) = false
+is_refused (Merged name) = false
+is_refused (Sent block numbers) = false
+is_refused (Landed block numbers) = false
+is_refused (Seen without cached) = false
+is_refused (Shown bytes) = false
+is_refused (OnDisk bytes) = false
 
-abbrev pub go_on : {A B E : Type 0} → Result A E → (A → Result B E) → Result B E
-go_on (Ok x) f = f x
-go_on (Err e) f = Err e
+-- the disk behind an ask that was answered: a completion has put the image in its block
+abbrev pub disk_behind : World → Ask → List (List ℕ)
+disk_behind w (Complete block) = slice_set w.disk block (image (history_of w.run block))
+disk_behind w (Create block start bytes after undo) = w.disk
+disk_behind w (Merge a b) = w.disk
+disk_behind w (Send block) = w.disk
+disk_behind w (View block moves start len) = w.disk
 
--- one patch after another is taken, or put back
-abbrev pub in_turn : (List ℕ → ℕ → Result (List ℕ) Refusal) → List ℕ → List ℕ → Result (List ℕ) Refusal
-in_turn move names [] = Ok names
-in_turn move names (number ∷ numbers) = go_on (move names number) (λ now. in_turn move now numbers)
+abbrev pub behind : World → Option Ask → World
+behind w None = w
+behind w (Some ask) = record { run = extended_by w.run (step_for ask); disk = disk_behind w ask }
 
--- all takes in their order, and then the puts back in theirs
-abbrev pub in_view : History → List ℕ → List ℕ → Result (List ℕ) Refusal
-in_view h take back = go_on (in_turn (with_taken h) [] take) (λ names. in_turn (with_put_back h) names back)
+-- the world behind a line, which a refused one leaves as it is
+unfoldable pub after : World → Line → Answer → World
+after w line answer = if is_refused answer then w else behind w (asked line)
 
-abbrev pub seen : History → Span → Result (List ℕ) Refusal → Answer
-seen h span (Ok names) = Seen (bytes_at (without h names) span) (bytes_at (cached h) span)
-seen h span (Err refusal) = Refused refusal
+-- each line is answered right, behind the lines before it
+abbrev pub AreAnswers : World → List Line → List Answer → Type 0
+AreAnswers w [] [] = Unit {0}
+AreAnswers w [] (answer ∷ answers) = ⊥
+AreAnswers w (line ∷ lines) [] = ⊥
+AreAnswers w (line ∷ lines) (answer ∷ answers) = IsAnswerTo w line answer × AreAnswers (after w line answer) lines answers
 
--- Lines.
-
-unfoldable pub answer_to : Execution → Line → Answer
-answer_to run (Patch block start bytes named undo writer) = answer_unless (why_no_patch run block start bytes named) (Made (length (entries_of run)))
-answer_to run (View take back span) = answer_unless (why_no_span run span) (seen (history_of run span.block) span (in_view (history_of run span.block) take back))
-answer_to run (Show span) = answer_unless (why_no_span run span) (Shown (bytes_at (cached (history_of run span.block)) span))
-
-unfoldable pub after : Execution → Line → Execution
-after run (Patch block start bytes named undo writer) = extended_unless (why_no_patch run block start bytes named) run (Create block start bytes named undo)
-after run (View take back span) = run
-after run (Show span) = run
+-- the world behind them
+abbrev pub after_all : World → List Line → List Answer → World
+after_all w [] answers = w
+after_all w (line ∷ lines) [] = w
+after_all w (line ∷ lines) (answer ∷ answers) = after_all (after w line answer) lines answers

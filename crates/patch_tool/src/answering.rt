@@ -1,7 +1,6 @@
 //! What answers lines.
-ghost use Rattle.std.specs.Prelude.{◌≡◌, IfOk};
-ghost use Rattle.patch_model.specs.Execution.{Execution};
-ghost use Rattle.patch_tool.specs.Answering.{answer_to, after};
+ghost use Rattle.std.specs.Prelude.{IfOk};
+ghost use Rattle.patch_tool.specs.Answering.{World, IsAnswerTo, after};
 
 use patch_model::OutOfMemory;
 use patch_script::{Answer, Line};
@@ -9,11 +8,11 @@ use std::alloc::Global;
 
 /// What answers the lines of a script, one after another.
 pub trait Core {
-    /// The core is where this execution has come.
-    ghost IsAt: { Self → Execution → Type 0 };
+    /// The core is where this world has come.
+    ghost IsAt: { Self → World → Type 0 };
 
     /// Answers a line. Want of memory leaves the core unfit for use.
-    fn answer(&mut self, alloc: Global, line: &Line) -> Result<Answer, OutOfMemory>
-        ensures { (run : Execution) → IsAt self.old run → IfOk result (λ answer.
-            (answer ≡ answer_to run line.now) × IsAt self.new (after run line.now)) };
+    fn answer(&mut self, alloc: Global, line: Line) -> Result<Answer, OutOfMemory>
+        ensures { (w : World) → IsAt self.old w → IfOk result (λ answer.
+            IsAnswerTo w line answer × IsAt self.new (after w line answer)) };
 }

@@ -1,17 +1,29 @@
 //! The command line.
-use clap::{Command, Error};
+use clap::{Arg, Command, Error, value_parser};
 use std::alloc::Global;
+
+/// How many blocks there are where the command line doesn't say.
+const DEFAULT_BLOCKS: u32 = 8;
 
 /// What the command line asks for.
 #[derive(Clone, Copy, Debug, PartialEq, Eq)]
 pub enum Request {
-    Replay,
+    /// To replay a script on so many blocks.
+    Replay { blocks: u32 },
 }
 
 fn command<'a>(alloc: Global) -> Result<Command<'a>, Error> {
-    let replay = Command::new(alloc, "replay").about(
-        "Replays a script of patches and views from standard input, on one block of zeros",
-    );
+    let blocks = Arg::new(alloc, "blocks")
+        .long("blocks")
+        .value_name("N")
+        .help("How many blocks of zeros there are, 1 to 4096")
+        .value_parser(value_parser!(u32).range(1..=4096))
+        .default_value("8");
+    let replay = Command::new(alloc, "replay")
+        .about(
+            "Replays a script of patches, sends and views from standard input, on blocks of zeros",
+        )
+        .arg(blocks)?;
     Ok(
         Command::new(alloc, "fstch")
             .about("Replays scripts of patches: each line of the script is answered by a line")
@@ -24,6 +36,12 @@ fn command<'a>(alloc: Global) -> Result<Command<'a>, Error> {
 /// What the words ask for. What asks for help is an error too: its text is the help.
 pub fn read(alloc: Global, words: &[String]) -> Result<Request, Error> {
     let command = command(alloc)?;
-    command.try_get_matches_from(words)?;
-    Ok(Request::Replay)
+    let matches = command.try_get_matches_from(words)?;
+    let blocks = match matches.subcommand() {
+        Some((_, replay)) => replay.get_one::<u32>("blocks"),
+        None => None,
+    };
+    Ok(Request::Replay {
+        blocks: blocks.unwrap_or(DEFAULT_BLOCKS),
+    })
 }

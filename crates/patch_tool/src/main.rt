@@ -3,18 +3,19 @@
 
 mod answering;
 mod arguments;
-mod one_block;
+mod cached_disk;
 mod replaying;
 #[cfg(test)]
 mod rows;
-mod showing;
+#[cfg(test)]
+mod rows_of_writes;
 #[cfg(test)]
 mod tests;
-mod viewing;
 
 use crate::arguments::Request;
 use crate::replaying::{Status, replay};
 use clap::error::ErrorKind;
+use patch_model::MAX_BLOCKS;
 use std::alloc::AllocError;
 use std::io::{BufWriter, writer};
 use std::process::ExitCode;
@@ -25,7 +26,7 @@ const MISUSED: u8 = 2;
 /// Does what the words of the command line ask for, and answers the exit status.
 fn run_words<R: Print + Eprint + Input + AllocGlobal>(rt: &R, words: &[String]) -> u8 {
     match arguments::read(rt.alloc(), words) {
-        Ok(Request::Replay) => run_replay(rt),
+        Ok(Request::Replay { blocks }) => run_replay(rt, blocks),
         Err(error) if error.kind() == ErrorKind::OutOfMemory => out_of_memory(rt),
         Err(error) => {
             let _ = rt.eprint(&error);
@@ -34,12 +35,14 @@ fn run_words<R: Print + Eprint + Input + AllocGlobal>(rt: &R, words: &[String]) 
     }
 }
 
-fn run_replay<R: Print + Input + AllocGlobal>(rt: &R) -> u8 {
+fn run_replay<R: Print + Input + AllocGlobal>(rt: &R, blocks: u32) -> u8 {
     let alloc = rt.alloc();
     let Ok(mut out) = BufWriter::new(alloc, writer(rt)) else {
         return out_of_memory(rt);
     };
-    replay(alloc, &mut rt.reader(), &mut out).code()
+    // The command line has no others.
+    let blocks = blocks.clamp(1, MAX_BLOCKS as u32);
+    replay(alloc, &mut rt.reader(), &mut out, blocks).code()
 }
 
 /// Tells that memory ran out before the work began.

@@ -1,16 +1,14 @@
 //! Replays a script: all is read, then its limits are tested, then it is parsed, and then it is answered.
-ghost use Rattle.std.specs.Prelude.{ℕ, ◌≡◌, ◌⊎◌, ◌<◌, ◌++◌, ◌∷◌, [], List, length, nat_lt, if◌then◌else◌, IfOk, IfErr, OnOk, IfSome, Some, None, codes, decimal, string_bytes};
+ghost use Rattle.std.specs.Prelude.{ℕ, ◌≡◌, ◌⊎◌, ◌<◌, ◌≤◌, ◌++◌, ◌∷◌, [], List, length, nat_lt, if◌then◌else◌, IfOk, IfErr, OnOk, IfSome, Some, None, codes, decimal, string_bytes};
 ghost use Rattle.std.specs.Io.KnownBytes.{Appends};
-ghost use Rattle.patch_model.specs.Execution.{Execution};
-ghost use Rattle.patch_script.specs.Answer.{answer_line as line_told};
-ghost use Rattle.patch_tool.specs.Answering.{start, answer_to, after};
-ghost use Rattle.patch_tool.specs.Replay.{HasAnswered, Stopped, Starved, answers_text, bad_line, replay_text, replay_status, IsInput, IsEnd, Replayed, too_long_text};
+ghost use Rattle.patch_tool.specs.Answering.{World, start};
+ghost use Rattle.patch_tool.specs.Replay.{IsLineTold, HasWrittenAll, HasAnswered, Stopped, Starved, bad_line, IsInput, IsEnd, Replayed, too_long_text};
 ghost use Rattle.patch_tool.specs.declared.replaying.Status.TheVariants.{Unreadable, Failed, OutOfMemory as NoMemory};
 ghost use Rattle.patch_tool.specs.declared.replaying.Fault.TheVariants.{Write as WriteFault};
 
 use crate::answering::Core;
-use crate::one_block::OneBlock;
-use patch_model::OutOfMemory;
+use crate::cached_disk::CachedDisk;
+use patch_model::{MAX_BLOCKS, OutOfMemory};
 use patch_script::{Line, MAX_BYTES, ScriptError, answer_line, passes_limit, read_script};
 use std::alloc::{AllocError, Global};
 use std::io::{ErrorKind, Read, Write};
@@ -90,9 +88,8 @@ fn write_text<W: Write>(writer: &mut W, text: &[u8]) -> Result<(), Fault>
 }
 
 /// Answers a line, as text.
-fn answered<C: Core>(alloc: Global, core: &mut C, line: &Line) -> Result<String, Fault>
-    ensures { (run : Execution) → C.IsAt core.old run → IfOk result (λ text.
-        (string_bytes text ≡ line_told (answer_to run line.now)) × C.IsAt core.new (after run line.now)) }
+fn answered<C: Core>(alloc: Global, core: &mut C, line: Line) -> Result<String, Fault>
+    ensures { (w : World) → C.IsAt core.old w → IfOk result (λ text. IsLineTold w line (string_bytes text) (C.IsAt core.new)) }
 {
     let Ok(answer) = core.answer(alloc, line) else {
         return Err(Fault::OutOfMemory);
@@ -108,12 +105,12 @@ fn write_answers<W: Write, C: Core>(
     alloc: Global,
     writer: &mut W,
     core: &mut C,
-    lines: &[Line],
+    lines: Vec<Line>,
 ) -> Result<(), Fault>
-    ensures done { (run : Execution) → C.IsAt core.old run → OnOk result
-        (Appends (W.contents writer.old) (W.contents writer.new) (answers_text run lines.now)) }
-    ensures stopped { (run : Execution) → C.IsAt core.old run → IfErr result (λ fault.
-        HasAnswered fault run lines.now (W.contents writer.old) (W.contents writer.new)) }
+    ensures done { (w : World) → C.IsAt core.old w → OnOk result
+        (HasWrittenAll w lines.items (W.contents writer.old) (W.contents writer.new)) }
+    ensures stopped { (w : World) → C.IsAt core.old w → IfErr result (λ fault.
+        HasAnswered fault w lines.items (W.contents writer.old) (W.contents writer.new)) }
 {
     for line in lines {
         let text = answered(alloc, core, line)?;
@@ -123,18 +120,18 @@ fn write_answers<W: Write, C: Core>(
 }
 
 /// What was read is refused, or parsed and answered.
-#[tactic(auto, unfolding(crate::specs::Replay::replay_text, crate::specs::Replay::replay_status))]
+#[tactic(auto, unfolding(crate::specs::Replay::IsReplayText, crate::specs::Replay::replay_status))]
 fn run<W: Write, C: Core>(
     alloc: Global,
     writer: &mut W,
     core: &mut C,
     input: Option<Vec<u8>>,
 ) -> Result<Status, Fault>
-    ensures done { C.IsAt core.old start → (text : List ℕ) → IsInput input text → IfOk result (λ status.
-        Replayed text status (W.contents writer.old) (W.contents writer.new)) }
+    ensures done { (w : World) → C.IsAt core.old w → (text : List ℕ) → IsInput input text → IfOk result (λ status.
+        Replayed w text status (W.contents writer.old) (W.contents writer.new)) }
     ensures ended { IfOk result IsEnd }
-    ensures stopped { C.IsAt core.old start → (text : List ℕ) → IsInput input text → IfErr result (λ fault.
-        Stopped fault text (W.contents writer.old) (W.contents writer.new)) }
+    ensures stopped { (w : World) → C.IsAt core.old w → (text : List ℕ) → IsInput input text → IfErr result (λ fault.
+        Stopped fault w text (W.contents writer.old) (W.contents writer.new)) }
 {
     let script = match input {
         Some(script) => script,
@@ -145,7 +142,7 @@ fn run<W: Write, C: Core>(
     }
     match read_script(alloc, script.as_slice()) {
         Ok(lines) => {
-            write_answers(alloc, writer, core, lines.as_slice())?;
+            write_answers(alloc, writer, core, lines)?;
             Ok(Status::Done)
         }
         Err(ScriptError::BadLine(number)) => {
@@ -167,7 +164,7 @@ fn too_long<W: Write>(writer: &mut W) -> Result<Status, Fault>
 
 fn write_bad_line<W: Write>(alloc: Global, writer: &mut W, number: usize) -> Result<(), Fault>
     ensures done { OnOk result (Appends (W.contents writer.old) (W.contents writer.new) (bad_line number)) }
-    ensures stopped { IfErr result (λ fault. Stopped fault [] (W.contents writer.old) (W.contents writer.new)) }
+    ensures stopped { (w : World) → IfErr result (λ fault. HasAnswered fault w [] (W.contents writer.old) (W.contents writer.new)) }
 {
     match format!(in alloc; "bad line {number}\n") {
         Ok(text) => write_text(writer, text.as_bytes()),
@@ -175,18 +172,29 @@ fn write_bad_line<W: Write>(alloc: Global, writer: &mut W, number: usize) -> Res
     }
 }
 
-/// Replays the script that the reader gives on one block of zeros, and writes the answers.
+/// Replays the script that the reader gives on so many blocks of zeros, 1 to 4,096, and writes the answers.
 ///
 /// All of the script is read and parsed before anything is done. A fault of the reader or of memory is told by a last
 /// line, behind the answers of the lines before it; after a fault of the writer nothing more is written.
-pub fn replay<R: Read, W: Write>(alloc: Global, reader: &mut R, writer: &mut W) -> Status
+pub fn replay<R: Read, W: Write>(
+    alloc: Global,
+    reader: &mut R,
+    writer: &mut W,
+    blocks: u32,
+) -> Status
+    requires some { 0 < blocks }
+    requires few { blocks ≤ MAX_BLOCKS }
     ensures done { IsEnd result → IfSome (R.remaining reader.old) (λ text.
-        Replayed text result (W.contents writer.old) (W.contents writer.new)) }
+        Replayed (start blocks) text result (W.contents writer.old) (W.contents writer.new)) }
     ensures starved { result ≡ NoMemory → IfSome (R.remaining reader.old) (λ text.
-        Starved text (W.contents writer.old) (W.contents writer.new)) }
+        Starved (start blocks) text (W.contents writer.old) (W.contents writer.new)) }
 {
-    match OneBlock::new(alloc) {
-        Ok(mut core) => replay_over(alloc, reader, writer, &mut core),
+    match CachedDisk::new(alloc, blocks) {
+        Ok(mut disk) => {
+            let status = replay_over(alloc, reader, writer, &mut disk);
+            disk.close();
+            status
+        }
         Err(OutOfMemory) => tell(writer, b"fault OutOfMemory\n", Status::OutOfMemory),
     }
 }
@@ -198,10 +206,10 @@ pub fn replay_over<R: Read, W: Write, C: Core>(
     writer: &mut W,
     core: &mut C,
 ) -> Status
-    ensures done { C.IsAt core.old start → IsEnd result → IfSome (R.remaining reader.old) (λ text.
-        Replayed text result (W.contents writer.old) (W.contents writer.new)) }
-    ensures starved { C.IsAt core.old start → result ≡ NoMemory → IfSome (R.remaining reader.old) (λ text.
-        Starved text (W.contents writer.old) (W.contents writer.new)) }
+    ensures done { (w : World) → C.IsAt core.old w → IsEnd result → IfSome (R.remaining reader.old) (λ text.
+        Replayed w text result (W.contents writer.old) (W.contents writer.new)) }
+    ensures starved { (w : World) → C.IsAt core.old w → result ≡ NoMemory → IfSome (R.remaining reader.old) (λ text.
+        Starved w text (W.contents writer.old) (W.contents writer.new)) }
 {
     match read_and_run(alloc, reader, writer, core) {
         Ok(status) => status,
@@ -217,11 +225,11 @@ fn read_and_run<R: Read, W: Write, C: Core>(
     writer: &mut W,
     core: &mut C,
 ) -> Result<Status, Fault>
-    ensures done { C.IsAt core.old start → IfOk result (λ status. IfSome (R.remaining reader.old) (λ text.
-        Replayed text status (W.contents writer.old) (W.contents writer.new))) }
+    ensures done { (w : World) → C.IsAt core.old w → IfOk result (λ status. IfSome (R.remaining reader.old) (λ text.
+        Replayed w text status (W.contents writer.old) (W.contents writer.new))) }
     ensures ended { IfOk result IsEnd }
-    ensures stopped { C.IsAt core.old start → IfErr result (λ fault. IfSome (R.remaining reader.old) (λ text.
-        Stopped fault text (W.contents writer.old) (W.contents writer.new))) }
+    ensures stopped { (w : World) → C.IsAt core.old w → IfErr result (λ fault. IfSome (R.remaining reader.old) (λ text.
+        Stopped fault w text (W.contents writer.old) (W.contents writer.new))) }
 {
     let input = read_input(alloc, reader)?;
     let status = run(alloc, writer, core, input)?;

@@ -1,10 +1,14 @@
-//! Worked scripts, with what they are answered.
+//! Worked scripts of one block, with what they are answered.
 use crate::replaying::Status;
 
-/// A script, what it is answered, and how its replay ends.
+/// How many blocks a script has, where it doesn't say.
+pub const DEFAULT_BLOCKS: u32 = 8;
+
+/// A script on so many blocks, what it is answered, and how its replay ends.
 #[derive(Clone, Copy)]
 pub struct Row {
     pub name: &'static str,
+    pub blocks: u32,
     pub script: &'static str,
     pub answers: &'static str,
     pub status: Status,
@@ -14,12 +18,14 @@ pub fn rows() -> [Row; 16] {
     [
         Row {
             name: "an empty script",
+            blocks: DEFAULT_BLOCKS,
             script: "",
             answers: "",
             status: Status::Done,
         },
         Row {
             name: "the later of two overlapping patches is taken",
+            blocks: DEFAULT_BLOCKS,
             script: r#"{"op":"patch","block":0,"start":0,"hex":"a1a2a3a4"}
 {"op":"patch","block":0,"start":2,"hex":"b1b2b3b4"}
 {"op":"view","block":0,"take":[1],"start":0,"len":6}
@@ -29,6 +35,7 @@ pub fn rows() -> [Row; 16] {
         },
         Row {
             name: "both are taken, the later one first",
+            blocks: DEFAULT_BLOCKS,
             script: r#"{"op":"patch","block":0,"start":0,"hex":"a1a2a3a4"}
 {"op":"patch","block":0,"start":2,"hex":"b1b2b3b4"}
 {"op":"view","block":0,"take":[1,0],"start":0,"len":6}
@@ -38,6 +45,7 @@ pub fn rows() -> [Row; 16] {
         },
         Row {
             name: "the earlier one is held by the later",
+            blocks: DEFAULT_BLOCKS,
             script: r#"{"op":"patch","block":0,"start":0,"hex":"a1a2a3a4"}
 {"op":"patch","block":0,"start":2,"hex":"b1b2b3b4"}
 {"op":"view","block":0,"take":[0],"start":0,"len":6}
@@ -48,6 +56,7 @@ pub fn rows() -> [Row; 16] {
         },
         Row {
             name: "the later one is put back before the earlier",
+            blocks: DEFAULT_BLOCKS,
             script: r#"{"op":"patch","block":0,"start":0,"hex":"a1a2a3a4"}
 {"op":"patch","block":0,"start":2,"hex":"b1b2b3b4"}
 {"op":"view","block":0,"take":[1,0],"back":[1],"start":0,"len":6}
@@ -57,6 +66,7 @@ pub fn rows() -> [Row; 16] {
         },
         Row {
             name: "the earlier one is put back",
+            blocks: DEFAULT_BLOCKS,
             script: r#"{"op":"patch","block":0,"start":0,"hex":"a1a2a3a4"}
 {"op":"patch","block":0,"start":2,"hex":"b1b2b3b4"}
 {"op":"view","block":0,"take":[1,0],"back":[0],"start":0,"len":6}
@@ -66,6 +76,7 @@ pub fn rows() -> [Row; 16] {
         },
         Row {
             name: "patches apart are taken in either order",
+            blocks: DEFAULT_BLOCKS,
             script: r#"{"op":"patch","block":0,"start":0,"hex":"aa"}
 {"op":"patch","block":0,"start":4,"hex":"bb"}
 {"op":"patch","block":0,"start":8,"hex":"cc"}
@@ -77,6 +88,7 @@ pub fn rows() -> [Row; 16] {
         },
         Row {
             name: "each refusal of a patch",
+            blocks: DEFAULT_BLOCKS,
             script: r#"{"op":"patch","block":0,"start":4095,"hex":"ff"}
 {"op":"patch","block":0,"start":4095,"hex":"ffff"}
 {"op":"patch","block":0,"start":0,"hex":""}
@@ -88,6 +100,7 @@ pub fn rows() -> [Row; 16] {
         },
         Row {
             name: "the first unreadable line is told alone",
+            blocks: DEFAULT_BLOCKS,
             script: r#"{"op":"patch","block":0,"start":0,"hex":"aa"}
 {"op":"fly"}
 "#,
@@ -96,6 +109,7 @@ pub fn rows() -> [Row; 16] {
         },
         Row {
             name: "a span over the end, and a number that is not known",
+            blocks: DEFAULT_BLOCKS,
             script: r#"{"op":"patch","block":0,"start":0,"hex":"aa"}
 {"op":"view","block":0,"take":[],"start":4095,"len":2}
 {"op":"view","block":0,"take":[7],"start":0,"len":1}
@@ -105,6 +119,7 @@ pub fn rows() -> [Row; 16] {
         },
         Row {
             name: "a hard patch is never taken",
+            blocks: DEFAULT_BLOCKS,
             script: r#"{"op":"patch","block":0,"start":0,"hex":"aa","drop":true}
 {"op":"view","block":0,"take":[0],"start":0,"len":1}
 {"op":"patch","block":0,"start":0,"hex":"bb"}
@@ -115,6 +130,7 @@ pub fn rows() -> [Row; 16] {
         },
         Row {
             name: "a named patch is held by the one that names it",
+            blocks: DEFAULT_BLOCKS,
             script: r#"{"op":"patch","block":0,"start":0,"hex":"aa"}
 {"op":"patch","block":0,"start":4,"hex":"bb","after":[0]}
 {"op":"view","block":0,"take":[0],"start":0,"len":5}
@@ -126,6 +142,7 @@ pub fn rows() -> [Row; 16] {
         },
         Row {
             name: "what was not taken is not put back",
+            blocks: DEFAULT_BLOCKS,
             script: r#"{"op":"patch","block":0,"start":0,"hex":"aa"}
 {"op":"patch","block":0,"start":4,"hex":"bb"}
 {"op":"patch","block":0,"start":8,"hex":"cc"}
@@ -136,13 +153,14 @@ pub fn rows() -> [Row; 16] {
         },
         Row {
             name: "each cause before the next",
-            script: r#"{"op":"patch","block":1,"start":5000,"hex":"","after":[9]}
+            blocks: DEFAULT_BLOCKS,
+            script: r#"{"op":"patch","block":8,"start":5000,"hex":"","after":[9]}
 {"op":"patch","block":0,"start":5000,"hex":"","after":[9]}
 {"op":"patch","block":0,"start":4096,"hex":"aa","after":[9]}
 {"op":"patch","block":0,"start":4095,"hex":"aa","after":[0]}
-{"op":"show","block":1,"start":4096,"len":1}
+{"op":"show","block":8,"start":4096,"len":1}
 {"op":"show","block":0,"start":4096,"len":1}
-{"op":"view","block":1,"take":[0],"start":0,"len":1}
+{"op":"view","block":8,"take":[0],"start":0,"len":1}
 {"op":"view","block":0,"take":[0],"start":4294967295,"len":4294967295}
 {"op":"patch","block":0,"start":4095,"hex":"aa","writer":7}
 {"op":"show","block":0,"start":4095,"len":1}
@@ -152,6 +170,7 @@ pub fn rows() -> [Row; 16] {
         },
         Row {
             name: "a refused view leaves the block as it was",
+            blocks: DEFAULT_BLOCKS,
             script: r#"{"op":"patch","block":0,"start":0,"hex":"aa"}
 {"op":"patch","block":0,"start":1,"hex":"bb"}
 {"op":"view","block":0,"take":[1,0],"back":[7],"start":0,"len":2}
@@ -165,6 +184,7 @@ pub fn rows() -> [Row; 16] {
         },
         Row {
             name: "a patch that may drop its bytes over one that keeps them is not hard",
+            blocks: DEFAULT_BLOCKS,
             script: r#"{"op":"patch","block":0,"start":0,"hex":"aa"}
 {"op":"patch","block":0,"start":0,"hex":"bb","drop":true}
 {"op":"view","block":0,"take":[1],"start":0,"len":1}

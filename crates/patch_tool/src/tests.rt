@@ -1,8 +1,9 @@
 //! Worked scripts, and replays whose reader, writer or memory fails.
 use crate::answering::Core;
-use crate::one_block::OneBlock;
+use crate::cached_disk::CachedDisk;
 use crate::replaying::{Status, replay, replay_over};
-use crate::rows::rows;
+use crate::rows::{DEFAULT_BLOCKS, Row, rows};
+use crate::rows_of_writes::rows_of_writes;
 use patch_model::OutOfMemory;
 use patch_script::{Answer, Line};
 use std::alloc::{AllocError, Global};
@@ -18,24 +19,22 @@ const SCRIPT: &str = r#"{"op":"patch","block":0,"start":0,"hex":"a1a2a3a4"}
 
 const ANSWERS: &str = "patch 0\npatch 1\nwithout a1a2a3a40000 cached a1a2b1b2b3b4\n";
 
-fn check(rt: &impl Abort, alloc: Global, name: &str, script: &[u8], answers: &str, status: Status) {
+fn check(rt: &impl Abort, alloc: Global, row: &Row) {
+    let name = row.name;
     let mut out = Vec::new(alloc);
-    let mut left = script;
-    assert_eq!(rt; replay(alloc, &mut left, &mut out), status, "{name}");
-    assert_eq!(rt; out.as_slice(), answers.as_bytes(), "{name}");
+    assert!(rt; 0 < row.blocks && row.blocks <= DEFAULT_BLOCKS);
+    let status = replay(alloc, &mut row.script.as_bytes(), &mut out, row.blocks);
+    assert_eq!(rt; status, row.status, "{name}");
+    assert_eq!(rt; out.as_slice(), row.answers.as_bytes(), "{name}");
 }
 
 #[test]
 fn worked_scripts(rt: HostRuntime) {
     for row in rows() {
-        check(
-            &rt,
-            rt.alloc(),
-            row.name,
-            row.script.as_bytes(),
-            row.answers,
-            row.status,
-        );
+        check(&rt, rt.alloc(), &row);
+    }
+    for row in rows_of_writes() {
+        check(&rt, rt.alloc(), &row);
     }
 }
 
@@ -55,7 +54,10 @@ fn long_scripts(rt: HostRuntime) -> Result<(), Fail> {
     ];
     for (byte, count, answers, status) in scripts {
         let script = filled(alloc, byte, count)?;
-        check(&rt, alloc, "long", script.as_slice(), answers, status);
+        let mut out = Vec::new(alloc);
+        let ended = replay(alloc, &mut script.as_slice(), &mut out, DEFAULT_BLOCKS);
+        assert_eq!(rt; ended, status);
+        assert_eq!(rt; out.as_slice(), answers.as_bytes());
     }
     Ok(())
 }
@@ -91,7 +93,7 @@ fn failing_readers(rt: HostRuntime) -> Result<(), Fail> {
             calls,
         };
         let mut out = Vec::new(alloc);
-        let status = replay(alloc, &mut reader, &mut out);
+        let status = replay(alloc, &mut reader, &mut out, DEFAULT_BLOCKS);
         if status == Status::Done {
             assert_eq!(rt; out.as_slice(), ANSWERS.as_bytes());
             break;
@@ -145,7 +147,7 @@ fn failing_writers(rt: HostRuntime) -> Result<(), Fail> {
             taken: Vec::new(alloc),
             calls,
         };
-        let status = replay(alloc, &mut SCRIPT.as_bytes(), &mut writer);
+        let status = replay(alloc, &mut SCRIPT.as_bytes(), &mut writer, DEFAULT_BLOCKS);
         if status == Status::Done {
             assert_eq!(rt; writer.taken.as_slice(), ANSWERS.as_bytes());
             break;
@@ -158,22 +160,21 @@ fn failing_writers(rt: HostRuntime) -> Result<(), Fail> {
     Ok(())
 }
 
-/// A block that answers some lines, and then meets want of memory.
-#[derive(Drop)]
+/// A disk that answers some lines, and then meets want of memory.
 struct Starved {
-    block: OneBlock,
+    disk: CachedDisk,
     lines: u32,
 }
 
 impl Core for Starved {
-    ghost IsAt = { λ core run. ⊥ };
+    ghost IsAt = { λ core w. ⊥ };
 
-    fn answer(&mut self, alloc: Global, line: &Line) -> Result<Answer, OutOfMemory> {
+    fn answer(&mut self, alloc: Global, line: Line) -> Result<Answer, OutOfMemory> {
         if self.lines == 0 {
             return Err(OutOfMemory);
         }
         self.lines -= 1;
-        self.block.answer(alloc, line)
+        self.disk.answer(alloc, line)
     }
 }
 
@@ -186,10 +187,12 @@ fn starved_cores(rt: HostRuntime) -> Result<(), Fail> {
         (2, "patch 0\npatch 1\nfault OutOfMemory\n"),
     ];
     for (lines, text) in want {
-        let block = OneBlock::new(alloc)?;
-        let mut core = Starved { block, lines };
+        let disk = CachedDisk::new(alloc, DEFAULT_BLOCKS)?;
+        let mut core = Starved { disk, lines };
         let mut out = Vec::new(alloc);
         let status = replay_over(alloc, &mut SCRIPT.as_bytes(), &mut out, &mut core);
+        let Starved { disk, lines: _ } = core;
+        disk.close();
         assert_eq!(rt; (status, status.code()), (Status::OutOfMemory, 5));
         assert_eq!(rt; out.as_slice(), text.as_bytes());
     }

@@ -1,12 +1,13 @@
-use Rattle.std.proofs.Common.{take, fold}
-use Rattle.std.specs.Io.KnownBytes.{Appends}
-use Rattle.patch_model.specs.Execution.{Execution}
-use Rattle.patch_tool.specs.Answering.{after}
-use Rattle.patch_tool.specs.Replay.{answers_text}
+use Rattle.std.proofs.Common.{◌≡◌, ◌++◌, List}
+use Rattle.patch_script.specs.declared.forms.Line.{Line}
+use Rattle.patch_tool.specs.Answering.{World}
+use Rattle.patch_tool.proofs.Leading.{HasCome}
 use Rattle.patch_tool.proofs.replaying.write_answers.Given as goal
 
--- the text so far is that of the lines so far
+-- the answers to the lines so far are written, and the others are left
 abbrev pub invariant-loop-line : goal.invariant-loop-line
 invariant-loop-line g l =
-    (run : Execution) → g.C.Core.IsAt l.fn.core run → g.C.Core.IsAt l.core (fold after run (take l.line-index l.lines))
-    × Appends (g.W.Write.contents l.fn.writer) (g.W.Write.contents l.writer) (answers_text run (take l.line-index l.lines))
+    (goal.iterator-loop-line g).can_next l.line-iterator
+    × (goal.iterator-loop-line g).is_finite l.line-iterator
+    × ((w : World) → g.C.Core.IsAt l.fn.core w → (first : List Line) × (first ++ l.line-iterator.rest.items ≡ l.fn.lines.items)
+    × HasCome w first (g.C.Core.IsAt l.core) (g.W.Write.contents l.fn.writer) (g.W.Write.contents l.writer))
