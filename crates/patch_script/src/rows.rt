@@ -2,7 +2,7 @@
 //! nothing.
 ghost use Rattle.std.specs.Prelude.{◌≡◌, ◌∷◌, [], Some, None, codes};
 ghost use Rattle.patch_model.specs.declared.patches.Undo.TheVariants.{Keep, MayDrop};
-ghost use Rattle.patch_script.specs.declared.forms.Line.TheVariants.{Patch, View, Show};
+ghost use Rattle.patch_script.specs.declared.forms.Line.TheVariants.{Patch, Merge, Send, Complete, View, Show, Disk};
 ghost use Rattle.patch_script.specs.Form.{line_of};
 
 /// Lines of each form, and some that aren't readable.
@@ -15,12 +15,23 @@ fn worked_lines()
         ≡ Some (Some (Patch 0 0 (0xaa ∷ []) (3 ∷ []) MayDrop 7)) }
     ensures view { line_of (codes "{\"op\":\"view\",\"block\":0,\"take\":[1,0],\"back\":[0],\"start\":0,\"len\":6}")
         ≡ Some (Some (View (1 ∷ 0 ∷ []) (0 ∷ []) (record { block = 0; start = 0; len = 6 }))) }
+    ensures merge { line_of (codes "{\"op\":\"merge\",\"a\":2,\"b\":1}") ≡ Some (Some (Merge 2 1)) }
+    ensures send { line_of (codes "{\"op\":\"send\",\"block\":3}") ≡ Some (Some (Send 3)) }
+    ensures complete { line_of (codes "{\"op\":\"complete\",\"block\":4294967295}") ≡ Some (Some (Complete 4294967295)) }
+    ensures disk { line_of (codes "{\"op\":\"disk\",\"block\":0,\"start\":4,\"len\":6}")
+        ≡ Some (Some (Disk (record { block = 0; start = 4; len = 6 }))) }
     ensures blank { line_of (codes " \t\r") ≡ Some None }
     ensures fraction { line_of (codes "{\"op\":\"show\",\"block\":1.0,\"start\":4,\"len\":6}") ≡ None }
     ensures minus_zero { line_of (codes "{\"op\":\"show\",\"block\":-0,\"start\":4,\"len\":6}") ≡ None }
     ensures leading_zero { line_of (codes "{\"op\":\"show\",\"block\":01,\"start\":4,\"len\":6}") ≡ None }
     ensures no_byte { line_of (codes "{\"op\":\"show\",\"block\":0,\"start\":4,\"len\":0}") ≡ None }
     ensures ninth_writer { line_of (codes "{\"op\":\"patch\",\"block\":0,\"start\":0,\"hex\":\"aa\",\"writer\":8}") ≡ None }
+    ensures merge_of_one { line_of (codes "{\"op\":\"merge\",\"a\":0}") ≡ None }
+    ensures merge_of_text { line_of (codes "{\"op\":\"merge\",\"a\":0,\"b\":\"1\"}") ≡ None }
+    ensures send_of_no_block { line_of (codes "{\"op\":\"send\",\"a\":0}") ≡ None }
+    ensures send_of_a_large_block { line_of (codes "{\"op\":\"send\",\"block\":4294967296}") ≡ None }
+    ensures complete_exponent { line_of (codes "{\"op\":\"complete\",\"block\":1e0}") ≡ None }
+    ensures no_byte_on_disk { line_of (codes "{\"op\":\"disk\",\"block\":0,\"start\":4,\"len\":0}") ≡ None }
     ensures unknown { line_of (codes "{\"op\":\"fly\"}") ≡ None }
 {}
 

@@ -1,6 +1,6 @@
 //! Scripts of every kind, and the texts of answers.
 use crate::*;
-use patch_model::{BlockNo, Bytes, Items, PatchNo, RefusalKind, Undo, WriterNo};
+use patch_model::{BlockNo, Bytes, Items, Numbers, PatchNo, RefusalKind, Undo, WriterNo};
 use std::alloc::Global;
 use std::process::Abort;
 use std::test::Fail;
@@ -117,6 +117,140 @@ fn refuses_unreadable_lines(rt: HostRuntime) -> Result<(), Fail> {
 }
 
 #[test]
+fn reads_merges_writes_and_disks(rt: HostRuntime) -> Result<(), Fail> {
+    let readable = [
+        ("{\"op\":\"merge\",\"a\":0,\"b\":1}", 1),
+        ("{\"op\":\"merge\",\"a\":4294967295,\"b\":4294967295}\n", 1),
+        ("{\"op\":\"send\",\"block\":0}", 1),
+        ("{\"op\":\"send\",\"block\":4294967295}", 1),
+        ("{\"op\":\"complete\",\"block\":0}\r\n", 1),
+        ("{\"op\":\"complete\",\"block\":4294967295}", 1),
+        ("{\"op\":\"disk\",\"block\":0,\"start\":0,\"len\":1}", 1),
+        (
+            "{\"op\":\"disk\",\"block\":4294967295,\"start\":4294967295,\"len\":4294967295}",
+            1,
+        ),
+        (
+            "{\"op\":\"merge\",\"a\":9,\"b\":1,\"a\":0,\"block\":\"x\"}",
+            1,
+        ),
+        (
+            "{\"op\":\"send\",\"block\":9,\"block\":0,\"colour\":\"red\"}",
+            1,
+        ),
+        (
+            "{\"op\":\"complete\",\"block\":\"x\",\"more\":{},\"block\":0}",
+            1,
+        ),
+        (
+            "{\"op\":\"disk\",\"block\":0,\"start\":0,\"len\":0,\"len\":1,\"take\":7}",
+            1,
+        ),
+    ];
+    all_read(&rt, rt.alloc(), &readable);
+    Ok(())
+}
+
+#[test]
+fn refuses_unreadable_merges(rt: HostRuntime) -> Result<(), Fail> {
+    let unreadable = [
+        "{\"op\":\"merge\"}",
+        "{\"op\":\"merge\",\"a\":0}",
+        "{\"op\":\"merge\",\"b\":1}",
+        "{\"op\":\"merge\",\"a\":\"0\",\"b\":1}",
+        "{\"op\":\"merge\",\"a\":-1,\"b\":1}",
+        "{\"op\":\"merge\",\"a\":-0,\"b\":1}",
+        "{\"op\":\"merge\",\"a\":+1,\"b\":1}",
+        "{\"op\":\"merge\",\"a\":1.0,\"b\":1}",
+        "{\"op\":\"merge\",\"a\":1e0,\"b\":1}",
+        "{\"op\":\"merge\",\"a\":01,\"b\":1}",
+        "{\"op\":\"merge\",\"a\":4294967296,\"b\":1}",
+        "{\"op\":\"merge\",\"a\":null,\"b\":1}",
+        "{\"op\":\"merge\",\"a\":[0],\"b\":1}",
+        "{\"op\":\"merge\",\"a\":0,\"b\":\"0\"}",
+        "{\"op\":\"merge\",\"a\":0,\"b\":-1}",
+        "{\"op\":\"merge\",\"a\":0,\"b\":-0}",
+        "{\"op\":\"merge\",\"a\":0,\"b\":+1}",
+        "{\"op\":\"merge\",\"a\":0,\"b\":1.0}",
+        "{\"op\":\"merge\",\"a\":0,\"b\":1e0}",
+        "{\"op\":\"merge\",\"a\":0,\"b\":01}",
+        "{\"op\":\"merge\",\"a\":0,\"b\":4294967296}",
+        "{\"op\":\"merge\",\"a\":0,\"b\":null}",
+        "{\"op\":\"merge\",\"a\":0,\"b\":[0]}",
+    ];
+    all_refused(&rt, rt.alloc(), 1, &unreadable);
+    Ok(())
+}
+
+#[test]
+fn refuses_unreadable_sends(rt: HostRuntime) -> Result<(), Fail> {
+    let unreadable = [
+        "{\"op\":\"send\"}",
+        "{\"op\":\"send\",\"block\":\"0\"}",
+        "{\"op\":\"send\",\"block\":-1}",
+        "{\"op\":\"send\",\"block\":-0}",
+        "{\"op\":\"send\",\"block\":+1}",
+        "{\"op\":\"send\",\"block\":1.0}",
+        "{\"op\":\"send\",\"block\":1e0}",
+        "{\"op\":\"send\",\"block\":01}",
+        "{\"op\":\"send\",\"block\":4294967296}",
+        "{\"op\":\"send\",\"block\":null}",
+        "{\"op\":\"send\",\"block\":[0]}",
+    ];
+    all_refused(&rt, rt.alloc(), 1, &unreadable);
+    Ok(())
+}
+
+#[test]
+fn refuses_unreadable_completions(rt: HostRuntime) -> Result<(), Fail> {
+    let unreadable = [
+        "{\"op\":\"complete\"}",
+        "{\"op\":\"complete\",\"block\":\"0\"}",
+        "{\"op\":\"complete\",\"block\":-1}",
+        "{\"op\":\"complete\",\"block\":-0}",
+        "{\"op\":\"complete\",\"block\":+1}",
+        "{\"op\":\"complete\",\"block\":1.0}",
+        "{\"op\":\"complete\",\"block\":1e0}",
+        "{\"op\":\"complete\",\"block\":01}",
+        "{\"op\":\"complete\",\"block\":4294967296}",
+        "{\"op\":\"complete\",\"block\":null}",
+        "{\"op\":\"complete\",\"block\":[0]}",
+    ];
+    all_refused(&rt, rt.alloc(), 1, &unreadable);
+    Ok(())
+}
+
+#[test]
+fn refuses_unreadable_disks(rt: HostRuntime) -> Result<(), Fail> {
+    let unreadable = [
+        "{\"op\":\"disk\",\"start\":0,\"len\":1}",
+        "{\"op\":\"disk\",\"block\":\"0\",\"start\":0,\"len\":1}",
+        "{\"op\":\"disk\",\"block\":-1,\"start\":0,\"len\":1}",
+        "{\"op\":\"disk\",\"block\":-0,\"start\":0,\"len\":1}",
+        "{\"op\":\"disk\",\"block\":+1,\"start\":0,\"len\":1}",
+        "{\"op\":\"disk\",\"block\":1.0,\"start\":0,\"len\":1}",
+        "{\"op\":\"disk\",\"block\":1e0,\"start\":0,\"len\":1}",
+        "{\"op\":\"disk\",\"block\":01,\"start\":0,\"len\":1}",
+        "{\"op\":\"disk\",\"block\":4294967296,\"start\":0,\"len\":1}",
+        "{\"op\":\"disk\",\"block\":null,\"start\":0,\"len\":1}",
+        "{\"op\":\"disk\",\"block\":[0],\"start\":0,\"len\":1}",
+        "{\"op\":\"disk\",\"block\":0,\"len\":1}",
+        "{\"op\":\"disk\",\"block\":0,\"start\":0}",
+        "{\"op\":\"disk\",\"block\":0,\"start\":0,\"len\":0}",
+        "{\"op\":\"disk\",\"block\":0,\"start\":\"0\",\"len\":1}",
+        "{\"op\":\"disk\",\"block\":0,\"start\":-1,\"len\":1}",
+        "{\"op\":\"disk\",\"block\":0,\"start\":1.0,\"len\":1}",
+        "{\"op\":\"disk\",\"block\":0,\"start\":4294967296,\"len\":1}",
+        "{\"op\":\"disk\",\"block\":0,\"start\":0,\"len\":\"1\"}",
+        "{\"op\":\"disk\",\"block\":0,\"start\":0,\"len\":-1}",
+        "{\"op\":\"disk\",\"block\":0,\"start\":0,\"len\":1.0}",
+        "{\"op\":\"disk\",\"block\":0,\"start\":0,\"len\":4294967296}",
+    ];
+    all_refused(&rt, rt.alloc(), 1, &unreadable);
+    Ok(())
+}
+
+#[test]
 fn reads_fields(rt: HostRuntime) -> Result<(), Fail> {
     let text =
         "{\"op\":\"patch\",\"block\":3,\"start\":4094,\"hex\":\"0aFF\",\"after\":[2,5],\"drop\":true,\"writer\":6}\n{\"op\":\"view\",\"block\":1,\"take\":[4,2],\"back\":[2],\"start\":8,\"len\":16}\n{\"op\":\"show\",\"block\":2,\"start\":1,\"len\":3}";
@@ -163,6 +297,31 @@ fn reads_fields(rt: HostRuntime) -> Result<(), Fail> {
             block: BlockNo(2),
             start: 1,
             len: 3
+        }
+    );
+    Ok(())
+}
+
+#[test]
+fn reads_fields_of_merges_writes_and_disks(rt: HostRuntime) -> Result<(), Fail> {
+    let text =
+        "{\"op\":\"merge\",\"a\":5,\"b\":3}\n{\"op\":\"send\",\"block\":9,\"block\":2}\n{\"op\":\"complete\",\"block\":7}\n{\"op\":\"disk\",\"block\":1,\"start\":4094,\"len\":2}";
+    let lines = read_script(rt.alloc(), text.as_bytes())
+        .ok()
+        .ok_or("unreadable")?;
+    assert_eq!(rt; lines.len(), 4);
+    assert!(rt; matches!(&lines[0], Line::Merge { a, b } if (*a, *b) == (PatchNo(5), PatchNo(3))));
+    assert!(rt; matches!(&lines[1], Line::Send(block) if *block == BlockNo(2)));
+    assert!(rt; matches!(&lines[2], Line::Complete(block) if *block == BlockNo(7)));
+    let Line::Disk(span) = &lines[3] else {
+        return Err(Fail::from("no disk"));
+    };
+    assert_eq!(rt;
+        *span,
+        Span {
+            block: BlockNo(1),
+            start: 4094,
+            len: 2
         }
     );
     Ok(())
@@ -233,5 +392,48 @@ fn writes_answers(rt: HostRuntime) -> Result<(), Fail> {
         answer_line(alloc, &Answer::Refused(bare))?.as_str(),
         "refused Hard\n"
     );
+    Ok(())
+}
+
+#[test]
+fn writes_answers_of_merges_writes_and_disks(rt: HostRuntime) -> Result<(), Fail> {
+    let alloc = rt.alloc();
+    let one: Numbers = Items::from_vec([PatchNo(4)].to_vec(alloc)?);
+    let several: Numbers = Items::from_vec([PatchNo(0), PatchNo(2), PatchNo(10)].to_vec(alloc)?);
+    let largest: Numbers = Items::from_vec([PatchNo(4_294_967_294), PatchNo(4_294_967_295)].to_vec(
+        alloc,
+    )?);
+    let bytes: Bytes = Items::from_vec([0u8, 0xab, 0xff].to_vec(alloc)?);
+    let answers = [
+        (
+            Answer::Merged(PatchNo(4_294_967_295)),
+            "merged 4294967295\n",
+        ),
+        (
+            Answer::Sent {
+                block: BlockNo(3),
+                numbers: one,
+            },
+            "sent 3 4\n",
+        ),
+        (
+            Answer::Landed {
+                block: BlockNo(0),
+                numbers: several,
+            },
+            "durable 0 0,2,10\n",
+        ),
+        (
+            Answer::Sent {
+                block: BlockNo(4_294_967_295),
+                numbers: largest,
+            },
+            "sent 4294967295 4294967294,4294967295\n",
+        ),
+        (Answer::OnDisk(bytes), "disk 00abff\n"),
+    ];
+    for (answer, text) in &answers {
+        assert_eq!(rt; answer_line(alloc, answer)?.as_str(), *text);
+    }
     Ok(())
 }
