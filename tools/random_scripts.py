@@ -1,0 +1,414 @@
+#!/usr/bin/env python3
+"""Compares `fstch replay` with the plain model on random scripts.
+
+Each script has some 5 to 60 lines on 1 to 4 blocks. Its patches lie in a small window, so that they overlap, and name
+each other across blocks; its views, merges, sends and completions are asked for with an eye on the model, so that many
+are accepted and some are refused. A script is run through PROGRAM and through the model, and the two texts and the exit
+status are compared. Scripts are the same for the same seed.
+
+Two refusals of a patch aren't reached by random scripts, since they need very long ones: TooManyLive (65,536 live
+patches) and NumbersSpent (16,777,216 patches). All others are, and one that was never reached is a failure.
+"""
+
+import argparse
+import collections
+import functools
+import itertools
+import json
+import multiprocessing
+import os
+import random
+import re
+import subprocess
+import sys
+from dataclasses import dataclass
+
+sys.dont_write_bytecode = True
+
+import plain_model
+from plain_model import BLOCK, Mark, Model, Refused
+
+SECONDS = 10
+DIFFERENCES_SHOWN = 5
+MOST = 2**32 - 1  # that a number of a line may be
+
+# The answers of each op that scripts must have reached, the accepted one first.
+REACHED = {
+    "patch": "patch NoSuchBlock EmptyPatch OutOfBlock UnknownDependency",
+    "merge": "merged Unknown NotInMemory Same OtherBlock Hard Apart WouldCycle",
+    "send": "sent NoSuchBlock AlreadyInFlight NothingReady",
+    "complete": "durable Stranger",
+    "view": "without NoSuchBlock OutOfBlock Unknown Durable InFlight Hard AlreadyTaken DependentApplied NotTaken"
+    " DependencyTaken",
+    "show": "shown NoSuchBlock OutOfBlock",
+    "disk": "disk NoSuchBlock OutOfBlock",
+}
+
+
+@dataclass(frozen=True)
+class Script:
+    """Lines for so many blocks."""
+
+    blocks: int
+    lines: tuple
+
+    def text(self):
+        return "".join(json.dumps(line, separators=(",", ":")) + "\n" for line in self.lines)
+
+    def answers(self):
+        """What the model answers."""
+        model = Model(self.blocks)
+        return [model.answer(line) for line in self.lines]
+
+    def dropping(self, index):
+        """The script without this line. Where it made a patch, the patches behind it have one number less."""
+        answer, rest = self.answers()[index], self.lines[index + 1 :]
+        if kind(answer) == "patch":
+            rest = tuple(renumbered(line, int(answer.split()[1])) for line in rest)
+        return Script(self.blocks, self.lines[:index] + rest)
+
+
+def renumbered(line, gone):
+    """The line as it reads where the patch of this number isn't made."""
+    lists = {name: line[name] for name in ("after", "take", "back") if name in line}
+    names = {name: line[name] for name in ("a", "b") if name in line}
+    fewer = {name: [n - (n > gone) for n in numbers if n != gone] for name, numbers in lists.items()}
+    return {**line, **fewer, **{name: n - (n > gone) for name, n in names.items()}}
+
+
+# Writing scripts.
+
+
+class Author:
+    """Writes one script, line by line, and looks at the model before each line."""
+
+    def __init__(self, seed):
+        self.random = random.Random(seed)
+        self.model = Model(self.random.randint(1, 4))
+        self.window = self.random.choice((0, 0, 17, 2000, BLOCK - 12))
+        self.drop_share = self.random.choice((0, 0.3, 0.8))
+        self.named_share = self.random.choice((0.1, 0.4, 0.7))
+        self.weights = self.some_weights()
+        self.lines, self.answers = [], []
+
+    def some_weights(self):
+        """How often each op is asked for: other scripts, other habits."""
+        usual = {"patch": 42, "merge": 12, "send": 8, "complete": 7, "view": 20, "show": 3, "disk": 3}
+        return {op: weight * self.random.choice((0.2, 1, 1, 2)) for op, weight in usual.items()}
+
+    def write(self):
+        for _ in range(self.random.randint(5, 52)):
+            self.ask(self.line())
+        if self.chance(0.5):
+            self.look_at_all()
+        return Script(self.model.blocks, tuple(self.lines)), self.answers
+
+    def line(self):
+        """A line of some op: first a few patches, and few completions where nothing is in flight."""
+        weights = dict(self.weights)
+        if len(self.model.entries) < 4:
+            weights["patch"] *= 6
+        if not self.model.state.flights:
+            weights["complete"] /= 6
+        op = self.random.choices(list(weights), list(weights.values()))[0]
+        return {"op": op, **getattr(self, op)()}
+
+    def ask(self, line):
+        self.lines.append(line)
+        self.answers.append(self.model.answer(line))
+
+    def look_at_all(self):
+        """The whole of each block, in the cache and on the disk."""
+        for block in range(self.model.blocks):
+            for op in ("show", "disk"):
+                self.ask({"op": op, "block": block, "start": 0, "len": BLOCK})
+
+    # Parts of lines.
+
+    def chance(self, share):
+        return self.random.random() < share
+
+    def block(self):
+        if self.chance(0.03):
+            return self.random.choice((self.model.blocks, self.model.blocks + 1, MOST))
+        return self.random.randrange(self.model.blocks)
+
+    def number(self):
+        """A number of a patch, mostly a late one, now and then one that wasn't made."""
+        made = len(self.model.entries)
+        if made == 0 or self.chance(0.03):
+            return self.random.choice((made, made + 1, MOST))
+        late = max(0, made - 8) if self.chance(0.7) else 0
+        return self.random.randrange(late, made)
+
+    def remembered(self, entries):
+        """The number of one of these patches that is in memory, if one is."""
+        numbers = [entry.patch.number for entry in entries if entry.mark is Mark.MEMORY]
+        return self.random.choice(numbers) if numbers else self.number()
+
+    def shuffled(self, numbers):
+        numbers = list(numbers)
+        return self.random.sample(numbers, len(numbers))
+
+    def span(self):
+        """Some bytes to be shown, around the window or of the whole block, now and then past the block's end."""
+        if self.chance(0.04):
+            return self.random.choice(({"start": BLOCK - 1, "len": 2}, {"start": MOST, "len": MOST}))
+        if self.chance(0.05):
+            return {"start": 0, "len": BLOCK}
+        start = self.window + self.random.randrange(4)
+        return {"start": start, "len": self.random.randint(1, min(16, BLOCK - start))}
+
+    # Lines.
+
+    def patch(self):
+        start, size = self.patch_place()
+        line = {"block": self.block(), "start": start, "hex": self.random.randbytes(size).hex()}
+        if self.chance(self.named_share):
+            line["after"] = [self.number_made() for _ in range(self.random.choice((0, 1, 1, 2)))]
+        if self.drop_share:
+            line["drop"] = self.chance(self.drop_share)
+        if self.chance(0.05):
+            line["writer"] = self.random.randrange(8)
+        return self.spoiled(line) if self.chance(0.08) else line
+
+    def patch_place(self):
+        """Where a patch begins and how long it is."""
+        if self.chance(0.02):
+            return 0, BLOCK
+        size = self.random.randint(1, 5)
+        if self.chance(0.05):
+            return BLOCK - size, size
+        return min(self.window + self.random.randrange(10), BLOCK - size), size
+
+    def number_made(self):
+        return min(self.number(), max(0, len(self.model.entries) - 1))
+
+    def spoiled(self, line):
+        """The patch with some of its causes to be refused, so that their order shows too."""
+        faults = (
+            {"block": self.random.choice((self.model.blocks, MOST))},
+            {"hex": ""},
+            {"start": self.random.choice((BLOCK, BLOCK + 1, MOST))},
+            {"after": [self.number(), len(self.model.entries)]},
+        )
+        for fault in self.random.sample(faults, self.random.choice((1, 1, 2, 3))):
+            line.update(fault)
+        return line
+
+    def merge(self):
+        a = self.number() if self.chance(0.2) else self.remembered(self.model.entries)
+        if a >= len(self.model.entries) or self.chance(0.1):
+            return {"a": a, "b": self.number()}
+        one = self.model.entries[a]
+        here = plain_model.of_block(self.model.entries, one.patch.block)
+        others = [entry for entry in here if entry.name != one.name or self.chance(0.1)]
+        if self.chance(0.4):
+            others = [entry for entry in others if plain_model.touch(here, one.name, entry.name)]
+        near = self.shuffled(plain_model.numbers_of(others))
+        if near and self.chance(0.4):
+            return {"a": a, "b": next((n for n in near if self.may_merge(a, n)), near[0])}
+        return {"a": a, "b": self.remembered(others)}
+
+    def may_merge(self, a, b):
+        return is_accepted(plain_model.check_merge, self.model.entries, a, b)
+
+    def send(self):
+        blocks = self.shuffled(range(self.model.blocks))
+        sendable = [block for block in blocks if self.may_send(block)]
+        return {"block": sendable[0] if sendable and self.chance(0.7) else self.block()}
+
+    def may_send(self, block):
+        return is_accepted(plain_model.check_send, self.model.blocks, self.model.state, block)
+
+    def complete(self):
+        sent = self.shuffled(self.model.state.flights)
+        return {"block": sent[0] if sent and self.chance(0.85) else self.block()}
+
+    def show(self):
+        return {"block": self.block(), **self.span()}
+
+    def disk(self):
+        return self.show()
+
+    def view(self):
+        entries = self.model.entries
+        block = entries[self.number_made()].patch.block if entries and self.chance(0.6) else self.block()
+        takes, taken = self.takes(block)
+        line = {"block": block, "take": takes, **self.span()}
+        if self.chance(0.6 if taken else 0.1):
+            line["back"] = self.backs(taken)
+        return line
+
+    def takes(self, block):
+        """Numbers to be taken, and the names that are taken by those of them that may be."""
+        takes, taken = [], frozenset()
+        for _ in range(self.random.randint(0, 7)):
+            number = self.number_to_take(block, taken)
+            if number is None:
+                break
+            takes.append(number)
+            if is_accepted(plain_model.check_take, self.model.entries, block, taken, number):
+                taken = plain_model.take(self.model.entries, block, taken, number)
+        return takes, taken
+
+    def number_to_take(self, block, taken):
+        """Mostly one that may be taken, where there is one."""
+        entries = self.model.entries
+        if self.chance(0.05):
+            return self.number()
+        if taken and self.chance(0.02):
+            return self.random.choice(sorted(taken))
+        here = self.shuffled(plain_model.numbers_of(plain_model.of_block(entries, block)))
+        if here and self.chance(0.05):
+            return here[0]
+        return next((n for n in here if is_accepted(plain_model.check_take, entries, block, taken, n)), None)
+
+    def backs(self, taken):
+        backs = []
+        for _ in range(self.random.randint(0, 4)):
+            number = self.number_to_put_back(taken)
+            backs.append(number)
+            if is_accepted(plain_model.check_back, self.model.entries, taken, number):
+                taken = plain_model.put_back(self.model.entries, taken, number)
+        return backs
+
+    def number_to_put_back(self, taken):
+        entries = self.model.entries
+        members = self.shuffled(entry.patch.number for entry in entries if entry.name in taken)
+        if not members or self.chance(0.08):
+            return self.number()
+        if self.chance(0.3):
+            return members[0]
+        return next(n for n in members if is_accepted(plain_model.check_back, entries, taken, n))
+
+
+def is_accepted(check, *arguments):
+    """Whether a check of the model's finds no cause to refuse."""
+    try:
+        check(*arguments)
+    except Refused:
+        return False
+    return True
+
+
+# Running and comparing.
+
+
+def as_text(answers):
+    return "".join(f"{answer}\n" for answer in answers)
+
+
+def given(program, script):
+    """The exit status and the text that the program gives."""
+    words = [program, "replay", "--blocks", str(script.blocks)]
+    try:
+        ended = subprocess.run(
+            words, input=script.text().encode(), stdout=subprocess.PIPE, stderr=subprocess.DEVNULL, timeout=SECONDS
+        )
+    except subprocess.TimeoutExpired:
+        return f"no status within {SECONDS} seconds", ""
+    return ended.returncode, ended.stdout.decode("utf-8", "replace")
+
+
+def differs(program, script, answers):
+    """Whether the program ends with another status than 0, or answers anything else than this."""
+    return given(program, script) != (0, as_text(answers))
+
+
+def shrunk(program, script):
+    """The script without each line that the difference doesn't need, tried one by one until none can go."""
+    index = len(script.lines) - 1
+    while index >= 0:
+        shorter = script.dropping(index)
+        if differs(program, shorter, shorter.answers()):
+            script, index = shorter, len(shorter.lines)
+        index -= 1
+    return script
+
+
+def difference(program, script):
+    """A short script that shows it, with both answers to each line where they differ."""
+    if isinstance(given(program, script)[0], int):
+        script = shrunk(program, script)
+    status, text = given(program, script)
+    parts = [f"replay --blocks {script.blocks} ends with {status}"]
+    rows = itertools.zip_longest(script.text().splitlines(), script.answers(), text.splitlines(), fillvalue="nothing")
+    for line, wanted, got in rows:
+        answers = [wanted] if wanted == got else [f"model    {wanted}", f"program  {got}"]
+        parts += [line, *(f"    {without_zeros(answer)}" for answer in answers)]
+    return "\n".join(parts)
+
+
+def without_zeros(text):
+    """The text with the count in the place of many zero bytes."""
+    return re.sub("(?:00){17,}", lambda zeros: f"<{len(zeros[0]) // 2} zeros>", text)
+
+
+def kind(answer):
+    """The kind of an answer: its first word, or the name of the refusal."""
+    words = answer.split()
+    return words[1] if words[0] == "refused" else words[0]
+
+
+def try_script(program, seed, number):
+    """Writes and compares one script: how often each kind of answer was reached, and the script if the two differ."""
+    script, answers = Author(f"{seed} {number}").write()
+    kinds = collections.Counter((line["op"], kind(answer)) for line, answer in zip(script.lines, answers))
+    return kinds, script if program and differs(program, script, answers) else None
+
+
+def try_all(work, scripts, jobs):
+    """The outcome of each script, in order."""
+    if jobs == 1:
+        yield from map(work, range(scripts))
+    else:
+        with multiprocessing.Pool(jobs) as pool:
+            yield from pool.imap(work, range(scripts), chunksize=20)
+
+
+def wanted_kinds():
+    return [(op, word) for op, words in REACHED.items() for word in words.split()]
+
+
+def print_table(reached):
+    print(f"{'op':<10}{'answer':<20}{'reached':>10}")
+    others = sorted(set(reached) - set(wanted_kinds()))
+    for op, word in wanted_kinds() + others:
+        print(f"{op:<10}{word:<20}{reached[op, word]:>10}")
+
+
+def arguments():
+    parser = argparse.ArgumentParser(description=__doc__, formatter_class=argparse.RawDescriptionHelpFormatter)
+    parser.add_argument("program", nargs="?", metavar="PROGRAM", help="the built fstch")
+    parser.add_argument("--scripts", type=int, default=10000, help="how many scripts (default 10000)")
+    parser.add_argument("--seed", type=int, default=1, help="which scripts (default 1)")
+    parser.add_argument("--jobs", type=int, default=1, help="how many processes write and compare (default 1)")
+    parser.add_argument("--model-only", action="store_true", help="run no program, and only show what is reached")
+    words = parser.parse_args()
+    if (words.program is None) != words.model_only:
+        parser.error("give either PROGRAM or --model-only")
+    if words.program and not os.access(words.program, os.X_OK):
+        parser.error(f"{words.program} can't be run")
+    return words
+
+
+def main():
+    words = arguments()
+    program = words.program and os.path.abspath(words.program)
+    reached, failed = collections.Counter(), 0
+    for kinds, script in try_all(functools.partial(try_script, program, words.seed), words.scripts, words.jobs):
+        reached.update(kinds)
+        failed += script is not None
+        if script and failed <= DIFFERENCES_SHOWN:
+            print(difference(program, script), end="\n\n", flush=True)
+    print_table(reached)
+    missing = [pair for pair in wanted_kinds() if not reached[pair]]
+    for op, word in missing:
+        print(f"never reached: {op} {word}")
+    print(f"{words.scripts - failed} passed, {failed} failed")
+    return 1 if failed or missing else 0
+
+
+if __name__ == "__main__":
+    sys.exit(main())
