@@ -23,3 +23,4 @@ pub mod Refusing
 pub mod Underway
 pub mod Holding
 pub mod Answering
+pub mod Single

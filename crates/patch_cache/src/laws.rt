@@ -1,4 +1,8 @@
-//! The cache's promise once more, by the definitions alone: the contract of a function that does nothing.
+//! What the definitions say by themselves, each law the contract of a function that does nothing: the cache's promise once
+//! more, and that an ask has one answer.
+ghost use Rattle.std.specs.Prelude.{◌≡◌};
+ghost use Rattle.patch_model.specs.Execution.{Execution};
+ghost use Rattle.patch_cache.specs.Asks.{Ask, Answer, IsAnswer};
 ghost use Rattle.patch_cache.specs.Promise.{TakingBack, MovesArePermitted, ImagesSent, CrashesClosed};
 
 /// For every execution of patch, merge, send and completion steps: taking back in any permitted order a set of undoable
@@ -17,4 +21,11 @@ pub fn promise()
     patch_view::laws::orders_meet();
     patch_view::laws::blocks_are_coherent();
     patch_view::laws::uppermost_may_be_taken();
+}
+
+/// The definitions leave one answer to each ask.
+pub fn answers_are_single()
+    ensures { (run : Execution) (ask : Ask) (a b : Answer) → IsAnswer run ask a → IsAnswer run ask b → a ≡ b }
+{
+    patch_model::laws::near_classes_merge();
 }
