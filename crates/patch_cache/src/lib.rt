@@ -12,6 +12,8 @@ mod reading;
 mod refusals;
 mod running;
 mod sending;
+#[cfg(test)]
+mod tests;
 mod views;
 mod writes;
 

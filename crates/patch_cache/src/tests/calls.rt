@@ -1,0 +1,183 @@
+//! The calls, one by one.
+use super::*;
+use patch_device::{Device, FaultyDevice, MemDevice};
+use patch_model::{BLOCK, MAX_LIVE, Mark};
+use patch_view::PutBackRefusal;
+use std::alloc::Global;
+
+// A cache of two blocks of zeros.
+fn without_patches(rt: &impl Abort, alloc: Global) -> Result<Cache, Fail> {
+    let mut cache = open_zeros(rt, alloc, 2)?;
+    assert_eq!(rt; (cache.blocks(), cache.made(), cache.live()), (2, 0, 0));
+    assert_eq!(rt; cache.next_ready(), None);
+    assert_eq!(rt; cache.mark_of(PatchNo(0)), None);
+    assert_eq!(rt; cache.read(BlockNo(1), 0, BLOCK)?, [0; BLOCK].as_slice());
+    Ok(cache)
+}
+
+// The same with a patch of one byte on the second block.
+fn with_one_patch(rt: &impl Abort, alloc: Global) -> Result<Cache, Fail> {
+    let mut cache = without_patches(rt, alloc)?;
+    let no = cache.create(BlockNo(1), 3, &[0xaa], &[], Undo::Keep)?;
+    assert_eq!(rt; no, PatchNo(0));
+    Ok(cache)
+}
+
+// What a cache of one patch shows of it.
+fn expect_shown(rt: &impl Abort, cache: &mut Cache, live: u32, mark: Mark, ready: Option<BlockNo>) {
+    assert_eq!(rt;
+        (cache.made(), cache.live(), cache.mark_of(PatchNo(0))),
+        (1, live, Some(mark))
+    );
+    assert_eq!(rt; cache.next_ready(), ready);
+    assert_eq!(rt; cache.mark_of(PatchNo(1)), None);
+}
+
+// Sends the second block.
+fn sent(rt: &impl Abort, cache: &mut Cache) -> Flight {
+    match cache.send(BlockNo(1)) {
+        Ok(flight) => flight,
+        Err(refusal) => panic!(rt; "{refusal}"),
+    }
+}
+
+// Writes the flight out, and again where the device refuses that. Whether it did.
+fn written(
+    rt: &impl Abort,
+    device: &mut FaultyDevice<MemDevice>,
+    flight: Flight,
+) -> (Landed, bool) {
+    match write_out(device, flight) {
+        Ok(landed) => (landed, false),
+        Err((flight, Fault)) => match write_out(device, flight) {
+            Ok(landed) => (landed, true),
+            Err((flight, Fault)) => {
+                flight.abandon();
+                panic!(rt; "refused again")
+            }
+        },
+    }
+}
+
+// Completes a write, which the cache waits for or not.
+fn completed(cache: &mut Cache, landed: Landed) -> Result<Done, (BlockNo, u32)> {
+    cache.complete(landed).map_err(|stranger| {
+        let shown = (stranger.block(), stranger.number());
+        stranger.abandon();
+        shown
+    })
+}
+
+fn expect_landed(rt: &impl Abort, alloc: Global, refuses: bool, lands: bool) -> Result<(), Fail> {
+    let refused = if refuses { 0 } else { u64::MAX };
+    let mut device = FaultyDevice::new(MemDevice::new(alloc, 2)?, refused, lands);
+    let mut cache = with_one_patch(rt, alloc)?;
+    expect_shown(rt, &mut cache, 1, Mark::Memory, Some(BlockNo(1)));
+    let flight = sent(rt, &mut cache);
+    assert_eq!(rt; (flight.block(), flight.number()), (BlockNo(1), 0));
+    assert_eq!(rt; flight.numbers(), [PatchNo(0)].as_slice());
+    assert_eq!(rt; &flight.image()[..5], [0, 0, 0, 0xaa, 0].as_slice());
+    expect_shown(rt, &mut cache, 1, Mark::Flight, None);
+    let (landed, again) = written(rt, &mut device, flight);
+    assert_eq!(rt;
+        (landed.block(), landed.number(), again),
+        (BlockNo(1), 0, refuses)
+    );
+    let done = completed(&mut cache, landed)?;
+    assert_eq!(rt; done.block, BlockNo(1));
+    assert_eq!(rt; done.numbers.as_slice(), [PatchNo(0)].as_slice());
+    expect_shown(rt, &mut cache, 0, Mark::Durable, None);
+    assert_eq!(rt; cache.read(BlockNo(1), 2, 3)?, [0, 0xaa, 0].as_slice());
+    let mut block = [0; BLOCK];
+    device.read(1, &mut block)?;
+    assert_eq!(rt; &block[..5], [0, 0, 0, 0xaa, 0].as_slice());
+    Ok(())
+}
+
+// Also where the device refuses the write, whether or not that landed: the same image is written again.
+#[test]
+fn from_patch_to_disk(rt: HostRuntime) -> Result<(), Fail> {
+    for (refuses, lands) in [(false, false), (true, false), (true, true)] {
+        expect_landed(&rt, rt.alloc(), refuses, lands)?;
+    }
+    Ok(())
+}
+
+#[test]
+fn a_view_is_put_right(rt: HostRuntime) -> Result<(), Fail> {
+    let mut cache = with_one_patch(&rt, rt.alloc())?;
+    cache.create(BlockNo(1), 2, &[0xb1, 0xb2], &[], Undo::Keep)?;
+    let missing = cache.view(BlockNo(2)).map(|view| view.restore());
+    assert_eq!(rt; missing, Err(NoSuchBlock));
+    let mut view = cache.view(BlockNo(1))?;
+    assert_eq!(rt;
+        view.take(PatchNo(0)),
+        Err(TakeRefusal::DependentApplied(PatchNo(1)))
+    );
+    assert_eq!(rt; view.take(PatchNo(1)), Ok(()));
+    assert_eq!(rt; view.take(PatchNo(0)), Ok(()));
+    assert_eq!(rt; &view.bytes()[2..4], [0, 0].as_slice());
+    assert_eq!(rt;
+        view.put_back(PatchNo(1)),
+        Err(PutBackRefusal::DependencyTaken(PatchNo(0)))
+    );
+    assert_eq!(rt; view.put_back(PatchNo(0)), Ok(()));
+    assert_eq!(rt; view.put_back(PatchNo(0)), Err(PutBackRefusal::NotTaken));
+    assert_eq!(rt; &view.bytes()[2..4], [0, 0xaa].as_slice());
+    view.restore();
+    assert_eq!(rt; cache.read(BlockNo(1), 2, 2)?, [0xb1, 0xb2].as_slice());
+    Ok(())
+}
+
+// A completion of another cache, whose flight of the block has another number.
+#[test]
+fn a_stranger_comes_back(rt: HostRuntime) -> Result<(), Fail> {
+    let mut device = FaultyDevice::new(MemDevice::new(rt.alloc(), 2)?, u64::MAX, false);
+    let mut cache = with_one_patch(&rt, rt.alloc())?;
+    let mut other = with_one_patch(&rt, rt.alloc())?;
+    other.create(BlockNo(0), 0, &[0xbb], &[], Undo::Keep)?;
+    other.send(BlockNo(0))?.abandon();
+    let (own, _) = written(&rt, &mut device, sent(&rt, &mut cache));
+    let (theirs, _) = written(&rt, &mut device, sent(&rt, &mut other));
+    assert_eq!(rt; completed(&mut cache, theirs).err(), Some((BlockNo(1), 1)));
+    assert_eq!(rt; completed(&mut other, own).err(), Some((BlockNo(1), 0)));
+    expect_shown(&rt, &mut cache, 1, Mark::Flight, None);
+    Ok(())
+}
+
+// The block of a flight that is given up, or of a landed write, stays in flight.
+#[test]
+fn an_abandoned_write_stays_in_flight(rt: HostRuntime) -> Result<(), Fail> {
+    let mut device = FaultyDevice::new(MemDevice::new(rt.alloc(), 2)?, u64::MAX, false);
+    for lands in [false, true] {
+        let mut cache = with_one_patch(&rt, rt.alloc())?;
+        let flight = sent(&rt, &mut cache);
+        if lands {
+            written(&rt, &mut device, flight).0.abandon();
+        } else {
+            flight.abandon();
+        }
+        expect_shown(&rt, &mut cache, 1, Mark::Flight, None);
+        cache.create(BlockNo(1), 0, &[0xbb], &[], Undo::Keep)?;
+        let refused = cache.send(BlockNo(1)).map(|flight| flight.abandon());
+        assert_eq!(rt; refused, Err(SendRefusal::AlreadyInFlight));
+        assert_eq!(rt; cache.next_ready(), None);
+    }
+    Ok(())
+}
+
+// As many as may be live, one on each byte of the first 256 of as many blocks, and one more.
+#[test]
+fn as_many_as_may_be_live(rt: HostRuntime) -> Result<(), Fail> {
+    let mut cache = open_zeros(&rt, rt.alloc(), 256)?;
+    for block in 0..256u32 {
+        for byte in 0..256usize {
+            cache.create(BlockNo(block), byte, &[0xaa], &[], Undo::Keep)?;
+        }
+    }
+    let refused = cache.create(BlockNo(0), 0, &[0xbb], &[], Undo::Keep);
+    assert_eq!(rt; refused, Err(CreateRefusal::TooManyLive));
+    assert_eq!(rt; (cache.live(), cache.made()), (MAX_LIVE, 65536));
+    assert_eq!(rt; cache.read(BlockNo(0), 0, 1)?, [0xaa].as_slice());
+    Ok(())
+}
