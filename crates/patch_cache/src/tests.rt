@@ -6,6 +6,8 @@ use std::process::Abort;
 use std::test::Fail;
 
 mod calls;
+mod memory;
+mod names;
 mod scripts;
 
 // A cache of so many blocks of zeros.

@@ -2,7 +2,7 @@
 use super::*;
 use patch_device::{Device, FaultyDevice, MemDevice};
 use patch_model::{BLOCK, Bytes, Items, Numbers, Step};
-use std::alloc::Global;
+use std::alloc::{Allocator, Global};
 
 // A line is an ask, and behind the sign what is answered. The bytes of blocks are letters, and those of zero dots.
 //
@@ -247,13 +247,13 @@ fn move_in(word: &str) -> Move {
     }
 }
 
-fn patch_in(
-    alloc: Global,
+fn patch_in<A: Allocator + Copy>(
+    alloc: A,
     at: (&str, &str),
     letters: &str,
     after: &[&str],
     undo: Undo,
-) -> Result<Ask, Fail> {
+) -> Result<Ask<A>, Fail> {
     let bytes = letters.trim_matches('-').as_bytes();
     let after = after.iter().map(|word| PatchNo(number(word)));
     Ok(Ask::Create {
@@ -265,8 +265,9 @@ fn patch_in(
     })
 }
 
-fn ask_in(alloc: Global, line: &str) -> Result<Ask, Fail> {
-    let words: Vec<&str> = line.split_whitespace().collect(alloc)?;
+// The ask in a line's words.
+pub(super) fn ask_in<A: Allocator + Copy>(alloc: A, line: &str) -> Result<Ask<A>, Fail> {
+    let words: Vec<&str, A> = line.split_whitespace().collect(alloc)?;
     Ok(match words.as_slice() {
         ["patch", block, start, letters, after @ ..] => {
             patch_in(alloc, (block, start), letters, after, Undo::Keep)?
