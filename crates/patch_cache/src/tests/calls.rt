@@ -5,23 +5,28 @@ use patch_model::{BLOCK, MAX_LIVE, Mark};
 use patch_view::PutBackRefusal;
 use std::alloc::Global;
 
-// A cache of two blocks of zeros.
-fn without_patches(rt: &impl Abort, alloc: Global) -> Result<Cache, Fail> {
-    let mut cache = open_zeros(rt, alloc, 2)?;
+fn expect_unpatched(rt: &impl Abort, cache: &mut Cache) -> Result<(), Fail> {
     assert_eq!(rt; (cache.blocks(), cache.made(), cache.live()), (2, 0, 0));
     assert_eq!(rt; cache.next_ready(), None);
     assert_eq!(rt; cache.mark_of(PatchNo(0)), None);
     let bytes = cache.read(BlockNo(1), 0, BLOCK)?;
     assert!(rt; bytes.len() == BLOCK && bytes.iter().all(|byte| *byte == 0));
-    Ok(cache)
+    Ok(())
 }
 
-// The same with a patch of one byte on the second block.
-fn with_one_patch(rt: &impl Abort, alloc: Global) -> Result<Cache, Fail> {
-    let mut cache = without_patches(rt, alloc)?;
+// Makes a patch of one byte on the second block.
+fn make_first(rt: &impl Abort, cache: &mut Cache) -> Result<(), Fail> {
     let no = cache.create(BlockNo(1), 3, &[0xaa], &[], Undo::Keep)?;
     assert_eq!(rt; no, PatchNo(0));
     assert_eq!(rt; cache.read(BlockNo(1), 2, 3)?, [0, 0xaa, 0].as_slice());
+    Ok(())
+}
+
+// A cache of two blocks of zeros, and the first patch.
+fn with_one_patch(rt: &impl Abort, alloc: Global) -> Result<Cache, Fail> {
+    let mut cache = open_zeros(rt, alloc, 2)?;
+    expect_unpatched(rt, &mut cache)?;
+    make_first(rt, &mut cache)?;
     Ok(cache)
 }
 
@@ -144,20 +149,26 @@ fn expect_put_back(rt: &impl Abort, view: &mut CacheView) {
         Err(Refusal::from(PutBackRefusal::NotTaken))
     );
     assert_eq!(rt; &view.bytes()[2..4], [0, 0xaa].as_slice());
+    assert_eq!(rt; put_back(view, 1), Ok(()));
+}
+
+fn expect_put_right(rt: &impl Abort, cache: &mut Cache) -> Result<(), Fail> {
+    cache.create(BlockNo(1), 2, &[0xb1, 0xb2], &[], Undo::Keep)?;
+    let missing = cache.view(BlockNo(2)).map(|view| view.restore());
+    assert_eq!(rt; missing, Err(NoSuchBlock));
+    let mut view = cache.view(BlockNo(1))?;
+    expect_taken(rt, &mut view);
+    expect_put_back(rt, &mut view);
+    expect_taken(rt, &mut view);
+    view.restore();
+    assert_eq!(rt; cache.read(BlockNo(1), 2, 2)?, [0xb1, 0xb2].as_slice());
+    Ok(())
 }
 
 #[test]
 fn a_view_is_put_right(rt: HostRuntime) -> Result<(), Fail> {
     let mut cache = with_one_patch(&rt, rt.alloc())?;
-    cache.create(BlockNo(1), 2, &[0xb1, 0xb2], &[], Undo::Keep)?;
-    let missing = cache.view(BlockNo(2)).map(|view| view.restore());
-    assert_eq!(rt; missing, Err(NoSuchBlock));
-    let mut view = cache.view(BlockNo(1))?;
-    expect_taken(&rt, &mut view);
-    expect_put_back(&rt, &mut view);
-    view.restore();
-    assert_eq!(rt; cache.read(BlockNo(1), 2, 2)?, [0xb1, 0xb2].as_slice());
-    Ok(())
+    expect_put_right(&rt, &mut cache)
 }
 
 // Begins a write of the second block after one of the first, whose flight is given up.
@@ -226,6 +237,64 @@ fn an_abandoned_write_stays_in_flight(rt: HostRuntime) -> Result<(), Fail> {
     Ok(())
 }
 
+fn is_refused(device: &mut MemDevice, flight: Flight) -> bool {
+    match write_out(device, flight) {
+        Ok(landed) => {
+            landed.abandon();
+            false
+        }
+        Err((flight, Fault)) => {
+            flight.abandon();
+            true
+        }
+    }
+}
+
+// A device with too few blocks refuses the write of one that it hasn't.
+#[test]
+fn a_device_with_too_few_blocks(rt: HostRuntime) -> Result<(), Fail> {
+    let mut device = MemDevice::new(rt.alloc(), 1)?;
+    let mut cache = with_one_patch(&rt, rt.alloc())?;
+    assert!(rt; is_refused(&mut device, sent(&rt, &mut cache)));
+    Ok(())
+}
+
+// What waits for the second block is not ready; what waits for nothing is, and its block is the lesser.
+fn expect_least(rt: &impl Abort, cache: &mut Cache) -> Result<(), Fail> {
+    cache.create(BlockNo(0), 0, &[0xbb], &[PatchNo(0)], Undo::Keep)?;
+    assert_eq!(rt; cache.next_ready(), Some(BlockNo(1)));
+    cache.create(BlockNo(0), 9, &[0xcc], &[], Undo::Keep)?;
+    assert_eq!(rt; cache.next_ready(), Some(BlockNo(0)));
+    cache.send(BlockNo(0))?.abandon();
+    assert_eq!(rt; cache.next_ready(), Some(BlockNo(1)));
+    Ok(())
+}
+
+#[test]
+fn the_least_block_is_ready(rt: HostRuntime) -> Result<(), Fail> {
+    let mut cache = with_one_patch(&rt, rt.alloc())?;
+    expect_least(&rt, &mut cache)
+}
+
+fn expect_unread(rt: &impl Abort, cache: &Cache) {
+    for (block, start, len, refusal) in [
+        (2, 0, 4097, ReadRefusal::NoSuchBlock),
+        (1, 0, 4097, ReadRefusal::OutOfBlock),
+        (1, 4096, 1, ReadRefusal::OutOfBlock),
+        (1, usize::MAX, 2, ReadRefusal::OutOfBlock),
+    ] {
+        let refused = cache.read(BlockNo(block), start, len).err();
+        assert_eq!(rt; refused, Some(refusal));
+    }
+}
+
+#[test]
+fn what_is_not_read(rt: HostRuntime) -> Result<(), Fail> {
+    let cache = with_one_patch(&rt, rt.alloc())?;
+    expect_unread(&rt, &cache);
+    Ok(())
+}
+
 // Makes a patch of one byte on each of the first 256 of a block.
 fn make_many(cache: &mut Cache, block: u32) -> Result<(), CreateRefusal> {
     for byte in 0..256usize {
@@ -234,15 +303,22 @@ fn make_many(cache: &mut Cache, block: u32) -> Result<(), CreateRefusal> {
     Ok(())
 }
 
-// As many as may be live, and one more.
+// No patch more is made, and one that names an unmade patch is refused for that.
+fn expect_full(rt: &impl Abort, cache: &mut Cache) {
+    assert_eq!(rt; (cache.live(), cache.made()), (MAX_LIVE, 65536));
+    assert_eq!(rt; make_many(cache, 0), Err(CreateRefusal::TooManyLive));
+    let named = cache.create(BlockNo(0), 0, &[0xbb], &[PatchNo(65536)], Undo::Keep);
+    assert_eq!(rt; named, Err(CreateRefusal::UnknownDependency));
+    assert_eq!(rt; (cache.live(), cache.made()), (MAX_LIVE, 65536));
+}
+
+// One on each byte of the first 256 of as many blocks, and one more.
 #[test]
 fn as_many_as_may_be_live(rt: HostRuntime) -> Result<(), Fail> {
     let mut cache = open_zeros(&rt, rt.alloc(), 256)?;
     for block in 0..256u32 {
         make_many(&mut cache, block)?;
     }
-    assert_eq!(rt; (cache.live(), cache.made()), (MAX_LIVE, 65536));
-    assert_eq!(rt; make_many(&mut cache, 0), Err(CreateRefusal::TooManyLive));
-    assert_eq!(rt; (cache.live(), cache.made()), (MAX_LIVE, 65536));
+    expect_full(&rt, &mut cache);
     Ok(())
 }

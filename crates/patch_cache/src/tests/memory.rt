@@ -396,13 +396,23 @@ fn look(rt: &impl Abort, cache: &mut Cache<&LocalHeap>) -> Result<(), Fail> {
     Ok(())
 }
 
+// Looks where no memory is left.
+fn look_in(
+    rt: &impl Abort,
+    alloc: Global,
+    heap: &LocalHeap,
+    cache: &mut Cache<&LocalHeap>,
+) -> Result<(), Fail> {
+    cache.create(BlockNo(1), 0, &[0xbb], &[], Undo::Keep)?;
+    let ballast = fill(alloc, heap, 0)?;
+    look(rt, cache)?;
+    drop(ballast);
+    Ok(())
+}
+
 #[test]
 fn looks_and_views_take_none(rt: HostRuntime) -> Result<(), Fail> {
     let heap = LocalHeap::new(rt.alloc(), 65536)?;
     let mut cache = open_zeros(&rt, &heap, 2)?;
-    cache.create(BlockNo(1), 0, &[0xbb], &[], Undo::Keep)?;
-    let ballast = fill(rt.alloc(), &heap, 0)?;
-    look(&rt, &mut cache)?;
-    drop(ballast);
-    Ok(())
+    look_in(&rt, rt.alloc(), &heap, &mut cache)
 }
