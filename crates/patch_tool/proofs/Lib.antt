@@ -1,3 +1,4 @@
 pub mod Leading
 pub mod Asking
 pub mod Looking
+pub mod Single

@@ -4,6 +4,8 @@
 mod answering;
 mod arguments;
 mod cached_disk;
+#[cfg(test)]
+mod laws;
 mod replaying;
 #[cfg(test)]
 mod rows;

@@ -4,7 +4,7 @@ use crate::cached_disk::CachedDisk;
 use crate::replaying::{Status, replay, replay_over};
 use crate::rows::{DEFAULT_BLOCKS, Row, rows};
 use crate::rows_of_writes::rows_of_writes;
-use patch_model::OutOfMemory;
+use patch_model::{BLOCK, MAX_LIVE, OutOfMemory};
 use patch_script::{Answer, Line};
 use std::alloc::{AllocError, Global};
 use std::io;
@@ -59,6 +59,35 @@ fn long_scripts(rt: HostRuntime) -> Result<(), Fail> {
         assert_eq!(rt; ended, status);
         assert_eq!(rt; out.as_slice(), answers.as_bytes());
     }
+    Ok(())
+}
+
+// A patch of one byte on each byte of sixteen blocks, and one more.
+fn every_byte(alloc: Global) -> Result<String, Fail> {
+    let mut script = String::new(alloc);
+    for at in 0..MAX_LIVE as usize {
+        let (block, start) = (at / BLOCK, at % BLOCK);
+        script.push_str("{\"op\":\"patch\",\"block\":")?;
+        write!(script, "{block},\"start\":{start}")?;
+        script.push_str(",\"hex\":\"01\"}\n")?;
+    }
+    script.push_str(r#"{"op":"patch","block":0,"start":0,"hex":"01"}"#)?;
+    Ok(script)
+}
+
+#[test]
+fn as_many_patches_as_may_be_live(rt: HostRuntime) -> Result<(), Fail> {
+    let alloc = rt.alloc();
+    let script = every_byte(alloc)?;
+    let mut answers = String::new(alloc);
+    for number in 0..MAX_LIVE {
+        write!(answers, "patch {number}\n")?;
+    }
+    answers.push_str("refused TooManyLive\n")?;
+    let mut out = Vec::new(alloc);
+    let status = replay(alloc, &mut script.as_bytes(), &mut out, 16);
+    assert_eq!(rt; status, Status::Done);
+    assert!(rt; out.as_slice() == answers.as_bytes());
     Ok(())
 }
 
