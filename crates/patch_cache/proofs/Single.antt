@@ -1,5 +1,5 @@
 -- An ask has one answer.
-use Rattle.std.proofs.Common.{◌≡◌, ℕ, ◌∙◌, ◌≤◌, Some, None, List, sym, ap, arith}
+use Rattle.std.proofs.Common.{◌≡◌, ℕ, ◌∙◌, ◌≤◌, None, List, sym, ap, arith}
 use Rattle.std.specs.Prelude.{◌↔◌}
 use Rattle.patch_model.specs.declared.refusals.RefusalKind.TheVariants as kind
 use Rattle.patch_model.specs.Entry.{Entry}

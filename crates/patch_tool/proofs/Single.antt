@@ -8,7 +8,7 @@ use Rattle.patch_script.specs.declared.forms.Line.{Line}
 use Rattle.patch_script.specs.declared.forms.Line.TheVariants.{Patch, Merge, Send, Complete, View, Show, Disk}
 use Rattle.patch_script.specs.Script.{script_of, is_too_long}
 use Rattle.patch_tool.specs.Answering.{World, IsTold, IsAnswerTo, AreAnswers, told, after}
-use Rattle.patch_tool.specs.Replay.{answers_text, IsTextOf, IsScriptText, IsReplayText, too_long_text}
+use Rattle.patch_tool.specs.Replay.{answers_text, IsScriptText, IsReplayText, too_long_text}
 
 -- an ask has one answer
 abbrev pub Answering : Type 0

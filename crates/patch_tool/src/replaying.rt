@@ -1,10 +1,10 @@
 //! Replays a script: all is read, then its limits are tested, then it is parsed, and then it is answered.
-ghost use Rattle.std.specs.Prelude.{ℕ, ◌≡◌, ◌⊎◌, ◌<◌, ◌≤◌, ◌++◌, ◌∷◌, [], List, length, nat_lt, if◌then◌else◌, IfOk, IfErr, OnOk, IfSome, Some, None, codes, decimal, string_bytes};
+ghost use Rattle.std.specs.Prelude.{ℕ, ◌≡◌, ◌≢◌, ◌⊎◌, ◌<◌, ◌≤◌, ◌++◌, ◌∷◌, [], List, length, nat_lt, if◌then◌else◌, IfOk, IfErr, OnOk, IfSome, Some, None, codes, decimal, string_bytes};
 ghost use Rattle.std.specs.Io.KnownBytes.{Appends};
 ghost use Rattle.patch_tool.specs.Answering.{World, start};
 ghost use Rattle.patch_tool.specs.Replay.{IsLineTold, HasWrittenAll, HasAnswered, Stopped, Starved, bad_line, IsInput, IsEnd, Replayed, too_long_text};
 ghost use Rattle.patch_tool.specs.declared.replaying.Status.TheVariants.{Unreadable, Failed, OutOfMemory as NoMemory};
-ghost use Rattle.patch_tool.specs.declared.replaying.Fault.TheVariants.{Write as WriteFault};
+ghost use Rattle.patch_tool.specs.declared.replaying.Fault.TheVariants.{Read as ReadFault, Write as WriteFault, OutOfMemory as MemoryFault};
 
 use crate::answering::Core;
 use crate::cached_disk::CachedDisk;
@@ -38,9 +38,18 @@ pub enum Fault {
     OutOfMemory,
 }
 
+impl From<OutOfMemory> for Fault {
+    ghost from_gives = { λ _ fault. fault ≡ MemoryFault };
+
+    fn from(_: OutOfMemory) -> Fault {
+        Fault::OutOfMemory
+    }
+}
+
 /// All that the reader has, or `None` where it is more than a script may have.
 pub fn read_input<R: Read>(alloc: Global, reader: &mut R) -> Result<Option<Vec<u8>>, Fault>
-    ensures { IfOk result (λ found. IfSome (R.remaining reader.old) (IsInput found)) }
+    ensures found { IfOk result (λ found. IfSome (R.remaining reader.old) (IsInput found)) }
+    ensures failed { IfErr result (λ fault. fault ≢ WriteFault) }
 {
     let mut chunk = new_chunk(alloc)?;
     let mut script = Vec::new(alloc);
@@ -65,19 +74,17 @@ pub fn read_input<R: Read>(alloc: Global, reader: &mut R) -> Result<Option<Vec<u
     Err(Fault::Read)
 }
 
-fn new_chunk(alloc: Global) -> Result<Vec<u8>, Fault>
+fn new_chunk(alloc: Global) -> Result<Vec<u8>, OutOfMemory>
     ensures { IfOk result (λ chunk. length chunk.items ≡ CHUNK) }
 {
-    let chunk = vec![in alloc; 0u8; CHUNK].map_err(|_| Fault::OutOfMemory)?;
-    Ok(chunk)
+    Ok(vec![in alloc; 0u8; CHUNK]?)
 }
 
-fn append(script: &mut Vec<u8>, bytes: &[u8]) -> Result<(), Fault>
+fn append(script: &mut Vec<u8>, bytes: &[u8]) -> Result<(), OutOfMemory>
     ensures { OnOk result (script.new.items ≡ script.old.items ++ bytes.now) }
 {
-    script
-        .extend_from_slice(bytes)
-        .map_err(|_| Fault::OutOfMemory)
+    script.extend_from_slice(bytes)?;
+    Ok(())
 }
 
 fn write_text<W: Write>(writer: &mut W, text: &[u8]) -> Result<(), Fault>
@@ -88,16 +95,11 @@ fn write_text<W: Write>(writer: &mut W, text: &[u8]) -> Result<(), Fault>
 }
 
 /// Answers a line, as text.
-fn answered<C: Core>(alloc: Global, core: &mut C, line: Line) -> Result<String, Fault>
+fn answered<C: Core>(alloc: Global, core: &mut C, line: Line) -> Result<String, OutOfMemory>
     ensures { (w : World) → C.IsAt core.old w → IfOk result (λ text. IsLineTold w line (string_bytes text) (C.IsAt core.new)) }
 {
-    let Ok(answer) = core.answer(alloc, line) else {
-        return Err(Fault::OutOfMemory);
-    };
-    match answer_line(alloc, &answer) {
-        Ok(text) => Ok(text),
-        Err(AllocError) => Err(Fault::OutOfMemory),
-    }
+    let answer = core.answer(alloc, line)?;
+    Ok(answer_line(alloc, &answer)?)
 }
 
 /// Answers the lines in order, each by a line of text.
@@ -111,6 +113,7 @@ fn write_answers<W: Write, C: Core>(
         (HasWrittenAll w lines.items (W.contents writer.old) (W.contents writer.new)) }
     ensures stopped { (w : World) → C.IsAt core.old w → IfErr result (λ fault.
         HasAnswered fault w lines.items (W.contents writer.old) (W.contents writer.new)) }
+    ensures failed { IfErr result (λ fault. fault ≢ ReadFault) }
 {
     for line in lines {
         let text = answered(alloc, core, line)?;
@@ -132,6 +135,7 @@ fn run<W: Write, C: Core>(
     ensures ended { IfOk result IsEnd }
     ensures stopped { (w : World) → C.IsAt core.old w → (text : List ℕ) → IsInput input text → IfErr result (λ fault.
         Stopped fault w text (W.contents writer.old) (W.contents writer.new)) }
+    ensures failed { IfErr result (λ fault. fault ≢ ReadFault) }
 {
     let script = match input {
         Some(script) => script,
@@ -165,6 +169,7 @@ fn too_long<W: Write>(writer: &mut W) -> Result<Status, Fault>
 fn write_bad_line<W: Write>(alloc: Global, writer: &mut W, number: usize) -> Result<(), Fault>
     ensures done { OnOk result (Appends (W.contents writer.old) (W.contents writer.new) (bad_line number)) }
     ensures stopped { (w : World) → IfErr result (λ fault. HasAnswered fault w [] (W.contents writer.old) (W.contents writer.new)) }
+    ensures failed { IfErr result (λ fault. fault ≢ ReadFault) }
 {
     match format!(in alloc; "bad line {number}\n") {
         Ok(text) => write_text(writer, text.as_bytes()),
