@@ -1,23 +1,12 @@
 //! `fstch`: replays scripts of patches.
 #![tactic(auto)]
 
-mod answering;
 mod arguments;
-mod cached_disk;
-#[cfg(test)]
-mod laws;
-mod replaying;
-#[cfg(test)]
-mod rows;
-#[cfg(test)]
-mod rows_of_writes;
-#[cfg(test)]
-mod tests;
 
 use crate::arguments::Request;
-use crate::replaying::{Status, replay};
 use clap::error::ErrorKind;
 use patch_model::MAX_BLOCKS;
+use patch_replay::{Sink, Source, Status, replay};
 use std::alloc::AllocError;
 use std::io::{BufWriter, writer};
 use std::process::ExitCode;
@@ -39,12 +28,14 @@ fn run_words<R: Print + Eprint + Input + AllocGlobal>(rt: &R, words: &[String]) 
 
 fn run_replay<R: Print + Input + AllocGlobal>(rt: &R, blocks: u32) -> u8 {
     let alloc = rt.alloc();
-    let Ok(mut out) = BufWriter::new(alloc, writer(rt)) else {
+    let Ok(out) = BufWriter::new(alloc, writer(rt)) else {
         return out_of_memory(rt);
     };
     // The command line has no others.
     let blocks = blocks.clamp(1, MAX_BLOCKS as u32);
-    replay(alloc, &mut rt.reader(), &mut out, blocks).code()
+    let mut script = Source::new(rt.reader());
+    let mut answers = Sink::new(out);
+    replay(alloc, &mut script, &mut answers, blocks).code()
 }
 
 /// Tells that memory ran out before the work began.

@@ -1,0 +1,5 @@
+pub mod Reading
+pub mod Leading
+pub mod Asking
+pub mod Looking
+pub mod Single

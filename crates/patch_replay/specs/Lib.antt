@@ -1,0 +1,4 @@
+pub mod Answering
+pub mod Replay
+pub mod Core
+pub mod Streams

@@ -1,0 +1,20 @@
+//! Replays of scripts: all of a script is read, then its lines are answered by a cache over a disk in memory.
+#![tactic(auto)]
+
+mod answering;
+mod cached_disk;
+#[cfg(test)]
+mod laws;
+mod replaying;
+#[cfg(test)]
+mod rows;
+#[cfg(test)]
+mod rows_of_writes;
+mod streams;
+#[cfg(test)]
+mod tests;
+
+pub use answering::Core;
+pub use cached_disk::CachedDisk;
+pub use replaying::{Status, replay, replay_over};
+pub use streams::{MAX_READS, Sink, Source};

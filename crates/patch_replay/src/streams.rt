@@ -1,0 +1,130 @@
+//! The streams of a replay: its reader and its writer, each with a note of whether it has failed.
+ghost use Rattle.std.specs.Prelude.{◌≡◌, ◌+◌, ◌-◌, ◌^◌, ◌≤◌, min, length, true, false, IfOk, IfSome, OnOk};
+ghost use Rattle.std.specs.Io.KnownBytes.{Keeps, Appends};
+ghost use Rattle.patch_replay.specs.Streams.{GivesBytes, noted};
+
+use std::io;
+use std::io::{ErrorKind, Read, Write};
+
+/// The most reads of one input.
+pub const MAX_READS: u32 = 33_554_432;
+
+/// A reader, with a note of how often it was read and of whether a read failed.
+///
+/// The standard's `Read` says nothing of a read that fails; by the note, a fault is told only where there was one.
+#[derive(Drop)]
+pub struct Source<R> {
+    inner: R,
+    reads: u32,
+    failed: bool,
+}
+
+impl<R: Read> Source<R> {
+    /// A reader that was not read yet.
+    pub fn new(reader: R) -> Source<R>
+        ensures reader { result.inner ≡ reader }
+        ensures reads { result.reads ≡ 0 }
+        ensures failed { result.failed ≡ false }
+    {
+        Source {
+            inner: reader,
+            reads: 0,
+            failed: false,
+        }
+    }
+
+    /// Whether a read has failed. One that was interrupted has not.
+    pub fn has_failed(&self) -> bool
+        ensures { result ≡ self.now.failed }
+    {
+        self.failed
+    }
+
+    /// How often it was read.
+    pub fn reads(&self) -> u32
+        ensures { result ≡ self.now.reads }
+    {
+        self.reads
+    }
+
+    /// Reads some bytes and answers how many, none at the end, or `None` where the read was interrupted.
+    pub fn read(&mut self, buf: &mut [u8]) -> io::Result<Option<usize>>
+        ensures bound { IfOk result (λ read. IfSome read (λ count. count ≤ length buf.new)) }
+        ensures bytes { GivesBytes (R.remaining self.old.inner) (R.remaining self.new.inner) result buf.new }
+        ensures counted { self.new.reads ≡ min (self.old.reads + 1) (2 ^ 32 - 1) }
+        ensures noted { self.new.failed ≡ noted self.old.failed result }
+    {
+        self.reads = self.reads.saturating_add(1);
+        match self.inner.read(buf) {
+            Ok(count) => Ok(Some(count)),
+            Err(e) if e.kind() == ErrorKind::Interrupted => Ok(None),
+            Err(e) => {
+                self.failed = true;
+                Err(e)
+            }
+        }
+    }
+}
+
+/// A writer, with a note of whether a write failed.
+#[derive(Drop)]
+pub struct Sink<W> {
+    inner: W,
+    failed: bool,
+}
+
+impl<W: Write> Sink<W> {
+    /// A writer that has not failed yet.
+    pub fn new(writer: W) -> Sink<W>
+        ensures writer { result.inner ≡ writer }
+        ensures failed { result.failed ≡ false }
+    {
+        Sink {
+            inner: writer,
+            failed: false,
+        }
+    }
+
+    /// Whether a write has failed.
+    pub fn has_failed(&self) -> bool
+        ensures { result ≡ self.now.failed }
+    {
+        self.failed
+    }
+
+    /// The writer itself.
+    pub fn into_inner(self) -> W
+        ensures { result ≡ self.inner }
+    {
+        self.inner
+    }
+
+    /// Writes all of the text.
+    pub fn write_all(&mut self, text: &[u8]) -> io::Result<()>
+        ensures bytes { OnOk result (Appends (W.contents self.old.inner) (W.contents self.new.inner) text.now) }
+        ensures noted { self.new.failed ≡ noted self.old.failed result }
+    {
+        let written = self.inner.write_all(text);
+        self.note(&written);
+        written
+    }
+
+    /// Writes what the writer still keeps back.
+    pub fn flush(&mut self) -> io::Result<()>
+        ensures bytes { Keeps (W.contents self.old.inner) (W.contents self.new.inner) }
+        ensures noted { self.new.failed ≡ noted self.old.failed result }
+    {
+        let flushed = self.inner.flush();
+        self.note(&flushed);
+        flushed
+    }
+
+    fn note(&mut self, done: &io::Result<()>)
+        ensures same { self.new.inner ≡ self.old.inner }
+        ensures noted { self.new.failed ≡ noted self.old.failed done.now }
+    {
+        if done.is_err() {
+            self.failed = true;
+        }
+    }
+}

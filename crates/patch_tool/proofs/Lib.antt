@@ -1,4 +1,0 @@
-pub mod Leading
-pub mod Asking
-pub mod Looking
-pub mod Single

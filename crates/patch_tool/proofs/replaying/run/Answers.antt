@@ -1,5 +1,0 @@
-use Rattle.patch_tool.proofs.Leading.{none_begun, same}
-use Rattle.patch_tool.proofs.replaying.run.Goals as goal
-
-pub returns-clause-stopped : goal.returns-clause-stopped
-returns-clause-stopped g c = λ w at script is. none_begun w _ _ _ _ (same _)

@@ -1,5 +1,0 @@
-use Rattle.patch_tool.proofs.Leading.{none_begun, same}
-use Rattle.patch_tool.proofs.replaying.write_bad_line.Goals as goal
-
-pub returns-in-Err-clause-stopped : goal.returns-in-Err-clause-stopped
-returns-in-Err-clause-stopped g c = λ w. none_begun w _ _ _ _ (same _)

@@ -1,3 +1,0 @@
-pub mod Answering
-pub mod Replay
-pub mod Core
