@@ -53,6 +53,6 @@ RunningIsNoted old new was is (Err fault.Read) = IsGivenUp new × (is ≡ was)
 RunningIsNoted old new was is (Err fault.Write) = is.failed ≡ true
 RunningIsNoted old new was is (Err fault.OutOfMemory) = NoneFailed old new was is
 
--- a last line is written, or a write has failed, as the status then says
+-- a last line is written and not kept back, or a write has failed, as the status then says
 abbrev pub IsTold : {W : Type 0} → Sink W → Sink W → Status → Status → Type 0 → Type 0
-IsTold old new wanted status HasText = ((status ≡ Failed) × (new.failed ≡ true)) ⊎ ((status ≡ wanted) × (new.failed ≡ old.failed) × HasText)
+IsTold old new wanted status HasText = ((status ≡ Failed) × (new.failed ≡ true)) ⊎ ((status ≡ wanted) × (new.failed ≡ old.failed) × HasText × (new.flushed ≡ true))

@@ -65,7 +65,7 @@ fn read_input<R: Read>(alloc: Global, reader: &mut Source<R>) -> Result<Option<V
                 }
             }
             Ok(None) => {}
-            Err(_) => return Err(Fault::Read),
+            Err(fault) => return Err(fault),
         }
     }
     Err(Fault::Read)
@@ -82,14 +82,6 @@ fn append(script: &mut Vec<u8>, bytes: &[u8]) -> Result<(), OutOfMemory>
 {
     script.extend_from_slice(bytes)?;
     Ok(())
-}
-
-fn write_text<W: Write>(writer: &mut Sink<W>, text: &[u8]) -> Result<(), Fault>
-    ensures done { OnOk result (Appends (W.contents writer.old.inner) (W.contents writer.new.inner) text.now) }
-    ensures noted { WritingIsNoted writer.old writer.new result }
-    ensures failed { IfErr result (λ fault. fault ≡ WriteFault) }
-{
-    writer.write_all(text).map_err(|_| Fault::Write)
 }
 
 /// Answers a line, as text.
@@ -115,7 +107,7 @@ fn write_answers<W: Write, C: Core>(
 {
     for line in lines {
         let text = answered(alloc, core, line)?;
-        write_text(writer, text.as_bytes())?;
+        writer.write_all(text.as_bytes())?;
     }
     Ok(())
 }
@@ -161,7 +153,7 @@ fn too_long<W: Write>(writer: &mut Sink<W>) -> Result<Status, Fault>
     ensures noted { WritingIsNoted writer.old writer.new result }
     ensures failed { IfErr result (λ fault. fault ≡ WriteFault) }
 {
-    write_text(writer, b"fault ScriptTooLong\n")?;
+    writer.write_all(b"fault ScriptTooLong\n")?;
     Ok(Status::Unreadable)
 }
 
@@ -171,7 +163,7 @@ fn write_bad_line<W: Write>(alloc: Global, writer: &mut Sink<W>, number: usize) 
     ensures noted { WritingIsNoted writer.old writer.new result }
 {
     match format!(in alloc; "bad line {number}\n") {
-        Ok(text) => write_text(writer, text.as_bytes()),
+        Ok(text) => writer.write_all(text.as_bytes()),
         Err(AllocError) => Err(Fault::OutOfMemory),
     }
 }
@@ -196,6 +188,7 @@ pub fn replay<R: Read, W: Write>(
     ensures unread { result ≡ Failed → writer.new.failed ≡ false →
         Appends (W.contents writer.old.inner) (W.contents writer.new.inner) unread_text }
     ensures none_hidden { result ≢ Failed → NoneFailed reader.old reader.new writer.old writer.new }
+    ensures flushed { result ≢ Failed → writer.new.flushed ≡ true }
     ensures reads { reader.new.reads ≤ reader.old.reads + MAX_READS }
 {
     match CachedDisk::new(alloc, blocks) {
@@ -223,6 +216,7 @@ pub fn replay_over<R: Read, W: Write, C: Core>(
     ensures unread { result ≡ Failed → writer.new.failed ≡ false →
         Appends (W.contents writer.old.inner) (W.contents writer.new.inner) unread_text }
     ensures none_hidden { result ≢ Failed → NoneFailed reader.old reader.new writer.old writer.new }
+    ensures flushed { result ≢ Failed → writer.new.flushed ≡ true }
     ensures reads { reader.new.reads ≤ reader.old.reads + MAX_READS }
 {
     match read_and_run(alloc, reader, writer, core) {
@@ -245,13 +239,12 @@ fn read_and_run<R: Read, W: Write, C: Core>(
     ensures stopped { (w : World) → C.IsAt core.old w → IfErr result (λ fault. IfSome (R.remaining reader.old.inner) (λ text.
         Stopped fault w text (W.contents writer.old.inner) (W.contents writer.new.inner))) }
     ensures noted { RunningIsNoted reader.old reader.new writer.old writer.new result }
+    ensures flushed { OnOk result (writer.new.flushed ≡ true) }
     ensures reads { reader.new.reads ≤ reader.old.reads + MAX_READS }
 {
     let script = read_input(alloc, reader)?;
     let status = run(alloc, writer, core, script)?;
-    if writer.flush().is_err() {
-        return Err(Fault::Write);
-    }
+    writer.flush()?;
     Ok(status)
 }
 

@@ -1,9 +1,10 @@
-//! The streams of a replay: its reader and its writer, each with a note of whether it has failed.
-ghost use Rattle.std.specs.Prelude.{◌≡◌, ◌+◌, ◌-◌, ◌^◌, ◌≤◌, min, length, true, false, IfOk, IfSome, OnOk};
+//! The streams of a replay: its reader and its writer, each with notes of what has become of its calls.
+ghost use Rattle.std.specs.Prelude.{◌≡◌, ◌+◌, ◌-◌, ◌^◌, ◌≤◌, min, length, true, false, IfOk, IfErr, IfSome, OnOk};
 ghost use Rattle.std.specs.Io.KnownBytes.{Keeps, Appends};
 ghost use Rattle.patch_replay.specs.Streams.{GivesBytes, noted};
+ghost use Rattle.patch_replay.specs.declared.replaying.Fault.TheVariants.{Read as ReadFault, Write as WriteFault};
 
-use std::io;
+use crate::replaying::Fault;
 use std::io::{ErrorKind, Read, Write};
 
 /// The most reads of one input.
@@ -48,40 +49,44 @@ impl<R: Read> Source<R> {
     }
 
     /// Reads some bytes and answers how many, none at the end, or `None` where the read was interrupted.
-    pub fn read(&mut self, buf: &mut [u8]) -> io::Result<Option<usize>>
+    pub(crate) fn read(&mut self, buf: &mut [u8]) -> Result<Option<usize>, Fault>
         ensures bound { IfOk result (λ read. IfSome read (λ count. count ≤ length buf.new)) }
         ensures bytes { GivesBytes (R.remaining self.old.inner) (R.remaining self.new.inner) result buf.new }
         ensures counted { self.new.reads ≡ min (self.old.reads + 1) (2 ^ 32 - 1) }
         ensures noted { self.new.failed ≡ noted self.old.failed result }
+        ensures failed { IfErr result (λ fault. fault ≡ ReadFault) }
     {
         self.reads = self.reads.saturating_add(1);
         match self.inner.read(buf) {
             Ok(count) => Ok(Some(count)),
             Err(e) if e.kind() == ErrorKind::Interrupted => Ok(None),
-            Err(e) => {
+            Err(_) => {
                 self.failed = true;
-                Err(e)
+                Err(Fault::Read)
             }
         }
     }
 }
 
-/// A writer, with a note of whether a write failed.
+/// A writer, with a note of whether a write failed, and of whether it still keeps text back.
 #[derive(Drop)]
 pub struct Sink<W> {
     inner: W,
     failed: bool,
+    flushed: bool,
 }
 
 impl<W: Write> Sink<W> {
-    /// A writer that has not failed yet.
+    /// A writer to which nothing was written yet.
     pub fn new(writer: W) -> Sink<W>
         ensures writer { result.inner ≡ writer }
         ensures failed { result.failed ≡ false }
+        ensures flushed { result.flushed ≡ true }
     {
         Sink {
             inner: writer,
             failed: false,
+            flushed: true,
         }
     }
 
@@ -92,6 +97,13 @@ impl<W: Write> Sink<W> {
         self.failed
     }
 
+    /// Whether all that was written is behind a flush.
+    pub fn is_flushed(&self) -> bool
+        ensures { result ≡ self.now.flushed }
+    {
+        self.flushed
+    }
+
     /// The writer itself.
     pub fn into_inner(self) -> W
         ensures { result ≡ self.inner }
@@ -100,31 +112,32 @@ impl<W: Write> Sink<W> {
     }
 
     /// Writes all of the text.
-    pub fn write_all(&mut self, text: &[u8]) -> io::Result<()>
+    pub(crate) fn write_all(&mut self, text: &[u8]) -> Result<(), Fault>
         ensures bytes { OnOk result (Appends (W.contents self.old.inner) (W.contents self.new.inner) text.now) }
         ensures noted { self.new.failed ≡ noted self.old.failed result }
+        ensures failed { IfErr result (λ fault. fault ≡ WriteFault) }
+        ensures flushed { self.new.flushed ≡ false }
     {
-        let written = self.inner.write_all(text);
-        self.note(&written);
-        written
+        self.flushed = false;
+        if self.inner.write_all(text).is_err() {
+            self.failed = true;
+            return Err(Fault::Write);
+        }
+        Ok(())
     }
 
     /// Writes what the writer still keeps back.
-    pub fn flush(&mut self) -> io::Result<()>
+    pub(crate) fn flush(&mut self) -> Result<(), Fault>
         ensures bytes { Keeps (W.contents self.old.inner) (W.contents self.new.inner) }
         ensures noted { self.new.failed ≡ noted self.old.failed result }
+        ensures failed { IfErr result (λ fault. fault ≡ WriteFault) }
+        ensures flushed { OnOk result (self.new.flushed ≡ true) }
     {
-        let flushed = self.inner.flush();
-        self.note(&flushed);
-        flushed
-    }
-
-    fn note(&mut self, done: &io::Result<()>)
-        ensures same { self.new.inner ≡ self.old.inner }
-        ensures noted { self.new.failed ≡ noted self.old.failed done.now }
-    {
-        if done.is_err() {
+        if self.inner.flush().is_err() {
             self.failed = true;
+            return Err(Fault::Write);
         }
+        self.flushed = true;
+        Ok(())
     }
 }

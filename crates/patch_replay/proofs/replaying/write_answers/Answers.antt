@@ -9,13 +9,13 @@ pub loop-line-preserved : goal.loop-line-preserved
 loop-line-preserved g c = (
   tt,
   tt,
-  c.in_ok-write_text.ensures.noted ∙ c.loop-line.invariant.2,
+  c.in_ok-write_all.ensures.noted ∙ c.loop-line.invariant.2,
   λ w at.
       let before = c.loop-line.invariant.3 w at in
       let said = c.in_ok-text.ensures _ before.2.at in (
         before.0 ++ c.in-Some.line ∷ [],
         append_assoc before.0 (c.in-Some.line ∷ []) _ ∙ ap (λ xs. before.0 ++ xs) (sym c.in-Some.ensures.steps.0) ∙ before.1,
-        one_more_line w before.0 c.in-Some.line _ _ _ _ _ _ _ c.as_bytes.ensures.value before.2 said c.in_ok-write_text.ensures.done,
+        one_more_line w before.0 c.in-Some.line _ _ _ _ _ _ _ c.as_bytes.ensures.value before.2 said c.in_ok-write_all.ensures.bytes,
       ),
 )
 
