@@ -38,14 +38,16 @@ impl<R: Read> Source<R> {
     pub fn has_failed(&self) -> bool
         ensures { result ≡ self.now.failed }
     {
-        self.failed
+        let Source { failed, .. } = self;
+        *failed
     }
 
     /// How often it was read.
     pub fn reads(&self) -> u32
         ensures { result ≡ self.now.reads }
     {
-        self.reads
+        let Source { reads, .. } = self;
+        *reads
     }
 
     /// Reads some bytes and answers how many, none at the end, or `None` where the read was interrupted.
@@ -94,14 +96,16 @@ impl<W: Write> Sink<W> {
     pub fn has_failed(&self) -> bool
         ensures { result ≡ self.now.failed }
     {
-        self.failed
+        let Sink { failed, .. } = self;
+        *failed
     }
 
     /// Whether all that was written is behind a flush.
     pub fn is_flushed(&self) -> bool
         ensures { result ≡ self.now.flushed }
     {
-        self.flushed
+        let Sink { flushed, .. } = self;
+        *flushed
     }
 
     /// The writer itself.

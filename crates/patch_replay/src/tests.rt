@@ -11,7 +11,7 @@ use patch_model::{BLOCK, MAX_BLOCKS, MAX_LIVE, OutOfMemory};
 use patch_script::{Answer, Line};
 use std::alloc::{AllocError, Global};
 use std::io;
-use std::io::{ErrorKind, Read, Write};
+use std::io::{BufWriter, ErrorKind, Read, Write};
 use std::process::Abort;
 use std::test::Fail;
 
@@ -228,6 +228,18 @@ fn failing_writers(rt: HostRuntime) -> Result<(), Fail> {
         failed = failed.saturating_add(1);
     }
     assert!(rt; failed > 5 && failed < 60, "failed {failed}");
+    Ok(())
+}
+
+#[test]
+fn answers_are_not_kept_back(rt: HostRuntime) -> Result<(), Fail> {
+    let alloc = rt.alloc();
+    let mut out = Sink::new(BufWriter::new(alloc, Vec::new(alloc))?);
+    let mut reader = Source::new(SCRIPT.as_bytes());
+    let status = replay(alloc, &mut reader, &mut out, DEFAULT_BLOCKS);
+    assert_eq!(rt; (status, out.is_flushed()), (Status::Done, true));
+    let buffered = out.into_inner();
+    assert_eq!(rt; buffered.get_ref().as_slice(), ANSWERS.as_bytes());
     Ok(())
 }
 
