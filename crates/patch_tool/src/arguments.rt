@@ -1,5 +1,9 @@
 //! The command line.
+ghost use Rattle.std.specs.Prelude.{IfOk};
+ghost use Rattle.patch_tool.specs.Asked.{MayBeAsked};
+
 use clap::{Arg, Command, Error, value_parser};
+use patch_model::MAX_BLOCKS;
 use std::alloc::Global;
 
 /// How many blocks there are where the command line doesn't say.
@@ -34,14 +38,16 @@ fn command<'a>(alloc: Global) -> Result<Command<'a>, Error> {
 }
 
 /// What the words ask for. What asks for help is an error too: its text is the help.
-pub fn read(alloc: Global, words: &[String]) -> Result<Request, Error> {
+pub fn read(alloc: Global, words: &[String]) -> Result<Request, Error>
+    ensures { IfOk result MayBeAsked }
+{
     let command = command(alloc)?;
     let matches = command.try_get_matches_from(words)?;
     let blocks = match matches.subcommand() {
         Some((_, replay)) => replay.get_one::<u32>("blocks"),
         None => None,
     };
-    Ok(Request::Replay {
-        blocks: blocks.unwrap_or(DEFAULT_BLOCKS),
-    })
+    // The parser of the words refuses every other number.
+    let blocks = blocks.unwrap_or(DEFAULT_BLOCKS).clamp(1, MAX_BLOCKS as u32);
+    Ok(Request::Replay { blocks })
 }

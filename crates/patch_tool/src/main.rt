@@ -1,6 +1,10 @@
 //! `fstch`: replays scripts of patches.
 #![tactic(auto)]
 
+ghost use Rattle.std.specs.Prelude.{◌≡◌, ◌<◌, ◌≤◌, ◌⊎◌};
+ghost use Rattle.patch_replay.specs.Replay.{exit_of};
+ghost use Rattle.patch_replay.specs.declared.replaying.Status.TheVariants.{Failed, OutOfMemory as NoMemory};
+
 mod arguments;
 
 use crate::arguments::Request;
@@ -26,20 +30,23 @@ fn run_words<R: Print + Eprint + Input + AllocGlobal>(rt: &R, words: &[String]) 
     }
 }
 
-fn run_replay<R: Print + Input + AllocGlobal>(rt: &R, blocks: u32) -> u8 {
+fn run_replay<R: Print + Input + AllocGlobal>(rt: &R, blocks: u32) -> u8
+    requires some { 0 < blocks }
+    requires few { blocks ≤ MAX_BLOCKS }
+{
     let alloc = rt.alloc();
     let Ok(out) = BufWriter::new(alloc, writer(rt)) else {
         return out_of_memory(rt);
     };
-    // The command line has no others.
-    let blocks = blocks.clamp(1, MAX_BLOCKS as u32);
     let mut script = Source::new(rt.reader());
     let mut answers = Sink::new(out);
     replay(alloc, &mut script, &mut answers, blocks).code()
 }
 
 /// Tells that memory ran out before the work began.
-fn out_of_memory(rt: &impl Print) -> u8 {
+fn out_of_memory(rt: &impl Print) -> u8
+    ensures { (result ≡ exit_of NoMemory) ⊎ (result ≡ exit_of Failed) }
+{
     let status = match rt.println("fault OutOfMemory") {
         Ok(()) => Status::OutOfMemory,
         Err(_) => Status::Failed,

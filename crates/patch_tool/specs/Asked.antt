@@ -1,0 +1,9 @@
+-- What a command line may ask for.
+use Rattle.std.specs.Prelude.{◌<◌, ◌≤◌}
+use Rattle.patch_model.specs.declared.limits.TheConstants.{MAX_BLOCKS}
+use Rattle.patch_tool.specs.declared.arguments.Request.{Request}
+use Rattle.patch_tool.specs.declared.arguments.Request.TheVariants.{Replay}
+
+-- a replay has some blocks, and no more than a disk may have
+abbrev pub MayBeAsked : Request → Type 0
+MayBeAsked (Replay blocks) = (0 < blocks) × (blocks ≤ MAX_BLOCKS)
