@@ -5,7 +5,7 @@ use Rattle.std.specs.Io.KnownBytes.{Consumes, IsAtEnd}
 use Rattle.std.proofs.lemmas.List.{append-nil}
 use Rattle.patch_script.specs.declared.scripts.TheConstants.{MAX_BYTES}
 use Rattle.patch_replay.specs.Replay.{HasRead}
-use Rattle.patch_replay.specs.Streams.{Takes, IsTold}
+use Rattle.patch_replay.specs.Streams.{Takes, IsToldLast}
 use Rattle.patch_replay.specs.declared.replaying.Status.{Status}
 use Rattle.patch_replay.specs.declared.replaying.Status.TheVariants.{OutOfMemory}
 use Rattle.patch_replay.specs.declared.streams.Sink.{Sink}
@@ -42,6 +42,6 @@ too_much (Some input) (Some rest) false script is so_far = absurd (cc)
 too_much (Some input) (Some rest) true script is so_far = omega (arith, so_far)
 
 -- what is told where memory ran out
-pub told_text : {W : Type 0} (old new : Sink W) (status : Status) (Text : Type 0) → IsTold old new OutOfMemory status Text → status ≡ OutOfMemory → Text
+pub told_text : {W : Type 0} (old new : Sink W) (status : Status) (Text : Type 0) → IsToldLast old new OutOfMemory status Text → status ≡ OutOfMemory → Text
 told_text old new status Text (inl failed) is = absurd (cc)
 told_text old new status Text (inr told) is = told.2

@@ -3,9 +3,9 @@ ghost use Rattle.std.specs.Prelude.{ℕ, true, false, ◌≡◌, ◌≢◌, ◌�
 ghost use Rattle.std.specs.Io.KnownBytes.{Appends};
 ghost use Rattle.patch_replay.specs.Answering.{World, start};
 ghost use Rattle.patch_replay.specs.Replay.{IsLineTold, HasWrittenAll, HasAnswered, Stopped, Starved, bad_line, IsInput, IsEnd, Replayed, too_long_text, unread_text};
-ghost use Rattle.patch_replay.specs.Streams.{IsGivenUp, NoneFailed, ReadingIsNoted, WritingIsNoted, RunningIsNoted, IsTold};
+ghost use Rattle.patch_replay.specs.Streams.{IsGivenUp, NoneFailed, ReadingIsNoted, WritingIsNoted, RunningIsNoted, IsToldLast};
 ghost use Rattle.patch_replay.specs.declared.replaying.Status.TheVariants.{Unreadable, Failed, OutOfMemory as NoMemory};
-ghost use Rattle.patch_replay.specs.declared.replaying.Fault.TheVariants.{Read as ReadFault, Write as WriteFault, OutOfMemory as MemoryFault};
+ghost use Rattle.patch_replay.specs.declared.replaying.Fault.TheVariants.{Write as WriteFault, OutOfMemory as MemoryFault};
 
 use crate::answering::Core;
 use crate::cached_disk::CachedDisk;
@@ -250,7 +250,7 @@ fn read_and_run<R: Read, W: Write, C: Core>(
 
 /// Writes the last line of a program that fails.
 fn tell<W: Write>(writer: &mut Sink<W>, text: &[u8], status: Status) -> Status
-    ensures { IsTold writer.old writer.new status result
+    ensures { IsToldLast writer.old writer.new status result
         (Appends (W.contents writer.old.inner) (W.contents writer.new.inner) text.now) }
 {
     if writer.write_all(text).is_err() || writer.flush().is_err() {

@@ -1,23 +1,24 @@
 //! The streams of a replay: its reader and its writer, each with notes of what has become of its calls.
-ghost use Rattle.std.specs.Prelude.{◌≡◌, ◌+◌, ◌-◌, ◌^◌, ◌≤◌, min, length, true, false, IfOk, IfErr, IfSome, OnOk};
+ghost use Rattle.std.specs.Prelude.{◌≡◌, ◌+◌, ◌-◌, ◌^◌, ◌≤◌, min, length, true, false, IfOk, IfErr, IfSome, OnOk, None};
+ghost use Rattle.std.specs.Option.{option_copied};
 ghost use Rattle.std.specs.Io.KnownBytes.{Keeps, Appends};
-ghost use Rattle.patch_replay.specs.Streams.{GivesBytes, noted};
+ghost use Rattle.patch_replay.specs.Streams.{GivesBytes, IsReadNoted, noted};
 ghost use Rattle.patch_replay.specs.declared.replaying.Fault.TheVariants.{Read as ReadFault, Write as WriteFault};
 
 use crate::replaying::Fault;
-use std::io::{ErrorKind, Read, Write};
+use std::io::{Error, ErrorKind, Read, Write};
 
 /// The most reads of one input.
 pub const MAX_READS: u32 = 33_554_432;
 
-/// A reader, with a note of how often it was read and of whether a read failed.
+/// A reader, with a note of how often it was read and of the last read that failed.
 ///
 /// The standard's `Read` says nothing of a read that fails; by the note, a fault is told only where there was one.
 #[derive(Drop)]
 pub struct Source<R> {
     inner: R,
     reads: u32,
-    failed: bool,
+    failure: Option<Error>,
 }
 
 impl<R: Read> Source<R> {
@@ -25,21 +26,20 @@ impl<R: Read> Source<R> {
     pub fn new(reader: R) -> Source<R>
         ensures reader { result.inner ≡ reader }
         ensures reads { result.reads ≡ 0 }
-        ensures failed { result.failed ≡ false }
+        ensures failure { result.failure ≡ None }
     {
         Source {
             inner: reader,
             reads: 0,
-            failed: false,
+            failure: None,
         }
     }
 
-    /// Whether a read has failed. One that was interrupted has not.
-    pub fn has_failed(&self) -> bool
-        ensures { result ≡ self.now.failed }
+    /// What the last read that failed has answered. One that was interrupted has not failed.
+    pub fn failure(&self) -> Option<&Error>
+        ensures { option_copied result ≡ self.now.failure }
     {
-        let Source { failed, .. } = self;
-        *failed
+        self.failure.as_ref()
     }
 
     /// How often it was read.
@@ -55,15 +55,15 @@ impl<R: Read> Source<R> {
         ensures bound { IfOk result (λ read. IfSome read (λ count. count ≤ length buf.new)) }
         ensures bytes { GivesBytes (R.remaining self.old.inner) (R.remaining self.new.inner) result buf.new }
         ensures counted { self.new.reads ≡ min (self.old.reads + 1) (2 ^ 32 - 1) }
-        ensures noted { self.new.failed ≡ noted self.old.failed result }
+        ensures noted { IsReadNoted self.old.failure self.new.failure result }
         ensures failed { IfErr result (λ fault. fault ≡ ReadFault) }
     {
         self.reads = self.reads.saturating_add(1);
         match self.inner.read(buf) {
             Ok(count) => Ok(Some(count)),
             Err(e) if e.kind() == ErrorKind::Interrupted => Ok(None),
-            Err(_) => {
-                self.failed = true;
+            Err(e) => {
+                self.failure = Some(e);
                 Err(Fault::Read)
             }
         }

@@ -134,7 +134,7 @@ fn failing_readers(rt: HostRuntime) -> Result<(), Fail> {
         let mut out = Sink::new(Vec::new(alloc));
         let status = replay(alloc, &mut reader, &mut out, DEFAULT_BLOCKS);
         assert_eq!(rt;
-            (reader.has_failed(), out.has_failed()),
+            (reader.failure().is_some(), out.has_failed()),
             (status != Status::Done, false)
         );
         let text = out.into_inner();
@@ -167,7 +167,10 @@ fn a_reader_without_end_is_given_up(rt: HostRuntime) {
     let mut out = Sink::new(Vec::new(alloc));
     let status = replay(alloc, &mut reader, &mut out, DEFAULT_BLOCKS);
     assert_eq!(rt; (status, status.code()), (Status::Failed, 4));
-    assert_eq!(rt; (reader.has_failed(), reader.reads()), (false, MAX_READS));
+    assert_eq!(rt;
+        (reader.failure().is_some(), reader.reads()),
+        (false, MAX_READS)
+    );
     assert_eq!(rt; out.into_inner().as_slice(), b"fault Read\n".as_slice());
 }
 
@@ -215,7 +218,7 @@ fn failing_writers(rt: HostRuntime) -> Result<(), Fail> {
         });
         let status = replay(alloc, &mut reader, &mut writer, DEFAULT_BLOCKS);
         assert_eq!(rt;
-            (reader.has_failed(), writer.has_failed()),
+            (reader.failure().is_some(), writer.has_failed()),
             (false, status != Status::Done)
         );
         let text = writer.into_inner().taken;

@@ -11,5 +11,5 @@ invariant-reads g l = record {
   so_far : HasRead (g.R.Read.remaining l.fn.reader.inner) (g.R.Read.remaining l.reader.inner) l.over l.script.items;
   counted : l.counter ≤ l.reader.reads;
   few : l.reader.reads ≤ l.fn.reader.reads + l.counter;
-  noted : l.reader.failed ≡ l.fn.reader.failed;
+  noted : l.reader.failure ≡ l.fn.reader.failure;
 }
