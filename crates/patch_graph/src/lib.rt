@@ -13,8 +13,6 @@ mod marking;
 mod middles;
 mod rooms;
 mod searching;
-#[cfg(test)]
-mod tests;
 
 pub use classes::LiveClass;
 pub use graphs::{Added, Graph};

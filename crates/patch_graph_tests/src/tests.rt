@@ -1,0 +1,499 @@
+//! Walks through the calls, and each allocation refused in turn.
+use patch_graph::{Added, Graph, LiveClass};
+use linked_list_allocator::LocalHeap;
+use patch_model::{BlockNo, MAX_PATCHES, Mark, OutOfMemory, PatchNo, Undo};
+use std::alloc::{Allocator, Global};
+use std::process::Abort;
+use std::test::Fail;
+
+// A patch to be made: its block, its span, what it names, and whether it may drop its undo bytes.
+#[derive(Clone, Copy)]
+struct Ask {
+    block: u32,
+    start: usize,
+    stop: usize,
+    after: Option<u32>,
+    drops: bool,
+}
+
+fn ask_for(block: u32, start: usize, stop: usize, after: Option<u32>) -> Ask {
+    Ask {
+        block,
+        start,
+        stop,
+        after,
+        drops: false,
+    }
+}
+
+fn add<A: Allocator + Copy>(
+    rt: &impl Abort,
+    graph: &mut Graph<A>,
+    ask: &Ask,
+) -> Result<Added, OutOfMemory> {
+    assert!(rt; graph.made() < MAX_PATCHES && ask.start < ask.stop);
+    let undo = if ask.drops { Undo::MayDrop } else { Undo::Keep };
+    match ask.after {
+        Some(no) => graph.add(
+            BlockNo(ask.block),
+            ask.start,
+            ask.stop,
+            &[PatchNo(no)],
+            undo,
+        ),
+        None => graph.add(BlockNo(ask.block), ask.start, ask.stop, &[], undo),
+    }
+}
+
+// A move of a walk, and what is expected of it.
+#[derive(Clone, Copy)]
+enum Move<'a> {
+    // A patch on a span of a block, which names another one or none.
+    Make(u32, usize, usize, Option<u32>),
+    // A patch that may drop its undo bytes, on a block's first byte, and whether it is hard.
+    MakeLoose(u32, Option<u32>, bool),
+    // The classes of two patches become one of this name.
+    Merge(u32, u32, u32),
+    Send(u32),
+    Complete(u32),
+    // What may be written of a block.
+    Ready(u32, &'a [u32]),
+    // Whether the first patch's class reaches the second's, and what lies between them.
+    Paths(u32, u32, bool, Option<PatchNo>),
+    MarkOf(u32, Option<Mark>),
+    ClassOf(u32, Option<PatchNo>),
+    Live(u32, Option<LiveClass>),
+}
+
+fn make<A: Allocator + Copy>(
+    rt: &impl Abort,
+    graph: &mut Graph<A>,
+    ask: &Ask,
+) -> Result<Added, Fail> {
+    let made = graph.made();
+    let added = add(rt, graph, ask)?;
+    assert_eq!(rt; added.no, PatchNo(made));
+    Ok(added)
+}
+
+fn make_loose(
+    rt: &impl Abort,
+    graph: &mut Graph,
+    block: u32,
+    after: Option<u32>,
+    hard: bool,
+) -> Result<(), Fail> {
+    let mut ask = ask_for(block, 0, 1, after);
+    ask.drops = true;
+    assert_eq!(rt; make(rt, graph, &ask)?.hard, hard);
+    Ok(())
+}
+
+fn merge(rt: &impl Abort, graph: &mut Graph, a: u32, b: u32, name: u32) -> Result<(), Fail> {
+    let merged = graph.merge(PatchNo(a), PatchNo(b))?;
+    assert_eq!(rt; merged, PatchNo(name));
+    Ok(())
+}
+
+fn expect_ready<A: Allocator + Copy>(
+    rt: &impl Abort,
+    alloc: Global,
+    graph: &mut Graph<A>,
+    block: u32,
+    numbers: &[u32],
+) -> Result<(), Fail> {
+    let ready = graph.ready(alloc, BlockNo(block))?;
+    assert!(rt; ready.iter().map(|no| no.0).eq(numbers.iter().copied()));
+    assert_eq!(rt; graph.any_ready(BlockNo(block)), !numbers.is_empty());
+    Ok(())
+}
+
+fn expect_paths(
+    rt: &impl Abort,
+    graph: &mut Graph,
+    a: u32,
+    b: u32,
+    reaches: bool,
+    between: Option<PatchNo>,
+) {
+    assert_eq!(rt; graph.reaches(PatchNo(a), PatchNo(b)), reaches);
+    assert_eq!(rt; graph.between(PatchNo(a), PatchNo(b)), between);
+}
+
+fn expect_mark(rt: &impl Abort, graph: &Graph, no: u32, mark: Option<Mark>) {
+    assert_eq!(rt; graph.mark_of(PatchNo(no)), mark);
+}
+
+fn expect_class(rt: &impl Abort, graph: &Graph, no: u32, name: Option<PatchNo>) {
+    assert_eq!(rt; graph.class_of(PatchNo(no)), name);
+}
+
+fn expect_live(rt: &impl Abort, graph: &Graph, no: u32, class: Option<LiveClass>) {
+    assert_eq!(rt; graph.live_class(PatchNo(no)), class);
+}
+
+fn step(rt: &impl Abort, alloc: Global, graph: &mut Graph, next: &Move) -> Result<(), Fail> {
+    match next {
+        Move::Make(block, start, stop, after) => {
+            make(rt, graph, &ask_for(*block, *start, *stop, *after))?;
+        }
+        Move::MakeLoose(block, after, hard) => make_loose(rt, graph, *block, *after, *hard)?,
+        Move::Merge(a, b, name) => merge(rt, graph, *a, *b, *name)?,
+        Move::Ready(block, numbers) => expect_ready(rt, alloc, graph, *block, numbers)?,
+        Move::Send(block) => graph.mark_flight(BlockNo(*block)),
+        Move::Complete(block) => graph.mark_durable(BlockNo(*block)),
+        Move::Paths(a, b, reaches, between) => expect_paths(rt, graph, *a, *b, *reaches, *between),
+        Move::MarkOf(no, mark) => expect_mark(rt, graph, *no, *mark),
+        Move::ClassOf(no, name) => expect_class(rt, graph, *no, *name),
+        Move::Live(no, class) => expect_live(rt, graph, *no, *class),
+    }
+    Ok(())
+}
+
+fn take_steps(
+    rt: &impl Abort,
+    alloc: Global,
+    graph: &mut Graph,
+    moves: &[Move],
+) -> Result<(), Fail> {
+    for next in moves {
+        step(rt, alloc, graph, next)?;
+    }
+    Ok(())
+}
+
+fn walk(rt: &impl Abort, alloc: Global, moves: &[Move]) -> Result<(), Fail> {
+    let mut graph = Graph::new(alloc);
+    take_steps(rt, alloc, &mut graph, moves)
+}
+
+// A class of two patches that touch.
+const IN_MEMORY: LiveClass = LiveClass {
+    name: PatchNo(0),
+    block: BlockNo(3),
+    mark: Mark::Memory,
+    hard: false,
+    start: 10,
+    stop: 20,
+};
+
+const IN_FLIGHT: LiveClass = LiveClass {
+    name: PatchNo(0),
+    block: BlockNo(3),
+    mark: Mark::Flight,
+    hard: false,
+    start: 10,
+    stop: 20,
+};
+
+const A_LIVE_CLASS: [Move<'static>; 9] = [
+    Move::Make(3, 10, 14, None),
+    Move::Make(3, 14, 20, None),
+    Move::Merge(1, 0, 0),
+    Move::Live(1, Some(IN_MEMORY)),
+    Move::Live(2, None),
+    Move::Send(3),
+    Move::Live(0, Some(IN_FLIGHT)),
+    Move::Complete(3),
+    Move::Live(0, None),
+];
+
+// What is shown of a live class, also of a merged one and of one in flight.
+#[test]
+fn a_live_class_is_shown(rt: HostRuntime) -> Result<(), Fail> {
+    walk(&rt, rt.alloc(), &A_LIVE_CLASS)
+}
+
+const ACROSS_TWO_BLOCKS: [Move<'static>; 13] = [
+    Move::Make(0, 0, 1, None),
+    Move::Make(1, 0, 1, Some(0)),
+    Move::Make(0, 1, 2, Some(1)),
+    Move::Ready(0, &[0]),
+    Move::Send(0),
+    Move::Ready(0, &[]),
+    Move::Ready(1, &[]),
+    Move::Complete(0),
+    Move::Ready(1, &[1]),
+    Move::Send(1),
+    Move::Ready(0, &[]),
+    Move::Complete(1),
+    Move::Ready(0, &[2]),
+];
+
+// To and fro across two blocks: what is in flight, on either block, is not met.
+#[test]
+fn across_two_blocks(rt: HostRuntime) -> Result<(), Fail> {
+    walk(&rt, rt.alloc(), &ACROSS_TWO_BLOCKS)
+}
+
+const OVER_A_FLIGHT: [Move<'static>; 12] = [
+    Move::Make(0, 0, 1, None),
+    Move::Send(0),
+    Move::MarkOf(0, Some(Mark::Flight)),
+    Move::Make(0, 0, 1, None),
+    Move::Ready(0, &[]),
+    Move::Paths(1, 0, true, None),
+    Move::Complete(0),
+    Move::MarkOf(0, Some(Mark::Durable)),
+    Move::MarkOf(1, Some(Mark::Memory)),
+    Move::MarkOf(2, None),
+    Move::ClassOf(0, None),
+    Move::Ready(0, &[1]),
+];
+
+// A patch over one in flight waits for it, and isn't marked by its completion.
+#[test]
+fn over_a_flight(rt: HostRuntime) -> Result<(), Fail> {
+    walk(&rt, rt.alloc(), &OVER_A_FLIGHT)
+}
+
+const MERGED_CLASSES: [Move<'static>; 16] = [
+    Move::Make(0, 0, 2, None),
+    Move::Make(0, 4, 6, None),
+    Move::Make(0, 2, 5, None),
+    Move::Make(1, 0, 1, Some(2)),
+    Move::Merge(0, 2, 0),
+    Move::ClassOf(2, Some(PatchNo(0))),
+    Move::ClassOf(1, Some(PatchNo(1))),
+    Move::Paths(0, 1, true, None),
+    Move::Paths(1, 2, false, None),
+    Move::Paths(3, 1, true, Some(PatchNo(0))),
+    Move::Merge(1, 2, 0),
+    Move::ClassOf(1, Some(PatchNo(0))),
+    Move::Ready(0, &[0, 1, 2]),
+    Move::Send(0),
+    Move::Complete(0),
+    Move::Ready(1, &[3]),
+];
+
+// A class of two patches depends on one with a greater name, and then takes it in.
+#[test]
+fn merged_classes(rt: HostRuntime) -> Result<(), Fail> {
+    walk(&rt, rt.alloc(), &MERGED_CLASSES)
+}
+
+const RING_ON_A_BLOCK: [Move<'static>; 6] = [
+    Move::Make(0, 0, 4, None),
+    Move::Make(0, 2, 6, None),
+    Move::Make(0, 4, 8, None),
+    Move::Paths(2, 0, true, Some(PatchNo(1))),
+    Move::Paths(0, 2, false, None),
+    Move::Paths(2, 1, true, None),
+];
+
+// A third class on the way, on the same block.
+#[test]
+fn ring_on_a_block(rt: HostRuntime) -> Result<(), Fail> {
+    walk(&rt, rt.alloc(), &RING_ON_A_BLOCK)
+}
+
+const RING_THROUGH_BLOCKS: [Move<'static>; 7] = [
+    Move::Make(0, 0, 1, None),
+    Move::Make(1, 0, 1, Some(0)),
+    Move::Make(2, 0, 1, Some(1)),
+    Move::Make(0, 1, 2, Some(2)),
+    Move::Make(3, 0, 1, None),
+    Move::Paths(3, 0, true, Some(PatchNo(1))),
+    Move::Paths(0, 3, false, None),
+];
+
+// And through other blocks.
+#[test]
+fn ring_through_blocks(rt: HostRuntime) -> Result<(), Fail> {
+    walk(&rt, rt.alloc(), &RING_THROUGH_BLOCKS)
+}
+
+const HARD_PATCHES: [Move<'static>; 8] = [
+    Move::MakeLoose(0, None, true),
+    Move::MakeLoose(0, None, true),
+    Move::MakeLoose(1, Some(1), false),
+    Move::MakeLoose(1, None, false),
+    Move::Send(0),
+    Move::MakeLoose(2, Some(1), false),
+    Move::Complete(0),
+    Move::MakeLoose(3, Some(1), true),
+];
+
+// A patch that may drop its undo bytes is hard above durable and hard ones of its block.
+#[test]
+fn hard_patches(rt: HostRuntime) -> Result<(), Fail> {
+    walk(&rt, rt.alloc(), &HARD_PATCHES)
+}
+
+// A patch on each byte of a block.
+fn fill(rt: &impl Abort, graph: &mut Graph, block: u32) -> Result<(), Fail> {
+    for byte in 0..4096usize {
+        add(rt, graph, &ask_for(block, byte, byte + 1, None))?;
+    }
+    Ok(())
+}
+
+fn expect_one_more(rt: &impl Abort, graph: &mut Graph) -> Result<(), Fail> {
+    let last = add(rt, graph, &ask_for(15, 0, 4096, None))?;
+    assert_eq!(rt; last.no, PatchNo(65536));
+    expect_paths(rt, graph, 65536, 61440, true, None);
+    expect_paths(rt, graph, 65536, 61439, false, None);
+    Ok(())
+}
+
+fn fill_and_add(rt: &impl Abort, graph: &mut Graph) -> Result<(), Fail> {
+    for block in 0..16u32 {
+        fill(rt, graph, block)?;
+    }
+    expect_one_more(rt, graph)
+}
+
+// As many as may be live, one on each byte of sixteen blocks, and one more.
+#[test]
+fn as_many_as_may_be(rt: HostRuntime) -> Result<(), Fail> {
+    let mut graph = Graph::new(rt.alloc());
+    fill_and_add(&rt, &mut graph)
+}
+
+// A patch that was refused leaves no trace.
+fn expect_unmade(
+    rt: &impl Abort,
+    alloc: Global,
+    graph: &mut Graph<&LocalHeap>,
+    block: u32,
+    made: u32,
+) -> Result<(), Fail> {
+    assert_eq!(rt; (graph.made(), graph.mark_of(PatchNo(made))), (made, None));
+    let before = graph.ready(alloc, BlockNo(block))?;
+    assert_eq!(rt; before.len(), made as usize);
+    Ok(())
+}
+
+fn give_back(ballast: &mut Vec<u8, &LocalHeap>) {
+    ballast.clear();
+    ballast.shrink_to_fit();
+}
+
+// Tries a call twice, the second time with the memory that the ballast held. Whether it was refused.
+fn add_twice(
+    rt: &impl Abort,
+    alloc: Global,
+    graph: &mut Graph<&LocalHeap>,
+    ballast: &mut Vec<u8, &LocalHeap>,
+    ask: &Ask,
+) -> Result<bool, Fail> {
+    let made = graph.made();
+    if add(rt, graph, ask).is_ok() {
+        return Ok(false);
+    }
+    expect_unmade(rt, alloc, graph, ask.block, made)?;
+    give_back(ballast);
+    make(rt, graph, ask)?;
+    Ok(true)
+}
+
+// What the classes of the first two patches are called.
+fn expect_names(rt: &impl Abort, graph: &Graph<&LocalHeap>, first: u32, second: u32) {
+    let names = (graph.class_of(PatchNo(0)), graph.class_of(PatchNo(1)));
+    assert_eq!(rt; names, (Some(PatchNo(first)), Some(PatchNo(second))));
+}
+
+// Whether a merge of the first two was refused.
+fn merge_twice(
+    rt: &impl Abort,
+    graph: &mut Graph<&LocalHeap>,
+    ballast: &mut Vec<u8, &LocalHeap>,
+) -> Result<bool, Fail> {
+    if graph.merge(PatchNo(0), PatchNo(1)).is_ok() {
+        return Ok(false);
+    }
+    expect_names(rt, graph, 0, 1);
+    give_back(ballast);
+    let merged = graph.merge(PatchNo(0), PatchNo(1))?;
+    assert_eq!(rt; merged, PatchNo(0));
+    Ok(true)
+}
+
+// Two patches and their merge beside a ballast. Whether one of the calls was refused.
+fn make_and_merge(
+    rt: &impl Abort,
+    alloc: Global,
+    graph: &mut Graph<&LocalHeap>,
+    ballast: &mut Vec<u8, &LocalHeap>,
+) -> Result<bool, Fail> {
+    let first = add_twice(rt, alloc, graph, ballast, &ask_for(0, 0, 1, None))?;
+    let second = add_twice(rt, alloc, graph, ballast, &ask_for(0, 1, 2, None))?;
+    let third = merge_twice(rt, graph, ballast)?;
+    expect_ready(rt, alloc, graph, 0, &[0, 1])?;
+    Ok(first || second || third)
+}
+
+fn walk_beside(
+    rt: &impl Abort,
+    alloc: Global,
+    heap: &LocalHeap,
+    ballast: &mut Vec<u8, &LocalHeap>,
+) -> Result<bool, Fail> {
+    let mut graph = Graph::new(heap);
+    make_and_merge(rt, alloc, &mut graph, ballast)
+}
+
+// In a heap of this size.
+fn walk_in(rt: &impl Abort, alloc: Global, size: usize) -> Result<bool, Fail> {
+    let heap = LocalHeap::new(alloc, size)?;
+    let mut ballast = Vec::with_capacity(&heap, 4096)?;
+    walk_beside(rt, alloc, &heap, &mut ballast)
+}
+
+// How many heaps are too small, each larger than the one before it.
+fn count_small(rt: &impl Abort, alloc: Global) -> Result<u32, Fail> {
+    let mut refused = 0u32;
+    for size in 0..400usize {
+        if !walk_in(rt, alloc, 4096 + 256 + size * 16)? {
+            return Ok(refused);
+        }
+        refused = refused.saturating_add(1);
+    }
+    Err(Fail::from("refused in the largest heap"))
+}
+
+#[test]
+fn each_refusal_in_turn(rt: HostRuntime) -> Result<(), Fail> {
+    let refused = count_small(&rt, rt.alloc())?;
+    assert!(rt; refused > 5, "refused {refused}");
+    Ok(())
+}
+
+// Whether an answer in a heap of this size was refused.
+fn ready_in(rt: &impl Abort, graph: &mut Graph, heap: &LocalHeap) -> bool {
+    match graph.ready(heap, BlockNo(0)) {
+        Ok(numbers) => {
+            assert_eq!(rt; numbers.len(), 64);
+            false
+        }
+        Err(_) => true,
+    }
+}
+
+// How many of forty heaps, each larger than the one before it, are too small for the answer.
+fn count_refused(rt: &impl Abort, alloc: Global, graph: &mut Graph) -> Result<u32, Fail> {
+    let mut refused = 0u32;
+    for size in 0..40usize {
+        let heap = LocalHeap::new(alloc, 256 + size * 32)?;
+        if ready_in(rt, graph, &heap) {
+            refused = refused.saturating_add(1);
+        }
+    }
+    Ok(refused)
+}
+
+fn expect_refused(rt: &impl Abort, alloc: Global, graph: &mut Graph) -> Result<(), Fail> {
+    for byte in 0..64usize {
+        add(rt, graph, &ask_for(0, byte, byte + 1, None))?;
+    }
+    let refused = count_refused(rt, alloc, graph)?;
+    assert!(rt; refused > 0 && refused < 40, "refused {refused}");
+    Ok(())
+}
+
+// An answer that finds no memory changes nothing.
+#[test]
+fn refused_answers(rt: HostRuntime) -> Result<(), Fail> {
+    let mut graph = Graph::new(rt.alloc());
+    expect_refused(&rt, rt.alloc(), &mut graph)
+}
