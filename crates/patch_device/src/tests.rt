@@ -2,7 +2,7 @@
 use super::*;
 use linked_list_allocator::LocalHeap;
 use patch_model::{BLOCK, RefusalKind};
-use std::alloc::Allocator;
+use std::alloc::{Allocator, Global};
 use std::fs;
 use std::fs::File;
 use std::process::Abort;
@@ -17,6 +17,49 @@ mod memory;
 fn is_filled<D: Device>(device: &mut D, n: u32, byte: u8) -> bool {
     let mut bytes = [0xee; BLOCK];
     device.read(n, &mut bytes).is_ok() && bytes == [byte; BLOCK]
+}
+
+fn expect_filled<D: Device>(rt: &impl Abort, device: &mut D, n: u32, byte: u8) {
+    assert!(rt; is_filled(device, n, byte), "block {n}, byte {byte}");
+}
+
+// Writes a block of this byte.
+fn expect_write<D: Device>(
+    rt: &impl Abort,
+    device: &mut D,
+    n: u32,
+    byte: u8,
+    want: Result<(), DeviceRefusal>,
+) {
+    assert_eq!(rt;
+        device.write(n, &[byte; BLOCK]),
+        want,
+        "block {n}, byte {byte}"
+    );
+}
+
+fn expect_unread<D: Device>(rt: &impl Abort, device: &mut D, n: u32, want: DeviceRefusal) {
+    assert_eq!(rt; device.read(n, &mut [1; BLOCK]), Err(want));
+}
+
+// How many blocks a load of the device gives.
+fn loaded<A: Allocator + Copy, D: Device>(alloc: A, device: &mut D) -> Result<usize, LoadFault> {
+    Ok(load(alloc, device)?.len())
+}
+
+// A load gives blocks that are filled with these bytes.
+fn expect_loaded<D: Device>(
+    rt: &impl Abort,
+    alloc: Global,
+    device: &mut D,
+    bytes: &[u8],
+) -> Result<(), Fail> {
+    let blocks = load(alloc, device)?;
+    assert_eq!(rt; blocks.len(), bytes.len());
+    for (block, byte) in blocks.iter().zip(bytes) {
+        assert_eq!(rt; block.as_slice(), [*byte; BLOCK].as_slice());
+    }
+    Ok(())
 }
 
 // An empty folder of the test's own.
@@ -34,38 +77,25 @@ fn make_file(rt: &HostRuntime, path: &str, length: u64) -> Result<(), Fail> {
 
 #[test]
 fn refusals_have_their_numbers_and_names(rt: HostRuntime) {
-    let no_block = DeviceRefusal::NoSuchBlock;
-    let fault = DeviceRefusal::Fault;
-    let size = FileRefusal::FileSize;
-    let disk = FileRefusal::Disk;
-    let load_fault = LoadFault::Fault;
-    let memory = LoadFault::OutOfMemory;
-    for (kind, code, name, number, text) in [
-        (
-            no_block.kind(),
-            no_block.code(),
-            no_block.name(),
-            2,
-            "NoSuchBlock",
-        ),
-        (fault.kind(), fault.code(), fault.name(), 3, "Fault"),
-        (disk.kind(), disk.code(), disk.name(), 4, "Disk"),
-        (size.kind(), size.code(), size.name(), 5, "FileSize"),
-        (
-            load_fault.kind(),
-            load_fault.code(),
-            load_fault.name(),
-            3,
-            "Fault",
-        ),
-        (
-            memory.kind(),
-            memory.code(),
-            memory.name(),
-            1,
-            "OutOfMemory",
-        ),
+    for (refusal, number, text) in [
+        (DeviceRefusal::NoSuchBlock, 2, "NoSuchBlock"),
+        (DeviceRefusal::Fault, 3, "Fault"),
     ] {
-        assert_eq!(rt; (kind.code(), code, name), (number, number, text));
+        let shown = (refusal.kind().code(), refusal.code(), refusal.name());
+        assert_eq!(rt; shown, (number, number, text));
+    }
+    for (refusal, number, text) in [
+        (FileRefusal::Disk, 4, "Disk"),
+        (FileRefusal::FileSize, 5, "FileSize"),
+    ] {
+        let shown = (refusal.kind().code(), refusal.code(), refusal.name());
+        assert_eq!(rt; shown, (number, number, text));
+    }
+    for (refusal, number, text) in [
+        (LoadFault::Fault, 3, "Fault"),
+        (LoadFault::OutOfMemory, 1, "OutOfMemory"),
+    ] {
+        let shown = (refusal.kind().code(), refusal.code(), refusal.name());
+        assert_eq!(rt; shown, (number, number, text));
     }
 }

@@ -1,6 +1,8 @@
 //! Readers against plain ones, written from the tables of the formats, on damaged bytes.
 use crate::*;
+use patch_model::OutOfMemory;
 use std::alloc::Global;
+use std::process::Abort;
 use std::test::Fail;
 
 // Whether the bytes from one place to another are these.
@@ -190,36 +192,117 @@ fn damage(chance: &mut Chance, bytes: &mut Vec<u8>) {
     }
 }
 
-fn whole(alloc: Global, which: usize) -> Result<Vec<u8>, Fail> {
-    let geometry = |format| Geometry {
+fn disk(format: Format) -> Geometry {
+    Geometry {
         index: 1,
         extents: 60,
         format,
+    }
+}
+
+fn whole_slot(alloc: Global) -> Result<Vec<u8>, OutOfMemory> {
+    let slot = Slot {
+        key: b"0123456789abcdefghijklmnopqrstuv",
+        extent: 3,
+        generation: 9,
+        offset: 800,
+        length: 32_816,
     };
-    let key = b"0123456789abcdefghijklmnopqrstuv";
-    let bytes = match which {
-        0 => encode(alloc, b"k", &[1, 2])?,
-        1 => encode(alloc, key, &[7; 40])?,
-        2 => write_slot(alloc, &SlotState::Empty)?,
-        3 => {
-            let slot = Slot {
-                key,
-                extent: 3,
-                generation: 9,
-                offset: 800,
-                length: 32_816,
-            };
-            write_slot(alloc, &SlotState::Used(slot))?
-        }
-        4 => write_pointer(Pointer {
-            generation: 7,
-            offset: 65_536,
-        })
-        .to_vec(alloc)?,
-        5 => write_superblock(alloc, geometry(Format::One))?.into_vec(),
-        _ => write_superblock(alloc, geometry(Format::Two { length: 64 }))?.into_vec(),
+    write_slot(alloc, &SlotState::Used(slot))
+}
+
+fn whole_pointer(alloc: Global) -> Result<Vec<u8>, OutOfMemory> {
+    let pointer = Pointer {
+        generation: 7,
+        offset: 65_536,
     };
-    Ok(bytes)
+    Ok(write_pointer(pointer).to_vec(alloc)?)
+}
+
+fn whole_superblock(
+    rt: &impl Abort,
+    alloc: Global,
+    format: Format,
+) -> Result<Vec<u8>, OutOfMemory> {
+    let geometry = disk(format);
+    assert!(rt; geometry.is_valid());
+    Ok(write_superblock(alloc, geometry)?.into_vec())
+}
+
+// Two frames, two slots, a pointer record and two superblocks.
+fn whole(rt: &impl Abort, alloc: Global, which: usize) -> Result<Vec<u8>, OutOfMemory> {
+    match which {
+        0 => encode(alloc, b"k", &[1, 2]),
+        1 => encode(alloc, b"0123456789abcdefghijklmnopqrstuv", &[7; 40]),
+        2 => write_slot(alloc, &SlotState::Empty),
+        3 => whole_slot(alloc),
+        4 => whole_pointer(alloc),
+        5 => whole_superblock(rt, alloc, Format::One),
+        _ => whole_superblock(rt, alloc, Format::Two { length: 64 }),
+    }
+}
+
+// Each reader answers what the plain one does. Whether the bytes were accepted.
+fn agrees_on_a_frame(rt: &impl Abort, bytes: &[u8], turn: usize) -> bool {
+    let read = decode(bytes);
+    assert_eq!(rt; read, plain_frame(bytes, 32_768), "{turn}");
+    let within = decode_within(bytes, 39);
+    assert_eq!(rt; within, plain_frame(bytes, 39), "{turn}");
+    read.is_ok()
+}
+
+fn agrees_on_a_slot(rt: &impl Abort, bytes: &[u8], turn: usize) -> bool {
+    assert!(rt; bytes.len() == SLOT_BYTES);
+    let read = read_slot(bytes);
+    assert_eq!(rt; read, plain_slot(bytes, 32_816), "{turn}");
+    let within = read_slot_within(bytes, MAX_FRAME);
+    assert_eq!(rt; within, plain_slot(bytes, 131_120), "{turn}");
+    read.is_ok()
+}
+
+fn agrees_on_a_pointer(rt: &impl Abort, bytes: &[u8], turn: usize) -> bool {
+    assert!(rt; bytes.len() == POINTER_BYTES);
+    let read = read_pointer(bytes);
+    assert_eq!(rt; read, plain_pointer(bytes, 65_536), "{turn}");
+    let within = read_pointer_within(bytes, 262_144);
+    assert_eq!(rt; within, plain_pointer(bytes, 262_144), "{turn}");
+    read.is_ok()
+}
+
+fn agrees_on_a_superblock(rt: &impl Abort, bytes: &[u8], turn: usize) -> bool {
+    assert!(rt; bytes.len() == 4096);
+    let read = read_superblock(bytes);
+    assert_eq!(rt; read, plain_superblock(bytes), "{turn}");
+    read.is_ok()
+}
+
+fn agrees(rt: &impl Abort, bytes: &[u8], turn: usize) -> bool {
+    match turn % 7 {
+        0 | 1 => agrees_on_a_frame(rt, bytes, turn),
+        2 | 3 => agrees_on_a_slot(rt, bytes, turn),
+        4 => agrees_on_a_pointer(rt, bytes, turn),
+        _ => agrees_on_a_superblock(rt, bytes, turn),
+    }
+}
+
+// How many of the bytes are left: of a frame now and then fewer.
+fn length_left(chance: &mut Chance, length: usize, turn: usize) -> usize {
+    if turn % 7 < 2 && chance.below(4) == 0 {
+        return chance.below(length);
+    }
+    length
+}
+
+fn damage_one(
+    rt: &impl Abort,
+    alloc: Global,
+    chance: &mut Chance,
+    turn: usize,
+) -> Result<bool, OutOfMemory> {
+    let mut bytes = whole(rt, alloc, turn % 7)?;
+    damage(chance, &mut bytes);
+    bytes.truncate(length_left(chance, bytes.len(), turn));
+    Ok(agrees(rt, &bytes, turn))
 }
 
 #[test]
@@ -227,58 +310,10 @@ fn damaged_bytes(rt: HostRuntime) -> Result<(), Fail> {
     let mut chance = Chance { state: 1 };
     let mut accepted = 0u32;
     for turn in 0..10_000usize {
-        let which = turn % 7;
-        let mut bytes = whole(rt.alloc(), which)?;
-        damage(&mut chance, &mut bytes);
-        let ok = match which {
-            0 | 1 => {
-                if chance.below(4) == 0 {
-                    let length = chance.below(bytes.len());
-                    bytes.truncate(length);
-                }
-                let read = decode(&bytes);
-                assert_eq!(rt; read, plain_frame(&bytes, 32_768), "{turn}");
-                assert_eq!(rt;
-                    decode_within(&bytes, 39),
-                    plain_frame(&bytes, 39),
-                    "{turn}"
-                );
-                read.is_ok()
-            }
-            2 | 3 => {
-                assert!(rt; bytes.len() == SLOT_BYTES);
-                let read = read_slot(&bytes);
-                assert_eq!(rt; read, plain_slot(&bytes, 32_816), "{turn}");
-                assert_eq!(rt;
-                    read_slot_within(&bytes, MAX_FRAME),
-                    plain_slot(&bytes, 131_120),
-                    "{turn}"
-                );
-                read.is_ok()
-            }
-            4 => {
-                assert!(rt; bytes.len() == POINTER_BYTES);
-                let read = read_pointer(&bytes);
-                assert_eq!(rt; read, plain_pointer(&bytes, 65_536), "{turn}");
-                assert_eq!(rt;
-                    read_pointer_within(&bytes, 262_144),
-                    plain_pointer(&bytes, 262_144),
-                    "{turn}"
-                );
-                read.is_ok()
-            }
-            _ => {
-                assert!(rt; bytes.len() == 4096);
-                let read = read_superblock(&bytes);
-                assert_eq!(rt; read, plain_superblock(&bytes), "{turn}");
-                read.is_ok()
-            }
-        };
-        if ok {
+        if damage_one(&rt, rt.alloc(), &mut chance, turn)? {
             accepted = accepted.saturating_add(1);
         }
     }
-    assert!(rt; accepted > 500, "accepted {accepted}");
-    assert!(rt; accepted < 9_500, "accepted {accepted}");
+    assert!(rt; accepted > 500 && accepted < 9_500, "accepted {accepted}");
     Ok(())
 }

@@ -39,18 +39,57 @@ fn disk(format: Format) -> Geometry {
     }
 }
 
+// The frame of the key `k` with this value.
+fn expect_frame(
+    rt: &impl Abort,
+    alloc: Global,
+    value: &[u8],
+    want: &[u8],
+) -> Result<(), OutOfMemory> {
+    assert!(rt; value.len() < 3);
+    let frame = encode(alloc, b"k", value)?;
+    assert_eq!(rt; frame.as_slice(), want);
+    Ok(())
+}
+
+fn expect_pointer(rt: &impl Abort, pointer: Pointer, want: [u8; 8]) {
+    assert!(rt; pointer.offset <= MAX_POINTER);
+    assert_eq!(rt; write_pointer(pointer), want);
+    assert_eq!(rt; read_pointer_within(&want, MAX_POINTER), Ok(pointer));
+}
+
 #[test]
 fn one_put_on_a_new_disk(rt: HostRuntime) -> Result<(), Fail> {
-    let alloc = rt.alloc();
-    assert_eq!(rt; encode(alloc, b"k", &[])?.as_slice(), EMPTY.as_slice());
-    assert_eq!(rt; encode(alloc, b"k", &[1, 2])?.as_slice(), FRAME.as_slice());
+    expect_frame(&rt, rt.alloc(), &[], &EMPTY)?;
+    expect_frame(&rt, rt.alloc(), &[1, 2], &FRAME)?;
     let pointer = Pointer {
         generation: 0,
         offset: 19,
     };
-    assert_eq!(rt; write_pointer(pointer), POINTER);
+    expect_pointer(&rt, pointer, POINTER);
     assert_eq!(rt; read_pointer(&POINTER), Ok(pointer));
+    Ok(())
+}
 
+// The bytes are this front, and zeros up to a slot's end.
+fn expect_padded(rt: &impl Abort, alloc: Global, bytes: &[u8], front: &[u8]) -> Result<(), Fail> {
+    let want = padded(alloc, front, SLOT_BYTES)?;
+    assert_eq!(rt; bytes, want.as_slice());
+    Ok(())
+}
+
+fn expect_slot(rt: &impl Abort, bytes: &[u8], want: Result<SlotState, FrameFault>) {
+    assert!(rt; bytes.len() == SLOT_BYTES);
+    assert_eq!(rt; read_slot(bytes), want);
+}
+
+fn expect_slot_within(rt: &impl Abort, bytes: &[u8], want: Result<SlotState, FrameFault>) {
+    assert!(rt; bytes.len() == SLOT_BYTES);
+    assert_eq!(rt; read_slot_within(bytes, MAX_FRAME), want);
+}
+
+#[test]
+fn the_slot_of_one_put(rt: HostRuntime) -> Result<(), Fail> {
     let used = SlotState::Used(Slot {
         key: b"k",
         extent: 0,
@@ -58,87 +97,99 @@ fn one_put_on_a_new_disk(rt: HostRuntime) -> Result<(), Fail> {
         offset: 0,
         length: 19,
     });
-    let slot = padded(alloc, &SLOT, SLOT_BYTES)?;
-    assert_eq!(rt; write_slot(alloc, &used)?, slot);
-    assert!(rt; slot.len() == SLOT_BYTES);
-    assert_eq!(rt; read_slot(&slot), Ok(used));
-    assert_eq!(rt;
-        write_slot(alloc, &SlotState::Empty)?.as_slice(),
-        [0; 64].as_slice()
-    );
-    assert_eq!(rt; read_slot(&[0; 64]), Ok(SlotState::Empty));
+    let slot = write_slot(rt.alloc(), &used)?;
+    expect_padded(&rt, rt.alloc(), &slot, &SLOT)?;
+    expect_slot(&rt, &slot, Ok(used));
+    Ok(())
+}
+
+#[test]
+fn an_empty_slot(rt: HostRuntime) -> Result<(), Fail> {
+    let slot = write_slot(rt.alloc(), &SlotState::Empty)?;
+    expect_padded(&rt, rt.alloc(), &slot, &[])?;
+    expect_slot(&rt, &slot, Ok(SlotState::Empty));
+    Ok(())
+}
+
+fn expect_superblock(
+    rt: &impl Abort,
+    alloc: Global,
+    geometry: Geometry,
+    front: &[u8],
+) -> Result<(), Fail> {
+    assert!(rt; geometry.is_valid());
+    let want = padded(alloc, front, 4096)?;
+    let written = write_superblock(alloc, geometry)?;
+    assert_eq!(rt; written.as_slice(), want.as_slice());
+    assert_eq!(rt; read_superblock(written.as_slice()), Ok(geometry));
     Ok(())
 }
 
 #[test]
 fn superblocks_of_both_versions(rt: HostRuntime) -> Result<(), Fail> {
-    let table = [
-        (Format::One, SUPERBLOCK.as_slice()),
-        (Format::Two { length: 64 }, SUPERBLOCK_TWO.as_slice()),
-    ];
-    for (format, front) in table {
-        let geometry = disk(format);
-        assert!(rt; geometry.is_valid());
-        let want = padded(rt.alloc(), front, 4096)?;
-        let written = write_superblock(rt.alloc(), geometry)?;
-        assert_eq!(rt; written.as_slice(), want.as_slice());
-        assert_eq!(rt; read_superblock(written.as_slice()), Ok(geometry));
-    }
-    Ok(())
+    let two = Format::Two { length: 64 };
+    expect_superblock(&rt, rt.alloc(), disk(Format::One), &SUPERBLOCK)?;
+    expect_superblock(&rt, rt.alloc(), disk(two), &SUPERBLOCK_TWO)
 }
 
 #[test]
-fn fields_of_every_byte(rt: HostRuntime) -> Result<(), Fail> {
+fn a_pointer_of_every_byte(rt: HostRuntime) {
     let pointer = Pointer {
         generation: 0x0102_0304,
         offset: 0x0003_0201,
     };
-    assert_eq!(rt; write_pointer(pointer), [1, 2, 3, 4, 0, 3, 2, 1]);
-    assert_eq!(rt;
-        read_pointer_within(&[1, 2, 3, 4, 0, 3, 2, 1], MAX_POINTER),
-        Ok(pointer)
-    );
-    let key = b"abcdefghijklmnopqrstuvwxyz012345";
+    expect_pointer(&rt, pointer, [1, 2, 3, 4, 0, 3, 2, 1]);
+}
+
+// Of a slot with a key of 32 bytes and a frame that is too long for the first version.
+const EVERY_BYTE: [u8; 48] =
+    *b"\x01\x20\x05\x06\x07\x08\x09\x0a\x0b\x0c\x0d\x0e\x00\x01\xf0\x0fabcdefghijklmnopqrstuvwxyz012345";
+
+#[test]
+fn a_slot_of_every_byte(rt: HostRuntime) -> Result<(), Fail> {
     let used = SlotState::Used(Slot {
-        key: key.as_slice(),
+        key: b"abcdefghijklmnopqrstuvwxyz012345",
         extent: 0x0506,
         generation: 0x0708_090a,
         offset: 0x0b0c_0d0e,
         length: 0x0001_f00f,
     });
-    let front =
-        *b"\x01\x20\x05\x06\x07\x08\x09\x0a\x0b\x0c\x0d\x0e\x00\x01\xf0\x0fabcdefghijklmnopqrstuvwxyz012345";
-    let slot = padded(rt.alloc(), &front, SLOT_BYTES)?;
-    assert_eq!(rt; write_slot(rt.alloc(), &used)?, slot);
-    assert!(rt; slot.len() == SLOT_BYTES);
-    assert_eq!(rt; read_slot_within(&slot, MAX_FRAME), Ok(used));
-    assert_eq!(rt; read_slot(&slot), Err(FrameFault::BadValue));
+    let slot = write_slot(rt.alloc(), &used)?;
+    expect_padded(&rt, rt.alloc(), &slot, &EVERY_BYTE)?;
+    expect_slot_within(&rt, &slot, Ok(used));
+    expect_slot(&rt, &slot, Err(FrameFault::BadValue));
     Ok(())
 }
 
 #[test]
-fn places_and_limits(rt: HostRuntime) {
+fn places(rt: HostRuntime) {
     let one = disk(Format::One);
     let two = disk(Format::Two { length: 64 });
-    assert!(rt; one.is_valid());
-    assert!(rt; two.is_valid());
+    assert!(rt; one.is_valid() && two.is_valid());
     assert_eq!(rt; (one.block_count(), two.block_count()), (35, 131));
     assert_eq!(rt; (one.pointer_block(), one.slot_count()), (2, 64));
-    assert_eq!(rt;
-        (one.first_block(0), one.first_block(1), two.first_block(1)),
-        (3, 19, 67)
-    );
-    assert_eq!(rt;
-        (slot_block(64), slot_start(65), pointer_start(3)),
-        (2, 64, 24)
-    );
-    assert_eq!(rt; Format::One.largest_pointer(), 65_536);
-    assert_eq!(rt; Format::One.value_limit(), 32_768);
-    assert_eq!(rt; Format::One.longest_frame(), 32_816);
-    assert_eq!(rt;
-        (Format::One.version(), Format::One.extent_blocks()),
-        (1, 16)
-    );
+    let firsts = (one.first_block(0), one.first_block(1), two.first_block(1));
+    assert_eq!(rt; firsts, (3, 19, 67));
+    let starts = (slot_block(64), slot_start(65), pointer_start(3));
+    assert_eq!(rt; starts, (2, 64, 24));
+}
+
+// The version, the blocks of an extent, the largest pointer, the longest value and the longest frame.
+fn expect_limits(rt: &impl Abort, format: Format, want: [u32; 5]) {
+    assert!(rt; format.is_valid());
+    let limits = [
+        format.version(),
+        format.extent_blocks(),
+        format.largest_pointer(),
+        format.value_limit(),
+        format.longest_frame(),
+    ];
+    assert_eq!(rt; limits, want);
+}
+
+#[test]
+fn limits(rt: HostRuntime) {
+    expect_limits(&rt, Format::One, [1, 16, 65_536, 32_768, 32_816]);
     for (length, pointer, value) in [
         (16, 65_536, 65_488),
         (32, 131_072, 131_024),
@@ -146,11 +197,7 @@ fn places_and_limits(rt: HostRuntime) {
         (64, 262_144, 131_072),
     ] {
         let format = Format::Two { length };
-        assert!(rt; format.is_valid());
-        assert_eq!(rt; (format.version(), format.extent_blocks()), (2, length));
-        assert_eq!(rt; format.largest_pointer(), pointer);
-        assert_eq!(rt; format.value_limit(), value);
-        assert_eq!(rt; format.longest_frame(), 131_120);
+        expect_limits(&rt, format, [2, length, pointer, value, 131_120]);
     }
 }
 
@@ -180,59 +227,81 @@ fn divisions_of_a_disk(rt: HostRuntime) {
     }
 }
 
+// Two frames of the key `k`, and a byte.
+const TWO_AND_A_BYTE: [u8; 35] = *b"FCH1\x01\0\0\0\0\0\0\0k1HCFFCH1\x01\0\0\0\0\0\0\0k1HCFF";
+
+#[test]
+fn frames_that_end_badly(rt: HostRuntime) {
+    let short = decode(&EMPTY[..16]);
+    assert_eq!(rt; short, Err(FrameFault::Short));
+    let other = decode(b"FCH1\x01\0\0\0\0\0\0\0k1HCf");
+    assert_eq!(rt; other, Err(FrameFault::BadMagic));
+}
+
 #[test]
 fn runs_of_frames(rt: HostRuntime) -> Result<(), Fail> {
-    let alloc = rt.alloc();
-    assert_eq!(rt; decode(&EMPTY[..16]), Err(FrameFault::Short));
-    let other = *b"FCH1\x01\0\0\0\0\0\0\0k1HCf";
-    assert_eq!(rt; decode(&other), Err(FrameFault::BadMagic));
-    let mut bytes = Vec::from_slice(alloc, &EMPTY)?;
-    bytes.extend_from_slice(&EMPTY)?;
-    bytes.push(b'F')?;
-    let two = frames(alloc, &bytes[..34])?;
-    assert_eq!(rt; two.len(), 2);
-    for frame in &two {
-        let want = Frame {
-            key: b"k",
-            value: &[],
-            length: 17,
-        };
-        assert_eq!(rt; *frame, want);
-    }
-    let refusal = frames(alloc, &bytes).err().ok_or("three frames?")?;
-    assert_eq!(rt; refusal, FramesRefusal::Fault(FrameFault::Short));
-    assert!(rt; frames(alloc, &[])?.is_empty());
+    let frame = Frame {
+        key: b"k",
+        value: &[],
+        length: 17,
+    };
+    let two = frames(rt.alloc(), &TWO_AND_A_BYTE[..34])?;
+    assert_eq!(rt; two.as_slice(), [frame, frame].as_slice());
+    assert!(rt; frames(rt.alloc(), &[])?.is_empty());
     Ok(())
 }
 
 #[test]
-fn values_at_their_limits(rt: HostRuntime) -> Result<(), Fail> {
-    let alloc = rt.alloc();
-    let value = vec![in alloc; 7; 32_769]?;
-    let front = &value[..32_768];
-    let short = encode(alloc, b"v", front)?;
-    let narrow = Frame {
+fn a_run_that_ends_badly(rt: HostRuntime) {
+    let refusal = frames(rt.alloc(), &TWO_AND_A_BYTE).err();
+    assert_eq!(rt; refusal, Some(FramesRefusal::Fault(FrameFault::Short)));
+}
+
+// The longest value of the first version.
+fn expect_narrow(rt: &impl Abort, alloc: Global, value: &[u8]) -> Result<(), OutOfMemory> {
+    assert!(rt; value.len() == 32_768);
+    let bytes = encode(alloc, b"v", value)?;
+    let frame = Frame {
         key: b"v",
-        value: front,
+        value,
         length: 32_785,
     };
-    assert_eq!(rt; decode(&short), Ok(narrow));
-    let long = encode(alloc, b"v", &value)?;
-    let wide = Frame {
+    assert_eq!(rt; decode(&bytes), Ok(frame));
+    Ok(())
+}
+
+fn expect_wide(rt: &impl Abort, bytes: &[u8], frame: Frame) {
+    assert_eq!(rt; decode(bytes), Err(FrameFault::BadValue));
+    assert_eq!(rt; decode_within(bytes, 32_768), Err(FrameFault::BadValue));
+    assert_eq!(rt; decode_within(bytes, 32_769), Ok(frame));
+}
+
+fn expect_wide_run(rt: &impl Abort, alloc: Global, bytes: &[u8], frame: Frame) -> Result<(), Fail> {
+    let refusal = frames(alloc, bytes).err();
+    assert_eq!(rt; refusal, Some(FramesRefusal::Fault(FrameFault::BadValue)));
+    let run = frames_within(alloc, bytes, MAX_VALUE)?;
+    assert_eq!(rt; run.as_slice(), [frame].as_slice());
+    Ok(())
+}
+
+// One byte more.
+fn expect_too_wide(rt: &impl Abort, alloc: Global, value: &[u8]) -> Result<(), Fail> {
+    assert!(rt; value.len() == 32_769);
+    let bytes = encode(alloc, b"v", value)?;
+    let frame = Frame {
         key: b"v",
-        value: &value,
+        value,
         length: 32_786,
     };
-    assert_eq!(rt; decode(&long), Err(FrameFault::BadValue));
-    assert_eq!(rt; decode_within(&long, 32_768), Err(FrameFault::BadValue));
-    assert_eq!(rt; decode_within(&long, 32_769), Ok(wide));
-    let refusal = frames(alloc, &long).err().ok_or("a frame?")?;
-    assert_eq!(rt; refusal, FramesRefusal::Fault(FrameFault::BadValue));
-    assert_eq!(rt;
-        frames_within(alloc, &long, MAX_VALUE)?.as_slice(),
-        [wide].as_slice()
-    );
-    Ok(())
+    expect_wide(rt, &bytes, frame);
+    expect_wide_run(rt, alloc, &bytes, frame)
+}
+
+#[test]
+fn values_at_their_limits(rt: HostRuntime) -> Result<(), Fail> {
+    let value = vec![in rt.alloc(); 7; 32_769]?;
+    expect_narrow(&rt, rt.alloc(), &value[..32_768])?;
+    expect_too_wide(&rt, rt.alloc(), &value)
 }
 
 // A byte that is changed, or the length to which the bytes are cut, and the refusal that follows.
@@ -257,91 +326,164 @@ fn broken(alloc: Global, bytes: &[u8], breaks: [Break; 2]) -> Result<Vec<u8>, Fa
     Ok(bytes)
 }
 
-// Each test of a reader fails alone and together with each later one: the earlier one answers.
+// The tests of each reader, in their order.
+const TESTS_OF_FRAMES: [(Break, FrameFault); 9] = [
+    (Break::Cut(11), FrameFault::Short),
+    (Break::Byte(0, b'f'), FrameFault::BadMagic),
+    (Break::Byte(4, 0), FrameFault::BadKey),
+    (Break::Byte(4, 33), FrameFault::BadKey),
+    (Break::Byte(5, 1), FrameFault::NotZero),
+    (Break::Byte(7, 1), FrameFault::NotZero),
+    (Break::Byte(9, 1), FrameFault::BadValue),
+    (Break::Cut(18), FrameFault::Short),
+    (Break::Byte(18, 0), FrameFault::BadMagic),
+];
+
+const TESTS_OF_SLOTS: [(Break, FrameFault); 7] = [
+    (Break::Byte(0, 2), FrameFault::BadMagic),
+    (Break::Byte(1, 0), FrameFault::BadKey),
+    (Break::Byte(1, 33), FrameFault::BadKey),
+    (Break::Byte(17, 1), FrameFault::NotZero),
+    (Break::Byte(63, 1), FrameFault::NotZero),
+    (Break::Byte(15, 16), FrameFault::BadValue),
+    (Break::Byte(13, 1), FrameFault::BadValue),
+];
+
+const TESTS_OF_SUPERBLOCKS: [(Break, FrameFault); 10] = [
+    (Break::Byte(0, b'f'), FrameFault::BadMagic),
+    (Break::Byte(8, 1), FrameFault::BadMagic),
+    (Break::Byte(11, 0), FrameFault::BadMagic),
+    (Break::Byte(11, 3), FrameFault::BadMagic),
+    (Break::Byte(15, 0), FrameFault::BadValue),
+    (Break::Byte(15, 17), FrameFault::BadValue),
+    (Break::Byte(19, 1), FrameFault::BadValue),
+    (Break::Byte(19, 255), FrameFault::BadValue),
+    (Break::Byte(20, 1), FrameFault::NotZero),
+    (Break::Byte(4095, 1), FrameFault::NotZero),
+];
+
+const TESTS_OF_VERSION_TWO: [(Break, FrameFault); 4] = [
+    (Break::Byte(23, 15), FrameFault::BadValue),
+    (Break::Byte(23, 65), FrameFault::BadValue),
+    (Break::Byte(19, 64), FrameFault::BadValue),
+    (Break::Byte(24, 1), FrameFault::NotZero),
+];
+
+fn expect_bad_frame(
+    rt: &impl Abort,
+    alloc: Global,
+    breaks: [Break; 2],
+    want: FrameFault,
+) -> Result<(), Fail> {
+    let bytes = broken(alloc, &FRAME, breaks)?;
+    assert_eq!(rt; decode(&bytes), Err(want));
+    Ok(())
+}
+
+// Each test fails alone and together with each later one: the earlier one answers.
 #[test]
-fn first_test_answers(rt: HostRuntime) -> Result<(), Fail> {
-    let frame = [
-        (Break::Cut(11), FrameFault::Short),
-        (Break::Byte(0, b'f'), FrameFault::BadMagic),
-        (Break::Byte(4, 0), FrameFault::BadKey),
-        (Break::Byte(4, 33), FrameFault::BadKey),
-        (Break::Byte(5, 1), FrameFault::NotZero),
-        (Break::Byte(7, 1), FrameFault::NotZero),
-        (Break::Byte(9, 1), FrameFault::BadValue),
-        (Break::Cut(18), FrameFault::Short),
-        (Break::Byte(18, 0), FrameFault::BadMagic),
-    ];
-    for (first, (one, want)) in frame.iter().enumerate() {
-        for (other, _) in &frame[first..] {
-            let bytes = broken(rt.alloc(), &FRAME, [*one, *other])?;
-            assert_eq!(rt; decode(&bytes), Err(*want), "{first}");
+fn first_test_answers_of_frames(rt: HostRuntime) -> Result<(), Fail> {
+    for (first, (one, want)) in TESTS_OF_FRAMES.iter().enumerate() {
+        for (other, _) in &TESTS_OF_FRAMES[first..] {
+            expect_bad_frame(&rt, rt.alloc(), [*one, *other], *want)?;
         }
     }
-    let slot = [
-        (Break::Byte(0, 2), FrameFault::BadMagic),
-        (Break::Byte(1, 0), FrameFault::BadKey),
-        (Break::Byte(1, 33), FrameFault::BadKey),
-        (Break::Byte(17, 1), FrameFault::NotZero),
-        (Break::Byte(63, 1), FrameFault::NotZero),
-        (Break::Byte(15, 16), FrameFault::BadValue),
-        (Break::Byte(13, 1), FrameFault::BadValue),
-    ];
-    let whole = padded(rt.alloc(), &SLOT, SLOT_BYTES)?;
-    for (first, (one, want)) in slot.iter().enumerate() {
-        for (other, _) in &slot[first..] {
-            let bytes = broken(rt.alloc(), &whole, [*one, *other])?;
-            assert!(rt; bytes.len() == SLOT_BYTES);
-            assert_eq!(rt; read_slot(&bytes), Err(*want), "{first}");
+    Ok(())
+}
+
+fn expect_bad_slot(
+    rt: &impl Abort,
+    alloc: Global,
+    breaks: [Break; 2],
+    want: FrameFault,
+) -> Result<(), Fail> {
+    let whole = padded(alloc, &SLOT, SLOT_BYTES)?;
+    let bytes = broken(alloc, &whole, breaks)?;
+    expect_slot(rt, &bytes, Err(want));
+    Ok(())
+}
+
+#[test]
+fn first_test_answers_of_slots(rt: HostRuntime) -> Result<(), Fail> {
+    for (first, (one, want)) in TESTS_OF_SLOTS.iter().enumerate() {
+        for (other, _) in &TESTS_OF_SLOTS[first..] {
+            expect_bad_slot(&rt, rt.alloc(), [*one, *other], *want)?;
+        }
+    }
+    Ok(())
+}
+
+fn expect_bad_superblock(
+    rt: &impl Abort,
+    alloc: Global,
+    front: &[u8],
+    breaks: [Break; 2],
+    want: FrameFault,
+) -> Result<(), Fail> {
+    let whole = padded(alloc, front, 4096)?;
+    let bytes = broken(alloc, &whole, breaks)?;
+    assert!(rt; bytes.len() == 4096);
+    assert_eq!(rt; read_superblock(&bytes), Err(want));
+    Ok(())
+}
+
+#[test]
+fn first_test_answers_of_superblocks(rt: HostRuntime) -> Result<(), Fail> {
+    for (first, (one, want)) in TESTS_OF_SUPERBLOCKS.iter().enumerate() {
+        for (other, _) in &TESTS_OF_SUPERBLOCKS[first..] {
+            expect_bad_superblock(&rt, rt.alloc(), &SUPERBLOCK, [*one, *other], *want)?;
         }
     }
     Ok(())
 }
 
 #[test]
-fn first_test_answers_of_blocks(rt: HostRuntime) -> Result<(), Fail> {
-    let one = [
-        (Break::Byte(0, b'f'), FrameFault::BadMagic),
-        (Break::Byte(8, 1), FrameFault::BadMagic),
-        (Break::Byte(11, 0), FrameFault::BadMagic),
-        (Break::Byte(11, 3), FrameFault::BadMagic),
-        (Break::Byte(15, 0), FrameFault::BadValue),
-        (Break::Byte(15, 17), FrameFault::BadValue),
-        (Break::Byte(19, 1), FrameFault::BadValue),
-        (Break::Byte(19, 255), FrameFault::BadValue),
-        (Break::Byte(20, 1), FrameFault::NotZero),
-        (Break::Byte(4095, 1), FrameFault::NotZero),
-    ];
-    let whole = padded(rt.alloc(), &SUPERBLOCK, 4096)?;
-    for (first, (break_one, want)) in one.iter().enumerate() {
-        for (other, _) in &one[first..] {
-            let bytes = broken(rt.alloc(), &whole, [*break_one, *other])?;
-            assert!(rt; bytes.len() == 4096);
-            assert_eq!(rt; read_superblock(&bytes), Err(*want), "{first}");
-        }
+fn version_two_has_tests_of_its_own(rt: HostRuntime) -> Result<(), Fail> {
+    for (one, want) in &TESTS_OF_VERSION_TWO {
+        expect_bad_superblock(&rt, rt.alloc(), &SUPERBLOCK_TWO, [*one, *one], *want)?;
     }
-    let two = [
-        (Break::Byte(23, 15), FrameFault::BadValue),
-        (Break::Byte(23, 65), FrameFault::BadValue),
-        (Break::Byte(19, 64), FrameFault::BadValue),
-        (Break::Byte(24, 1), FrameFault::NotZero),
-    ];
-    let whole = padded(rt.alloc(), &SUPERBLOCK_TWO, 4096)?;
-    for (place, want) in two {
-        let bytes = broken(rt.alloc(), &whole, [place, place])?;
-        assert!(rt; bytes.len() == 4096);
-        assert_eq!(rt; read_superblock(&bytes), Err(want));
-    }
+    Ok(())
+}
+
+#[test]
+fn pointers_past_the_end(rt: HostRuntime) {
     let over = [0, 0, 0, 0, 0, 1, 0, 1];
-    assert_eq!(rt; read_pointer(&over), Err(FrameFault::BadValue));
     let wide = Pointer {
         generation: 0,
         offset: 65_537,
     };
+    assert_eq!(rt; read_pointer(&over), Err(FrameFault::BadValue));
     assert_eq!(rt; read_pointer_within(&over, 65_537), Ok(wide));
     assert_eq!(rt;
         read_pointer_within(&over, 65_536),
         Err(FrameFault::BadValue)
     );
+}
+
+// A refusal of one frame, alone and of a run.
+fn expect_fault(
+    rt: &impl Abort,
+    alloc: Global,
+    fault: FrameFault,
+    code: u8,
+    name: &str,
+) -> Result<(), Fail> {
+    assert_eq!(rt; (fault.code(), fault.name()), (code, name));
+    assert_eq!(rt; format!(in alloc; "{fault}")?.as_str(), name);
+    let refusal = FramesRefusal::Fault(fault);
+    assert_eq!(rt; refusal.kind(), fault.kind());
+    expect_refusal(rt, alloc, refusal, code, name)
+}
+
+fn expect_refusal(
+    rt: &impl Abort,
+    alloc: Global,
+    refusal: FramesRefusal,
+    code: u8,
+    name: &str,
+) -> Result<(), Fail> {
+    assert_eq!(rt; (refusal.code(), refusal.name()), (code, name));
+    assert_eq!(rt; format!(in alloc; "{refusal}")?.as_str(), name);
     Ok(())
 }
 
@@ -355,36 +497,31 @@ fn refusals_have_numbers_and_names(rt: HostRuntime) -> Result<(), Fail> {
         (FrameFault::NotZero, 56, "NotZero"),
     ];
     for (fault, code, name) in table {
-        assert_eq!(rt; (fault.code(), fault.name()), (code, name));
-        assert_eq!(rt; format!(in rt.alloc(); "{fault}")?.as_str(), name);
-        let refusal = FramesRefusal::Fault(fault);
-        assert_eq!(rt; (refusal.code(), refusal.name()), (code, name));
-        assert_eq!(rt; format!(in rt.alloc(); "{refusal}")?.as_str(), name);
-        assert_eq!(rt; refusal.kind(), fault.kind());
+        expect_fault(&rt, rt.alloc(), fault, code, name)?;
     }
     let refusal = FramesRefusal::OutOfMemory;
     assert_eq!(rt; refusal.kind(), RefusalKind::OutOfMemory);
-    assert_eq!(rt; (refusal.code(), refusal.name()), (1, "OutOfMemory"));
-    assert_eq!(rt;
-        format!(in rt.alloc(); "{refusal}")?.as_str(),
-        "OutOfMemory"
-    );
-    Ok(())
+    expect_refusal(&rt, rt.alloc(), refusal, 1, "OutOfMemory")
 }
 
 // All that takes memory, on one heap.
-fn write_and_read(rt: &impl Abort, heap: &LocalHeap, bytes: &[u8]) -> Result<(), OutOfMemory> {
+fn write_each(rt: &impl Abort, heap: &LocalHeap) -> Result<(), OutOfMemory> {
     let frame = encode(heap, b"k", &[1, 2])?;
-    assert_eq!(rt; frame.as_slice(), FRAME.as_slice());
+    assert!(rt; frame.as_slice() == FRAME.as_slice());
     let slot = write_slot(heap, &SlotState::Empty)?;
     assert_eq!(rt; slot.len(), SLOT_BYTES);
-    let geometry = Geometry {
-        index: 1,
-        extents: 2,
-        format: Format::One,
-    };
+    Ok(())
+}
+
+fn write_block(rt: &impl Abort, heap: &LocalHeap) -> Result<(), OutOfMemory> {
+    let geometry = disk(Format::One);
+    assert!(rt; geometry.is_valid());
     let superblock: BlockBytes<&LocalHeap> = write_superblock(heap, geometry)?;
     assert_eq!(rt; read_superblock(superblock.as_slice()), Ok(geometry));
+    Ok(())
+}
+
+fn read_nine(rt: &impl Abort, heap: &LocalHeap, bytes: &[u8]) -> Result<(), OutOfMemory> {
     match frames(heap, bytes) {
         Ok(read) => {
             assert_eq!(rt; read.len(), 9);
@@ -397,26 +534,45 @@ fn write_and_read(rt: &impl Abort, heap: &LocalHeap, bytes: &[u8]) -> Result<(),
     }
 }
 
-// Each heap is larger than the one before it, so that one allocation more succeeds now and then.
-#[test]
-fn refuses_each_allocation_in_turn(rt: HostRuntime) -> Result<(), Fail> {
-    let mut bytes = Vec::new(rt.alloc());
+// In a heap of this size. Whether it was too small.
+fn is_refused(
+    rt: &impl Abort,
+    alloc: Global,
+    size: usize,
+    bytes: &[u8],
+) -> Result<bool, OutOfMemory> {
+    let heap = LocalHeap::new(alloc, size)?;
+    Ok(
+        write_each(rt, &heap).is_err()
+            || write_block(rt, &heap).is_err()
+            || read_nine(rt, &heap, bytes).is_err(),
+    )
+}
+
+// How many heaps are too small, each larger than the one before it.
+fn count_small(rt: &impl Abort, alloc: Global, bytes: &[u8]) -> Result<u32, Fail> {
+    let mut refused = 0u32;
+    for size in 0..1200usize {
+        if !is_refused(rt, alloc, 64 + size * 16, bytes)? {
+            return Ok(refused);
+        }
+        refused = refused.saturating_add(1);
+    }
+    Err(Fail::from("refused in the largest heap"))
+}
+
+fn nine_frames(alloc: Global) -> Result<Vec<u8>, OutOfMemory> {
+    let mut bytes = Vec::new(alloc);
     for _ in 0..9 {
         bytes.extend_from_slice(&FRAME)?;
     }
-    let mut refused = 0u32;
-    let mut done = false;
-    for size in 0..1200usize {
-        let heap = LocalHeap::new(rt.alloc(), 64 + size * 16)?;
-        match write_and_read(&rt, &heap, &bytes) {
-            Ok(()) => {
-                done = true;
-                break;
-            }
-            Err(OutOfMemory) => refused = refused.saturating_add(1),
-        }
-    }
-    assert!(rt; done);
+    Ok(bytes)
+}
+
+#[test]
+fn refuses_each_allocation_in_turn(rt: HostRuntime) -> Result<(), Fail> {
+    let bytes = nine_frames(rt.alloc())?;
+    let refused = count_small(&rt, rt.alloc(), &bytes)?;
     assert!(rt; refused > 200, "refused {refused}");
     Ok(())
 }

@@ -1,6 +1,24 @@
 //! A failing call, alone, nested, and under a load.
 use super::*;
 
+// Writes a block that is not there, and then one after another until one was refused.
+fn write_until_refused<D: Device>(rt: &impl Abort, device: &mut D, k: u64) {
+    let refused = Err(DeviceRefusal::Fault);
+    expect_write(rt, device, 2, 9, Err(DeviceRefusal::NoSuchBlock));
+    expect_write(rt, device, 0, 1, if k == 0 { refused } else { Ok(()) });
+    if k == 1 {
+        expect_write(rt, device, 1, 2, refused);
+    }
+}
+
+// What the writes left, and a write after them.
+fn expect_left<D: Device>(rt: &impl Abort, device: &mut D, first: u8, second: u8) {
+    expect_filled(rt, device, 0, first);
+    expect_filled(rt, device, 1, second);
+    expect_write(rt, device, 0, 3, Ok(()));
+    expect_filled(rt, device, 0, 3);
+}
+
 #[test]
 fn fails_one_write(rt: HostRuntime) -> Result<(), Fail> {
     for (k, lands, first, second) in [
@@ -10,22 +28,8 @@ fn fails_one_write(rt: HostRuntime) -> Result<(), Fail> {
         (1, true, 1, 2),
     ] {
         let mut device = FaultyDevice::new(MemDevice::new(rt.alloc(), 2)?, k, lands);
-        assert_eq!(rt;
-            device.write(2, &[9; BLOCK]),
-            Err(DeviceRefusal::NoSuchBlock)
-        );
-        let refused = Err(DeviceRefusal::Fault);
-        assert_eq!(rt;
-            device.write(0, &[1; BLOCK]),
-            if k == 0 { refused } else { Ok(()) }
-        );
-        if k == 1 {
-            assert_eq!(rt; device.write(1, &[2; BLOCK]), refused);
-        }
-        assert!(rt; is_filled(&mut device, 0, first), "k {k} lands {lands}");
-        assert!(rt; is_filled(&mut device, 1, second), "k {k} lands {lands}");
-        assert_eq!(rt; device.write(0, &[3; BLOCK]), Ok(()));
-        assert!(rt; is_filled(&mut device, 0, 3));
+        write_until_refused(&rt, &mut device, k);
+        expect_left(&rt, &mut device, first, second);
     }
     Ok(())
 }
@@ -51,34 +55,49 @@ fn refused_writes<D: Device>(device: &mut D) -> u32 {
     20
 }
 
+fn expect_refused<D: Device>(rt: &impl Abort, device: &mut D, refused: u32) {
+    assert_eq!(rt; refused_writes(device), refused);
+    expect_filled(rt, device, 0, 4);
+}
+
+fn expect_seven<D: Device + Drop>(rt: &impl Abort, inner: D, lands: bool, refused: u32) {
+    let four = four_failing(inner, lands);
+    let mut seven = failing(failing(failing(four, lands), lands), lands);
+    expect_refused(rt, &mut seven, refused);
+}
+
+fn expect_eight<D: Device + Drop>(rt: &impl Abort, inner: D, lands: bool, refused: u32) {
+    let four = four_failing(inner, lands);
+    let mut eight = four_failing(four, lands);
+    expect_refused(rt, &mut eight, refused);
+}
+
 #[test]
 fn nested_devices_fail_in_turn(rt: HostRuntime) -> Result<(), Fail> {
     for (lands, after_seven, after_eight) in [(false, 7, 8), (true, 1, 1)] {
-        let four = four_failing(MemDevice::new(rt.alloc(), 1)?, lands);
-        let mut seven = failing(failing(failing(four, lands), lands), lands);
-        assert_eq!(rt; refused_writes(&mut seven), after_seven);
-        assert!(rt; is_filled(&mut seven, 0, 4));
-        let four = four_failing(MemDevice::new(rt.alloc(), 1)?, lands);
-        let mut eight = four_failing(four, lands);
-        assert_eq!(rt; refused_writes(&mut eight), after_eight);
-        assert!(rt; is_filled(&mut eight, 0, 4));
+        expect_seven(&rt, MemDevice::new(rt.alloc(), 1)?, lands, after_seven);
+        expect_eight(&rt, MemDevice::new(rt.alloc(), 1)?, lands, after_eight);
     }
     Ok(())
 }
 
+// Loads a device of four blocks, and again where that was refused.
+fn load_until_done<D: Device>(rt: &impl Abort, alloc: Global, device: &mut D, k: u64) {
+    let first = loaded(alloc, device);
+    if k < 4 {
+        assert_eq!(rt; first, Err(LoadFault::Fault), "k {k}");
+        assert_eq!(rt; loaded(alloc, device), Ok(4));
+    } else {
+        assert_eq!(rt; first, Ok(4), "k {k}");
+    }
+}
+
 #[test]
 fn each_read_of_a_load_fails_in_turn(rt: HostRuntime) -> Result<(), Fail> {
-    for lands in [false, true] {
-        for k in 0..8u64 {
-            let mut device = FaultyDevice::new(MemDevice::new(rt.alloc(), 4)?, k, lands);
-            let loaded = load(rt.alloc(), &mut device);
-            if k < 4 {
-                assert_eq!(rt; loaded.err(), Some(LoadFault::Fault), "k {k}");
-                assert_eq!(rt; load(rt.alloc(), &mut device)?.len(), 4);
-            } else {
-                assert_eq!(rt; loaded?.len(), 4, "k {k}");
-            }
-        }
+    for k in 0..16u64 {
+        let device = MemDevice::new(rt.alloc(), 4)?;
+        let mut device = FaultyDevice::new(device, k / 2, k % 2 == 1);
+        load_until_done(&rt, rt.alloc(), &mut device, k / 2);
     }
     Ok(())
 }

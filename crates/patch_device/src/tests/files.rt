@@ -2,35 +2,82 @@
 use super::*;
 use std::fs::OpenOptions;
 
+fn expect_length(
+    rt: &impl Abort,
+    files: &HostRuntime,
+    path: &str,
+    length: u64,
+) -> Result<(), Fail> {
+    assert_eq!(rt; fs::metadata(files, path)?.len(), length);
+    Ok(())
+}
+
+fn expect_not_made(
+    rt: &impl Abort,
+    files: &HostRuntime,
+    path: &str,
+    blocks: u32,
+    refusal: FileRefusal,
+) {
+    let made = FileDevice::create(files, path, blocks).err();
+    assert_eq!(rt; made, Some(refusal), "{path}");
+}
+
+fn expect_not_taken(rt: &impl Abort, files: &HostRuntime, path: &str, refusal: FileRefusal) {
+    let taken = FileDevice::of(files, path).err();
+    assert_eq!(rt; taken, Some(refusal), "{path}");
+}
+
+// Writes a device of three blocks.
+fn write_each<D: Device>(rt: &impl Abort, device: &mut D) {
+    assert_eq!(rt; device.count(), 3);
+    for (n, byte) in [(2, 7), (1, 8), (2, 9)] {
+        expect_write(rt, device, n, byte, Ok(()));
+        expect_filled(rt, device, n, byte);
+    }
+    expect_write(rt, device, 3, 1, Err(DeviceRefusal::NoSuchBlock));
+    expect_unread(rt, device, 3, DeviceRefusal::NoSuchBlock);
+}
+
+fn make(rt: &impl Abort, files: &HostRuntime, path: &str) -> Result<(), Fail> {
+    let mut made = FileDevice::create(files, path, 3)?;
+    write_each(rt, &mut made);
+    Ok(())
+}
+
+fn take(rt: &impl Abort, files: &HostRuntime, path: &str) -> Result<(), Fail> {
+    let mut taken = FileDevice::of(files, path)?;
+    expect_loaded(rt, files.alloc(), &mut taken, &[0, 8, 9])
+}
+
 #[test]
 fn makes_takes_and_loads(rt: HostRuntime) -> Result<(), Fail> {
     make_folder(&rt, "patch_device_made")?;
     let path = "patch_device_made/disk";
-    let mut made = FileDevice::create(&rt, path, 3)?;
-    assert_eq!(rt; made.count(), 3);
-    for (n, byte) in [(2, 7), (1, 8), (2, 9)] {
-        assert_eq!(rt; made.write(n, &[byte; BLOCK]), Ok(()));
-        assert!(rt; is_filled(&mut made, n, byte));
-    }
-    assert_eq!(rt; made.write(3, &[1; BLOCK]), Err(DeviceRefusal::NoSuchBlock));
-    assert_eq!(rt;
-        made.read(3, &mut [1; BLOCK]),
-        Err(DeviceRefusal::NoSuchBlock)
-    );
-    drop(made);
-    assert_eq!(rt;
-        FileDevice::create(&rt, path, 1).err(),
-        Some(FileRefusal::Disk)
-    );
-    assert_eq!(rt; fs::metadata(&rt, path)?.len(), 12_288);
-    let mut taken = FileDevice::of(&rt, path)?;
-    let blocks = load(rt.alloc(), &mut taken)?;
-    assert_eq!(rt; blocks.len(), 3);
-    for (block, byte) in blocks.iter().zip([0u8, 8, 9]) {
-        assert_eq!(rt; block.as_slice(), [byte; BLOCK].as_slice());
-    }
+    make(&rt, &rt, path)?;
+    expect_not_made(&rt, &rt, path, 1, FileRefusal::Disk);
+    expect_length(&rt, &rt, path, 12_288)?;
+    take(&rt, &rt, path)?;
     fs::remove_dir_all(&rt, "patch_device_made")?;
     Ok(())
+}
+
+// A file of this length is taken as so many blocks, or not at all, and stays as it is.
+fn expect_taken(
+    rt: &impl Abort,
+    files: &HostRuntime,
+    path: &str,
+    length: u64,
+    blocks: Option<u32>,
+) -> Result<(), Fail> {
+    make_file(files, path, length)?;
+    let taken = FileDevice::of(files, path).map(|device| device.count());
+    assert_eq!(rt;
+        taken,
+        blocks.ok_or(FileRefusal::FileSize),
+        "length {length}"
+    );
+    expect_length(rt, files, path, length)
 }
 
 #[test]
@@ -38,10 +85,7 @@ fn wants_whole_blocks(rt: HostRuntime) -> Result<(), Fail> {
     make_folder(&rt, "patch_device_lengths")?;
     let path = "patch_device_lengths/disk";
     for blocks in [0, 4097, u32::MAX] {
-        assert_eq!(rt;
-            FileDevice::create(&rt, path, blocks).err(),
-            Some(FileRefusal::FileSize)
-        );
+        expect_not_made(&rt, &rt, path, blocks, FileRefusal::FileSize);
         assert!(rt; fs::metadata(&rt, path).is_err());
     }
     for (length, blocks) in [
@@ -57,18 +101,7 @@ fn wants_whole_blocks(rt: HostRuntime) -> Result<(), Fail> {
         (16_781_312, None),
         (17_179_869_184, None),
     ] {
-        make_file(&rt, path, length)?;
-        match FileDevice::of(&rt, path) {
-            Ok(device) => assert_eq!(rt; Some(device.count()), blocks, "length {length}"),
-            Err(refusal) => {
-                assert_eq!(rt;
-                    (refusal, blocks),
-                    (FileRefusal::FileSize, None),
-                    "length {length}"
-                );
-            }
-        }
-        assert_eq!(rt; fs::metadata(&rt, path)?.len(), length);
+        expect_taken(&rt, &rt, path, length, blocks)?;
     }
     fs::remove_dir_all(&rt, "patch_device_lengths")?;
     Ok(())
@@ -81,31 +114,35 @@ fn wants_a_file_that_can_be_written(rt: HostRuntime) -> Result<(), Fail> {
     // The system lets nobody write the file of a program that runs.
     for path in [
         "",
-        "patch_device_paths/none",
         "patch_device_paths",
         "patch_device_paths/file/x",
         "/proc/self/exe",
     ] {
-        assert_eq!(rt;
-            FileDevice::of(&rt, path).err(),
-            Some(FileRefusal::Disk),
-            "{path}"
-        );
-        if path != "patch_device_paths/none" {
-            assert_eq!(rt;
-                FileDevice::create(&rt, path, 1).err(),
-                Some(FileRefusal::Disk),
-                "{path}"
-            );
-        }
+        expect_not_taken(&rt, &rt, path, FileRefusal::Disk);
+        expect_not_made(&rt, &rt, path, 1, FileRefusal::Disk);
     }
-    assert_eq!(rt;
-        FileDevice::create(&rt, "patch_device_paths/no/x", 1).err(),
-        Some(FileRefusal::Disk)
-    );
-    assert_eq!(rt; fs::metadata(&rt, "patch_device_paths/file")?.len(), 4096);
+    expect_not_taken(&rt, &rt, "patch_device_paths/none", FileRefusal::Disk);
+    expect_not_made(&rt, &rt, "patch_device_paths/no/x", 1, FileRefusal::Disk);
+    expect_length(&rt, &rt, "patch_device_paths/file", 4096)?;
     fs::remove_dir_all(&rt, "patch_device_paths")?;
     Ok(())
+}
+
+fn cut(rt: &HostRuntime, path: &str, length: u64) -> Result<(), Fail> {
+    OpenOptions::new()
+        .write(true)
+        .open(rt, path)?
+        .set_len(length)?;
+    Ok(())
+}
+
+// The second of two blocks lacks a byte, until it is written.
+fn expect_cut<D: Device>(rt: &impl Abort, alloc: Global, device: &mut D) {
+    expect_filled(rt, device, 0, 0);
+    expect_unread(rt, device, 1, DeviceRefusal::Fault);
+    assert_eq!(rt; loaded(alloc, device), Err(LoadFault::Fault));
+    expect_write(rt, device, 1, 1, Ok(()));
+    assert_eq!(rt; loaded(alloc, device), Ok(2));
 }
 
 #[test]
@@ -114,15 +151,8 @@ fn answers_a_fault_where_the_file_was_cut(rt: HostRuntime) -> Result<(), Fail> {
     let path = "patch_device_cut/disk";
     make_file(&rt, path, 8192)?;
     let mut device = FileDevice::of(&rt, path)?;
-    OpenOptions::new()
-        .write(true)
-        .open(&rt, path)?
-        .set_len(8191)?;
-    assert!(rt; is_filled(&mut device, 0, 0));
-    assert_eq!(rt; device.read(1, &mut [0; BLOCK]), Err(DeviceRefusal::Fault));
-    assert_eq!(rt; load(rt.alloc(), &mut device).err(), Some(LoadFault::Fault));
-    assert_eq!(rt; device.write(1, &[1; BLOCK]), Ok(()));
-    assert_eq!(rt; load(rt.alloc(), &mut device)?.len(), 2);
+    cut(&rt, path, 8191)?;
+    expect_cut(&rt, rt.alloc(), &mut device);
     fs::remove_dir_all(&rt, "patch_device_cut")?;
     Ok(())
 }

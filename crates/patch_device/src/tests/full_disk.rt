@@ -121,36 +121,49 @@ impl Files for FullDisk<'_> {
     }
 }
 
+// Makes a file of three blocks where only so many fit.
+fn make_on_full(rt: &impl Abort, files: &HostRuntime, path: &str, blocks: u64) -> Result<(), Fail> {
+    let end = blocks.saturating_mul(4096);
+    match FileDevice::create(&FullDisk { rt: files, end }, path, 3) {
+        Ok(mut device) => {
+            expect_filled(rt, &mut device, 2, 0);
+            assert!(rt; blocks >= 3 && fs::metadata(files, path)?.len() == 12_288);
+            fs::remove_file(files, path)?;
+        }
+        Err(refusal) => {
+            assert_eq!(rt; (refusal, blocks < 3), (FileRefusal::Disk, true));
+            assert!(rt; fs::metadata(files, path).is_err());
+        }
+    }
+    Ok(())
+}
+
+// Writes a file of three blocks where only one fits.
+fn write_on_full(rt: &impl Abort, files: &HostRuntime, path: &str) -> Result<(), Fail> {
+    let mut device = FileDevice::of(
+        &FullDisk {
+            rt: files,
+            end: 4096,
+        },
+        path,
+    )?;
+    expect_write(rt, &mut device, 0, 1, Ok(()));
+    expect_write(rt, &mut device, 1, 2, Err(DeviceRefusal::Fault));
+    for (n, byte) in [(0, 1), (1, 0), (2, 0)] {
+        expect_filled(rt, &mut device, n, byte);
+    }
+    Ok(())
+}
+
 #[test]
 fn each_write_of_a_new_file_fails_in_turn(rt: HostRuntime) -> Result<(), Fail> {
     make_folder(&rt, "patch_device_full")?;
     let path = "patch_device_full/disk";
     for blocks in 0..5u64 {
-        let full = FullDisk {
-            rt: &rt,
-            end: blocks * 4096,
-        };
-        match FileDevice::create(&full, path, 3) {
-            Ok(mut device) => {
-                assert!(rt; blocks >= 3);
-                assert!(rt; is_filled(&mut device, 2, 0));
-                assert_eq!(rt; fs::metadata(&rt, path)?.len(), 12_288);
-                fs::remove_file(&rt, path)?;
-            }
-            Err(refusal) => {
-                assert_eq!(rt; (refusal, blocks < 3), (FileRefusal::Disk, true));
-                assert!(rt; fs::metadata(&rt, path).is_err());
-            }
-        }
+        make_on_full(&rt, &rt, path, blocks)?;
     }
     make_file(&rt, path, 12_288)?;
-    let full = FullDisk { rt: &rt, end: 4096 };
-    let mut device = FileDevice::of(&full, path)?;
-    assert_eq!(rt; device.write(0, &[1; BLOCK]), Ok(()));
-    assert_eq!(rt; device.write(1, &[2; BLOCK]), Err(DeviceRefusal::Fault));
-    for (n, byte) in [(0, 1), (1, 0), (2, 0)] {
-        assert!(rt; is_filled(&mut device, n, byte));
-    }
+    write_on_full(&rt, &rt, path)?;
     fs::remove_dir_all(&rt, "patch_device_full")?;
     Ok(())
 }
