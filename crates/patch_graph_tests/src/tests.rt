@@ -1,6 +1,6 @@
 //! Walks through the calls, and each allocation refused in turn.
-use patch_graph::{Added, Graph, LiveClass};
 use linked_list_allocator::LocalHeap;
+use patch_graph::{Added, Graph, LiveClass};
 use patch_model::{BlockNo, MAX_PATCHES, Mark, OutOfMemory, PatchNo, Undo};
 use std::alloc::{Allocator, Global};
 use std::process::Abort;

@@ -2,30 +2,58 @@
 ghost use Rattle.std.specs.Prelude.{◌+◌, ◌≤◌, IfOk, length};
 ghost use Rattle.patch_model.specs.Pile.{end};
 
-use crate::{BlockState, PutBackRefusal, TakeRefusal, swap_span};
+use crate::{BlockState, BlockView, PutBackRefusal, TakeRefusal, swap_span};
 use linked_list_allocator::LocalHeap;
 use patch_model::{
     BLOCK, BlockBytes, BlockNo, Bytes, Numbers, OutOfMemory, Patch, PatchNo, RefusalKind, Undo,
     pile,
 };
-use std::alloc::Global;
+use std::alloc::{Allocator, Global};
 use std::process::Abort;
 use std::test::Fail;
 
-/// A patch of at most four bytes.
+/// How it ends when a class is to be taken back.
 #[derive(Clone, Copy)]
-struct Change {
-    no: u32,
-    start: usize,
-    bytes: [u8; 4],
-    len: usize,
-    after: Option<u32>,
-    hard: bool,
+enum Taking {
+    Done,
+    Unknown,
+    InFlight,
+    Hard,
+    AlreadyTaken,
+    DependentApplied(u32),
+}
+
+fn take_answer(ending: Taking) -> Result<(), TakeRefusal> {
+    match ending {
+        Taking::Done => Ok(()),
+        Taking::Unknown => Err(TakeRefusal::Unknown),
+        Taking::InFlight => Err(TakeRefusal::InFlight),
+        Taking::Hard => Err(TakeRefusal::Hard),
+        Taking::AlreadyTaken => Err(TakeRefusal::AlreadyTaken),
+        Taking::DependentApplied(no) => Err(TakeRefusal::DependentApplied(PatchNo(no))),
+    }
+}
+
+/// How it ends when a class is to be put back.
+#[derive(Clone, Copy)]
+enum PuttingBack {
+    Done,
+    NotTaken,
+    DependencyTaken(u32),
+}
+
+fn put_back_answer(ending: PuttingBack) -> Result<(), PutBackRefusal> {
+    match ending {
+        PuttingBack::Done => Ok(()),
+        PuttingBack::NotTaken => Err(PutBackRefusal::NotTaken),
+        PuttingBack::DependencyTaken(no) => Err(PutBackRefusal::DependencyTaken(PatchNo(no))),
+    }
 }
 
 #[derive(Clone, Copy)]
-enum Deed {
-    Lay(Change),
+enum Deed<'a> {
+    /// Lays a patch of this number at this place: at most four bytes, the patch that it names, and whether it is hard.
+    Lay(u32, usize, &'a [u8], Option<u32>, bool),
     Unlay,
     Harden,
     Join(u32, u32),
@@ -35,57 +63,31 @@ enum Deed {
     JoinBy(u32, u32),
     Depart(u32),
     Land(u32),
-    Take(u32, Result<(), TakeRefusal>),
-    Back(u32, Result<(), PutBackRefusal>),
+    Take(u32, Taking),
+    Back(u32, PuttingBack),
     TakeAll,
     Restore,
 }
 
-/// A deed, and which of the first four patches are taken after it.
+/// A deed, and which patches are taken after it.
 #[derive(Clone, Copy)]
-struct Line {
-    deed: Deed,
-    out: [bool; 4],
-}
+struct Line<'a>(Deed<'a>, &'a [u32]);
 
-fn done(deed: Deed, numbers: &[u32]) -> Line {
-    let mut out = [false; 4];
-    for no in 0..4u32 {
-        out[no as usize] = numbers.contains(&no);
-    }
-    Line { deed, out }
-}
-
-fn soft(no: u32, start: usize, bytes: &[u8]) -> Line {
-    laid(no, start, bytes, None, false)
-}
-
-fn laid(no: u32, start: usize, given: &[u8], after: Option<u32>, hard: bool) -> Line {
-    let mut bytes = [0; 4];
-    let len = given.len().min(4);
-    for at in 0..len {
-        bytes[at] = given[at];
-    }
-    let patch = Change {
-        no,
-        start,
-        bytes,
-        len,
-        after,
-        hard,
-    };
-    done(Deed::Lay(patch), &[])
-}
-
-fn patch_of(alloc: Global, laid: &Change, bytes: &[u8]) -> Result<Patch, OutOfMemory>
-    requires { laid.now.start + length bytes.now ≤ BLOCK }
+fn patch_of(
+    rt: &impl Abort,
+    alloc: Global,
+    no: u32,
+    start: usize,
+    bytes: &[u8],
+) -> Result<Patch, OutOfMemory>
     ensures { IfOk result (λ p. end p ≤ BLOCK) }
 {
+    assert!(rt; start <= 100 && bytes.len() <= 4);
     let bytes = Vec::from_slice(alloc, bytes)?;
     Ok(Patch {
-        no: PatchNo(laid.no),
+        no: PatchNo(no),
         block: BlockNo(0),
-        start: laid.start,
+        start,
         bytes: Bytes::from_vec(bytes),
         after: Numbers::from_vec(Vec::new(alloc)),
         undo: Undo::Keep,
@@ -97,15 +99,13 @@ fn piled(
     rt: &impl Abort,
     alloc: Global,
     lines: &[Line],
-    out: [bool; 4],
+    out: &[u32],
 ) -> Result<BlockBytes, OutOfMemory> {
     let mut patches = Vec::new(alloc);
     for line in lines {
-        if let Deed::Lay(laid) = &line.deed {
-            let no = laid.no as usize;
-            assert!(rt; laid.start <= 100 && laid.len <= 4 && no < 4);
-            if !out[no] {
-                patches.push(patch_of(alloc, laid, &laid.bytes[..laid.len])?)?;
+        if let Deed::Lay(no, start, bytes, _, _) = &line.0 {
+            if !out.contains(no) {
+                patches.push(patch_of(rt, alloc, *no, *start, bytes)?)?;
             }
         }
     }
@@ -113,363 +113,571 @@ fn piled(
     pile(alloc, &first, &patches)
 }
 
-fn lay(rt: &impl Abort, block: &mut BlockState, laid: &Change) -> Result<(), OutOfMemory> {
-    assert!(rt; laid.start <= 100 && laid.len <= 4);
-    let bytes = &laid.bytes[..laid.len];
-    let no = PatchNo(laid.no);
-    match laid.after {
-        Some(named) => block.lay(no, laid.start, bytes, &[PatchNo(named)], laid.hard),
-        None => block.lay(no, laid.start, bytes, &[], laid.hard),
+fn lay(
+    rt: &impl Abort,
+    block: &mut BlockState,
+    no: u32,
+    start: usize,
+    bytes: &[u8],
+    after: Option<u32>,
+    hard: bool,
+) -> Result<(), OutOfMemory> {
+    assert!(rt; start <= 100 && bytes.len() <= 4);
+    match after {
+        Some(named) => block.lay(PatchNo(no), start, bytes, &[PatchNo(named)], hard),
+        None => block.lay(PatchNo(no), start, bytes, &[], hard),
     }
 }
 
-fn act(rt: &impl Abort, block: &mut BlockState, deed: &Deed) -> Result<(), Fail> {
+fn has_joint<A: Allocator + Clone>(
+    block: &BlockState<A>,
+    a: u32,
+    b: u32,
+) -> Result<bool, OutOfMemory> {
+    let joint = block.joint(PatchNo(a), PatchNo(b))?;
+    Ok(joint.is_some())
+}
+
+fn draw(block: &BlockState, a: u32, b: u32) -> Result<(), OutOfMemory> {
+    let _unused = block.joint(PatchNo(a), PatchNo(b))?;
+    Ok(())
+}
+
+fn join_by<A: Allocator + Clone>(
+    block: &mut BlockState<A>,
+    a: u32,
+    b: u32,
+) -> Result<(), OutOfMemory> {
+    let joint = block.joint(PatchNo(a), PatchNo(b))?;
+    block.join_by(joint);
+    Ok(())
+}
+
+fn expect_taken(rt: &impl Abort, answer: Result<(), TakeRefusal>, want: Result<(), TakeRefusal>) {
+    assert_eq!(rt; answer, want);
+}
+
+fn expect_back(
+    rt: &impl Abort,
+    answer: Result<(), PutBackRefusal>,
+    want: Result<(), PutBackRefusal>,
+) {
+    assert_eq!(rt; answer, want);
+}
+
+/// The first four of these bytes are the wanted ones.
+fn expect_bytes(rt: &impl Abort, bytes: &[u8], want: [u8; 4]) {
+    assert_eq!(rt; bytes.get(..4), Some(want.as_slice()));
+}
+
+fn take(rt: &impl Abort, block: &mut BlockState, no: u32, ending: Taking) {
+    expect_taken(rt, block.take(PatchNo(no)), take_answer(ending));
+}
+
+fn put_back(rt: &impl Abort, block: &mut BlockState, no: u32, ending: PuttingBack) {
+    expect_back(rt, block.put_back(PatchNo(no)), put_back_answer(ending));
+}
+
+fn act(rt: &impl Abort, block: &mut BlockState, deed: &Deed) -> Result<(), OutOfMemory> {
     match deed {
-        Deed::Lay(laid) => lay(rt, block, laid)?,
+        Deed::Lay(no, start, bytes, after, hard) => {
+            return lay(rt, block, *no, *start, bytes, *after, *hard);
+        }
+        Deed::Join(a, b) => return block.join(PatchNo(*a), PatchNo(*b)),
+        Deed::Draw(a, b) => return draw(block, *a, *b),
+        Deed::JoinBy(a, b) => return join_by(block, *a, *b),
         Deed::Unlay => block.unlay(),
         Deed::Harden => block.harden(),
-        Deed::Join(a, b) => block.join(PatchNo(*a), PatchNo(*b))?,
-        Deed::Draw(a, b) => {
-            let _unused = block.joint(PatchNo(*a), PatchNo(*b))?;
-        }
-        Deed::JoinBy(a, b) => {
-            let joint = block.joint(PatchNo(*a), PatchNo(*b))?;
-            block.join_by(joint);
-        }
         Deed::Depart(no) => block.depart(PatchNo(*no)),
         Deed::Land(no) => block.land(PatchNo(*no)),
-        Deed::Take(no, want) => assert_eq!(rt; &block.take(PatchNo(*no)), want),
-        Deed::Back(no, want) => assert_eq!(rt; &block.put_back(PatchNo(*no)), want),
+        Deed::Take(no, ending) => take(rt, block, *no, *ending),
+        Deed::Back(no, ending) => put_back(rt, block, *no, *ending),
         Deed::TakeAll => block.take_all(),
         Deed::Restore => block.put_all_back(),
     }
     Ok(())
 }
 
-fn walk(rt: &impl Abort, alloc: Global, lines: &[Line]) -> Result<(), Fail> {
-    let mut block = BlockState::of(alloc, BlockBytes::zeros(alloc)?);
+fn expect_piled(
+    rt: &impl Abort,
+    alloc: Global,
+    block: &BlockState,
+    lines: &[Line],
+    out: &[u32],
+) -> Result<(), Fail> {
+    let want = piled(rt, alloc, lines, out)?;
+    assert!(rt; block.bytes() == want.as_slice());
+    Ok(())
+}
+
+/// A line, after which the block shows the piling of the patches of those that are laid.
+fn step(
+    rt: &impl Abort,
+    alloc: Global,
+    block: &mut BlockState,
+    laid: &[Line],
+    line: &Line,
+) -> Result<(), Fail> {
+    act(rt, block, &line.0)?;
+    expect_piled(rt, alloc, block, laid, line.1)
+}
+
+fn take_steps(
+    rt: &impl Abort,
+    alloc: Global,
+    block: &mut BlockState,
+    lines: &[Line],
+) -> Result<(), Fail> {
     for at in 0..lines.len() {
-        let line = &lines[at];
-        act(rt, &mut block, &line.deed)?;
-        let want = piled(rt, alloc, &lines[..at + 1], line.out)?;
-        assert!(rt; block.bytes() == want.as_slice());
+        step(rt, alloc, block, &lines[..at + 1], &lines[at])?;
     }
     Ok(())
 }
 
+fn bare<A: Allocator + Copy>(alloc: A) -> Result<BlockState<A>, OutOfMemory> {
+    let first = BlockBytes::zeros(alloc)?;
+    Ok(BlockState::of(alloc, first))
+}
+
+fn walk(rt: &impl Abort, alloc: Global, lines: &[Line]) -> Result<(), Fail> {
+    let mut block = bare(alloc)?;
+    take_steps(rt, alloc, &mut block, lines)
+}
+
+static ONE_OVER_ANOTHER: [Line<'static>; 12] = [
+    Line(Deed::Lay(0, 0, &[0xa1, 0xa2, 0xa3, 0xa4], None, false), &[]),
+    Line(Deed::Lay(1, 2, &[0xb1, 0xb2, 0xb3, 0xb4], None, false), &[]),
+    Line(Deed::Take(0, Taking::DependentApplied(1)), &[]),
+    Line(Deed::Take(1, Taking::Done), &[1]),
+    Line(Deed::Take(0, Taking::Done), &[0, 1]),
+    Line(Deed::Back(1, PuttingBack::DependencyTaken(0)), &[0, 1]),
+    Line(Deed::Back(0, PuttingBack::Done), &[1]),
+    Line(Deed::Restore, &[]),
+    Line(Deed::Join(0, 1), &[]),
+    Line(Deed::Take(1, Taking::Done), &[0, 1]),
+    Line(Deed::Take(0, Taking::AlreadyTaken), &[0, 1]),
+    Line(Deed::Back(0, PuttingBack::Done), &[]),
+];
+
 #[test]
 fn one_over_another(rt: HostRuntime) -> Result<(), Fail> {
-    let lines = [
-        soft(0, 0, &[0xa1, 0xa2, 0xa3, 0xa4]),
-        soft(1, 2, &[0xb1, 0xb2, 0xb3, 0xb4]),
-        done(
-            Deed::Take(0, Err(TakeRefusal::DependentApplied(PatchNo(1)))),
-            &[],
-        ),
-        done(Deed::Take(1, Ok(())), &[1]),
-        done(Deed::Take(0, Ok(())), &[0, 1]),
-        done(
-            Deed::Back(1, Err(PutBackRefusal::DependencyTaken(PatchNo(0)))),
-            &[0, 1],
-        ),
-        done(Deed::Back(0, Ok(())), &[1]),
-        done(Deed::Restore, &[]),
-        done(Deed::Join(0, 1), &[]),
-        done(Deed::Take(1, Ok(())), &[0, 1]),
-        done(Deed::Take(0, Err(TakeRefusal::AlreadyTaken)), &[0, 1]),
-        done(Deed::Back(0, Ok(())), &[]),
-    ];
-    walk(&rt, rt.alloc(), &lines)
+    walk(&rt, rt.alloc(), &ONE_OVER_ANOTHER)
 }
+
+static THREE_APART: [Line<'static>; 13] = [
+    Line(Deed::Lay(0, 0, &[0xaa], None, false), &[]),
+    Line(Deed::Lay(1, 4, &[0xbb], None, false), &[]),
+    Line(Deed::Lay(2, 8, &[0xcc], None, false), &[]),
+    Line(Deed::Take(0, Taking::Done), &[0]),
+    Line(Deed::Back(2, PuttingBack::NotTaken), &[0]),
+    Line(Deed::Take(2, Taking::Done), &[0, 2]),
+    Line(Deed::Restore, &[]),
+    Line(Deed::Take(2, Taking::Done), &[2]),
+    Line(Deed::Take(0, Taking::Done), &[0, 2]),
+    Line(Deed::TakeAll, &[0, 1, 2]),
+    Line(Deed::Take(7, Taking::Unknown), &[0, 1, 2]),
+    Line(Deed::Back(7, PuttingBack::NotTaken), &[0, 1, 2]),
+    Line(Deed::Restore, &[]),
+];
 
 #[test]
 fn three_apart(rt: HostRuntime) -> Result<(), Fail> {
-    let lines = [
-        soft(0, 0, &[0xaa]),
-        soft(1, 4, &[0xbb]),
-        soft(2, 8, &[0xcc]),
-        done(Deed::Take(0, Ok(())), &[0]),
-        done(Deed::Back(2, Err(PutBackRefusal::NotTaken)), &[0]),
-        done(Deed::Take(2, Ok(())), &[0, 2]),
-        done(Deed::Restore, &[]),
-        done(Deed::Take(2, Ok(())), &[2]),
-        done(Deed::Take(0, Ok(())), &[0, 2]),
-        done(Deed::TakeAll, &[0, 1, 2]),
-        done(Deed::Take(7, Err(TakeRefusal::Unknown)), &[0, 1, 2]),
-        done(Deed::Back(7, Err(PutBackRefusal::NotTaken)), &[0, 1, 2]),
-        done(Deed::Restore, &[]),
-    ];
-    walk(&rt, rt.alloc(), &lines)
+    walk(&rt, rt.alloc(), &THREE_APART)
 }
+
+static NAMED_AND_HARD: [Line<'static>; 11] = [
+    Line(Deed::Lay(0, 0, &[0xaa], None, false), &[]),
+    Line(Deed::Lay(1, 4, &[0xbb], Some(0), false), &[]),
+    Line(Deed::Take(0, Taking::DependentApplied(1)), &[]),
+    Line(Deed::Take(1, Taking::Done), &[1]),
+    Line(Deed::Take(1, Taking::AlreadyTaken), &[1]),
+    Line(Deed::Restore, &[]),
+    Line(Deed::Lay(2, 8, &[0x11, 0x12], None, true), &[]),
+    Line(Deed::Take(2, Taking::Hard), &[]),
+    Line(Deed::Lay(3, 9, &[0x22, 0x23], None, false), &[]),
+    Line(Deed::Take(3, Taking::Done), &[3]),
+    Line(Deed::Restore, &[]),
+];
 
 #[test]
 fn named_and_hard(rt: HostRuntime) -> Result<(), Fail> {
-    let lines = [
-        soft(0, 0, &[0xaa]),
-        laid(1, 4, &[0xbb], Some(0), false),
-        done(
-            Deed::Take(0, Err(TakeRefusal::DependentApplied(PatchNo(1)))),
-            &[],
-        ),
-        done(Deed::Take(1, Ok(())), &[1]),
-        done(Deed::Take(1, Err(TakeRefusal::AlreadyTaken)), &[1]),
-        done(Deed::Restore, &[]),
-        laid(2, 8, &[0x11, 0x12], None, true),
-        done(Deed::Take(2, Err(TakeRefusal::Hard)), &[]),
-        soft(3, 9, &[0x22, 0x23]),
-        done(Deed::Take(3, Ok(())), &[3]),
-        done(Deed::Restore, &[]),
-    ];
-    walk(&rt, rt.alloc(), &lines)
+    walk(&rt, rt.alloc(), &NAMED_AND_HARD)
+}
+
+static BEFORE_A_MERGE: [Line<'static>; 6] = [
+    Line(Deed::Lay(0, 0, &[0xaa, 0xaa], None, false), &[]),
+    Line(Deed::Lay(1, 4, &[0xbb, 0xbb], None, false), &[]),
+    Line(Deed::Lay(2, 2, &[0xcc, 0xcc, 0xcc], None, false), &[]),
+    Line(Deed::Draw(0, 2), &[]),
+    Line(Deed::Take(0, Taking::Done), &[0]),
+    Line(Deed::Restore, &[]),
+];
+
+static AFTER_A_MERGE: [Line<'static>; 15] = [
+    Line(Deed::Take(1, Taking::DependentApplied(0)), &[]),
+    Line(Deed::Take(0, Taking::Done), &[0, 2]),
+    Line(Deed::Take(1, Taking::Done), &[0, 1, 2]),
+    Line(Deed::Back(2, PuttingBack::DependencyTaken(1)), &[0, 1, 2]),
+    Line(Deed::Restore, &[]),
+    Line(Deed::TakeAll, &[0, 1, 2]),
+    Line(Deed::Restore, &[]),
+    Line(Deed::Depart(1), &[]),
+    Line(Deed::Take(1, Taking::InFlight), &[]),
+    Line(Deed::Take(2, Taking::Done), &[0, 2]),
+    Line(Deed::Restore, &[]),
+    Line(Deed::Land(1), &[]),
+    Line(Deed::Take(1, Taking::Unknown), &[]),
+    Line(Deed::Take(0, Taking::Done), &[0, 2]),
+    Line(Deed::Restore, &[]),
+];
+
+/// Takes steps that lay no patch.
+fn go_on(
+    rt: &impl Abort,
+    alloc: Global,
+    block: &mut BlockState,
+    laid: &[Line],
+    lines: &[Line],
+) -> Result<(), Fail> {
+    for line in lines {
+        step(rt, alloc, block, laid, line)?;
+    }
+    Ok(())
 }
 
 /// The first and the last of three patches are made one by this deed.
-fn merge_over_a_gap(rt: &impl Abort, alloc: Global, join: Deed) -> Result<(), Fail> {
-    let lines = [
-        soft(0, 0, &[0xaa, 0xaa]),
-        soft(1, 4, &[0xbb, 0xbb]),
-        soft(2, 2, &[0xcc, 0xcc, 0xcc]),
-        done(Deed::Draw(0, 2), &[]),
-        done(Deed::Take(0, Ok(())), &[0]),
-        done(Deed::Restore, &[]),
-        done(join, &[]),
-        done(
-            Deed::Take(1, Err(TakeRefusal::DependentApplied(PatchNo(0)))),
-            &[],
-        ),
-        done(Deed::Take(0, Ok(())), &[0, 2]),
-        done(Deed::Take(1, Ok(())), &[0, 1, 2]),
-        done(
-            Deed::Back(2, Err(PutBackRefusal::DependencyTaken(PatchNo(1)))),
-            &[0, 1, 2],
-        ),
-        done(Deed::Restore, &[]),
-        done(Deed::TakeAll, &[0, 1, 2]),
-        done(Deed::Restore, &[]),
-        done(Deed::Depart(1), &[]),
-        done(Deed::Take(1, Err(TakeRefusal::InFlight)), &[]),
-        done(Deed::Take(2, Ok(())), &[0, 2]),
-        done(Deed::Restore, &[]),
-        done(Deed::Land(1), &[]),
-        done(Deed::Take(1, Err(TakeRefusal::Unknown)), &[]),
-        done(Deed::Take(0, Ok(())), &[0, 2]),
-        done(Deed::Restore, &[]),
-    ];
-    walk(rt, alloc, &lines)
+fn merge_first_and_last(
+    rt: &impl Abort,
+    alloc: Global,
+    block: &mut BlockState,
+    join: &Deed,
+) -> Result<(), Fail> {
+    take_steps(rt, alloc, block, &BEFORE_A_MERGE)?;
+    act(rt, block, join)?;
+    expect_piled(rt, alloc, block, &BEFORE_A_MERGE, &[])?;
+    go_on(rt, alloc, block, &BEFORE_A_MERGE, &AFTER_A_MERGE)
+}
+
+fn merge_over_a_gap(rt: &impl Abort, alloc: Global, join: &Deed) -> Result<(), Fail> {
+    let mut block = bare(alloc)?;
+    merge_first_and_last(rt, alloc, &mut block, join)
 }
 
 #[test]
 fn merged_over_a_gap(rt: HostRuntime) -> Result<(), Fail> {
-    merge_over_a_gap(&rt, rt.alloc(), Deed::Join(0, 2))?;
-    merge_over_a_gap(&rt, rt.alloc(), Deed::JoinBy(0, 2))?;
-    merge_over_a_gap(&rt, rt.alloc(), Deed::JoinBy(2, 0))
+    merge_over_a_gap(&rt, rt.alloc(), &Deed::Join(0, 2))?;
+    merge_over_a_gap(&rt, rt.alloc(), &Deed::JoinBy(0, 2))?;
+    merge_over_a_gap(&rt, rt.alloc(), &Deed::JoinBy(2, 0))
 }
+
+static OVER_ONE_IN_FLIGHT: [Line<'static>; 11] = [
+    Line(Deed::Lay(0, 0, &[0x11], None, false), &[]),
+    Line(Deed::Depart(0), &[]),
+    Line(Deed::Lay(1, 0, &[0x22], None, false), &[]),
+    Line(Deed::Take(1, Taking::Done), &[1]),
+    Line(Deed::Take(0, Taking::InFlight), &[1]),
+    Line(Deed::Restore, &[]),
+    Line(Deed::TakeAll, &[1]),
+    Line(Deed::Restore, &[]),
+    Line(Deed::Land(0), &[]),
+    Line(Deed::Take(0, Taking::Unknown), &[]),
+    Line(Deed::Take(1, Taking::Done), &[1]),
+];
 
 #[test]
 fn over_one_in_flight(rt: HostRuntime) -> Result<(), Fail> {
-    let lines = [
-        soft(0, 0, &[0x11]),
-        done(Deed::Depart(0), &[]),
-        soft(1, 0, &[0x22]),
-        done(Deed::Take(1, Ok(())), &[1]),
-        done(Deed::Take(0, Err(TakeRefusal::InFlight)), &[1]),
-        done(Deed::Restore, &[]),
-        done(Deed::TakeAll, &[1]),
-        done(Deed::Restore, &[]),
-        done(Deed::Land(0), &[]),
-        done(Deed::Take(0, Err(TakeRefusal::Unknown)), &[]),
-        done(Deed::Take(1, Ok(())), &[1]),
-    ];
-    walk(&rt, rt.alloc(), &lines)
+    walk(&rt, rt.alloc(), &OVER_ONE_IN_FLIGHT)
 }
+
+static UNDER_A_LATER_DURABLE_ONE: [Line<'static>; 6] = [
+    Line(Deed::Lay(1, 0, &[0xaa], Some(0), false), &[]),
+    Line(Deed::Lay(2, 4, &[0xbb], None, false), &[]),
+    Line(Deed::Depart(2), &[]),
+    Line(Deed::Land(2), &[]),
+    Line(Deed::Take(1, Taking::Done), &[1]),
+    Line(Deed::Restore, &[]),
+];
 
 #[test]
 fn under_a_later_durable_one(rt: HostRuntime) -> Result<(), Fail> {
-    let lines = [
-        laid(1, 0, &[0xaa], Some(0), false),
-        soft(2, 4, &[0xbb]),
-        done(Deed::Depart(2), &[]),
-        done(Deed::Land(2), &[]),
-        done(Deed::Take(1, Ok(())), &[1]),
-        done(Deed::Restore, &[]),
-    ];
-    walk(&rt, rt.alloc(), &lines)
+    walk(&rt, rt.alloc(), &UNDER_A_LATER_DURABLE_ONE)
 }
+
+static HARD_OVER_HARD: [Line<'static>; 7] = [
+    Line(Deed::Lay(0, 0, &[0x11], None, true), &[]),
+    Line(Deed::Lay(1, 0, &[0x22], None, true), &[]),
+    Line(Deed::Take(1, Taking::Hard), &[]),
+    Line(Deed::Back(1, PuttingBack::NotTaken), &[]),
+    Line(Deed::Lay(2, 0, &[0x33], None, false), &[]),
+    Line(Deed::TakeAll, &[2]),
+    Line(Deed::Restore, &[]),
+];
 
 #[test]
 fn hard_over_hard(rt: HostRuntime) -> Result<(), Fail> {
-    let lines = [
-        laid(0, 0, &[0x11], None, true),
-        laid(1, 0, &[0x22], None, true),
-        done(Deed::Take(1, Err(TakeRefusal::Hard)), &[]),
-        done(Deed::Back(1, Err(PutBackRefusal::NotTaken)), &[]),
-        soft(2, 0, &[0x33]),
-        done(Deed::TakeAll, &[2]),
-        done(Deed::Restore, &[]),
-    ];
-    walk(&rt, rt.alloc(), &lines)
+    walk(&rt, rt.alloc(), &HARD_OVER_HARD)
 }
+
+static TAKEN_OFF_AND_LAID_AGAIN: [Line<'static>; 13] = [
+    Line(Deed::Lay(0, 0, &[0xa1, 0xa2, 0xa3, 0xa4], None, false), &[]),
+    Line(Deed::Lay(1, 2, &[0xb1, 0xb2, 0xb3, 0xb4], None, false), &[]),
+    Line(Deed::Unlay, &[1]),
+    Line(Deed::Take(1, Taking::Unknown), &[1]),
+    Line(Deed::Lay(1, 2, &[0xb1, 0xb2, 0xb3, 0xb4], None, false), &[]),
+    Line(Deed::Take(0, Taking::DependentApplied(1)), &[]),
+    Line(Deed::Take(1, Taking::Done), &[1]),
+    Line(Deed::Restore, &[]),
+    Line(Deed::Unlay, &[1]),
+    Line(Deed::Take(0, Taking::Done), &[0, 1]),
+    Line(Deed::Restore, &[1]),
+    Line(Deed::Unlay, &[0, 1]),
+    Line(Deed::Unlay, &[0, 1]),
+];
 
 #[test]
 fn taken_off_and_laid_again(rt: HostRuntime) -> Result<(), Fail> {
-    let lines = [
-        soft(0, 0, &[0xa1, 0xa2, 0xa3, 0xa4]),
-        soft(1, 2, &[0xb1, 0xb2, 0xb3, 0xb4]),
-        done(Deed::Unlay, &[1]),
-        done(Deed::Take(1, Err(TakeRefusal::Unknown)), &[1]),
-        soft(1, 2, &[0xb1, 0xb2, 0xb3, 0xb4]),
-        done(
-            Deed::Take(0, Err(TakeRefusal::DependentApplied(PatchNo(1)))),
-            &[],
-        ),
-        done(Deed::Take(1, Ok(())), &[1]),
-        done(Deed::Restore, &[]),
-        done(Deed::Unlay, &[1]),
-        done(Deed::Take(0, Ok(())), &[0, 1]),
-        done(Deed::Restore, &[1]),
-        done(Deed::Unlay, &[0, 1]),
-        done(Deed::Unlay, &[0, 1]),
-    ];
-    walk(&rt, rt.alloc(), &lines)
+    walk(&rt, rt.alloc(), &TAKEN_OFF_AND_LAID_AGAIN)
 }
+
+static MADE_HARD_ONCE_LAID: [Line<'static>; 8] = [
+    Line(Deed::Lay(0, 0, &[0xa1, 0xa2, 0xa3, 0xa4], None, false), &[]),
+    Line(Deed::Lay(1, 2, &[0xb1, 0xb2, 0xb3, 0xb4], None, false), &[]),
+    Line(Deed::Harden, &[]),
+    Line(Deed::Take(1, Taking::Hard), &[]),
+    Line(Deed::Take(0, Taking::DependentApplied(1)), &[]),
+    Line(Deed::Lay(2, 3, &[0xcc], None, false), &[]),
+    Line(Deed::Take(2, Taking::Done), &[2]),
+    Line(Deed::Restore, &[]),
+];
 
 #[test]
 fn made_hard_once_laid(rt: HostRuntime) -> Result<(), Fail> {
-    let lines = [
-        soft(0, 0, &[0xa1, 0xa2, 0xa3, 0xa4]),
-        soft(1, 2, &[0xb1, 0xb2, 0xb3, 0xb4]),
-        done(Deed::Harden, &[]),
-        done(Deed::Take(1, Err(TakeRefusal::Hard)), &[]),
-        done(
-            Deed::Take(0, Err(TakeRefusal::DependentApplied(PatchNo(1)))),
-            &[],
-        ),
-        soft(2, 3, &[0xcc]),
-        done(Deed::Take(2, Ok(())), &[2]),
-        done(Deed::Restore, &[]),
-    ];
-    walk(&rt, rt.alloc(), &lines)
+    walk(&rt, rt.alloc(), &MADE_HARD_ONCE_LAID)
+}
+
+fn lay_one_over_another(block: &mut BlockState<&LocalHeap>) -> Result<(), OutOfMemory> {
+    block.lay(PatchNo(0), 0, &[1; 500], &[], false)?;
+    block.lay(PatchNo(1), 0, &[2; 500], &[PatchNo(0)], false)
+}
+
+fn lay_and_unlay(block: &mut BlockState<&LocalHeap>) -> Result<(), OutOfMemory> {
+    block.lay(PatchNo(2), 0, &[3; 500], &[], false)?;
+    block.unlay();
+    Ok(())
+}
+
+/// A patch made hard gives its undo bytes back.
+fn harden(rt: &impl Abort, heap: &LocalHeap, block: &mut BlockState<&LocalHeap>) {
+    let soft = heap.used();
+    block.harden();
+    assert!(rt; soft.saturating_sub(heap.used()) >= 500);
+}
+
+fn give_memory_back(
+    rt: &impl Abort,
+    heap: &LocalHeap,
+    block: &mut BlockState<&LocalHeap>,
+) -> Result<(), Fail> {
+    lay_one_over_another(block)?;
+    harden(rt, heap, block);
+    let hard = heap.used();
+    lay_and_unlay(block)?;
+    assert_eq!(rt; heap.used(), hard);
+    Ok(())
 }
 
 #[test]
 fn memory_is_given_back(rt: HostRuntime) -> Result<(), Fail> {
     let heap = LocalHeap::new(rt.alloc(), 16384)?;
-    let mut block = BlockState::of(&heap, BlockBytes::zeros(&heap)?);
+    let mut block = bare(&heap)?;
+    give_memory_back(&rt, &heap, &mut block)
+}
+
+fn lay_two_that_touch(block: &mut BlockState<&LocalHeap>) -> Result<(), OutOfMemory> {
     block.lay(PatchNo(0), 0, &[1; 500], &[], false)?;
-    block.lay(PatchNo(1), 0, &[2; 500], &[PatchNo(0)], false)?;
-    let soft = heap.used();
-    block.harden();
-    let hard = heap.used();
-    assert!(rt; soft.saturating_sub(hard) >= 500);
-    block.lay(PatchNo(2), 0, &[3; 500], &[], false)?;
-    block.unlay();
-    assert_eq!(rt; heap.used(), hard);
+    block.lay(PatchNo(1), 400, &[2; 500], &[], false)
+}
+
+/// A joint that is let go keeps no memory.
+fn draw_and_let_go(
+    rt: &impl Abort,
+    heap: &LocalHeap,
+    block: &BlockState<&LocalHeap>,
+) -> Result<(), Fail> {
+    let apart = heap.used();
+    assert!(rt; has_joint(block, 1, 0)?);
+    assert_eq!(rt; heap.used(), apart);
+    Ok(())
+}
+
+/// How much memory is used while the joint isn't in place yet.
+fn join_drawn(heap: &LocalHeap, block: &mut BlockState<&LocalHeap>) -> Result<usize, OutOfMemory> {
+    let joint = block.joint(PatchNo(0), PatchNo(1))?;
+    let drawn = heap.used();
+    block.join_by(joint);
+    Ok(drawn)
+}
+
+fn join_in_place(
+    rt: &impl Abort,
+    heap: &LocalHeap,
+    block: &mut BlockState<&LocalHeap>,
+) -> Result<(), Fail> {
+    let apart = heap.used();
+    let drawn = join_drawn(heap, block)?;
+    assert!(rt; apart < drawn && heap.used() < drawn);
+    Ok(())
+}
+
+fn expect_joined(rt: &impl Abort, block: &mut BlockState<&LocalHeap>) {
+    expect_taken(rt, block.take(PatchNo(0)), Ok(()));
+    assert_eq!(rt; &block.bytes()[399..401], [0, 0].as_slice());
+}
+
+fn take_memory_once(
+    rt: &impl Abort,
+    heap: &LocalHeap,
+    block: &mut BlockState<&LocalHeap>,
+) -> Result<(), Fail> {
+    lay_two_that_touch(block)?;
+    draw_and_let_go(rt, heap, block)?;
+    join_in_place(rt, heap, block)?;
+    expect_joined(rt, block);
     Ok(())
 }
 
 #[test]
 fn a_joint_takes_memory_once(rt: HostRuntime) -> Result<(), Fail> {
     let heap = LocalHeap::new(rt.alloc(), 16384)?;
-    let mut block = BlockState::of(&heap, BlockBytes::zeros(&heap)?);
-    block.lay(PatchNo(0), 0, &[1; 500], &[], false)?;
-    block.lay(PatchNo(1), 400, &[2; 500], &[], false)?;
-    let apart = heap.used();
-    assert!(rt; block.joint(PatchNo(1), PatchNo(0))?.is_some());
-    assert_eq!(rt; heap.used(), apart);
+    let mut block = bare(&heap)?;
+    take_memory_once(&rt, &heap, &mut block)
+}
+
+fn expect_no_joint(rt: &impl Abort, block: &BlockState, a: u32, b: u32) -> Result<(), Fail> {
+    assert!(rt; !has_joint(block, a, b)?, "{a} {b}");
+    Ok(())
+}
+
+/// A joint that is drawn up before one of its two patches is taken off.
+fn join_what_is_gone(block: &mut BlockState) -> Result<(), OutOfMemory> {
     let joint = block.joint(PatchNo(0), PatchNo(1))?;
-    let drawn = heap.used();
+    block.unlay();
     block.join_by(joint);
-    assert!(rt; apart < drawn && heap.used() < drawn);
-    assert_eq!(rt; block.take(PatchNo(0)), Ok(()));
-    assert_eq!(rt; &block.bytes()[399..401], [0, 0].as_slice());
+    Ok(())
+}
+
+fn expect_no_joints(rt: &impl Abort, block: &BlockState) -> Result<(), Fail> {
+    expect_no_joint(rt, block, 0, 0)?;
+    expect_no_joint(rt, block, 0, 7)?;
+    expect_no_joint(rt, block, 7, 0)
+}
+
+fn join_nothing(rt: &impl Abort, block: &mut BlockState) {
+    block.join_by(None);
+    expect_taken(rt, block.take(PatchNo(0)), Ok(()));
+    block.put_all_back();
+}
+
+fn join_no_classes(rt: &impl Abort, block: &mut BlockState) -> Result<(), Fail> {
+    lay(rt, block, 0, 0, &[1, 2], None, false)?;
+    lay(rt, block, 1, 2, &[3], None, false)?;
+    expect_no_joints(rt, block)?;
+    join_nothing(rt, block);
+    join_what_is_gone(block)?;
+    expect_bytes(rt, block.cached(), [1, 2, 0, 0]);
     Ok(())
 }
 
 #[test]
 fn no_joint_of_one_class(rt: HostRuntime) -> Result<(), Fail> {
-    let alloc = rt.alloc();
-    let mut block = BlockState::of(alloc, BlockBytes::zeros(alloc)?);
-    block.lay(PatchNo(0), 0, &[1, 2], &[], false)?;
-    block.lay(PatchNo(1), 2, &[3], &[], false)?;
-    assert!(rt; block.joint(PatchNo(0), PatchNo(0))?.is_none());
-    assert!(rt; block.joint(PatchNo(0), PatchNo(7))?.is_none());
-    assert!(rt; block.joint(PatchNo(7), PatchNo(0))?.is_none());
-    block.join_by(None);
-    assert_eq!(rt; block.take(PatchNo(0)), Ok(()));
-    block.put_all_back();
-    let joint = block.joint(PatchNo(0), PatchNo(1))?;
-    block.unlay();
-    block.join_by(joint);
-    assert_eq!(rt; &block.cached()[..3], [1, 2, 0].as_slice());
+    let mut block = bare(rt.alloc())?;
+    join_no_classes(&rt, &mut block)
+}
+
+fn change_view(rt: &impl Abort, view: &mut BlockView) {
+    let named = TakeRefusal::DependentApplied(PatchNo(1));
+    expect_taken(rt, view.take(PatchNo(0)), Err(named));
+    expect_taken(rt, view.take(PatchNo(1)), Ok(()));
+    expect_bytes(rt, view.bytes(), [1, 2, 3, 0]);
+    expect_back(rt, view.put_back(PatchNo(1)), Ok(()));
+    view.take_all();
+    expect_bytes(rt, view.bytes(), [0, 0, 0, 0]);
+}
+
+fn put_view_right(rt: &impl Abort, block: &mut BlockState) -> Result<(), Fail> {
+    lay(rt, block, 0, 0, &[1, 2, 3], None, false)?;
+    lay(rt, block, 1, 1, &[7], None, false)?;
+    let mut view = block.view();
+    change_view(rt, &mut view);
+    view.restore();
+    expect_bytes(rt, block.cached(), [1, 7, 3, 0]);
     Ok(())
 }
 
 #[test]
 fn a_view_is_put_right(rt: HostRuntime) -> Result<(), Fail> {
-    let alloc = rt.alloc();
-    let mut block = BlockState::of(alloc, BlockBytes::zeros(alloc)?);
-    block.lay(PatchNo(0), 0, &[1, 2, 3], &[], false)?;
-    block.lay(PatchNo(1), 1, &[7], &[], false)?;
-    let mut view = block.view();
-    let early = view.take(PatchNo(0));
-    let late = view.take(PatchNo(1));
-    let seen = view.bytes()[1];
-    let back = view.put_back(PatchNo(1));
-    view.take_all();
-    let none = view.bytes()[0];
-    view.restore();
-    assert_eq!(rt; early, Err(TakeRefusal::DependentApplied(PatchNo(1))));
-    assert_eq!(rt; (late, back), (Ok(()), Ok(())));
-    assert_eq!(rt; (seen, none), (2, 0));
-    assert_eq!(rt; &block.cached()[..3], [1, 7, 3].as_slice());
-    Ok(())
+    let mut block = bare(rt.alloc())?;
+    put_view_right(&rt, &mut block)
+}
+
+/// The kind, the code and the name of a refusal are these.
+fn expect_names(
+    rt: &impl Abort,
+    refusal: (RefusalKind, u8, &str),
+    kind: RefusalKind,
+    code: u8,
+    name: &str,
+) {
+    assert!(rt;
+        refusal.0 == kind && refusal.1 == code && refusal.2 == name,
+        "{name}"
+    );
+}
+
+fn take_names(refusal: &TakeRefusal) -> (RefusalKind, u8, &'static str) {
+    (refusal.kind(), refusal.code(), refusal.name())
+}
+
+fn put_back_names(refusal: &PutBackRefusal) -> (RefusalKind, u8, &'static str) {
+    (refusal.kind(), refusal.code(), refusal.name())
+}
+
+fn takes_have_their_names(rt: &impl Abort) {
+    let unknown = take_names(&TakeRefusal::Unknown);
+    expect_names(rt, unknown, RefusalKind::Unknown, 6, "Unknown");
+    let in_flight = take_names(&TakeRefusal::InFlight);
+    expect_names(rt, in_flight, RefusalKind::InFlight, 8, "InFlight");
+    let hard = take_names(&TakeRefusal::Hard);
+    expect_names(rt, hard, RefusalKind::Hard, 9, "Hard");
+    let taken = take_names(&TakeRefusal::AlreadyTaken);
+    expect_names(rt, taken, RefusalKind::AlreadyTaken, 10, "AlreadyTaken");
+    let named = take_names(&TakeRefusal::DependentApplied(PatchNo(3)));
+    expect_names(
+        rt,
+        named,
+        RefusalKind::DependentApplied,
+        11,
+        "DependentApplied",
+    );
+}
+
+fn put_backs_have_their_names(rt: &impl Abort) {
+    let not_taken = put_back_names(&PutBackRefusal::NotTaken);
+    expect_names(rt, not_taken, RefusalKind::NotTaken, 12, "NotTaken");
+    let named = put_back_names(&PutBackRefusal::DependencyTaken(PatchNo(3)));
+    expect_names(
+        rt,
+        named,
+        RefusalKind::DependencyTaken,
+        13,
+        "DependencyTaken",
+    );
 }
 
 #[test]
 fn refusals_have_their_names(rt: HostRuntime) {
-    let takes = [
-        (TakeRefusal::Unknown, RefusalKind::Unknown, 6, "Unknown"),
-        (TakeRefusal::InFlight, RefusalKind::InFlight, 8, "InFlight"),
-        (TakeRefusal::Hard, RefusalKind::Hard, 9, "Hard"),
-        (
-            TakeRefusal::AlreadyTaken,
-            RefusalKind::AlreadyTaken,
-            10,
-            "AlreadyTaken",
-        ),
-        (
-            TakeRefusal::DependentApplied(PatchNo(3)),
-            RefusalKind::DependentApplied,
-            11,
-            "DependentApplied",
-        ),
-    ];
-    for (refusal, kind, code, name) in takes {
-        assert!(rt;
-            refusal.kind() == kind && refusal.code() == code && refusal.name() == name,
-            "{name}"
-        );
-    }
-    let backs = [
-        (
-            PutBackRefusal::NotTaken,
-            RefusalKind::NotTaken,
-            12,
-            "NotTaken",
-        ),
-        (
-            PutBackRefusal::DependencyTaken(PatchNo(3)),
-            RefusalKind::DependencyTaken,
-            13,
-            "DependencyTaken",
-        ),
-    ];
-    for (refusal, kind, code, name) in backs {
-        assert!(rt;
-            refusal.kind() == kind && refusal.code() == code && refusal.name() == name,
-            "{name}"
-        );
-    }
+    takes_have_their_names(&rt);
+    put_backs_have_their_names(&rt);
 }
 
 #[test]
@@ -485,57 +693,73 @@ fn merge(block: &mut BlockState<&LocalHeap>, at_once: bool) -> Result<(), OutOfM
     if at_once {
         return block.join(PatchNo(0), PatchNo(1));
     }
-    let joint = block.joint(PatchNo(0), PatchNo(1))?;
-    block.join_by(joint);
-    Ok(())
+    join_by(block, 0, 1)
 }
 
-/// Lays two patches and makes them one, in a heap of this size. It tells whether all was done: after a refusal the block
-/// shows what it showed before.
-fn grow(rt: &impl Abort, heap: &LocalHeap, at_once: bool) -> Result<bool, Fail> {
-    let Ok(first) = BlockBytes::zeros(heap) else {
-        return Ok(false);
-    };
-    let mut block = BlockState::of(heap, first);
-    if block.lay(PatchNo(0), 0, &[1, 2, 3], &[], false).is_err() {
-        assert_eq!(rt; &block.cached()[..4], [0, 0, 0, 0].as_slice());
-        assert_eq!(rt; block.take(PatchNo(0)), Err(TakeRefusal::Unknown));
-        return Ok(false);
+fn expect_nothing_laid(rt: &impl Abort, block: &mut BlockState<&LocalHeap>) {
+    expect_bytes(rt, block.cached(), [0, 0, 0, 0]);
+    expect_taken(rt, block.take(PatchNo(0)), Err(TakeRefusal::Unknown));
+}
+
+fn expect_one_laid(rt: &impl Abort, block: &mut BlockState<&LocalHeap>) {
+    expect_bytes(rt, block.cached(), [1, 2, 3, 0]);
+    expect_taken(rt, block.take(PatchNo(1)), Err(TakeRefusal::Unknown));
+    expect_taken(rt, block.take(PatchNo(0)), Ok(()));
+}
+
+fn expect_two_laid(rt: &impl Abort, block: &mut BlockState<&LocalHeap>) {
+    expect_bytes(rt, block.cached(), [1, 2, 4, 5]);
+    let named = TakeRefusal::DependentApplied(PatchNo(1));
+    expect_taken(rt, block.take(PatchNo(0)), Err(named));
+}
+
+fn expect_merged(rt: &impl Abort, block: &mut BlockState<&LocalHeap>) {
+    expect_taken(rt, block.take(PatchNo(1)), Ok(()));
+    expect_bytes(rt, block.bytes(), [0, 0, 0, 0]);
+}
+
+/// Lays two patches and makes them one, and tells whether all was done: after a refusal the block shows what it showed
+/// before.
+fn grow(rt: &impl Abort, block: &mut BlockState<&LocalHeap>, at_once: bool) -> bool {
+    let first = block.lay(PatchNo(0), 0, &[1, 2, 3], &[], false);
+    if first.is_err() {
+        expect_nothing_laid(rt, block);
+        return false;
     }
-    if block
-        .lay(PatchNo(1), 2, &[4, 5], &[PatchNo(0)], false)
-        .is_err()
-    {
-        assert_eq!(rt; &block.cached()[..4], [1, 2, 3, 0].as_slice());
-        assert_eq!(rt; block.take(PatchNo(1)), Err(TakeRefusal::Unknown));
-        assert_eq!(rt; block.take(PatchNo(0)), Ok(()));
-        return Ok(false);
+    let second = block.lay(PatchNo(1), 2, &[4, 5], &[PatchNo(0)], false);
+    if second.is_err() {
+        expect_one_laid(rt, block);
+        return false;
     }
-    if merge(&mut block, at_once).is_err() {
-        assert_eq!(rt; &block.cached()[..4], [1, 2, 4, 5].as_slice());
-        assert_eq!(rt;
-            block.take(PatchNo(0)),
-            Err(TakeRefusal::DependentApplied(PatchNo(1)))
-        );
-        return Ok(false);
+    if merge(block, at_once).is_err() {
+        expect_two_laid(rt, block);
+        return false;
     }
-    assert_eq!(rt; block.take(PatchNo(1)), Ok(()));
-    assert_eq!(rt; &block.bytes()[..4], [0, 0, 0, 0].as_slice());
-    Ok(true)
+    expect_merged(rt, block);
+    true
+}
+
+/// Whether a block grows in a heap of this size.
+fn grow_in(rt: &impl Abort, alloc: Global, size: usize, at_once: bool) -> Result<bool, Fail> {
+    let heap = LocalHeap::new(alloc, size)?;
+    match bare(&heap) {
+        Ok(mut block) => Ok(grow(rt, &mut block, at_once)),
+        Err(_) => Ok(false),
+    }
+}
+
+/// How many heaps were too small, if one was large enough.
+fn count_refusals(rt: &impl Abort, alloc: Global, at_once: bool) -> Result<Option<usize>, Fail> {
+    for size in 0..600usize {
+        if grow_in(rt, alloc, 4096 + size * 16, at_once)? {
+            return Ok(Some(size));
+        }
+    }
+    Ok(None)
 }
 
 fn grow_from_nothing(rt: &impl Abort, alloc: Global, at_once: bool) -> Result<(), Fail> {
-    let mut refused = 0u32;
-    let mut done = false;
-    for size in 0..600usize {
-        let heap = LocalHeap::new(alloc, 4096 + size * 16)?;
-        if grow(rt, &heap, at_once)? {
-            done = true;
-            break;
-        }
-        refused = refused.saturating_add(1);
-    }
-    assert!(rt; done);
+    let refused = count_refusals(rt, alloc, at_once)?.unwrap_or(0);
     assert!(rt; refused > 8, "refused {refused}");
     Ok(())
 }
