@@ -12,8 +12,6 @@ mod reading;
 mod refusals;
 mod running;
 mod sending;
-#[cfg(test)]
-mod tests;
 mod views;
 mod writes;
 
