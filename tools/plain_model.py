@@ -1,9 +1,9 @@
 """What `fstch replay` answers to the lines of a script, computed from the definitions alone.
 
-Nothing here is clever or quick. A model keeps the steps that were accepted, works out anew after each of them what has
-become of every patch, and answers from that. There are no saved bytes, no forgotten patches and no counters: a block
-without some of its patches is the pile of the others over its first bytes, and what may be sent is found by striking
-out what may not. It is there to be compared with the cache, and shares nothing with it.
+Nothing here is clever or quick. A model works out after each accepted step what has become of every patch, and answers
+from that. There are no saved bytes, no forgotten patches and no counters: a block without some of its patches is the
+pile of the others over its first bytes, and what may be sent is found by striking out what may not. It is there to be
+compared with the cache, and shares nothing with it.
 
 `Model(blocks).answer(line)` answers a line that `json.loads` has read: `patch`, `merge`, `send`, `complete`, `view`,
 `show` or `disk`. The line is well formed; the reader of scripts isn't modelled.
@@ -221,7 +221,7 @@ class Create:
         number = len(state.entries)
         patch = Patch(number, self.block, self.start, self.content, self.after, self.may_drop)
         made = Entry(patch, number, Mark.MEMORY, is_made_hard(state.entries, patch))
-        return replace(state, entries=(*state.entries, made))
+        return replace(state, entries=state.entries + (made,))
 
 
 @dataclass(frozen=True)
@@ -269,12 +269,9 @@ def flying(entries, block):
     return [entry for entry in of_block(entries, block) if entry.mark is Mark.FLIGHT]
 
 
-def state_of(first, steps):
-    """What has become of everything after these steps, from no patch on."""
-    state = State((), {}, tuple(first))
-    for step in steps:
-        state = step.follow(first, state)
-    return state
+def is_full(entries):
+    """As many patches are live as may be, for which as many have to be there."""
+    return len(entries) >= MAX_LIVE and sum(entry.is_live for entry in entries) >= MAX_LIVE
 
 
 # Refusals: each list in the order of its tests, so that the first cause is told.
@@ -291,7 +288,7 @@ def check_create(blocks, entries, step):
         raise Refused("UnknownDependency")
     if len(entries) >= MAX_PATCHES:
         raise Refused("NumbersSpent")
-    if sum(entry.is_live for entry in entries) >= MAX_LIVE:
+    if is_full(entries):
         raise Refused("TooManyLive")
 
 
@@ -388,9 +385,8 @@ class Model:
     """Blocks of zeros with their patches, over a disk that is a plain list of blocks."""
 
     def __init__(self, blocks):
-        self.first = [bytes(BLOCK)] * blocks
-        self.steps = []
-        self.state = state_of(self.first, self.steps)
+        self.first = (bytes(BLOCK),) * blocks
+        self.state = State((), {}, self.first)
 
     @property
     def blocks(self):
@@ -417,8 +413,7 @@ class Model:
             return f"refused {refusal}"
 
     def accept(self, step):
-        self.steps.append(step)
-        self.state = state_of(self.first, self.steps)
+        self.state = step.follow(self.first, self.state)
 
     def patch(self, line):
         content, after = bytes.fromhex(line["hex"]), tuple(line.get("after", ()))

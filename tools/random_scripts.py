@@ -3,11 +3,12 @@
 
 Each script has some 5 to 60 lines on 1 to 4 blocks. Its patches lie in a small window, so that they overlap, and name
 each other across blocks; its views, merges, sends and completions are asked for with an eye on the model, so that many
-are accepted and some are refused. A script is run through PROGRAM and through the model, and the two texts and the exit
-status are compared. Scripts are the same for the same seed.
+are accepted and some are refused. The first script is a long one, with as many live patches as there may be. A script is
+run through PROGRAM and through the model, and the two texts and the exit status are compared. Scripts are the same for
+the same seed.
 
-Two refusals of a patch aren't reached by random scripts, since they need very long ones: TooManyLive (65,536 live
-patches) and NumbersSpent (16,777,216 patches). All others are, and one that was never reached is a failure.
+One that was never reached of the answers that a script can reach is a failure. NumbersSpent isn't among them: it takes
+16,777,216 patches, and a script has 100,000 lines at most.
 """
 
 import argparse
@@ -28,13 +29,14 @@ sys.dont_write_bytecode = True
 import plain_model
 from plain_model import BLOCK, Mark, Model, Refused
 
-SECONDS = 10
+SECONDS = 60
 DIFFERENCES_SHOWN = 5
+LONG = 1000  # lines of a script that isn't made shorter
 MOST = 2**32 - 1  # that a number of a line may be
 
 # The answers of each op that scripts must have reached, the accepted one first.
 REACHED = {
-    "patch": "patch NoSuchBlock EmptyPatch OutOfBlock UnknownDependency",
+    "patch": "patch NoSuchBlock EmptyPatch OutOfBlock UnknownDependency TooManyLive",
     "merge": "merged Unknown NotInMemory Same OtherBlock Hard Apart WouldCycle",
     "send": "sent NoSuchBlock AlreadyInFlight NothingReady",
     "complete": "durable Stranger",
@@ -232,13 +234,17 @@ class Author:
         return self.show()
 
     def view(self):
-        entries = self.model.entries
-        block = entries[self.number_made()].patch.block if entries and self.chance(0.6) else self.block()
+        block = self.block_to_view()
         takes, taken = self.takes(block)
         line = {"block": block, "take": takes, **self.span()}
         if self.chance(0.6 if taken else 0.1):
             line["back"] = self.backs(taken)
         return line
+
+    def block_to_view(self):
+        """Mostly one that has patches."""
+        entries = self.model.entries
+        return entries[self.number_made()].patch.block if entries and self.chance(0.6) else self.block()
 
     def takes(self, block):
         """Numbers to be taken, and the names that are taken by those of them that may be."""
@@ -281,6 +287,50 @@ class Author:
         if self.chance(0.3):
             return members[0]
         return next(n for n in members if is_accepted(plain_model.check_back, entries, taken, n))
+
+
+class CrowdAuthor(Author):
+    """Writes a script with as many live patches as there may be, all but a few of them on blocks that are never sent.
+
+    The last block has the few. Every line before and behind the crowd asks for that block, so the model, which goes
+    through all patches of a block and of its classes, has little to go through.
+    """
+
+    def __init__(self, seed):
+        super().__init__(seed)
+        self.model = Model(self.random.randint(8, 24))
+        self.weights["merge"] = self.drop_share = 0
+
+    def write(self):
+        self.ask_some(8)
+        while not plain_model.is_full(self.model.entries):
+            self.ask({"op": "patch", **self.crowded_patch()})
+        self.ask_some(60)
+        self.look_at_all()
+        return Script(self.model.blocks, tuple(self.lines)), self.answers
+
+    def ask_some(self, count):
+        for _ in range(count):
+            self.ask(self.line())
+
+    def crowded_patch(self):
+        block, size = self.random.randrange(self.model.blocks - 1), self.random.randint(1, 5)
+        start = self.random.randrange(BLOCK - size + 1)
+        return {"block": block, "start": start, "hex": self.random.randbytes(size).hex()}
+
+    def block(self):
+        block = super().block()
+        return self.last if block < self.last else block
+
+    @property
+    def last(self):
+        return self.model.blocks - 1
+
+    def block_to_view(self):
+        return self.block()
+
+    def send(self):
+        return {"block": self.block()}
 
 
 def is_accepted(check, *arguments):
@@ -328,16 +378,23 @@ def shrunk(program, script):
 
 
 def difference(program, script):
-    """A short script that shows it, with both answers to each line where they differ."""
-    if isinstance(given(program, script)[0], int):
+    """A short script that shows it, with both answers to each line where they differ; of a long one, those lines."""
+    is_long = len(script.lines) > LONG
+    if not is_long and isinstance(given(program, script)[0], int):
         script = shrunk(program, script)
     status, text = given(program, script)
     parts = [f"replay --blocks {script.blocks} ends with {status}"]
     rows = itertools.zip_longest(script.text().splitlines(), script.answers(), text.splitlines(), fillvalue="nothing")
-    for line, wanted, got in rows:
-        answers = [wanted] if wanted == got else [f"model    {wanted}", f"program  {got}"]
-        parts += [line, *(f"    {without_zeros(answer)}" for answer in answers)]
+    for number, (line, wanted, got) in enumerate(rows, 1):
+        if wanted != got:
+            parts += shown_line(number, line, f"model    {wanted}", f"program  {got}")
+        elif not is_long:
+            parts += shown_line(number, line, wanted)
     return "\n".join(parts)
+
+
+def shown_line(number, line, *answers):
+    return [f"line {number}: {line}", *(f"    {without_zeros(answer)}" for answer in answers)]
 
 
 def without_zeros(text):
@@ -353,7 +410,8 @@ def kind(answer):
 
 def try_script(program, seed, number):
     """Writes and compares one script: how often each kind of answer was reached, and the script if the two differ."""
-    script, answers = Author(f"{seed} {number}").write()
+    author = CrowdAuthor if number == 0 else Author
+    script, answers = author(f"{seed} {number}").write()
     kinds = collections.Counter((line["op"], kind(answer)) for line, answer in zip(script.lines, answers))
     return kinds, script if program and differs(program, script, answers) else None
 
