@@ -15,9 +15,7 @@ pub mod Crashing
 pub mod Creations
 pub mod Stepping
 pub mod Mergers
-pub mod Naming
-pub mod Marking
-pub mod Apart
+pub mod Departing
 pub mod Writing
 pub mod Refusing
 pub mod Underway

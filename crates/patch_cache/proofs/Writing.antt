@@ -2,7 +2,7 @@
 use Rattle.std.proofs.Common.{◌≡◌, ℕ, ◌<◌, ◌∙◌, inl, inr, Bool, false, List, [], ◌∷◌, length, length-set, get_or, set, filter, refl, sym, ap, arith, subst, Option, Some, None}
 use Rattle.std.specs.Prelude.{◌==◌, ◌≢◌, not, count_by, Contains}
 use Rattle.std.specs.List.{list_any}
-use Rattle.std.proofs.lemmas.Bool.{cases_Bool, eqb-true, eqb-false}
+use Rattle.std.proofs.lemmas.Bool.{cases_Bool, eqb-true, eqb-false, ne_eqb}
 use Rattle.std.proofs.lemmas.List.{get_or-set_same, get_or-set_other}
 use Rattle.std.proofs.lemmas.List.Elements.{Contains-append_left, Contains-append_right}
 use Rattle.std.proofs.lemmas.List.Folds.{list_any-append}
@@ -19,7 +19,6 @@ use Rattle.patch_graph.specs.State.{Graph}
 use Rattle.patch_graph.specs.Meaning.{Represents as IsGraphOf}
 use Rattle.patch_cache.specs.Contents.{Contents, Write, no_block}
 use Rattle.patch_cache.specs.Meaning.{Represents, IsWriteOf}
-use Rattle.patch_cache.proofs.Apart.{other_number}
 
 -- what is known of an execution's new step, which is of the one block
 pub record IsStepOf (run : Execution) (step : Step) (block : ℕ) : Type 0 where
@@ -78,7 +77,7 @@ pub sent_other : (run : Execution) (block other : ℕ) (w : Option Write) → st
     → numbers_of (flying_of (entries_of (extended run (Send block))) other) ≡ numbers_of (flying_of (entries_of run) other)
     → IsWriteOf run other w → IsWriteOf (extended run (Send block)) other w
 sent_other run block other None state differ same is =
-    let apart : (block == other) ≡ false = other_number block other (λ e. differ (sym e)) in
+    let apart : (block == other) ≡ false = ne_eqb block other (λ e. differ (sym e)) in
     ap (λ st. has_flight st other) state ∙ list_any-append (λ f. f.0 == other) (state_of run).flights ((block, (state_of run).sends) ∷ []) ∙ rw (is, apart) refl
 sent_other run block other (Some write) state differ same is = (
   subst (λ fs. Contains fs (other, write.number)) (sym (ap (λ st. st.flights) state))
@@ -108,7 +107,7 @@ pub landed_other : (run : Execution) (block other : ℕ) (w : Option Write) → 
 landed_other run block other None state differ same is =
     ap (λ st. has_flight st other) state ∙ still_none other (λ f. not (f.0 == block)) (state_of run).flights is
 landed_other run block other (Some write) state differ same is =
-    let apart : (other == block) ≡ false = other_number other block differ in
+    let apart : (other == block) ≡ false = ne_eqb other block differ in
     let kept : In (filter (λ f. not (f.0 == block)) (state_of run).flights) (other, write.number) =
     In-filter (λ f. not (f.0 == block)) (state_of run).flights (other, write.number) (In-from_Contains _ _ is.0) (ap not apart) in (
       subst (λ fs. Contains fs (other, write.number)) (sym (ap (λ st. st.flights) state)) (Contains-from_In _ _ kept),

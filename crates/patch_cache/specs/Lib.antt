@@ -2,7 +2,6 @@ pub mod Contents
 pub mod Meaning
 pub mod Opening
 pub mod Refusals
-pub mod Marking
 pub mod Flights
 pub mod Viewing
 pub mod Lending

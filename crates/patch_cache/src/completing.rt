@@ -1,23 +1,15 @@
 //! How a write of a block ends.
-ghost use Rattle.std.specs.Prelude.{◌≡◌, ◌++◌, ◌∷◌, List, [], Some, None, fold, IfOk, IfErr, OnOk, OnErr, Contains};
-ghost use Rattle.patch_model.specs.declared.patches.Mark.TheVariants.{Durable};
-ghost use Rattle.patch_model.specs.Entry.{Entry};
+ghost use Rattle.std.specs.Prelude.{◌≡◌, ◌++◌, ◌∷◌, [], Some, None, IfOk, IfErr, OnOk, OnErr, Contains};
 ghost use Rattle.patch_model.specs.Execution.{Execution, extended};
 ghost use Rattle.patch_model.specs.Step.{Complete};
-ghost use Rattle.patch_model.specs.State.{entries_of, state_of, flying_of, numbers_of, own_names};
-ghost use Rattle.patch_model.specs.History.{History};
-ghost use Rattle.patch_view.specs.History.{with_mark};
-ghost use Rattle.patch_view.specs.Meaning.{Represents as IsBlockOf};
-ghost use Rattle.patch_graph.specs.Meaning.{Represents as IsGraphOf};
+ghost use Rattle.patch_model.specs.State.{entries_of, state_of, flying_of, numbers_of};
 ghost use Rattle.patch_cache.specs.Meaning.{Represents};
 ghost use Rattle.patch_cache.specs.Flights.{IsWithdrawn};
-ghost use Rattle.patch_cache.specs.Marking.{AreOfLive, MayLandEach};
 
 use crate::caches::Cache;
 use crate::writes::{Done, Landed, Write};
-use patch_graph::Graph;
-use patch_model::{BlockNo, PatchNo, Step, laws as model_laws};
-use patch_view::{BlockState, laws as view_laws};
+use patch_model::{BlockNo, Step, laws as model_laws};
+use patch_view::laws as view_laws;
 use std::alloc::Allocator;
 
 impl<A: Allocator + Copy> Cache<A> {
@@ -42,9 +34,6 @@ impl<A: Allocator + Copy> Cache<A> {
         model_laws::flights_are_ready();
         model_laws::flights_are_single();
         model_laws::patches_are_placed();
-        model_laws::classes_have_names();
-        view_laws::flights_may_land();
-        view_laws::class_by_class();
         view_laws::steps_on_a_block();
         let Some(write) = withdraw(&mut self.writes, landed.block, landed.number) else {
             return Err(landed);
@@ -52,7 +41,7 @@ impl<A: Allocator + Copy> Cache<A> {
         let Landed { block, number: _ } = landed;
         let numbers = write.numbers;
         let state = &mut self.blocks[block.0 as usize];
-        land_each(state, &self.graph, numbers.as_slice());
+        state.land_each();
         self.graph.mark_durable(block);
         let live = self.live as usize;
         self.live = live.saturating_sub(numbers.as_slice().len()) as u32;
@@ -80,17 +69,5 @@ fn withdraw<A: Allocator>(
             }
         }
         None => None,
-    }
-}
-
-/// Makes durable each class that one of the numbers names.
-fn land_each<A: Allocator + Copy>(state: &mut BlockState<A>, graph: &Graph<A>, numbers: &[PatchNo])
-    ensures { (h : History) (all : List Entry) → IsBlockOf state.old [] h → IsGraphOf graph.now all → AreOfLive all numbers.now → MayLandEach h (own_names all numbers.now)
-        → IsBlockOf state.new [] (fold (λ k c. with_mark k Durable c) h (own_names all numbers.now)) }
-{
-    for no in numbers {
-        if graph.class_of(*no) == Some(*no) {
-            state.land(*no);
-        }
     }
 }

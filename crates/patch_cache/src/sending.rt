@@ -1,27 +1,22 @@
 //! How a write of a block begins.
-ghost use Rattle.std.specs.Prelude.{◌≡◌, ◌<◌, ◌≤◌, ◌++◌, ◌∷◌, List, [], Some, None, length, fold, option_map, vec_len, vec_capacity, IfOk, IfErr, IsNone, OnOk, OnErr};
+ghost use Rattle.std.specs.Prelude.{◌≡◌, ◌<◌, ◌≤◌, ◌++◌, ◌∷◌, [], Some, None, length, option_map, vec_len, vec_capacity, IfOk, IfErr, IsNone, OnOk, OnErr};
 ghost use Rattle.patch_model.specs.declared.blocks.TheConstants.{BLOCK};
-ghost use Rattle.patch_model.specs.declared.patches.Mark.TheVariants.{Flight as Flying};
-ghost use Rattle.patch_model.specs.Entry.{Entry};
 ghost use Rattle.patch_model.specs.Execution.{Execution, extended};
 ghost use Rattle.patch_model.specs.Refusing.{why_not_sent as the_cause};
 ghost use Rattle.patch_model.specs.Ready.{ready};
 ghost use Rattle.patch_model.specs.Step.{Send};
-ghost use Rattle.patch_model.specs.State.{entries_of, numbers_of, own_names};
+ghost use Rattle.patch_model.specs.State.{entries_of, numbers_of};
 ghost use Rattle.patch_model.specs.History.{History, HoldsDependents, without};
-ghost use Rattle.patch_view.specs.History.{with_mark, undoable_classes};
+ghost use Rattle.patch_view.specs.History.{undoable_classes};
 ghost use Rattle.patch_view.specs.Meaning.{Represents as IsBlockOf};
-ghost use Rattle.patch_graph.specs.Meaning.{Represents as IsGraphOf};
 ghost use Rattle.patch_cache.specs.Contents.{write_at};
 ghost use Rattle.patch_cache.specs.Meaning.{Represents};
 ghost use Rattle.patch_cache.specs.Flights.{IsSent};
-ghost use Rattle.patch_cache.specs.Marking.{AreOfLive, MayDepart};
 ghost use Rattle.patch_cache.specs.Refusals.{send_cause, IsCause};
 
 use crate::caches::Cache;
 use crate::refusals::SendRefusal;
 use crate::writes::{Flight, Write};
-use patch_graph::Graph;
 use patch_model::{
     BLOCK, BlockBytes, BlockNo, Numbers, OutOfMemory, PatchNo, Step, laws as model_laws,
 };
@@ -92,7 +87,6 @@ impl<A: Allocator + Copy> Cache<A> {
         model_laws::ready_is_largest();
         model_laws::sends_leave();
         view_laws::blocks_are_coherent();
-        view_laws::class_by_class();
         view_laws::image_is_without();
         view_laws::steps_on_a_block();
         let noted = Numbers::from_vec(Vec::from_slice(self.alloc, numbers.as_slice())?);
@@ -100,7 +94,7 @@ impl<A: Allocator + Copy> Cache<A> {
         self.trace.reserve(self.under_way + 2)?;
         let at = block.0 as usize;
         let state = &mut self.blocks[at];
-        depart_each(state, &self.graph, numbers.as_slice());
+        state.depart_each(numbers.as_slice());
         self.graph.mark_flight(block);
         copy_image(state, &mut image);
         let number = self.sends;
@@ -117,22 +111,6 @@ impl<A: Allocator + Copy> Cache<A> {
             numbers: Numbers::from_vec(numbers),
             image: BlockBytes::from_vec(image),
         })
-    }
-}
-
-/// Puts in flight each class that one of the numbers names.
-fn depart_each<A: Allocator + Copy>(
-    state: &mut BlockState<A>,
-    graph: &Graph<A>,
-    numbers: &[PatchNo],
-)
-    ensures { (h : History) (all : List Entry) → IsBlockOf state.old [] h → IsGraphOf graph.now all → AreOfLive all numbers.now → MayDepart h (own_names all numbers.now)
-        → IsBlockOf state.new [] (fold (λ k c. with_mark k Flying c) h (own_names all numbers.now)) }
-{
-    for no in numbers {
-        if graph.class_of(*no) == Some(*no) {
-            state.depart(*no);
-        }
     }
 }
 

@@ -1,7 +1,7 @@
--- What is among some numbers, and among those of them that pass a test.
-use Rattle.std.proofs.Common.{◌≡◌, ℕ, ◌∙◌, inl, inr, Bool, true, false, List, [], ◌∷◌, map, refl, sym, ap, arith, subst}
-use Rattle.std.specs.Prelude.{◌==◌, ◌&&◌, filter}
-use Rattle.std.proofs.lemmas.Bool.{cases_Bool, and_right}
+-- What is among some numbers.
+use Rattle.std.proofs.Common.{◌≡◌, ℕ, inl, inr, true, false, List, [], ◌∷◌, map, refl, ap, arith, subst}
+use Rattle.std.specs.Prelude.{◌==◌}
+use Rattle.std.proofs.lemmas.Bool.{cases_Bool}
 use Rattle.std.proofs.lemmas.Bool.Decides.{nat_tests}
 use Rattle.patch_model.specs.Entry.{is_among}
 use Rattle.patch_model.specs.Member.{In, list_any-at, list_any-from}
@@ -24,18 +24,3 @@ pub among_map-from : {X : Type 0} → (f : X → ℕ) (xs : List X) (x : X) → 
 among_map-from f [] x i = absurd i
 among_map-from f (y ∷ ys) x (inl e) = let same : f y ≡ f x = ap f e in let u : (f y == f x) ≡ true = grind (arith, nat_tests) in rw u refl
 among_map-from f (y ∷ ys) x (inr i) = elim (cases_Bool (f y == f x)) [ inl u ↦ rw u refl | inr u ↦ rw u (among_map-from f ys x i) ]
-
-pub among-filter : (p : ℕ → Bool) (numbers : List ℕ) (n : ℕ) → is_among (filter p numbers) n ≡ (is_among numbers n && p n)
-among-filter p [] n = refl
-among-filter p (m ∷ ms) n =
-    let rest : is_among (filter p ms) n ≡ (is_among ms n && p n) = among-filter p ms n in
-    elim (cases_Bool (m == n)) [
-      | inl u ↦
-          let same : m ≡ n = grind (arith, nat_tests) in
-          let alike : p m ≡ p n = ap p same in
-          elim (cases_Bool (p n)) [
-            | inl v ↦ rw (alike ∙ v, u, v) refl
-            | inr v ↦ rw (alike ∙ v, u) (rest ∙ and_right (is_among ms n) (p n) v ∙ sym v)
-          ]
-      | inr u ↦ elim (cases_Bool (p m)) [ inl v ↦ rw (v, u) rest | inr v ↦ rw (v, u) rest ]
-    ]

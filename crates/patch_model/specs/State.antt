@@ -85,7 +85,3 @@ flying_of all block = filter (λ e. is_flight e && e.patch.block == block) all
 -- the numbers of some patches
 abbrev pub numbers_of : List Entry → List ℕ
 numbers_of patches = map (λ e. e.patch.no) patches
-
--- of these numbers, those that name their class
-abbrev pub own_names : List Entry → List ℕ → List ℕ
-own_names all numbers = filter (λ n. class_of all n == n) numbers

@@ -1,7 +1,7 @@
 //! Laws of the definitions. Each is the contract of a function that does nothing: who calls it may rest on the law.
 ghost use Rattle.std.specs.Prelude.{ℕ, ◌≡◌, ◌≢◌, ◌<◌, ◌≤◌, ◌+◌, ◌++◌, ◌∷◌, ◌==◌, ◌&&◌, ◌↔◌, [], IsTrue, IsFalse, None, List, Contains, All, count_by, length, map, slice_set};
 ghost use Rattle.std.specs.List.{list_any};
-ghost use Rattle.std.specs.List.Sorted.{IsStrictlyIncreasing};
+ghost use Rattle.std.specs.List.Sorted.{IsNonDecreasing};
 ghost use Rattle.patch_model.specs.declared.patches.Undo.{Undo};
 ghost use Rattle.patch_model.specs.Patch.{Patch};
 ghost use Rattle.patch_model.specs.Step.{Step, Create, Merge, Send, Complete};
@@ -10,7 +10,7 @@ ghost use Rattle.patch_model.specs.Execution.{Execution, extended, followed_by};
 ghost use Rattle.patch_model.specs.Entry.{Entry, is_memory, is_flight, is_live, is_among, in_memory_of};
 ghost use Rattle.patch_model.specs.Dependency.{shares_byte, depends_directly, Path, has_live};
 ghost use Rattle.patch_model.specs.Ready.{IsLargestWritable, IsRising, has, ready};
-ghost use Rattle.patch_model.specs.State.{fresh, class_of, joined, sent, landed, has_flight, after_step, state_of, entries_of, next_patch, flying_of, numbers_of, own_names};
+ghost use Rattle.patch_model.specs.State.{fresh, class_of, joined, sent, landed, has_flight, after_step, state_of, entries_of, next_patch, flying_of, numbers_of};
 ghost use Rattle.patch_model.specs.Legal.{IsLegal, IsLegalStep, IsLegalCreate, IsLegalMerge, block_at, touch};
 ghost use Rattle.patch_model.specs.Refusing.{IsBetween, why_not_made, why_not_near, why_not_sent};
 ghost use Rattle.patch_model.specs.History.{History, of_block, history_of, without, image, HoldsDependents, holds_dependents};
@@ -218,20 +218,11 @@ pub fn near_classes_merge()
         ↔ ((block < length run.first) × IsLegalStep (length run.first) (state_of run) (Send block)) }
 {}
 
-/// Of the numbers of what is ready of a block, and of what is in flight of it, those that name their class name each class
-/// of it, and each once.
+/// The numbers of what is ready of a block rise, and name its classes: a class is ready where its name is one of them.
 pub fn classes_have_names()
+    ensures rising { (run : Execution) (block : ℕ) → IsNonDecreasing (numbers_of (ready (entries_of run) block)) }
     ensures ready { (run : Execution) (block : ℕ) (e : Entry) → IsLegal run → Contains (entries_of run) e
-        → is_among (own_names (entries_of run) (numbers_of (ready (entries_of run) block))) e.class
-        ≡ has (ready (entries_of run) block) e }
-    ensures flying { (run : Execution) (block : ℕ) (e : Entry) → IsLegal run → Contains (entries_of run) e
-        → e.patch.block ≡ block
-        → is_among (own_names (entries_of run) (numbers_of (flying_of (entries_of run) block))) e.class ≡ is_flight e }
-    ensures own { (run : Execution) (n : ℕ) (numbers : List ℕ)
-        → is_among (own_names (entries_of run) numbers) n ≡ (is_among numbers n && (class_of (entries_of run) n == n)) }
-    ensures apart { (run : Execution) (block : ℕ) → IsLegal run
-        → IsStrictlyIncreasing (own_names (entries_of run) (numbers_of (ready (entries_of run) block)))
-        × IsStrictlyIncreasing (own_names (entries_of run) (numbers_of (flying_of (entries_of run) block))) }
+        → is_among (numbers_of (ready (entries_of run) block)) e.class ≡ has (ready (entries_of run) block) e }
 {}
 
 /// The classes of a legal merge may be joined, as the patches of their block alone show.

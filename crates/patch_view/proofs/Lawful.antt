@@ -5,13 +5,10 @@ use Rattle.std.specs.List.{AllByRecursion}
 use Rattle.std.proofs.lemmas.Bool.{or_cases, or_left, or_right, cases_eq, eqb-true, eq-eqb}
 use Rattle.patch_model.specs.declared.patches.Mark.{Mark}
 use Rattle.patch_model.specs.declared.patches.Mark.TheVariants.{Memory, Flight, Durable}
-use Rattle.patch_model.specs.Entry.{Entry, is_among, is_flight, is_memory, marks_memory, marks_flight, marks_durable}
-use Rattle.patch_model.specs.Dependency.{depends_directly}
+use Rattle.patch_model.specs.Entry.{Entry, is_among, is_flight, marks_memory, marks_flight, marks_durable}
 use Rattle.patch_model.specs.Ready.{IsRising}
 use Rattle.patch_model.specs.Member.{In, In-from_Contains, Contains-from_In}
-use Rattle.patch_view.specs.History.{re_marked}
-use Rattle.patch_view.specs.Laws.{OrderlyIsCoherent, LastIsNext, FlightMayLand, OthersMayLand, UppermostMayBeTaken}
-use Rattle.patch_view.proofs.Marking.{In-map, is_marking, marked-in, marked-out}
+use Rattle.patch_view.specs.Laws.{OrderlyIsCoherent, LastIsNext, FlightMayLand, UppermostMayBeTaken}
 
 durable-not_memory : (m : Mark) → marks_durable m ≡ true → marks_memory m ≡ false
 durable-not_memory Memory t = absurd (cc)
@@ -58,22 +55,6 @@ flight_may_land h block e o i flying = record {
       elim ((o.orderly.under f g (Contains-from_In h.entries f j) (Contains-from_In h.entries g k) d).flight flies) [
         | inl t ↦ durable-not_memory g.mark t
         | inr t ↦ flight-not_memory g.mark t.0
-      ];
-}
-
-pub others_may_land : OthersMayLand
-others_may_land h c d may apart = record {
-  flying = λ y i is. let q = In-map (re_marked Durable d) h.entries y i in
-      let of : q.0.class ≡ c = sym ((is_marking Durable d).class q.0) ∙ ap (λ z. z.class) q.2 ∙ is in
-      ap is_flight (sym q.2 ∙ marked-out Durable d q.0 (λ z. apart (sym of ∙ z))) ∙ may.flying q.0 q.1 of;
-  first = λ y z i j is goes. let q = In-map (re_marked Durable d) h.entries y i in let s = In-map (re_marked Durable d) h.entries z j in
-      let of : q.0.class ≡ c = sym ((is_marking Durable d).class q.0) ∙ ap (λ k. k.class) q.2 ∙ is in
-      let went : depends_directly q.0.patch s.0.patch ≡ true =
-      ap (λ k. depends_directly k s.0.patch) (sym ((is_marking Durable d).patch q.0) ∙ ap (λ k. k.patch) q.2)
-      ∙ ap (λ k. depends_directly y.patch k) (sym ((is_marking Durable d).patch s.0) ∙ ap (λ k. k.patch) s.2) ∙ goes in
-      elim (cases_eq s.0.class d) [
-        | inl same ↦ ap is_memory (sym s.2) ∙ ap marks_memory (marked-in Durable d s.0 same)
-        | inr other ↦ ap is_memory (sym s.2 ∙ marked-out Durable d s.0 other) ∙ may.first q.0 s.0 q.1 s.1 of went
       ];
 }
 

@@ -18,5 +18,6 @@ pub mod Rotating
 pub mod Gathering
 pub mod Lawful
 pub mod Sweeping
+pub mod Together
 pub mod Stepping
 pub mod Leaving

@@ -1,11 +1,9 @@
 -- What the steps of an execution make of one block's history.
-use Rattle.std.proofs.Common.{◌≡◌, ℕ, ◌∙◌, true, false, Bool, inl, inr, List, [], ◌∷◌, ◌++◌, map, refl, sym, ap}
-use Rattle.std.specs.Prelude.{◌==◌, ◌&&◌, not, nat_le, fold, length, slice_index_or, if◌then◌else◌}
+use Rattle.std.proofs.Common.{◌≡◌, ℕ, ◌∙◌, true, false, inl, inr, List, [], ◌∷◌, ◌++◌, map, refl, sym, ap}
+use Rattle.std.specs.Prelude.{◌==◌, ◌&&◌, not, nat_le, length, slice_index_or, if◌then◌else◌}
 use Rattle.std.specs.List.{list_any}
 use Rattle.std.proofs.lemmas.Bool.{cases_Bool, and_parts, and_from, or_left, or_right, eqb-true, eq-eqb}
 use Rattle.std.proofs.lemmas.List.Sums.{fold-append}
-use Rattle.patch_model.specs.declared.patches.Mark.{Mark}
-use Rattle.patch_model.specs.declared.patches.Mark.TheVariants.{Flight, Durable}
 use Rattle.patch_model.specs.Pile.{end}
 use Rattle.patch_model.specs.Step.{Step, Create, Merge, Send, Complete}
 use Rattle.patch_model.specs.Entry.{Entry, is_among, is_flight}
@@ -15,8 +13,7 @@ use Rattle.patch_model.specs.Ready.{has, ready}
 use Rattle.patch_model.specs.State.{joined, sent, landed, class_of, entries_of, state_of, after_step, at_first, fresh}
 use Rattle.patch_model.specs.Member.{In, In-from_Contains, Contains-from_In, In-filter, filter-In, list_any-at, list_any-from}
 use Rattle.patch_model.specs.History.{History, history_of, of_block}
-use Rattle.patch_view.specs.History.{with_mark, re_marked}
-use Rattle.patch_view.specs.Steps.{AfterCreate, AfterMerge, AfterSend, AfterComplete, DepartedOneByOne, LandedOneByOne, JoinedOnBlock}
+use Rattle.patch_view.specs.Steps.{AfterCreate, AfterMerge, AfterSend, AfterComplete, JoinedOnBlock}
 use Rattle.patch_view.proofs.Joining.{joined-patch}
 
 -- a change that leaves each patch as it is, and the patches of one block
@@ -50,7 +47,7 @@ one_more run step = fold-append after_step at_first run.steps (step ∷ [])
 pub sent-patch : (set : List Entry) (e : Entry) → (sent set e).patch ≡ e.patch
 sent-patch set e = elim (cases_Bool (has set e)) [ inl t ↦ rw t refl | inr t ↦ rw t refl ]
 
-landed-patch : (block : ℕ) (e : Entry) → (landed block e).patch ≡ e.patch
+pub landed-patch : (block : ℕ) (e : Entry) → (landed block e).patch ≡ e.patch
 landed-patch block e = elim (cases_Bool (is_flight e && e.patch.block == block)) [ inl t ↦ rw t refl | inr t ↦ rw t refl ]
 
 -- a step that changes no patch
@@ -81,61 +78,6 @@ after_send run block at = changed-by run (Send at) block (sent (ready (entries_o
 
 pub after_complete : AfterComplete
 after_complete run block at = changed-by run (Complete at) block (landed at) (landed-patch at) refl
-
--- with the marks of the classes of these names
-with_marks : Mark → List ℕ → Entry → Entry
-with_marks m names e = if is_among names e.class then record e { mark = m } else e
-
-map-same : {X Y : Type 0} (f g : X → Y) (xs : List X) → ((x : X) → In xs x → f x ≡ g x) → map f xs ≡ map g xs
-map-same f g [] same = refl
-map-same f g (x ∷ xs) same = ap (λ y. y ∷ map f xs) (same x (inl refl)) ∙ ap (λ ys. g x ∷ ys) (map-same f g xs (λ y i. same y (inr i)))
-
-map-twice : {X Y Z : Type 0} (f : Y → Z) (g : X → Y) (xs : List X) → map f (map g xs) ≡ map (λ x. f (g x)) xs
-map-twice f g [] = refl
-map-twice f g (x ∷ xs) = ap (λ ys. f (g x) ∷ ys) (map-twice f g xs)
-
-map-none : (es : List Entry) → map (λ e. e) es ≡ es
-map-none [] = refl
-map-none (e ∷ es) = ap (λ z. e ∷ z) (map-none es)
-
-mark-more : (m : Mark) (c : ℕ) (names : List ℕ) (e : Entry) → with_marks m names (re_marked m c e) ≡ with_marks m (c ∷ names) e
-unfolding with_marks
-mark-more m c names e = elim (cases_Bool (e.class == c)) [
-  | inl t ↦ let u : (c == e.class) ≡ true = eq-eqb _ _ (sym (eqb-true _ _ t)) in
-      elim (cases_Bool (is_among names e.class)) [ inl v ↦ rw (t, u, v) refl | inr v ↦ rw (t, u, v) refl ]
-  | inr t ↦ let u : (c == e.class) ≡ false = eqb-flip c e.class t in
-      elim (cases_Bool (is_among names e.class)) [ inl v ↦ rw (t, u, v) refl | inr v ↦ rw (t, u, v) refl ]
-]
-  where
-    eqb-flip : (a b : ℕ) → (b == a) ≡ false → (a == b) ≡ false
-    eqb-flip a b f = elim (cases_Bool (a == b)) [ inl t ↦ let u : (b == a) ≡ true = eq-eqb _ _ (sym (eqb-true _ _ t)) in absurd (cc) | inr t ↦ t ]
-
-marked-together : (m : Mark) (names : List ℕ) (h : History)
-    → fold (λ k c. with_mark k m c) h names ≡ record h { entries = map (with_marks m names) h.entries }
-unfolding with_marks
-marked-together m [] h = ap (λ es. let k : History = record h { entries = es } in k) (sym (map-none h.entries))
-marked-together m (c ∷ names) h =
-    marked-together m names (with_mark h m c)
-    ∙ ap (λ es. let k : History = record h { entries = es } in k)
-    (map-twice (with_marks m names) (re_marked m c) h.entries ∙ map-same _ (with_marks m (c ∷ names)) h.entries (λ e i. mark-more m c names e))
-
-pub departed_one_by_one : DepartedOneByOne
-unfolding with_marks
-departed_one_by_one h names set same =
-    marked-together Flight names h
-    ∙ ap (λ es. let k : History = record h { entries = es } in k) (map-same (with_marks Flight names) (sent set) h.entries (λ e i. ap (λ t. if t then record e { mark = Flight } else e) (same e i)))
-
-pub landed_one_by_one : LandedOneByOne
-unfolding with_marks
-landed_one_by_one h block names here same =
-    marked-together Durable names h
-    ∙ ap (λ es. let k : History = record h { entries = es } in k) (map-same (with_marks Durable names) (landed block) h.entries (λ e i.
-    let on : (e.patch.block == block) ≡ true = eq-eqb _ _ (here e i) in
-    ap (λ t. if t then record e { mark = Durable } else e) (same e i ∙ and_also (is_flight e) (e.patch.block == block) on)))
-  where
-    and_also : (a b : Bool) → b ≡ true → a ≡ (a && b)
-    and_also true b t = sym t
-    and_also false b t = refl
 
 -- what one block's patches show of the classes, all of them show
 depends-wider : (all : List Entry) (block a b : ℕ) → class_depends (of_block block all) a b ≡ true → class_depends all a b ≡ true

@@ -8,6 +8,7 @@ use Rattle.patch_model.specs.declared.patches.Mark.TheVariants.{Memory}
 use Rattle.patch_model.specs.Pile.{end, covers}
 use Rattle.patch_model.specs.Entry.{Entry, is_durable, is_memory, is_flight, is_among, is_undoable}
 use Rattle.patch_model.specs.Dependency.{depends_directly}
+use Rattle.patch_model.specs.Ready.{has}
 use Rattle.patch_model.specs.State.{joined}
 use Rattle.patch_model.specs.Member.{In}
 use Rattle.patch_model.specs.History.{History, pile_of}
@@ -72,6 +73,11 @@ with_mark h m c = record h { entries = map (re_marked m c) h.entries }
 pub record MayLand (h : History) (c : ℕ) : Type 0 where
   pub flying : (e : Entry) → In h.entries e → e.class ≡ c → is_flight e ≡ true
   pub first : (e f : Entry) → In h.entries e → In h.entries f → e.class ≡ c → depends_directly e.patch f.patch ≡ true → is_memory f ≡ false
+
+-- these are the classes of the set, which are in memory
+pub record MayDepart (h : History) (numbers : List ℕ) (set : List Entry) : Type 0 where
+  pub named : (e : Entry) → In h.entries e → is_among numbers e.class ≡ has set e
+  pub memory : (e : Entry) → In h.entries e → has set e ≡ true → is_memory e ≡ true
 
 -- the block's patches with two classes as one
 abbrev pub with_joined : History → ℕ → ℕ → History

@@ -1,12 +1,11 @@
 -- Laws of histories, of the sets that may be taken, and of the records that represent them.
 use Rattle.std.specs.Prelude.{ℕ, ◌≡◌, ◌≢◌, IsTrue, List, [], ◌∷◌, fold}
-use Rattle.patch_model.specs.declared.patches.Mark.TheVariants.{Durable}
 use Rattle.patch_model.specs.Entry.{Entry, is_among, is_flight, is_memory, is_live, is_undoable}
 use Rattle.patch_model.specs.Dependency.{depends_directly}
 use Rattle.patch_model.specs.History.{History, HoldsDependents, Move, moved, IsPermitted, without, image}
 use Rattle.patch_model.specs.Orderly.{IsOrderlyBlock}
 use Rattle.patch_model.specs.Member.{In}
-use Rattle.patch_view.specs.History.{IsCoherent, IsNext, MayLand, laid, with_mark, undoable_classes}
+use Rattle.patch_view.specs.History.{IsCoherent, IsNext, MayLand, laid, undoable_classes}
 use Rattle.patch_view.specs.State.{Block, outline}
 use Rattle.patch_view.specs.Meaning.{Represents}
 
@@ -29,10 +28,6 @@ LastIsNext = (h : History) (e : Entry) (block : ℕ) → IsOrderlyBlock (laid h 
 -- each class in flight of an orderly block may land
 abbrev pub FlightMayLand : Type 0
 FlightMayLand = (h : History) (block : ℕ) (e : Entry) → IsOrderlyBlock h block → In h.entries e → IsTrue (is_flight e) → MayLand h e.class
-
--- and it still may when another one has landed
-abbrev pub OthersMayLand : Type 0
-OthersMayLand = (h : History) (c d : ℕ) → MayLand h c → c ≢ d → MayLand (with_mark h Durable d) c
 
 -- an undoable class may be taken where each live class that depends directly on it is taken
 abbrev pub UppermostMayBeTaken : Type 0

@@ -1,5 +1,5 @@
 -- What one block's records look like.
-use Rattle.std.specs.Prelude.{ℕ, Bool, true, false, ◌≡◌, ◌<◌, ◌≤◌, Some, None, ◌+◌, ◌&&◌, ◌||◌, not, nat_le, nat_lt, List, [], ◌∷◌, ◌++◌, ◌⊎◌, length, take, drop, slice_range, slice_index_or, slice_set, replicate, min, max, ◌-◌, Option, position, zero, suc, map, if◌then◌else◌, IsPermutation}
+use Rattle.std.specs.Prelude.{ℕ, Bool, true, false, ◌≡◌, ◌<◌, ◌≤◌, Some, None, ◌+◌, ◌&&◌, ◌||◌, not, nat_le, nat_lt, List, [], ◌∷◌, ◌++◌, ◌⊎◌, length, take, drop, slice_range, slice_index_or, slice_set, replicate, min, max, ◌-◌, Option, position, zero, suc, map, filter, if◌then◌else◌, IsPermutation}
 use Rattle.std.specs.List.{list_any, remove, insert}
 use Rattle.patch_model.specs.Entry.{is_among}
 
@@ -149,6 +149,18 @@ departed_at b at = record b { classes = slice_set b.classes at (departed (class_
 
 abbrev pub landed_at : Block → ℕ → Block
 landed_at b at = record b { classes = remove b.classes at }
+
+-- the class in flight where one of the numbers is its name
+abbrev pub departed_among : List ℕ → Class → Class
+departed_among numbers c = if is_among numbers c.name then departed c else c
+
+-- the block with these classes in flight
+abbrev pub with_departed : Block → List ℕ → Block
+with_departed b numbers = record b { classes = map (departed_among numbers) b.classes }
+
+-- the block without the classes in flight
+abbrev pub with_landed : Block → Block
+with_landed b = record b { classes = filter (λ c. not c.flying) b.classes }
 
 -- the bytes with others laid on them
 abbrev pub laid_over : ℕ → List ℕ → List ℕ → List ℕ

@@ -1,16 +1,14 @@
 -- What the steps of an execution make of one block's history.
-use Rattle.std.specs.Prelude.{ℕ, ◌≡◌, ◌==◌, IsTrue, List, [], ◌∷◌, Contains, length, map, fold, if◌then◌else◌}
+use Rattle.std.specs.Prelude.{ℕ, ◌≡◌, ◌==◌, IsTrue, List, [], ◌∷◌, Contains, length, map, if◌then◌else◌}
 use Rattle.patch_model.specs.declared.patches.Undo.{Undo}
-use Rattle.patch_model.specs.declared.patches.Mark.TheVariants.{Flight, Durable}
-use Rattle.patch_model.specs.Entry.{Entry, is_among, is_flight}
+use Rattle.patch_model.specs.Entry.{Entry, is_among}
 use Rattle.patch_model.specs.Step.{Create, Merge, Send, Complete}
 use Rattle.patch_model.specs.Execution.{Execution, extended}
-use Rattle.patch_model.specs.Ready.{has, ready}
+use Rattle.patch_model.specs.Ready.{ready}
 use Rattle.patch_model.specs.State.{sent, landed, class_of, entries_of, is_made_hard}
-use Rattle.patch_model.specs.History.{History, HoldsDependents, history_of, of_block, without, image}
+use Rattle.patch_model.specs.History.{HoldsDependents, history_of, of_block, without, image}
 use Rattle.patch_model.specs.Orderly.{MayJoin, left_behind}
-use Rattle.patch_model.specs.Member.{In}
-use Rattle.patch_view.specs.History.{IsCoherent, laid, made, with_mark, with_joined, undoable_classes}
+use Rattle.patch_view.specs.History.{IsCoherent, laid, made, with_joined, undoable_classes}
 
 -- a patch that is made stands last in the history of its block
 abbrev pub AfterCreate : Type 0
@@ -38,21 +36,6 @@ AfterComplete =
     (run : Execution) (block at : ℕ)
     → let h = history_of run block in
     history_of (extended run (Complete at)) block ≡ record h { entries = map (landed at) h.entries }
-
--- classes put in flight one after another are in flight together
-abbrev pub DepartedOneByOne : Type 0
-DepartedOneByOne =
-    (h : History) (names : List ℕ) (set : List Entry)
-    → ((e : Entry) → In h.entries e → is_among names e.class ≡ has set e)
-    → fold (λ k c. with_mark k Flight c) h names ≡ record h { entries = map (sent set) h.entries }
-
--- and those made durable one after another are durable together
-abbrev pub LandedOneByOne : Type 0
-LandedOneByOne =
-    (h : History) (block : ℕ) (names : List ℕ)
-    → ((e : Entry) → In h.entries e → e.patch.block ≡ block)
-    → ((e : Entry) → In h.entries e → is_among names e.class ≡ is_flight e)
-    → fold (λ k c. with_mark k Durable c) h names ≡ record h { entries = map (landed block) h.entries }
 
 -- classes of one block that may be joined may be joined in its history
 abbrev pub JoinedOnBlock : Type 0

@@ -1,13 +1,14 @@
 //! What becomes of a block's records as patches are made, merged, sent and completed.
-ghost use Rattle.std.specs.Prelude.{◌≡◌, ◌+◌, ◌<◌, ◌≤◌, ◌++◌, length, [], IfOk, OnOk, OnErr, ℕ, List, true, false, IsTrue, IsFalse, IsPermutation};
+ghost use Rattle.std.specs.Prelude.{◌≡◌, ◌+◌, ◌<◌, ◌≤◌, length, map, [], IfOk, OnOk, OnErr, ℕ, List, true, false, IsTrue, IsFalse};
 ghost use Rattle.std.specs.List.Sorted.{IsNonDecreasing};
 ghost use Rattle.patch_model.specs.declared.patches.Undo.{Undo};
 ghost use Rattle.patch_model.specs.declared.patches.Mark.TheVariants.{Flight, Durable};
 ghost use Rattle.patch_model.specs.Entry.{Entry, is_memory};
 ghost use Rattle.patch_model.specs.History.{History};
-ghost use Rattle.patch_model.specs.Orderly.{MayJoin};
-ghost use Rattle.patch_view.specs.State.{Block, class_at, follows, with_laid, IsLaid, without_newest, with_newest_hard, departed_at, landed_at, moved_down, IsMerged, settled_at, IsJoint, IsJointAt};
-ghost use Rattle.patch_view.specs.History.{unpatched, IsNext, MayLand, laid, made, with_mark, with_joined};
+ghost use Rattle.patch_model.specs.Orderly.{IsOrderlyBlock, MayJoin};
+ghost use Rattle.patch_model.specs.State.{sent, landed};
+ghost use Rattle.patch_view.specs.State.{Block, class_at, follows, with_laid, IsLaid, without_newest, with_newest_hard, departed_at, landed_at, with_departed, with_landed, moved_down, IsMerged, settled_at, IsJoint, IsJointAt};
+ghost use Rattle.patch_view.specs.History.{unpatched, IsNext, MayDepart, MayLand, laid, made, with_mark, with_joined};
 ghost use Rattle.patch_view.specs.Meaning.{Represents, IsGathered};
 ghost use Rattle.patch_view.specs.Answers.{IsPatch};
 
@@ -286,6 +287,23 @@ impl<A: Allocator> BlockState<A> {
         Ok(())
     }
 
+    /// Puts in flight each class that has one of these numbers, which rise, as its name. The classes are in memory. It looks
+    /// at each record once.
+    pub fn depart_each(&mut self, numbers: &[PatchNo])
+        ensures { (h : History) (set : List Entry) → Represents self.old [] h → IsNonDecreasing numbers.now → MayDepart h numbers.now set
+            → Represents self.new [] (record h { entries = map (sent set) h.entries }) }
+    {
+        self.depart_among(numbers);
+    }
+
+    fn depart_among(&mut self, numbers: &[PatchNo])
+        ensures { IsNonDecreasing numbers.now → self.new ≡ with_departed self.old numbers.now }
+    {
+        for class in self.classes.iter_mut() {
+            class.depart_among(numbers);
+        }
+    }
+
     fn depart_at(&mut self, at: usize)
         requires { at < length self.old.classes }
         ensures { self.new ≡ departed_at self.old at }
@@ -303,6 +321,20 @@ impl<A: Allocator> BlockState<A> {
         if let Some(at) = self.place_of(no) {
             self.land_at(at);
         }
+    }
+
+    /// Makes each class in flight durable: their records go. It looks at each record once.
+    pub fn land_each(&mut self)
+        ensures { (h : History) (block : ℕ) → Represents self.old [] h → IsOrderlyBlock h block
+            → Represents self.new [] (record h { entries = map (landed block) h.entries }) }
+    {
+        self.keep_grounded();
+    }
+
+    fn keep_grounded(&mut self)
+        ensures { self.new ≡ with_landed self.old }
+    {
+        self.classes.retain(|class| !class.is_flying());
     }
 
     fn land_at(&mut self, at: usize)

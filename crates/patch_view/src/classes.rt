@@ -3,7 +3,7 @@ ghost use Rattle.std.specs.Prelude.{◌≡◌, ◌||◌, ◌+◌, ◌≤◌, ◌
 ghost use Rattle.std.specs.List.{list_any};
 ghost use Rattle.std.specs.List.Sorted.{IsNonDecreasing};
 ghost use Rattle.patch_model.specs.Entry.{is_among};
-ghost use Rattle.patch_view.specs.State.{is_left, laid_on, exchanged_with, meets, names, hardened, departed, merged, IsMerged};
+ghost use Rattle.patch_view.specs.State.{is_left, laid_on, exchanged_with, meets, names, hardened, departed, departed_among, merged, IsMerged};
 
 use crate::spans::swap_span;
 use patch_model::{BLOCK, OutOfMemory, PatchNo};
@@ -228,6 +228,15 @@ impl<A: Allocator> Class<A> {
         self.saved.clear();
     }
 
+    /// Departs if one of the numbers, which rise, is its name.
+    pub(crate) fn depart_among(&mut self, numbers: &[PatchNo])
+        ensures { IsNonDecreasing numbers.now → self.new ≡ departed_among numbers.now self.old }
+    {
+        if is_listed(numbers, self.name) {
+            self.depart();
+        }
+    }
+
     /// Exchanges the saved bytes with the block's, and marks the class.
     pub(crate) fn exchange(&mut self, bytes: &mut [u8], taken: bool)
         requires { length bytes.old ≡ 4096 }
@@ -243,8 +252,7 @@ impl<A: Allocator> Class<A> {
 
 /// Whether the number is in a list that rises.
 fn is_listed(numbers: &[PatchNo], no: PatchNo) -> bool
-    requires { IsNonDecreasing numbers.now }
-    ensures { result ≡ is_among numbers.now no }
+    ensures { IsNonDecreasing numbers.now → result ≡ is_among numbers.now no }
 {
     numbers.binary_search(&no).is_ok()
 }

@@ -1,6 +1,6 @@
 //! Laws of the definitions, each the contract of a function that does nothing.
-ghost use Rattle.patch_view.specs.Steps.{AfterCreate, AfterMerge, AfterSend, AfterComplete, DepartedOneByOne, LandedOneByOne, JoinedOnBlock, SendLeavesTheImage};
-ghost use Rattle.patch_view.specs.Laws.{OrderlyIsCoherent, LastIsNext, FlightMayLand, OthersMayLand, UppermostMayBeTaken, SameNamesSameBytes, OneValue, OrdersMeet, ImageIsWithout};
+ghost use Rattle.patch_view.specs.Steps.{AfterCreate, AfterMerge, AfterSend, AfterComplete, JoinedOnBlock, SendLeavesTheImage};
+ghost use Rattle.patch_view.specs.Laws.{OrderlyIsCoherent, LastIsNext, FlightMayLand, UppermostMayBeTaken, SameNamesSameBytes, OneValue, OrdersMeet, ImageIsWithout};
 
 /// What the calls ask of a block's history is true of each block of an execution.
 pub fn blocks_are_coherent()
@@ -8,10 +8,9 @@ pub fn blocks_are_coherent()
     ensures next { LastIsNext }
 {}
 
-/// The classes of a completed write may land one after another, in any order.
+/// The classes in flight of an execution's block may land.
 pub fn flights_may_land()
-    ensures first { FlightMayLand }
-    ensures others { OthersMayLand }
+    ensures { FlightMayLand }
 {}
 
 /// An undoable class may be taken once each live class that depends directly on it is taken: so one on which none depends
@@ -43,12 +42,6 @@ pub fn steps_on_a_block()
     ensures merge { AfterMerge }
     ensures send { AfterSend }
     ensures complete { AfterComplete }
-{}
-
-/// Class by class a send and a completion come to the same as at once.
-pub fn class_by_class()
-    ensures departed { DepartedOneByOne }
-    ensures landed { LandedOneByOne }
 {}
 
 /// Classes of one block that may be joined may be joined in its history.

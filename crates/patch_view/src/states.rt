@@ -16,7 +16,8 @@ use std::marker::Model;
 /// flight, and the bytes that a take or a put back exchanges (a hard class and one in flight keep none).
 ///
 /// `take`, `take_all`, `put_back` and `put_all_back` are what a [`BlockView`](crate::BlockView) does. The calls that change
-/// the records, `lay`, `unlay`, `harden`, `join`, `join_by`, `depart` and `land`, are for a block of which nothing is taken.
+/// the records (`lay`, `unlay`, `harden`, `join`, `join_by`, `depart`, `depart_each`, `land`, `land_each`) are for a block of
+/// which nothing is taken.
 #[derive(Drop)]
 pub struct BlockState<A: Allocator = Global> {
     pub(crate) bytes: Vec<u8, A>,

@@ -1,5 +1,5 @@
 //! Worked rows of views on one block, each state beside the plain piling.
-ghost use Rattle.std.specs.Prelude.{◌+◌, ◌≤◌, IfOk, length};
+ghost use Rattle.std.specs.Prelude.{◌+◌, ◌≤◌, IfOk};
 ghost use Rattle.patch_model.specs.Pile.{end};
 
 use crate::{BlockState, BlockView, PutBackRefusal, TakeRefusal, swap_span};
@@ -62,7 +62,9 @@ enum Deed<'a> {
     /// Draws a joint up and puts it in place.
     JoinBy(u32, u32),
     Depart(u32),
+    DepartEach(u32, u32),
     Land(u32),
+    LandEach,
     Take(u32, Taking),
     Back(u32, PuttingBack),
     TakeAll,
@@ -189,7 +191,9 @@ fn act(rt: &impl Abort, block: &mut BlockState, deed: &Deed) -> Result<(), OutOf
         Deed::Unlay => block.unlay(),
         Deed::Harden => block.harden(),
         Deed::Depart(no) => block.depart(PatchNo(*no)),
+        Deed::DepartEach(a, b) => block.depart_each(&[PatchNo(*a), PatchNo(*b)]),
         Deed::Land(no) => block.land(PatchNo(*no)),
+        Deed::LandEach => block.land_each(),
         Deed::Take(no, ending) => take(rt, block, *no, *ending),
         Deed::Back(no, ending) => put_back(rt, block, *no, *ending),
         Deed::TakeAll => block.take_all(),
@@ -368,6 +372,25 @@ fn merged_over_a_gap(rt: HostRuntime) -> Result<(), Fail> {
     merge_over_a_gap(&rt, rt.alloc(), &Deed::Join(0, 2))?;
     merge_over_a_gap(&rt, rt.alloc(), &Deed::JoinBy(0, 2))?;
     merge_over_a_gap(&rt, rt.alloc(), &Deed::JoinBy(2, 0))
+}
+
+static TWO_OF_THREE_TOGETHER: [Line<'static>; 11] = [
+    Line(Deed::Lay(0, 0, &[0xaa], None, false), &[]),
+    Line(Deed::Lay(1, 4, &[0xbb], None, false), &[]),
+    Line(Deed::Lay(2, 8, &[0xcc], None, false), &[]),
+    Line(Deed::DepartEach(0, 2), &[]),
+    Line(Deed::Take(0, Taking::InFlight), &[]),
+    Line(Deed::Take(2, Taking::InFlight), &[]),
+    Line(Deed::LandEach, &[]),
+    Line(Deed::Take(0, Taking::Unknown), &[]),
+    Line(Deed::Take(2, Taking::Unknown), &[]),
+    Line(Deed::Take(1, Taking::Done), &[1]),
+    Line(Deed::Restore, &[]),
+];
+
+#[test]
+fn two_of_three_together(rt: HostRuntime) -> Result<(), Fail> {
+    walk(&rt, rt.alloc(), &TWO_OF_THREE_TOGETHER)
 }
 
 static OVER_ONE_IN_FLIGHT: [Line<'static>; 11] = [

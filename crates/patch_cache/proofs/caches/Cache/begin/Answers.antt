@@ -1,24 +1,21 @@
 use Rattle.std.proofs.Common.{◌≡◌, ◌<◌, ◌+◌, ◌∙◌, ℕ, List, [], Some, ◌-◌, ◌^◌, min, length, get_or, map, refl, sym, ap, subst, arith}
-use Rattle.std.specs.Prelude.{count_by, ◌==◌}
+use Rattle.std.specs.Prelude.{count_by}
+use Rattle.std.specs.List.Sorted.{IsNonDecreasing}
 use Rattle.std.proofs.lemmas.List.{get_or_read_under}
-use Rattle.patch_model.specs.declared.patches.Mark.TheVariants.{Flight}
-use Rattle.patch_model.specs.Entry.{Entry, is_live, is_among}
+use Rattle.patch_model.specs.Entry.{Entry, is_live}
 use Rattle.patch_model.specs.Execution.{Execution, extended}
 use Rattle.patch_model.specs.History.{History, HoldsDependents, history_of, image, without}
 use Rattle.patch_model.specs.Legal.{IsLegal, IsLegalStep}
-use Rattle.patch_model.specs.Member.{In, filter-In, Contains-from_In}
 use Rattle.patch_model.specs.Orderly.{IsOrderly}
-use Rattle.patch_model.specs.Ready.{has, ready}
-use Rattle.patch_model.specs.State.{state_of, entries_of, after_step, sent, own_names, numbers_of, flying_of}
+use Rattle.patch_model.specs.Ready.{ready}
+use Rattle.patch_model.specs.State.{state_of, entries_of, after_step, sent, numbers_of, flying_of}
 use Rattle.patch_model.specs.Step.{Send}
-use Rattle.patch_view.specs.History.{undoable_classes}
+use Rattle.patch_view.specs.History.{MayDepart, undoable_classes}
 use Rattle.patch_view.specs.Meaning.{Represents as IsBlockOf}
 use Rattle.patch_graph.specs.Meaning.{Represents as IsGraphOf}
 use Rattle.patch_cache.specs.Contents.{Contents, no_block}
-use Rattle.patch_cache.specs.Marking.{AreOfLive, MayDepart}
 use Rattle.patch_cache.specs.Meaning.{Represents, IsWriteOf}
-use Rattle.patch_cache.proofs.Apart.{ready_live, ready_departs}
-use Rattle.patch_cache.proofs.Marking.{marked}
+use Rattle.patch_cache.proofs.Departing.{may_depart}
 use Rattle.patch_cache.proofs.Writing.{IsStepOf, stepped, sent_here, sent_other}
 use Rattle.patch_cache.proofs.caches.Cache.begin.Goals as goal
 
@@ -27,7 +24,6 @@ returns-clause-answer g c = λ run at why numbers.
     let block : ℕ = c.args.block in
     let all : List Entry = entries_of run in
     let set : List Entry = ready all block in
-    let names : List ℕ = own_names all (numbers_of set) in
     let next : Execution = extended run (Send block) in
     let h : History = history_of run block in
     let after : History = history_of next block in
@@ -36,7 +32,6 @@ returns-clause-answer g c = λ run at why numbers.
     let state : state_of next ≡ after_step (state_of run) (Send block) = c.steps_extend.ensures.state run (Send block) in
     let entries : entries_of next ≡ map (sent set) all = ap (λ st. st.entries) state in
     let seen = subst (λ (v : Contents). Represents v run) (sym c.self.view_is) at in
-    let rising = (c.classes_have_names.ensures.apart run block at.legal).0 in
     let largest = c.ready_is_largest.ensures.largest run block in
     let place : c.block.inside.0 ≡ block = c.block.view_is in
     let within : c.block.inside.0 < c.self.inside.blocks.len = let known = lawful.0 in let count = seen.count in let long = c.self.inside.blocks.ok.0 in omega arith in
@@ -45,14 +40,11 @@ returns-clause-answer g c = λ run at why numbers.
     ∙ ap (λ (i : ℕ). get_or c.self.inside.blocks.items i no_block) place in
     let here : IsBlockOf c.index_mut-state.result.now [] h = subst (λ z. IsBlockOf z [] h) (sym found) (seen.blocks block lawful.0) in
     let slice : c.as_slice-2.result.now ≡ numbers_of set = c.as_slice-2.ensures.value ∙ numbers in
-    let live : AreOfLive all c.as_slice-2.result.now = subst (AreOfLive all) (sym slice) (ready_live all block largest) in
-    let may : MayDepart h (own_names all c.as_slice-2.result.now) = subst (λ ns. MayDepart h (own_names all ns)) (sym slice)
-    (ready_departs all block h.first (c.executions_are_orderly.ensures.patches run at.legal) (c.executions_are_orderly.ensures.numbered run) largest rising) in
-    let met : (e : Entry) → In h.entries e → is_among names e.class ≡ has set e =
-    λ e i. c.classes_have_names.ensures.ready run block e at.legal (Contains-from_In all e (filter-In (λ f. f.patch.block == block) all e i).0) in
-    let gone : marked Flight h (own_names all c.as_slice-2.result.now) ≡ after =
-    ap (λ ns. marked Flight h (own_names all ns)) slice ∙ c.class_by_class.ensures.departed h names set met ∙ sym (c.steps_on_a_block.ensures.send run block block) in
-    let flies : IsBlockOf c.depart_each.new.state [] after = subst (IsBlockOf c.depart_each.new.state []) gone (c.depart_each.ensures h all here seen.graph live may) in
+    let rising : IsNonDecreasing c.as_slice-2.result.now = subst IsNonDecreasing (sym slice) (c.classes_have_names.ensures.rising run block) in
+    let may : MayDepart h c.as_slice-2.result.now set = subst (λ ns. MayDepart h ns set) (sym slice)
+    (may_depart all block h.first (c.executions_are_orderly.ensures.patches run at.legal) largest (λ e i. c.classes_have_names.ensures.ready run block e at.legal i)) in
+    let flies : IsBlockOf c.depart_each.new.self [] after = subst (IsBlockOf c.depart_each.new.self []) (sym (c.steps_on_a_block.ensures.send run block block))
+    (c.depart_each.ensures h set here rising may) in
     let holds : HoldsDependents after (undoable_classes after) × (without after (undoable_classes after) ≡ image after) =
     c.image_is_without.ensures.send run block
     (c.blocks_are_coherent.ensures.coherent h block (c.executions_are_orderly.ensures.blocks run block at.legal lawful.0))

@@ -1,25 +1,20 @@
-use Rattle.std.proofs.Common.{◌≡◌, ◌<◌, ◌≤◌, ◌+◌, ◌-◌, ◌∙◌, ℕ, true, List, [], Some, None, length, length-set, length-append, get_or, set, map, refl, sym, ap, subst, arith}
-use Rattle.std.specs.Prelude.{Contains, IsTrue, count_by, is_some, ◌==◌}
+use Rattle.std.proofs.Common.{◌≡◌, ◌<◌, ◌≤◌, ◌+◌, ◌-◌, ◌∙◌, ℕ, List, [], Some, None, length, length-set, length-append, get_or, set, map, refl, sym, ap, subst, arith}
+use Rattle.std.specs.Prelude.{Contains, IsTrue, count_by, is_some}
 use Rattle.std.proofs.lemmas.List.{get_or_read_under}
 use Rattle.std.proofs.lemmas.Option.{slice_get_within, get_or_from_slice_get}
-use Rattle.patch_model.specs.declared.patches.Mark.TheVariants.{Durable}
-use Rattle.patch_model.specs.Entry.{Entry, is_live, is_flight, is_among}
+use Rattle.patch_model.specs.Entry.{Entry, is_live}
 use Rattle.patch_model.specs.Execution.{Execution, extended}
 use Rattle.patch_model.specs.History.{History, history_of}
 use Rattle.patch_model.specs.Legal.{IsLegal}
-use Rattle.patch_model.specs.Member.{In, filter-In, Contains-from_In}
 use Rattle.patch_model.specs.Orderly.{IsOrderly}
-use Rattle.patch_model.specs.State.{state_of, entries_of, after_step, has_flight, landed, own_names, numbers_of, flying_of}
+use Rattle.patch_model.specs.State.{state_of, entries_of, after_step, has_flight, landed, numbers_of, flying_of}
 use Rattle.patch_model.specs.Step.{Complete}
 use Rattle.patch_model.specs.StepOf.{step_of}
 use Rattle.patch_view.specs.Meaning.{Represents as IsBlockOf}
 use Rattle.patch_graph.specs.Meaning.{Represents as IsGraphOf}
 use Rattle.patch_cache.specs.Contents.{Contents, no_block}
-use Rattle.patch_cache.specs.Marking.{AreOfLive, MayLandEach}
 use Rattle.patch_cache.specs.Meaning.{Represents, IsWriteOf}
-use Rattle.patch_cache.proofs.Apart.{flying_live, flying_lands}
 use Rattle.patch_cache.proofs.Refusing.{has_one}
-use Rattle.patch_cache.proofs.Marking.{marked}
 use Rattle.patch_cache.proofs.Writing.{IsStepOf, stepped, landed_here, landed_other}
 use Rattle.patch_cache.proofs.Underway.{no_stranger, placed, one_less}
 use Rattle.patch_cache.proofs.caches.Cache.complete.Goals as goal
@@ -53,7 +48,7 @@ pub invariant_of-self-2 : goal.invariant_of-self-2
 invariant_of-self-2 g c =
     let less = one_less c.self.inside.writes.items c.args.landed.block c.in-Some.write c.in-Some.ensures.0 in
     let new = c.in-Some.ensures.2 in
-    let blocks = length-set c.self.inside.blocks.items c.block.inside.0 c.land_each.new.state in (
+    let blocks = length-set c.self.inside.blocks.items c.block.inside.0 c.land_each.new.self in (
       ap length new ∙ length-set c.self.inside.writes.items c.args.landed.block None ∙ c.self.invariant.0 ∙ sym blocks,
       subst (λ (n : ℕ). n ≤ 4096) (sym blocks) c.self.invariant.1,
       let counted = ap (count_by is_some) new in let count = c.self.invariant.2 in omega arith,
@@ -66,7 +61,6 @@ returns-clause-done g c = λ run at.
     let block : ℕ = c.args.landed.block in
     let all : List Entry = entries_of run in
     let numbers : List ℕ = numbers_of (flying_of all block) in
-    let names : List ℕ = own_names all numbers in
     let next : Execution = extended run (Complete block) in
     let h : History = history_of run block in
     let after : History = history_of next block in
@@ -81,33 +75,21 @@ returns-clause-done g c = λ run at.
     let legal : IsLegal next = c.steps_extend.ensures.legal run (Complete block) at.legal lawful in
     let state : state_of next ≡ after_step (state_of run) (Complete block) = c.steps_extend.ensures.state run (Complete block) in
     let entries : entries_of next ≡ map (landed block) all = ap (λ st. st.entries) state in
-    let rising = (c.classes_have_names.ensures.apart run block at.legal).1 in
-    let orderly = c.executions_are_orderly.ensures.patches run at.legal in
     let within : c.block.inside.0 < c.self.inside.blocks.len = let count = seen.count in let long = c.self.inside.blocks.ok.0 in omega arith in
     let found : c.index_mut-state.result.now ≡ get_or c.self.inside.blocks.items block no_block =
     get_or_read_under c.self.inside.blocks.items c.block.inside.0 c.self.inside.blocks.len c.index_mut-state.result.now no_block c.index_mut-state.ensures.value within c.self.inside.blocks.ok.0
     ∙ ap (λ (i : ℕ). get_or c.self.inside.blocks.items i no_block) place in
     let here : IsBlockOf c.index_mut-state.result.now [] h = subst (λ z. IsBlockOf z [] h) (sym found) (seen.blocks block known) in
     let told : c.write.inside.numbers ≡ numbers = ap (λ w. w.numbers) c.write.view_is ∙ flight.1 in
-    let slice : c.as_slice.result.now ≡ numbers = c.as_slice.ensures ∙ told in
-    let live : AreOfLive all c.as_slice.result.now = subst (AreOfLive all) (sym slice) (flying_live all block) in
     let on_block = c.executions_are_orderly.ensures.blocks run block at.legal known in
-    let may : MayLandEach h (own_names all c.as_slice.result.now) = subst (λ ns. MayLandEach h (own_names all ns)) (sym slice)
-    (flying_lands all block h.first orderly (c.executions_are_orderly.ensures.numbered run) c.flights_may_land.ensures.others
-    (λ e i flying. c.flights_may_land.ensures.first h block e on_block i flying) rising) in
-    let in_all : (e : Entry) → In h.entries e → In all e × ((e.patch.block == block) ≡ true) = λ e i. filter-In (λ f. f.patch.block == block) all e i in
-    let of_it : (e : Entry) → In h.entries e → e.patch.block ≡ block = λ e i. on_block.here e (Contains-from_In h.entries e i) in
-    let met : (e : Entry) → In h.entries e → is_among names e.class ≡ is_flight e =
-    λ e i. c.classes_have_names.ensures.flying run block e at.legal (Contains-from_In all e (in_all e i).0) (of_it e i) in
-    let gone : marked Durable h (own_names all c.as_slice.result.now) ≡ after =
-    ap (λ ns. marked Durable h (own_names all ns)) slice ∙ c.class_by_class.ensures.landed h block names of_it met ∙ sym (c.steps_on_a_block.ensures.complete run block block) in
-    let ended : IsBlockOf c.land_each.new.state [] after = subst (IsBlockOf c.land_each.new.state []) gone (c.land_each.ensures h all here seen.graph live may) in
+    let ended : IsBlockOf c.land_each.new.self [] after = subst (IsBlockOf c.land_each.new.self []) (sym (c.steps_on_a_block.ensures.complete run block block))
+    (c.land_each.ensures h block here on_block) in
     let graph : IsGraphOf c.mark_durable.new.self (entries_of next) = subst (IsGraphOf c.mark_durable.new.self) (sym entries)
     (c.mark_durable.ensures.answer all seen.graph (subst IsOrderly entries (c.executions_are_orderly.ensures.patches next legal))) in
     let sends : c.self.inside.sends ≡ (state_of next).sends = seen.sends ∙ sym (ap (λ st. st.sends) state) in
     let counted : c.saturating_sub.result ≡ count_by is_live (entries_of next) =
-    let left : c.saturating_sub.result ≡ c.self.inside.live - length c.as_slice-2.result.now = c.saturating_sub.ensures in
-    let many : length c.as_slice-2.result.now ≡ length numbers = ap length (c.as_slice-2.ensures ∙ told) in
+    let left : c.saturating_sub.result ≡ c.self.inside.live - length c.as_slice.result.now = c.saturating_sub.ensures in
+    let many : length c.as_slice.result.now ≡ length numbers = ap length (c.as_slice.ensures ∙ told) in
     let before = seen.live in
     let law = c.live_are_counted.ensures.landed run block in omega arith in
     let is : IsStepOf run (Complete block) block = record {
@@ -122,13 +104,13 @@ returns-clause-done g c = λ run at.
       refl,
       told,
       subst (λ ws. Represents (record {
-        blocks = set c.self.inside.blocks.items c.block.inside.0 c.land_each.new.state;
+        blocks = set c.self.inside.blocks.items c.block.inside.0 c.land_each.new.self;
         writes = ws;
         graph = c.mark_durable.new.self;
         sends = c.self.inside.sends;
         live = c.saturating_sub.result;
         trace = map step_of c.push_reserved.new.self.items;
       }) next) rest
-          (stepped run (Complete block) _ c.block.inside.0 block c.land_each.new.state None c.mark_durable.new.self c.self.inside.sends c.saturating_sub.result _
+          (stepped run (Complete block) _ c.block.inside.0 block c.land_each.new.self None c.mark_durable.new.self c.self.inside.sends c.saturating_sub.result _
           place seen c.self.invariant.0 is ended (landed_here run block state) graph sends counted),
     )
