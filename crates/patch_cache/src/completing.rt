@@ -9,7 +9,6 @@ ghost use Rattle.patch_cache.specs.Flights.{IsWithdrawn};
 use crate::caches::Cache;
 use crate::writes::{Done, Landed, Write};
 use patch_model::{BlockNo, Step, laws as model_laws};
-use patch_view::laws as view_laws;
 use std::alloc::Allocator;
 
 impl<A: Allocator + Copy> Cache<A> {
@@ -34,7 +33,6 @@ impl<A: Allocator + Copy> Cache<A> {
         model_laws::flights_are_ready();
         model_laws::flights_are_single();
         model_laws::patches_are_placed();
-        view_laws::steps_on_a_block();
         let Some(write) = withdraw(&mut self.writes, landed.block, landed.number) else {
             return Err(landed);
         };

@@ -17,7 +17,7 @@ use crate::caches::Cache;
 use crate::refusals::MergeRefusal;
 use patch_graph::{Graph, LiveClass};
 use patch_model::{BlockNo, Mark, OutOfMemory, PatchNo, Step, laws as model_laws};
-use patch_view::{BlockState, laws as view_laws};
+use patch_view::BlockState;
 use std::alloc::Allocator;
 
 impl<A: Allocator + Copy> Cache<A> {
@@ -131,7 +131,7 @@ fn join_on<A: Allocator + Copy>(
     model_laws::steps_extend();
     model_laws::executions_are_orderly();
     model_laws::merges_may_join();
-    view_laws::steps_on_a_block();
+    model_laws::steps_change_blocks();
     let joint = state.joint(a, b)?;
     let name = graph.merge(a, b)?;
     state.join_by(joint);

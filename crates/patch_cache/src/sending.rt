@@ -88,7 +88,6 @@ impl<A: Allocator + Copy> Cache<A> {
         model_laws::sends_leave();
         view_laws::blocks_are_coherent();
         view_laws::image_is_without();
-        view_laws::steps_on_a_block();
         let noted = Numbers::from_vec(Vec::from_slice(self.alloc, numbers.as_slice())?);
         let mut image = Vec::with_capacity(self.alloc, BLOCK)?;
         self.trace.reserve(self.under_way + 2)?;

@@ -6,26 +6,18 @@ use Rattle.patch_model.specs.declared.patches.Mark.{Mark}
 use Rattle.patch_model.specs.declared.patches.Mark.TheVariants.{Memory, Flight, Durable}
 use Rattle.patch_model.specs.Entry.{Entry, is_among, is_live, is_memory, is_undoable, in_memory_of, marks_memory, marks_durable}
 use Rattle.patch_model.specs.Dependency.{depends_directly}
-use Rattle.patch_model.specs.Execution.{Execution}
+use Rattle.patch_model.specs.Execution.{Execution, extended}
+use Rattle.patch_model.specs.Step.{Send}
 use Rattle.patch_model.specs.Ready.{has, ready, struck, may_stay}
 use Rattle.patch_model.specs.State.{sent, entries_of}
 use Rattle.patch_model.specs.Member.{In, In-from_Contains, Contains-from_In, In-filter, filter-In, list_any-at}
 use Rattle.patch_model.specs.History.{History, HoldsDependents, history_of, without, image}
 use Rattle.patch_model.specs.Orderly.{left_behind}
 use Rattle.patch_view.specs.History.{IsCoherent, undoable_classes}
-use Rattle.patch_view.specs.Steps.{SendLeavesTheImage}
+use Rattle.patch_view.specs.Laws.{SendLeavesTheImage}
 use Rattle.patch_view.proofs.Marking.{In-map, map-In}
+use Rattle.patch_view.proofs.Together.{sent-marking, sent-in, sent-out}
 use Rattle.patch_view.proofs.Same.{map-among, among-map, image_is_without}
-use Rattle.patch_view.proofs.Stepping.{after_send, sent-patch}
-
-sent-out : (set : List Entry) (e : Entry) → has set e ≡ false → sent set e ≡ e
-sent-out set e t = rw t refl
-
-sent-in : (set : List Entry) (e : Entry) → has set e ≡ true → is_memory (sent set e) ≡ false
-sent-in set e t = rw t refl
-
-sent-class : (set : List Entry) (e : Entry) → (sent set e).class ≡ e.class
-sent-class set e = elim (cases_Bool (has set e)) [ inl t ↦ rw t refl | inr t ↦ rw t refl ]
 
 struck-in : (n : ℕ) (stays : List Entry → Entry → Bool) (set : List Entry) (e : Entry) → In (struck n stays set) e → In set e
 struck-in zero stays set e i = i
@@ -66,7 +58,7 @@ module _ (run : Execution) (block : ℕ) (o : IsCoherent (history_of run block))
 
   -- what is still in memory wasn't sent
   not_sent : (e : Entry) → is_memory (sent set e) ≡ true → has set e ≡ false
-  not_sent e m = false_from_ne_true _ (λ t. both_ways _ (sent-in set e t) m)
+  not_sent e m = false_from_ne_true _ (λ t. both_ways _ (ap marks_memory (sent-in set e t)) m)
 
   is-left : (e : Entry) → In before.entries e → is_memory e ≡ true → has set e ≡ false → is_among (left_behind all block) e.class ≡ true
   is-left e i m off =
@@ -113,10 +105,10 @@ module _ (run : Execution) (block : ℕ) (o : IsCoherent (history_of run block))
         let x = In-map (sent set) before.entries e (In-from_Contains behind.entries e ce) in
         let y = In-map (sent set) before.entries f (In-from_Contains behind.entries f cf) in
         let went : depends_directly x.0.patch y.0.patch ≡ true =
-        ap (λ z. depends_directly z y.0.patch) (sym (sent-patch set x.0) ∙ ap (λ k. k.patch) x.2)
-        ∙ ap (λ z. depends_directly e.patch z) (sym (sent-patch set y.0) ∙ ap (λ k. k.patch) y.2) ∙ goes in
-        let class_e : x.0.class ≡ e.class = sym (sent-class set x.0) ∙ ap (λ k. k.class) x.2 in
-        let class_f : y.0.class ≡ f.class = sym (sent-class set y.0) ∙ ap (λ k. k.class) y.2 in
+        ap (λ z. depends_directly z y.0.patch) (sym ((sent-marking set).patch x.0) ∙ ap (λ k. k.patch) x.2)
+        ∙ ap (λ z. depends_directly e.patch z) (sym ((sent-marking set).patch y.0) ∙ ap (λ k. k.patch) y.2) ∙ goes in
+        let class_e : x.0.class ≡ e.class = sym ((sent-marking set).class x.0) ∙ ap (λ k. k.class) x.2 in
+        let class_f : y.0.class ≡ f.class = sym ((sent-marking set).class y.0) ∙ ap (λ k. k.class) y.2 in
         let low : is_live x.0 ≡ true = was-live x.0 x.1 (ap is_live x.2 ∙ live) in
         is-named e.class (ap (is_among (left_behind all block)) (sym class_e)
         ∙ holds.dependents x.0 y.0 (Contains-from_In before.entries x.0 x.1) (Contains-from_In before.entries y.0 y.1) low went
@@ -131,9 +123,12 @@ module _ (run : Execution) (block : ℕ) (o : IsCoherent (history_of run block))
       let same : x.0 ≡ e = sym (sent-out set x.0 off) ∙ x.2 in
       ap is_undoable (sym same) ∙ is-soft x.0 x.1 (is-left x.0 x.1 (ap is_memory same ∙ m) off)
 
-pub send_leaves_the_image : SendLeavesTheImage
-send_leaves_the_image run block o after holds =
-    let is = after_send run block block in
+pub send_leaves_the_image : ((run : Execution) (block other : ℕ)
+    → (history_of (extended run (Send block)) other).entries ≡ map (sent (ready (entries_of run) block)) (history_of run other).entries)
+    → SendLeavesTheImage
+send_leaves_the_image sends run block o after holds =
+    let is : history_of (extended run (Send block)) block ≡ record (history_of run block) { entries = map (sent (ready (entries_of run) block)) (history_of run block).entries } =
+    ap (λ es. let h : History = record (history_of run block) { entries = es } in h) (sends run block block) in
     let coherent : IsCoherent (record (history_of run block) { entries = map (sent (ready (entries_of run) block)) (history_of run block).entries }) =
     subst (λ h. IsCoherent h) is after in
     subst (λ h. HoldsDependents h (undoable_classes h) × (without h (undoable_classes h) ≡ image h)) (sym is)

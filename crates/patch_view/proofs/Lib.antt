@@ -19,5 +19,4 @@ pub mod Gathering
 pub mod Lawful
 pub mod Sweeping
 pub mod Together
-pub mod Stepping
 pub mod Leaving

@@ -21,22 +21,21 @@ use Rattle.patch_view.proofs.Sets.{class_depends_on, none-held, never-from, orde
 use Rattle.patch_view.proofs.Chain.{memory-not_durable}
 use Rattle.patch_view.proofs.Steps.{record_of}
 use Rattle.patch_view.proofs.Lawful.{flight_may_land}
-use Rattle.patch_view.proofs.Stepping.{sent-patch, landed-patch}
 use Rattle.patch_view.proofs.Marking.{IsMarking, AreMarks, changed, In-map, any-map, depends-changed, without-changed, orderly-changed, re-class}
 
 -- Put in flight.
 
-sent-marking : (set : List Entry) → IsMarking (sent set)
+pub sent-marking : (set : List Entry) → IsMarking (sent set)
 sent-marking set = record {
-  patch = sent-patch set;
+  patch = λ e. elim (cases_Bool (has set e)) [ inl t ↦ rw t refl | inr t ↦ rw t refl ];
   class = λ e. elim (cases_Bool (has set e)) [ inl t ↦ rw t refl | inr t ↦ rw t refl ];
   hard = λ e. elim (cases_Bool (has set e)) [ inl t ↦ rw t refl | inr t ↦ rw t refl ];
 }
 
-sent-in : (set : List Entry) (e : Entry) → has set e ≡ true → (sent set e).mark ≡ Flight
+pub sent-in : (set : List Entry) (e : Entry) → has set e ≡ true → (sent set e).mark ≡ Flight
 sent-in set e t = rw t refl
 
-sent-out : (set : List Entry) (e : Entry) → has set e ≡ false → sent set e ≡ e
+pub sent-out : (set : List Entry) (e : Entry) → has set e ≡ false → sent set e ≡ e
 sent-out set e t = rw t refl
 
 sent-marks : (h : History) (numbers : List ℕ) (set : List Entry) → IsCoherent h → MayDepart h numbers set → AreMarks (sent set) h
@@ -114,7 +113,7 @@ departs_together b h numbers set r may =
 
 landed-marking : (block : ℕ) → IsMarking (landed block)
 landed-marking block = record {
-  patch = landed-patch block;
+  patch = λ e. elim (cases_Bool (is_flight e && e.patch.block == block)) [ inl t ↦ rw t refl | inr t ↦ rw t refl ];
   class = λ e. elim (cases_Bool (is_flight e && e.patch.block == block)) [ inl t ↦ rw t refl | inr t ↦ rw t refl ];
   hard = λ e. elim (cases_Bool (is_flight e && e.patch.block == block)) [ inl t ↦ rw t refl | inr t ↦ rw t refl ];
 }

@@ -2,8 +2,11 @@
 use Rattle.std.specs.Prelude.{ℕ, ◌≡◌, ◌≢◌, IsTrue, List, [], ◌∷◌, fold}
 use Rattle.patch_model.specs.Entry.{Entry, is_among, is_flight, is_memory, is_live, is_undoable}
 use Rattle.patch_model.specs.Dependency.{depends_directly}
-use Rattle.patch_model.specs.History.{History, HoldsDependents, Move, moved, IsPermitted, without, image}
-use Rattle.patch_model.specs.Orderly.{IsOrderlyBlock}
+use Rattle.patch_model.specs.Step.{Send}
+use Rattle.patch_model.specs.Execution.{Execution, extended}
+use Rattle.patch_model.specs.State.{entries_of}
+use Rattle.patch_model.specs.History.{History, HoldsDependents, Move, moved, IsPermitted, history_of, without, image}
+use Rattle.patch_model.specs.Orderly.{IsOrderlyBlock, left_behind}
 use Rattle.patch_model.specs.Member.{In}
 use Rattle.patch_view.specs.History.{IsCoherent, IsNext, MayLand, laid, undoable_classes}
 use Rattle.patch_view.specs.State.{Block, outline}
@@ -58,3 +61,12 @@ abbrev pub ImageIsWithout : Type 0
 ImageIsWithout =
     (h : History) → IsCoherent h → ((e : Entry) → In h.entries e → IsTrue (is_memory e) → IsTrue (is_undoable e))
     → without h (undoable_classes h) ≡ image h
+
+-- what a send leaves behind in memory may be taken all at once, and the block without it is the image
+abbrev pub SendLeavesTheImage : Type 0
+SendLeavesTheImage =
+    (run : Execution) (block : ℕ)
+    → IsCoherent (history_of run block) → IsCoherent (history_of (extended run (Send block)) block)
+    → HoldsDependents (history_of run block) (left_behind (entries_of run) block)
+    → let h = history_of (extended run (Send block)) block in
+    HoldsDependents h (undoable_classes h) × (without h (undoable_classes h) ≡ image h)

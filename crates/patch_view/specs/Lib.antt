@@ -5,4 +5,3 @@ pub mod Refusal
 pub mod Answers
 pub mod View
 pub mod Laws
-pub mod Steps

@@ -1,6 +1,5 @@
 //! Laws of the definitions, each the contract of a function that does nothing.
-ghost use Rattle.patch_view.specs.Steps.{AfterCreate, AfterMerge, AfterSend, AfterComplete, JoinedOnBlock, SendLeavesTheImage};
-ghost use Rattle.patch_view.specs.Laws.{OrderlyIsCoherent, LastIsNext, FlightMayLand, UppermostMayBeTaken, SameNamesSameBytes, OneValue, OrdersMeet, ImageIsWithout};
+ghost use Rattle.patch_view.specs.Laws.{OrderlyIsCoherent, LastIsNext, FlightMayLand, UppermostMayBeTaken, SameNamesSameBytes, OneValue, OrdersMeet, ImageIsWithout, SendLeavesTheImage};
 
 /// What the calls ask of a block's history is true of each block of an execution.
 pub fn blocks_are_coherent()
@@ -34,17 +33,6 @@ pub fn one_value()
 pub fn image_is_without()
     ensures image { ImageIsWithout }
     ensures send { SendLeavesTheImage }
-{}
-
-/// What each step of an execution makes of a block's history.
-pub fn steps_on_a_block()
-    ensures create { AfterCreate }
-    ensures merge { AfterMerge }
-    ensures send { AfterSend }
-    ensures complete { AfterComplete }
-{}
-
-/// Classes of one block that may be joined may be joined in its history.
-pub fn joined_on_a_block()
-    ensures { JoinedOnBlock }
-{}
+{
+    patch_model::laws::steps_change_blocks();
+}

@@ -24,7 +24,8 @@ returns-clause-answer g c = λ run before lawful at holds.
     let orderly : IsOrderly (map (joined (class_of all a) (class_of all b)) all) = subst IsOrderly entries (c.executions_are_orderly.ensures.patches (extended run step) legal) in
     let merged = c.in_ok-name.ensures.answer all holds lawful orderly in
     let h : History = history_of run block in
-    let here : history_of (extended run step) block ≡ with_joined h (class_of all a) (class_of all b) = c.steps_on_a_block.ensures.merge run block a b in
+    let here : history_of (extended run step) block ≡ with_joined h (class_of all a) (class_of all b) =
+    ap (λ es. let k : History = record h { entries = es } in k) (c.steps_change_blocks.ensures.merged run a b block) in
     let x = undoable_at all a holds.orderly holds.numbered lawful.undoable_a in
     let y = undoable_at all b holds.orderly holds.numbered lawful.undoable_b in
     let is_x : class_of all a ≡ x.0.class = name_at all a x.0 x.1.at in

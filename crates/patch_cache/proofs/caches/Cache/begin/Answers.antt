@@ -43,7 +43,8 @@ returns-clause-answer g c = λ run at why numbers.
     let rising : IsNonDecreasing c.as_slice-2.result.now = subst IsNonDecreasing (sym slice) (c.classes_have_names.ensures.rising run block) in
     let may : MayDepart h c.as_slice-2.result.now set = subst (λ ns. MayDepart h ns set) (sym slice)
     (may_depart all block h.first (c.executions_are_orderly.ensures.patches run at.legal) largest (λ e i. c.classes_have_names.ensures.ready run block e at.legal i)) in
-    let flies : IsBlockOf c.depart_each.new.self [] after = subst (IsBlockOf c.depart_each.new.self []) (sym (c.steps_on_a_block.ensures.send run block block))
+    let flies : IsBlockOf c.depart_each.new.self [] after =
+    subst (λ es. IsBlockOf c.depart_each.new.self [] (record h { entries = es })) (sym (c.steps_change_blocks.ensures.sent run block block))
     (c.depart_each.ensures h set here rising may) in
     let holds : HoldsDependents after (undoable_classes after) × (without after (undoable_classes after) ≡ image after) =
     c.image_is_without.ensures.send run block

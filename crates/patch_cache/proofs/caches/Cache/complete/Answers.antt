@@ -82,7 +82,8 @@ returns-clause-done g c = λ run at.
     let here : IsBlockOf c.index_mut-state.result.now [] h = subst (λ z. IsBlockOf z [] h) (sym found) (seen.blocks block known) in
     let told : c.write.inside.numbers ≡ numbers = ap (λ w. w.numbers) c.write.view_is ∙ flight.1 in
     let on_block = c.executions_are_orderly.ensures.blocks run block at.legal known in
-    let ended : IsBlockOf c.land_each.new.self [] after = subst (IsBlockOf c.land_each.new.self []) (sym (c.steps_on_a_block.ensures.complete run block block))
+    let ended : IsBlockOf c.land_each.new.self [] after =
+    subst (λ es. IsBlockOf c.land_each.new.self [] (record h { entries = es })) (sym (c.steps_change_blocks.ensures.landed run block block))
     (c.land_each.ensures h block here on_block) in
     let graph : IsGraphOf c.mark_durable.new.self (entries_of next) = subst (IsGraphOf c.mark_durable.new.self) (sym entries)
     (c.mark_durable.ensures.answer all seen.graph (subst IsOrderly entries (c.executions_are_orderly.ensures.patches next legal))) in
