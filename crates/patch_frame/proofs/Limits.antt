@@ -2,6 +2,7 @@
 use Rattle.std.proofs.Common.{◌≤◌, arith}
 use Rattle.patch_frame.specs.declared.geometries.Format.{Format}
 use Rattle.patch_frame.specs.declared.geometries.Format.TheVariants.{One, Two}
+use Rattle.patch_frame.specs.declared.pointers.TheConstants.{MAX_POINTER}
 use Rattle.patch_frame.specs.Frame.{Content, Fits, length_of}
 use Rattle.patch_frame.specs.Geometry.{IsFormat, value_limit, longest_frame, largest_pointer}
 
@@ -18,3 +19,7 @@ fits_extents (Two x) c is fits =
     let short = fits.short_key in
     let value = fits.short_value in
     (omega arith, omega arith, omega arith)
+
+pub largest_of_all : (f : Format) → IsFormat f → largest_pointer f ≤ MAX_POINTER
+largest_of_all One is = omega arith
+largest_of_all (Two x) is = let high = is.1 in omega arith

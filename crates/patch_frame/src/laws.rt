@@ -2,6 +2,7 @@
 ghost use Rattle.std.specs.Prelude.{◌≡◌, ◌<◌, ◌≤◌, ◌^◌, ◌+◌, ◌++◌, ℕ, List, [], Option, Ok, take, drop, slice_range, length};
 ghost use Rattle.patch_frame.specs.declared.geometries.Format.{Format as FormatFields};
 ghost use Rattle.patch_frame.specs.declared.geometries.Format.TheVariants.{One, Two};
+ghost use Rattle.patch_frame.specs.declared.pointers.TheConstants.{MAX_POINTER};
 ghost use Rattle.patch_frame.specs.declared.geometries.Geometry.{Geometry as GeometryFields};
 ghost use Rattle.patch_frame.specs.declared.pointers.Pointer.{Pointer as PointerFields};
 ghost use Rattle.patch_frame.specs.Frame.{Content, Fits, spelling, length_of, frame_at};
@@ -10,6 +11,14 @@ ghost use Rattle.patch_frame.specs.Pointer as pointer;
 ghost use Rattle.patch_frame.specs.Run.{run, AllFit};
 ghost use Rattle.patch_frame.specs.Slot as slot;
 ghost use Rattle.patch_frame.specs.Superblock as superblock;
+
+// Limits.
+
+/// The greatest write pointer is the length of the longest extents, which have 64 blocks.
+pub fn the_longest_extents_reach_the_limit()
+    ensures reached { largest_pointer (Two 64) ≡ MAX_POINTER }
+    ensures passed_by_none { (f : FormatFields) → IsFormat f → largest_pointer f ≤ MAX_POINTER }
+{}
 
 // Frames.
 

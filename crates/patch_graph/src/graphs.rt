@@ -117,7 +117,8 @@ impl<A: Allocator + Copy> Graph<A> {
 
     /// Adds a patch of the bytes from `start` to `stop`, in memory and a class of its own. It depends on the patches that
     /// it names and on each class that it overlaps. It is hard if it may drop its undo bytes and each patch that it depends
-    /// on is durable or a hard one of its block (Featherstitch's hard patches, by the rule of our profile).
+    /// on is durable or a hard one of its block. That is Featherstitch's hard patches, by a rule of our own that a send never
+    /// has to revert one: in a block without a flight all hard patches are ready.
     pub fn add(
         &mut self,
         block: BlockNo,

@@ -94,12 +94,14 @@ pub fn executions_are_orderly()
         → IsOrderlyBlock (history_of run block) block }
 {}
 
-/// How many blocks, patches, live patches and sends an execution has at most.
+/// How many blocks, patches, live patches and sends an execution has at most; and that it may begin with so many blocks.
 pub fn executions_are_limited()
     ensures blocks { (run : Execution) → IsLegal run → length run.first ≤ 4096 }
     ensures patches { (run : Execution) → IsLegal run → length (entries_of run) ≤ 16777216 }
     ensures live { (run : Execution) → IsLegal run → count_by is_live (entries_of run) ≤ 65536 }
     ensures sends { (run : Execution) → IsLegal run → (state_of run).sends ≤ 16777216 }
+    ensures opened { (first : List (List ℕ)) → 0 < length first → length first ≤ 4096 → All (λ block. length block ≡ 4096) first
+        → IsLegal (record { first = first; steps = [] }) }
 {}
 
 /// Which patches may be made, in numbers.

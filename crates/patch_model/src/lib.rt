@@ -2,6 +2,7 @@
 #![tactic(auto)]
 
 mod blocks;
+mod ending;
 pub mod laws;
 mod limits;
 mod lists;
@@ -12,6 +13,7 @@ mod refusals;
 mod steps;
 
 pub use blocks::{BLOCK, BlockBytes};
+pub use ending::Ending;
 pub use limits::{MAX_BLOCKS, MAX_LIVE, MAX_PATCHES};
 pub use lists::{Bytes, Items, Numbers};
 pub use numbers::{BlockNo, PatchNo, WriterNo};

@@ -5,7 +5,8 @@ use std::alloc::{Allocator, Global};
 use std::marker::Model;
 
 /// Whether a patch's undo bytes may be dropped. It is the maker's leave: a patch that may still have to be taken back
-/// keeps them all the same (Featherstitch's hard patches, by the rule of our profile).
+/// keeps them all the same (Featherstitch's hard patches; that theirs are durable or hard patches of the same block is a
+/// rule of our own).
 #[derive(Clone, Copy, Debug, PartialEq, Eq)]
 pub enum Undo {
     Keep,

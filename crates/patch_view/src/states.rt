@@ -122,7 +122,7 @@ impl<A: Allocator> BlockState<A> {
     }
 
     /// Takes the class of this patch back, whose number is any member's. The bytes are then the block's without it and
-    /// without what was taken before. It looks once at each record, exchanges the span's bytes, and takes no memory.
+    /// without what was taken before. It looks at the records one after another, exchanges the span's bytes, and takes no memory.
     pub fn take(&mut self, no: PatchNo) -> Result<(), TakeRefusal>
         ensures answer { (h : History) (taken : List ℕ) → Represents self.old taken h
             → MatchResult result (λ done. IsTaken h taken no self.new) (λ refusal. IsWhyNotTaken h taken no refusal) }

@@ -13,3 +13,6 @@ returns-clause-blocks c = λ run legal. legal.few
 
 pub returns-clause-sends : goal.returns-clause-sends
 returns-clause-sends c = sending.few_sends
+
+pub returns-clause-opened : goal.returns-clause-opened
+returns-clause-opened c = λ first some few whole. record { some = some; few = few; blocks = whole; steps = tt }
