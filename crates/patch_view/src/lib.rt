@@ -11,8 +11,6 @@ pub mod laws;
 mod refusals;
 mod spans;
 mod states;
-#[cfg(test)]
-mod tests;
 mod views;
 
 pub use changes::Joint;

@@ -1,0 +1,43 @@
+//! Walks through the calls, memory taken and given back, and the names of refusals.
+use patch_model::{BlockBytes, OutOfMemory, PatchNo};
+use patch_view::{BlockState, TakeRefusal};
+use std::alloc::Allocator;
+use std::process::Abort;
+
+mod memory;
+mod names;
+mod walks;
+
+// A block of zeros.
+fn bare<A: Allocator + Copy>(alloc: A) -> Result<BlockState<A>, OutOfMemory> {
+    let first = BlockBytes::zeros(alloc)?;
+    Ok(BlockState::of(alloc, first))
+}
+
+fn has_joint<A: Allocator + Clone>(
+    block: &BlockState<A>,
+    a: u32,
+    b: u32,
+) -> Result<bool, OutOfMemory> {
+    let joint = block.joint(PatchNo(a), PatchNo(b))?;
+    Ok(joint.is_some())
+}
+
+fn join_by<A: Allocator + Clone>(
+    block: &mut BlockState<A>,
+    a: u32,
+    b: u32,
+) -> Result<(), OutOfMemory> {
+    let joint = block.joint(PatchNo(a), PatchNo(b))?;
+    block.join_by(joint);
+    Ok(())
+}
+
+fn expect_taken(rt: &impl Abort, answer: Result<(), TakeRefusal>, want: Result<(), TakeRefusal>) {
+    assert_eq!(rt; answer, want);
+}
+
+// The first four of these bytes are the wanted ones.
+fn expect_bytes(rt: &impl Abort, bytes: &[u8], want: [u8; 4]) {
+    assert_eq!(rt; bytes.get(..4), Some(want.as_slice()));
+}

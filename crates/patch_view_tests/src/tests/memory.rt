@@ -1,0 +1,183 @@
+//! Memory that is given back, and each allocation refused in turn.
+use super::{bare, expect_bytes, expect_taken, has_joint, join_by};
+use linked_list_allocator::LocalHeap;
+use patch_model::{OutOfMemory, PatchNo};
+use patch_view::{BlockState, TakeRefusal};
+use std::alloc::Global;
+use std::process::Abort;
+use std::test::Fail;
+
+fn lay_one_over_another(block: &mut BlockState<&LocalHeap>) -> Result<(), OutOfMemory> {
+    block.lay(PatchNo(0), 0, &[1; 500], &[], false)?;
+    block.lay(PatchNo(1), 0, &[2; 500], &[PatchNo(0)], false)
+}
+
+fn lay_and_unlay(block: &mut BlockState<&LocalHeap>) -> Result<(), OutOfMemory> {
+    block.lay(PatchNo(2), 0, &[3; 500], &[], false)?;
+    block.unlay();
+    Ok(())
+}
+
+// A patch made hard gives its undo bytes back.
+fn harden(rt: &impl Abort, heap: &LocalHeap, block: &mut BlockState<&LocalHeap>) {
+    let soft = heap.used();
+    block.harden();
+    assert!(rt; soft.saturating_sub(heap.used()) >= 500);
+}
+
+fn give_memory_back(
+    rt: &impl Abort,
+    heap: &LocalHeap,
+    block: &mut BlockState<&LocalHeap>,
+) -> Result<(), Fail> {
+    lay_one_over_another(block)?;
+    harden(rt, heap, block);
+    let hard = heap.used();
+    lay_and_unlay(block)?;
+    assert_eq!(rt; heap.used(), hard);
+    Ok(())
+}
+
+#[test]
+fn memory_is_given_back(rt: HostRuntime) -> Result<(), Fail> {
+    let heap = LocalHeap::new(rt.alloc(), 16384)?;
+    let mut block = bare(&heap)?;
+    give_memory_back(&rt, &heap, &mut block)
+}
+
+fn lay_two_that_touch(block: &mut BlockState<&LocalHeap>) -> Result<(), OutOfMemory> {
+    block.lay(PatchNo(0), 0, &[1; 500], &[], false)?;
+    block.lay(PatchNo(1), 400, &[2; 500], &[], false)
+}
+
+// A joint that is let go keeps no memory.
+fn draw_and_let_go(
+    rt: &impl Abort,
+    heap: &LocalHeap,
+    block: &BlockState<&LocalHeap>,
+) -> Result<(), Fail> {
+    let apart = heap.used();
+    assert!(rt; has_joint(block, 1, 0)?);
+    assert_eq!(rt; heap.used(), apart);
+    Ok(())
+}
+
+// How much memory is used while the joint isn't in place yet.
+fn join_drawn(heap: &LocalHeap, block: &mut BlockState<&LocalHeap>) -> Result<usize, OutOfMemory> {
+    let joint = block.joint(PatchNo(0), PatchNo(1))?;
+    let drawn = heap.used();
+    block.join_by(joint);
+    Ok(drawn)
+}
+
+fn join_in_place(
+    rt: &impl Abort,
+    heap: &LocalHeap,
+    block: &mut BlockState<&LocalHeap>,
+) -> Result<(), Fail> {
+    let apart = heap.used();
+    let drawn = join_drawn(heap, block)?;
+    assert!(rt; apart < drawn && heap.used() < drawn);
+    Ok(())
+}
+
+fn expect_joined(rt: &impl Abort, block: &mut BlockState<&LocalHeap>) {
+    expect_taken(rt, block.take(PatchNo(0)), Ok(()));
+    assert_eq!(rt; &block.bytes()[399..401], [0, 0].as_slice());
+}
+
+fn take_memory_once(
+    rt: &impl Abort,
+    heap: &LocalHeap,
+    block: &mut BlockState<&LocalHeap>,
+) -> Result<(), Fail> {
+    lay_two_that_touch(block)?;
+    draw_and_let_go(rt, heap, block)?;
+    join_in_place(rt, heap, block)?;
+    expect_joined(rt, block);
+    Ok(())
+}
+
+#[test]
+fn a_joint_takes_memory_once(rt: HostRuntime) -> Result<(), Fail> {
+    let heap = LocalHeap::new(rt.alloc(), 16384)?;
+    let mut block = bare(&heap)?;
+    take_memory_once(&rt, &heap, &mut block)
+}
+
+// Makes the first two patches one, at once or in two steps.
+fn merge(block: &mut BlockState<&LocalHeap>, at_once: bool) -> Result<(), OutOfMemory> {
+    if at_once {
+        return block.join(PatchNo(0), PatchNo(1));
+    }
+    join_by(block, 0, 1)
+}
+
+fn expect_nothing_laid(rt: &impl Abort, block: &mut BlockState<&LocalHeap>) {
+    expect_bytes(rt, block.cached(), [0, 0, 0, 0]);
+    expect_taken(rt, block.take(PatchNo(0)), Err(TakeRefusal::Unknown));
+}
+
+fn expect_one_laid(rt: &impl Abort, block: &mut BlockState<&LocalHeap>) {
+    expect_bytes(rt, block.cached(), [1, 2, 3, 0]);
+    expect_taken(rt, block.take(PatchNo(1)), Err(TakeRefusal::Unknown));
+    expect_taken(rt, block.take(PatchNo(0)), Ok(()));
+}
+
+fn expect_two_laid(rt: &impl Abort, block: &mut BlockState<&LocalHeap>) {
+    expect_bytes(rt, block.cached(), [1, 2, 4, 5]);
+    let named = TakeRefusal::DependentApplied(PatchNo(1));
+    expect_taken(rt, block.take(PatchNo(0)), Err(named));
+}
+
+fn expect_merged(rt: &impl Abort, block: &mut BlockState<&LocalHeap>) {
+    expect_taken(rt, block.take(PatchNo(1)), Ok(()));
+    expect_bytes(rt, block.bytes(), [0, 0, 0, 0]);
+}
+
+// Lays two patches and makes them one, and tells whether all was done: after a refusal the block shows what it showed
+// before.
+fn grow(rt: &impl Abort, block: &mut BlockState<&LocalHeap>, at_once: bool) -> bool {
+    let first = block.lay(PatchNo(0), 0, &[1, 2, 3], &[], false);
+    if first.is_err() {
+        expect_nothing_laid(rt, block);
+        return false;
+    }
+    let second = block.lay(PatchNo(1), 2, &[4, 5], &[PatchNo(0)], false);
+    if second.is_err() {
+        expect_one_laid(rt, block);
+        return false;
+    }
+    if merge(block, at_once).is_err() {
+        expect_two_laid(rt, block);
+        return false;
+    }
+    expect_merged(rt, block);
+    true
+}
+
+// Whether a block grows in a heap of this size.
+fn grow_in(rt: &impl Abort, alloc: Global, size: usize, at_once: bool) -> Result<bool, Fail> {
+    let heap = LocalHeap::new(alloc, size)?;
+    match bare(&heap) {
+        Ok(mut block) => Ok(grow(rt, &mut block, at_once)),
+        Err(_) => Ok(false),
+    }
+}
+
+// Heaps of rising sizes, of which some are too small and one is large enough.
+fn grow_from_nothing(rt: &impl Abort, alloc: Global, at_once: bool) -> Result<(), Fail> {
+    for size in 0..600usize {
+        if grow_in(rt, alloc, 4096 + size * 16, at_once)? {
+            assert!(rt; size > 8, "refused {size}");
+            return Ok(());
+        }
+    }
+    Err(Fail::from("refused in the largest heap"))
+}
+
+#[test]
+fn each_allocation_is_refused_in_turn(rt: HostRuntime) -> Result<(), Fail> {
+    grow_from_nothing(&rt, rt.alloc(), true)?;
+    grow_from_nothing(&rt, rt.alloc(), false)
+}

@@ -1,0 +1,418 @@
+//! Worked rows of views on one block, each state beside the plain piling.
+ghost use Rattle.std.specs.Prelude.{◌+◌, ◌≤◌, IfOk};
+ghost use Rattle.patch_model.specs.Pile.{end};
+
+use super::{bare, expect_bytes, expect_taken, has_joint, join_by};
+use patch_model::{
+    BLOCK, BlockBytes, BlockNo, Bytes, Numbers, OutOfMemory, Patch, PatchNo, Undo, pile,
+};
+use patch_view::PutBackRefusal::{DependencyTaken, NotTaken};
+use patch_view::TakeRefusal::{AlreadyTaken, DependentApplied, Hard, InFlight, Unknown};
+use patch_view::{BlockState, BlockView, PutBackRefusal, TakeRefusal};
+use std::alloc::Global;
+use std::process::Abort;
+use std::test::Fail;
+
+#[derive(Clone, Copy)]
+enum Deed<'a> {
+    // Lays a patch of this number at this place: at most four bytes, the patch that it names, and whether it is hard.
+    Lay(u32, usize, &'a [u8], Option<u32>, bool),
+    Unlay,
+    Harden,
+    Join(u32, u32),
+    // Draws a joint up and lets it go. Whether there is one.
+    Draw(u32, u32, bool),
+    // Draws a joint up and puts it in place.
+    JoinBy(u32, u32),
+    // Puts in place that there is no joint.
+    JoinNothing,
+    // Draws a joint up, and takes the newest patch off before it is put in place.
+    JoinGone(u32, u32),
+    Depart(u32),
+    DepartEach(u32, u32),
+    Land(u32),
+    LandEach,
+    Take(u32, Result<(), TakeRefusal>),
+    Back(u32, Result<(), PutBackRefusal>),
+    TakeAll,
+    Restore,
+}
+
+// A deed, and which patches are taken after it.
+#[derive(Clone, Copy)]
+struct Line<'a>(Deed<'a>, &'a [u32]);
+
+fn patch_of(
+    rt: &impl Abort,
+    alloc: Global,
+    no: u32,
+    start: usize,
+    bytes: &[u8],
+) -> Result<Patch, OutOfMemory>
+    ensures { IfOk result (λ p. end p ≤ BLOCK) }
+{
+    assert!(rt; start <= 100 && bytes.len() <= 4);
+    let bytes = Vec::from_slice(alloc, bytes)?;
+    Ok(Patch {
+        no: PatchNo(no),
+        block: BlockNo(0),
+        start,
+        bytes: Bytes::from_vec(bytes),
+        after: Numbers::from_vec(Vec::new(alloc)),
+        undo: Undo::Keep,
+    })
+}
+
+// What the plain piling leaves of the patches of these lines that aren't out.
+fn piled(
+    rt: &impl Abort,
+    alloc: Global,
+    lines: &[Line],
+    out: &[u32],
+) -> Result<BlockBytes, OutOfMemory> {
+    let mut patches = Vec::new(alloc);
+    for line in lines {
+        if let Deed::Lay(no, start, bytes, _, _) = &line.0 {
+            if !out.contains(no) {
+                patches.push(patch_of(rt, alloc, *no, *start, bytes)?)?;
+            }
+        }
+    }
+    let first = BlockBytes::zeros(alloc)?;
+    pile(alloc, &first, &patches)
+}
+
+fn lay(
+    rt: &impl Abort,
+    block: &mut BlockState,
+    no: u32,
+    start: usize,
+    bytes: &[u8],
+    after: Option<u32>,
+    hard: bool,
+) -> Result<(), OutOfMemory> {
+    assert!(rt; start <= 100 && bytes.len() <= 4);
+    match after {
+        Some(named) => block.lay(PatchNo(no), start, bytes, &[PatchNo(named)], hard),
+        None => block.lay(PatchNo(no), start, bytes, &[], hard),
+    }
+}
+
+fn join_what_is_gone(block: &mut BlockState, a: u32, b: u32) -> Result<(), OutOfMemory> {
+    let joint = block.joint(PatchNo(a), PatchNo(b))?;
+    block.unlay();
+    block.join_by(joint);
+    Ok(())
+}
+
+fn expect_back(
+    rt: &impl Abort,
+    answer: Result<(), PutBackRefusal>,
+    want: Result<(), PutBackRefusal>,
+) {
+    assert_eq!(rt; answer, want);
+}
+
+fn act(rt: &impl Abort, block: &mut BlockState, deed: &Deed) -> Result<(), OutOfMemory> {
+    match deed {
+        Deed::Lay(no, start, bytes, after, hard) => {
+            return lay(rt, block, *no, *start, bytes, *after, *hard);
+        }
+        Deed::Join(a, b) => return block.join(PatchNo(*a), PatchNo(*b)),
+        Deed::Draw(a, b, drawn) => assert_eq!(rt; has_joint(block, *a, *b)?, *drawn),
+        Deed::JoinBy(a, b) => return join_by(block, *a, *b),
+        Deed::JoinNothing => block.join_by(None),
+        Deed::JoinGone(a, b) => return join_what_is_gone(block, *a, *b),
+        Deed::Unlay => block.unlay(),
+        Deed::Harden => block.harden(),
+        Deed::Depart(no) => block.depart(PatchNo(*no)),
+        Deed::DepartEach(a, b) => block.depart_each(&[PatchNo(*a), PatchNo(*b)]),
+        Deed::Land(no) => block.land(PatchNo(*no)),
+        Deed::LandEach => block.land_each(),
+        Deed::Take(no, answer) => expect_taken(rt, block.take(PatchNo(*no)), *answer),
+        Deed::Back(no, answer) => expect_back(rt, block.put_back(PatchNo(*no)), *answer),
+        Deed::TakeAll => block.take_all(),
+        Deed::Restore => block.put_all_back(),
+    }
+    Ok(())
+}
+
+// The last of these lines, after which the block shows the piling of the patches that they lay.
+fn step(
+    rt: &impl Abort,
+    alloc: Global,
+    block: &mut BlockState,
+    lines: &[Line],
+    line: &Line,
+) -> Result<(), Fail> {
+    act(rt, block, &line.0)?;
+    let want = piled(rt, alloc, lines, line.1)?;
+    assert!(rt; block.bytes() == want.as_slice());
+    Ok(())
+}
+
+fn take_steps(
+    rt: &impl Abort,
+    alloc: Global,
+    block: &mut BlockState,
+    lines: &[Line],
+) -> Result<(), Fail> {
+    for at in 0..lines.len() {
+        step(rt, alloc, block, &lines[..at + 1], &lines[at])?;
+    }
+    Ok(())
+}
+
+fn walk(rt: &impl Abort, alloc: Global, lines: &[Line]) -> Result<(), Fail> {
+    let mut block = bare(alloc)?;
+    take_steps(rt, alloc, &mut block, lines)
+}
+
+const ONE_OVER_ANOTHER: [Line<'static>; 12] = [
+    Line(Deed::Lay(0, 0, &[0xa1, 0xa2, 0xa3, 0xa4], None, false), &[]),
+    Line(Deed::Lay(1, 2, &[0xb1, 0xb2, 0xb3, 0xb4], None, false), &[]),
+    Line(Deed::Take(0, Err(DependentApplied(PatchNo(1)))), &[]),
+    Line(Deed::Take(1, Ok(())), &[1]),
+    Line(Deed::Take(0, Ok(())), &[0, 1]),
+    Line(Deed::Back(1, Err(DependencyTaken(PatchNo(0)))), &[0, 1]),
+    Line(Deed::Back(0, Ok(())), &[1]),
+    Line(Deed::Restore, &[]),
+    Line(Deed::Join(0, 1), &[]),
+    Line(Deed::Take(1, Ok(())), &[0, 1]),
+    Line(Deed::Take(0, Err(AlreadyTaken)), &[0, 1]),
+    Line(Deed::Back(0, Ok(())), &[]),
+];
+
+#[test]
+fn the_upper_of_two_is_taken_first(rt: HostRuntime) -> Result<(), Fail> {
+    walk(&rt, rt.alloc(), &ONE_OVER_ANOTHER)
+}
+
+const THREE_APART: [Line<'static>; 13] = [
+    Line(Deed::Lay(0, 0, &[0xaa], None, false), &[]),
+    Line(Deed::Lay(1, 4, &[0xbb], None, false), &[]),
+    Line(Deed::Lay(2, 8, &[0xcc], None, false), &[]),
+    Line(Deed::Take(0, Ok(())), &[0]),
+    Line(Deed::Back(2, Err(NotTaken)), &[0]),
+    Line(Deed::Take(2, Ok(())), &[0, 2]),
+    Line(Deed::Restore, &[]),
+    Line(Deed::Take(2, Ok(())), &[2]),
+    Line(Deed::Take(0, Ok(())), &[0, 2]),
+    Line(Deed::TakeAll, &[0, 1, 2]),
+    Line(Deed::Take(7, Err(Unknown)), &[0, 1, 2]),
+    Line(Deed::Back(7, Err(NotTaken)), &[0, 1, 2]),
+    Line(Deed::Restore, &[]),
+];
+
+#[test]
+fn patches_apart_are_taken_in_any_order(rt: HostRuntime) -> Result<(), Fail> {
+    walk(&rt, rt.alloc(), &THREE_APART)
+}
+
+const NAMED_AND_HARD: [Line<'static>; 11] = [
+    Line(Deed::Lay(0, 0, &[0xaa], None, false), &[]),
+    Line(Deed::Lay(1, 4, &[0xbb], Some(0), false), &[]),
+    Line(Deed::Take(0, Err(DependentApplied(PatchNo(1)))), &[]),
+    Line(Deed::Take(1, Ok(())), &[1]),
+    Line(Deed::Take(1, Err(AlreadyTaken)), &[1]),
+    Line(Deed::Restore, &[]),
+    Line(Deed::Lay(2, 8, &[0x11, 0x12], None, true), &[]),
+    Line(Deed::Take(2, Err(Hard)), &[]),
+    Line(Deed::Lay(3, 9, &[0x22, 0x23], None, false), &[]),
+    Line(Deed::Take(3, Ok(())), &[3]),
+    Line(Deed::Restore, &[]),
+];
+
+#[test]
+fn named_ones_wait_and_hard_ones_stay(rt: HostRuntime) -> Result<(), Fail> {
+    walk(&rt, rt.alloc(), &NAMED_AND_HARD)
+}
+
+// The place of the merge in the walk after it.
+const MERGE: usize = 6;
+
+const MERGED_OVER_A_GAP: [Line<'static>; 22] = [
+    Line(Deed::Lay(0, 0, &[0xaa, 0xaa], None, false), &[]),
+    Line(Deed::Lay(1, 4, &[0xbb, 0xbb], None, false), &[]),
+    Line(Deed::Lay(2, 2, &[0xcc, 0xcc, 0xcc], None, false), &[]),
+    Line(Deed::Draw(0, 2, true), &[]),
+    Line(Deed::Take(0, Ok(())), &[0]),
+    Line(Deed::Restore, &[]),
+    Line(Deed::Join(0, 2), &[]),
+    Line(Deed::Take(1, Err(DependentApplied(PatchNo(0)))), &[]),
+    Line(Deed::Take(0, Ok(())), &[0, 2]),
+    Line(Deed::Take(1, Ok(())), &[0, 1, 2]),
+    Line(Deed::Back(2, Err(DependencyTaken(PatchNo(1)))), &[0, 1, 2]),
+    Line(Deed::Restore, &[]),
+    Line(Deed::TakeAll, &[0, 1, 2]),
+    Line(Deed::Restore, &[]),
+    Line(Deed::Depart(1), &[]),
+    Line(Deed::Take(1, Err(InFlight)), &[]),
+    Line(Deed::Take(2, Ok(())), &[0, 2]),
+    Line(Deed::Restore, &[]),
+    Line(Deed::Land(1), &[]),
+    Line(Deed::Take(1, Err(Unknown)), &[]),
+    Line(Deed::Take(0, Ok(())), &[0, 2]),
+    Line(Deed::Restore, &[]),
+];
+
+// The same walk, with the joint of these two drawn up before it is put in place.
+fn join_over_a_gap(rt: &impl Abort, alloc: Global, a: u32, b: u32) -> Result<(), Fail> {
+    let mut lines = MERGED_OVER_A_GAP;
+    lines[MERGE] = Line(Deed::JoinBy(a, b), &[]);
+    walk(rt, alloc, &lines)
+}
+
+#[test]
+fn a_merge_over_a_gap_is_taken_as_one(rt: HostRuntime) -> Result<(), Fail> {
+    walk(&rt, rt.alloc(), &MERGED_OVER_A_GAP)?;
+    join_over_a_gap(&rt, rt.alloc(), 0, 2)?;
+    join_over_a_gap(&rt, rt.alloc(), 2, 0)
+}
+
+const TWO_OF_THREE_TOGETHER: [Line<'static>; 11] = [
+    Line(Deed::Lay(0, 0, &[0xaa], None, false), &[]),
+    Line(Deed::Lay(1, 4, &[0xbb], None, false), &[]),
+    Line(Deed::Lay(2, 8, &[0xcc], None, false), &[]),
+    Line(Deed::DepartEach(0, 2), &[]),
+    Line(Deed::Take(0, Err(InFlight)), &[]),
+    Line(Deed::Take(2, Err(InFlight)), &[]),
+    Line(Deed::LandEach, &[]),
+    Line(Deed::Take(0, Err(Unknown)), &[]),
+    Line(Deed::Take(2, Err(Unknown)), &[]),
+    Line(Deed::Take(1, Ok(())), &[1]),
+    Line(Deed::Restore, &[]),
+];
+
+#[test]
+fn two_of_three_depart_and_land_together(rt: HostRuntime) -> Result<(), Fail> {
+    walk(&rt, rt.alloc(), &TWO_OF_THREE_TOGETHER)
+}
+
+const OVER_ONE_IN_FLIGHT: [Line<'static>; 11] = [
+    Line(Deed::Lay(0, 0, &[0x11], None, false), &[]),
+    Line(Deed::Depart(0), &[]),
+    Line(Deed::Lay(1, 0, &[0x22], None, false), &[]),
+    Line(Deed::Take(1, Ok(())), &[1]),
+    Line(Deed::Take(0, Err(InFlight)), &[1]),
+    Line(Deed::Restore, &[]),
+    Line(Deed::TakeAll, &[1]),
+    Line(Deed::Restore, &[]),
+    Line(Deed::Land(0), &[]),
+    Line(Deed::Take(0, Err(Unknown)), &[]),
+    Line(Deed::Take(1, Ok(())), &[1]),
+];
+
+#[test]
+fn one_over_a_flight_is_taken_alone(rt: HostRuntime) -> Result<(), Fail> {
+    walk(&rt, rt.alloc(), &OVER_ONE_IN_FLIGHT)
+}
+
+const UNDER_A_LATER_DURABLE_ONE: [Line<'static>; 6] = [
+    Line(Deed::Lay(1, 0, &[0xaa], Some(0), false), &[]),
+    Line(Deed::Lay(2, 4, &[0xbb], None, false), &[]),
+    Line(Deed::Depart(2), &[]),
+    Line(Deed::Land(2), &[]),
+    Line(Deed::Take(1, Ok(())), &[1]),
+    Line(Deed::Restore, &[]),
+];
+
+#[test]
+fn one_under_a_later_durable_one_is_taken(rt: HostRuntime) -> Result<(), Fail> {
+    walk(&rt, rt.alloc(), &UNDER_A_LATER_DURABLE_ONE)
+}
+
+const HARD_OVER_HARD: [Line<'static>; 7] = [
+    Line(Deed::Lay(0, 0, &[0x11], None, true), &[]),
+    Line(Deed::Lay(1, 0, &[0x22], None, true), &[]),
+    Line(Deed::Take(1, Err(Hard)), &[]),
+    Line(Deed::Back(1, Err(NotTaken)), &[]),
+    Line(Deed::Lay(2, 0, &[0x33], None, false), &[]),
+    Line(Deed::TakeAll, &[2]),
+    Line(Deed::Restore, &[]),
+];
+
+#[test]
+fn hard_ones_are_never_taken(rt: HostRuntime) -> Result<(), Fail> {
+    walk(&rt, rt.alloc(), &HARD_OVER_HARD)
+}
+
+const TAKEN_OFF_AND_LAID_AGAIN: [Line<'static>; 13] = [
+    Line(Deed::Lay(0, 0, &[0xa1, 0xa2, 0xa3, 0xa4], None, false), &[]),
+    Line(Deed::Lay(1, 2, &[0xb1, 0xb2, 0xb3, 0xb4], None, false), &[]),
+    Line(Deed::Unlay, &[1]),
+    Line(Deed::Take(1, Err(Unknown)), &[1]),
+    Line(Deed::Lay(1, 2, &[0xb1, 0xb2, 0xb3, 0xb4], None, false), &[]),
+    Line(Deed::Take(0, Err(DependentApplied(PatchNo(1)))), &[]),
+    Line(Deed::Take(1, Ok(())), &[1]),
+    Line(Deed::Restore, &[]),
+    Line(Deed::Unlay, &[1]),
+    Line(Deed::Take(0, Ok(())), &[0, 1]),
+    Line(Deed::Restore, &[1]),
+    Line(Deed::Unlay, &[0, 1]),
+    Line(Deed::Unlay, &[0, 1]),
+];
+
+#[test]
+fn the_newest_is_taken_off_and_laid_again(rt: HostRuntime) -> Result<(), Fail> {
+    walk(&rt, rt.alloc(), &TAKEN_OFF_AND_LAID_AGAIN)
+}
+
+const MADE_HARD_ONCE_LAID: [Line<'static>; 8] = [
+    Line(Deed::Lay(0, 0, &[0xa1, 0xa2, 0xa3, 0xa4], None, false), &[]),
+    Line(Deed::Lay(1, 2, &[0xb1, 0xb2, 0xb3, 0xb4], None, false), &[]),
+    Line(Deed::Harden, &[]),
+    Line(Deed::Take(1, Err(Hard)), &[]),
+    Line(Deed::Take(0, Err(DependentApplied(PatchNo(1)))), &[]),
+    Line(Deed::Lay(2, 3, &[0xcc], None, false), &[]),
+    Line(Deed::Take(2, Ok(())), &[2]),
+    Line(Deed::Restore, &[]),
+];
+
+#[test]
+fn the_newest_is_made_hard(rt: HostRuntime) -> Result<(), Fail> {
+    walk(&rt, rt.alloc(), &MADE_HARD_ONCE_LAID)
+}
+
+const NO_JOINT: [Line<'static>; 9] = [
+    Line(Deed::Lay(0, 0, &[1, 2], None, false), &[]),
+    Line(Deed::Lay(1, 2, &[3], None, false), &[]),
+    Line(Deed::Draw(0, 0, false), &[]),
+    Line(Deed::Draw(0, 7, false), &[]),
+    Line(Deed::Draw(7, 0, false), &[]),
+    Line(Deed::JoinNothing, &[]),
+    Line(Deed::Take(0, Ok(())), &[0]),
+    Line(Deed::Restore, &[]),
+    Line(Deed::JoinGone(0, 1), &[1]),
+];
+
+#[test]
+fn what_is_not_two_classes_has_no_joint(rt: HostRuntime) -> Result<(), Fail> {
+    walk(&rt, rt.alloc(), &NO_JOINT)
+}
+
+fn change_view(rt: &impl Abort, view: &mut BlockView) {
+    let named = TakeRefusal::DependentApplied(PatchNo(1));
+    expect_taken(rt, view.take(PatchNo(0)), Err(named));
+    expect_taken(rt, view.take(PatchNo(1)), Ok(()));
+    expect_bytes(rt, view.bytes(), [1, 2, 3, 0]);
+    expect_back(rt, view.put_back(PatchNo(1)), Ok(()));
+    view.take_all();
+    expect_bytes(rt, view.bytes(), [0, 0, 0, 0]);
+}
+
+fn put_view_right(rt: &impl Abort, block: &mut BlockState) -> Result<(), Fail> {
+    lay(rt, block, 0, 0, &[1, 2, 3], None, false)?;
+    lay(rt, block, 1, 1, &[7], None, false)?;
+    let mut view = block.view();
+    change_view(rt, &mut view);
+    view.restore();
+    expect_bytes(rt, block.cached(), [1, 7, 3, 0]);
+    Ok(())
+}
+
+#[test]
+fn a_view_is_put_right(rt: HostRuntime) -> Result<(), Fail> {
+    let mut block = bare(rt.alloc())?;
+    put_view_right(&rt, &mut block)
+}
