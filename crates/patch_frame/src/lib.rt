@@ -24,8 +24,3 @@ pub use pointers::{
 pub use runs::{FramesRefusal, frames, frames_within};
 pub use slots::{MAX_FRAME, SLOT_BYTES, Slot, SlotState, read_slot, read_slot_within, write_slot};
 pub use superblock::{read_superblock, write_superblock};
-
-#[cfg(test)]
-mod mutations;
-#[cfg(test)]
-mod tests;

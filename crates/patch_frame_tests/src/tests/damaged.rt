@@ -1,5 +1,6 @@
 //! Readers against plain ones, written from the tables of the formats, on damaged bytes.
-use crate::*;
+use super::disk;
+use patch_frame::*;
 use patch_model::OutOfMemory;
 use std::alloc::Global;
 use std::process::Abort;
@@ -192,14 +193,6 @@ fn damage(chance: &mut Chance, bytes: &mut Vec<u8>) {
     }
 }
 
-fn disk(format: Format) -> Geometry {
-    Geometry {
-        index: 1,
-        extents: 60,
-        format,
-    }
-}
-
 fn whole_slot(alloc: Global) -> Result<Vec<u8>, OutOfMemory> {
     let slot = Slot {
         key: b"0123456789abcdefghijklmnopqrstuv",
@@ -224,7 +217,7 @@ fn whole_superblock(
     alloc: Global,
     format: Format,
 ) -> Result<Vec<u8>, OutOfMemory> {
-    let geometry = disk(format);
+    let geometry = disk(60, format);
     assert!(rt; geometry.is_valid());
     Ok(write_superblock(alloc, geometry)?.into_vec())
 }
@@ -306,7 +299,7 @@ fn damage_one(
 }
 
 #[test]
-fn damaged_bytes(rt: HostRuntime) -> Result<(), Fail> {
+fn damaged_bytes_are_read_as_by_plain_readers(rt: HostRuntime) -> Result<(), Fail> {
     let mut chance = Chance { state: 1 };
     let mut accepted = 0u32;
     for turn in 0..10_000usize {

@@ -1,10 +1,12 @@
 //! What no contract says: the bytes of worked examples, each refusal, and refused memory.
-use crate::*;
 use linked_list_allocator::LocalHeap;
+use patch_frame::*;
 use patch_model::{BlockBytes, OutOfMemory, RefusalKind};
 use std::alloc::Global;
 use std::process::Abort;
 use std::test::Fail;
+
+mod damaged;
 
 // The frame of the key `k` with the empty value.
 const EMPTY: [u8; 17] = *b"FCH1\x01\0\0\0\0\0\0\0k1HCF";
@@ -31,10 +33,11 @@ fn padded(alloc: Global, front: &[u8], length: usize) -> Result<Vec<u8>, Fail> {
     Ok(bytes)
 }
 
-fn disk(format: Format) -> Geometry {
+// A disk of one index block.
+fn disk(extents: u32, format: Format) -> Geometry {
     Geometry {
         index: 1,
-        extents: 2,
+        extents,
         format,
     }
 }
@@ -59,7 +62,7 @@ fn expect_pointer(rt: &impl Abort, pointer: Pointer, want: [u8; 8]) {
 }
 
 #[test]
-fn one_put_on_a_new_disk(rt: HostRuntime) -> Result<(), Fail> {
+fn one_put_on_a_new_disk_writes_this_frame_and_pointer(rt: HostRuntime) -> Result<(), Fail> {
     expect_frame(&rt, rt.alloc(), &[], &EMPTY)?;
     expect_frame(&rt, rt.alloc(), &[1, 2], &FRAME)?;
     let pointer = Pointer {
@@ -89,7 +92,7 @@ fn expect_slot_within(rt: &impl Abort, bytes: &[u8], want: Result<SlotState, Fra
 }
 
 #[test]
-fn the_slot_of_one_put(rt: HostRuntime) -> Result<(), Fail> {
+fn one_put_writes_this_slot(rt: HostRuntime) -> Result<(), Fail> {
     let used = SlotState::Used(Slot {
         key: b"k",
         extent: 0,
@@ -104,7 +107,7 @@ fn the_slot_of_one_put(rt: HostRuntime) -> Result<(), Fail> {
 }
 
 #[test]
-fn an_empty_slot(rt: HostRuntime) -> Result<(), Fail> {
+fn an_empty_slot_is_zeros(rt: HostRuntime) -> Result<(), Fail> {
     let slot = write_slot(rt.alloc(), &SlotState::Empty)?;
     expect_padded(&rt, rt.alloc(), &slot, &[])?;
     expect_slot(&rt, &slot, Ok(SlotState::Empty));
@@ -126,14 +129,14 @@ fn expect_superblock(
 }
 
 #[test]
-fn superblocks_of_both_versions(rt: HostRuntime) -> Result<(), Fail> {
+fn superblocks_of_both_versions_are_read_again(rt: HostRuntime) -> Result<(), Fail> {
     let two = Format::Two { length: 64 };
-    expect_superblock(&rt, rt.alloc(), disk(Format::One), &SUPERBLOCK)?;
-    expect_superblock(&rt, rt.alloc(), disk(two), &SUPERBLOCK_TWO)
+    expect_superblock(&rt, rt.alloc(), disk(2, Format::One), &SUPERBLOCK)?;
+    expect_superblock(&rt, rt.alloc(), disk(2, two), &SUPERBLOCK_TWO)
 }
 
 #[test]
-fn a_pointer_of_every_byte(rt: HostRuntime) {
+fn each_byte_of_a_pointer_has_its_place(rt: HostRuntime) {
     let pointer = Pointer {
         generation: 0x0102_0304,
         offset: 0x0003_0201,
@@ -146,7 +149,7 @@ const EVERY_BYTE: [u8; 48] =
     *b"\x01\x20\x05\x06\x07\x08\x09\x0a\x0b\x0c\x0d\x0e\x00\x01\xf0\x0fabcdefghijklmnopqrstuvwxyz012345";
 
 #[test]
-fn a_slot_of_every_byte(rt: HostRuntime) -> Result<(), Fail> {
+fn each_byte_of_a_slot_has_its_place(rt: HostRuntime) -> Result<(), Fail> {
     let used = SlotState::Used(Slot {
         key: b"abcdefghijklmnopqrstuvwxyz012345",
         extent: 0x0506,
@@ -162,9 +165,9 @@ fn a_slot_of_every_byte(rt: HostRuntime) -> Result<(), Fail> {
 }
 
 #[test]
-fn places(rt: HostRuntime) {
-    let one = disk(Format::One);
-    let two = disk(Format::Two { length: 64 });
+fn blocks_and_records_have_their_places(rt: HostRuntime) {
+    let one = disk(2, Format::One);
+    let two = disk(2, Format::Two { length: 64 });
     assert!(rt; one.is_valid() && two.is_valid());
     assert_eq!(rt; (one.block_count(), two.block_count()), (35, 131));
     assert_eq!(rt; (one.pointer_block(), one.slot_count()), (2, 64));
@@ -188,7 +191,7 @@ fn expect_limits(rt: &impl Abort, format: Format, want: [u32; 5]) {
 }
 
 #[test]
-fn limits(rt: HostRuntime) {
+fn each_version_has_its_limits(rt: HostRuntime) {
     expect_limits(&rt, Format::One, [1, 16, 65_536, 32_768, 32_816]);
     for (length, pointer, value) in [
         (16, 65_536, 65_488),
@@ -202,7 +205,7 @@ fn limits(rt: HostRuntime) {
 }
 
 #[test]
-fn divisions_of_a_disk(rt: HostRuntime) {
+fn some_divisions_of_a_disk_are_valid(rt: HostRuntime) {
     let table = [
         (1, 2, Format::One, true),
         (16, 254, Format::One, true),
@@ -231,7 +234,7 @@ fn divisions_of_a_disk(rt: HostRuntime) {
 const TWO_AND_A_BYTE: [u8; 35] = *b"FCH1\x01\0\0\0\0\0\0\0k1HCFFCH1\x01\0\0\0\0\0\0\0k1HCFF";
 
 #[test]
-fn frames_that_end_badly(rt: HostRuntime) {
+fn frames_that_end_badly_are_refused(rt: HostRuntime) {
     let short = decode(&EMPTY[..16]);
     assert_eq!(rt; short, Err(FrameFault::Short));
     let other = decode(b"FCH1\x01\0\0\0\0\0\0\0k1HCf");
@@ -239,7 +242,7 @@ fn frames_that_end_badly(rt: HostRuntime) {
 }
 
 #[test]
-fn runs_of_frames(rt: HostRuntime) -> Result<(), Fail> {
+fn runs_of_frames_are_read(rt: HostRuntime) -> Result<(), Fail> {
     let frame = Frame {
         key: b"k",
         value: &[],
@@ -252,7 +255,7 @@ fn runs_of_frames(rt: HostRuntime) -> Result<(), Fail> {
 }
 
 #[test]
-fn a_run_that_ends_badly(rt: HostRuntime) {
+fn a_run_that_ends_badly_is_refused(rt: HostRuntime) {
     let refusal = frames(rt.alloc(), &TWO_AND_A_BYTE).err();
     assert_eq!(rt; refusal, Some(FramesRefusal::Fault(FrameFault::Short)));
 }
@@ -298,7 +301,7 @@ fn expect_too_wide(rt: &impl Abort, alloc: Global, value: &[u8]) -> Result<(), F
 }
 
 #[test]
-fn values_at_their_limits(rt: HostRuntime) -> Result<(), Fail> {
+fn values_are_read_up_to_their_limits(rt: HostRuntime) -> Result<(), Fail> {
     let value = vec![in rt.alloc(); 7; 32_769]?;
     expect_narrow(&rt, rt.alloc(), &value[..32_768])?;
     expect_too_wide(&rt, rt.alloc(), &value)
@@ -382,7 +385,7 @@ fn expect_bad_frame(
 
 // Each test fails alone and together with each later one: the earlier one answers.
 #[test]
-fn first_test_answers_of_frames(rt: HostRuntime) -> Result<(), Fail> {
+fn the_first_failing_test_of_a_frame_answers(rt: HostRuntime) -> Result<(), Fail> {
     for (first, (one, want)) in TESTS_OF_FRAMES.iter().enumerate() {
         for (other, _) in &TESTS_OF_FRAMES[first..] {
             expect_bad_frame(&rt, rt.alloc(), [*one, *other], *want)?;
@@ -404,7 +407,7 @@ fn expect_bad_slot(
 }
 
 #[test]
-fn first_test_answers_of_slots(rt: HostRuntime) -> Result<(), Fail> {
+fn the_first_failing_test_of_a_slot_answers(rt: HostRuntime) -> Result<(), Fail> {
     for (first, (one, want)) in TESTS_OF_SLOTS.iter().enumerate() {
         for (other, _) in &TESTS_OF_SLOTS[first..] {
             expect_bad_slot(&rt, rt.alloc(), [*one, *other], *want)?;
@@ -428,7 +431,7 @@ fn expect_bad_superblock(
 }
 
 #[test]
-fn first_test_answers_of_superblocks(rt: HostRuntime) -> Result<(), Fail> {
+fn the_first_failing_test_of_a_superblock_answers(rt: HostRuntime) -> Result<(), Fail> {
     for (first, (one, want)) in TESTS_OF_SUPERBLOCKS.iter().enumerate() {
         for (other, _) in &TESTS_OF_SUPERBLOCKS[first..] {
             expect_bad_superblock(&rt, rt.alloc(), &SUPERBLOCK, [*one, *other], *want)?;
@@ -446,7 +449,7 @@ fn version_two_has_tests_of_its_own(rt: HostRuntime) -> Result<(), Fail> {
 }
 
 #[test]
-fn pointers_past_the_end(rt: HostRuntime) {
+fn pointers_past_the_end_are_refused(rt: HostRuntime) {
     let over = [0, 0, 0, 0, 0, 1, 0, 1];
     let wide = Pointer {
         generation: 0,
@@ -514,7 +517,7 @@ fn write_each(rt: &impl Abort, heap: &LocalHeap) -> Result<(), OutOfMemory> {
 }
 
 fn write_block(rt: &impl Abort, heap: &LocalHeap) -> Result<(), OutOfMemory> {
-    let geometry = disk(Format::One);
+    let geometry = disk(2, Format::One);
     assert!(rt; geometry.is_valid());
     let superblock: BlockBytes<&LocalHeap> = write_superblock(heap, geometry)?;
     assert_eq!(rt; read_superblock(superblock.as_slice()), Ok(geometry));
@@ -570,7 +573,7 @@ fn nine_frames(alloc: Global) -> Result<Vec<u8>, OutOfMemory> {
 }
 
 #[test]
-fn refuses_each_allocation_in_turn(rt: HostRuntime) -> Result<(), Fail> {
+fn each_allocation_is_refused_in_turn(rt: HostRuntime) -> Result<(), Fail> {
     let bytes = nine_frames(rt.alloc())?;
     let refused = count_small(&rt, rt.alloc(), &bytes)?;
     assert!(rt; refused > 200, "refused {refused}");
