@@ -1,15 +1,16 @@
 -- What a search finds are the paths.
-use Rattle.std.proofs.Common.{◌≡◌, ℕ, ◌<◌, ◌≤◌, ◌⊎◌, ◌∙◌, inl, inr, Bool, true, false, not, List, length, sym, ap, arith, subst, Some, None, IsTrue}
+use Rattle.std.proofs.Common.{◌≡◌, ℕ, ◌<◌, ◌≤◌, ◌⊎◌, ◌∙◌, inl, inr, Bool, true, false, not, List, length, refl, sym, ap, arith, subst, Option, Some, None, IsTrue}
 use Rattle.std.specs.Prelude.{◌==◌, ◌&&◌, ◌≢◌, ◌↔◌}
 use Rattle.std.specs.List.{list_any}
 use Rattle.std.proofs.lemmas.Bool.{cases_Bool, cases_eq, and_parts, and_from, both_ways, eqb-true, eq-eqb, ne_eqb}
 use Rattle.patch_model.specs.Entry.{Entry, is_durable, marks_durable, is_among}
 use Rattle.patch_model.specs.Dependency.{depends_directly, Path, one as one_path, onward as onward_path, class_depends}
 use Rattle.patch_model.specs.Member.{In, list_any-at, list_any-from}
-use Rattle.patch_graph.specs.State.{Class, Graph, find, class_at, leads, leads_at}
+use Rattle.patch_graph.specs.State.{Class, Graph, Numbers, find, class_at, leads, leads_at}
 use Rattle.patch_graph.specs.Marks.{is_marked}
 use Rattle.patch_graph.proofs.Facts.{known}
-use Rattle.patch_graph.specs.Meaning.{Leads, one, onward, DependsOn, Represents, IsLiveClass}
+use Rattle.patch_graph.specs.Meaning.{Leads, one, onward, DependsOn, Represents, IsLiveClass, IsNotLive}
+use Rattle.patch_graph.specs.Between.{ReachesOther, LacksAnEnd, LacksAKey}
 use Rattle.patch_graph.specs.Search.{IsReachable}
 use Rattle.patch_graph.proofs.Readying.{placed, some_same, class_same, In-is_among}
 use Rattle.patch_graph.proofs.Searches.{found-lead}
@@ -138,25 +139,52 @@ module _ (g : Graph) (all : List Entry) (r : Represents g all) where
       | inr q ↦ marked-Leads k j q m
     ]
 
+-- two classes at two keys, of which the first is where a search began
 pub reaches_is : (g : Graph) (all : List Entry) (a b x y from to : ℕ) (marks : List Bool) → Represents g all → length g.slots ≤ length marks
-    → IsLiveClass all a x → IsLiveClass all b y → x ≢ y → find g.numbers a ≡ Some from → find g.numbers b ≡ Some to
-    → IsReachable g.slots g.numbers from to marks → IsTrue (is_marked marks to) ↔ Path all x y
-reaches_is g all a b x y from to marks r low la lb differ fa fb s =
+    → IsLiveClass all a x → IsLiveClass all b y → from ≢ to → find g.numbers a ≡ Some from → find g.numbers b ≡ Some to
+    → IsReachable g.slots g.numbers from to marks → IsTrue (is_marked marks to) ↔ ReachesOther all x y
+reaches_is g all a b x y from to marks r low la lb apart fa fb s =
     let qa = placed g all r la.0 from la.1 (ap (find g.numbers) la.2 ∙ fa) in
     let qb = placed g all r lb.0 to lb.1 (ap (find g.numbers) lb.2 ∙ fb) in
     let na : qa.0.name ≡ x = qa.2 ∙ la.4 in
-    let nb : qb.0.name ≡ y = qb.2 ∙ lb.4 in (
-      (λ t. elim (s.reached to t) [
-        | inl e ↦
-            let same = class_same qa.0 qb.0 (sym qa.1 ∙ ap (class_at g.slots) e ∙ qb.1) in
-            absurd (differ (sym na ∙ ap (λ z. z.name) same ∙ nb))
-        | inr l ↦ elim (Leads-path g all r from to qa.0 qb.0 l qa.1 qb.1) [
-          | inl e ↦ absurd (differ (sym na ∙ e ∙ nb))
-          | inr p ↦ subst (λ z. Path all z y) na (subst (λ z. Path all qa.0.name z) nb p)
-        ]
-      ]),
-      (λ p. elim (marked-path g all r from to marks s low x y from to qa.0 qb.0 p na nb qa.1 qb.1 s.first) [ inl m ↦ m.0 | inr m ↦ m ]),
+    let nb : qb.0.name ≡ y = qb.2 ∙ lb.4 in
+    let differ : x ≢ y = λ e. apart (one-key g all r from to qa.0 qb.0 qa.1 qb.1 (na ∙ e ∙ sym nb)) in (
+      (λ t. (
+        differ,
+        elim (s.reached to t) [
+          | inl e ↦ absurd (apart e)
+          | inr l ↦ elim (Leads-path g all r from to qa.0 qb.0 l qa.1 qb.1) [
+            | inl e ↦ absurd (differ (sym na ∙ e ∙ nb))
+            | inr p ↦ subst (λ z. Path all z y) na (subst (λ z. Path all qa.0.name z) nb p)
+          ]
+        ],
+      )),
+      (λ p. elim (marked-path g all r from to marks s low x y from to qa.0 qb.0 p.1 na nb qa.1 qb.1 s.first) [ inl m ↦ m.0 | inr m ↦ m ]),
     )
+
+-- two live patches at one key are of one class, which doesn't reach itself
+pub reaches-not : (g : Graph) (all : List Entry) (a b x y from to : ℕ) → Represents g all → IsLiveClass all a x → IsLiveClass all b y
+    → find g.numbers a ≡ Some from → find g.numbers b ≡ Some to → from ≡ to → ReachesOther all x y → ⊥
+reaches-not g all a b x y from to r la lb fa fb e p =
+    let qa = placed g all r la.0 from la.1 (ap (find g.numbers) la.2 ∙ fa) in
+    let qb = placed g all r lb.0 to lb.1 (ap (find g.numbers) lb.2 ∙ fb) in
+    let same = class_same qa.0 qb.0 (sym qa.1 ∙ ap (class_at g.slots) e ∙ qb.1) in
+    p.0 (sym (qa.2 ∙ la.4) ∙ ap (λ z. z.name) same ∙ qb.2 ∙ lb.4)
+
+-- a number that isn't live has no key
+not_found : (g : Graph) (all : List Entry) (n : ℕ) → Represents g all → IsNotLive all n → find g.numbers n ≡ None
+not_found g all n r off = by (find g.numbers n) refl
+  where
+    by : (found : Option ℕ) → find g.numbers n ≡ found → found ≡ None
+    by None at = refl
+    by (Some key) at = let l = r.live n key at in absurd (both_ways _ l.3 (off l.0 l.1 l.2))
+
+pub lacks-key : (g : Graph) (all : List Entry) (a b : ℕ) → Represents g all → LacksAnEnd all a b → LacksAKey g.numbers a b
+lacks-key g all a b r off = elim off [ inl x ↦ inl (not_found g all a r x) | inr x ↦ inr (not_found g all b r x) ]
+
+-- where both have one, none is lacking
+pub has-keys : (numbers : Numbers) (a b from to : ℕ) → find numbers a ≡ Some from → find numbers b ≡ Some to → LacksAKey numbers a b → ⊥
+has-keys numbers a b from to fa fb off = elim off [ inl x ↦ cc | inr x ↦ cc ]
 
 pub is_found : (g : Graph) (all : List Entry) (n x : ℕ) → Represents g all → IsLiveClass all n x → find g.numbers n ≡ None → ⊥
 is_found g all n x r l none =

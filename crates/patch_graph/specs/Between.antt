@@ -1,10 +1,11 @@
--- The least name of a class between two others.
-use Rattle.std.specs.Prelude.{ℕ, Bool, true, false, not, ◌+◌, ◌<◌, ◌≡◌, ◌≢◌, ◌≤◌, ◌==◌, ◌&&◌, nat_lt, if◌then◌else◌, List, length, slice_index_or, Option, Some, None}
+-- What lies on the paths from one class to another.
+use Rattle.std.specs.Prelude.{ℕ, Bool, true, not, ◌+◌, ◌<◌, ◌≡◌, ◌≢◌, ◌≤◌, ◌⊎◌, ◌==◌, ◌&&◌, false, nat_lt, if◌then◌else◌, List, length, slice_index_or, Option, Some, None}
 use Rattle.std.specs.Option.{option_map, option_map_or}
 use Rattle.patch_model.specs.Entry.{Entry}
 use Rattle.patch_model.specs.Dependency.{Path, LiesBetween}
-use Rattle.patch_graph.specs.State.{Class, Slots, class_at}
+use Rattle.patch_graph.specs.State.{Class, Slots, Numbers, find, class_at}
 use Rattle.patch_graph.specs.Marks.{is_marked}
+use Rattle.patch_graph.specs.Meaning.{IsNotLive}
 
 -- reached, not left over, and neither end
 abbrev pub lies : List Bool → List Bool → ℕ → ℕ → ℕ → Bool
@@ -46,3 +47,15 @@ HasNoRing all = (a b : ℕ) → a ≢ b → Path all a b → Path all b a → �
 abbrev pub IsLeastBetween : List Entry → ℕ → ℕ → Option ℕ → Type 0
 IsLeastBetween all a b None = (c : ℕ) → LiesBetween all a b c → ⊥
 IsLeastBetween all a b (Some m) = LiesBetween all a b m × ((c : ℕ) → LiesBetween all a b c → m ≤ c)
+
+-- a path leads from the class x to the class y, which is another one: no class reaches itself
+abbrev pub ReachesOther : List Entry → ℕ → ℕ → Type 0
+ReachesOther all x y = (x ≢ y) × Path all x y
+
+-- one of the two numbers isn't that of a live patch, and so names no live class
+abbrev pub LacksAnEnd : List Entry → ℕ → ℕ → Type 0
+LacksAnEnd all a b = IsNotLive all a ⊎ IsNotLive all b
+
+-- one of the two numbers has no key
+abbrev pub LacksAKey : Numbers → ℕ → ℕ → Type 0
+LacksAKey numbers a b = (find numbers a ≡ None) ⊎ (find numbers b ≡ None)

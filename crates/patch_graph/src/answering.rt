@@ -1,10 +1,9 @@
 //! What is asked of the classes.
-ghost use Rattle.std.specs.Prelude.{◌≡◌, ◌≢◌, ◌<◌, ◌≤◌, ℕ, List, [], ◌↔◌, IsTrue, map, length, IfOk};
+ghost use Rattle.std.specs.Prelude.{◌≡◌, ◌≢◌, ◌≤◌, ℕ, false, None, List, [], ◌↔◌, IsTrue, map, length, IfOk};
 ghost use Rattle.patch_model.specs.Entry.{Entry};
-ghost use Rattle.patch_model.specs.Dependency.{Path};
 ghost use Rattle.patch_model.specs.Ready.{ready};
 ghost use Rattle.patch_graph.specs.Meaning.{Represents, IsLiveClass};
-ghost use Rattle.patch_graph.specs.Between.{HasNoRing, IsLeastBetween, is_newest};
+ghost use Rattle.patch_graph.specs.Between.{HasNoRing, IsLeastBetween, LacksAKey, ReachesOther, is_newest};
 ghost use Rattle.patch_graph.specs.Listing.{HoldsKeys};
 ghost use Rattle.patch_graph.specs.Marks.{AreClear};
 
@@ -71,7 +70,8 @@ fn does_reach<A: Allocator>(
     requires long { length marks.old ≤ length queue.old }
     requires clear { AreClear marks.old }
     ensures answer { (made : ℕ) (all : List Entry) (x y : ℕ) → Represents (record { made = made; slots = classes.now.slots; numbers = keys.now.entries }) all
-        → IsLiveClass all a x → IsLiveClass all b y → x ≢ y → IsTrue result ↔ Path all x y }
+        → IsLiveClass all a x → IsLiveClass all b y → IsTrue result ↔ ReachesOther all x y }
+    ensures absent { LacksAKey keys.now.entries a b → result ≡ false }
     ensures cleared { AreClear marks.new }
 {
     let Some(from) = find(keys, a) else {
@@ -80,6 +80,10 @@ fn does_reach<A: Allocator>(
     let Some(to) = find(keys, b) else {
         return false;
     };
+    // No class reaches itself.
+    if from == to {
+        return false;
+    }
     if from >= marks.len() {
         return false;
     }
@@ -99,7 +103,8 @@ pub fn reaches<A: Allocator>(
 ) -> bool
     requires short { length classes.now.slots ≤ room.old }
     ensures answer { (made : ℕ) (all : List Entry) (x y : ℕ) → Represents (record { made = made; slots = classes.now.slots; numbers = keys.now.entries }) all
-        → IsLiveClass all a x → IsLiveClass all b y → x ≢ y → IsTrue result ↔ Path all x y }
+        → IsLiveClass all a x → IsLiveClass all b y → IsTrue result ↔ ReachesOther all x y }
+    ensures absent { LacksAKey keys.now.entries a b → result ≡ false }
     ensures room { room.new ≡ room.old }
 {
     does_reach(
@@ -139,6 +144,7 @@ fn lies_between<A: Allocator>(
     requires clear_rest { AreClear rest.old }
     ensures answer { (all : List Entry) (x y : ℕ) → Represents (record { made = made; slots = classes.now.slots; numbers = keys.now.entries }) all
         → HasNoRing all → IsLiveClass all a x → IsLiveClass all b y → IsLeastBetween all x y result }
+    ensures absent { LacksAKey keys.now.entries a b → result ≡ None }
     ensures cleared { AreClear marks.new }
     ensures cleared_rest { AreClear rest.new }
 {
@@ -177,6 +183,7 @@ pub fn between<A: Allocator>(
     requires short { length classes.now.slots ≤ room.old }
     ensures answer { (all : List Entry) (x y : ℕ) → Represents (record { made = made; slots = classes.now.slots; numbers = keys.now.entries }) all
         → HasNoRing all → IsLiveClass all a x → IsLiveClass all b y → IsLeastBetween all x y result }
+    ensures absent { LacksAKey keys.now.entries a b → result ≡ None }
     ensures room { room.new ≡ room.old }
 {
     lies_between(

@@ -1,15 +1,14 @@
 //! The graph of the classes that are live.
-ghost use Rattle.std.specs.Prelude.{◌≡◌, ◌≢◌, ◌<◌, ◌≤◌, ◌+◌, ◌==◌, ◌^◌, ℕ, List, [], ◌∷◌, ◌++◌, ◌↔◌, IsTrue, MatchOption, map, max, min, length, IfOk, OnOk, OnErr};
+ghost use Rattle.std.specs.Prelude.{◌≡◌, ◌≢◌, ◌<◌, ◌≤◌, ◌+◌, ◌==◌, ◌^◌, ℕ, List, [], ◌∷◌, ◌++◌, false, None, ◌↔◌, IsTrue, MatchOption, map, max, min, length, IfOk, OnOk, OnErr};
 ghost use Rattle.patch_model.specs.Patch.{Patch};
 ghost use Rattle.patch_model.specs.Entry.{Entry};
 ghost use Rattle.patch_model.specs.Ready.{ready};
 ghost use Rattle.patch_model.specs.State.{class_of, fresh, joined, landed, sent};
-ghost use Rattle.patch_model.specs.Dependency.{Path};
 ghost use Rattle.patch_model.specs.Legal.{IsLegalMerge};
 ghost use Rattle.patch_model.specs.Orderly.{IsOrderly};
 ghost use Rattle.patch_graph.specs.Meaning.{Represents, IsNotLive, IsLiveClass, HasMark};
 ghost use Rattle.patch_graph.specs.Showing.{IsShown};
-ghost use Rattle.patch_graph.specs.Between.{HasNoRing, IsLeastBetween};
+ghost use Rattle.patch_graph.specs.Between.{HasNoRing, IsLeastBetween, LacksAnEnd, ReachesOther};
 ghost use Rattle.patch_graph.specs.Adding.{IsPatch, HasAdded};
 
 use crate::adding::{dependencies, is_hard};
@@ -200,9 +199,12 @@ impl<A: Allocator + Copy> Graph<A> {
         Ok(name.unwrap_or(a))
     }
 
-    /// The least name of a third live class on a path from the class of the one live patch to that of the other.
+    /// The least name of a third live class on a path from the class of the one live patch to that of the other. There is
+    /// none, too, where one of the two numbers is durable or wasn't made: it names no live class.
     pub fn between(&mut self, a: PatchNo, b: PatchNo) -> Option<PatchNo>
-        ensures answer { (all : List Entry) (x y : ℕ) → Represents self.old all → HasNoRing all → IsLiveClass all a x → IsLiveClass all b y → IsLeastBetween all x y result }
+        ensures answer { (all : List Entry) (x y : ℕ) → Represents self.old all → HasNoRing all
+            → IsLiveClass all a x → IsLiveClass all b y → IsLeastBetween all x y result }
+        ensures absent { (all : List Entry) → Represents self.old all → LacksAnEnd all a b → result ≡ None }
         ensures same { self.new ≡ self.old }
     {
         between(&self.classes, &self.keys, self.made, a, b, &mut self.room)
@@ -229,10 +231,12 @@ impl<A: Allocator + Copy> Graph<A> {
         unlist(&mut self.lists, &self.classes, block);
     }
 
-    /// Whether the class of the one live patch depends on that of the other, directly or through others.
+    /// Whether the class of the one live patch depends on that of the other, directly or through others. No class reaches
+    /// itself, and a number that is durable or wasn't made reaches nothing and isn't reached.
     pub fn reaches(&mut self, a: PatchNo, b: PatchNo) -> bool
-        ensures answer { (all : List Entry) (x y : ℕ) → Represents self.old all → IsLiveClass all a x → IsLiveClass all b y → x ≢ y
-            → IsTrue result ↔ Path all x y }
+        ensures answer { (all : List Entry) (x y : ℕ) → Represents self.old all → IsLiveClass all a x → IsLiveClass all b y
+            → IsTrue result ↔ ReachesOther all x y }
+        ensures absent { (all : List Entry) → Represents self.old all → LacksAnEnd all a b → result ≡ false }
         ensures same { self.new ≡ self.old }
     {
         reaches(&self.classes, &self.keys, a, b, &mut self.room)

@@ -303,6 +303,34 @@ fn ring_through_blocks(rt: HostRuntime) -> Result<(), Fail> {
     walk(&rt, rt.alloc(), &RING_THROUGH_BLOCKS)
 }
 
+const ENDS_THAT_ARE_NOT_LIVE: [Move<'static>; 19] = [
+    Move::Make(0, 0, 1, None),
+    Move::Make(1, 0, 1, Some(0)),
+    Move::Make(2, 0, 1, Some(1)),
+    Move::Make(1, 1, 2, None),
+    Move::Paths(2, 0, true, Some(PatchNo(1))),
+    Move::Paths(1, 1, false, None),
+    Move::Paths(2, 4, false, None),
+    Move::Paths(4, 0, false, None),
+    Move::Paths(4, 4, false, None),
+    Move::Paths(2, 4294967295, false, None),
+    Move::Merge(1, 3, 1),
+    Move::Paths(1, 3, false, None),
+    Move::Paths(3, 0, true, None),
+    Move::Send(0),
+    Move::Paths(2, 0, true, Some(PatchNo(1))),
+    Move::Complete(0),
+    Move::Paths(2, 0, false, None),
+    Move::Paths(0, 2, false, None),
+    Move::Paths(0, 0, false, None),
+];
+
+// No class reaches itself, and a number that is durable or wasn't made reaches nothing and isn't reached.
+#[test]
+fn ends_that_are_not_live(rt: HostRuntime) -> Result<(), Fail> {
+    walk(&rt, rt.alloc(), &ENDS_THAT_ARE_NOT_LIVE)
+}
+
 const HARD_PATCHES: [Move<'static>; 8] = [
     Move::MakeLoose(0, None, true),
     Move::MakeLoose(0, None, true),

@@ -1,5 +1,5 @@
 use Rattle.std.proofs.Common.{sym, arith, ◌∙◌, ◌<◌, length}
-use Rattle.patch_graph.proofs.Reaching.{is_found, is_low}
+use Rattle.patch_graph.proofs.Reaching.{has-keys, is_found, is_low}
 use Rattle.patch_graph.proofs.Midst.{between_is, newest_is, without-held}
 use Rattle.patch_graph.proofs.Places.{turned-held}
 use Rattle.patch_graph.proofs.answering.lies_between.Goals as goal
@@ -35,3 +35,6 @@ returns-clause-answer g c all x y r no_ring la lb =
     between_is (record { made = c.args.made; slots = c.args.classes.now.slots; numbers = c.args.keys.now.entries }) all c.args.a c.args.b x y c.in-Some.from c.in-Some-find.to c.reverse.new.self
     c.search-count.new.marks c.copy_without.new.rest c.settle.new.marks c.least_name-least.result r no_ring (let l = c.search-count.ensures.length in omega arith) la lb (sym c.in-Some.ensures) (sym c.in-Some-find.ensures)
     (λ key t. turned-held _ _ key c.reverse.ensures.permutation (c.search-count.ensures.held key t)) c.search-count.ensures.found c.copy_without.ensures.copied c.settle.ensures.largest c.least_name-least.ensures
+
+pub returns-clause-absent : goal.returns-clause-absent
+returns-clause-absent g c off = absurd (has-keys c.args.keys.now.entries c.args.a c.args.b c.in-Some.from c.in-Some-find.to (sym c.in-Some.ensures) (sym c.in-Some-find.ensures) off)
