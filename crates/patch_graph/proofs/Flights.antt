@@ -1,5 +1,5 @@
 -- Putting classes in flight.
-use Rattle.std.proofs.Common.{◌≡◌, ℕ, ◌+◌, ◌⊎◌, ◌∙◌, inl, inr, Bool, true, false, List, [], ◌∷◌, length, map, refl, sym, ap, arith, subst, Option, Some, None}
+use Rattle.std.proofs.Common.{◌≡◌, ℕ, ◌+◌, ◌<◌, ◌⊎◌, ◌∙◌, inl, inr, Bool, true, false, List, [], ◌∷◌, length, map, refl, sym, ap, arith, subst, Option, Some, None}
 use Rattle.std.specs.Prelude.{◌==◌, ◌&&◌, ◌≢◌, slice_set, slice_index_or, if◌then◌else◌}
 use Rattle.std.specs.Option.{option_map, option_map_or}
 use Rattle.std.proofs.lemmas.Bool.{cases_Bool, cases_eq, both_ways}
@@ -19,10 +19,16 @@ use Rattle.patch_graph.specs.State.{Class, Graph, Slots, Numbers, find, class_at
 use Rattle.patch_graph.proofs.Facts.{known}
 use Rattle.patch_graph.specs.Meaning.{Leads, one, onward, DependsOn, IsClassOf, Represents}
 use Rattle.patch_graph.specs.Marks.{is_marked, HoldsMarked, picks, IsLargestMet}
-use Rattle.patch_graph.specs.Flying.{flown, flown_at, AreFlown, ArePartFlown}
+use Rattle.patch_graph.specs.Flying.{flown, flown_at, AreFlown}
 use Rattle.patch_graph.proofs.Places.{place-of}
 use Rattle.patch_graph.proofs.Readying.{placed, chosen, chosen_set, chosen-ready, chosen-at, at-chosen, some_same, class_same}
 use Rattle.patch_graph.proofs.Rounds.{below-slots}
+
+-- so far, of these keys
+pub record ArePartFlown (marks : List Bool) (keys : List ℕ) (old new : Slots) (upto : ℕ) : Type 0 where
+  pub done : (i : ℕ) → i < upto → is_marked marks (slice_index_or keys i 0) ≡ true → class_at new (slice_index_or keys i 0) ≡ option_map flown (class_at old (slice_index_or keys i 0))
+  pub either : (key : ℕ) → (class_at new key ≡ class_at old key) ⊎ ((is_marked marks key ≡ true) × (class_at new key ≡ option_map flown (class_at old key)))
+  pub long : length new ≡ length old
 
 pub cases_class : (slots : Slots) (key : ℕ) → (class_at slots key ≡ None) ⊎ ((c : Class) × (class_at slots key ≡ Some c))
 cases_class slots key = elim (class_at slots key) as (λ o. (o ≡ None) ⊎ ((c : Class) × (o ≡ Some c))) [ None ↦ inl refl | Some c ↦ inr (c, refl) ]

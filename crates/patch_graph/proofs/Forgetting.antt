@@ -7,7 +7,7 @@ use Rattle.std.proofs.lemmas.List.{get_or-set_same, get_or-set_other, length-set
 use Rattle.patch_model.specs.Entry.{is_among}
 use Rattle.patch_model.specs.Member.{In-from_Contains, Contains-from_In}
 use Rattle.patch_graph.specs.State.{Class, Slots, Numbers, find, class_at}
-use Rattle.patch_graph.specs.Landing.{lands, lands_at, AreForgotten, AreLanded, HasLanding}
+use Rattle.patch_graph.specs.Landing.{lands, lands_at, AreForgotten, AreLanded}
 use Rattle.patch_graph.proofs.Readying.{is_among-In, In-is_among, class_same}
 use Rattle.patch_graph.proofs.Rounds.{below-slots}
 use Rattle.patch_graph.proofs.Flights.{cases_class}
@@ -15,6 +15,10 @@ use Rattle.patch_graph.proofs.Places.{same_default}
 use Rattle.patch_graph.specs.Listing.{HoldsKeys}
 use Rattle.patch_graph.proofs.Searches.{take-place}
 use Rattle.patch_graph.proofs.OneMore.{same_bool}
+
+-- the set has each key whose class is in flight of the block
+abbrev pub HasLanding : Slots → ℕ → (ℕ → Bool) → Type 0
+HasLanding slots block set = (key : ℕ) → lands_at slots block key ≡ true → set key ≡ true
 
 pub forgotten-more : (members : List ℕ) (old mid new : Numbers) (i member : ℕ) → slice_index_or members i 0 ≡ member → AreForgotten members old mid i
     → find new member ≡ None → ((n : ℕ) → n ≢ member → find new n ≡ find mid n) → AreForgotten members old new (i + 1)

@@ -6,9 +6,10 @@ use Rattle.std.proofs.lemmas.Bool.{cases_eq}
 use Rattle.std.proofs.lemmas.List.{get_or-set_same, get_or-set_other}
 use Rattle.slab.specs.Slab.{Slab, Updates}
 use Rattle.patch_graph.specs.State.{Class, Slots, Numbers, class_at}
-use Rattle.patch_graph.specs.Joining.{joined_class, absorbed_at, AreRedirected, IsJoined, KeepsBlocks}
+use Rattle.patch_graph.specs.Joining.{joined_class, absorbed_at, AreRedirected, IsJoined}
 use Rattle.patch_graph.specs.Listing.{LosesOf}
 use Rattle.patch_graph.proofs.Flights.{cases_class}
+use Rattle.patch_graph.proofs.Lists.{KeepsBlocks}
 use Rattle.patch_graph.proofs.Readying.{class_same}
 use Rattle.patch_graph.proofs.Rounds.{below-slots}
 
@@ -23,9 +24,6 @@ joins-at s0 s1 s2 n0 n1 keep gone c d other differ at at2 there absorbed removed
       others = λ k dk dg. removed.others k dg ∙ ap (λ s. class_at s k) is ∙ get_or-set_other s0 keep k (Some (joined_class c other)) None dk;
       numbers = subst (λ z. AreRedirected z.members keep n0 n1) same turned;
     }
-
-pub blocks-same : (slots : Slots) → KeepsBlocks slots slots
-blocks-same slots key d at = (d, at, refl)
 
 -- a join keeps each class in its block
 pub blocks-at : (s0 : Slots) (s1 s2 : Slab Class) (keep gone : ℕ) (other : Class) → s1.slots ≡ absorbed_at s0 keep other → Updates s1 s2 gone None → KeepsBlocks s0 s2.slots

@@ -12,12 +12,12 @@ use Rattle.patch_model.specs.Orderly.{IsOrderly}
 use Rattle.patch_model.specs.Member.{In, list_any-at, list_any-from}
 use Rattle.patch_graph.specs.State.{Class, Graph, Slots, Numbers, find, class_at, leads, leads_at}
 use Rattle.patch_graph.specs.Meaning.{Leads, one, onward, DependsOn, IsClassOf, Represents}
-use Rattle.patch_graph.specs.Landing.{lands, lands_at, AreLanded, HasLanding}
+use Rattle.patch_graph.specs.Landing.{lands, lands_at, AreLanded}
 use Rattle.patch_graph.specs.Listing.{LosesOf}
 use Rattle.patch_graph.proofs.Facts.{known}
 use Rattle.patch_graph.proofs.Steps.{patch-landed, In-map, map-In, length-map, numbered-map}
 use Rattle.patch_graph.proofs.Readying.{placed, cases_found, some_same, class_same}
-use Rattle.patch_graph.proofs.Forgetting.{lands-here}
+use Rattle.patch_graph.proofs.Forgetting.{HasLanding, lands-here}
 use Rattle.patch_graph.proofs.Searches.{found-lead}
 use Rattle.patch_graph.proofs.Reaching.{target}
 

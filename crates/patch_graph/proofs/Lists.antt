@@ -5,11 +5,14 @@ use Rattle.std.specs.Option.{option_map_or}
 use Rattle.std.specs.Map.{lookup}
 use Rattle.std.proofs.lemmas.Bool.{cases_eq, ne_eqb, both_ways}
 use Rattle.patch_model.specs.Member.{In, In-filter, filter-In}
-use Rattle.patch_graph.specs.Joining.{KeepsBlocks}
 use Rattle.patch_graph.specs.Listing.{Lists, listed, is_key, AreListed, IsRelisted, LosesOf, HasPushed}
 use Rattle.patch_graph.specs.State.{Class, Slots, class_at}
 use Rattle.patch_graph.proofs.Flights.{cases_class}
 use Rattle.patch_graph.proofs.Readying.{class_same, In-left}
+
+-- each class is of the block of that which was at its key
+abbrev pub KeepsBlocks : Slots → Slots → Type 0
+KeepsBlocks old new = (key : ℕ) (d : Class) → class_at new key ≡ Some d → (c : Class) × (class_at old key ≡ Some c) × (d.block ≡ c.block)
 
 pub is_some-from : {X : Type 0} → (o : Option X) (x : X) → o ≡ Some x → IsSome o
 is_some-from (Some y) x e = search rules

@@ -11,12 +11,18 @@ use Rattle.patch_graph.specs.State.{Class, Graph, Slots, find, class_at}
 use Rattle.patch_graph.specs.Marks.{is_marked, AreClear, HoldsMarked, Escapes, out, on, IsLargestMet}
 use Rattle.patch_graph.specs.Meaning.{Leads, one, onward, DependsOn, IsLiveClass, Represents}
 use Rattle.patch_graph.specs.Search.{IsReachable}
-use Rattle.patch_graph.specs.Between.{lies, lesser, name_if, IsLeastOf, AreWithout, IsPartWithout, HasNoRing, is_newest, IsLeastBetween}
+use Rattle.patch_graph.specs.Between.{lies, lesser, name_if, IsLeastOf, AreWithout, HasNoRing, is_newest, IsLeastBetween}
 use Rattle.patch_graph.proofs.Facts.{known}
 use Rattle.patch_graph.proofs.Places.{place-of}
 use Rattle.patch_graph.proofs.Rounds.{marked_below}
 use Rattle.patch_graph.proofs.Readying.{closed, placed, class_same}
 use Rattle.patch_graph.proofs.Reaching.{marked-step, marked-path, Leads-path, path-leads, from-depends, one-key}
+
+-- so far, where the copy was clear at first
+pub record IsPartWithout (to : ℕ) (marks : List Bool) (keys : List ℕ) (old rest : List Bool) (upto : ℕ) : Type 0 where
+  pub sound : (key : ℕ) → is_marked rest key ≡ true → (is_marked marks key && not (key == to)) ≡ true
+  pub complete : (i : ℕ) → i < upto → (is_marked marks (slice_index_or keys i 0) && not (slice_index_or keys i 0 == to)) ≡ true → is_marked rest (slice_index_or keys i 0) ≡ true
+  pub long : length rest ≡ length old
 
 -- what escapes from the marks without one key leads to that key
 pub escapes-leads : (g : Graph) (all : List Entry) (r : Represents g all) (from to : ℕ) (marks : List Bool) (start : ℕ → Bool) → IsReachable g.slots g.numbers from to marks → length g.slots ≤ length marks

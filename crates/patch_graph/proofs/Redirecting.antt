@@ -6,8 +6,13 @@ use Rattle.std.specs.Option.{option_map}
 use Rattle.std.proofs.lemmas.Bool.{cases_Bool, cases_eq, both_ways}
 use Rattle.patch_model.specs.Entry.{is_among}
 use Rattle.patch_graph.specs.State.{Numbers, find}
-use Rattle.patch_graph.specs.Joining.{AreRedirected, ArePartRedirected}
+use Rattle.patch_graph.specs.Joining.{AreRedirected}
 use Rattle.patch_graph.proofs.Forgetting.{among-place, place-among}
+
+-- so far, for the first of them
+pub record ArePartRedirected (members : List ℕ) (key : ℕ) (old new : Numbers) (upto : ℕ) : Type 0 where
+  pub turned : (i : ℕ) → i < upto → find new (slice_index_or members i 0) ≡ option_map (λ k. key) (find old (slice_index_or members i 0))
+  pub kept : (n : ℕ) → ((i : ℕ) → i < upto → slice_index_or members i 0 ≢ n) → find new n ≡ find old n
 
 turned-twice : (key : ℕ) (o : Option ℕ) → option_map (λ k. key) (option_map (λ k. key) o) ≡ option_map (λ k. key) o
 turned-twice key None = refl

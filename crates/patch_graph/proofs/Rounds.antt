@@ -8,9 +8,32 @@ use Rattle.std.proofs.lemmas.List.{get_or-set_same, get_or-set_other, length-set
 use Rattle.std.proofs.lemmas.List.Sums.{sum_by-set}
 use Rattle.patch_model.specs.Member.{In, list_all-at, list_all-from, list_any-from}
 use Rattle.patch_graph.specs.State.{Class, Slots, Numbers, find, class_at, leads, leads_at}
-use Rattle.patch_graph.specs.Marks.{is_marked, is_candidate, is_met, is_met_at, is_unmet, picks, AreMet, IsWithin, KeepsMet, KeepsStruck, IsStruck, Escapes, out, on, IsLargestMet, IsRound, IsPartRound, IsPartPicked, IsPartCleared, AreClear, HoldsMarked, marked_count}
+use Rattle.patch_graph.specs.Marks.{is_marked, is_candidate, is_met, is_met_at, is_unmet, picks, AreMet, IsWithin, KeepsMet, KeepsStruck, IsStruck, Escapes, out, on, IsLargestMet, IsRound, AreClear, HoldsMarked, marked_count}
 use Rattle.patch_graph.specs.Listing.{HoldsKeys}
 use Rattle.patch_graph.proofs.Places.{place-of}
+
+-- so far, the marks are taken off
+pub record IsPartCleared (keys : List ℕ) (old new : List Bool) (upto : ℕ) : Type 0 where
+  pub off : (i : ℕ) → i < upto → is_marked new (slice_index_or keys i 0) ≡ false
+  pub inside : (key : ℕ) → is_marked new key ≡ true → is_marked old key ≡ true
+  pub long : length new ≡ length old
+
+-- so far, the keys of the block's classes in memory are marked
+pub record IsPartPicked (slots : Slots) (block : ℕ) (keys : List ℕ) (old new : List Bool) (upto : ℕ) : Type 0 where
+  pub sound : (key : ℕ) → is_marked new key ≡ true → picks slots block key ≡ true
+  pub complete : (i : ℕ) → i < upto → picks slots block (slice_index_or keys i 0) ≡ true → is_marked new (slice_index_or keys i 0) ≡ true
+  pub long : length new ≡ length old
+
+-- a round that has come so far
+pub record IsPartRound (slots : Slots) (numbers : Numbers) (keys : List ℕ) (old new : List Bool) (changed : Bool) (upto : ℕ) : Type 0 where
+  pub inside : IsWithin (is_marked new) (is_marked old)
+  pub keeps : KeepsMet slots numbers (is_marked old) (is_marked new)
+  pub struck : KeepsStruck slots numbers (is_marked old) (is_marked new)
+  pub long : length new ≡ length old
+  pub no_more : marked_count new ≤ marked_count old
+  pub fewer : changed ≡ true → marked_count new < marked_count old
+  pub same : changed ≡ false → new ≡ old
+  pub met : changed ≡ false → (i : ℕ) → i < upto → is_unmet slots numbers (is_marked old) (slice_index_or keys i 0) ≡ false
 
 pub past-marks : (marks : List Bool) (key : ℕ) → length marks ≤ key → is_marked marks key ≡ false
 past-marks [] key h = refl

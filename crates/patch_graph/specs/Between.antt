@@ -1,5 +1,5 @@
 -- What lies on the paths from one class to another.
-use Rattle.std.specs.Prelude.{ℕ, Bool, true, not, ◌+◌, ◌<◌, ◌≡◌, ◌≢◌, ◌≤◌, ◌⊎◌, ◌==◌, ◌&&◌, false, nat_lt, if◌then◌else◌, List, length, slice_index_or, Option, Some, None}
+use Rattle.std.specs.Prelude.{ℕ, Bool, true, not, ◌+◌, ◌<◌, ◌≡◌, ◌≢◌, ◌≤◌, ◌⊎◌, ◌==◌, ◌&&◌, false, nat_lt, if◌then◌else◌, List, slice_index_or, Option, Some, None}
 use Rattle.std.specs.Option.{option_map, option_map_or}
 use Rattle.patch_model.specs.Entry.{Entry}
 use Rattle.patch_model.specs.Dependency.{Path, LiesBetween}
@@ -29,12 +29,6 @@ IsLeastOf slots test keys upto (Some m) =
 -- the marks without one key
 abbrev pub AreWithout : ℕ → List Bool → List Bool → Type 0
 AreWithout to marks rest = (key : ℕ) → is_marked rest key ≡ (is_marked marks key && not (key == to))
-
--- so far, where the copy was clear at first
-pub record IsPartWithout (to : ℕ) (marks : List Bool) (keys : List ℕ) (old rest : List Bool) (upto : ℕ) : Type 0 where
-  pub sound : (key : ℕ) → is_marked rest key ≡ true → (is_marked marks key && not (key == to)) ≡ true
-  pub complete : (i : ℕ) → i < upto → (is_marked marks (slice_index_or keys i 0) && not (slice_index_or keys i 0 == to)) ≡ true → is_marked rest (slice_index_or keys i 0) ≡ true
-  pub long : length rest ≡ length old
 
 -- the class at the key has the last number that was made
 abbrev pub is_newest : Slots → ℕ → ℕ → Bool

@@ -1,8 +1,7 @@
 -- Classes put in flight.
-use Rattle.std.specs.Prelude.{ℕ, Bool, ◌≡◌, Some, slice_set, slice_index_or, List, length, ◌<◌, ◌⊎◌, true, if◌then◌else◌}
+use Rattle.std.specs.Prelude.{ℕ, Bool, ◌≡◌, Some, slice_set, if◌then◌else◌}
 use Rattle.std.specs.Option.{option_map_or, option_map}
 use Rattle.patch_model.specs.declared.patches.Mark.TheVariants.{Flight}
-use Rattle.patch_graph.specs.Marks.{is_marked}
 use Rattle.patch_graph.specs.State.{Class, Slots, class_at}
 
 abbrev pub flown : Class → Class
@@ -15,9 +14,3 @@ flown_at slots key = option_map_or (λ c. slice_set slots key (Some (flown c))) 
 -- each class in the set is in flight, and the others are as they were
 abbrev pub AreFlown : (ℕ → Bool) → Slots → Slots → Type 0
 AreFlown set old new = (key : ℕ) → class_at new key ≡ option_map (λ c. if set key then flown c else c) (class_at old key)
-
--- so far, of these keys
-pub record ArePartFlown (marks : List Bool) (keys : List ℕ) (old new : Slots) (upto : ℕ) : Type 0 where
-  pub done : (i : ℕ) → i < upto → is_marked marks (slice_index_or keys i 0) ≡ true → class_at new (slice_index_or keys i 0) ≡ option_map flown (class_at old (slice_index_or keys i 0))
-  pub either : (key : ℕ) → (class_at new key ≡ class_at old key) ⊎ ((is_marked marks key ≡ true) × (class_at new key ≡ option_map flown (class_at old key)))
-  pub long : length new ≡ length old

@@ -1,5 +1,5 @@
 -- Two classes made one.
-use Rattle.std.specs.Prelude.{ℕ, ◌≡◌, ◌≢◌, ◌++◌, min, max, if◌then◌else◌, List, Some, None, slice_set, slice_index_or, ◌<◌}
+use Rattle.std.specs.Prelude.{ℕ, ◌≡◌, ◌≢◌, ◌++◌, min, max, if◌then◌else◌, List, Some, None, slice_set}
 use Rattle.std.specs.Option.{option_map, option_map_or}
 use Rattle.patch_model.specs.Entry.{is_among}
 use Rattle.patch_graph.specs.State.{Class, Slots, Numbers, find, class_at}
@@ -22,11 +22,6 @@ absorbed_at slots key d = option_map_or (λ c. slice_set slots key (Some (joined
 abbrev pub AreRedirected : List ℕ → ℕ → Numbers → Numbers → Type 0
 AreRedirected members key old new = (n : ℕ) → find new n ≡ (if is_among members n then option_map (λ k. key) (find old n) else find old n)
 
--- so far, for the first of them
-pub record ArePartRedirected (members : List ℕ) (key : ℕ) (old new : Numbers) (upto : ℕ) : Type 0 where
-  pub turned : (i : ℕ) → i < upto → find new (slice_index_or members i 0) ≡ option_map (λ k. key) (find old (slice_index_or members i 0))
-  pub kept : (n : ℕ) → ((i : ℕ) → i < upto → slice_index_or members i 0 ≢ n) → find new n ≡ find old n
-
 -- the class that was at the one key is part of that at the other
 pub record IsJoined (keep gone : ℕ) (c d : Class) (old_slots new_slots : Slots) (old new : Numbers) : Type 0 where
   pub here : class_at new_slots keep ≡ Some (joined_class c d)
@@ -37,7 +32,3 @@ pub record IsJoined (keep gone : ℕ) (c d : Class) (old_slots new_slots : Slots
 abbrev pub HasJoined : ℕ → ℕ → Slots → Slots → Numbers → Numbers → Type 0
 HasJoined keep gone old_slots new_slots old new =
     (c d : Class) → keep ≢ gone → class_at old_slots keep ≡ Some c → class_at old_slots gone ≡ Some d → IsJoined keep gone c d old_slots new_slots old new
-
--- each class is of the block of that which was at its key
-abbrev pub KeepsBlocks : Slots → Slots → Type 0
-KeepsBlocks old new = (key : ℕ) (d : Class) → class_at new key ≡ Some d → (c : Class) × (class_at old key ≡ Some c) × (d.block ≡ c.block)

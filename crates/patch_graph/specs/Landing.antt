@@ -22,7 +22,3 @@ pub record AreLanded (old_slots new_slots : Slots) (old new : Numbers) (block : 
   pub gone : (key n : ℕ) (c : Class) → set key ≡ true → class_at old_slots key ≡ Some c → lands block c ≡ true → is_among c.members n ≡ true → find new n ≡ None
   pub kept : (n : ℕ) → ((key : ℕ) (c : Class) → set key ≡ true → class_at old_slots key ≡ Some c → lands block c ≡ true → is_among c.members n ≡ false) → find new n ≡ find old n
   pub long : length new_slots ≡ length old_slots
-
--- the set has each key whose class is in flight of the block
-abbrev pub HasLanding : Slots → ℕ → (ℕ → Bool) → Type 0
-HasLanding slots block set = (key : ℕ) → lands_at slots block key ≡ true → set key ≡ true

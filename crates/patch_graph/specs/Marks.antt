@@ -1,5 +1,5 @@
 -- Marks on classes, by their keys.
-use Rattle.std.specs.Prelude.{ℕ, if◌then◌else◌, ◌++◌, ◌∷◌, Bool, true, false, ◌≡◌, ◌<◌, ◌≤◌, ◌==◌, ◌&&◌, not, List, [], length, Some, slice_index_or, count_by}
+use Rattle.std.specs.Prelude.{ℕ, if◌then◌else◌, ◌++◌, ◌∷◌, Bool, true, false, ◌≡◌, ◌<◌, ◌==◌, ◌&&◌, not, List, [], length, Some, slice_index_or, count_by}
 use Rattle.std.specs.List.{list_all, AllByRecursion}
 use Rattle.std.specs.Option.{option_map_or}
 use Rattle.patch_model.specs.Entry.{marks_memory}
@@ -17,24 +17,12 @@ AreClear marks = (key : ℕ) → is_marked marks key ≡ false
 abbrev pub HoldsMarked : List Bool → List ℕ → Type 0
 HoldsMarked marks keys = (key : ℕ) → is_marked marks key ≡ true → In keys key
 
--- so far, the marks are taken off
-pub record IsPartCleared (keys : List ℕ) (old new : List Bool) (upto : ℕ) : Type 0 where
-  pub off : (i : ℕ) → i < upto → is_marked new (slice_index_or keys i 0) ≡ false
-  pub inside : (key : ℕ) → is_marked new key ≡ true → is_marked old key ≡ true
-  pub long : length new ≡ length old
-
 -- the class may be sent with the block, if all that it depends on lets it
 abbrev pub is_candidate : ℕ → Class → Bool
 is_candidate block c = marks_memory c.mark && c.block == block
 
 abbrev pub picks : Slots → ℕ → ℕ → Bool
 picks slots block key = option_map_or (is_candidate block) (class_at slots key) false
-
--- so far, the keys of the block's classes in memory are marked
-pub record IsPartPicked (slots : Slots) (block : ℕ) (keys : List ℕ) (old new : List Bool) (upto : ℕ) : Type 0 where
-  pub sound : (key : ℕ) → is_marked new key ≡ true → picks slots block key ≡ true
-  pub complete : (i : ℕ) → i < upto → picks slots block (slice_index_or keys i 0) ≡ true → is_marked new (slice_index_or keys i 0) ≡ true
-  pub long : length new ≡ length old
 
 -- the number is not live, or its class is in the set of keys
 abbrev pub is_met_at : Numbers → (ℕ → Bool) → ℕ → Bool
@@ -79,17 +67,6 @@ marked_count marks = count_by (λ b. b) marks
 -- the class at the key is in the set, and something that it depends on isn't
 abbrev pub is_unmet : Slots → Numbers → (ℕ → Bool) → ℕ → Bool
 is_unmet slots numbers set key = set key && option_map_or (λ c. not (is_met numbers set c)) (class_at slots key) false
-
--- a round that has come so far
-pub record IsPartRound (slots : Slots) (numbers : Numbers) (keys : List ℕ) (old new : List Bool) (changed : Bool) (upto : ℕ) : Type 0 where
-  pub inside : IsWithin (is_marked new) (is_marked old)
-  pub keeps : KeepsMet slots numbers (is_marked old) (is_marked new)
-  pub struck : KeepsStruck slots numbers (is_marked old) (is_marked new)
-  pub long : length new ≡ length old
-  pub no_more : marked_count new ≤ marked_count old
-  pub fewer : changed ≡ true → marked_count new < marked_count old
-  pub same : changed ≡ false → new ≡ old
-  pub met : changed ≡ false → (i : ℕ) → i < upto → is_unmet slots numbers (is_marked old) (slice_index_or keys i 0) ≡ false
 
 -- a round, with its answer whether it struck any out
 pub record IsRound (slots : Slots) (numbers : Numbers) (old new : List Bool) (changed : Bool) : Type 0 where

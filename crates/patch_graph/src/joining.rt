@@ -7,7 +7,7 @@ ghost use Rattle.patch_model.specs.Legal.{IsLegalMerge};
 ghost use Rattle.patch_model.specs.Orderly.{IsOrderly};
 ghost use Rattle.patch_graph.specs.State.{class_at, find};
 ghost use Rattle.patch_graph.specs.Meaning.{Represents};
-ghost use Rattle.patch_graph.specs.Joining.{joined_class, absorbed_at, AreRedirected, HasJoined, KeepsBlocks};
+ghost use Rattle.patch_graph.specs.Joining.{joined_class, absorbed_at, AreRedirected, HasJoined};
 ghost use Rattle.patch_graph.specs.Listing.{AreListed};
 
 use crate::classes::{Class, Classes, Keys, find, name_at};
@@ -116,7 +116,6 @@ fn join<A: Allocator + Copy>(
     ensures refused_classes { OnErr result (classes.new.slots ≡ classes.old.slots) }
     ensures refused_keys { OnErr result (keys.new.entries ≡ keys.old.entries) }
     ensures length { length classes.new.slots ≡ length classes.old.slots }
-    ensures blocks { KeepsBlocks classes.old.slots classes.new.slots }
     ensures listed { AreListed classes.old.slots lists.old.entries → AreListed classes.new.slots lists.new.entries }
 {
     if let Some(other) = copy_at(alloc, classes, gone)? {
@@ -151,7 +150,6 @@ pub fn merge<A: Allocator + Copy>(
     ensures refused_classes { OnErr result (classes.new.slots ≡ classes.old.slots) }
     ensures refused_keys { OnErr result (keys.new.entries ≡ keys.old.entries) }
     ensures length { length classes.new.slots ≡ length classes.old.slots }
-    ensures blocks { KeepsBlocks classes.old.slots classes.new.slots }
     ensures listed { AreListed classes.old.slots lists.old.entries → AreListed classes.new.slots lists.new.entries }
 {
     let Some(first) = find(keys, a) else {

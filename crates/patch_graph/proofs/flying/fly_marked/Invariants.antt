@@ -1,4 +1,4 @@
-use Rattle.patch_graph.specs.Flying.{ArePartFlown}
+use Rattle.patch_graph.proofs.Flights.{ArePartFlown}
 use Rattle.patch_graph.proofs.flying.fly_marked.Given as goal
 
 abbrev pub invariant-loop-key : goal.invariant-loop-key

@@ -14,9 +14,6 @@ returns-in_ok-absorb_at-clause-joined g c x y differ at at2 =
     c.try_remove.ensures.updates
     (subst (λ (l : List ℕ). AreRedirected l c.args.keep c.args.keys.now.entries c.redirect.new.keys.entries) members c.redirect.ensures)
 
-pub returns-in_ok-absorb_at-clause-blocks : goal.returns-in_ok-absorb_at-clause-blocks
-returns-in_ok-absorb_at-clause-blocks g c = blocks-at _ _ _ c.args.keep c.args.gone c.in-Some.other c.in_ok-absorb_at.ensures.joined c.try_remove.ensures.updates
-
 pub returns-in_ok-absorb_at-clause-listed : goal.returns-in_ok-absorb_at-clause-listed
 returns-in_ok-absorb_at-clause-listed g c l =
     let there : class_at c.args.classes.now.slots c.args.gone ≡ Some c.in-Some.other = sym c.in_ok-other.ensures ∙ c.in-Some.is in

@@ -1,4 +1,4 @@
-use Rattle.patch_graph.specs.Joining.{ArePartRedirected}
+use Rattle.patch_graph.proofs.Redirecting.{ArePartRedirected}
 use Rattle.patch_graph.proofs.joining.redirect.Given as goal
 
 abbrev pub invariant-loop-no : goal.invariant-loop-no

@@ -1,4 +1,4 @@
-use Rattle.patch_graph.specs.Marks.{IsPartCleared}
+use Rattle.patch_graph.proofs.Rounds.{IsPartCleared}
 use Rattle.patch_graph.proofs.marking.clear.Given as goal
 
 abbrev pub invariant-loop-key : goal.invariant-loop-key

@@ -1,4 +1,4 @@
-use Rattle.patch_graph.specs.Marks.{IsPartPicked}
+use Rattle.patch_graph.proofs.Rounds.{IsPartPicked}
 use Rattle.patch_graph.proofs.marking.pick.Given as goal
 
 abbrev pub invariant-loop-key : goal.invariant-loop-key

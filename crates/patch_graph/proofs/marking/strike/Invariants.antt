@@ -1,4 +1,4 @@
-use Rattle.patch_graph.specs.Marks.{IsPartRound}
+use Rattle.patch_graph.proofs.Rounds.{IsPartRound}
 use Rattle.patch_graph.proofs.marking.strike.Given as goal
 
 abbrev pub invariant-loop-key : goal.invariant-loop-key

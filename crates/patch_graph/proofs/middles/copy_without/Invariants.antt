@@ -1,4 +1,4 @@
-use Rattle.patch_graph.specs.Between.{IsPartWithout}
+use Rattle.patch_graph.proofs.Midst.{IsPartWithout}
 use Rattle.patch_graph.proofs.middles.copy_without.Given as goal
 
 abbrev pub invariant-loop-key : goal.invariant-loop-key
