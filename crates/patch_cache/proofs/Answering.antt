@@ -123,7 +123,7 @@ send_given_up run block cause cache flights why is runs = record {
     done = Sent block (numbers_of (ready (entries_of run) block)) (image (history_of (extended run (the.Send block)) block));
     right = rw why refl;
     not_refused = refl;
-    gives_up = inl (ap Refused is);
+    gives_up = inl (ap Refused is, refl);
   });
   runs = runs;
 }

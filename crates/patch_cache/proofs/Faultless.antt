@@ -99,6 +99,6 @@ view_faultless run block moves start len answer (inl right) e =
     unless_fault (why_not_shown (length run.first) block start len) _ (shown_other (length run.first) block start len)
     (seen_other run block start len (with_moves run block [] moves) (moves_other run block [] moves)) (sym e ∙ right)
 view_faultless run block moves start len answer (inr given) e = elim given.gives_up [
-  | inl memory ↦ not_memory (sym e ∙ memory)
+  | inl memory ↦ not_memory (sym e ∙ memory.0)
   | inr fault ↦ not_both fault.1
 ]

@@ -17,4 +17,4 @@ pub merge_refused : (run : Execution) (a b : ℕ) (cause : Cause) → IsMergeCau
     → IsAnswer run (Merge a b) (Refused cause) ⊎ IsGivenUp run (Merge a b) (Refused cause)
 merge_refused run a b cause (against why) = inl why
 merge_refused run a b cause (no_memory lawful) =
-    inr (record { done = Merged (min (class_of (entries_of run) a) (class_of (entries_of run) b)); right = (lawful, refl); not_refused = refl; gives_up = inl refl })
+    inr (record { done = Merged (min (class_of (entries_of run) a) (class_of (entries_of run) b)); right = (lawful, refl); not_refused = refl; gives_up = inl (refl, refl) })

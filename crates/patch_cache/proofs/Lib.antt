@@ -1,6 +1,7 @@
 pub mod Opening
 pub mod GivingUp
 pub mod Permitting
+pub mod Telling
 pub mod Asking
 pub mod Accepting
 pub mod Plain

@@ -3,12 +3,12 @@ use Rattle.std.proofs.Common.{ℕ, ◌≡◌, ◌<◌, ◌∙◌, List, [], ◌�
 use Rattle.std.proofs.lemmas.List.{map-append, get_or-map, length-map}
 use Rattle.patch_model.specs.Execution.{Execution}
 use Rattle.patch_cache.specs.Contents.{Contents}
-use Rattle.patch_cache.specs.Asks.{Ask, Answer, ask_of, answer_of, after, after_all}
-use Rattle.patch_cache.specs.Running.{Runs, HasRun, HasFault, IsAnswered, HasWritten, HaveWritten}
+use Rattle.patch_cache.specs.Asks.{Ask, Answer, ask_of, answer_of, after, after_all, step_added, steps_added}
+use Rattle.patch_cache.specs.Running.{Runs, HasRun, IsAnswered, HasWritten, HaveWritten}
 use Rattle.patch_cache.specs.declared.flights.Flights.{Flights}
 use Rattle.patch_cache.specs.declared.asks.Ask.{Ask as CodeAsk}
 use Rattle.patch_cache.specs.declared.asks.Answer.{Answer as CodeAnswer}
-use Rattle.patch_cache.proofs.Asking.{after_none, one_more, one_more_written}
+use Rattle.patch_cache.proofs.Asking.{after_none, one_more, one_more_added, one_more_written}
 
 -- nothing is answered yet
 pub begun : {A : Type 0} (run : Execution) (asks : List Ask) (cache : Contents) (flights : Flights A) → Runs cache flights run → HasRun run asks [] cache flights
@@ -53,5 +53,14 @@ stepped_written run asks answers ask answer old between new within at so_far one
 pub after_begun : (run : Execution) (asks : List Ask) → after_all run asks [] ≡ run
 after_begun = after_none
 
-pub no_fault : HasFault [] → ⊥
-no_fault h = omega (arith, h.1)
+-- and of the trace
+pub stepped_added : {A : Type 0} (asks : List (CodeAsk A)) (answers : List (CodeAnswer A)) (ask : CodeAsk A) (answer : CodeAnswer A)
+    → length answers < length asks → get_or asks (length answers) ask ≡ ask
+    → steps_added (map ask_of asks) (map answer_of (answers ++ answer ∷ [])) ≡ steps_added (map ask_of asks) (map answer_of answers) ++ step_added (ask_of ask) (answer_of answer)
+stepped_added asks answers ask answer within at =
+    let told : List Answer = map answer_of answers in
+    let long : length told ≡ length answers = length-map answers answer_of in
+    let asked : length (map ask_of asks) ≡ length asks = length-map asks ask_of in
+    let here : get_or (map ask_of asks) (length told) (ask_of ask) ≡ ask_of ask =
+    ap (λ n. get_or (map ask_of asks) n (ask_of ask)) long ∙ get_or-map ask_of asks (length answers) ask (ask_of ask) within ∙ ap ask_of at in
+    ap (steps_added (map ask_of asks)) (map-append answer_of answers (answer ∷ [])) ∙ one_more_added (map ask_of asks) told (ask_of ask) (answer_of answer) (omega (arith, within, long, asked)) here

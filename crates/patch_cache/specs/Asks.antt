@@ -1,5 +1,5 @@
 -- What is asked of a cache, and what it answers.
-use Rattle.std.specs.Prelude.{ℕ, Bool, true, false, ◌≡◌, ◌⊎◌, min, List, [], ◌∷◌, length, Option, Some, None, Result, Ok, Err, if◌then◌else◌}
+use Rattle.std.specs.Prelude.{ℕ, Bool, true, false, ◌≡◌, ◌⊎◌, min, List, [], ◌∷◌, ◌++◌, length, Option, Some, None, Result, Ok, Err, if◌then◌else◌}
 use Rattle.patch_model.specs.declared.patches.Undo.{Undo}
 use Rattle.patch_model.specs.declared.refusals.RefusalKind.TheVariants as kind
 use Rattle.patch_model.specs.Step.{Step}
@@ -95,13 +95,13 @@ is_complete (Merge a b) = false
 is_complete (Send block) = false
 is_complete (View block moves start len) = false
 
--- An ask that no cause stands against is given up where there is no memory, and a completion where the device refuses the
--- write.
+-- An ask that no cause stands against is given up where there is no memory; a completion takes none, and is given up where
+-- the device refuses the write.
 pub record IsGivenUp (run : Execution) (ask : Ask) (answer : Answer) : Type 0 where
   pub done : Answer
   pub right : IsAnswer run ask done
   pub not_refused : is_refused done ≡ false
-  pub gives_up : (answer ≡ Refused (bare kind.OutOfMemory)) ⊎ ((answer ≡ Refused (bare kind.Fault)) × (is_complete ask ≡ true))
+  pub gives_up : ((answer ≡ Refused (bare kind.OutOfMemory)) × (is_complete ask ≡ false)) ⊎ ((answer ≡ Refused (bare kind.Fault)) × (is_complete ask ≡ true))
 
 -- the step that an ask is for
 abbrev pub step_for : Ask → Option Step
@@ -124,6 +124,20 @@ abbrev pub after_all : Execution → List Ask → List Answer → Execution
 after_all run [] answers = run
 after_all run (ask ∷ asks) [] = run
 after_all run (ask ∷ asks) (answer ∷ answers) = after_all (after run ask answer) asks answers
+
+abbrev pub listed : Option Step → List Step
+listed None = []
+listed (Some step) = step ∷ []
+
+-- the step that an answered ask has added, if any
+abbrev pub step_added : Ask → Answer → List Step
+step_added ask answer = if is_refused answer then [] else listed (step_for ask)
+
+-- the steps that the answered asks have added
+abbrev pub steps_added : List Ask → List Answer → List Step
+steps_added asks [] = []
+steps_added [] (answer ∷ answers) = []
+steps_added (ask ∷ asks) (answer ∷ answers) = step_added ask answer ++ steps_added asks answers
 
 -- each answer is the right one after the steps before it, or gives up; the asks behind the last answer stay open
 abbrev pub AreAnswers : Execution → List Ask → List Answer → Type 0

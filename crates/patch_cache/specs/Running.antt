@@ -1,16 +1,24 @@
 -- A list of asks, answered one after another.
-use Rattle.std.specs.Prelude.{ℕ, true, false, ◌≡◌, ◌⊎◌, ◌++◌, List, [], ◌∷◌, length, slice_set, Contains}
+use Rattle.std.specs.Prelude.{ℕ, true, false, ◌≡◌, ◌≤◌, ◌⊎◌, ◌++◌, List, [], ◌∷◌, length, map, slice_set, Vec, Result, Ok, Err}
+use Rattle.patch_model.specs.declared.refusals.OutOfMemory.{OutOfMemory}
 use Rattle.patch_model.specs.declared.refusals.RefusalKind.TheVariants as kind
 use Rattle.patch_model.specs.Execution.{Execution}
 use Rattle.patch_model.specs.Crash.{HasTrail, MayLeave}
 use Rattle.patch_model.specs.History.{history_of, image}
 use Rattle.patch_model.specs.Refusing.{bare}
+use Rattle.patch_device.specs.Device.{HasRisen}
 use Rattle.patch_cache.specs.Contents.{Contents}
 use Rattle.patch_cache.specs.Meaning.{Represents}
 use Rattle.patch_cache.specs.Flights.{AreFlightsOf}
-use Rattle.patch_cache.specs.Asks.{Ask, Answer, Create, Merge, Send, Complete, View, Refused, IsAnswer, IsGivenUp, AreAnswers, is_refused, after, after_all}
+use Rattle.patch_cache.specs.Asks.{Ask, Answer, Create, Merge, Send, Complete, View, Refused, IsAnswer, IsGivenUp, AreAnswers, answer_of, is_refused, after, after_all}
+use Rattle.patch_cache.specs.declared.asks.Answer.{Answer as CodeAnswer}
 use Rattle.patch_cache.specs.declared.writes.Flight.{Flight}
 use Rattle.patch_cache.specs.declared.flights.Flights.{Flights}
+
+-- the answers of a run, whether it had room for all of them or not
+abbrev pub answers_in : {A : Type 0} → Result (Vec (CodeAnswer A) A) (Vec (CodeAnswer A) A × OutOfMemory) → List Answer
+answers_in (Ok answers) = map answer_of answers.items
+answers_in (Err stopped) = map answer_of stopped.0.items
 
 -- the flights that are held
 abbrev pub held_by : {A : Type 0} → Flights A → List (Flight A)
@@ -45,9 +53,15 @@ pub record HasRun {A : Type 0} (run : Execution) (asks : List Ask) (answers : Li
   pub right : AreAnswers run asks answers
   pub runs : Runs cache flights (after_all run asks answers)
 
--- some completion met a fault
-abbrev pub HasFault : List Answer → Type 0
-HasFault answers = Contains answers (Refused (bare kind.Fault))
+-- What an ask has made of the count of faults: none gets lost, and where it met one, one was counted.
+pub record CountsFaults (answer : Answer) (old new : ℕ) : Type 0 where
+  pub kept : old ≤ new
+  pub met : answer ≡ Refused (bare kind.Fault) → HasRisen old new
+
+-- and what a list of them has made of it: each answer that tells of a fault rests on a rise of its own
+abbrev pub CountFaults : List Answer → ℕ → ℕ → Type 0
+CountFaults [] old new = old ≡ new
+CountFaults (answer ∷ answers) old new = (between : ℕ) × CountsFaults answer old between × CountFaults answers between new
 
 -- What an answered ask has made of an honest disk: a completion has put the image in its block, at a fault it may have, and
 -- nothing else changes the disk.

@@ -3,15 +3,17 @@
 ghost use Rattle.std.specs.Prelude.{◌≡◌};
 ghost use Rattle.patch_model.specs.Execution.{Execution};
 ghost use Rattle.patch_cache.specs.Asks.{Ask, Answer, IsAnswer};
-ghost use Rattle.patch_cache.specs.Promise.{TakingBack, MovesArePermitted, ImagesSent, CrashesClosed};
+ghost use Rattle.patch_cache.specs.Promise.{TakingBack, MovesArePermitted, LooksShow, ImagesSent, CrashesClosed};
 
 /// For every execution of patch, merge, send and completion steps: taking back in any permitted order a set of undoable
 /// patches that holds its dependents leaves the block's other patches over its first bytes, and putting them back restores
 /// the cached block; every image sent holds exactly its block's durable and in-flight patches; and what a crash can leave is
-/// closed under dependencies. And what a view accepts is just the permitted orders.
+/// closed under dependencies. What a view accepts is just the permitted orders. [`Cache::run`](crate::Cache::run) has these
+/// as clauses of its own, beside what its answers are.
 pub fn promise()
     ensures taking_back { TakingBack }
     ensures moves { MovesArePermitted }
+    ensures looks { LooksShow }
     ensures images { ImagesSent }
     ensures crashes { CrashesClosed }
 {

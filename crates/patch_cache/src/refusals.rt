@@ -452,6 +452,18 @@ impl From<PutBackRefusal> for Refusal {
 }
 
 impl Refusal {
+    pub fn code(self) -> u8
+        ensures { result ≡ code_of self.kind }
+    {
+        self.kind.code()
+    }
+
+    pub fn name(self) -> &'static str
+        ensures { result.now ≡ name_of self.kind }
+    {
+        self.kind.name()
+    }
+
     /// A refusal that carries no number.
     pub(crate) fn bare(kind: RefusalKind) -> Refusal
         ensures { cause_of result ≡ bare kind }

@@ -7,12 +7,14 @@ ghost use Rattle.patch_model.specs.Refusing.{bare, why_not_sent};
 ghost use Rattle.patch_device.specs.Device.{HasRisen};
 ghost use Rattle.patch_cache.specs.Contents.{write_at};
 ghost use Rattle.patch_cache.specs.Meaning.{Represents};
-ghost use Rattle.patch_cache.specs.Asks.{Create, Merge, Send, Complete, Refused, ask_of, answer_of, after, after_all};
-ghost use Rattle.patch_cache.specs.Running.{Runs, IsDone, IsAnswered, IsCrashSafe, HasRun, HasFault, HasWritten, HaveWritten};
+ghost use Rattle.patch_cache.specs.Asks.{Create, Merge, Send, Complete, Refused, ask_of, answer_of, step_added, steps_added, after, after_all};
+ghost use Rattle.patch_cache.specs.Promise.{TakingBack, MovesArePermitted, LooksShow, ImagesSent, CrashesClosed};
+ghost use Rattle.patch_cache.specs.Running.{Runs, IsDone, IsAnswered, IsCrashSafe, HasRun, CountFaults, HasWritten, HaveWritten, answers_in};
 
 use crate::asks::{Answer, Ask};
 use crate::caches::Cache;
 use crate::flights::Flights;
+use crate::laws;
 use crate::refusals::Refusal;
 use crate::writes::write_image;
 use patch_device::Device;
@@ -40,25 +42,29 @@ impl<A: Allocator + Copy> Cache<A> {
         device: &mut D,
         asks: &[Ask<A>],
     ) -> Result<Vec<Answer<A>, A>, (Vec<Answer<A>, A>, OutOfMemory)>
-        ensures answers { (run : Execution) → Runs self.old flights.old run → D.block_count device.old ≡ length run.first → MatchResult result
-            (λ answers. HasRun run (map ask_of asks.now) (map answer_of answers.items) self.new flights.new)
-            (λ stopped. HasRun run (map ask_of asks.now) (map answer_of stopped.0.items) self.new flights.new) }
-        ensures all { IfOk result (λ answers. length answers.items ≡ length asks.now) }
+        ensures answers { (run : Execution) → Runs self.old flights.old run → D.block_count device.old ≡ length run.first
+            → HasRun run (map ask_of asks.now) (answers_in result) self.new flights.new }
+        ensures all { OnOk result (length (answers_in result) ≡ length asks.now) }
+        ensures stopped { OnErr result (length (answers_in result) < length asks.now) }
+        ensures trace { self.new.trace ≡ self.old.trace ++ steps_added (map ask_of asks.now) (answers_in result) }
         ensures honesty { D.is_honest device.old ↔ D.is_honest device.new }
         ensures count { D.block_count device.new ≡ D.block_count device.old }
         ensures faults { D.fault_count device.old ≤ D.fault_count device.new }
-        ensures fault { (run : Execution) → Runs self.old flights.old run → D.block_count device.old ≡ length run.first → MatchResult result
-            (λ answers. HasFault (map answer_of answers.items) → HasRisen (D.fault_count device.old) (D.fault_count device.new))
-            (λ stopped. HasFault (map answer_of stopped.0.items) → HasRisen (D.fault_count device.old) (D.fault_count device.new)) }
+        ensures fault { (run : Execution) → Runs self.old flights.old run → D.block_count device.old ≡ length run.first
+            → CountFaults (answers_in result) (D.fault_count device.old) (D.fault_count device.new) }
         ensures written { (run : Execution) → Runs self.old flights.old run → D.block_count device.old ≡ length run.first
-            → D.is_honest device.old → MatchResult result
-            (λ answers. HaveWritten run (map ask_of asks.now) (map answer_of answers.items) (D.contents device.old) (D.contents device.new))
-            (λ stopped. HaveWritten run (map ask_of asks.now) (map answer_of stopped.0.items) (D.contents device.old) (D.contents device.new)) }
+            → D.is_honest device.old
+            → HaveWritten run (map ask_of asks.now) (answers_in result) (D.contents device.old) (D.contents device.new) }
+        ensures taking_back { TakingBack }
+        ensures moves { MovesArePermitted }
+        ensures looks { LooksShow }
+        ensures images { ImagesSent }
+        ensures closed { CrashesClosed }
         ensures crash { (run : Execution) → Runs self.old flights.old run → D.block_count device.old ≡ length run.first
-            → D.is_honest device.old → MayLeave run (D.contents device.old) → MatchResult result
-            (λ answers. IsCrashSafe run (after_all run (map ask_of asks.now) (map answer_of answers.items)) (D.had device.old) (D.had device.new) (D.contents device.new))
-            (λ stopped. IsCrashSafe run (after_all run (map ask_of asks.now) (map answer_of stopped.0.items)) (D.had device.old) (D.had device.new) (D.contents device.new)) }
+            → D.is_honest device.old → MayLeave run (D.contents device.old)
+            → IsCrashSafe run (after_all run (map ask_of asks.now) (answers_in result)) (D.had device.old) (D.had device.new) (D.contents device.new) }
     {
+        laws::promise();
         model_laws::trails_join();
         let mut answers = Vec::new(self.alloc);
         for ask in asks {
@@ -80,6 +86,7 @@ impl<A: Allocator + Copy> Cache<A> {
     ) -> Answer<A>
         ensures answer { (run : Execution) → Runs self.old flights.old run → D.block_count device.old ≡ length run.first
             → IsAnswered run (ask_of ask.now) (answer_of result) self.new flights.new }
+        ensures trace { self.new.trace ≡ self.old.trace ++ step_added (ask_of ask.now) (answer_of result) }
         ensures honesty { D.is_honest device.old ↔ D.is_honest device.new }
         ensures count { D.block_count device.new ≡ D.block_count device.old }
         ensures faults { D.fault_count device.old ≤ D.fault_count device.new }
@@ -123,8 +130,9 @@ impl<A: Allocator + Copy> Cache<A> {
         after: &[PatchNo],
         undo: Undo,
     ) -> Answer<A>
-        ensures { (run : Execution) → Represents self.old run
+        ensures answer { (run : Execution) → Represents self.old run
             → IsDone run (Create block start bytes.now after.now undo) (answer_of result) self.new }
+        ensures trace { self.new.trace ≡ self.old.trace ++ step_added (Create block start bytes.now after.now undo) (answer_of result) }
     {
         match self.create(block, start, bytes, after, undo) {
             Ok(no) => Answer::Made(no),
@@ -134,6 +142,7 @@ impl<A: Allocator + Copy> Cache<A> {
 
     fn answer_merge(&mut self, a: PatchNo, b: PatchNo) -> Answer<A>
         ensures answer { (run : Execution) → Represents self.old run → IsDone run (Merge a b) (answer_of result) self.new }
+        ensures trace { self.new.trace ≡ self.old.trace ++ step_added (Merge a b) (answer_of result) }
         ensures no_fault { answer_of result ≢ Refused (bare kind.Fault) }
     {
         match self.merge(a, b) {
@@ -145,6 +154,7 @@ impl<A: Allocator + Copy> Cache<A> {
     /// Begins a write and holds its flight.
     fn answer_send(&mut self, flights: &mut Flights<A>, block: BlockNo) -> Answer<A>
         ensures answer { (run : Execution) → Runs self.old flights.old run → IsAnswered run (Send block) (answer_of result) self.new flights.new }
+        ensures trace { self.new.trace ≡ self.old.trace ++ step_added (Send block) (answer_of result) }
     {
         if let Some(refusal) = self.why_not_sent(block) {
             return Answer::Refused(Refusal::from(refusal));
@@ -166,6 +176,7 @@ impl<A: Allocator + Copy> Cache<A> {
         requires grounded { write_at self.old block ≡ None }
         ensures answer { (run : Execution) → Runs self.old flights.old run → why_not_sent run block ≡ None → IfOk result (λ answer.
             IsAnswered run (Send block) (answer_of answer) self.new flights.new) }
+        ensures trace { IfOk result (λ answer. self.new.trace ≡ self.old.trace ++ step_added (Send block) (answer_of answer)) }
         ensures refused { OnErr result (self.new ≡ self.old) }
         ensures held { OnErr result (flights.new.held.items ≡ flights.old.held.items) }
     {
@@ -196,6 +207,7 @@ impl<A: Allocator + Copy> Cache<A> {
     ) -> Answer<A>
         ensures answer { (run : Execution) → Runs self.old flights.old run → D.block_count device.old ≡ length run.first
             → IsAnswered run (Complete block) (answer_of result) self.new flights.new }
+        ensures trace { self.new.trace ≡ self.old.trace ++ step_added (Complete block) (answer_of result) }
         ensures honesty { D.is_honest device.old ↔ D.is_honest device.new }
         ensures count { D.block_count device.new ≡ D.block_count device.old }
         ensures faults { D.fault_count device.old ≤ D.fault_count device.new }

@@ -41,7 +41,7 @@ refused_alike (given.Refused cause) = refl
 answered_right : (run : Execution) (ask : Ask) (a : given.Answer) → a ≢ given.Refused (bare kind.OutOfMemory) → a ≢ given.Refused (bare kind.Fault) → IsAnswer run ask a ⊎ IsGivenUp run ask a
     → IsAnswer run ask a
 answered_right run ask a memory fault (inl right) = right
-answered_right run ask a memory fault (inr up) = elim up.gives_up [ inl e ↦ absurd (memory e) | inr e ↦ absurd (fault e.0) ]
+answered_right run ask a memory fault (inr up) = elim up.gives_up [ inl e ↦ absurd (memory e.0) | inr e ↦ absurd (fault e.0) ]
 
 either : {A : Type 0} (b : Bool) (x : A) → (if b then x else x) ≡ x
 either true x = refl

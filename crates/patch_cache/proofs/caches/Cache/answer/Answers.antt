@@ -12,7 +12,7 @@ returns-in-Create-clause-answer g c run r count =
     let i = c.in-Create in
     let same : ask_of c.args.ask.now ≡ Create i.block i.start c.as_slice.result.now c.as_slice-in-Create.result.now i.undo =
     rw (c.as_slice.ensures, c.as_slice-in-Create.ensures) (ap ask_of i.is) in
-    let done = c.answer_create.ensures run r.cache_is in
+    let done = c.answer_create.ensures.answer run r.cache_is in
     subst (λ a. IsAnswered run a (answer_of c.answer_create.result) c.answer_create.new.self c.args.flights.now) (sym same) (record {
       right = done.right;
       runs = record {
@@ -28,7 +28,7 @@ returns-in-Create-clause-crash g c run r count honest left =
     let device = g.D.Device in
     let ask = Create i.block i.start c.as_slice.result.now c.as_slice-in-Create.result.now i.undo in
     let same : ask_of c.args.ask.now ≡ ask = rw (c.as_slice.ensures, c.as_slice-in-Create.ensures) (ap ask_of i.is) in
-    let done = c.answer_create.ensures run r.cache_is in
+    let done = c.answer_create.ensures.answer run r.cache_is in
     subst (λ a. IsCrashSafe run (after run a (answer_of c.answer_create.result)) (device.had c.args.device.now) (device.had c.args.device.now) (device.contents c.args.device.now)) (sym same)
     (unwritten c.disks_stay.ensures run ask (answer_of c.answer_create.result) _ _ refl r.cache_is.legal done.cache_is.legal left)
 

@@ -1,4 +1,4 @@
-use Rattle.std.proofs.Common.{◌≡◌, ◌<◌, slice_set}
+use Rattle.std.proofs.Common.{◌≡◌, ◌<◌, ◌++◌, ◌∷◌, [], ap, slice_set}
 use Rattle.patch_model.specs.Execution.{extended}
 use Rattle.patch_model.specs.State.{entries_of, flying_of, numbers_of}
 use Rattle.patch_model.specs.Step as the
@@ -11,7 +11,7 @@ use Rattle.std.proofs.Common.{inl, refl, sym, subst, ◌∙◌}
 use Rattle.patch_cache.specs.Refusals.{cause_of}
 use Rattle.patch_cache.proofs.Answering.{found, no_stranger, on_err, on_ok, none_answered, fault_answered, landed_answered, written_or_not, written_for}
 use Rattle.patch_cache.proofs.Crashing.{unmoved, write_refused, write_completed}
-use Rattle.patch_cache.proofs.Holding.{held_complete, none_stands}
+use Rattle.patch_cache.proofs.Holding.{held_complete, none_stands, stands_at}
 
 -- the block has no flight
 pub returns-in_default-clause-answer : goal.returns-in_default-clause-answer
@@ -134,3 +134,8 @@ returns-in-Err-clause-crash g c = λ run runs count honest left.
     runs.flights_are (sym c.place_of.ensures ∙ c.in-Some.is) c.swap_remove.ensures.value in
     absurd (no_stranger run c.args.flights.now.held.items c.args.block c.in-Some.at c.landed-landed.result.block c.landed-landed.result.number c.swap_remove.result s c.landed-landed.ensures.block
     c.landed-landed.ensures.number (c.in-Err.ensures.stranger run runs.cache_is))
+
+pub returns-in-Ok-clause-trace : goal.returns-in-Ok-clause-trace
+returns-in-Ok-clause-trace g c =
+    let s = stands_at c.args.flights.now.held.items c.args.block c.in-Some.at c.swap_remove.result (sym c.place_of.ensures ∙ c.in-Some.is) (sym c.swap_remove.ensures.value) in
+    c.in-Ok.ensures.trace ∙ ap (λ b. c.args.self.now.trace ++ the.Complete b ∷ []) (c.landed-landed.ensures.block ∙ s.1)

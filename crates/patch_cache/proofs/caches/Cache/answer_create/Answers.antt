@@ -7,8 +7,8 @@ use Rattle.patch_cache.specs.Asks.{Made, unless}
 use Rattle.patch_cache.proofs.GivingUp.{refused}
 use Rattle.patch_cache.proofs.caches.Cache.answer_create.Goals as goal
 
-pub returns-in-Ok : goal.returns-in-Ok
-returns-in-Ok g c run r =
+pub returns-in-Ok-clause-answer : goal.returns-in-Ok-clause-answer
+returns-in-Ok-clause-answer g c run r =
     let a = c.args in
     let made = c.in-Ok.ensures.made run r in
     record {
@@ -16,15 +16,15 @@ returns-in-Ok g c run r =
       cache_is = made.2;
     }
 
-pub returns-in-Err : goal.returns-in-Err
-returns-in-Err g c run r =
+pub returns-in-Err-clause-answer : goal.returns-in-Err-clause-answer
+returns-in-Err-clause-answer g c run r =
     let a = c.args in
     let why = why_not_made (length run.first) (entries_of run) a.block a.start a.bytes.now a.after.now in
     let same : Represents c.create.new.self run = subst (λ (x : Contents). Represents x run) (sym c.in-Err.ensures.refused) r in
     elim (refused why _ _ (Made (length (entries_of run))) c.from.ensures (c.in-Err.ensures.cause run r)) [
       | inl is ↦ record { right = inl is; cache_is = same }
       | inr none ↦ record {
-        right = inr (record { done = Made (length (entries_of run)); right = sym (ap (λ w. unless w (Made (length (entries_of run)))) none.0); not_refused = refl; gives_up = inl none.1 });
+        right = inr (record { done = Made (length (entries_of run)); right = sym (ap (λ w. unless w (Made (length (entries_of run)))) none.0); not_refused = refl; gives_up = inl (none.1, refl) });
         cache_is = same;
       }
     ]

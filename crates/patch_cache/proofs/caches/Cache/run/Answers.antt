@@ -1,11 +1,11 @@
-use Rattle.std.proofs.Common.{◌≡◌, ◌∙◌, ◌<◌, ◌++◌, ◌∷◌, inl, inr, [], length, map, get_or, ◌+◌, refl, sym, ap, subst, arith}
-use Rattle.std.proofs.lemmas.List.{length-append, map-append}
+use Rattle.std.proofs.Common.{◌≡◌, ◌∙◌, ◌<◌, ◌++◌, ◌∷◌, inl, inr, [], length, map, get_or, append_assoc, ◌+◌, refl, sym, ap, subst, arith}
+use Rattle.std.proofs.lemmas.List.{length-append, map-append, append-nil}
 use Rattle.patch_model.specs.Execution.{Execution}
-use Rattle.patch_cache.specs.Asks.{ask_of, answer_of, after_all}
-use Rattle.patch_cache.specs.Running.{HasFault, IsCrashSafe, HaveWritten}
-use Rattle.patch_cache.proofs.Asking.{all_first, risen_more, risen_before, among_more}
+use Rattle.patch_cache.specs.Asks.{ask_of, answer_of, after_all, step_added, steps_added}
+use Rattle.patch_cache.specs.Running.{CountsFaults, CountFaults, IsCrashSafe, HaveWritten}
+use Rattle.patch_cache.proofs.Asking.{all_first, one_more_counted}
 use Rattle.patch_cache.proofs.Crashing.{unmoved, joined_ask}
-use Rattle.patch_cache.proofs.Runs.{begun, stepped, stepped_written, no_fault, after_begun}
+use Rattle.patch_cache.proofs.Runs.{begun, stepped, stepped_added, stepped_written, after_begun}
 use Rattle.patch_cache.proofs.caches.Cache.run.Goals as goal
 
 pub loop-ask-init : goal.loop-ask-init
@@ -19,7 +19,8 @@ loop-ask-init g c =
       count = refl;
       faults = omega arith;
       so_far = λ run r count. rw none (begun run asks _ _ r);
-      fault = λ run r count fault. absurd (no_fault (subst (λ answers. HasFault (map answer_of answers)) none fault));
+      fault = λ run r count. rw none refl;
+      trace = rw none (sym (append-nil c.args.self.now.trace ∙ refl));
       written = λ run r count honest. rw none refl;
       crash = λ run r count honest left.
           rw none (subst (λ now. IsCrashSafe run now (device.had c.args.device.now) (device.had c.args.device.now) (device.contents c.args.device.now)) (sym (after_begun run asks)) (unmoved run _ _ left));
@@ -51,13 +52,16 @@ loop-ask-preserved g c =
       so_far = λ run r count.
           let done = before.so_far run r count in
           rw pushed (stepped run asks answers c.ask-item.result answer _ _ _ _ within item done (told.answer (so_far run) done.runs (fits run count))).0;
-      fault = λ run r count fault.
+      fault = λ run r count.
           let done = before.so_far run r count in
-          let either = among_more (map answer_of answers) (answer_of answer) _ (subst HasFault (ap (map answer_of) pushed ∙ map-append answer_of answers (answer ∷ [])) fault) in
-          elim either [
-            | inl early ↦ risen_more _ _ _ (before.fault run r count early) told.faults (g.met.D.Device.faults_fit next)
-            | inr late ↦ risen_before _ _ _ before.faults (told.fault (so_far run) done.runs (fits run count) late) (g.met.D.Device.faults_fit now)
-          ];
+          let one : CountsFaults (answer_of answer) (device.fault_count now) (device.fault_count next) = record { kept = told.faults; met = told.fault (so_far run) done.runs (fits run count) } in
+          subst (λ all. CountFaults all (device.fault_count old) (device.fault_count next)) (sym (ap (map answer_of) pushed ∙ map-append answer_of answers (answer ∷ [])))
+          (one_more_counted (map answer_of answers) (answer_of answer) _ _ _ (before.fault run r count) one);
+      trace =
+          let steps = steps_added (map ask_of asks) (map answer_of answers) in
+          let added = stepped_added asks answers c.ask-item.result answer within item in
+          told.trace ∙ ap (λ s. s ++ step_added (ask_of c.ask-item.result) (answer_of answer)) before.trace ∙ append_assoc c.args.self.now.trace steps _
+          ∙ ap (λ s. c.args.self.now.trace ++ s) (sym added ∙ sym (ap (λ xs. steps_added (map ask_of asks) (map answer_of xs)) pushed));
       written = λ run r count honest.
           let done = before.so_far run r count in
           rw pushed (stepped_written run asks answers c.ask-item.result answer _ _ _ within item (before.written run r count honest)
@@ -72,8 +76,9 @@ loop-ask-preserved g c =
     }
 
 pub returns-in-Err-clause-fault : goal.returns-in-Err-clause-fault
-returns-in-Err-clause-fault g c run r count fault =
-    c.loop-ask.invariant.fault run r count (subst (λ xs. HasFault (map answer_of xs)) c.reserve.ensures.items fault)
+returns-in-Err-clause-fault g c run r count =
+    let device = g.D.Device in
+    subst (λ xs. CountFaults (map answer_of xs) (device.fault_count c.args.device.now) (device.fault_count c.loop-ask.device)) (sym c.reserve.ensures.items) (c.loop-ask.invariant.fault run r count)
 
 pub returns-in-Err-clause-crash : goal.returns-in-Err-clause-crash
 returns-in-Err-clause-crash g c run r count honest left = rw c.reserve.ensures.items (c.loop-ask.invariant.crash run r count honest left)

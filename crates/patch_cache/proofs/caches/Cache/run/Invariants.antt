@@ -1,9 +1,8 @@
-use Rattle.std.proofs.Common.{◌≡◌, ◌≤◌, ◌↔◌, length, map}
+use Rattle.std.proofs.Common.{◌≡◌, ◌≤◌, ◌↔◌, ◌++◌, length, map}
 use Rattle.patch_model.specs.Execution.{Execution}
 use Rattle.patch_model.specs.Crash.{MayLeave}
-use Rattle.patch_device.specs.Device.{HasRisen}
-use Rattle.patch_cache.specs.Asks.{ask_of, answer_of, after_all}
-use Rattle.patch_cache.specs.Running.{Runs, HasRun, HasFault, IsCrashSafe, HaveWritten}
+use Rattle.patch_cache.specs.Asks.{ask_of, answer_of, after_all, steps_added}
+use Rattle.patch_cache.specs.Running.{Runs, HasRun, CountFaults, IsCrashSafe, HaveWritten}
 use Rattle.patch_cache.proofs.caches.Cache.run.Given as goal
 
 -- all that was answered so far is as promised
@@ -18,7 +17,8 @@ invariant-loop-ask g l =
       so_far : (run : Execution) → Runs l.fn.self l.fn.flights run → device.block_count l.fn.device ≡ length run.first
           → HasRun run (map ask_of l.asks) (map answer_of l.answers.items) l.self l.flights;
       fault : (run : Execution) → Runs l.fn.self l.fn.flights run → device.block_count l.fn.device ≡ length run.first
-          → HasFault (map answer_of l.answers.items) → HasRisen (device.fault_count l.fn.device) (device.fault_count l.device);
+          → CountFaults (map answer_of l.answers.items) (device.fault_count l.fn.device) (device.fault_count l.device);
+      trace : l.self.trace ≡ l.fn.self.trace ++ steps_added (map ask_of l.asks) (map answer_of l.answers.items);
       written : (run : Execution) → Runs l.fn.self l.fn.flights run → device.block_count l.fn.device ≡ length run.first → device.is_honest l.fn.device
           → HaveWritten run (map ask_of l.asks) (map answer_of l.answers.items) (device.contents l.fn.device) (device.contents l.device);
       crash : (run : Execution) → Runs l.fn.self l.fn.flights run → device.block_count l.fn.device ≡ length run.first
