@@ -7,8 +7,6 @@ mod files;
 mod loading;
 mod memory;
 mod refusals;
-#[cfg(test)]
-mod tests;
 
 pub use devices::Device;
 pub use faulty::FaultyDevice;

@@ -1,8 +1,8 @@
 //! Devices in memory, with a failing call and over a file, and each refusal in its turn.
-use super::*;
 use linked_list_allocator::LocalHeap;
+use patch_device::*;
 use patch_model::{BLOCK, RefusalKind};
-use std::alloc::{Allocator, Global};
+use std::alloc::{AllocError, Allocator, Global};
 use std::fs;
 use std::fs::File;
 use std::process::Abort;
@@ -75,27 +75,55 @@ fn make_file(rt: &HostRuntime, path: &str, length: u64) -> Result<(), Fail> {
     Ok(())
 }
 
+// Asserts the number and the name of a refusal, and its text, which is the name.
+fn expect_named(
+    rt: &impl Abort,
+    shown: (u8, u8, &str),
+    told: Result<String, AllocError>,
+    want: (u8, &str),
+) -> Result<(), Fail> {
+    assert_eq!(rt; shown, (want.0, want.0, want.1));
+    assert_eq!(rt; told?.as_str(), want.1);
+    Ok(())
+}
+
 #[test]
-fn refusals_have_their_numbers_and_names(rt: HostRuntime) {
+fn refusals_have_their_numbers_names_and_texts(rt: HostRuntime) -> Result<(), Fail> {
     for (refusal, number, text) in [
         (DeviceRefusal::NoSuchBlock, 2, "NoSuchBlock"),
         (DeviceRefusal::Fault, 3, "Fault"),
     ] {
         let shown = (refusal.kind().code(), refusal.code(), refusal.name());
-        assert_eq!(rt; shown, (number, number, text));
+        expect_named(
+            &rt,
+            shown,
+            format!(in rt.alloc(); "{refusal}"),
+            (number, text),
+        )?;
     }
     for (refusal, number, text) in [
         (FileRefusal::Disk, 4, "Disk"),
         (FileRefusal::FileSize, 5, "FileSize"),
     ] {
         let shown = (refusal.kind().code(), refusal.code(), refusal.name());
-        assert_eq!(rt; shown, (number, number, text));
+        expect_named(
+            &rt,
+            shown,
+            format!(in rt.alloc(); "{refusal}"),
+            (number, text),
+        )?;
     }
     for (refusal, number, text) in [
         (LoadFault::Fault, 3, "Fault"),
         (LoadFault::OutOfMemory, 1, "OutOfMemory"),
     ] {
         let shown = (refusal.kind().code(), refusal.code(), refusal.name());
-        assert_eq!(rt; shown, (number, number, text));
+        expect_named(
+            &rt,
+            shown,
+            format!(in rt.alloc(); "{refusal}"),
+            (number, text),
+        )?;
     }
+    Ok(())
 }

@@ -101,3 +101,17 @@ fn each_read_of_a_load_fails_in_turn(rt: HostRuntime) -> Result<(), Fail> {
     }
     Ok(())
 }
+
+// Whether each of so many reads in a row is refused.
+fn refused_reads<D: Device>(device: &mut D) -> [bool; 3] {
+    [0, 1, 2].map(|_| device.read(0, &mut [7; BLOCK]).is_err())
+}
+
+#[test]
+fn a_nested_device_counts_each_read_once(rt: HostRuntime) -> Result<(), Fail> {
+    let inner = FaultyDevice::new(MemDevice::new(rt.alloc(), 1)?, 1, false);
+    let mut outer = FaultyDevice::new(inner, 3, false);
+    assert_eq!(rt; refused_reads(&mut outer), [false, true, false]);
+    assert_eq!(rt; refused_reads(&mut outer), [true, false, false]);
+    Ok(())
+}
