@@ -3,7 +3,7 @@ ghost use Rattle.std.specs.Prelude.{◌≡◌, ◌==◌, []};
 ghost use Rattle.std.specs.List.{position};
 
 use crate::writes::Flight;
-use patch_model::BlockNo;
+use patch_model::{BlockNo, Ending};
 use std::alloc::{Allocator, Global};
 
 /// The flights of a cache that are not completed, whose images may have to be written again. They can't be let go: each is
@@ -11,6 +11,8 @@ use std::alloc::{Allocator, Global};
 pub struct Flights<A: Allocator = Global> {
     pub(crate) held: Vec<Flight<A>, A>,
 }
+
+impl<A: Allocator> Ending for Flights<A> {}
 
 impl<A: Allocator> Flights<A> {
     ghost use Rattle.patch_cache.specs.Running.{held_by};

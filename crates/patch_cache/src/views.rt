@@ -12,7 +12,7 @@ ghost use Rattle.patch_cache.specs.declared.asks.Move.TheVariants.{Take, Back};
 
 use crate::caches::Cache;
 use crate::refusals::{NoSuchBlock, TakeRefusal};
-use patch_model::{BlockNo, Mark, PatchNo};
+use patch_model::{BlockNo, Ending, Mark, PatchNo};
 use patch_view::PutBackRefusal;
 use std::alloc::{Allocator, Global};
 
@@ -101,6 +101,8 @@ impl<A: Allocator + Copy> Cache<A> {
         state.put_all_back();
     }
 }
+
+impl<'a, A: Allocator + Copy> Ending for CacheView<'a, A> {}
 
 impl<'a, A: Allocator + Copy> CacheView<'a, A> {
     ghost use Rattle.patch_cache.specs.Viewing.{with_move, seen_by, block_of, borrow_of, IsViewOf};

@@ -4,7 +4,7 @@ ghost use Rattle.patch_device.specs.Device.{HasRisen, IsOldOrNew, AddsOutcome};
 
 use crate::refusals::Fault;
 use patch_device::Device;
-use patch_model::{BLOCK, BlockBytes, BlockNo, Numbers, PatchNo};
+use patch_model::{BLOCK, BlockBytes, BlockNo, Ending, Numbers, PatchNo};
 use std::alloc::{Allocator, Global};
 use std::marker::Model;
 
@@ -44,6 +44,10 @@ impl<A: Allocator> Model for Write<A> {
 
     ghost view = { λ w. record { number = w.number; numbers = w.numbers } };
 }
+
+impl<A: Allocator> Ending for Flight<A> {}
+
+impl Ending for Landed {}
 
 impl<A: Allocator> Flight<A> {
     pub fn block(&self) -> BlockNo

@@ -12,7 +12,9 @@ ghost use Rattle.patch_replay.specs.Core.{IsAt};
 use crate::answering::Core;
 use patch_cache::{Ask, Cache, Flights, Move};
 use patch_device::{Device, MemDevice, load};
-use patch_model::{BLOCK, BlockNo, Bytes, Items, MAX_BLOCKS, OutOfMemory, PatchNo, RefusalKind};
+use patch_model::{
+    BLOCK, BlockNo, Bytes, Ending, Items, MAX_BLOCKS, OutOfMemory, PatchNo, RefusalKind,
+};
 use patch_script::{Answer, Line, Refusal, Span};
 use std::alloc::Global;
 
@@ -22,6 +24,8 @@ pub struct CachedDisk {
     flights: Flights,
     device: MemDevice,
 }
+
+impl Ending for CachedDisk {}
 
 impl CachedDisk {
     /// So many blocks of zeros, 1 to 4,096, with no patch.

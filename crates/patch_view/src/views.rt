@@ -9,7 +9,7 @@ ghost use Rattle.patch_view.specs.Answers.{MayTake, MayPutBack, IsTaken, IsWhyNo
 
 use crate::refusals::{PutBackRefusal, TakeRefusal};
 use crate::states::BlockState;
-use patch_model::{BLOCK, PatchNo};
+use patch_model::{BLOCK, Ending, PatchNo};
 use std::alloc::{Allocator, Global};
 
 /// A view of a block, of which classes are taken back for a while. [`restore`](BlockView::restore) alone spends it: a view
@@ -17,6 +17,8 @@ use std::alloc::{Allocator, Global};
 pub struct BlockView<'a, A: Allocator = Global> {
     state: &'a mut BlockState<A>,
 }
+
+impl<'a, A: Allocator> Ending for BlockView<'a, A> {}
 
 impl<A: Allocator> BlockState<A> {
     /// Lends the block as a view. It takes no memory, nor do the view's calls.
