@@ -1,0 +1,16 @@
+pub mod Agreeing
+pub mod Widening
+pub mod Sound
+pub mod Blocks
+pub mod Showing
+pub mod Upgrading
+pub mod Disks
+pub mod Held
+pub mod Opening
+pub mod Reopening
+pub mod Telling
+pub mod Growing
+pub mod Naming
+pub mod Putting
+pub mod Closing
+pub mod Staying

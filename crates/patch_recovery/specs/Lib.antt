@@ -1,0 +1,10 @@
+pub mod Change
+pub mod Ledger
+pub mod Reading
+pub mod Right
+pub mod Orders
+pub mod Naming
+pub mod Store
+pub mod Said
+pub mod Closed
+pub mod Putting
