@@ -14,3 +14,4 @@ pub mod Naming
 pub mod Putting
 pub mod Closing
 pub mod Staying
+pub mod EachCommand

@@ -8,3 +8,5 @@ pub mod Store
 pub mod Said
 pub mod Closed
 pub mod Putting
+pub mod Rows
+pub mod Runs
