@@ -11,8 +11,3 @@ mod scripts;
 pub use answers::{Answer, Refusal, answer_line};
 pub use forms::{Line, Span};
 pub use scripts::{MAX_BYTES, MAX_LINES, ScriptError, passes_limit, read_script};
-
-#[cfg(test)]
-mod rows;
-#[cfg(test)]
-mod tests;

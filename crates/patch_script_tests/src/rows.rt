@@ -11,13 +11,15 @@ fn worked_lines()
         ≡ Some (Some (Show (record { block = 0; start = 4; len = 6 }))) }
     ensures patch { line_of (codes "{\"op\":\"patch\",\"block\":1,\"start\":2,\"hex\":\"aB0c\"}")
         ≡ Some (Some (Patch 1 2 (0xab ∷ 0x0c ∷ []) [] Keep 0)) }
-    ensures hard { line_of (codes "{\"op\":\"patch\",\"block\":0,\"start\":0,\"hex\":\"aa\",\"after\":[3],\"drop\":true,\"writer\":7}")
+    ensures hard { line_of
+        (codes "{\"op\":\"patch\",\"block\":0,\"start\":0,\"hex\":\"aa\",\"after\":[3],\"drop\":true,\"writer\":7}")
         ≡ Some (Some (Patch 0 0 (0xaa ∷ []) (3 ∷ []) MayDrop 7)) }
     ensures view { line_of (codes "{\"op\":\"view\",\"block\":0,\"take\":[1,0],\"back\":[0],\"start\":0,\"len\":6}")
         ≡ Some (Some (View (1 ∷ 0 ∷ []) (0 ∷ []) (record { block = 0; start = 0; len = 6 }))) }
     ensures merge { line_of (codes "{\"op\":\"merge\",\"a\":2,\"b\":1}") ≡ Some (Some (Merge 2 1)) }
     ensures send { line_of (codes "{\"op\":\"send\",\"block\":3}") ≡ Some (Some (Send 3)) }
-    ensures complete { line_of (codes "{\"op\":\"complete\",\"block\":4294967295}") ≡ Some (Some (Complete 4294967295)) }
+    ensures complete { line_of
+        (codes "{\"op\":\"complete\",\"block\":4294967295}") ≡ Some (Some (Complete 4294967295)) }
     ensures disk { line_of (codes "{\"op\":\"disk\",\"block\":0,\"start\":4,\"len\":6}")
         ≡ Some (Some (Disk (record { block = 0; start = 4; len = 6 }))) }
     ensures blank { line_of (codes " \t\r") ≡ Some None }
@@ -25,7 +27,8 @@ fn worked_lines()
     ensures minus_zero { line_of (codes "{\"op\":\"show\",\"block\":-0,\"start\":4,\"len\":6}") ≡ None }
     ensures leading_zero { line_of (codes "{\"op\":\"show\",\"block\":01,\"start\":4,\"len\":6}") ≡ None }
     ensures no_byte { line_of (codes "{\"op\":\"show\",\"block\":0,\"start\":4,\"len\":0}") ≡ None }
-    ensures ninth_writer { line_of (codes "{\"op\":\"patch\",\"block\":0,\"start\":0,\"hex\":\"aa\",\"writer\":8}") ≡ None }
+    ensures ninth_writer { line_of
+        (codes "{\"op\":\"patch\",\"block\":0,\"start\":0,\"hex\":\"aa\",\"writer\":8}") ≡ None }
     ensures merge_of_one { line_of (codes "{\"op\":\"merge\",\"a\":0}") ≡ None }
     ensures merge_of_text { line_of (codes "{\"op\":\"merge\",\"a\":0,\"b\":\"1\"}") ≡ None }
     ensures send_of_no_block { line_of (codes "{\"op\":\"send\",\"a\":0}") ≡ None }

@@ -1,0 +1,417 @@
+//! Scripts of every kind, and the texts of answers.
+use patch_model::{BlockNo, Bytes, Items, Numbers, PatchNo, RefusalKind};
+use patch_script::*;
+use std::alloc::{AllocError, Global};
+use std::process::Abort;
+use std::test::Fail;
+
+// How many lines ask for something, or why the script isn't run. Nothing of one that passes a limit.
+fn read(alloc: Global, text: &[u8]) -> Option<Result<usize, ScriptError>> {
+    if passes_limit(text) {
+        return None;
+    }
+    match read_script(alloc, text) {
+        Ok(lines) => Some(Ok(lines.len())),
+        Err(e) => Some(Err(e)),
+    }
+}
+
+// Each line, as a script of its own, is read like that.
+fn expect_each(rt: &impl Abort, alloc: Global, lines: &str, want: Result<usize, ScriptError>) {
+    for line in lines.lines() {
+        assert_eq!(rt; read(alloc, line.as_bytes()), Some(want), "{line}");
+    }
+}
+
+const READABLE: &str = r#"{"op":"show","block":0,"start":0,"len":1}
+{"op":"patch","block":0,"start":0,"hex":"aAbB","after":[0,1],"drop":true,"writer":7}
+{"op":"view","block":0,"take":[0],"back":[0],"start":0,"len":1,"colour":"red","more":{}}
+{"op":"show","block":9,"block":0,"start":0,"len":1}
+{"op":"merge","a":0,"b":1}
+{"op":"send","block":0}
+{"op":"send","block":4294967295}
+{"op":"complete","block":4294967295}
+{"op":"disk","block":0,"start":0,"len":1}
+{"op":"disk","block":4294967295,"start":4294967295,"len":4294967295}
+{"op":"merge","a":9,"b":1,"a":0,"block":"x"}
+{"op":"send","block":9,"block":0,"colour":"red"}
+{"op":"complete","block":"x","more":{},"block":0}
+{"op":"disk","block":0,"start":0,"len":0,"len":1,"take":7}"#;
+
+#[test]
+fn reads_lines(rt: HostRuntime) {
+    expect_each(&rt, rt.alloc(), READABLE, Ok(1));
+}
+
+const UNREADABLE: &str = r#"{"op":"fly"}
+{"op":7}
+{}
+[]
+7
+show
+{"op":"show"
+{"op":"show","block":0,"start":0,"len":1} x
+{"op":"show","block":0,"start":0}
+{"op":"show","block":0,"start":0,"len":0}
+{"op":"show","block":"0","start":0,"len":1}
+{"op":"show","block":-1,"start":0,"len":1}
+{"op":"show","block":+1,"start":0,"len":1}
+{"op":"show","block":-0,"start":0,"len":1}
+{"op":"show","block":1.0,"start":0,"len":1}
+{"op":"show","block":1e0,"start":0,"len":1}
+{"op":"show","block":01,"start":0,"len":1}
+{"op":"show","block":4294967296,"start":0,"len":1}
+{"op":"show","block":null,"start":0,"len":1}
+{"op":"patch","block":0,"start":0}
+{"op":"patch","block":0,"start":0,"hex":"a"}
+{"op":"patch","block":0,"start":0,"hex":"ag"}
+{"op":"patch","block":0,"start":0,"hex":7}
+{"op":"patch","block":0,"start":0,"hex":"aa","after":7}
+{"op":"patch","block":0,"start":0,"hex":"aa","after":[-1]}
+{"op":"patch","block":0,"start":0,"hex":"aa","drop":1}
+{"op":"patch","block":0,"start":0,"hex":"aa","writer":8}
+{"op":"view","block":0,"start":0,"len":1}
+{"op":"view","block":0,"take":[[]],"start":0,"len":1}"#;
+
+const UNREADABLE_MERGES: &str = r#"{"op":"merge"}
+{"op":"merge","a":0}
+{"op":"merge","b":1}
+{"op":"merge","a":"0","b":1}
+{"op":"merge","a":-1,"b":1}
+{"op":"merge","a":-0,"b":1}
+{"op":"merge","a":+1,"b":1}
+{"op":"merge","a":1.0,"b":1}
+{"op":"merge","a":1e0,"b":1}
+{"op":"merge","a":01,"b":1}
+{"op":"merge","a":4294967296,"b":1}
+{"op":"merge","a":null,"b":1}
+{"op":"merge","a":[0],"b":1}
+{"op":"merge","a":0,"b":"0"}
+{"op":"merge","a":0,"b":-1}
+{"op":"merge","a":0,"b":-0}
+{"op":"merge","a":0,"b":+1}
+{"op":"merge","a":0,"b":1.0}
+{"op":"merge","a":0,"b":1e0}
+{"op":"merge","a":0,"b":01}
+{"op":"merge","a":0,"b":4294967296}
+{"op":"merge","a":0,"b":null}
+{"op":"merge","a":0,"b":[0]}"#;
+
+const UNREADABLE_SENDS: &str = r#"{"op":"send"}
+{"op":"send","block":"0"}
+{"op":"send","block":-1}
+{"op":"send","block":-0}
+{"op":"send","block":+1}
+{"op":"send","block":1.0}
+{"op":"send","block":1e0}
+{"op":"send","block":01}
+{"op":"send","block":4294967296}
+{"op":"send","block":null}
+{"op":"send","block":[0]}"#;
+
+const UNREADABLE_COMPLETIONS: &str = r#"{"op":"complete"}
+{"op":"complete","block":"0"}
+{"op":"complete","block":-1}
+{"op":"complete","block":-0}
+{"op":"complete","block":+1}
+{"op":"complete","block":1.0}
+{"op":"complete","block":1e0}
+{"op":"complete","block":01}
+{"op":"complete","block":4294967296}
+{"op":"complete","block":null}
+{"op":"complete","block":[0]}"#;
+
+const UNREADABLE_DISKS: &str = r#"{"op":"disk","start":0,"len":1}
+{"op":"disk","block":"0","start":0,"len":1}
+{"op":"disk","block":-1,"start":0,"len":1}
+{"op":"disk","block":-0,"start":0,"len":1}
+{"op":"disk","block":+1,"start":0,"len":1}
+{"op":"disk","block":1.0,"start":0,"len":1}
+{"op":"disk","block":1e0,"start":0,"len":1}
+{"op":"disk","block":01,"start":0,"len":1}
+{"op":"disk","block":4294967296,"start":0,"len":1}
+{"op":"disk","block":null,"start":0,"len":1}
+{"op":"disk","block":[0],"start":0,"len":1}
+{"op":"disk","block":0,"len":1}
+{"op":"disk","block":0,"start":0}
+{"op":"disk","block":0,"start":0,"len":0}
+{"op":"disk","block":0,"start":"0","len":1}
+{"op":"disk","block":0,"start":-1,"len":1}
+{"op":"disk","block":0,"start":1.0,"len":1}
+{"op":"disk","block":0,"start":4294967296,"len":1}
+{"op":"disk","block":0,"start":0,"len":"1"}
+{"op":"disk","block":0,"start":0,"len":-1}
+{"op":"disk","block":0,"start":0,"len":1.0}
+{"op":"disk","block":0,"start":0,"len":4294967296}"#;
+
+#[test]
+fn refuses_unreadable_lines(rt: HostRuntime) {
+    for lines in [
+        UNREADABLE,
+        UNREADABLE_MERGES,
+        UNREADABLE_SENDS,
+        UNREADABLE_COMPLETIONS,
+        UNREADABLE_DISKS,
+    ] {
+        expect_each(&rt, rt.alloc(), lines, Err(ScriptError::BadLine(1)));
+    }
+}
+
+// Blank lines ask for nothing and count, and lines behind the first unreadable one don't matter.
+const SCRIPTS: [(&[u8], Result<usize, ScriptError>); 12] = [
+    (b"", Ok(0)),
+    (b"\n", Ok(0)),
+    (b" \t\r\n\n", Ok(0)),
+    (
+        b"\n{\"op\":\"show\",\"block\":0,\"start\":0,\"len\":1}\r\n\n",
+        Ok(1),
+    ),
+    (
+        b"{\"op\":\"show\",\"block\":4294967295,\"start\":4294967295,\"len\":4294967295}\n",
+        Ok(1),
+    ),
+    (
+        b"{\"op\":\"patch\",\"block\":0,\"start\":0,\"hex\":\"\"}\n\
+        {\"op\":\"view\",\"block\":0,\"take\":[],\"start\":0,\"len\":1}",
+        Ok(2),
+    ),
+    (
+        b"{\"op\":\"merge\",\"a\":4294967295,\"b\":4294967295}\n",
+        Ok(1),
+    ),
+    (b"{\"op\":\"complete\",\"block\":0}\r\n", Ok(1)),
+    (b"\n \n{\"op\":\"fly\"}", Err(ScriptError::BadLine(3))),
+    (
+        b"{\"op\":\"show\",\"block\":0,\"start\":0,\"len\":1}\r\n\n\
+        {\"op\":\"fly\"}\n{\"op\":\"swim\"}\n",
+        Err(ScriptError::BadLine(3)),
+    ),
+    (b"\xff\n", Err(ScriptError::BadLine(1))),
+    (b"{\"op\":\"\xc3\x28\"}", Err(ScriptError::BadLine(1))),
+];
+
+#[test]
+fn reads_whole_scripts(rt: HostRuntime) {
+    for (index, (text, want)) in SCRIPTS.into_iter().enumerate() {
+        assert_eq!(rt; read(rt.alloc(), text), Some(want), "script {index}");
+    }
+}
+
+const LINES: &str =
+    r#"{"op":"patch","block":3,"start":4094,"hex":"0aFF","after":[2,5],"drop":true,"writer":6}
+{"op":"view","block":1,"take":[4,2],"back":[2],"start":8,"len":16}
+{"op":"show","block":2,"start":1,"len":3}
+{"op":"merge","a":5,"b":3}
+{"op":"send","block":9,"block":2}
+{"op":"complete","block":7}
+{"op":"disk","block":1,"start":4094,"len":2}"#;
+
+const FORMS: &str = "\
+Patch { block: BlockNo(3), start: 4094, bytes: Items { items: [10, 255] }, \
+after: Items { items: [PatchNo(2), PatchNo(5)] }, undo: MayDrop, writer: WriterNo(6) }
+View { take: Items { items: [PatchNo(4), PatchNo(2)] }, back: Items { items: [PatchNo(2)] }, \
+span: Span { block: BlockNo(1), start: 8, len: 16 } }
+Show(Span { block: BlockNo(2), start: 1, len: 3 })
+Merge { a: PatchNo(5), b: PatchNo(3) }
+Send(BlockNo(2))
+Complete(BlockNo(7))
+Disk(Span { block: BlockNo(1), start: 4094, len: 2 })
+";
+
+fn push_forms(forms: &mut String, lines: &[Line]) -> Result<(), AllocError> {
+    for line in lines {
+        writeln!(forms, "{line:?}")?;
+    }
+    Ok(())
+}
+
+// The forms of the lines, one a line.
+fn forms_of(alloc: Global, text: &[u8]) -> Result<String, Fail> {
+    if passes_limit(text) {
+        return Err(Fail::from("too long"));
+    }
+    let lines = read_script(alloc, text).ok().ok_or("unreadable")?;
+    let mut forms = String::new(alloc);
+    push_forms(&mut forms, &lines)?;
+    Ok(forms)
+}
+
+#[test]
+fn reads_fields(rt: HostRuntime) -> Result<(), Fail> {
+    let forms = forms_of(rt.alloc(), LINES.as_bytes())?;
+    assert_eq!(rt; forms.as_str(), FORMS);
+    Ok(())
+}
+
+// A script of a piece so many times, with what stands before and behind, and how it is read.
+#[derive(Clone, Copy)]
+struct Long {
+    before: &'static [u8],
+    piece: &'static [u8],
+    count: usize,
+    behind: &'static [u8],
+    want: Option<Result<usize, ScriptError>>,
+}
+
+// As many lines and bytes as there may be, and one more; a line of ten million bytes; objects in objects deeper than
+// the reader of JSON goes.
+const LONG: [Long; 6] = [
+    Long {
+        before: b"",
+        piece: b"\n",
+        count: MAX_LINES,
+        behind: b"",
+        want: Some(Ok(0)),
+    },
+    Long {
+        before: b"",
+        piece: b"\n",
+        count: MAX_LINES,
+        behind: b" ",
+        want: None,
+    },
+    Long {
+        before: b"",
+        piece: b" ",
+        count: MAX_BYTES,
+        behind: b"",
+        want: Some(Ok(0)),
+    },
+    Long {
+        before: b"",
+        piece: b" ",
+        count: MAX_BYTES,
+        behind: b"\n",
+        want: None,
+    },
+    Long {
+        before: b"{\"op\":\"patch\",\"block\":0,\"start\":0,\"hex\":\"",
+        piece: b"a",
+        count: 10_000_000,
+        behind: b"\"}",
+        want: Some(Ok(1)),
+    },
+    Long {
+        before: b"",
+        piece: b"{\"op\":",
+        count: 100_000,
+        behind: b"",
+        want: Some(Err(ScriptError::BadLine(1))),
+    },
+];
+
+fn push_times(text: &mut Vec<u8>, piece: &[u8], count: usize) -> Result<(), AllocError> {
+    for _ in 0..count {
+        text.extend_from_slice(piece)?;
+    }
+    Ok(())
+}
+
+fn push_long(text: &mut Vec<u8>, long: &Long) -> Result<(), AllocError> {
+    text.extend_from_slice(long.before)?;
+    push_times(text, long.piece, long.count)?;
+    text.extend_from_slice(long.behind)
+}
+
+fn read_long(alloc: Global, long: &Long) -> Result<Option<Result<usize, ScriptError>>, AllocError> {
+    let mut text = Vec::new(alloc);
+    push_long(&mut text, long)?;
+    Ok(read(alloc, &text))
+}
+
+#[test]
+fn reads_long_scripts(rt: HostRuntime) -> Result<(), Fail> {
+    for (index, long) in LONG.iter().enumerate() {
+        let got = read_long(rt.alloc(), long)?;
+        assert_eq!(rt; got, long.want, "script {index}");
+    }
+    Ok(())
+}
+
+// What is answered.
+#[derive(Clone, Copy)]
+enum Told {
+    Made(u32),
+    Merged(u32),
+    Sent(u32, &'static [u32]),
+    Landed(u32, &'static [u32]),
+    Seen(&'static [u8], &'static [u8]),
+    Shown(&'static [u8]),
+    OnDisk(&'static [u8]),
+    Refused(RefusalKind, Option<u32>),
+}
+
+const TOLD: [(Told, &str); 10] = [
+    (Told::Made(12), "patch 12\n"),
+    (
+        Told::Seen(&[0, 0xab], &[0x0f, 0x10]),
+        "without 00ab cached 0f10\n",
+    ),
+    (Told::Shown(&[0xff]), "shown ff\n"),
+    (
+        Told::Refused(RefusalKind::DependentApplied, Some(1)),
+        "refused DependentApplied 1\n",
+    ),
+    (Told::Refused(RefusalKind::Hard, None), "refused Hard\n"),
+    (Told::Merged(4_294_967_295), "merged 4294967295\n"),
+    (Told::Sent(3, &[4]), "sent 3 4\n"),
+    (
+        Told::Sent(4_294_967_295, &[4_294_967_294, 4_294_967_295]),
+        "sent 4294967295 4294967294,4294967295\n",
+    ),
+    (Told::Landed(0, &[0, 2, 10]), "durable 0 0,2,10\n"),
+    (Told::OnDisk(&[0, 0xab, 0xff]), "disk 00abff\n"),
+];
+
+fn bytes_of(alloc: Global, bytes: &[u8]) -> Result<Bytes, AllocError> {
+    Ok(Items::from_vec(Vec::from_slice(alloc, bytes)?))
+}
+
+fn numbers_of(alloc: Global, numbers: &[u32]) -> Result<Numbers, AllocError> {
+    let numbers: Vec<PatchNo> = numbers.iter().map(|no| PatchNo(*no)).collect(alloc)?;
+    Ok(Items::from_vec(numbers))
+}
+
+fn seen(alloc: Global, without: &[u8], cached: &[u8]) -> Result<Answer, AllocError> {
+    let without = bytes_of(alloc, without)?;
+    let cached = bytes_of(alloc, cached)?;
+    Ok(Answer::Seen { without, cached })
+}
+
+fn answer_of(alloc: Global, told: Told) -> Result<Answer, AllocError> {
+    match told {
+        Told::Made(no) => Ok(Answer::Made(PatchNo(no))),
+        Told::Merged(no) => Ok(Answer::Merged(PatchNo(no))),
+        Told::Sent(block, numbers) => Ok(Answer::Sent {
+            block: BlockNo(block),
+            numbers: numbers_of(alloc, numbers)?,
+        }),
+        Told::Landed(block, numbers) => Ok(Answer::Landed {
+            block: BlockNo(block),
+            numbers: numbers_of(alloc, numbers)?,
+        }),
+        Told::Seen(without, cached) => seen(alloc, without, cached),
+        Told::Shown(bytes) => Ok(Answer::Shown(bytes_of(alloc, bytes)?)),
+        Told::OnDisk(bytes) => Ok(Answer::OnDisk(bytes_of(alloc, bytes)?)),
+        Told::Refused(kind, number) => Ok(Answer::Refused(Refusal { kind, number })),
+    }
+}
+
+fn text_of(alloc: Global, told: Told) -> Result<String, AllocError> {
+    let answer = answer_of(alloc, told)?;
+    answer_line(alloc, &answer)
+}
+
+fn expect_text(rt: &impl Abort, alloc: Global, told: Told, want: &str) -> Result<(), Fail> {
+    let text = text_of(alloc, told)?;
+    assert_eq!(rt; text.as_str(), want);
+    Ok(())
+}
+
+#[test]
+fn writes_answers(rt: HostRuntime) -> Result<(), Fail> {
+    for (told, want) in TOLD {
+        expect_text(&rt, rt.alloc(), told, want)?;
+    }
+    Ok(())
+}
