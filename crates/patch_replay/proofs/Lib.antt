@@ -2,4 +2,3 @@ pub mod Reading
 pub mod Leading
 pub mod Asking
 pub mod Looking
-pub mod Single

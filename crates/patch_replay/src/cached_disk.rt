@@ -16,7 +16,7 @@ use patch_model::{
     BLOCK, BlockNo, Bytes, Ending, Items, MAX_BLOCKS, OutOfMemory, PatchNo, RefusalKind,
 };
 use patch_script::{Answer, Line, Refusal, Span};
-use std::alloc::Global;
+use std::alloc::{AllocError, Global};
 
 /// A disk in memory, its cache, and the writes that were begun and not completed. It can't be let go: it is closed.
 pub struct CachedDisk {
@@ -133,17 +133,23 @@ impl Core for CachedDisk {
 }
 
 /// All takes in their order, and then the puts back in theirs.
+fn moves_in_order(
+    alloc: Global,
+    take: &[PatchNo],
+    back: &[PatchNo],
+) -> Result<Vec<Move>, AllocError>
+    ensures { IfOk result (λ moves. moves.items ≡ the_moves take.now back.now) }
+{
+    let takes = take.iter().map(|no| Move::Take(*no));
+    let backs = back.iter().map(|no| Move::Back(*no));
+    takes.chain(backs).collect(alloc)
+}
+
+/// The moves of a view, as it is asked for.
 fn moves_of(alloc: Global, take: &[PatchNo], back: &[PatchNo]) -> Result<Items<Move>, OutOfMemory>
     ensures { IfOk result (λ moves. moves ≡ the_moves take.now back.now) }
 {
-    let mut moves = Vec::new(alloc);
-    for no in take {
-        moves.push(Move::Take(*no))?;
-    }
-    for no in back {
-        moves.push(Move::Back(*no))?;
-    }
-    Ok(Items::from_vec(moves))
+    Ok(Items::from_vec(moves_in_order(alloc, take, back)?))
 }
 
 /// A cache's answer, as a line is told it. A device in memory has no fault but want of memory.

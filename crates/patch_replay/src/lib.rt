@@ -3,16 +3,8 @@
 
 mod answering;
 mod cached_disk;
-#[cfg(test)]
-mod laws;
 mod replaying;
-#[cfg(test)]
-mod rows;
-#[cfg(test)]
-mod rows_of_writes;
 mod streams;
-#[cfg(test)]
-mod tests;
 
 pub use answering::Core;
 pub use cached_disk::CachedDisk;
