@@ -7,6 +7,7 @@ use std::process::Abort;
 use std::test::Fail;
 
 mod calls;
+mod example;
 mod memory;
 mod names;
 mod scripts;
