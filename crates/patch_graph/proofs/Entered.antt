@@ -1,37 +1,36 @@
 -- The graph with one more class.
-use Rattle.std.proofs.Common.{◌≡◌, ℕ, ◌+◌, ◌∙◌, Bool, List, [], ◌∷◌, refl, sym, ap, subst, Some, None}
-use Rattle.std.specs.Prelude.{◌≢◌}
+use Rattle.std.proofs.Common.{◌≡◌, ℕ, ◌+◌, ◌∙◌, Bool, List, sym, ap, subst}
 use Rattle.patch_model.specs.declared.patches.Undo.{Undo}
-use Rattle.patch_model.specs.declared.patches.Mark.TheVariants.{Memory}
 use Rattle.patch_model.specs.Member.{In}
-use Rattle.patch_graph.specs.State.{Slots, Numbers, find, class_at}
+use Rattle.patch_graph.specs.State.{Class, Graph, Slots, Numbers}
 use Rattle.patch_graph.specs.Listing.{Lists, listed, AreListed, HoldsKeys}
-use Rattle.patch_graph.specs.Adding.{dependencies, is_hard, HasAdded}
+use Rattle.patch_graph.specs.Adding.{dependencies, is_hard, new_class, IsAdded, IsDrawnUp, HasAdded}
 
 -- the keys that are listed for a block are all that its classes have
 pub held-by : (slots : Slots) (lists : Lists) (block : ℕ) (keys : List ℕ) → AreListed slots lists → keys ≡ listed lists block → HoldsKeys slots block keys
 held-by slots lists block keys l is key c at same = subst (λ k. In k key) (sym is) (subst (λ b. In (listed lists b) key) same (l.complete key c at))
 
-pub has-added : (made : ℕ) (slots now new : Slots) (numbers found rest : Numbers) (block start stop : ℕ) (after keys members deps : List ℕ) (undo : Undo) (hard : Bool) (key : ℕ)
-    → now ≡ slots → found ≡ numbers → HoldsKeys slots block keys → deps ≡ dependencies now block start stop after keys → hard ≡ is_hard now found block undo deps → members ≡ made ∷ []
-    → class_at now key ≡ None
-    → class_at new key ≡ Some (record { name = made; members = members; block = block; mark = Memory; hard = hard; start = start; stop = stop; after = deps })
-    → ((k : ℕ) → k ≢ key → class_at new k ≡ class_at now k) → find rest made ≡ Some key → ((n : ℕ) → n ≢ made → find rest n ≡ find found n)
-    → HasAdded (record { made = made; slots = slots; numbers = numbers }) (record { made = made + 1; slots = new; numbers = rest }) block start stop undo after hard
-has-added made slots now new numbers found rest block start stop after keys members deps undo hard key same same2 enough deps_is hard_is members_is vacant here others number behind =
-    let all : deps ≡ dependencies slots block start stop after keys = deps_is ∙ ap (λ s. dependencies s block start stop after keys) same in
+pub drawn-up : (g : Graph) (block start stop : ℕ) (after keys deps : List ℕ) (undo : Undo) (hard : Bool) (c : Class) → HoldsKeys g.slots block keys
+    → deps ≡ dependencies g.slots block start stop after keys → hard ≡ is_hard g.slots g.numbers block undo deps → c ≡ new_class g.made block start stop deps hard
+    → IsDrawnUp g block start stop undo after c
+drawn-up g block start stop after keys deps undo hard c enough deps_is hard_is is = record {
+  keys = keys;
+  enough = enough;
+  is = is ∙ ap (new_class g.made block start stop deps) hard_is ∙ ap (λ d. new_class g.made block start stop d (is_hard g.slots g.numbers block undo d)) deps_is;
+}
+
+pub has-added : (made : ℕ) (slots next : Slots) (numbers rest : Numbers) (block start stop : ℕ) (after : List ℕ) (undo : Undo) (hard : Bool) (key : ℕ) (c : Class)
+    → IsDrawnUp (record { made = made; slots = slots; numbers = numbers }) block start stop undo after c → hard ≡ c.hard
+    → IsAdded (record { made = c.name; slots = slots; numbers = numbers }) (record { made = c.name + 1; slots = next; numbers = rest }) key c
+    → HasAdded (record { made = made; slots = slots; numbers = numbers }) (record { made = made + 1; slots = next; numbers = rest }) block start stop undo after hard
+has-added made slots next numbers rest block start stop after undo hard key c d hard_is added =
+    let same : hard ≡ is_hard slots numbers block undo (dependencies slots block start stop after d.keys) = hard_is ∙ ap (λ z. z.hard) d.is in
+    let is : c ≡ new_class made block start stop (dependencies slots block start stop after d.keys) hard = d.is ∙ ap (new_class made block start stop (dependencies slots block start stop after d.keys)) (sym same) in
     record {
       key = key;
-      keys = keys;
-      enough = enough;
-      hard_is = hard_is ∙ ap (λ s. is_hard s found block undo deps) same ∙ ap (λ n. is_hard slots n block undo deps) same2 ∙ ap (is_hard slots numbers block undo) all;
-      added = record {
-        made = refl;
-        vacant = ap (λ s. class_at s key) (sym same) ∙ vacant;
-        here = here ∙ ap (λ m. Some (record { name = made; members = m; block = block; mark = Memory; hard = hard; start = start; stop = stop; after = deps })) members_is
-            ∙ ap (λ d. Some (record { name = made; members = made ∷ []; block = block; mark = Memory; hard = hard; start = start; stop = stop; after = d })) all;
-        others = λ k d. others k d ∙ ap (λ s. class_at s k) same;
-        number = number;
-        rest = λ n d. behind n d ∙ ap (λ m. find m n) same2;
-      };
+      keys = d.keys;
+      enough = d.enough;
+      hard_is = same;
+      added = subst (λ (z : Class). IsAdded (record { made = made; slots = slots; numbers = numbers }) (record { made = made + 1; slots = next; numbers = rest }) key z) is
+          (subst (λ (n : ℕ). IsAdded (record { made = n; slots = slots; numbers = numbers }) (record { made = n + 1; slots = next; numbers = rest }) key c) (ap (λ z. z.name) is) added);
     }

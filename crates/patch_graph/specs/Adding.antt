@@ -46,6 +46,12 @@ pub record IsAdded (old new : Graph) (key : ℕ) (c : Class) : Type 0 where
   pub number : find new.numbers old.made ≡ Some key
   pub rest : (n : ℕ) → n ≢ old.made → find new.numbers n ≡ find old.numbers n
 
+-- the class of one more patch, where these keys were looked at
+pub record IsDrawnUp (g : Graph) (block start stop : ℕ) (undo : Undo) (after : List ℕ) (c : Class) : Type 0 where
+  pub keys : List ℕ
+  pub enough : HoldsKeys g.slots block keys
+  pub is : c ≡ (let deps = dependencies g.slots block start stop after keys in new_class g.made block start stop deps (is_hard g.slots g.numbers block undo deps))
+
 -- what was added, at some key, where these keys were looked at
 pub record HasAdded (old new : Graph) (block start stop : ℕ) (undo : Undo) (after : List ℕ) (hard : Bool) : Type 0 where
   pub key : ℕ

@@ -1,14 +1,37 @@
-//! What a new patch depends on.
-ghost use Rattle.std.specs.Prelude.{◌≡◌, ◌≤◌, ◌++◌, length, IfOk, OnOk, OnErr};
+//! What a new patch depends on, and how its class comes to the others.
+ghost use Rattle.std.specs.Prelude.{◌≡◌, ◌<◌, ◌≤◌, ◌+◌, ◌++◌, length, IfOk, OnOk, OnErr};
 ghost use Rattle.std.specs.List.{list_all};
 ghost use Rattle.std.specs.Option.{option_map_or};
 ghost use Rattle.std.specs.Prelude.{◌&&◌, ◌==◌, false};
+ghost use Rattle.indexmap.specs.IndexMap.{spare};
+ghost use Rattle.slab.specs.Slab.{HasRoomFor};
 ghost use Rattle.patch_graph.specs.State.{class_at};
-ghost use Rattle.patch_graph.specs.Adding.{overlap_at, dependencies, lets_drop, is_hard};
+ghost use Rattle.patch_graph.specs.Adding.{overlap_at, dependencies, lets_drop, is_hard, IsAdded};
+ghost use Rattle.patch_graph.specs.Listing.{AreListed};
 
-use crate::classes::{Classes, Keys, find};
+use crate::classes::{Class, Classes, Keys, enter, find};
+use crate::listing::{BlockKeys, list};
+use crate::rooms::Room;
 use patch_model::{BlockNo, PatchNo, Undo};
 use std::alloc::{AllocError, Allocator};
+
+// Makes room for one more class, and for searches through it.
+fn make_room<A: Allocator + Copy>(
+    classes: &mut Classes<A>,
+    keys: &mut Keys<A>,
+    room: &mut Room<A>,
+) -> Result<(), AllocError>
+    ensures classes { OnOk result (HasRoomFor classes.new 1) }
+    ensures keys { OnOk result (0 < spare keys.new) }
+    ensures searches { OnOk result (classes.new.capacity ≤ room.new) }
+    ensures same_classes { classes.new.slots ≡ classes.old.slots }
+    ensures same_keys { keys.new.entries ≡ keys.old.entries }
+    ensures kept { room.old ≤ room.new }
+{
+    classes.reserve(1)?;
+    keys.reserve(1)?;
+    room.grow(classes.capacity())
+}
 
 fn add_overlap<A: Allocator>(
     classes: &Classes<A>,
@@ -95,4 +118,30 @@ pub fn is_hard<A: Allocator>(
         Undo::Keep => false,
         Undo::MayDrop => let_drop(classes, keys, block, deps),
     }
+}
+
+/// Puts in a new patch's class, lists its key for its block, and makes room for searches through one class more.
+pub fn insert<A: Allocator + Copy>(
+    alloc: A,
+    classes: &mut Classes<A>,
+    keys: &mut Keys<A>,
+    lists: &mut BlockKeys<A>,
+    room: &mut Room<A>,
+    class: Class<A>,
+) -> Result<usize, AllocError>
+    ensures inserted { IfOk result (λ key. IsAdded (record { made = class.name; slots = classes.old.slots; numbers = keys.old.entries })
+        (record { made = class.name + 1; slots = classes.new.slots; numbers = keys.new.entries }) key class) }
+    ensures room { length classes.old.slots ≤ room.old → length classes.new.slots ≤ room.new }
+    ensures listed { AreListed classes.old.slots lists.old.entries → AreListed classes.new.slots lists.new.entries }
+    ensures refused_classes { OnErr result (classes.new.slots ≡ classes.old.slots) }
+    ensures refused_keys { OnErr result (keys.new.entries ≡ keys.old.entries) }
+{
+    make_room(classes, keys, room)?;
+    let no = class.name;
+    list(alloc, lists, class.block, classes.vacant_key())?;
+    let key = classes.insert_reserved(class);
+    // No key is past the capacity, and the room is as large.
+    let _count = classes.capacity();
+    enter(keys, no, key);
+    Ok(key)
 }

@@ -1,16 +1,16 @@
 //! Live classes, and where they are found.
-ghost use Rattle.std.specs.Prelude.{◌≡◌, ◌≢◌, ◌<◌, ℕ, Some};
+ghost use Rattle.std.specs.Prelude.{◌≡◌, ◌≢◌, ◌<◌, ℕ, Some, IfOk};
 ghost use Rattle.indexmap.specs.IndexMap.{spare};
 ghost use Rattle.std.specs.Option.{option_map};
 ghost use Rattle.patch_graph.specs.State.{find, class_at};
 ghost use Rattle.patch_graph.specs.Showing.{shown};
-ghost use Rattle.patch_graph.specs.Adding.{overlaps};
+ghost use Rattle.patch_graph.specs.Adding.{new_class, overlaps};
 ghost use Rattle.patch_graph.specs.Marks.{is_candidate};
 
 use indexmap::IndexMap;
 use patch_model::{BlockNo, Mark, PatchNo};
 use slab::Slab;
-use std::alloc::{Allocator, Global};
+use std::alloc::{AllocError, Allocator, Global};
 use std::hash::{BuildHasherDefault, FoldHasher};
 use std::marker::Model;
 
@@ -67,6 +67,30 @@ pub type Classes<A> = Slab<Class<A>, A>;
 pub type Keys<A> = IndexMap<PatchNo, usize, BuildHasherDefault<FoldHasher>, A>;
 
 impl<A: Allocator> Class<A> {
+    /// The class of a new patch, in memory and alone.
+    pub fn alone(
+        alloc: A,
+        no: PatchNo,
+        block: BlockNo,
+        start: usize,
+        stop: usize,
+        after: Vec<PatchNo, A>,
+        hard: bool,
+    ) -> Result<Class<A>, AllocError>
+        ensures { IfOk result (λ class. class ≡ new_class no block start stop after.items hard) }
+    {
+        Ok(Class {
+            name: no,
+            members: Vec::from_slice(alloc, &[no])?,
+            block,
+            mark: Mark::Memory,
+            hard,
+            start,
+            stop,
+            after,
+        })
+    }
+
     fn shown(&self) -> LiveClass
         ensures { result ≡ shown self.now }
     {

@@ -9,15 +9,15 @@ ghost use Rattle.patch_model.specs.Orderly.{IsOrderly};
 ghost use Rattle.patch_graph.specs.Meaning.{Represents, IsNotLive, IsLiveClass, HasMark};
 ghost use Rattle.patch_graph.specs.Showing.{IsShown};
 ghost use Rattle.patch_graph.specs.Between.{HasNoRing, IsLeastBetween, LacksAnEnd, ReachesOther};
-ghost use Rattle.patch_graph.specs.Adding.{IsPatch, HasAdded};
+ghost use Rattle.patch_graph.specs.Adding.{IsPatch, IsDrawnUp, HasAdded};
 
-use crate::adding::{dependencies, is_hard};
+use crate::adding::{dependencies, insert, is_hard};
 use crate::answering::{between, is_any_ready, numbers_ready, reaches};
-use crate::classes::{Class, Classes, Keys, LiveClass, enter, find, mark_at, name_at, shown_at};
+use crate::classes::{Class, Classes, Keys, LiveClass, find, mark_at, name_at, shown_at};
 use crate::flying::fly_ready;
 use crate::joining;
 use crate::landing::land;
-use crate::listing::{BlockKeys, list, listed, unlist};
+use crate::listing::{BlockKeys, listed, unlist};
 use crate::rooms::Room;
 use patch_model::{BlockNo, Mark, OutOfMemory, PatchNo, Undo};
 use std::alloc::{AllocError, Allocator, Global};
@@ -152,32 +152,43 @@ impl<A: Allocator + Copy> Graph<A> {
         ensures done { IfOk result (λ hard. HasAdded self.old self.new block start stop undo after.now hard) }
         ensures refused { OnErr result (self.new ≡ self.old) }
     {
-        self.classes.reserve(1)?;
-        self.keys.reserve(1)?;
-        let count = self.classes.capacity();
-        self.room.grow(count)?;
-        let no = PatchNo(self.made);
-        let next = self.classes.vacant_key();
-        let near = listed(&self.lists, block);
-        let deps = dependencies(self.alloc, &self.classes, block, start, stop, after, near)?;
-        let members = Vec::from_slice(self.alloc, &[no])?;
-        list(self.alloc, &mut self.lists, block, next)?;
-        let hard = is_hard(&self.classes, &self.keys, block, undo, deps.as_slice());
-        let class = Class {
-            name: no,
-            members,
-            block,
-            mark: Mark::Memory,
-            hard,
-            start,
-            stop,
-            after: deps,
-        };
-        let key = self.classes.insert_reserved(class);
-        let _count = self.classes.capacity();
-        enter(&mut self.keys, no, key);
+        let class = self.drawn_up(block, start, stop, after, undo)?;
+        let hard = class.hard;
+        insert(
+            self.alloc,
+            &mut self.classes,
+            &mut self.keys,
+            &mut self.lists,
+            &mut self.room,
+            class,
+        )?;
         self.made += 1;
         Ok(hard)
+    }
+
+    /// The class of one more patch, in memory and alone.
+    fn drawn_up(
+        &self,
+        block: BlockNo,
+        start: usize,
+        stop: usize,
+        after: &[PatchNo],
+        undo: Undo,
+    ) -> Result<Class<A>, AllocError>
+        ensures { IfOk result (IsDrawnUp self.now block start stop undo after.now) }
+    {
+        let near = listed(&self.lists, block);
+        let deps = dependencies(self.alloc, &self.classes, block, start, stop, after, near)?;
+        let hard = is_hard(&self.classes, &self.keys, block, undo, deps.as_slice());
+        Class::alone(
+            self.alloc,
+            PatchNo(self.made),
+            block,
+            start,
+            stop,
+            deps,
+            hard,
+        )
     }
 
     /// Makes one class of the classes of two patches, where that is legal. Its name.
