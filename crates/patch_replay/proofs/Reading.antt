@@ -42,6 +42,6 @@ too_much (Some input) (Some rest) false script is so_far = absurd (cc)
 too_much (Some input) (Some rest) true script is so_far = omega (arith, so_far)
 
 -- what is told where memory ran out
-pub told_text : {W : Type 0} (old new : Sink W) (status : Status) (Text : Type 0) → IsToldLast old new OutOfMemory status Text → status ≡ OutOfMemory → Text
-told_text old new status Text (inl failed) is = absurd (cc)
-told_text old new status Text (inr told) is = told.2
+pub told_text : {W : Type 0} (old new : Sink W) (status : Status) (Text Out : Type 0) → IsToldLast old new OutOfMemory status Text Out → status ≡ OutOfMemory → Text
+told_text old new status Text Out (inl failed) is = absurd (cc)
+told_text old new status Text Out (inr told) is = told.2

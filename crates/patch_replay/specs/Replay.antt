@@ -1,5 +1,5 @@
 -- The text of a replay.
-use Rattle.std.specs.Prelude.{◌≡◌, ℕ, ◌+◌, ◌++◌, ◌∷◌, [], List, Option, Some, None, Result, Ok, Err, codes, decimal, Bool, true, false, length, ◌<◌, Vec, if◌then◌else◌}
+use Rattle.std.specs.Prelude.{◌≡◌, ℕ, ◌+◌, ◌++◌, ◌∷◌, [], List, Option, Some, None, Result, Ok, Err, codes, decimal, Bool, true, false, length, ◌<◌, Vec}
 use Rattle.std.specs.Io.KnownBytes.{Appends}
 use Rattle.std.specs.declared.alloc.Global.{Global}
 use Rattle.patch_script.specs.declared.answers.Answer.{Answer}
@@ -8,6 +8,7 @@ use Rattle.patch_script.specs.declared.scripts.TheConstants.{MAX_BYTES}
 use Rattle.patch_script.specs.Answer.{answer_line}
 use Rattle.patch_script.specs.Script.{script_of, is_too_long}
 use Rattle.patch_replay.specs.Answering.{World, IsAnswerTo, AreAnswers, after}
+use Rattle.patch_replay.specs.declared.replaying.BadScript.TheVariants.{TooLong, BadLine}
 use Rattle.patch_replay.specs.declared.replaying.Fault.{Fault}
 use Rattle.patch_replay.specs.declared.replaying.Fault.TheVariants as fault
 use Rattle.patch_replay.specs.declared.replaying.Status.{Status}
@@ -38,9 +39,17 @@ abbrev pub IsScriptText : World → Result (List Line) ℕ → List ℕ → Type
 IsScriptText w (Ok lines) text = IsTextOf w lines text
 IsScriptText w (Err number) text = text ≡ bad_line number
 
-abbrev pub script_status : Result (List Line) ℕ → Status
-script_status (Ok lines) = Done
-script_status (Err number) = Unreadable
+-- a replay ended at an unreadable line of this number; what is wrong with it is left open
+abbrev pub IsBadLine : ℕ → Status → Type 0
+IsBadLine number Done = ⊥
+IsBadLine number (Unreadable TooLong) = ⊥
+IsBadLine number (Unreadable (BadLine line defect)) = line ≡ number
+IsBadLine number Failed = ⊥
+IsBadLine number OutOfMemory = ⊥
+
+abbrev pub IsScriptStatus : Result (List Line) ℕ → Status → Type 0
+IsScriptStatus (Ok lines) status = status ≡ Done
+IsScriptStatus (Err number) status = IsBadLine number status
 
 abbrev pub too_long_text : List ℕ
 too_long_text = codes "fault ScriptTooLong" ++ 10 ∷ []
@@ -50,8 +59,9 @@ unfoldable pub IsReplayText : World → List ℕ → List ℕ → Type 0
 IsReplayText w script text = elim (is_too_long script) [ true ↦ text ≡ too_long_text | false ↦ IsScriptText w (script_of script) text ]
 
 -- and how it ends
-unfoldable pub replay_status : List ℕ → Status
-replay_status script = if is_too_long script then Unreadable else script_status (script_of script)
+unfoldable pub IsReplayStatus : List ℕ → Status → Type 0
+IsReplayStatus script status =
+    elim (is_too_long script) [ true ↦ status ≡ Unreadable TooLong | false ↦ IsScriptStatus (script_of script) status ]
 
 -- What was read of an input, and whether more than a script may have; rest is still to come.
 abbrev pub HasRead : Option (List ℕ) → Option (List ℕ) → Bool → List ℕ → Type 0
@@ -67,7 +77,7 @@ IsInput (Some script) input = script.items ≡ input
 
 -- how a replay of this script ended, and what it wrote
 pub record Replayed (w : World) (script : List ℕ) (status : Status) (old new : Option (List ℕ)) : Type 0 where
-  pub ended : status ≡ replay_status script
+  pub ended : IsReplayStatus script status
   pub text : List ℕ
   pub is : IsReplayText w script text
   pub written : Appends old new text
@@ -75,14 +85,14 @@ pub record Replayed (w : World) (script : List ℕ) (status : Status) (old new :
 -- the whole script was answered, or refused
 abbrev pub IsEnd : Status → Type 0
 IsEnd Done = Unit {0}
-IsEnd Unreadable = Unit {0}
+IsEnd (Unreadable why) = Unit {0}
 IsEnd Failed = ⊥
 IsEnd OutOfMemory = ⊥
 
 -- the exit status of the program
 abbrev pub exit_of : Status → ℕ
 exit_of Done = 0
-exit_of Unreadable = 3
+exit_of (Unreadable why) = 3
 exit_of Failed = 4
 exit_of OutOfMemory = 5
 

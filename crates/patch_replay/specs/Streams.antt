@@ -66,6 +66,10 @@ RunningIsNoted old new was is (Err fault.Read) = IsGivenUp new × (is ≡ was)
 RunningIsNoted old new was is (Err fault.Write) = is.failed ≡ true
 RunningIsNoted old new was is (Err fault.OutOfMemory) = NoneFailed old new was is
 
+-- What was written is behind a flush that was made, and the writer keeps nothing back.
+abbrev pub IsFlushed : {W : Type 0} → (W → Type 0) → Sink W → Type 0
+IsFlushed KeepsNothing output = (output.flushed ≡ true) × KeepsNothing output.inner
+
 -- a last line is written and not kept back, or a write has failed, as the status then says
-abbrev pub IsToldLast : {W : Type 0} → Sink W → Sink W → Status → Status → Type 0 → Type 0
-IsToldLast old new wanted status HasText = ((status ≡ Failed) × (new.failed ≡ true)) ⊎ ((status ≡ wanted) × (new.failed ≡ old.failed) × HasText × (new.flushed ≡ true))
+abbrev pub IsToldLast : {W : Type 0} → Sink W → Sink W → Status → Status → Type 0 → Type 0 → Type 0
+IsToldLast old new wanted status HasText IsOut = ((status ≡ Failed) × (new.failed ≡ true)) ⊎ ((status ≡ wanted) × (new.failed ≡ old.failed) × HasText × IsOut)

@@ -8,5 +8,5 @@ mod streams;
 
 pub use answering::Core;
 pub use cached_disk::CachedDisk;
-pub use replaying::{Status, replay, replay_over};
-pub use streams::{MAX_READS, Sink, Source};
+pub use replaying::{BadScript, Status, replay, replay_over};
+pub use streams::{MAX_READS, Output, Sink, Source};

@@ -3,27 +3,40 @@ ghost use Rattle.std.specs.Prelude.{ℕ, true, false, ◌≡◌, ◌≢◌, ◌�
 ghost use Rattle.std.specs.Io.KnownBytes.{Appends};
 ghost use Rattle.patch_replay.specs.Answering.{World, start};
 ghost use Rattle.patch_replay.specs.Replay.{IsLineTold, HasWrittenAll, HasAnswered, Stopped, Starved, bad_line, IsInput, IsEnd, Replayed, too_long_text, unread_text};
-ghost use Rattle.patch_replay.specs.Streams.{IsGivenUp, NoneFailed, ReadingIsNoted, WritingIsNoted, RunningIsNoted, IsToldLast};
+ghost use Rattle.patch_replay.specs.Streams.{IsGivenUp, NoneFailed, ReadingIsNoted, WritingIsNoted, RunningIsNoted, IsToldLast, IsFlushed};
+ghost use Rattle.patch_replay.specs.declared.replaying.BadScript.TheVariants.{TooLong};
 ghost use Rattle.patch_replay.specs.declared.replaying.Status.TheVariants.{Unreadable, Failed, OutOfMemory as NoMemory};
 ghost use Rattle.patch_replay.specs.declared.replaying.Fault.TheVariants.{Write as WriteFault, OutOfMemory as MemoryFault};
 
 use crate::answering::Core;
 use crate::cached_disk::CachedDisk;
-use crate::streams::{MAX_READS, Sink, Source};
+use crate::streams::{MAX_READS, Output, Sink, Source};
 use patch_model::{MAX_BLOCKS, OutOfMemory};
-use patch_script::{Line, MAX_BYTES, ScriptError, answer_line, passes_limit, read_script};
+use patch_script::{
+    Defect, Line, MAX_BYTES, MAX_LINES, ScriptError, answer_line, passes_limit, read_script,
+};
 use std::alloc::{AllocError, Global};
-use std::io::{Read, Write};
+use std::io::Read;
+use thiserror::Error;
 
 // How many bytes are asked for at a time.
 const CHUNK: usize = 65_536;
+
+/// Why no line of a script is answered.
+#[derive(Clone, Copy, Debug, PartialEq, Eq, Error)]
+pub enum BadScript {
+    #[error("the script has more than {bytes} bytes or {lines} lines", bytes = MAX_BYTES, lines = MAX_LINES)]
+    TooLong,
+    /// The first line that is unreadable, counted from 1, and what is wrong with it.
+    #[error("line {line}: {defect}")]
+    BadLine { line: usize, defect: Defect },
+}
 
 /// How a replay ended.
 #[derive(Clone, Copy, Debug, PartialEq, Eq)]
 pub enum Status {
     Done,
-    /// The script is too long, or a line of it is unreadable.
-    Unreadable,
+    Unreadable(BadScript),
     /// The reader or the writer failed.
     Failed,
     OutOfMemory,
@@ -93,7 +106,7 @@ fn answered<C: Core>(alloc: Global, core: &mut C, line: Line) -> Result<String, 
 }
 
 /// Answers the lines in order, each by a line of text.
-fn write_answers<W: Write, C: Core>(
+fn write_answers<W: Output, C: Core>(
     alloc: Global,
     writer: &mut Sink<W>,
     core: &mut C,
@@ -113,8 +126,8 @@ fn write_answers<W: Write, C: Core>(
 }
 
 /// What was read is refused, or parsed and answered.
-#[tactic(auto, unfolding(crate::specs::Replay::IsReplayText, crate::specs::Replay::replay_status))]
-fn run<W: Write, C: Core>(
+#[tactic(auto, unfolding(crate::specs::Replay::IsReplayText, crate::specs::Replay::IsReplayStatus))]
+fn run<W: Output, C: Core>(
     alloc: Global,
     writer: &mut Sink<W>,
     core: &mut C,
@@ -139,25 +152,29 @@ fn run<W: Write, C: Core>(
             write_answers(alloc, writer, core, lines)?;
             Ok(Status::Done)
         }
-        Err(ScriptError::BadLine(number)) => {
-            write_bad_line(alloc, writer, number)?;
-            Ok(Status::Unreadable)
+        Err(ScriptError::BadLine { line, defect }) => {
+            write_bad_line(alloc, writer, line)?;
+            Ok(Status::Unreadable(BadScript::BadLine { line, defect }))
         }
         Err(ScriptError::OutOfMemory) => Err(Fault::OutOfMemory),
     }
 }
 
-fn too_long<W: Write>(writer: &mut Sink<W>) -> Result<Status, Fault>
-    ensures done { IfOk result (λ status. (status ≡ Unreadable)
+fn too_long<W: Output>(writer: &mut Sink<W>) -> Result<Status, Fault>
+    ensures done { IfOk result (λ status. (status ≡ Unreadable TooLong)
         × Appends (W.contents writer.old.inner) (W.contents writer.new.inner) too_long_text) }
     ensures noted { WritingIsNoted writer.old writer.new result }
     ensures failed { IfErr result (λ fault. fault ≡ WriteFault) }
 {
     writer.write_all(b"fault ScriptTooLong\n")?;
-    Ok(Status::Unreadable)
+    Ok(Status::Unreadable(BadScript::TooLong))
 }
 
-fn write_bad_line<W: Write>(alloc: Global, writer: &mut Sink<W>, number: usize) -> Result<(), Fault>
+fn write_bad_line<W: Output>(
+    alloc: Global,
+    writer: &mut Sink<W>,
+    number: usize,
+) -> Result<(), Fault>
     ensures done { OnOk result (Appends (W.contents writer.old.inner) (W.contents writer.new.inner) (bad_line number)) }
     ensures stopped { (w : World) → IfErr result (λ fault. HasAnswered fault w [] (W.contents writer.old.inner) (W.contents writer.new.inner)) }
     ensures noted { WritingIsNoted writer.old writer.new result }
@@ -172,7 +189,7 @@ fn write_bad_line<W: Write>(alloc: Global, writer: &mut Sink<W>, number: usize) 
 ///
 /// All of the script is read and parsed before anything is done. A fault of the reader or of memory is told by a last
 /// line, behind the answers of the lines before it; after a fault of the writer nothing more is written.
-pub fn replay<R: Read, W: Write>(
+pub fn replay<R: Read, W: Output>(
     alloc: Global,
     reader: &mut Source<R>,
     writer: &mut Sink<W>,
@@ -188,7 +205,7 @@ pub fn replay<R: Read, W: Write>(
     ensures unread { result ≡ Failed → writer.new.failed ≡ false →
         Appends (W.contents writer.old.inner) (W.contents writer.new.inner) unread_text }
     ensures none_hidden { result ≢ Failed → NoneFailed reader.old reader.new writer.old writer.new }
-    ensures flushed { result ≢ Failed → writer.new.flushed ≡ true }
+    ensures flushed { result ≢ Failed → IsFlushed W.KeepsNothing writer.new }
     ensures reads { reader.new.reads ≤ reader.old.reads + MAX_READS }
 {
     match CachedDisk::new(alloc, blocks) {
@@ -202,7 +219,7 @@ pub fn replay<R: Read, W: Write>(
 }
 
 /// Replays a script over any core.
-pub fn replay_over<R: Read, W: Write, C: Core>(
+pub fn replay_over<R: Read, W: Output, C: Core>(
     alloc: Global,
     reader: &mut Source<R>,
     writer: &mut Sink<W>,
@@ -216,7 +233,7 @@ pub fn replay_over<R: Read, W: Write, C: Core>(
     ensures unread { result ≡ Failed → writer.new.failed ≡ false →
         Appends (W.contents writer.old.inner) (W.contents writer.new.inner) unread_text }
     ensures none_hidden { result ≢ Failed → NoneFailed reader.old reader.new writer.old writer.new }
-    ensures flushed { result ≢ Failed → writer.new.flushed ≡ true }
+    ensures flushed { result ≢ Failed → IsFlushed W.KeepsNothing writer.new }
     ensures reads { reader.new.reads ≤ reader.old.reads + MAX_READS }
 {
     match read_and_run(alloc, reader, writer, core) {
@@ -227,7 +244,7 @@ pub fn replay_over<R: Read, W: Write, C: Core>(
     }
 }
 
-fn read_and_run<R: Read, W: Write, C: Core>(
+fn read_and_run<R: Read, W: Output, C: Core>(
     alloc: Global,
     reader: &mut Source<R>,
     writer: &mut Sink<W>,
@@ -239,7 +256,7 @@ fn read_and_run<R: Read, W: Write, C: Core>(
     ensures stopped { (w : World) → C.IsAt core.old w → IfErr result (λ fault. IfSome (R.remaining reader.old.inner) (λ text.
         Stopped fault w text (W.contents writer.old.inner) (W.contents writer.new.inner))) }
     ensures noted { RunningIsNoted reader.old reader.new writer.old writer.new result }
-    ensures flushed { OnOk result (writer.new.flushed ≡ true) }
+    ensures flushed { OnOk result (IsFlushed W.KeepsNothing writer.new) }
     ensures reads { reader.new.reads ≤ reader.old.reads + MAX_READS }
 {
     let script = read_input(alloc, reader)?;
@@ -249,9 +266,9 @@ fn read_and_run<R: Read, W: Write, C: Core>(
 }
 
 /// Writes the last line of a program that fails.
-fn tell<W: Write>(writer: &mut Sink<W>, text: &[u8], status: Status) -> Status
+fn tell<W: Output>(writer: &mut Sink<W>, text: &[u8], status: Status) -> Status
     ensures { IsToldLast writer.old writer.new status result
-        (Appends (W.contents writer.old.inner) (W.contents writer.new.inner) text.now) }
+        (Appends (W.contents writer.old.inner) (W.contents writer.new.inner) text.now) (IsFlushed W.KeepsNothing writer.new) }
 {
     if writer.write_all(text).is_err() || writer.flush().is_err() {
         return Status::Failed;
@@ -268,7 +285,7 @@ impl Status {
     {
         match self {
             Status::Done => 0,
-            Status::Unreadable => 3,
+            Status::Unreadable(_) => 3,
             Status::Failed => 4,
             Status::OutOfMemory => 5,
         }

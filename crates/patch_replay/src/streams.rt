@@ -1,12 +1,14 @@
 //! The streams of a replay: its reader and its writer, each with notes of what has become of its calls.
-ghost use Rattle.std.specs.Prelude.{◌≡◌, ◌+◌, ◌-◌, ◌^◌, ◌≤◌, min, length, true, false, IfOk, IfErr, IfSome, OnOk, None};
+ghost use Rattle.std.specs.Prelude.{◌≡◌, [], ⊤, ◌+◌, ◌-◌, ◌^◌, ◌≤◌, min, length, true, false, IfOk, IfErr, IfSome, OnOk, None};
 ghost use Rattle.std.specs.Option.{option_copied};
 ghost use Rattle.std.specs.Io.KnownBytes.{Keeps, Appends};
-ghost use Rattle.patch_replay.specs.Streams.{GivesBytes, IsReadNoted, noted};
+ghost use Rattle.std.specs.Io.Buffered.{writer_buffer};
+ghost use Rattle.patch_replay.specs.Streams.{GivesBytes, IsFlushed, IsReadNoted, noted};
 ghost use Rattle.patch_replay.specs.declared.replaying.Fault.TheVariants.{Read as ReadFault, Write as WriteFault};
 
 use crate::replaying::Fault;
-use std::io::{Error, ErrorKind, Read, Write};
+use std::io;
+use std::io::{BufWriter, Error, ErrorKind, Read, Write};
 
 /// The most reads of one input.
 pub const MAX_READS: u32 = 33_554_432;
@@ -70,6 +72,35 @@ impl<R: Read> Source<R> {
     }
 }
 
+/// A writer whose contract says when it keeps nothing back: of a flush the standard's `Write` promises nothing.
+pub trait Output: Write {
+    /// The writer has passed on all that was written to it.
+    ghost KeepsNothing: { Self → Type 0 };
+
+    /// Passes on what the writer keeps.
+    fn pass_on(&mut self) -> io::Result<()>
+        ensures bytes { Keeps (Self.contents self.old) (Self.contents self.new) }
+        ensures all { OnOk result (KeepsNothing self.new) };
+}
+
+/// Nothing stays in the buffer.
+impl<W: Write + Drop> Output for BufWriter<W> {
+    ghost KeepsNothing = { λ output. writer_buffer output ≡ [] };
+
+    fn pass_on(&mut self) -> io::Result<()> {
+        self.flush()
+    }
+}
+
+/// What was written is the vector itself.
+impl Output for Vec<u8> {
+    ghost KeepsNothing = { λ output. ⊤ };
+
+    fn pass_on(&mut self) -> io::Result<()> {
+        Ok(())
+    }
+}
+
 /// A writer, with a note of whether a write failed, and of whether it still keeps text back.
 #[derive(Drop)]
 pub struct Sink<W> {
@@ -78,7 +109,7 @@ pub struct Sink<W> {
     flushed: bool,
 }
 
-impl<W: Write> Sink<W> {
+impl<W: Output> Sink<W> {
     /// A writer to which nothing was written yet.
     pub fn new(writer: W) -> Sink<W>
         ensures writer { result.inner ≡ writer }
@@ -135,9 +166,9 @@ impl<W: Write> Sink<W> {
         ensures bytes { Keeps (W.contents self.old.inner) (W.contents self.new.inner) }
         ensures noted { self.new.failed ≡ noted self.old.failed result }
         ensures failed { IfErr result (λ fault. fault ≡ WriteFault) }
-        ensures flushed { OnOk result (self.new.flushed ≡ true) }
+        ensures flushed { OnOk result (IsFlushed W.KeepsNothing self.new) }
     {
-        if self.inner.flush().is_err() {
+        if self.inner.pass_on().is_err() {
             self.failed = true;
             return Err(Fault::Write);
         }

@@ -1,5 +1,6 @@
 //! Worked scripts of one block, with what they are answered.
-use patch_replay::Status;
+use patch_replay::{BadScript, Status};
+use patch_script::{Defect, Name};
 
 /// How many blocks a script has, where it doesn't say.
 pub const DEFAULT_BLOCKS: u32 = 8;
@@ -104,7 +105,10 @@ pub const ROWS: [Row; 16] = [
 {"op":"fly"}
 "#,
         answers: "bad line 2\n",
-        status: Status::Unreadable,
+        status: Status::Unreadable(BadScript::BadLine {
+            line: 2,
+            defect: Defect::Wrong(Name::Op),
+        }),
     },
     Row {
         name: "a span over the end, and a number that is not known",

@@ -1,12 +1,14 @@
 //! Worked scripts, and replays whose reader, writer or memory fails.
-ghost use Rattle.std.specs.Prelude.{◌<◌, ◌≤◌};
+ghost use Rattle.std.specs.Prelude.{◌<◌, ◌≤◌, ⊤};
 
 use crate::rows::{DEFAULT_BLOCKS, ROWS, Row};
 use crate::rows_of_merges::ROWS_OF_MERGES;
 use crate::rows_of_writes::ROWS_OF_WRITES;
 use patch_model::{BLOCK, MAX_BLOCKS, MAX_LIVE, OutOfMemory};
-use patch_replay::{CachedDisk, Core, MAX_READS, Sink, Source, Status, replay, replay_over};
-use patch_script::{Answer, Line};
+use patch_replay::{
+    BadScript, CachedDisk, Core, MAX_READS, Output, Sink, Source, Status, replay, replay_over,
+};
+use patch_script::{Answer, Defect, Line, Name};
 use std::alloc::{AllocError, Global};
 use std::io;
 use std::io::{BufWriter, ErrorKind, Read, Write};
@@ -60,15 +62,35 @@ fn replayed_long(alloc: Global, byte: u8, count: usize) -> Result<(Status, Vec<u
 #[test]
 fn long_scripts(rt: HostRuntime) -> Result<(), Fail> {
     let too_long = "fault ScriptTooLong\n";
+    let refused = Status::Unreadable(BadScript::TooLong);
     for (byte, count, answers, status) in [
         (b' ', 16_777_216, "", Status::Done),
-        (b' ', 16_777_217, too_long, Status::Unreadable),
+        (b' ', 16_777_217, too_long, refused),
         (b'\n', 100_000, "", Status::Done),
-        (b'\n', 100_001, too_long, Status::Unreadable),
+        (b'\n', 100_001, too_long, refused),
     ] {
         let (ended, text) = replayed_long(rt.alloc(), byte, count)?;
         assert_eq!(rt; ended, status);
         assert_eq!(rt; text.as_slice(), answers.as_bytes());
+    }
+    Ok(())
+}
+
+#[test]
+fn says_why_a_script_is_not_replayed(rt: HostRuntime) -> Result<(), Fail> {
+    let defect = Defect::Missing(Name::Hex);
+    for (why, want) in [
+        (
+            BadScript::TooLong,
+            "the script has more than 16777216 bytes or 100000 lines",
+        ),
+        (
+            BadScript::BadLine { line: 3, defect },
+            "line 3: \"hex\" is missing",
+        ),
+    ] {
+        let words = format!(in rt.alloc(); "{why}")?;
+        assert_eq!(rt; words.as_str(), want);
     }
     Ok(())
 }
@@ -130,7 +152,7 @@ fn done(reads: u32) -> End {
 }
 
 /// Replays on the streams.
-fn end_of<R: Read, W: Write>(alloc: Global, reader: &mut Source<R>, writer: &mut Sink<W>) -> End {
+fn end_of<R: Read, W: Output>(alloc: Global, reader: &mut Source<R>, writer: &mut Sink<W>) -> End {
     let status = replay(alloc, reader, writer, DEFAULT_BLOCKS);
     End {
         status,
@@ -245,6 +267,14 @@ impl Write for Writer {
 
     fn flush(&mut self) -> io::Result<()> {
         self.count()
+    }
+}
+
+impl Output for Writer {
+    ghost KeepsNothing = { λ output. ⊤ };
+
+    fn pass_on(&mut self) -> io::Result<()> {
+        self.flush()
     }
 }
 

@@ -5,7 +5,7 @@ use Rattle.patch_script.specs.declared.fields.LineError.TheVariants.{Unreadable,
 
 -- unreadable where nothing is read, and no memory at any time
 abbrev pub Fails : {A : Type 0} → LineError → Option A → Type 0
-Fails Unreadable read = read ≡ None
+Fails (Unreadable defect) read = read ≡ None
 Fails OutOfMemory read = Unit {0}
 
 -- the value that is read, unless memory runs out

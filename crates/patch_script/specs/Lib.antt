@@ -3,3 +3,4 @@ pub mod Form
 pub mod Gives
 pub mod Script
 pub mod Answer
+pub mod Name

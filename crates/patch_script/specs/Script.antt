@@ -35,7 +35,7 @@ script_of text = script_from 1 (lines_of text)
 -- What the reader of a script answers: what is read, but that memory may run out at any time.
 abbrev pub Reads : Result (Vec Line Global) ScriptError → Result (List Line) ℕ → Type 0
 Reads (Ok lines) read = read ≡ Ok lines.items
-Reads (Err (BadLine number)) read = read ≡ Err number
+Reads (Err (BadLine number defect)) read = read ≡ Err number
 Reads (Err OutOfMemory) read = Unit {0}
 
 -- the lines read so far, and what the rest of the script gives

@@ -1,11 +1,15 @@
 //! The fields of a line's object, each by its name and kind.
-ghost use Rattle.std.specs.Prelude.{codes, IfOk, IfErr, Some, ◌≡◌, ◌<◌, ◌≤◌, []};
+ghost use Rattle.std.specs.Prelude.{IfOk, IfErr, Some, ◌≡◌, ◌<◌, ◌≤◌, []};
 ghost use Rattle.patch_script.specs.Gives.{Gives, Fails};
 ghost use Rattle.patch_script.specs.Field.{whole, wholes, wholes_of, positive, writer_number, hex_bytes, needed, optional, given};
-ghost use Rattle.patch_script.specs.declared.fields.LineError.TheVariants.{OutOfMemory};
+ghost use Rattle.patch_script.specs.declared.defects.Defect.TheVariants.{Missing, Wrong};
+ghost use Rattle.patch_script.specs.declared.defects.Name.TheVariants.{Op, Writer};
+ghost use Rattle.patch_script.specs.Name.{name_of};
+ghost use Rattle.patch_script.specs.declared.fields.LineError.TheVariants.{OutOfMemory, Unreadable};
 ghost use Rattle.serde_json.specs.Find.{as_bool, as_str, get};
 ghost use Rattle.serde_json.specs.View.{view, items_view};
 
+use crate::defects::{Defect, Name};
 use patch_model::{Bytes, Items, Numbers, PatchNo, WriterNo};
 use serde_json::Value;
 use std::alloc::{AllocError, AllocFailed, Global};
@@ -13,8 +17,8 @@ use std::alloc::{AllocError, AllocFailed, Global};
 /// Why a line gave nothing.
 #[derive(Clone, Copy, Debug, PartialEq, Eq)]
 pub enum LineError {
-    /// The line has no meaning.
-    Unreadable,
+    /// The line has no meaning, and this is wrong with it.
+    Unreadable(Defect),
     OutOfMemory,
 }
 
@@ -34,51 +38,65 @@ impl<T: Drop> From<AllocFailed<T>> for LineError {
     }
 }
 
-// Kinds of values.
+/// What has to be there, and isn't.
+fn missing(name: Name) -> LineError
+    ensures { result ≡ Unreadable (Missing name) }
+{
+    LineError::Unreadable(Defect::Missing(name))
+}
+
+/// What is there, with a value that it can't have.
+pub fn wrong(name: Name) -> LineError
+    ensures { result ≡ Unreadable (Wrong name) }
+{
+    LineError::Unreadable(Defect::Wrong(name))
+}
+
+// Kinds of values. The name is told where the value is of another kind.
 
 /// A whole number of 32 bits.
-fn as_whole(value: &Value) -> Result<u32, LineError>
+fn as_whole(value: &Value, name: Name) -> Result<u32, LineError>
     ensures { Gives result (whole (view value.now)) }
 {
     match value.as_u64() {
         Some(number) if number <= u32::MAX as u64 => Ok(number as u32),
-        _ => Err(LineError::Unreadable),
+        _ => Err(wrong(name)),
     }
 }
 
-fn as_flag(value: &Value) -> Result<bool, LineError>
+fn as_flag(value: &Value, name: Name) -> Result<bool, LineError>
     ensures { Gives result (as_bool (view value.now)) }
 {
-    value.as_bool().ok_or(LineError::Unreadable)
+    value.as_bool().ok_or(wrong(name))
 }
 
 /// The bytes of hexadecimal text.
-fn as_bytes(alloc: Global, value: &Value) -> Result<Bytes, LineError>
+fn as_bytes(alloc: Global, value: &Value, name: Name) -> Result<Bytes, LineError>
     ensures { Gives result (hex_bytes (view value.now)) }
 {
-    let text = value.as_str().ok_or(LineError::Unreadable)?;
+    let text = value.as_str().ok_or(wrong(name))?;
     match hex::decode(alloc, text) {
         Ok(bytes) => Ok(Items::from_vec(bytes)),
         Err(hex::FromHexError::OutOfMemory) => Err(LineError::OutOfMemory),
-        Err(_) => Err(LineError::Unreadable),
+        Err(_) => Err(wrong(name)),
     }
 }
 
-fn as_numbers(alloc: Global, value: &Value) -> Result<Numbers, LineError>
+fn as_numbers(alloc: Global, value: &Value, name: Name) -> Result<Numbers, LineError>
     ensures { Gives result (wholes (view value.now)) }
 {
     match value.as_array() {
-        Some(values) => numbers_in(alloc, values),
-        None => Err(LineError::Unreadable),
+        Some(values) => numbers_in(alloc, values, name),
+        None => Err(wrong(name)),
     }
 }
 
-fn numbers_in(alloc: Global, values: &Vec<Value>) -> Result<Numbers, LineError>
+fn numbers_in(alloc: Global, values: &Vec<Value>, name: Name) -> Result<Numbers, LineError>
     ensures { Gives result (wholes_of (items_view values.now.items)) }
 {
     let mut numbers = Vec::new(alloc);
     for value in values {
-        numbers.push(PatchNo(as_whole(value)?))?;
+        numbers.push(PatchNo(as_whole(value, name)?))?;
     }
     Ok(Items::from_vec(numbers))
 }
@@ -86,89 +104,83 @@ fn numbers_in(alloc: Global, values: &Vec<Value>) -> Result<Numbers, LineError>
 // Fields.
 
 /// A number that has to be there.
-pub fn number(line: &Value, name: &str) -> Result<u32, LineError>
-    ensures { Gives result (needed whole name.now (view line.now)) }
+pub fn number(line: &Value, name: Name) -> Result<u32, LineError>
+    ensures { Gives result (needed whole (name_of name) (view line.now)) }
 {
-    match line.get(name) {
-        Some(value) => as_whole(value),
-        None => Err(LineError::Unreadable),
+    match line.get(name.as_str()) {
+        Some(value) => as_whole(value, name),
+        None => Err(missing(name)),
     }
 }
 
 /// A number above 0 that has to be there.
-pub fn positive_number(line: &Value, name: &str) -> Result<u32, LineError>
-    ensures { Gives result (needed positive name.now (view line.now)) }
+pub fn positive_number(line: &Value, name: Name) -> Result<u32, LineError>
+    ensures { Gives result (needed positive (name_of name) (view line.now)) }
 {
-    match number(line, name)? {
-        0 => Err(LineError::Unreadable),
+    let value = line.get(name.as_str()).ok_or(missing(name))?;
+    match as_whole(value, name)? {
+        0 => Err(wrong(name)),
         number => Ok(number),
-    }
-}
-
-/// A number that may be missing.
-fn number_or(line: &Value, name: &str, default: u32) -> Result<u32, LineError>
-    ensures { Gives result (optional whole default name.now (view line.now)) }
-{
-    match line.get(name) {
-        Some(value) => as_whole(value),
-        None => Ok(default),
     }
 }
 
 /// The line's writer, 0 where it names none.
 pub fn writer(line: &Value) -> Result<WriterNo, LineError>
-    ensures { Gives result (optional writer_number 0 (codes "writer") (view line.now)) }
+    ensures { Gives result (optional writer_number 0 (name_of Writer) (view line.now)) }
 {
-    match number_or(line, "writer", 0)? {
+    let Some(value) = line.get(Name::Writer.as_str()) else {
+        return Ok(WriterNo(0));
+    };
+    match as_whole(value, Name::Writer)? {
         number @ 0..=7 => Ok(WriterNo(number as u8)),
-        _ => Err(LineError::Unreadable),
+        _ => Err(wrong(Name::Writer)),
     }
 }
 
-pub fn flag_or(line: &Value, name: &str, default: bool) -> Result<bool, LineError>
-    ensures { Gives result (optional as_bool default name.now (view line.now)) }
+pub fn flag_or(line: &Value, name: Name, default: bool) -> Result<bool, LineError>
+    ensures { Gives result (optional as_bool default (name_of name) (view line.now)) }
 {
-    match line.get(name) {
-        Some(value) => as_flag(value),
+    match line.get(name.as_str()) {
+        Some(value) => as_flag(value, name),
         None => Ok(default),
     }
 }
 
-pub fn bytes(alloc: Global, line: &Value, name: &str) -> Result<Bytes, LineError>
-    ensures { Gives result (needed hex_bytes name.now (view line.now)) }
+pub fn bytes(alloc: Global, line: &Value, name: Name) -> Result<Bytes, LineError>
+    ensures { Gives result (needed hex_bytes (name_of name) (view line.now)) }
 {
-    match line.get(name) {
-        Some(value) => as_bytes(alloc, value),
-        None => Err(LineError::Unreadable),
+    match line.get(name.as_str()) {
+        Some(value) => as_bytes(alloc, value, name),
+        None => Err(missing(name)),
     }
 }
 
-pub fn numbers(alloc: Global, line: &Value, name: &str) -> Result<Numbers, LineError>
-    ensures { Gives result (needed wholes name.now (view line.now)) }
+pub fn numbers(alloc: Global, line: &Value, name: Name) -> Result<Numbers, LineError>
+    ensures { Gives result (needed wholes (name_of name) (view line.now)) }
 {
-    match line.get(name) {
-        Some(value) => as_numbers(alloc, value),
-        None => Err(LineError::Unreadable),
+    match line.get(name.as_str()) {
+        Some(value) => as_numbers(alloc, value, name),
+        None => Err(missing(name)),
     }
 }
 
 /// Numbers that may be missing.
-pub fn numbers_or_none(alloc: Global, line: &Value, name: &str) -> Result<Numbers, LineError>
-    ensures { Gives result (optional wholes [] name.now (view line.now)) }
+pub fn numbers_or_none(alloc: Global, line: &Value, name: Name) -> Result<Numbers, LineError>
+    ensures { Gives result (optional wholes [] (name_of name) (view line.now)) }
 {
-    match line.get(name) {
-        Some(value) => as_numbers(alloc, value),
+    match line.get(name.as_str()) {
+        Some(value) => as_numbers(alloc, value, name),
         None => Ok(Items::from_vec(Vec::new(alloc))),
     }
 }
 
-/// A text that has to be there.
-pub fn text<'v>(line: &'v Value, name: &str) -> Result<&'v str, LineError>
-    ensures ok { IfOk result (λ text. needed as_str name.now (view line.now) ≡ Some text.now) }
-    ensures err { IfErr result (λ e. Fails e (needed as_str name.now (view line.now))) }
+/// The name of what the line asks for.
+pub fn op<'v>(line: &'v Value) -> Result<&'v str, LineError>
+    ensures ok { IfOk result (λ op. needed as_str (name_of Op) (view line.now) ≡ Some op.now) }
+    ensures err { IfErr result (λ e. Fails e (needed as_str (name_of Op) (view line.now))) }
 {
-    match line.get(name) {
-        Some(value) => value.as_str().ok_or(LineError::Unreadable),
-        None => Err(LineError::Unreadable),
+    match line.get(Name::Op.as_str()) {
+        Some(value) => value.as_str().ok_or(wrong(Name::Op)),
+        None => Err(missing(Name::Op)),
     }
 }

@@ -2,6 +2,7 @@
 #![tactic(auto)]
 
 mod answers;
+mod defects;
 mod fields;
 mod forms;
 mod lines;
@@ -9,5 +10,6 @@ mod reading;
 mod scripts;
 
 pub use answers::{Answer, Refusal, answer_line};
+pub use defects::{Defect, Name};
 pub use forms::{Line, Span};
 pub use scripts::{MAX_BYTES, MAX_LINES, ScriptError, passes_limit, read_script};

@@ -4,8 +4,9 @@ ghost use Rattle.patch_script.specs.Gives.{Gives, Fails};
 ghost use Rattle.patch_script.specs.Form.{patch_line, merge_line, view_line, span_of, op_line, object_line, json_of, is_blank, line_of};
 ghost use Rattle.serde_json.specs.View.{view};
 
+use crate::defects::{Defect, Name};
 use crate::fields::{
-    LineError, bytes, flag_or, number, numbers, numbers_or_none, positive_number, text, writer,
+    LineError, bytes, flag_or, number, numbers, numbers_or_none, op, positive_number, writer, wrong,
 };
 use crate::forms::{Line, Span};
 use patch_model::{BlockNo, PatchNo, Undo};
@@ -16,11 +17,11 @@ use std::alloc::Global;
 fn read_patch(alloc: Global, line: &Value) -> Result<Line, LineError>
     ensures { Gives result (patch_line (view line.now)) }
 {
-    let block = BlockNo(number(line, "block")?);
-    let start = number(line, "start")?;
-    let bytes = bytes(alloc, line, "hex")?;
-    let after = numbers_or_none(alloc, line, "after")?;
-    let may_drop = flag_or(line, "drop", false)?;
+    let block = BlockNo(number(line, Name::Block)?);
+    let start = number(line, Name::Start)?;
+    let bytes = bytes(alloc, line, Name::Hex)?;
+    let after = numbers_or_none(alloc, line, Name::After)?;
+    let may_drop = flag_or(line, Name::Drop, false)?;
     let undo = if may_drop { Undo::MayDrop } else { Undo::Keep };
     let writer = writer(line)?;
     Ok(Line::Patch {
@@ -37,17 +38,17 @@ fn read_patch(alloc: Global, line: &Value) -> Result<Line, LineError>
 fn read_merge(line: &Value) -> Result<Line, LineError>
     ensures { Gives result (merge_line (view line.now)) }
 {
-    let a = PatchNo(number(line, "a")?);
-    let b = PatchNo(number(line, "b")?);
+    let a = PatchNo(number(line, Name::A)?);
+    let b = PatchNo(number(line, Name::B)?);
     Ok(Line::Merge { a, b })
 }
 
 fn read_span(line: &Value) -> Result<Span, LineError>
     ensures { Gives result (span_of (view line.now)) }
 {
-    let block = BlockNo(number(line, "block")?);
-    let start = number(line, "start")?;
-    let len = positive_number(line, "len")?;
+    let block = BlockNo(number(line, Name::Block)?);
+    let start = number(line, Name::Start)?;
+    let len = positive_number(line, Name::Len)?;
     Ok(Span { block, start, len })
 }
 
@@ -55,8 +56,8 @@ fn read_span(line: &Value) -> Result<Span, LineError>
 fn read_view(alloc: Global, line: &Value) -> Result<Line, LineError>
     ensures { Gives result (view_line (view line.now)) }
 {
-    let take = numbers(alloc, line, "take")?;
-    let back = numbers_or_none(alloc, line, "back")?;
+    let take = numbers(alloc, line, Name::Take)?;
+    let back = numbers_or_none(alloc, line, Name::Back)?;
     let span = read_span(line)?;
     Ok(Line::View { take, back, span })
 }
@@ -68,19 +69,22 @@ fn read_op(alloc: Global, op: &str, line: &Value) -> Result<Line, LineError>
     match op {
         "patch" => read_patch(alloc, line),
         "merge" => read_merge(line),
-        "send" => Ok(Line::Send(BlockNo(number(line, "block")?))),
-        "complete" => Ok(Line::Complete(BlockNo(number(line, "block")?))),
+        "send" => Ok(Line::Send(BlockNo(number(line, Name::Block)?))),
+        "complete" => Ok(Line::Complete(BlockNo(number(line, Name::Block)?))),
         "view" => read_view(alloc, line),
         "show" => Ok(Line::Show(read_span(line)?)),
         "disk" => Ok(Line::Disk(read_span(line)?)),
-        _ => Err(LineError::Unreadable),
+        _ => Err(wrong(Name::Op)),
     }
 }
 
 fn read_object(alloc: Global, line: &Value) -> Result<Line, LineError>
     ensures { Gives result (object_line (view line.now)) }
 {
-    read_op(alloc, text(line, "op")?, line)
+    if !line.is_object() {
+        return Err(LineError::Unreadable(Defect::NotAnObject));
+    }
+    read_op(alloc, op(line)?, line)
 }
 
 /// The JSON value of some bytes.
@@ -95,7 +99,7 @@ fn read_json(alloc: Global, bytes: &[u8]) -> Result<Value, LineError>
             if e.is_memory() {
                 Err(LineError::OutOfMemory)
             } else {
-                Err(LineError::Unreadable)
+                Err(LineError::Unreadable(Defect::NotJson))
             }
         }
     }

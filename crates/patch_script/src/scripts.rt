@@ -2,6 +2,7 @@
 ghost use Rattle.std.specs.Prelude.{◌≡◌, ◌<◌, ◌+◌, ◌∷◌, ◌≤◌, length, MatchResult};
 ghost use Rattle.patch_script.specs.Script.{lines_of, script_of, Reads, is_too_long};
 
+use crate::defects::Defect;
 use crate::fields::LineError;
 use crate::forms::Line;
 use crate::lines::Lines;
@@ -17,8 +18,8 @@ pub const MAX_LINES: usize = 100_000;
 /// Why a script isn't run.
 #[derive(Clone, Copy, Debug, PartialEq, Eq)]
 pub enum ScriptError {
-    /// The first unreadable line, counted from 1.
-    BadLine(usize),
+    /// The first unreadable line, counted from 1, and what is wrong with it.
+    BadLine { line: usize, defect: Defect },
     OutOfMemory,
 }
 
@@ -45,7 +46,12 @@ pub fn read_script(alloc: Global, text: &[u8]) -> Result<Vec<Line>, ScriptError>
                     return Err(ScriptError::OutOfMemory);
                 }
             }
-            Err(LineError::Unreadable) => return Err(ScriptError::BadLine(number)),
+            Err(LineError::Unreadable(defect)) => {
+                return Err(ScriptError::BadLine {
+                    line: number,
+                    defect,
+                });
+            }
             Err(LineError::OutOfMemory) => return Err(ScriptError::OutOfMemory),
         }
     }

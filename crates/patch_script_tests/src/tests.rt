@@ -5,21 +5,31 @@ use std::alloc::{AllocError, Global};
 use std::process::Abort;
 use std::test::Fail;
 
-// How many lines ask for something, or why the script isn't run. Nothing of one that passes a limit.
-fn read(alloc: Global, text: &[u8]) -> Option<Result<usize, ScriptError>> {
+// How a script is read.
+#[derive(Clone, Copy, Debug, PartialEq, Eq)]
+enum Reading {
+    // So many lines ask for something.
+    Lines(usize),
+    BadLine(usize),
+    TooLong,
+    OutOfMemory,
+}
+
+fn read(alloc: Global, text: &[u8]) -> Reading {
     if passes_limit(text) {
-        return None;
+        return Reading::TooLong;
     }
     match read_script(alloc, text) {
-        Ok(lines) => Some(Ok(lines.len())),
-        Err(e) => Some(Err(e)),
+        Ok(lines) => Reading::Lines(lines.len()),
+        Err(ScriptError::BadLine { line, .. }) => Reading::BadLine(line),
+        Err(ScriptError::OutOfMemory) => Reading::OutOfMemory,
     }
 }
 
 // Each line, as a script of its own, is read like that.
-fn expect_each(rt: &impl Abort, alloc: Global, lines: &str, want: Result<usize, ScriptError>) {
+fn expect_each(rt: &impl Abort, alloc: Global, lines: &str, want: Reading) {
     for line in lines.lines() {
-        assert_eq!(rt; read(alloc, line.as_bytes()), Some(want), "{line}");
+        assert_eq!(rt; read(alloc, line.as_bytes()), want, "{line}");
     }
 }
 
@@ -40,7 +50,7 @@ const READABLE: &str = r#"{"op":"show","block":0,"start":0,"len":1}
 
 #[test]
 fn reads_lines(rt: HostRuntime) {
-    expect_each(&rt, rt.alloc(), READABLE, Ok(1));
+    expect_each(&rt, rt.alloc(), READABLE, Reading::Lines(1));
 }
 
 const UNREADABLE: &str = r#"{"op":"fly"}
@@ -153,47 +163,145 @@ fn refuses_unreadable_lines(rt: HostRuntime) {
         UNREADABLE_COMPLETIONS,
         UNREADABLE_DISKS,
     ] {
-        expect_each(&rt, rt.alloc(), lines, Err(ScriptError::BadLine(1)));
+        expect_each(&rt, rt.alloc(), lines, Reading::BadLine(1));
     }
 }
 
+const WHOLE: &str = "a whole number from 0 to 4294967295";
+
+const LIST: &str = "a list of whole numbers from 0 to 4294967295";
+
+const OPS: &str = "one of patch, merge, send, complete, view, show and disk";
+
+const DIGITS: &str = "a text of hexadecimal digits, two for each byte";
+
+// What is said of an unreadable line: its words, and what the value has to be.
+const WORDS: [(&str, &str, &str); 20] = [
+    (
+        r#"{"op":"#,
+        "not JSON, or nested deeper than 127 levels",
+        "",
+    ),
+    (r#"["op"]"#, "not a JSON object", ""),
+    (r#"{"block":0}"#, "\"op\" is missing", ""),
+    (r#"{"op":"send"}"#, "\"block\" is missing", ""),
+    (
+        r#"{"op":"patch","block":0,"start":0}"#,
+        "\"hex\" is missing",
+        "",
+    ),
+    (r#"{"op":"view"}"#, "\"take\" is missing", ""),
+    (
+        r#"{"op":"show","block":0,"start":0}"#,
+        "\"len\" is missing",
+        "",
+    ),
+    (r#"{"op":7}"#, "\"op\" is not ", OPS),
+    (r#"{"op":"fly"}"#, "\"op\" is not ", OPS),
+    (r#"{"op":"send","block":-1}"#, "\"block\" is not ", WHOLE),
+    (
+        r#"{"op":"show","block":0,"start":1.0}"#,
+        "\"start\" is not ",
+        WHOLE,
+    ),
+    (r#"{"op":"merge","a":"0"}"#, "\"a\" is not ", WHOLE),
+    (
+        r#"{"op":"merge","a":0,"b":4294967296}"#,
+        "\"b\" is not ",
+        WHOLE,
+    ),
+    (
+        r#"{"op":"disk","block":0,"start":0,"len":0}"#,
+        "\"len\" is not ",
+        "a whole number from 1 to 4294967295",
+    ),
+    (
+        r#"{"op":"patch","block":0,"start":0,"hex":"abc"}"#,
+        "\"hex\" is not ",
+        DIGITS,
+    ),
+    (
+        r#"{"op":"patch","block":0,"start":0,"hex":"","after":[-1]}"#,
+        "\"after\" is not ",
+        LIST,
+    ),
+    (
+        r#"{"op":"patch","block":0,"start":0,"hex":"","drop":1}"#,
+        "\"drop\" is not ",
+        "true or false",
+    ),
+    (
+        r#"{"op":"patch","block":0,"start":0,"hex":"","writer":8}"#,
+        "\"writer\" is not ",
+        "a whole number from 0 to 7",
+    ),
+    (r#"{"op":"view","take":0}"#, "\"take\" is not ", LIST),
+    (
+        r#"{"op":"view","take":[],"back":[[]]}"#,
+        "\"back\" is not ",
+        LIST,
+    ),
+];
+
+// What is wrong with a script's first line, where that is unreadable.
+fn defect_of(alloc: Global, text: &[u8]) -> Option<Defect> {
+    if passes_limit(text) {
+        return None;
+    }
+    match read_script(alloc, text) {
+        Err(ScriptError::BadLine { line: 1, defect }) => Some(defect),
+        _ => None,
+    }
+}
+
+#[test]
+fn says_what_is_wrong(rt: HostRuntime) -> Result<(), Fail> {
+    for (line, said, wanted) in WORDS {
+        let defect = defect_of(rt.alloc(), line.as_bytes()).ok_or("readable")?;
+        let words = format!(in rt.alloc(); "{defect}")?;
+        let want = format!(in rt.alloc(); "{said}{wanted}")?;
+        assert_eq!(rt; words.as_str(), want.as_str(), "{line}");
+    }
+    Ok(())
+}
+
 // Blank lines ask for nothing and count, and lines behind the first unreadable one don't matter.
-const SCRIPTS: [(&[u8], Result<usize, ScriptError>); 12] = [
-    (b"", Ok(0)),
-    (b"\n", Ok(0)),
-    (b" \t\r\n\n", Ok(0)),
+const SCRIPTS: [(&[u8], Reading); 12] = [
+    (b"", Reading::Lines(0)),
+    (b"\n", Reading::Lines(0)),
+    (b" \t\r\n\n", Reading::Lines(0)),
     (
         b"\n{\"op\":\"show\",\"block\":0,\"start\":0,\"len\":1}\r\n\n",
-        Ok(1),
+        Reading::Lines(1),
     ),
     (
         b"{\"op\":\"show\",\"block\":4294967295,\"start\":4294967295,\"len\":4294967295}\n",
-        Ok(1),
+        Reading::Lines(1),
     ),
     (
         b"{\"op\":\"patch\",\"block\":0,\"start\":0,\"hex\":\"\"}\n\
         {\"op\":\"view\",\"block\":0,\"take\":[],\"start\":0,\"len\":1}",
-        Ok(2),
+        Reading::Lines(2),
     ),
     (
         b"{\"op\":\"merge\",\"a\":4294967295,\"b\":4294967295}\n",
-        Ok(1),
+        Reading::Lines(1),
     ),
-    (b"{\"op\":\"complete\",\"block\":0}\r\n", Ok(1)),
-    (b"\n \n{\"op\":\"fly\"}", Err(ScriptError::BadLine(3))),
+    (b"{\"op\":\"complete\",\"block\":0}\r\n", Reading::Lines(1)),
+    (b"\n \n{\"op\":\"fly\"}", Reading::BadLine(3)),
     (
         b"{\"op\":\"show\",\"block\":0,\"start\":0,\"len\":1}\r\n\n\
         {\"op\":\"fly\"}\n{\"op\":\"swim\"}\n",
-        Err(ScriptError::BadLine(3)),
+        Reading::BadLine(3),
     ),
-    (b"\xff\n", Err(ScriptError::BadLine(1))),
-    (b"{\"op\":\"\xc3\x28\"}", Err(ScriptError::BadLine(1))),
+    (b"\xff\n", Reading::BadLine(1)),
+    (b"{\"op\":\"\xc3\x28\"}", Reading::BadLine(1)),
 ];
 
 #[test]
 fn reads_whole_scripts(rt: HostRuntime) {
     for (index, (text, want)) in SCRIPTS.into_iter().enumerate() {
-        assert_eq!(rt; read(rt.alloc(), text), Some(want), "script {index}");
+        assert_eq!(rt; read(rt.alloc(), text), want, "script {index}");
     }
 }
 
@@ -250,7 +358,7 @@ struct Long {
     piece: &'static [u8],
     count: usize,
     behind: &'static [u8],
-    want: Option<Result<usize, ScriptError>>,
+    want: Reading,
 }
 
 // As many lines and bytes as there may be, and one more; a line of ten million bytes; objects in objects deeper than
@@ -261,42 +369,42 @@ const LONG: [Long; 6] = [
         piece: b"\n",
         count: MAX_LINES,
         behind: b"",
-        want: Some(Ok(0)),
+        want: Reading::Lines(0),
     },
     Long {
         before: b"",
         piece: b"\n",
         count: MAX_LINES,
         behind: b" ",
-        want: None,
+        want: Reading::TooLong,
     },
     Long {
         before: b"",
         piece: b" ",
         count: MAX_BYTES,
         behind: b"",
-        want: Some(Ok(0)),
+        want: Reading::Lines(0),
     },
     Long {
         before: b"",
         piece: b" ",
         count: MAX_BYTES,
         behind: b"\n",
-        want: None,
+        want: Reading::TooLong,
     },
     Long {
         before: b"{\"op\":\"patch\",\"block\":0,\"start\":0,\"hex\":\"",
         piece: b"a",
         count: 10_000_000,
         behind: b"\"}",
-        want: Some(Ok(1)),
+        want: Reading::Lines(1),
     },
     Long {
         before: b"",
         piece: b"{\"op\":",
         count: 100_000,
         behind: b"",
-        want: Some(Err(ScriptError::BadLine(1))),
+        want: Reading::BadLine(1),
     },
 ];
 
@@ -313,7 +421,7 @@ fn push_long(text: &mut Vec<u8>, long: &Long) -> Result<(), AllocError> {
     text.extend_from_slice(long.behind)
 }
 
-fn read_long(alloc: Global, long: &Long) -> Result<Option<Result<usize, ScriptError>>, AllocError> {
+fn read_long(alloc: Global, long: &Long) -> Result<Reading, AllocError> {
     let mut text = Vec::new(alloc);
     push_long(&mut text, long)?;
     Ok(read(alloc, &text))

@@ -1,0 +1,82 @@
+//! The names in lines, and what is wrong with a line that has no meaning.
+ghost use Rattle.std.specs.Prelude.{◌≡◌};
+ghost use Rattle.patch_script.specs.Name.{name_of};
+
+use std::fmt;
+use std::fmt::{Display, Formatter};
+use thiserror::Error;
+
+/// A name in a line's object.
+#[derive(Clone, Copy, Debug, PartialEq, Eq)]
+pub enum Name {
+    Op,
+    Block,
+    Start,
+    Len,
+    Hex,
+    After,
+    Drop,
+    Writer,
+    A,
+    B,
+    Take,
+    Back,
+}
+
+impl Name {
+    pub fn as_str(self) -> &'static str
+        ensures { result.now ≡ name_of self }
+    {
+        match self {
+            Name::Op => "op",
+            Name::Block => "block",
+            Name::Start => "start",
+            Name::Len => "len",
+            Name::Hex => "hex",
+            Name::After => "after",
+            Name::Drop => "drop",
+            Name::Writer => "writer",
+            Name::A => "a",
+            Name::B => "b",
+            Name::Take => "take",
+            Name::Back => "back",
+        }
+    }
+
+    /// What the value has to be.
+    fn wanted(self) -> &'static str {
+        match self {
+            Name::Op => "one of patch, merge, send, complete, view, show and disk",
+            Name::Block | Name::Start | Name::A | Name::B => "a whole number from 0 to 4294967295",
+            Name::Len => "a whole number from 1 to 4294967295",
+            Name::Writer => "a whole number from 0 to 7",
+            Name::Hex => "a text of hexadecimal digits, two for each byte",
+            Name::Drop => "true or false",
+            Name::After | Name::Take | Name::Back => {
+                "a list of whole numbers from 0 to 4294967295"
+            }
+        }
+    }
+}
+
+impl Display for Name {
+    fn fmt<W: fmt::Write>(&self, f: &mut Formatter<W>) -> fmt::Result {
+        f.write_str(self.as_str())
+    }
+}
+
+/// What is wrong with a line.
+#[derive(Clone, Copy, Debug, PartialEq, Eq, Error)]
+pub enum Defect {
+    /// The line is no JSON text, or one that nests deeper than the reader of JSON goes.
+    #[error("not JSON, or nested deeper than 127 levels")]
+    NotJson,
+    #[error("not a JSON object")]
+    NotAnObject,
+    /// What has to be there isn't.
+    #[error("\"{0}\" is missing")]
+    Missing(Name),
+    /// The value is of another kind than it has to be, or out of its range.
+    #[error("\"{0}\" is not {wanted}", wanted = .0.wanted())]
+    Wrong(Name),
+}
