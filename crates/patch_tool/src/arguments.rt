@@ -9,6 +9,10 @@ use std::alloc::Global;
 /// How many blocks there are where the command line doesn't say.
 const DEFAULT_BLOCKS: u32 = 8;
 
+// What stands below the options.
+const AFTER_HELP: &str =
+    "docs/SCRIPTS.md has the lines of a script, their answers and the exit statuses.";
+
 /// What the command line asks for.
 #[derive(Clone, Copy, Debug, PartialEq, Eq)]
 pub enum Request {
@@ -27,10 +31,13 @@ fn command<'a>(alloc: Global) -> Result<Command<'a>, Error> {
         .about(
             "Replays a script of patches, sends and views from standard input, on blocks of zeros",
         )
+        .after_help(AFTER_HELP)
         .arg(blocks)?;
     Ok(
         Command::new(alloc, "fstch")
             .about("Replays scripts of patches: each line of the script is answered by a line")
+            .after_help(AFTER_HELP)
+            .version("0.1.0")
             .bin_name("fstch")?
             .subcommand_required(true)
             .subcommand(replay)?,
