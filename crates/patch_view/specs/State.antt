@@ -150,6 +150,14 @@ departed_at b at = record b { classes = slice_set b.classes at (departed (class_
 abbrev pub landed_at : Block → ℕ → Block
 landed_at b at = record b { classes = remove b.classes at }
 
+-- the block with the class of this patch in flight; as it is, where it has none
+abbrev pub with_one_departed : Block → ℕ → Block
+with_one_departed b number = elim (place_of b number) [ Some at ↦ departed_at b at | None ↦ b ]
+
+-- the block without the class of this patch; as it is, where it has none
+abbrev pub with_one_landed : Block → ℕ → Block
+with_one_landed b number = elim (place_of b number) [ Some at ↦ landed_at b at | None ↦ b ]
+
 -- the class in flight where one of the numbers is its name
 abbrev pub departed_among : List ℕ → Class → Class
 departed_among numbers c = if is_among numbers c.name then departed c else c
@@ -157,6 +165,16 @@ departed_among numbers c = if is_among numbers c.name then departed c else c
 -- the block with these classes in flight
 abbrev pub with_departed : Block → List ℕ → Block
 with_departed b numbers = record b { classes = map (departed_among numbers) b.classes }
+
+-- the class as it was, or in flight; that only where one of the numbers is its name
+abbrev pub MayHaveDeparted : List ℕ → Class → Class → Type 0
+MayHaveDeparted numbers old new = (new ≡ old) ⊎ ((is_among numbers old.name ≡ true) × (new ≡ departed old))
+
+-- the block with each class as it was, or in flight; that only where one of the numbers is its name
+pub record HasDeparted (numbers : List ℕ) (old new : Block) : Type 0 where
+  pub bytes : new.bytes ≡ old.bytes
+  pub long : length new.classes ≡ length old.classes
+  pub each : (i : ℕ) → MayHaveDeparted numbers (class_at old i) (class_at new i)
 
 -- the block without the classes in flight
 abbrev pub with_landed : Block → Block
@@ -212,3 +230,32 @@ moved_down b front k = record b { classes = insert (remove b.classes k) front (c
 -- the class c in place of the two
 abbrev pub settled_at : Block → ℕ → ℕ → Class → Block
 settled_at b low high c = record b { classes = remove (slice_set b.classes low c) high }
+
+-- the class at the place k depends directly on one of the n from the place front on
+abbrev pub follows_some : Block → (front n k : ℕ) → Bool
+follows_some b front zero k = false
+follows_some b front (suc n) k = follows b k (front + n) || follows_some b front n k
+
+-- a block, and where a class of it stands
+pub record Standing : Type 0 where
+  pub block : Block
+  pub front : ℕ
+
+-- The class at the place low, brought up past n others, one after another: one that depends directly on none from this class
+-- up to it goes below this class.
+abbrev pub gathered : Block → (low n : ℕ) → Standing
+gathered b low zero = record { block = b; front = low }
+gathered b low (suc n) =
+    let r = gathered b low n in
+    let k = low + suc n in
+    if follows_some r.block r.front (k - r.front) k then r else record { block = moved_down r.block r.front k; front = r.front + 1 }
+
+-- the lower class brought up to the higher one, and the joint's class in place of both
+abbrev pub joined_at : Block → Joint → Block
+joined_at b joint =
+    let r = gathered b joint.low (joint.high - joint.low - 1) in settled_at r.block r.front joint.high joint.class
+
+-- the block with a joint put in place; as it is, where there is none, or no two places as it says
+abbrev pub with_joint : Block → Option Joint → Block
+with_joint b None = b
+with_joint b (Some joint) = if nat_lt joint.low joint.high && nat_lt joint.high (length b.classes) then joined_at b joint else b

@@ -1,5 +1,5 @@
 //! What becomes of a block's records as patches are made, merged, sent and completed.
-ghost use Rattle.std.specs.Prelude.{◌≡◌, ◌+◌, ◌<◌, ◌≤◌, length, map, [], IfOk, OnOk, OnErr, ℕ, List, true, false, IsTrue, IsFalse};
+ghost use Rattle.std.specs.Prelude.{◌≡◌, ◌+◌, ◌<◌, ◌≤◌, length, map, [], IfOk, OnOk, OnErr, ℕ, List, Option, true, false, IsTrue, IsFalse};
 ghost use Rattle.std.specs.List.Sorted.{IsNonDecreasing};
 ghost use Rattle.patch_model.specs.declared.patches.Undo.{Undo};
 ghost use Rattle.patch_model.specs.declared.patches.Mark.TheVariants.{Flight, Durable};
@@ -7,7 +7,7 @@ ghost use Rattle.patch_model.specs.Entry.{Entry, is_memory};
 ghost use Rattle.patch_model.specs.History.{History};
 ghost use Rattle.patch_model.specs.Orderly.{IsOrderlyBlock, MayJoin};
 ghost use Rattle.patch_model.specs.State.{sent, landed};
-ghost use Rattle.patch_view.specs.State.{Block, class_at, follows, with_laid, IsLaid, without_newest, with_newest_hard, departed_at, landed_at, with_departed, with_landed, moved_down, IsMerged, settled_at, IsJoint, IsJointAt};
+ghost use Rattle.patch_view.specs.State.{Block, class_at, follows, with_laid, IsLaid, without_newest, with_newest_hard, departed_at, landed_at, with_departed, HasDeparted, with_one_departed, with_one_landed, with_joint, joined_at, with_landed, moved_down, IsMerged, settled_at, IsJoint, IsJointAt, Joint as Drawn};
 ghost use Rattle.patch_view.specs.History.{unpatched, IsNext, MayDepart, MayLand, laid, made, with_mark, with_joined};
 ghost use Rattle.patch_view.specs.Meaning.{Represents, IsGathered};
 ghost use Rattle.patch_view.specs.Answers.{IsPatch};
@@ -120,9 +120,10 @@ impl<A: Allocator> BlockState<A> {
     }
 
     /// Takes the patch off that was laid last, which isn't hard: the block is as if it had never been laid. It exchanges the
-    /// span's bytes, looks at no other record, and takes no memory.
+    /// span's bytes, looks at no other record, and takes no memory. A block with no live class stays as it is.
     pub fn unlay(&mut self)
-        ensures { (before : Block) (no start : ℕ) (bytes after : List ℕ) → IsLaid before no start bytes after false self.old
+        ensures exact { self.new ≡ without_newest self.old }
+        ensures as_before { (before : Block) (no start : ℕ) (bytes after : List ℕ) → IsLaid before no start bytes after false self.old
             → length before.bytes ≡ BLOCK → start + length bytes ≤ BLOCK → self.new ≡ before }
     {
         self.unlay_newest();
@@ -136,9 +137,11 @@ impl<A: Allocator> BlockState<A> {
         }
     }
 
-    /// Makes the patch that was laid last hard: the bytes kept of it go. It looks at no other record, and takes no memory.
+    /// Makes the patch that was laid last hard: the bytes kept of it go. It looks at no other record, and takes no memory. A
+    /// block with no live class stays as it is.
     pub fn harden(&mut self)
-        ensures { (before : Block) (h : History) (no block start : ℕ) (bytes after : List ℕ) (undo : Undo)
+        ensures exact { self.new ≡ with_newest_hard self.old }
+        ensures answer { (before : Block) (h : History) (no block start : ℕ) (bytes after : List ℕ) (undo : Undo)
             → IsLaid before no start bytes after false self.old → Represents before [] h → IsNext h (made no block start bytes after undo true)
             → start + length bytes ≤ BLOCK → Represents self.new [] (laid h (made no block start bytes after undo true)) }
     {
@@ -153,8 +156,10 @@ impl<A: Allocator> BlockState<A> {
         }
     }
 
-    /// Puts the class of this patch, which is in memory, in flight. Its saved bytes go.
+    /// Puts the class of this patch, which is in memory, in flight. Its saved bytes go. A number of no live class changes
+    /// nothing.
     pub fn depart(&mut self, no: PatchNo)
+        ensures exact { self.new ≡ with_one_departed self.old no }
         ensures answer { (h : History) (e : Entry) → Represents self.old [] h → IsPatch h no e → is_memory e ≡ true
             → Represents self.new [] (with_mark h Flight e.class) }
     {
@@ -231,7 +236,8 @@ impl<A: Allocator> BlockState<A> {
     fn join_at(&mut self, low: usize, high: usize, class: Class<A>)
         requires less { low < high }
         requires within { high < length self.old.classes }
-        ensures { (h : History) → IsMerged (class_at self.old low) (class_at self.old high) class → Represents self.old [] h
+        ensures exact { self.new ≡ joined_at self.old (record { low = low; high = high; class = class }) }
+        ensures answer { (h : History) → IsMerged (class_at self.old low) (class_at self.old high) class → Represents self.old [] h
             → MayJoin h.entries (class_at self.old low).name (class_at self.old high).name
             → Represents self.new [] (with_joined h (class_at self.old low).name (class_at self.old high).name) }
     {
@@ -259,9 +265,11 @@ impl<A: Allocator> BlockState<A> {
         Ok(Some(joint))
     }
 
-    /// Puts a joint that was drawn up of this block in place. It takes no memory.
+    /// Puts a joint that was drawn up of this block in place. It takes no memory. No joint changes nothing, nor does one of
+    /// places that the block hasn't.
     pub fn join_by(&mut self, joint: Option<Joint<A>>)
-        ensures { (h : History) (a b : ℕ) (e f : Entry) → IsJoint self.old a b joint → Represents self.old [] h
+        ensures exact { self.new ≡ with_joint self.old joint }
+        ensures answer { (h : History) (a b : ℕ) (e f : Entry) → IsJoint self.old a b joint → Represents self.old [] h
             → IsPatch h a e → IsPatch h b f → MayJoin h.entries e.class f.class
             → Represents self.new [] (with_joined h e.class f.class) }
     {
@@ -274,12 +282,14 @@ impl<A: Allocator> BlockState<A> {
     }
 
     /// Makes the classes of two patches one, under the lesser name. Both may be taken back, their spans meet or touch, and no
-    /// third class lies on a path from one to the other. Without memory nothing is changed.
+    /// third class lies on a path from one to the other. Where they aren't two classes of the block, or without memory, nothing
+    /// is changed.
     pub fn join(&mut self, a: PatchNo, b: PatchNo) -> Result<(), OutOfMemory>
     where
         A: Clone,
         ensures answer { (h : History) (e f : Entry) → Represents self.old [] h → IsPatch h a e → IsPatch h b f → MayJoin h.entries e.class f.class
             → OnOk result (Represents self.new [] (with_joined h e.class f.class)) }
+        ensures exact { OnOk result ((joint : Option Drawn) × IsJoint self.old a b joint × (self.new ≡ with_joint self.old joint)) }
         ensures refused { OnErr result (self.new ≡ self.old) }
     {
         let joint = self.joint(a, b)?;
@@ -288,16 +298,19 @@ impl<A: Allocator> BlockState<A> {
     }
 
     /// Puts in flight each class that has one of these numbers, which rise, as its name. The classes are in memory. It looks
-    /// at each record once.
+    /// at each record once. Of numbers that don't rise some may be overlooked; no class departs whose name isn't among them.
     pub fn depart_each(&mut self, numbers: &[PatchNo])
-        ensures { (h : History) (set : List Entry) → Represents self.old [] h → IsNonDecreasing numbers.now → MayDepart h numbers.now set
+        ensures exact { IsNonDecreasing numbers.now → self.new ≡ with_departed self.old numbers.now }
+        ensures named { HasDeparted numbers.now self.old self.new }
+        ensures answer { (h : History) (set : List Entry) → Represents self.old [] h → IsNonDecreasing numbers.now → MayDepart h numbers.now set
             → Represents self.new [] (record h { entries = map (sent set) h.entries }) }
     {
         self.depart_among(numbers);
     }
 
     fn depart_among(&mut self, numbers: &[PatchNo])
-        ensures { IsNonDecreasing numbers.now → self.new ≡ with_departed self.old numbers.now }
+        ensures exact { IsNonDecreasing numbers.now → self.new ≡ with_departed self.old numbers.now }
+        ensures named { HasDeparted numbers.now self.old self.new }
     {
         for class in self.classes.iter_mut() {
             class.depart_among(numbers);
@@ -313,8 +326,9 @@ impl<A: Allocator> BlockState<A> {
     }
 
     /// Makes the class of this patch durable: its record goes. The class is in flight, and no class of the block on which it
-    /// depends directly is in memory.
+    /// depends directly is in memory. A number of no live class changes nothing.
     pub fn land(&mut self, no: PatchNo)
+        ensures exact { self.new ≡ with_one_landed self.old no }
         ensures answer { (h : History) (e : Entry) → Represents self.old [] h → IsPatch h no e → MayLand h e.class
             → Represents self.new [] (with_mark h Durable e.class) }
     {
@@ -325,14 +339,9 @@ impl<A: Allocator> BlockState<A> {
 
     /// Makes each class in flight durable: their records go. It looks at each record once.
     pub fn land_each(&mut self)
-        ensures { (h : History) (block : ℕ) → Represents self.old [] h → IsOrderlyBlock h block
+        ensures exact { self.new ≡ with_landed self.old }
+        ensures answer { (h : History) (block : ℕ) → Represents self.old [] h → IsOrderlyBlock h block
             → Represents self.new [] (record h { entries = map (landed block) h.entries }) }
-    {
-        self.keep_grounded();
-    }
-
-    fn keep_grounded(&mut self)
-        ensures { self.new ≡ with_landed self.old }
     {
         self.classes.retain(|class| !class.is_flying());
     }

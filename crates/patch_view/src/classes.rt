@@ -1,9 +1,9 @@
 //! What a block keeps of a live class.
-ghost use Rattle.std.specs.Prelude.{◌≡◌, ◌||◌, ◌+◌, ◌≤◌, ◌++◌, length, IfOk, IsPermutation, false, min, max, replicate, ◌-◌};
+ghost use Rattle.std.specs.Prelude.{◌≡◌, ◌||◌, ◌+◌, ◌≤◌, ◌++◌, length, IfOk, IsTrue, IsPermutation, true, false, min, max, replicate, ◌-◌};
 ghost use Rattle.std.specs.List.{list_any};
 ghost use Rattle.std.specs.List.Sorted.{IsNonDecreasing};
 ghost use Rattle.patch_model.specs.Entry.{is_among};
-ghost use Rattle.patch_view.specs.State.{is_left, laid_on, exchanged_with, meets, names, hardened, departed, departed_among, merged, IsMerged};
+ghost use Rattle.patch_view.specs.State.{is_left, laid_on, exchanged_with, meets, names, hardened, departed, departed_among, MayHaveDeparted, merged, IsMerged};
 
 use crate::spans::swap_span;
 use patch_model::{BLOCK, OutOfMemory, PatchNo};
@@ -230,7 +230,8 @@ impl<A: Allocator> Class<A> {
 
     /// Departs if one of the numbers, which rise, is its name.
     pub(crate) fn depart_among(&mut self, numbers: &[PatchNo])
-        ensures { IsNonDecreasing numbers.now → self.new ≡ departed_among numbers.now self.old }
+        ensures named { MayHaveDeparted numbers.now self.old self.new }
+        ensures exact { IsNonDecreasing numbers.now → self.new ≡ departed_among numbers.now self.old }
     {
         if is_listed(numbers, self.name) {
             self.depart();
@@ -252,7 +253,8 @@ impl<A: Allocator> Class<A> {
 
 /// Whether the number is in a list that rises.
 fn is_listed(numbers: &[PatchNo], no: PatchNo) -> bool
-    ensures { IsNonDecreasing numbers.now → result ≡ is_among numbers.now no }
+    ensures found { IsTrue result → is_among numbers.now no ≡ true }
+    ensures exact { IsNonDecreasing numbers.now → result ≡ is_among numbers.now no }
 {
     numbers.binary_search(&no).is_ok()
 }

@@ -40,7 +40,7 @@ returns-after-added-clause-answer g c = λ run before at holds lawful.
           let alike : e ≡ made c.made.result a.block a.start a.bytes.now a.after.now a.undo true = made_alike all p c.made.result true no (sym w.if-added.true ∙ added.2) in
           subst (λ s. IsBlockOf s [] (laid h e)) (sym w.state-is)
           (subst (λ x. IsBlockOf w.harden.new.self [] (laid h x)) (sym alike)
-          (w.harden.ensures a.state.now h c.made.result a.block a.start a.bytes.now a.after.now a.undo c.in_ok-lay.ensures.laid at (subst (IsNext h) alike next) c.requires.fits))
+          (w.harden.ensures.answer a.state.now h c.made.result a.block a.start a.bytes.now a.after.now a.undo c.in_ok-lay.ensures.laid at (subst (IsNext h) alike next) c.requires.fits))
       | else-added w ↦
           let alike : e ≡ made c.made.result a.block a.start a.bytes.now a.after.now a.undo false = made_alike all p c.made.result false no (sym w.if-added.false ∙ added.2) in
           subst (λ s. IsBlockOf s [] (laid h e)) (sym w.state-is)
@@ -55,4 +55,4 @@ returns-after-added-clause-answer g c = λ run before at holds lawful.
 
 pub returns-in-Err-clause-refused : goal.returns-in-Err-clause-refused
 returns-in-Err-clause-refused g c =
-    (c.unlay.ensures c.args.state.now c.made.result c.args.start c.args.bytes.now c.args.after.now c.in_ok-lay.ensures.laid (ap length (sym c.cached-whole.ensures.value) ∙ c.cached-whole.ensures.length) c.requires.fits, c.in-Err.ensures.refused)
+    (c.unlay.ensures.as_before c.args.state.now c.made.result c.args.start c.args.bytes.now c.args.after.now c.in_ok-lay.ensures.laid (ap length (sym c.cached-whole.ensures.value) ∙ c.cached-whole.ensures.length) c.requires.fits, c.in-Err.ensures.refused)

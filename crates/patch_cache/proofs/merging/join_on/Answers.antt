@@ -33,7 +33,7 @@ returns-clause-answer g c = λ run before lawful at holds.
     let may : MayJoin h.entries x.0.class y.0.class =
     subst (λ (n : ℕ). MayJoin h.entries n y.0.class) is_x (subst (λ (n : ℕ). MayJoin h.entries (class_of all a) n) is_y (c.merges_may_join.ensures run a b before lawful)) in
     let on : IsBlockOf c.join_by.new.self [] (with_joined h x.0.class y.0.class) =
-    c.join_by.ensures h a b x.0 y.0 c.in_ok-joint.ensures at (on_its_block run block a x.0 x.1 refl) (on_its_block run block b y.0 y.1 (sym lawful.one_block)) may in
+    c.join_by.ensures.answer h a b x.0 y.0 c.in_ok-joint.ensures at (on_its_block run block a x.0 x.1 refl) (on_its_block run block b y.0 y.1 (sym lawful.one_block)) may in
     record {
       name_is = merged.1;
       on_block = subst (λ k. IsBlockOf c.join_by.new.self [] k) (sym here)

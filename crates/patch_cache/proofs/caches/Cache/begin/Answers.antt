@@ -45,7 +45,7 @@ returns-clause-answer g c = λ run at why numbers.
     (may_depart all block h.first (c.executions_are_orderly.ensures.patches run at.legal) largest (λ e i. c.classes_have_names.ensures.ready run block e at.legal i)) in
     let flies : IsBlockOf c.depart_each.new.self [] after =
     subst (λ es. IsBlockOf c.depart_each.new.self [] (record h { entries = es })) (sym (c.steps_change_blocks.ensures.sent run block block))
-    (c.depart_each.ensures h set here rising may) in
+    (c.depart_each.ensures.answer h set here rising may) in
     let holds : HoldsDependents after (undoable_classes after) × (without after (undoable_classes after) ≡ image after) =
     c.image_is_without.ensures.send run block
     (c.blocks_are_coherent.ensures.coherent h block (c.executions_are_orderly.ensures.blocks run block at.legal lawful.0))

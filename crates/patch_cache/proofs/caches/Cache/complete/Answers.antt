@@ -84,7 +84,7 @@ returns-clause-done g c = λ run at.
     let on_block = c.executions_are_orderly.ensures.blocks run block at.legal known in
     let ended : IsBlockOf c.land_each.new.self [] after =
     subst (λ es. IsBlockOf c.land_each.new.self [] (record h { entries = es })) (sym (c.steps_change_blocks.ensures.landed run block block))
-    (c.land_each.ensures h block here on_block) in
+    (c.land_each.ensures.answer h block here on_block) in
     let graph : IsGraphOf c.mark_durable.new.self (entries_of next) = subst (IsGraphOf c.mark_durable.new.self) (sym entries)
     (c.mark_durable.ensures.answer all seen.graph (subst IsOrderly entries (c.executions_are_orderly.ensures.patches next legal))) in
     let sends : c.self.inside.sends ≡ (state_of next).sends = seen.sends ∙ sym (ap (λ st. st.sends) state) in

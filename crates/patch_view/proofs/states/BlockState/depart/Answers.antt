@@ -2,8 +2,9 @@ use Rattle.std.proofs.Common.{sym}
 use Rattle.patch_view.proofs.Marking.{departs_named, placed_memory}
 use Rattle.patch_view.proofs.states.BlockState.depart.Goals as goal
 
-pub returns-in-Some : goal.returns-in-Some
-returns-in-Some g c = record { answer = λ h e r p m. let is = c.depart_at.ensures in rw is (departs_named c.args.self.now h c.args.no c.in-Some.at e r (sym c.in-Some.ensures) p) }
+pub returns-in-Some-clause-answer : goal.returns-in-Some-clause-answer
+returns-in-Some-clause-answer g c h e r p m = let is = c.depart_at.ensures in
+    rw is (departs_named c.args.self.now h c.args.no c.in-Some.at e r (sym c.in-Some.ensures) p)
 
-pub returns-in_default : goal.returns-in_default
-returns-in_default g c = record { answer = λ h e r p m. absurd (placed_memory c.args.self.now h c.args.no e r (sym c.in_default.ensures) p m) }
+pub returns-in_default-clause-answer : goal.returns-in_default-clause-answer
+returns-in_default-clause-answer g c h e r p m = absurd (placed_memory c.args.self.now h c.args.no e r (sym c.in_default.ensures) p m)

@@ -1,12 +1,24 @@
 use Rattle.std.proofs.Common.{◌<◌, ◌∙◌, set, length, ap, sym, arith}
+use Rattle.std.proofs.lemmas.List.{with_items_is}
 use Rattle.std.proofs.lemmas.List.Edits.{map_over_more}
 use Rattle.patch_view.specs.State.{departed_among}
+use Rattle.patch_view.proofs.Together.{more_departed, has_departed}
 use Rattle.patch_view.proofs.states.BlockState.depart_among.Goals as goal
 
 pub loop-class-preserved : goal.loop-class-preserved
-loop-class-preserved g c = λ rising.
+loop-class-preserved g c =
     let within : c.loop-class.class-index < length c.deref_mut-class-items.result.now =
-    let test = c.loop-class-test.true in let same = c.loop-class.auto.class-items in omega arith in
-    ap (set c.loop-class.class-items c.loop-class.class-index) (c.depart_among.ensures rising ∙ ap (departed_among c.args.numbers.now) (sym c.class-item.is))
-    ∙ map_over_more (departed_among c.args.numbers.now) c.deref_mut-class-items.result.now c.loop-class.class-items c.loop-class.class-index
-    c.class-item.result within (c.loop-class.invariant rising) c.class-item.is
+    let test = c.loop-class-test.true in let same = c.loop-class.auto.class-items in omega arith in (
+      λ rising. ap (set c.loop-class.class-items c.loop-class.class-index) (c.depart_among.ensures.exact rising ∙ ap (departed_among c.args.numbers.now) (sym c.class-item.is))
+          ∙ map_over_more (departed_among c.args.numbers.now) c.deref_mut-class-items.result.now c.loop-class.class-items c.loop-class.class-index
+          c.class-item.result within (c.loop-class.invariant.0 rising) c.class-item.is,
+      more_departed c.args.numbers.now c.deref_mut-class-items.result.now c.loop-class.class-items c.loop-class.class-index c.class-item.result _ within
+          c.depart_among.ensures.named c.loop-class.invariant.1,
+    )
+
+pub returns-clause-named : goal.returns-clause-named
+returns-clause-named g c =
+    let d = c.loop-class.invariant.1 in
+    has_departed c.args.numbers.now c.args.self.now c.self.inside.bytes.items c.self.inside.classes.items c.deref_mut-class-items.result.now c.loop-class.class-items _
+    c.loop-class.class-index c.self.view_is c.deref_mut-class-items.ensures.value
+    (with_items_is c.self.inside.classes c.loop-class.class-items (d.long ∙ c.deref_mut-class-items.ensures.len)) d

@@ -1,5 +1,13 @@
+use Rattle.std.proofs.Common.{ap, ◌∙◌, rules, not}
+use Rattle.std.proofs.lemmas.Fn.{filter_same}
+use Rattle.patch_view.specs.State.{Class, Block, with_landed}
 use Rattle.patch_view.proofs.Together.{lands_together}
 use Rattle.patch_view.proofs.states.BlockState.land_each.Goals as goal
 
-pub returns : goal.returns
-returns g c h block r o = let is = c.keep_grounded.ensures in rw is (lands_together c.args.self.now h block r o)
+pub returns-clause-exact : goal.returns-clause-exact
+returns-clause-exact g c =
+    let kept = filter_same _ (λ (k : Class). not k.flying) _ (λ x b f h. search rules) _ _ c.retain.ensures.filtered in
+    ap (λ ks. let b : Block = record { bytes = c.self.inside.bytes.items; classes = ks } in b) kept ∙ ap with_landed c.self.view_is
+
+pub returns-clause-answer : goal.returns-clause-answer
+returns-clause-answer g c h block r o = let is = returns-clause-exact g c in rw is (lands_together c.args.self.now h block r o)

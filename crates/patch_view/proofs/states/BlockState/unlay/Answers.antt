@@ -1,6 +1,6 @@
 use Rattle.patch_view.proofs.Newest.{unlays}
 use Rattle.patch_view.proofs.states.BlockState.unlay.Goals as goal
 
-pub returns : goal.returns
-returns g c before number start bytes after l size fits = let e = c.unlay_newest.ensures in
+pub returns-clause-as_before : goal.returns-clause-as_before
+returns-clause-as_before g c before number start bytes after l size fits = let e = c.unlay_newest.ensures in
     rw e (unlays before c.args.self.now number start bytes after l size fits)

@@ -1,9 +1,0 @@
-use Rattle.std.proofs.Common.{ap, ◌∙◌, rules, not}
-use Rattle.std.proofs.lemmas.Fn.{filter_same}
-use Rattle.patch_view.specs.State.{Class, Block, with_landed}
-use Rattle.patch_view.proofs.states.BlockState.keep_grounded.Goals as goal
-
-pub returns : goal.returns
-returns g c =
-    let kept = filter_same _ (λ (k : Class). not k.flying) _ (λ x b f h. search rules) _ _ c.retain.ensures.filtered in
-    ap (λ ks. let b : Block = record { bytes = c.self.inside.bytes.items; classes = ks } in b) kept ∙ ap with_landed c.self.view_is
