@@ -15,9 +15,10 @@ use std::marker::Model;
 /// One block's bytes, and a record of each live class: its members, its span, what its members name, whether it is in
 /// flight, and the bytes that a take or a put back exchanges (a hard class and one in flight keep none).
 ///
-/// `take`, `take_all`, `put_back` and `put_all_back` are what a [`BlockView`](crate::BlockView) does. The calls that change
-/// the records (`lay`, `unlay`, `harden`, `join`, `join_by`, `depart`, `depart_each`, `land`, `land_each`) are for a block of
-/// which nothing is taken.
+/// `take`, `take_all`, `put_back` and `put_all_back` are what a [`BlockView`](crate::BlockView) does, public for the views of a
+/// cache, which cannot hold one: whoever calls them puts all back. Between them the block is one of which
+/// `Represents state taken history` speaks. The calls that change the records (`lay`, `unlay`, `harden`, `join`, `join_by`,
+/// `depart`, `depart_each`, `land`, `land_each`) are for a block of which nothing is taken.
 #[derive(Drop)]
 pub struct BlockState<A: Allocator = Global> {
     pub(crate) bytes: Vec<u8, A>,
@@ -123,6 +124,7 @@ impl<A: Allocator> BlockState<A> {
 
     /// Takes the class of this patch back, whose number is any member's. The bytes are then the block's without it and
     /// without what was taken before. It looks at the records one after another, exchanges the span's bytes, and takes no memory.
+    /// It is public for the views of a cache, which put all back at their end; elsewhere a [`view`](BlockState::view) does it.
     pub fn take(&mut self, no: PatchNo) -> Result<(), TakeRefusal>
         ensures answer { (h : History) (taken : List ℕ) → Represents self.old taken h
             → MatchResult result (λ done. IsTaken h taken no self.new) (λ refusal. IsWhyNotTaken h taken no refusal) }
@@ -158,7 +160,8 @@ impl<A: Allocator> BlockState<A> {
         Ok(())
     }
 
-    /// Puts the class of this patch back, whose number is any member's. It takes no memory.
+    /// Puts the class of this patch back, whose number is any member's. It takes no memory. It is public for the views of a
+    /// cache, as [`take`](BlockState::take) is.
     pub fn put_back(&mut self, no: PatchNo) -> Result<(), PutBackRefusal>
         ensures answer { (h : History) (taken : List ℕ) → Represents self.old taken h
             → MatchResult result (λ done. IsPutBack h taken no self.new) (λ refusal. IsWhyNotPutBack h taken no refusal) }
@@ -190,7 +193,7 @@ impl<A: Allocator> BlockState<A> {
 
     /// Takes every class back that is in memory and not hard, in one pass downwards over the records: what a send does that
     /// leaves them behind. It comes to the same as the takes one by one. The condition is that together they hold their
-    /// dependents.
+    /// dependents. It is public for the views of a cache, as [`take`](BlockState::take) is.
     pub fn take_all(&mut self)
         ensures answer { (h : History) (taken : List ℕ) → Represents self.old taken h → HoldsDependents h (undoable_classes h)
             → Represents self.new (undoable_classes h) h }
@@ -218,7 +221,8 @@ impl<A: Allocator> BlockState<A> {
         class.is_left()
     }
 
-    /// Puts every class back, in one pass upwards over the records: bytes and records are as before the first take.
+    /// Puts every class back, in one pass upwards over the records: bytes and records are as before the first take. It is how
+    /// a cache's view ends; none of the calls that change the records comes between the first take and it.
     pub fn put_all_back(&mut self)
         ensures answer { (h : History) (taken : List ℕ) → Represents self.old taken h → Represents self.new [] h }
         ensures outline { outline self.new ≡ outline self.old }
