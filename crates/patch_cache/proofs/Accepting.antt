@@ -12,10 +12,10 @@ use Rattle.patch_model.specs.Execution.{Execution}
 use Rattle.patch_model.specs.State.{entries_of}
 use Rattle.patch_model.specs.Orderly.{IsOrderly, IsNumbered, IsOrderlyBlock}
 use Rattle.patch_model.specs.Member.{In, In-from_Contains, Contains-from_In, filter-In, list_any-from}
-use Rattle.patch_model.specs.History.{History, HoldsDependents, moved, IsPermitted, history_of}
+use Rattle.patch_model.specs.History.{History, HoldsDependents, moved, IsPermitted, history_of, Back}
 use Rattle.patch_model.specs.Refusing.{Refusal as Cause, bare, least, applied_dependents, taken_dependencies, hindered_by, why_class_not_taken, why_not_taken, why_not_put_back, class_named}
 use Rattle.patch_view.specs.History.{IsCoherent}
-use Rattle.patch_view.specs.Answers.{IsPatch, removed}
+use Rattle.patch_view.specs.Answers.{IsPatch}
 use Rattle.patch_view.specs.Laws.{UppermostMayBeTaken}
 use Rattle.patch_cache.specs.Viewing.{why_not_taken_of, names_unless, with_move, with_moves, go_on}
 use Rattle.patch_cache.specs.Promise.{class_move}
@@ -123,12 +123,12 @@ module _ (run : Execution) (block : ℕ) (all : IsOrderly (entries_of run)) (num
       let here : why_not_taken h names number ≡ None = of_block (slice_get (entries_of run) number) (why_not_taken h names number) why in
       take_found names number (find (λ e. e.patch.no == number && is_live e) h.entries) refl holds here
 
-  among_left : (c n : ℕ) (names : List ℕ) → is_among (removed c names) n ≡ true → (is_among names n ≡ true) × (n ≢ c)
+  among_left : (c n : ℕ) (names : List ℕ) → is_among (moved names (Back c)) n ≡ true → (is_among names n ≡ true) × (n ≢ c)
   among_left c n names t =
-      let f = filter-In (λ m. not (m == c)) names n (among-In (removed c names) n t) in
+      let f = filter-In (λ m. not (m == c)) names n (among-In (moved names (Back c)) n t) in
       (In-among names n f.0, λ e. both_ways _ (not-true _ f.1) (eq-eqb n c e))
 
-  back_holds : (names : List ℕ) (c : ℕ) → HoldsDependents h names → taken_dependencies h names c ≡ [] → HoldsDependents h (removed c names)
+  back_holds : (names : List ℕ) (c : ℕ) → HoldsDependents h names → taken_dependencies h names c ≡ [] → HoldsDependents h (moved names (Back c))
   back_holds names c holds none = record {
     undoable = λ n t. holds.undoable n (among_left c n names t).0;
     dependents = λ e f i j live goes t.
@@ -146,7 +146,7 @@ module _ (run : Execution) (block : ℕ) (all : IsOrderly (entries_of run)) (num
 
   back_found : (names : List ℕ) (number : ℕ) (o : Option Entry) → find (λ e. e.patch.no == number && is_among names e.class) h.entries ≡ o → HoldsDependents h names
       → ◌≡◌ {A = Option Cause} (elim o [ None ↦ Some (bare kind.NotTaken) | Some e ↦ hindered_by kind.DependencyTaken (least (taken_dependencies h names e.class)) ]) None
-      → (is_among names (class_named h number) ≡ true) × HoldsDependents h (removed (class_named h number) names)
+      → (is_among names (class_named h number) ≡ true) × HoldsDependents h (moved names (Back (class_named h number)))
   back_found names number None at holds why = absurd (cc)
   back_found names number (Some e) at holds why =
       let f = find_in (λ e. e.patch.no == number && is_among names e.class) h.entries e at in
@@ -155,7 +155,7 @@ module _ (run : Execution) (block : ℕ) (all : IsOrderly (entries_of run)) (num
       rw class (p.1, back_holds names e.class holds (unhindered_back (taken_dependencies h names e.class) why))
 
   back_permitted : (names : List ℕ) (number : ℕ) → HoldsDependents h names → why_not_put_back h names number ≡ None
-      → (is_among names (class_named h number) ≡ true) × HoldsDependents h (removed (class_named h number) names)
+      → (is_among names (class_named h number) ≡ true) × HoldsDependents h (moved names (Back (class_named h number)))
   back_permitted names number holds why = back_found names number (find (λ e. e.patch.no == number && is_among names e.class) h.entries) refl holds why
 
   -- the rest of the moves is gone through where the first is accepted
@@ -174,7 +174,7 @@ module _ (run : Execution) (block : ℕ) (all : IsOrderly (entries_of run)) (num
   accepted names left (patch.Back number ∷ moves) holds e =
       let on = went_on (why_not_put_back h names number) _ left _ e in
       let p = back_permitted names number holds on.0 in
-      let rest = accepted (removed (class_named h number) names) left moves p.1 on.1 in
+      let rest = accepted (moved names (Back (class_named h number))) left moves p.1 on.1 in
       ((p.0, p.1, rest.0), rest.1)
 
   -- What is permitted is accepted.
@@ -215,11 +215,11 @@ module _ (run : Execution) (block : ℕ) (all : IsOrderly (entries_of run)) (num
       take_done h names number e.0 r e.1 e.3 (ap (is_among names) e.2 ∙ applied) (subst (λ (c : ℕ). HoldsDependents h (c ∷ names)) (sym e.2) holds) in
       rw (at, live, why_not_taken_of) here
 
-  back_accepted : (names : List ℕ) (number : ℕ) → HoldsDependents h names → is_among names (class_named h number) ≡ true → HoldsDependents h (removed (class_named h number) names)
+  back_accepted : (names : List ℕ) (number : ℕ) → HoldsDependents h names → is_among names (class_named h number) ≡ true → HoldsDependents h (moved names (Back (class_named h number)))
       → why_not_put_back h names number ≡ None
   back_accepted names number old t holds =
       let e = named_patch names number old t in
-      back_done h names number e.0 r old e.1 (ap (is_among names) e.2 ∙ t) (subst (λ (c : ℕ). HoldsDependents h (removed c names)) (sym e.2) holds)
+      back_done h names number e.0 r old e.1 (ap (is_among names) e.2 ∙ t) (subst (λ (c : ℕ). HoldsDependents h (moved names (Back c))) (sym e.2) holds)
 
   pub permitted_ones : (names : List ℕ) (moves : List PatchMove) → HoldsDependents h names → IsPermitted h names (map (class_move h) moves)
       → with_moves run block names moves ≡ Ok (fold moved names (map (class_move h) moves))
@@ -229,4 +229,4 @@ module _ (run : Execution) (block : ℕ) (all : IsOrderly (entries_of run)) (num
       rw (none, with_move) (permitted_ones (class_named h number ∷ names) moves p.1 p.2)
   permitted_ones names (patch.Back number ∷ moves) holds p =
       let none : why_not_put_back h names number ≡ None = back_accepted names number holds p.0 p.1 in
-      rw (none, with_move) (permitted_ones (removed (class_named h number) names) moves p.1 p.2)
+      rw (none, with_move) (permitted_ones (moved names (Back (class_named h number))) moves p.1 p.2)

@@ -8,7 +8,7 @@ use Rattle.patch_model.specs.declared.patches.Mark.TheVariants.{Memory, Flight, 
 use Rattle.patch_model.specs.Entry.{Entry, is_live, is_memory, is_among, is_undoable, marks_memory, marks_flight, marks_durable}
 use Rattle.patch_model.specs.Dependency.{class_depends, depends_directly}
 use Rattle.patch_model.specs.Member.{In, In-from_Contains, Contains-from_In, In-filter, filter-In, list_any-at, list_any-from}
-use Rattle.patch_model.specs.History.{History, HoldsDependents}
+use Rattle.patch_model.specs.History.{History, HoldsDependents, moved, Back}
 use Rattle.patch_model.specs.Refusing.{least, applied_dependents, taken_dependencies, hindered_by, why_class_not_taken, why_not_taken, why_not_put_back, class_named}
 use Rattle.patch_model.specs.declared.refusals.RefusalKind.TheVariants as kind
 use Rattle.patch_view.specs.declared.refusals.TakeRefusal.{TakeRefusal}
@@ -18,7 +18,7 @@ use Rattle.patch_view.specs.declared.refusals.PutBackRefusal.TheVariants.{NotTak
 use Rattle.patch_view.specs.State.{Block}
 use Rattle.patch_view.specs.History.{IsCoherent}
 use Rattle.patch_view.specs.Meaning.{Represents}
-use Rattle.patch_view.specs.Answers.{IsPatch, IsTaken, IsPutBack, IsWhyNotTaken, IsWhyNotPutBack, IsAppliedDependent, IsTakenDependency, removed}
+use Rattle.patch_view.specs.Answers.{IsPatch, IsTaken, IsPutBack, IsWhyNotTaken, IsWhyNotPutBack, IsAppliedDependent, IsTakenDependency}
 use Rattle.patch_cache.specs.Refusals.{view_take_cause, put_back_cause}
 use Rattle.patch_cache.proofs.Finding.{find_is, find_none, least_is, least_of_none, In-map, map-In, among-In, In-among}
 
@@ -168,13 +168,13 @@ pub is_taken_one : (h : History) (taken : List ℕ) (c n : ℕ) → IsTakenDepen
 is_taken_one h taken c n d = In-filter (λ n. class_depends h.entries c n) taken n (among-In taken n d.is_taken) d.depends
 
 -- a name among those left without another
-pub not_removed : (c : ℕ) (taken : List ℕ) → is_among (removed c taken) c ≡ true → ⊥
+pub not_removed : (c : ℕ) (taken : List ℕ) → is_among (moved taken (Back c)) c ≡ true → ⊥
 not_removed c taken t =
-    let p = filter-In (λ n. not (n == c)) taken c (among-In (removed c taken) c t) in
+    let p = filter-In (λ n. not (n == c)) taken c (among-In (moved taken (Back c)) c t) in
     both_ways _ (not-true _ p.1) (eq-eqb c c refl)
 
-pub is_left : (c n : ℕ) (taken : List ℕ) → (n == c) ≡ false → is_among taken n ≡ true → is_among (removed c taken) n ≡ true
-is_left c n taken apart t = In-among (removed c taken) n (In-filter (λ n. not (n == c)) taken n (among-In taken n t) (not_from_false _ apart))
+pub is_left : (c n : ℕ) (taken : List ℕ) → (n == c) ≡ false → is_among taken n ≡ true → is_among (moved taken (Back c)) n ≡ true
+is_left c n taken apart t = In-among (moved taken (Back c)) n (In-filter (λ n. not (n == c)) taken n (among-In taken n t) (not_from_false _ apart))
 
 -- a taken class is live
 taken_live : (h : History) (taken : List ℕ) (e : Entry) → IsCoherent h → HoldsDependents h taken → In h.entries e → is_among taken e.class ≡ true → is_live e ≡ true
@@ -184,7 +184,7 @@ taken_live h taken e r s in_e t =
     let p = and_parts (is_memory u.0) (not u.0.hard) u.3 in
     ap (λ m. not (marks_durable m)) (sym same.0) ∙ memory_live u.0.mark p.0
 
-none_taken : (h : History) (taken : List ℕ) (c n : ℕ) → IsCoherent h → HoldsDependents h taken → HoldsDependents h (removed c taken) → is_among taken c ≡ true
+none_taken : (h : History) (taken : List ℕ) (c n : ℕ) → IsCoherent h → HoldsDependents h taken → HoldsDependents h (moved taken (Back c)) → is_among taken c ≡ true
     → IsTakenDependency h taken c n → ⊥
 none_taken h taken c n r old s t d =
     let k = link h c n d.depends in
@@ -193,8 +193,8 @@ none_taken h taken c n r old s t d =
       | inl u ↦ absurd (both_ways _ k.apart (eq-eqb c n (sym (eqb-true _ _ u))))
       | inr u ↦ u
     ] in
-    let inside : is_among (removed c taken) k.f.class ≡ true = ap (is_among (removed c taken)) k.class_f ∙ is_left c n taken apart d.is_taken in
-    not_removed c taken (ap (is_among (removed c taken)) (sym k.class_e)
+    let inside : is_among (moved taken (Back c)) k.f.class ≡ true = ap (is_among (moved taken (Back c))) k.class_f ∙ is_left c n taken apart d.is_taken in
+    not_removed c taken (ap (is_among (moved taken (Back c))) (sym k.class_e)
     ∙ s.dependents k.e k.f (Contains-from_In h.entries k.e k.in_e) (Contains-from_In h.entries k.f k.in_f) live k.goes inside)
 
 why_back : (h : History) (taken : List ℕ) (number : ℕ) (e : Entry) → IsCoherent h → IsPatch h number e → is_among taken e.class ≡ true
@@ -202,7 +202,7 @@ why_back : (h : History) (taken : List ℕ) (number : ℕ) (e : Entry) → IsCoh
 why_back h taken number e r is t = let f = found h number e (λ e. is_among taken e.class) r is t in rw (f, why_not_put_back) refl
 
 pub back_done : (h : History) (taken : List ℕ) (number : ℕ) (e : Entry) → IsCoherent h → HoldsDependents h taken → IsPatch h number e → is_among taken e.class ≡ true
-    → HoldsDependents h (removed e.class taken) → why_not_put_back h taken number ≡ None
+    → HoldsDependents h (moved taken (Back e.class)) → why_not_put_back h taken number ≡ None
 back_done h taken number e r old is t holds =
     let none : least (taken_dependencies h taken e.class) ≡ None =
     least_of_none _ (λ m i. none_taken h taken e.class m r old holds t (taken_is h taken e.class m i)) in
@@ -226,8 +226,8 @@ back_refused h taken number (DependencyTaken n) r (e, is, t, d, low) =
 
 -- a class that was put back could be
 pub put_back_agrees : (b new : Block) (h : History) (names : List ℕ) (number : ℕ) → Represents b names h → IsPutBack h names number new
-    → (why_not_put_back h names number ≡ None) × Represents new (removed (class_named h number) names) h
+    → (why_not_put_back h names number ≡ None) × Represents new (moved names (Back (class_named h number))) h
 put_back_agrees b new h names number r t = (
   back_done h names number t.patch r.coherent r.holds t.named t.was_taken t.represents.holds,
-  subst (λ (c : ℕ). Represents new (removed c names) h) (sym (class_is h number t.patch r.coherent t.named)) t.represents,
+  subst (λ (c : ℕ). Represents new (moved names (Back c)) h) (sym (class_is h number t.patch r.coherent t.named)) t.represents,
 )

@@ -11,14 +11,14 @@ use Rattle.patch_model.specs.declared.patches.Mark.TheVariants.{Durable}
 use Rattle.patch_model.specs.Entry.{Entry, is_durable, is_memory, marks_durable, marks_memory}
 use Rattle.patch_model.specs.Execution.{Execution}
 use Rattle.patch_model.specs.State.{entries_of}
-use Rattle.patch_model.specs.History.{History, history_of, of_block}
+use Rattle.patch_model.specs.History.{History, history_of, of_block, moved, Back as ClassBack}
 use Rattle.patch_model.specs.Member.{In, Contains-from_In, filter-In}
 use Rattle.patch_model.specs.Orderly.{IsOrderly, IsNumbered}
 use Rattle.patch_model.specs.Ready.{IsRising}
 use Rattle.patch_model.specs.Refusing.{bare, why_not_taken, why_not_put_back, class_named}
 use Rattle.patch_view.specs.State.{Block, outline}
 use Rattle.patch_view.specs.Meaning.{Represents as IsBlockOf}
-use Rattle.patch_view.specs.Answers.{MayTake, IsTaken, IsPutBack, IsWhyNotTaken, IsWhyNotPutBack, removed}
+use Rattle.patch_view.specs.Answers.{MayTake, IsTaken, IsPutBack, IsWhyNotTaken, IsWhyNotPutBack}
 use Rattle.patch_view.specs.declared.refusals.TakeRefusal.{TakeRefusal as ViewTakeRefusal}
 use Rattle.patch_view.specs.declared.refusals.PutBackRefusal.{PutBackRefusal}
 use Rattle.patch_graph.specs.Meaning.{HasMark}
@@ -274,7 +274,7 @@ put_back now c block place number b after names run l r back =
     let before = started now c block place b names run l r in
     let done = put_back_agrees b after (history_of run block) names number before (back (history_of run block) names before) in
     let none : why_not_put_back (history_of run block) names number ≡ None = done.0 in
-    (removed (class_named (history_of run block) number) names, rw (none, with_move) refl, ended now c block place b after names _ run l r done.1)
+    (moved names (ClassBack (class_named (history_of run block) number)), rw (none, with_move) refl, ended now c block place b after names _ run l r done.1)
 
 pub put_back_is_refused : (now c : Contents) (block place number : ℕ) (b : Block) (names : List ℕ) (run : Execution) (refusal : PutBackRefusal) → Lent now c block place b
     → ShowsWithout now block names run → ((h : History) (taken : List ℕ) → IsBlockOf b taken h → IsWhyNotPutBack h taken number refusal)

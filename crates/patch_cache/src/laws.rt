@@ -20,7 +20,7 @@ pub fn promise()
     patch_model::laws::crash_sets_are_closed();
     patch_model::laws::sends_leave();
     patch_model::laws::executions_are_orderly();
-    patch_view::laws::orders_meet();
+    patch_model::laws::orders_end_alike();
     patch_view::laws::blocks_are_coherent();
     patch_view::laws::uppermost_may_be_taken();
 }

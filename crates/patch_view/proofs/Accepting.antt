@@ -6,14 +6,14 @@ use Rattle.patch_model.specs.declared.patches.Mark.{Mark}
 use Rattle.patch_model.specs.declared.patches.Mark.TheVariants.{Memory, Flight, Durable}
 use Rattle.patch_model.specs.Entry.{Entry, is_live, is_among, is_durable, marks_memory, marks_flight, marks_durable}
 use Rattle.patch_model.specs.Member.{Contains-from_In, list_any-at, list_any-from}
-use Rattle.patch_model.specs.History.{History, HoldsDependents}
+use Rattle.patch_model.specs.History.{History, HoldsDependents, moved, Back}
 use Rattle.patch_view.specs.declared.refusals.TakeRefusal.{TakeRefusal}
 use Rattle.patch_view.specs.declared.refusals.TakeRefusal.TheVariants.{Unknown, InFlight, Hard, AlreadyTaken, DependentApplied}
 use Rattle.patch_view.specs.declared.refusals.PutBackRefusal.{PutBackRefusal}
 use Rattle.patch_view.specs.declared.refusals.PutBackRefusal.TheVariants.{NotTaken, DependencyTaken}
 use Rattle.patch_view.specs.State.{Block}
 use Rattle.patch_view.specs.Meaning.{Represents}
-use Rattle.patch_view.specs.Answers.{IsPatch, MayTake, MayPutBack, IsTaken, IsPutBack, IsWhyNotTaken, IsWhyNotPutBack, IsAppliedDependent, IsTakenDependency, removed}
+use Rattle.patch_view.specs.Answers.{IsPatch, MayTake, MayPutBack, IsTaken, IsPutBack, IsWhyNotTaken, IsWhyNotPutBack, IsAppliedDependent, IsTakenDependency}
 use Rattle.patch_view.proofs.Sets.{upper}
 use Rattle.patch_view.proofs.Chain.{undoable-not_durable}
 use Rattle.patch_view.proofs.Steps.{among-filtered, among-filter}
@@ -73,9 +73,9 @@ why-not_back b taken h number (DependencyTaken n) r why may =
     let k = link h may.patch.class n d.depends in
     let low : is_durable k.e ≡ false = undoable-not_durable k.e ((upper r).undoable k.e k.in_e (ap (is_among taken) k.class_e ∙ may.is_taken)) in
     let apart : n ≢ may.patch.class = (λ q. depends-another h may.patch.class n d.depends (sym q)) in
-    let inside : is_among (removed may.patch.class taken) k.f.class ≡ true =
-    ap (is_among (removed may.patch.class taken)) k.class_f ∙ among-filter n may.patch.class taken apart ∙ d.is_taken in
-    both_ways _ (among-filtered may.patch.class taken) (ap (is_among (removed may.patch.class taken)) (sym k.class_e)
+    let inside : is_among (moved taken (Back may.patch.class)) k.f.class ≡ true =
+    ap (is_among (moved taken (Back may.patch.class))) k.class_f ∙ among-filter n may.patch.class taken apart ∙ d.is_taken in
+    both_ways _ (among-filtered may.patch.class taken) (ap (is_among (moved taken (Back may.patch.class))) (sym k.class_e)
     ∙ may.holds.dependents k.e k.f (Contains-from_In h.entries k.e k.in_e) (Contains-from_In h.entries k.f k.in_f) (not_from_false _ low) k.goes inside)
 
 pub put_back_accepted : (b new : Block) (taken : List ℕ) (h : History) (number : ℕ) (result : Result (Unit {0}) PutBackRefusal) → Represents b taken h

@@ -10,12 +10,12 @@ use Rattle.patch_model.specs.declared.patches.Mark.TheVariants.{Memory, Flight, 
 use Rattle.patch_model.specs.Entry.{Entry, is_durable, is_memory, is_among, marks_memory, marks_durable, marks_flight, is_undoable, is_live}
 use Rattle.patch_model.specs.Dependency.{class_depends}
 use Rattle.patch_model.specs.Member.{list_any-at, list_any-from}
-use Rattle.patch_model.specs.History.{History}
+use Rattle.patch_model.specs.History.{History, moved, Back}
 use Rattle.patch_view.proofs.Sets.{upper}
 use Rattle.patch_view.proofs.Resting.{linked_as, follows-apart}
 use Rattle.patch_view.specs.State.{Block, class_at, no_class, may_be_taken, follows, hinders, place_of, IsLeast, exchanged_at}
 use Rattle.patch_view.specs.Meaning.{Represents}
-use Rattle.patch_view.specs.Answers.{IsPatch, IsAppliedDependent, IsTakenDependency, IsTaken, IsPutBack, IsWhyNotTaken, IsWhyNotPutBack, removed}
+use Rattle.patch_view.specs.Answers.{IsPatch, IsAppliedDependent, IsTakenDependency, IsTaken, IsPutBack, IsWhyNotTaken, IsWhyNotPutBack}
 use Rattle.patch_view.specs.declared.refusals.TakeRefusal.TheVariants.{Unknown, InFlight, Hard, AlreadyTaken, DependentApplied}
 use Rattle.patch_view.specs.declared.refusals.PutBackRefusal.TheVariants.{NotTaken, DependencyTaken}
 use Rattle.patch_view.proofs.Chain.{undoable-not_durable}
@@ -242,6 +242,6 @@ puts_back b taken h number at r e on none =
       patch = f.patch;
       named = f.named;
       was_taken = sym f.flag ∙ on;
-      represents = subst (λ c. Represents (exchanged_at b at false) (removed c taken) h) (sym f.class)
-          (exchanged-represents b taken (removed (class_at b at).name taken) h at false r f.within may (back-exchange h (class_at b at).name (removed (class_at b at).name taken) taken r.coherent step));
+      represents = subst (λ c. Represents (exchanged_at b at false) (moved taken (Back c)) h) (sym f.class)
+          (exchanged-represents b taken (moved taken (Back (class_at b at).name)) h at false r f.within may (back-exchange h (class_at b at).name (moved taken (Back (class_at b at).name)) taken r.coherent step));
     }

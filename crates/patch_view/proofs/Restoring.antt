@@ -5,12 +5,11 @@ use Rattle.std.proofs.lemmas.Bool.{cases_Bool, cases_lt, le-ltb, and_left, and_r
 use Rattle.std.proofs.lemmas.List.{length-set}
 use Rattle.patch_model.specs.Entry.{is_durable, is_memory, is_among, is_undoable}
 use Rattle.patch_model.specs.Member.{list_any-at}
-use Rattle.patch_model.specs.History.{History}
+use Rattle.patch_model.specs.History.{History, moved, Back}
 use Rattle.patch_view.proofs.Sets.{upper, none-held}
 use Rattle.patch_view.specs.History.{unpatched}
 use Rattle.patch_view.specs.State.{Class, Block, class_at, no_class, may_be_taken, follows, meets, names, hinders, exchanged_at, exchanged_with, restored_to, outline, bare}
 use Rattle.patch_view.specs.Meaning.{Represents}
-use Rattle.patch_view.specs.Answers.{removed}
 use Rattle.patch_view.proofs.Chain.{undoable-not_durable}
 use Rattle.patch_view.proofs.Steps.{record_of, putting_back}
 use Rattle.patch_view.proofs.Exchange.{exchanged-represents, back-exchange}
@@ -69,9 +68,9 @@ restore_step n b h within r on =
     let may = taken-may b r.taken h n r.represents within on in
     let step = putting_back b r.taken h n r.represents within on (lowest-free b r.taken h n r.represents within r.applied) in
     record {
-      taken = removed (class_at b n).name r.taken;
-      represents = exchanged-represents b r.taken (removed (class_at b n).name r.taken) h n false r.represents within may
-          (back-exchange h (class_at b n).name (removed (class_at b n).name r.taken) r.taken r.represents.coherent step);
+      taken = moved r.taken (Back (class_at b n).name);
+      represents = exchanged-represents b r.taken (moved r.taken (Back (class_at b n).name)) h n false r.represents within may
+          (back-exchange h (class_at b n).name (moved r.taken (Back (class_at b n).name)) r.taken r.represents.coherent step);
       applied = λ i lt. elim (cases_lt i n) [
         | inl before ↦ let ne : i ≢ n = omega arith in
             ap (λ c. c.taken) (get_or-set_other b.classes n i (exchanged_with (class_at b n) b.bytes false) no_class ne) ∙ r.applied i before

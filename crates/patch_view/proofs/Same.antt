@@ -6,12 +6,12 @@ use Rattle.std.proofs.lemmas.List.{ext_get_or}
 use Rattle.patch_model.specs.Pile.{pile}
 use Rattle.patch_model.specs.Entry.{Entry, is_among, is_undoable, is_memory, marks_memory}
 use Rattle.patch_model.specs.Member.{In, In-filter, filter-In}
-use Rattle.patch_model.specs.History.{History}
+use Rattle.patch_model.specs.History.{History, without}
 use Rattle.patch_view.proofs.Sets.{same_bool}
 use Rattle.patch_view.specs.History.{IsCoherent, below, top, undoable_classes}
 use Rattle.patch_view.specs.State.{Class, Block, class_at, no_class, spans, may_be_taken, bare}
 use Rattle.patch_view.specs.Meaning.{IsClassOf}
-use Rattle.patch_view.specs.Laws.{NameTheSame, SameNamesSameBytes, OneValue, OrdersMeet, ImageIsWithout}
+use Rattle.patch_view.specs.Laws.{NameTheSame, OneValue, ImageIsWithout}
 use Rattle.patch_view.proofs.Exchange.{spans-from}
 
 pub filter-same : {X : Type 0} (p q : X → Bool) (xs : List X) → ((x : X) → In xs x → p x ≡ q x) → filter p xs ≡ filter q xs
@@ -21,12 +21,10 @@ filter-same p q (x ∷ xs) same =
     let rest = filter-same p q xs (λ y i. same y (inr i)) in
     elim (cases_Bool (q x)) [ inl t ↦ rw (e, t) (ap (λ ys. x ∷ ys) rest) | inr t ↦ rw (e, t) rest ]
 
-pub same_names_same_bytes : SameNamesSameBytes
+-- sets of the same names leave the same bytes
+pub same_names_same_bytes : (h : History) (names others : List ℕ) → NameTheSame names others → without h names ≡ without h others
 same_names_same_bytes h names others same =
     ap (λ es. pile h.first (map (λ e. e.patch) es)) (filter-same (λ e. not (is_among names e.class)) (λ e. not (is_among others e.class)) h.entries (λ e i. ap not (same e.class)))
-
-pub orders_meet : OrdersMeet
-orders_meet h some others p q same = same_names_same_bytes h _ _ same
 
 -- records of classes that differ in nothing of their outlines
 same_class : (h : History) (names others : List ℕ) (c d : Class) → IsClassOf h names c → IsClassOf h others d → NameTheSame names others → bare c ≡ bare d → c ≡ d

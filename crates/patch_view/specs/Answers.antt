@@ -1,10 +1,10 @@
 -- What the calls of a view answer.
-use Rattle.std.specs.Prelude.{ℕ, ◌≡◌, ◌≤◌, ◌==◌, ◌&&◌, not, IsTrue, IsFalse, List, ◌∷◌, filter}
+use Rattle.std.specs.Prelude.{ℕ, ◌≡◌, ◌≤◌, ◌==◌, ◌&&◌, IsTrue, IsFalse, List}
 use Rattle.std.specs.List.{list_any}
 use Rattle.patch_model.specs.Entry.{Entry, is_flight, is_memory, is_among, is_live, is_undoable}
 use Rattle.patch_model.specs.Dependency.{class_depends, has_live}
 use Rattle.patch_model.specs.Member.{In}
-use Rattle.patch_model.specs.History.{History, HoldsDependents}
+use Rattle.patch_model.specs.History.{History, HoldsDependents, Take, Back, moved}
 use Rattle.patch_view.specs.State.{Block}
 use Rattle.patch_view.specs.Meaning.{Represents}
 use Rattle.patch_view.specs.declared.refusals.TakeRefusal.{TakeRefusal}
@@ -17,24 +17,20 @@ pub record IsPatch (h : History) (no : ℕ) (e : Entry) : Type 0 where
   pub is_in : In h.entries e
   pub number : e.patch.no ≡ no
 
--- the names without that one
-abbrev pub removed : ℕ → List ℕ → List ℕ
-removed name names = filter (λ n. not (n == name)) names
-
 -- the patch's class may be taken: it is undoable and applied, and the set with it holds its dependents
 pub record MayTake (h : History) (taken : List ℕ) (no : ℕ) : Type 0 where
   pub patch : Entry
   pub named : IsPatch h no patch
   pub undoable : IsTrue (is_undoable patch)
   pub applied : IsFalse (is_among taken patch.class)
-  pub holds : HoldsDependents h (patch.class ∷ taken)
+  pub holds : HoldsDependents h (moved taken (Take patch.class))
 
 -- the patch's class may be put back: it is taken, and the set without it holds its dependents
 pub record MayPutBack (h : History) (taken : List ℕ) (no : ℕ) : Type 0 where
   pub patch : Entry
   pub named : IsPatch h no patch
   pub is_taken : IsTrue (is_among taken patch.class)
-  pub holds : HoldsDependents h (removed patch.class taken)
+  pub holds : HoldsDependents h (moved taken (Back patch.class))
 
 -- n names another live class of the block, which depends directly on the class c and isn't taken
 pub record IsAppliedDependent (h : History) (taken : List ℕ) (c n : ℕ) : Type 0 where
@@ -53,14 +49,14 @@ pub record IsTaken (h : History) (taken : List ℕ) (no : ℕ) (new : Block) : T
   pub named : IsPatch h no patch
   pub undoable : IsTrue (is_undoable patch)
   pub was_applied : IsFalse (is_among taken patch.class)
-  pub represents : Represents new (patch.class ∷ taken) h
+  pub represents : Represents new (moved taken (Take patch.class)) h
 
 -- and after it was put back
 pub record IsPutBack (h : History) (taken : List ℕ) (no : ℕ) (new : Block) : Type 0 where
   pub patch : Entry
   pub named : IsPatch h no patch
   pub was_taken : IsTrue (is_among taken patch.class)
-  pub represents : Represents new (removed patch.class taken) h
+  pub represents : Represents new (moved taken (Back patch.class)) h
 
 -- the cause of each refusal, of which at most one holds
 abbrev pub IsWhyNotTaken : History → List ℕ → ℕ → TakeRefusal → Type 0

@@ -4,12 +4,11 @@ use Rattle.std.specs.List.{list_any, list_all}
 use Rattle.patch_model.specs.declared.blocks.TheConstants.{BLOCK}
 use Rattle.patch_model.specs.declared.patches.Undo.{Undo}
 use Rattle.patch_model.specs.declared.patches.Mark.{Mark}
-use Rattle.patch_model.specs.declared.patches.Mark.TheVariants.{Memory}
 use Rattle.patch_model.specs.Pile.{end, covers}
 use Rattle.patch_model.specs.Entry.{Entry, is_durable, is_memory, is_flight, is_among, is_undoable}
 use Rattle.patch_model.specs.Dependency.{depends_directly}
 use Rattle.patch_model.specs.Ready.{has}
-use Rattle.patch_model.specs.State.{joined}
+use Rattle.patch_model.specs.State.{fresh, joined}
 use Rattle.patch_model.specs.Member.{In}
 use Rattle.patch_model.specs.History.{History, pile_of}
 
@@ -21,14 +20,10 @@ unpatched first = record { first = first; entries = [] }
 abbrev pub laid : History → Entry → History
 laid h e = record h { entries = h.entries ++ e ∷ [] }
 
--- a patch as it is made: a class of its own, in memory
+-- a patch as it is made, and hard or not as the block is told
 abbrev pub made : (number block start : ℕ) (bytes after : List ℕ) (undo : Undo) (hard : Bool) → Entry
-made number block start bytes after undo hard = record {
-  patch = record { no = number; block = block; start = start; bytes = bytes; after = after; undo = undo };
-  class = number;
-  mark = Memory;
-  hard = hard;
-}
+made number block start bytes after undo hard =
+    record (fresh [] (record { no = number; block = block; start = start; bytes = bytes; after = after; undo = undo })) { hard = hard }
 
 -- a patch of the class changes the byte
 abbrev pub class_covers : History → ℕ → ℕ → Bool

@@ -1,11 +1,11 @@
 -- Laws of histories, of the sets that may be taken, and of the records that represent them.
-use Rattle.std.specs.Prelude.{ℕ, ◌≡◌, ◌≢◌, IsTrue, List, [], ◌∷◌, fold}
+use Rattle.std.specs.Prelude.{ℕ, ◌≡◌, ◌≢◌, IsTrue, List, ◌∷◌}
 use Rattle.patch_model.specs.Entry.{Entry, is_among, is_flight, is_memory, is_live, is_undoable}
 use Rattle.patch_model.specs.Dependency.{depends_directly}
 use Rattle.patch_model.specs.Step.{Send}
 use Rattle.patch_model.specs.Execution.{Execution, extended}
 use Rattle.patch_model.specs.State.{entries_of}
-use Rattle.patch_model.specs.History.{History, HoldsDependents, Move, moved, IsPermitted, history_of, without, image}
+use Rattle.patch_model.specs.History.{History, HoldsDependents, history_of, without, image}
 use Rattle.patch_model.specs.Orderly.{IsOrderlyBlock, left_behind}
 use Rattle.patch_model.specs.Member.{In}
 use Rattle.patch_view.specs.History.{IsCoherent, IsNext, MayLand, laid, undoable_classes}
@@ -15,10 +15,6 @@ use Rattle.patch_view.specs.Meaning.{Represents}
 -- the two lists name the same classes
 abbrev pub NameTheSame : List ℕ → List ℕ → Type 0
 NameTheSame names others = (n : ℕ) → is_among names n ≡ is_among others n
-
--- the names that are taken after the moves
-abbrev pub taken_after : List Move → List ℕ
-taken_after moves = fold moved [] moves
 
 -- an orderly block is coherent
 abbrev pub OrderlyIsCoherent : Type 0
@@ -40,21 +36,11 @@ UppermostMayBeTaken =
     → IsTrue (depends_directly f.patch g.patch) → IsTrue (is_among taken f.class))
     → HoldsDependents h (e.class ∷ taken)
 
--- sets of the same names leave the same bytes
-abbrev pub SameNamesSameBytes : Type 0
-SameNamesSameBytes = (h : History) (names others : List ℕ) → NameTheSame names others → without h names ≡ without h others
-
 -- records of one outline that represent one history, with the same classes taken, are equal
 abbrev pub OneValue : Type 0
 OneValue =
     (h : History) (names others : List ℕ) (a b : Block)
     → Represents a names h → Represents b others h → NameTheSame names others → outline a ≡ outline b → a ≡ b
-
--- permitted orders that end in one set leave the same bytes
-abbrev pub OrdersMeet : Type 0
-OrdersMeet =
-    (h : History) (some others : List Move) → IsPermitted h [] some → IsPermitted h [] others
-    → NameTheSame (taken_after some) (taken_after others) → without h (taken_after some) ≡ without h (taken_after others)
 
 -- where all that is in memory may be taken back, the block without it is the image
 abbrev pub ImageIsWithout : Type 0

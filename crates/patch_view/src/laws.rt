@@ -1,5 +1,5 @@
 //! Laws of the definitions, each the contract of a function that does nothing.
-ghost use Rattle.patch_view.specs.Laws.{OrderlyIsCoherent, LastIsNext, FlightMayLand, UppermostMayBeTaken, SameNamesSameBytes, OneValue, OrdersMeet, ImageIsWithout, SendLeavesTheImage};
+ghost use Rattle.patch_view.specs.Laws.{OrderlyIsCoherent, LastIsNext, FlightMayLand, UppermostMayBeTaken, OneValue, ImageIsWithout, SendLeavesTheImage};
 
 /// What the calls ask of a block's history is true of each block of an execution.
 pub fn blocks_are_coherent()
@@ -16,12 +16,6 @@ pub fn flights_may_land()
 /// may always be.
 pub fn uppermost_may_be_taken()
     ensures { UppermostMayBeTaken }
-{}
-
-/// Permitted orders that end in one set leave the same bytes.
-pub fn orders_meet()
-    ensures bytes { SameNamesSameBytes }
-    ensures orders { OrdersMeet }
 {}
 
 /// Of records with one outline, one history and one set of taken classes leave one value.

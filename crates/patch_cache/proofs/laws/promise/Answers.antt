@@ -9,7 +9,7 @@ use Rattle.patch_cache.proofs.laws.promise.Goals as goal
 pub returns-clause-taking_back : goal.returns-clause-taking_back
 returns-clause-taking_back c = λ run block moves legal p.
     let h = history_of run block in
-    (permitted h [] moves (none_taken h) p, (λ others q same. c.orders_meet.ensures.bytes h _ _ same), λ none. ap (without h) none)
+    (permitted h [] moves (none_taken h) p, (λ others q same. c.orders_end_alike.ensures h _ _ same), λ none. ap (without h) none)
 
 pub returns-clause-moves : goal.returns-clause-moves
 returns-clause-moves c = λ run block moves names legal known.
