@@ -1,6 +1,6 @@
 -- One class brought up to another.
-use Rattle.std.proofs.Common.{◌≡◌, ℕ, zero, suc, ◌+◌, ◌-◌, ◌<◌, ◌≤◌, ◌∙◌, true, false, not, inl, inr, List, Option, [], ◌∷◌, ◌⊎◌, length, map, min, refl, sym, ap, arith, subst}
-use Rattle.std.specs.Prelude.{◌≢◌, ◌==◌, ◌&&◌, ◌||◌, Some, None, nat_le, if◌then◌else◌}
+use Rattle.std.proofs.Common.{◌≡◌, ℕ, ◌+◌, ◌-◌, ◌<◌, ◌≤◌, ◌∙◌, true, false, not, inl, inr, List, Option, [], ◌∷◌, ◌⊎◌, length, map, min, refl, sym, ap, arith, subst}
+use Rattle.std.specs.Prelude.{◌≢◌, ◌==◌, ◌&&◌, ◌||◌, Some, None, nat_le}
 use Rattle.std.specs.List.{list_any}
 use Rattle.patch_model.specs.Member.{list_any-at, list_any-from, In, Contains-from_In}
 use Rattle.patch_model.specs.Dependency.{Path, one, onward, class_depends}
@@ -21,36 +21,15 @@ use Rattle.patch_view.specs.Answers.{IsPatch}
 use Rattle.std.proofs.lemmas.List.Quantifiers.{position-Some}
 use Rattle.std.proofs.lemmas.Bool.{cases_eq, cases_lt, both_ways, and_parts, and_from, or_left, or_right, eq-eqb, eqb-true, leb-true, false_from_ne_true}
 use Rattle.patch_view.specs.History.{IsCoherent, with_joined}
-use Rattle.patch_view.specs.State.{Class, Block, Joint, IsJoint, class_at, no_class, follows, follows_some, gathered, moved_down, spans, may_be_taken, IsMerged, settled_at, place_of}
+use Rattle.patch_view.specs.State.{Class, Block, Joint, IsJoint, class_at, no_class, follows, moved_down, spans, may_be_taken, IsMerged, settled_at, place_of}
 use Rattle.patch_view.specs.Meaning.{IsClassOf, Represents, IsGatheredTo}
 use Rattle.patch_view.proofs.Moving.{came, moves, length-moved, at_came, came_is}
-
--- whether a class depends directly on one of some that stand below it
-some_followed : (b : Block) (front n k m : ℕ) → front ≤ m → m < front + n → follows b k m ≡ true → follows_some b front n k ≡ true
-some_followed b front zero k m from to t = absurd (omega arith)
-some_followed b front (suc n) k m from to t = elim (cases_eq m (front + n)) [
-  | inl e ↦ or_left _ _ (ap (follows b k) (sym e) ∙ t)
-  | inr ne ↦ or_right _ _ (some_followed b front n k m from (omega arith) t)
-]
-
-none_followed : (b : Block) (front n k : ℕ) → ((m : ℕ) → front ≤ m → m < front + n → follows b k m ≡ false) → follows_some b front n k ≡ false
-none_followed b front zero k free = refl
-none_followed b front (suc n) k free =
-    rw (free (front + n) (omega arith) (omega arith), none_followed b front n k (λ m from to. free m from (omega arith))) refl
-
--- one place more
-gathered_on : (b r : Block) (low front k : ℕ) → low < k → gathered b low (k - low - 1) ≡ record { block = r; front = front }
-    → gathered b low (k + 1 - low - 1) ≡ (if follows_some r front (k - front) k then record { block = r; front = front } else record { block = moved_down r front k; front = front + 1 })
-gathered_on b r low front k above is =
-    let e : k + 1 - low - 1 ≡ suc (k - low - 1) = omega arith in
-    let at : low + suc (k - low - 1) ≡ k = omega arith in
-    rw (e, is, at) refl
 
 pub gathered_none : (b : Block) (low high : ℕ) → low < high → IsGatheredTo b b low high low (low + 1)
 gathered_none b low high less = record {
   from = omega arith;
   to = omega arith;
-  is = let e : low + 1 - low - 1 ≡ 0 = omega arith in rw e refl;
+  same_bytes = refl;
   long = refl;
   same_low = refl;
   same_rest = λ i f. refl;
@@ -67,8 +46,7 @@ gathered_keep old new low high front k within g on =
     record {
       from = g.from;
       to = omega arith;
-      is = gathered_on old new low front k (omega (arith, g.from)) g.is
-          ∙ (let t = some_followed new front (k - front) k on.0 on.1 (omega (arith, on.2)) on.3 in rw t refl);
+      same_bytes = g.same_bytes;
       long = g.long;
       same_low = g.same_low;
       same_rest = λ i f. g.same_rest i (omega arith);
@@ -106,8 +84,7 @@ gathered_move old new low high front k within g free =
     record {
       from = omega arith;
       to = omega arith;
-      is = gathered_on old new low front k (omega arith) g.is
-          ∙ (let f = none_followed new front (k - front) k (λ m from below. free m from (omega arith)) in rw f refl);
+      same_bytes = g.same_bytes;
       long = length-moved new.classes (class_at new k) front k down w_k ∙ g.long;
       same_low = first ∙ g.same_low;
       same_rest = λ i f. at_ i ∙ ap (class_at new) (behind i (omega arith)) ∙ g.same_rest i (omega arith);

@@ -7,7 +7,7 @@ use Rattle.patch_model.specs.Dependency.{Path, class_depends}
 use Rattle.patch_model.specs.Member.{In}
 use Rattle.patch_model.specs.History.{History, HoldsDependents, without}
 use Rattle.patch_view.specs.History.{IsCoherent, class_covers, top, below}
-use Rattle.patch_view.specs.State.{Class, Block, class_at, spans, may_be_taken, gathered}
+use Rattle.patch_view.specs.State.{Class, Block, class_at, spans, may_be_taken}
 
 -- the record is that of a live class of the history, where these classes are taken back
 pub record IsClassOf (h : History) (taken : List ℕ) (c : Class) : Type 0 where
@@ -41,7 +41,7 @@ pub record Represents (b : Block) (taken : List ℕ) (h : History) : Type 0 wher
 pub record IsGatheredTo (old new : Block) (low high front k : ℕ) : Type 0 where
   pub from : low ≤ front
   pub to : front < k
-  pub is : gathered old low (k - low - 1) ≡ record { block = new; front = front }
+  pub same_bytes : new.bytes ≡ old.bytes
   pub long : length new.classes ≡ length old.classes
   pub same_low : class_at new front ≡ class_at old low
   pub same_rest : (i : ℕ) → k ≤ i → class_at new i ≡ class_at old i

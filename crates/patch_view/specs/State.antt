@@ -231,31 +231,7 @@ moved_down b front k = record b { classes = insert (remove b.classes k) front (c
 abbrev pub settled_at : Block → ℕ → ℕ → Class → Block
 settled_at b low high c = record b { classes = remove (slice_set b.classes low c) high }
 
--- the class at the place k depends directly on one of the n from the place front on
-abbrev pub follows_some : Block → (front n k : ℕ) → Bool
-follows_some b front zero k = false
-follows_some b front (suc n) k = follows b k (front + n) || follows_some b front n k
-
--- a block, and where a class of it stands
-pub record Standing : Type 0 where
-  pub block : Block
-  pub front : ℕ
-
--- The class at the place low, brought up past n others, one after another: one that depends directly on none from this class
--- up to it goes below this class.
-abbrev pub gathered : Block → (low n : ℕ) → Standing
-gathered b low zero = record { block = b; front = low }
-gathered b low (suc n) =
-    let r = gathered b low n in
-    let k = low + suc n in
-    if follows_some r.block r.front (k - r.front) k then r else record { block = moved_down r.block r.front k; front = r.front + 1 }
-
--- the lower class brought up to the higher one, and the joint's class in place of both
-abbrev pub joined_at : Block → Joint → Block
-joined_at b joint =
-    let r = gathered b joint.low (joint.high - joint.low - 1) in settled_at r.block r.front joint.high joint.class
-
--- the block with a joint put in place; as it is, where there is none, or no two places as it says
-abbrev pub with_joint : Block → Option Joint → Block
-with_joint b None = b
-with_joint b (Some joint) = if nat_lt joint.low joint.high && nat_lt joint.high (length b.classes) then joined_at b joint else b
+-- the block has the two places of a joint, one below the other
+abbrev pub has_places : Block → Option Joint → Bool
+has_places b None = false
+has_places b (Some joint) = nat_lt joint.low joint.high && nat_lt joint.high (length b.classes)

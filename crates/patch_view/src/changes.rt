@@ -1,5 +1,5 @@
 //! What becomes of a block's records as patches are made, merged, sent and completed.
-ghost use Rattle.std.specs.Prelude.{◌≡◌, ◌+◌, ◌<◌, ◌≤◌, length, map, [], IfOk, OnOk, OnErr, ℕ, List, Option, true, false, IsTrue, IsFalse};
+ghost use Rattle.std.specs.Prelude.{◌≡◌, ◌+◌, ◌<◌, ◌≤◌, length, map, [], IfOk, OnOk, OnErr, ℕ, List, true, false, IsTrue, IsFalse};
 ghost use Rattle.std.specs.List.Sorted.{IsNonDecreasing};
 ghost use Rattle.patch_model.specs.declared.patches.Undo.{Undo};
 ghost use Rattle.patch_model.specs.declared.patches.Mark.TheVariants.{Flight, Durable};
@@ -7,7 +7,7 @@ ghost use Rattle.patch_model.specs.Entry.{Entry, is_memory};
 ghost use Rattle.patch_model.specs.History.{History};
 ghost use Rattle.patch_model.specs.Orderly.{IsOrderlyBlock, MayJoin};
 ghost use Rattle.patch_model.specs.State.{sent, landed};
-ghost use Rattle.patch_view.specs.State.{Block, class_at, follows, with_laid, IsLaid, without_newest, with_newest_hard, departed_at, landed_at, with_departed, HasDeparted, with_one_departed, with_one_landed, with_joint, joined_at, with_landed, moved_down, IsMerged, settled_at, IsJoint, IsJointAt, Joint as Drawn};
+ghost use Rattle.patch_view.specs.State.{Block, class_at, follows, with_laid, IsLaid, without_newest, with_newest_hard, departed_at, landed_at, with_departed, HasDeparted, with_one_departed, with_one_landed, with_landed, moved_down, IsMerged, settled_at, IsJoint, IsJointAt, has_places};
 ghost use Rattle.patch_view.specs.History.{unpatched, IsNext, MayDepart, MayLand, laid, made, with_mark, with_joined};
 ghost use Rattle.patch_view.specs.Meaning.{Represents, IsGathered};
 ghost use Rattle.patch_view.specs.Answers.{IsPatch};
@@ -236,7 +236,7 @@ impl<A: Allocator> BlockState<A> {
     fn join_at(&mut self, low: usize, high: usize, class: Class<A>)
         requires less { low < high }
         requires within { high < length self.old.classes }
-        ensures exact { self.new ≡ joined_at self.old (record { low = low; high = high; class = class }) }
+        ensures bytes { self.new.bytes ≡ self.old.bytes }
         ensures answer { (h : History) → IsMerged (class_at self.old low) (class_at self.old high) class → Represents self.old [] h
             → MayJoin h.entries (class_at self.old low).name (class_at self.old high).name
             → Represents self.new [] (with_joined h (class_at self.old low).name (class_at self.old high).name) }
@@ -265,10 +265,11 @@ impl<A: Allocator> BlockState<A> {
         Ok(Some(joint))
     }
 
-    /// Puts a joint that was drawn up of this block in place. It takes no memory. No joint changes nothing, nor does one of
-    /// places that the block hasn't.
+    /// Puts a joint that was drawn up of this block in place. It takes no memory, and changes no byte. No joint changes nothing,
+    /// nor does one of places that the block hasn't.
     pub fn join_by(&mut self, joint: Option<Joint<A>>)
-        ensures exact { self.new ≡ with_joint self.old joint }
+        ensures elsewhere { has_places self.old joint ≡ false → self.new ≡ self.old }
+        ensures bytes { self.new.bytes ≡ self.old.bytes }
         ensures answer { (h : History) (a b : ℕ) (e f : Entry) → IsJoint self.old a b joint → Represents self.old [] h
             → IsPatch h a e → IsPatch h b f → MayJoin h.entries e.class f.class
             → Represents self.new [] (with_joined h e.class f.class) }
@@ -282,14 +283,13 @@ impl<A: Allocator> BlockState<A> {
     }
 
     /// Makes the classes of two patches one, under the lesser name. Both may be taken back, their spans meet or touch, and no
-    /// third class lies on a path from one to the other. Where they aren't two classes of the block, or without memory, nothing
-    /// is changed.
+    /// third class lies on a path from one to the other. Without memory nothing is changed, and no byte of the block in any case.
     pub fn join(&mut self, a: PatchNo, b: PatchNo) -> Result<(), OutOfMemory>
     where
         A: Clone,
         ensures answer { (h : History) (e f : Entry) → Represents self.old [] h → IsPatch h a e → IsPatch h b f → MayJoin h.entries e.class f.class
             → OnOk result (Represents self.new [] (with_joined h e.class f.class)) }
-        ensures exact { OnOk result ((joint : Option Drawn) × IsJoint self.old a b joint × (self.new ≡ with_joint self.old joint)) }
+        ensures bytes { self.new.bytes ≡ self.old.bytes }
         ensures refused { OnErr result (self.new ≡ self.old) }
     {
         let joint = self.joint(a, b)?;
