@@ -8,8 +8,6 @@ pub mod Plain
 pub mod Faultless
 pub mod Runs
 pub mod Standing
-pub mod Finding
-pub mod Agreeing
 pub mod Showing
 pub mod Moving
 pub mod Crashing

@@ -18,16 +18,15 @@ use Rattle.patch_model.specs.Ready.{IsRising}
 use Rattle.patch_model.specs.Refusing.{bare, why_not_taken, why_not_put_back, class_named}
 use Rattle.patch_view.specs.State.{Block, outline}
 use Rattle.patch_view.specs.Meaning.{Represents as IsBlockOf}
-use Rattle.patch_view.specs.Answers.{MayTake, IsTaken, IsPutBack, IsWhyNotTaken, IsWhyNotPutBack}
+use Rattle.patch_view.specs.Answers.{MayTake, IsTaken, IsPutBack}
 use Rattle.patch_view.specs.declared.refusals.TakeRefusal.{TakeRefusal as ViewTakeRefusal}
 use Rattle.patch_view.specs.declared.refusals.PutBackRefusal.{PutBackRefusal}
 use Rattle.patch_graph.specs.Meaning.{HasMark}
 use Rattle.patch_cache.specs.Contents.{Contents, no_block, block_at, with_block}
 use Rattle.patch_cache.specs.Meaning.{Shows, Represents, ShowsWithout, only_of}
-use Rattle.patch_cache.specs.Refusals.{view_take_cause, put_back_cause}
+use Rattle.patch_view.specs.Refusal.{take_cause as view_take_cause, put_back_cause}
 use Rattle.patch_cache.specs.Viewing.{with_move, why_not_taken_of, IsViewOf}
 use Rattle.patch_cache.specs.declared.asks.Move.TheVariants.{Take, Back}
-use Rattle.patch_cache.proofs.Agreeing.{taken_agrees, take_refused, put_back_agrees, back_refused}
 
 -- The classes that are taken, by blocks.
 
@@ -232,18 +231,18 @@ pub taken : (now c : Contents) (block place number : ℕ) (b after : Block) (nam
     → (left : List ℕ) × (with_move run block names (Take number) ≡ Ok left) × ShowsWithout (with_block c place after) block left run
 taken now c block place number b after names run mark l r live m takes =
     let before = started now c block place b names run l r in
-    let done = taken_agrees (history_of run block) names number after before.coherent (takes (history_of run block) names before) in
-    let none : why_not_taken_of run block names number ≡ None = live_why now block number names run mark r live m ∙ done.0 in
-    (class_named (history_of run block) number ∷ names, rw (none, with_move) refl, ended now c block place b after names _ run l r done.1)
+    let done = takes (history_of run block) names before in
+    let none : why_not_taken_of run block names number ≡ None = live_why now block number names run mark r live m ∙ done.none in
+    (class_named (history_of run block) number ∷ names, rw (none, with_move) refl, ended now c block place b after names _ run l r done.represents)
 
 pub take_is_refused : (now c : Contents) (block place number : ℕ) (b : Block) (names : List ℕ) (run : Execution) (mark : Mark) (refusal : ViewTakeRefusal) → Lent now c block place b
     → ShowsWithout now block names run → marks_durable mark ≡ false → HasMark (entries_of run) number mark
-    → ((h : History) (taken : List ℕ) → IsBlockOf b taken h → IsWhyNotTaken h taken number refusal)
+    → ((h : History) (taken : List ℕ) → IsBlockOf b taken h → why_not_taken h taken number ≡ Some (view_take_cause refusal))
     → with_move run block names (Take number) ≡ Err (view_take_cause refusal)
 take_is_refused now c block place number b names run mark refusal l r live m why =
     let before = started now c block place b names run l r in
     let some : why_not_taken_of run block names number ≡ Some (view_take_cause refusal) =
-    live_why now block number names run mark r live m ∙ take_refused (history_of run block) names number refusal before.coherent (why (history_of run block) names before) in
+    live_why now block number names run mark r live m ∙ why (history_of run block) names before in
     rw (some, with_move) refl
 
 -- a class may be taken only of a patch that was made and isn't on the disk
@@ -272,17 +271,17 @@ pub put_back : (now c : Contents) (block place number : ℕ) (b after : Block) (
     → (left : List ℕ) × (with_move run block names (Back number) ≡ Ok left) × ShowsWithout (with_block c place after) block left run
 put_back now c block place number b after names run l r back =
     let before = started now c block place b names run l r in
-    let done = put_back_agrees b after (history_of run block) names number before (back (history_of run block) names before) in
-    let none : why_not_put_back (history_of run block) names number ≡ None = done.0 in
-    (moved names (ClassBack (class_named (history_of run block) number)), rw (none, with_move) refl, ended now c block place b after names _ run l r done.1)
+    let done = back (history_of run block) names before in
+    let none : why_not_put_back (history_of run block) names number ≡ None = done.none in
+    (moved names (ClassBack (class_named (history_of run block) number)), rw (none, with_move) refl, ended now c block place b after names _ run l r done.represents)
 
 pub put_back_is_refused : (now c : Contents) (block place number : ℕ) (b : Block) (names : List ℕ) (run : Execution) (refusal : PutBackRefusal) → Lent now c block place b
-    → ShowsWithout now block names run → ((h : History) (taken : List ℕ) → IsBlockOf b taken h → IsWhyNotPutBack h taken number refusal)
+    → ShowsWithout now block names run → ((h : History) (taken : List ℕ) → IsBlockOf b taken h → why_not_put_back h taken number ≡ Some (put_back_cause refusal))
     → with_move run block names (Back number) ≡ Err (put_back_cause refusal)
 put_back_is_refused now c block place number b names run refusal l r why =
     let before = started now c block place b names run l r in
     let some : why_not_put_back (history_of run block) names number ≡ Some (put_back_cause refusal) =
-    back_refused (history_of run block) names number refusal before.coherent (why (history_of run block) names before) in
+    why (history_of run block) names before in
     rw (some, with_move) refl
 
 pub restored : (now c : Contents) (block place : ℕ) (b after : Block) (names : List ℕ) (run : Execution) → Lent now c block place b

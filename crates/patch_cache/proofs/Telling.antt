@@ -1,5 +1,5 @@
 -- What the answers of looks and of sends are, by the block's patches.
-use Rattle.std.proofs.Common.{◌≡◌, ℕ, ◌<◌, ◌∙◌, inl, inr, true, false, not, Option, Some, None, Result, Ok, Err, List, [], ◌∷◌, length, map, filter, refl, sym, ap, subst, arith}
+use Rattle.std.proofs.Common.{◌≡◌, ℕ, ◌<◌, ◌∙◌, inl, inr, not, Option, Some, None, Result, Ok, Err, List, [], ◌∷◌, length, map, filter, refl, sym, ap, arith}
 use Rattle.std.specs.Prelude.{nat_le}
 use Rattle.std.proofs.lemmas.Bool.{cases_Bool}
 use Rattle.std.proofs.lemmas.Bool.Decides.{nat_tests}
@@ -13,8 +13,8 @@ use Rattle.patch_model.specs.Orderly.{IsOrderly, IsNumbered, IsOrderlyBlock}
 use Rattle.patch_model.specs.History.{History, history_of, without, cached, image, IsPermitted}
 use Rattle.patch_model.specs.Refusing.{Refusal as Cause, why_not_shown, why_not_sent}
 use Rattle.patch_view.specs.History.{IsCoherent}
-use Rattle.patch_view.specs.Laws.{UppermostMayBeTaken}
-use Rattle.patch_cache.specs.Asks.{Answer, Send, View, Sent, Seen, IsAnswer, seen, unless}
+use Rattle.patch_view.specs.Laws.{TakenWithoutCause, PutBackWithoutCause, NumberNamesClass}
+use Rattle.patch_cache.specs.Asks.{View, Sent, Seen, IsAnswer, seen, unless}
 use Rattle.patch_cache.specs.Promise.{ImagesSent, class_move, taken_by}
 use Rattle.patch_cache.specs.Viewing.{with_moves, bytes_at}
 use Rattle.patch_cache.specs.declared.asks.Move.{Move as PatchMove}
@@ -43,18 +43,18 @@ all_stay (e ∷ entries) = ap (λ es. e ∷ es) (all_stay entries)
 
 pub looked : (run : Execution) (block start len : ℕ) (moves : List PatchMove) (left right : List ℕ)
     → IsNumbered (entries_of run) → (block < length run.first → IsOrderlyBlock (history_of run block) block) → IsOrderly (entries_of run)
-    → ((h : History) (b : ℕ) → IsOrderlyBlock h b → IsCoherent h) → UppermostMayBeTaken
+    → ((h : History) (b : ℕ) → IsOrderlyBlock h b → IsCoherent h) → TakenWithoutCause → PutBackWithoutCause → NumberNamesClass
     → IsAnswer run (View block moves start len) (Seen left right)
     → let h = history_of run block in
     let order = map (class_move h) moves in
     IsPermitted h [] order
     × (left ≡ bytes_at (pile h.first (map (λ e. e.patch) (filter (λ e. not (is_among (taken_by order) e.class)) h.entries))) start len)
     × (right ≡ bytes_at (pile h.first (map (λ e. e.patch) h.entries)) start len)
-looked run block start len moves left right numbered whole all coherent uppermost is =
+looked run block start len moves left right numbered whole all coherent takes backs named is =
     let h = history_of run block in
     let told = shown run block start len left right (why_not_shown (length run.first) block start len) (with_moves run block [] moves) is in
     let b = whole (known (length run.first) block start len told.1) in
-    let order = accepted run block all numbered b (coherent h block b) uppermost [] told.0 moves (none_taken h) told.2 in (
+    let order = accepted run block all numbered b (coherent h block b) takes backs named [] told.0 moves (none_taken h) told.2 in (
       order.0,
       told.3 ∙ ap (λ names. bytes_at (without h names) start len) (sym order.1),
       told.4 ∙ ap (λ es. bytes_at (pile h.first (map (λ e. e.patch) es)) start len) (all_stay h.entries),

@@ -4,10 +4,6 @@ use Rattle.patch_model.specs.declared.refusals.RefusalKind.TheVariants as kind
 use Rattle.patch_model.specs.Entry.{Entry}
 use Rattle.patch_model.specs.Legal.{IsLegalMerge}
 use Rattle.patch_model.specs.Refusing.{Refusal as Cause, bare, with_number, why_not_near, IsLeastThird}
-use Rattle.patch_view.specs.declared.refusals.TakeRefusal.{TakeRefusal as ViewTakeRefusal}
-use Rattle.patch_view.specs.declared.refusals.TakeRefusal.TheVariants as view
-use Rattle.patch_view.specs.declared.refusals.PutBackRefusal.{PutBackRefusal}
-use Rattle.patch_view.specs.declared.refusals.PutBackRefusal.TheVariants as back
 use Rattle.patch_cache.specs.declared.refusals.Refusal.{Refusal}
 use Rattle.patch_cache.specs.declared.refusals.ReadRefusal.{ReadRefusal}
 use Rattle.patch_cache.specs.declared.refusals.ReadRefusal.TheVariants as read
@@ -60,17 +56,6 @@ take_cause take.InFlight = bare kind.InFlight
 take_cause take.Hard = bare kind.Hard
 take_cause take.AlreadyTaken = bare kind.AlreadyTaken
 take_cause (take.DependentApplied n) = with_number kind.DependentApplied n
-
-abbrev pub view_take_cause : ViewTakeRefusal → Cause
-view_take_cause view.Unknown = bare kind.Unknown
-view_take_cause view.InFlight = bare kind.InFlight
-view_take_cause view.Hard = bare kind.Hard
-view_take_cause view.AlreadyTaken = bare kind.AlreadyTaken
-view_take_cause (view.DependentApplied n) = with_number kind.DependentApplied n
-
-abbrev pub put_back_cause : PutBackRefusal → Cause
-put_back_cause back.NotTaken = bare kind.NotTaken
-put_back_cause (back.DependencyTaken n) = with_number kind.DependencyTaken n
 
 -- the refusal has this cause; with no cause there was no memory
 abbrev pub IsCause : Option Cause → Cause → Type 0

@@ -22,7 +22,7 @@ pub fn promise()
     patch_model::laws::executions_are_orderly();
     patch_model::laws::orders_end_alike();
     patch_view::laws::blocks_are_coherent();
-    patch_view::laws::uppermost_may_be_taken();
+    patch_view::laws::refusals_have_causes();
 }
 
 /// The definitions leave one answer to each ask.

@@ -3,7 +3,8 @@ ghost use Rattle.std.specs.Prelude.{◌≡◌};
 ghost use Rattle.patch_model.specs.Refusal.{code_of, name_of};
 ghost use Rattle.patch_model.specs.declared.refusals.RefusalKind.TheVariants as kind;
 ghost use Rattle.patch_model.specs.Refusing.{bare};
-ghost use Rattle.patch_cache.specs.Refusals.{cause_of, read_cause, create_cause, merge_cause, send_cause, take_cause, view_take_cause, put_back_cause};
+ghost use Rattle.patch_cache.specs.Refusals.{cause_of, read_cause, create_cause, merge_cause, send_cause, take_cause};
+ghost use Rattle.patch_view.specs.Refusal.{take_cause as view_take_cause, put_back_cause};
 
 use patch_model::{OutOfMemory, PatchNo, RefusalKind};
 use patch_view::PutBackRefusal;

@@ -5,9 +5,10 @@ ghost use Rattle.patch_model.specs.declared.blocks.TheConstants.{BLOCK};
 ghost use Rattle.patch_model.specs.Execution.{Execution};
 ghost use Rattle.patch_model.specs.History.{history_of, without};
 ghost use Rattle.patch_view.specs.Answers.{MayTake, MayPutBack};
+ghost use Rattle.patch_view.specs.Refusal.{put_back_cause};
 ghost use Rattle.patch_cache.specs.Contents.{Contents, block_at, with_block};
 ghost use Rattle.patch_cache.specs.Meaning.{Represents, ShowsWithout};
-ghost use Rattle.patch_cache.specs.Refusals.{take_cause, put_back_cause};
+ghost use Rattle.patch_cache.specs.Refusals.{take_cause};
 ghost use Rattle.patch_cache.specs.declared.asks.Move.TheVariants.{Take, Back};
 
 use crate::caches::Cache;

@@ -1,85 +1,145 @@
--- A take and a put back are accepted just where they may be.
-use Rattle.std.proofs.Common.{◌≡◌, ℕ, ◌∙◌, true, false, not, inl, inr, List, ◌∷◌, refl, sym, ap, subst, Result, Ok, Err, MatchResult, ◌↔◌, IsOk}
-use Rattle.std.specs.Prelude.{◌==◌, ◌&&◌, ◌||◌, ◌≢◌}
-use Rattle.std.proofs.lemmas.Bool.{and_parts, and_from, or_cases, both_ways, eqb-true, eq-eqb, not_from_false, not-true}
+-- A class may be taken, or put back, just where no cause of a refusal holds.
+use Rattle.std.proofs.Common.{◌≡◌, ◌≢◌, ℕ, ◌∙◌, true, false, not, inl, inr, Bool, List, [], ◌∷◌, Option, Some, None, refl, sym, subst, Result, Ok, Err, ◌↔◌, IsOk}
+use Rattle.std.specs.Prelude.{find, cond, ◌==◌, ◌&&◌}
+use Rattle.std.proofs.lemmas.Bool.{cases_Bool, cases_eq, and_parts, and_from, eqb-true, eq-eqb, ne_eqb, not_from_false}
+use Rattle.std.proofs.lemmas.Option.{none-some}
 use Rattle.patch_model.specs.declared.patches.Mark.{Mark}
 use Rattle.patch_model.specs.declared.patches.Mark.TheVariants.{Memory, Flight, Durable}
-use Rattle.patch_model.specs.Entry.{Entry, is_live, is_among, is_durable, marks_memory, marks_flight, marks_durable}
-use Rattle.patch_model.specs.Member.{Contains-from_In, list_any-at, list_any-from}
-use Rattle.patch_model.specs.History.{History, HoldsDependents, moved, Back}
+use Rattle.patch_model.specs.declared.refusals.RefusalKind.TheVariants as kind
+use Rattle.patch_model.specs.Entry.{Entry, is_live, is_flight, is_among, is_undoable, marks_memory, marks_flight, marks_durable}
+use Rattle.patch_model.specs.Dependency.{class_depends, depends_directly}
+use Rattle.patch_model.specs.Member.{In, In-from_Contains, list_any-from}
+use Rattle.patch_model.specs.History.{History, HoldsDependents, Back, moved}
+use Rattle.patch_model.specs.Refusing.{Refusal as Cause, bare, least, applied_dependents, taken_dependencies, hindered_by, why_class_not_taken, why_not_taken, why_not_put_back}
 use Rattle.patch_view.specs.declared.refusals.TakeRefusal.{TakeRefusal}
-use Rattle.patch_view.specs.declared.refusals.TakeRefusal.TheVariants.{Unknown, InFlight, Hard, AlreadyTaken, DependentApplied}
 use Rattle.patch_view.specs.declared.refusals.PutBackRefusal.{PutBackRefusal}
-use Rattle.patch_view.specs.declared.refusals.PutBackRefusal.TheVariants.{NotTaken, DependencyTaken}
 use Rattle.patch_view.specs.State.{Block}
+use Rattle.patch_view.specs.History.{IsCoherent}
 use Rattle.patch_view.specs.Meaning.{Represents}
-use Rattle.patch_view.specs.Answers.{IsPatch, MayTake, MayPutBack, IsTaken, IsPutBack, IsWhyNotTaken, IsWhyNotPutBack, IsAppliedDependent, IsTakenDependency}
-use Rattle.patch_view.proofs.Sets.{upper}
-use Rattle.patch_view.proofs.Chain.{undoable-not_durable}
-use Rattle.patch_view.proofs.Steps.{among-filtered, among-filter}
-use Rattle.patch_view.proofs.Answering.{depends-another}
-use Rattle.patch_view.proofs.Resting.{link}
+use Rattle.patch_view.specs.Refusal.{take_cause, put_back_cause}
+use Rattle.patch_view.specs.Answers.{IsPatch, MayTake, MayPutBack, IsTakeAnswer, IsPutBackAnswer}
+use Rattle.patch_view.specs.Laws.{TakenWithoutCause, PutBackWithoutCause}
+use Rattle.patch_view.proofs.Resting.{linked_by}
+use Rattle.patch_view.proofs.Steps.{among-filter, among-left}
+use Rattle.patch_view.proofs.Finding.{find_in}
+use Rattle.patch_view.proofs.Causes.{take_done, back_done, is_applied, is_taken_one}
+use Rattle.patch_view.proofs.Lawful.{uppermost_may_be_taken}
 
-in_two : (m : Mark) → marks_memory m ≡ true → marks_flight m ≡ true → ⊥
-in_two Memory t u = absurd (cc)
-in_two Flight t u = absurd (cc)
-in_two Durable t u = absurd (cc)
+-- Causes that don't hold.
 
-one-patch : (b : Block) (taken : List ℕ) (h : History) (number : ℕ) (e f : Entry) → Represents b taken h → IsPatch h number e → IsPatch h number f → e ≡ f
-one-patch b taken h number e f r p q = r.coherent.numbers e f p.is_in q.is_in (p.number ∙ sym q.number)
+passed : (b : Bool) (cause : Cause) (rest : Option Cause) → cond b (Some cause) rest ≡ None → (b ≡ false) × (rest ≡ None)
+passed true cause rest e = absurd (cc)
+passed false cause rest e = (refl, e)
 
-applied-dependent : (b : Block) (taken : List ℕ) (h : History) (c n : ℕ) → Represents b taken h → IsAppliedDependent h taken c n
-    → HoldsDependents h (c ∷ taken) → ⊥
-applied-dependent b taken h c n r d s =
-    let k = link h n c d.depends in
-    let g = list_any-at (λ e. e.class == n && is_live e) h.entries d.live in
-    let p = and_parts (g.0.class == n) (is_live g.0) g.2 in
-    let same = r.coherent.one_mark g.0 k.e g.1 k.in_e (eqb-true _ _ p.0 ∙ sym k.class_e) in
-    let live : is_live k.e ≡ true = ap (λ m. not (marks_durable m)) (sym same.0) ∙ p.1 in
-    let inside : is_among (c ∷ taken) k.f.class ≡ true = ap (is_among (c ∷ taken)) k.class_f ∙ ap (λ z. z || is_among taken c) (eq-eqb c c refl) in
-    let t : is_among (c ∷ taken) n ≡ true = ap (is_among (c ∷ taken)) (sym k.class_e)
-    ∙ s.dependents k.e k.f (Contains-from_In h.entries k.e k.in_e) (Contains-from_In h.entries k.f k.in_f) live k.goes inside in
-    elim (or_cases (c == n) (is_among taken n) t) [
-      | inl u ↦ depends-another h n c d.depends (sym (eqb-true _ _ u))
-      | inr u ↦ both_ways _ d.applied u
-    ]
+unhindered : (ns : List ℕ) → hindered_by kind.DependentApplied (least ns) ≡ None → ns ≡ []
+unhindered [] e = refl
+unhindered (n ∷ ns) e = absurd (cc)
 
-why-not_may : (b : Block) (taken : List ℕ) (h : History) (number : ℕ) (refusal : TakeRefusal) → Represents b taken h → IsWhyNotTaken h taken number refusal → MayTake h taken number → ⊥
-why-not_may b taken h number Unknown r why may =
-    both_ways _ why (list_any-from (λ e. e.patch.no == number && is_live e) h.entries may.patch may.named.is_in
-    (and_from _ _ (eq-eqb _ _ may.named.number) (not_from_false _ (undoable-not_durable may.patch may.undoable))))
-why-not_may b taken h number InFlight r why may =
-    in_two may.patch.mark (and_parts _ _ may.undoable).0 (ap (λ e. marks_flight e.mark) (one-patch b taken h number may.patch why.0 r may.named why.1) ∙ why.2)
-why-not_may b taken h number Hard r why may =
-    both_ways _ (not-true _ (and_parts _ _ may.undoable).1) (ap (λ e. e.hard) (one-patch b taken h number may.patch why.0 r may.named why.1) ∙ why.3)
-why-not_may b taken h number AlreadyTaken r why may =
-    both_ways _ may.applied (ap (λ e. is_among taken e.class) (one-patch b taken h number may.patch why.0 r may.named why.1) ∙ why.3)
-why-not_may b taken h number (DependentApplied n) r why may =
-    applied-dependent b taken h may.patch.class n r
-    (subst (λ e. IsAppliedDependent h taken e.class n) (sym (one-patch b taken h number may.patch why.0 r may.named why.1)) why.4) may.holds
+unhindered_back : (ns : List ℕ) → hindered_by kind.DependencyTaken (least ns) ≡ None → ns ≡ []
+unhindered_back [] e = refl
+unhindered_back (n ∷ ns) e = absurd (cc)
+
+in_memory : (m : Mark) → not (marks_durable m) ≡ true → marks_flight m ≡ false → marks_memory m ≡ true
+in_memory Memory live still = refl
+in_memory Flight live still = absurd (cc)
+in_memory Durable live still = absurd (cc)
+
+-- a patch of the one class that depends on one of the other
+depends : (h : History) (e f : Entry) → In h.entries e → In h.entries f → e.class ≢ f.class → depends_directly e.patch f.patch ≡ true
+    → class_depends h.entries e.class f.class ≡ true
+depends h e f in_e in_f apart goes =
+    and_from _ _ (not_from_false _ (ne_eqb e.class f.class apart)) (linked_by h e.class f.class e f in_e in_f refl refl goes)
+
+-- Takes.
+
+may_be_taken : (h : History) (names : List ℕ) (number : ℕ) (e : Entry) → IsCoherent h → HoldsDependents h names → IsPatch h number e → is_live e ≡ true
+    → why_class_not_taken h names e ≡ None → MayTake h names number
+may_be_taken h names number e r holds is live why =
+    let a = passed (is_flight e) _ _ why in
+    let b = passed e.hard _ _ a.1 in
+    let c = passed (is_among names e.class) _ _ b.1 in
+    let none : applied_dependents h names e.class ≡ [] = unhindered (applied_dependents h names e.class) c.1 in
+    let undoable : is_undoable e ≡ true = and_from _ _ (in_memory e.mark live a.0) (not_from_false _ b.0) in
+    record {
+      patch = e;
+      named = is;
+      undoable = undoable;
+      applied = c.0;
+      holds = uppermost_may_be_taken h names e r holds is.is_in undoable (λ f g in_f in_g live_f same apart goes. elim (cases_Bool (is_among names f.class)) [
+        | inl t ↦ t
+        | inr u ↦
+            let on : class_depends h.entries f.class e.class ≡ true = subst (λ (n : ℕ). class_depends h.entries f.class n ≡ true) same
+            (depends h f g in_f in_g (λ eq. apart (eq ∙ same)) goes) in
+            let i : In (applied_dependents h names e.class) f.class = is_applied h names e.class f.class (record {
+              live = list_any-from (λ x. x.class == f.class && is_live x) h.entries f in_f (and_from _ _ (eq-eqb f.class f.class refl) live_f);
+              depends = on;
+              applied = u;
+            }) in
+            absurd (subst (λ (ns : List ℕ). In ns f.class) none i)
+      ]);
+    }
+
+take_found : (h : History) (names : List ℕ) (number : ℕ) (o : Option Entry) → find (λ e. e.patch.no == number && is_live e) h.entries ≡ o → IsCoherent h
+    → HoldsDependents h names → ◌≡◌ {A = Option Cause} (elim o [ None ↦ Some (bare kind.Unknown) | Some e ↦ why_class_not_taken h names e ]) None
+    → MayTake h names number
+take_found h names number None at r holds why = absurd (cc)
+take_found h names number (Some e) at r holds why =
+    let f = find_in (λ e. e.patch.no == number && is_live e) h.entries e at in
+    let p = and_parts (e.patch.no == number) (is_live e) f.1 in
+    may_be_taken h names number e r holds (record { is_in = f.0; number = eqb-true _ _ p.0 }) p.1 why
+
+pub taken_without_cause : TakenWithoutCause
+taken_without_cause h names number r holds = (
+  λ why. take_found h names number (find (λ e. e.patch.no == number && is_live e) h.entries) refl r holds why,
+  λ may. take_done h names number may.patch r may.named may.undoable may.applied may.holds,
+)
 
 pub take_accepted : (b new : Block) (taken : List ℕ) (h : History) (number : ℕ) (result : Result (Unit {0}) TakeRefusal) → Represents b taken h
-    → MatchResult result (λ done. IsTaken h taken number new) (λ refusal. IsWhyNotTaken h taken number refusal) → IsOk result ↔ MayTake h taken number
-take_accepted b new taken h number (Ok done) r t =
-    ((λ is. record { patch = t.patch; named = t.named; undoable = t.undoable; applied = t.was_applied; holds = t.represents.holds }), (λ may. refl))
-take_accepted b new taken h number (Err refusal) r why = ((λ is. absurd (cc)), (λ may. absurd (why-not_may b taken h number refusal r why may)))
+    → IsTakeAnswer h taken number new result → IsOk result ↔ MayTake h taken number
+take_accepted b new taken h number (Ok done) r t = ((λ is. (taken_without_cause h taken number r.coherent r.holds).0 t.none), (λ may. refl))
+take_accepted b new taken h number (Err refusal) r why =
+    ((λ is. absurd (cc)), (λ may. absurd (none-some _ (sym ((taken_without_cause h taken number r.coherent r.holds).1 may) ∙ why))))
 
-why-not_back : (b : Block) (taken : List ℕ) (h : History) (number : ℕ) (refusal : PutBackRefusal) → Represents b taken h → IsWhyNotPutBack h taken number refusal → MayPutBack h taken number → ⊥
-why-not_back b taken h number NotTaken r why may = both_ways _ (why may.patch may.named) may.is_taken
-why-not_back b taken h number (DependencyTaken n) r why may =
-    let c : ℕ = may.patch.class in
-    let d : IsTakenDependency h taken may.patch.class n =
-    subst (λ e. IsTakenDependency h taken e.class n) (sym (one-patch b taken h number may.patch why.0 r may.named why.1)) why.3 in
-    let k = link h may.patch.class n d.depends in
-    let low : is_durable k.e ≡ false = undoable-not_durable k.e ((upper r).undoable k.e k.in_e (ap (is_among taken) k.class_e ∙ may.is_taken)) in
-    let apart : n ≢ may.patch.class = (λ q. depends-another h may.patch.class n d.depends (sym q)) in
-    let inside : is_among (moved taken (Back may.patch.class)) k.f.class ≡ true =
-    ap (is_among (moved taken (Back may.patch.class))) k.class_f ∙ among-filter n may.patch.class taken apart ∙ d.is_taken in
-    both_ways _ (among-filtered may.patch.class taken) (ap (is_among (moved taken (Back may.patch.class))) (sym k.class_e)
-    ∙ may.holds.dependents k.e k.f (Contains-from_In h.entries k.e k.in_e) (Contains-from_In h.entries k.f k.in_f) (not_from_false _ low) k.goes inside)
+-- Puts back.
+
+left_holds : (h : History) (names : List ℕ) (c : ℕ) → HoldsDependents h names → taken_dependencies h names c ≡ [] → HoldsDependents h (moved names (Back c))
+left_holds h names c holds none = record {
+  undoable = λ n t. holds.undoable n (among-left n c names t).0;
+  dependents = λ e f i j live goes t.
+      let left = among-left f.class c names t in
+      let over : is_among names e.class ≡ true = holds.dependents e f i j live goes left.0 in
+      elim (cases_eq e.class c) [
+        | inl at ↦
+            let on : class_depends h.entries c f.class ≡ true = subst (λ (n : ℕ). class_depends h.entries n f.class ≡ true) at
+            (depends h e f (In-from_Contains _ _ i) (In-from_Contains _ _ j) (λ eq. left.1 (sym eq ∙ at)) goes) in
+            absurd (subst (λ (ns : List ℕ). In ns f.class) none (is_taken_one h names c f.class (record { depends = on; is_taken = left.0 })))
+        | inr apart ↦ among-filter e.class c names apart ∙ over
+      ];
+}
+
+back_found : (h : History) (names : List ℕ) (number : ℕ) (o : Option Entry) → find (λ e. e.patch.no == number && is_among names e.class) h.entries ≡ o
+    → HoldsDependents h names
+    → ◌≡◌ {A = Option Cause} (elim o [ None ↦ Some (bare kind.NotTaken) | Some e ↦ hindered_by kind.DependencyTaken (least (taken_dependencies h names e.class)) ]) None
+    → MayPutBack h names number
+back_found h names number None at holds why = absurd (cc)
+back_found h names number (Some e) at holds why =
+    let f = find_in (λ e. e.patch.no == number && is_among names e.class) h.entries e at in
+    let p = and_parts (e.patch.no == number) (is_among names e.class) f.1 in
+    record {
+      patch = e;
+      named = record { is_in = f.0; number = eqb-true _ _ p.0 };
+      is_taken = p.1;
+      holds = left_holds h names e.class holds (unhindered_back (taken_dependencies h names e.class) why);
+    }
+
+pub put_back_without_cause : PutBackWithoutCause
+put_back_without_cause h names number r holds = (
+  λ why. back_found h names number (find (λ e. e.patch.no == number && is_among names e.class) h.entries) refl holds why,
+  λ may. back_done h names number may.patch r holds may.named may.is_taken may.holds,
+)
 
 pub put_back_accepted : (b new : Block) (taken : List ℕ) (h : History) (number : ℕ) (result : Result (Unit {0}) PutBackRefusal) → Represents b taken h
-    → MatchResult result (λ done. IsPutBack h taken number new) (λ refusal. IsWhyNotPutBack h taken number refusal) → IsOk result ↔ MayPutBack h taken number
-put_back_accepted b new taken h number (Ok done) r t =
-    ((λ is. record { patch = t.patch; named = t.named; is_taken = t.was_taken; holds = t.represents.holds }), (λ may. refl))
-put_back_accepted b new taken h number (Err refusal) r why = ((λ is. absurd (cc)), (λ may. absurd (why-not_back b taken h number refusal r why may)))
+    → IsPutBackAnswer h taken number new result → IsOk result ↔ MayPutBack h taken number
+put_back_accepted b new taken h number (Ok done) r t = ((λ is. (put_back_without_cause h taken number r.coherent r.holds).0 t.none), (λ may. refl))
+put_back_accepted b new taken h number (Err refusal) r why =
+    ((λ is. absurd (cc)), (λ may. absurd (none-some _ (sym ((put_back_without_cause h taken number r.coherent r.holds).1 may) ∙ why))))

@@ -11,11 +11,14 @@ use Rattle.patch_model.specs.Entry.{Entry, is_durable, is_memory, is_among, mark
 use Rattle.patch_model.specs.Dependency.{class_depends}
 use Rattle.patch_model.specs.Member.{list_any-at, list_any-from}
 use Rattle.patch_model.specs.History.{History, moved, Back}
+use Rattle.patch_model.specs.Refusing.{why_not_taken, why_not_put_back}
 use Rattle.patch_view.proofs.Sets.{upper}
 use Rattle.patch_view.proofs.Resting.{linked_as, follows-apart}
 use Rattle.patch_view.specs.State.{Block, class_at, no_class, may_be_taken, follows, hinders, place_of, IsLeast, exchanged_at}
 use Rattle.patch_view.specs.Meaning.{Represents}
-use Rattle.patch_view.specs.Answers.{IsPatch, IsAppliedDependent, IsTakenDependency, IsTaken, IsPutBack, IsWhyNotTaken, IsWhyNotPutBack}
+use Rattle.patch_view.specs.Answers.{IsPatch, IsTaken, IsPutBack}
+use Rattle.patch_view.specs.Refusal.{take_cause, put_back_cause}
+use Rattle.patch_view.proofs.Causes.{IsAppliedDependent, IsTakenDependency, depends-another, class_is, take_done, back_done, is_unknown, is_in_flight, is_hard, is_taken, is_depended_on, is_not_taken, is_dependent}
 use Rattle.patch_view.specs.declared.refusals.TakeRefusal.TheVariants.{Unknown, InFlight, Hard, AlreadyTaken, DependentApplied}
 use Rattle.patch_view.specs.declared.refusals.PutBackRefusal.TheVariants.{NotTaken, DependencyTaken}
 use Rattle.patch_view.proofs.Chain.{undoable-not_durable}
@@ -70,11 +73,11 @@ no_place b taken h number r none e is = true_from_ne_false _ (λ low.
     both_ways _ off ((r.classes j.0 j.1).members number ∙ on))
 
 pub why_unknown : (b : Block) (taken : List ℕ) (h : History) (number : ℕ) → Represents b taken h → place_of b number ≡ None
-    → IsWhyNotTaken h taken number Unknown
-why_unknown b taken h number r none = false_from_ne_true _ (λ t.
+    → why_not_taken h taken number ≡ Some (take_cause Unknown)
+why_unknown b taken h number r none = is_unknown h taken number (false_from_ne_true _ (λ t.
     let q = list_any-at _ h.entries t in
     let both = and_parts _ _ q.2 in
-    both_ways _ (not-true _ both.1) (no_place b taken h number r none q.0 (record { is_in = q.1; number = eqb-true _ _ both.0 })))
+    both_ways _ (not-true _ both.1) (no_place b taken h number r none q.0 (record { is_in = q.1; number = eqb-true _ _ both.0 }))))
 
 neither : (m : Mark) → marks_durable m ≡ false → marks_memory m ≡ false → marks_flight m ≡ true
 neither Memory low u = absurd (cc)
@@ -82,26 +85,26 @@ neither Flight low u = refl
 neither Durable low u = absurd (cc)
 
 pub why_in_flight : (b : Block) (taken : List ℕ) (h : History) (number at : ℕ) → Represents b taken h → place_of b number ≡ Some at
-    → (class_at b at).flying ≡ true → IsWhyNotTaken h taken number InFlight
+    → (class_at b at).flying ≡ true → why_not_taken h taken number ≡ Some (take_cause InFlight)
 why_in_flight b taken h number at r e flying =
     let f = found b taken h number at r e in
-    (f.patch, f.named, neither f.patch.mark f.live (f.memory ∙ ap not flying))
+    is_in_flight h taken number f.patch r.coherent f.named (neither f.patch.mark f.live (f.memory ∙ ap not flying))
 
 pub why_hard : (b : Block) (taken : List ℕ) (h : History) (number at : ℕ) → Represents b taken h → place_of b number ≡ Some at
-    → (class_at b at).flying ≡ false → (class_at b at).hard ≡ true → IsWhyNotTaken h taken number Hard
+    → (class_at b at).flying ≡ false → (class_at b at).hard ≡ true → why_not_taken h taken number ≡ Some (take_cause Hard)
 why_hard b taken h number at r e low hard =
     let f = found b taken h number at r e in
-    (f.patch, f.named, f.memory ∙ ap not low, f.hard ∙ hard)
+    is_hard h taken number f.patch r.coherent f.named (f.memory ∙ ap not low) (f.hard ∙ hard)
 
 undoable-from : (b : Block) (taken : List ℕ) (h : History) (number at : ℕ) → (f : IsAt b taken h number at) → (class_at b at).flying ≡ false
     → (class_at b at).hard ≡ false → is_undoable f.patch ≡ true
 undoable-from b taken h number at f low soft = and_from _ _ (f.memory ∙ ap not low) (not_from_false _ (f.hard ∙ soft))
 
 pub why_taken : (b : Block) (taken : List ℕ) (h : History) (number at : ℕ) → Represents b taken h → place_of b number ≡ Some at
-    → (class_at b at).flying ≡ false → (class_at b at).hard ≡ false → (class_at b at).taken ≡ true → IsWhyNotTaken h taken number AlreadyTaken
+    → (class_at b at).flying ≡ false → (class_at b at).hard ≡ false → (class_at b at).taken ≡ true → why_not_taken h taken number ≡ Some (take_cause AlreadyTaken)
 why_taken b taken h number at r e low soft was =
     let f = found b taken h number at r e in
-    (f.patch, f.named, undoable-from b taken h number at f low soft, sym f.flag ∙ was)
+    is_taken h taken number f.patch r.coherent f.named (undoable-from b taken h number at f low soft) (sym f.flag ∙ was)
 
 -- a class's record is that of a live class of the block
 live-name : (b : Block) (taken : List ℕ) (h : History) (k : ℕ) → Represents b taken h → k < length b.classes
@@ -111,13 +114,6 @@ live-name b taken h k r within =
     let q = list_any-at _ h.entries c.known in
     let m = c.marked q.0 q.1 (eqb-true _ _ q.2) in
     list_any-from (λ e. e.class == (class_at b k).name && is_live e) h.entries q.0 q.1 (and_from _ _ q.2 (not_from_false _ m.0))
-
-not_same : (m n : ℕ) → not (m == n) ≡ true → m ≢ n
-not_same m n t e = both_ways _ (not-true _ t) (eq-eqb _ _ e)
-
--- what depends on another class is not that class
-pub depends-another : (h : History) (a c : ℕ) → class_depends h.entries a c ≡ true → a ≢ c
-depends-another h a c t = not_same a c (and_parts _ _ t).0
 
 hinders-dependent : (b : Block) (taken : List ℕ) (h : History) (at k : ℕ) → Represents b taken h → at < length b.classes → k < length b.classes
     → hinders true b at k ≡ true → IsAppliedDependent h taken (class_at b at).name (class_at b k).name
@@ -145,20 +141,16 @@ dependent-hinders b taken h at m r within d =
 
 pub why_dependent : (b : Block) (taken : List ℕ) (h : History) (number at n : ℕ) → Represents b taken h → place_of b number ≡ Some at
     → (class_at b at).flying ≡ false → (class_at b at).hard ≡ false → (class_at b at).taken ≡ false
-    → IsLeast (hinders true b at) b (Some n) → IsWhyNotTaken h taken number (DependentApplied n)
+    → IsLeast (hinders true b at) b (Some n) → why_not_taken h taken number ≡ Some (take_cause (DependentApplied n))
 why_dependent b taken h number at n r e low soft off least =
     let f = found b taken h number at r e in
-    let first = least.0 in (
-      f.patch,
-      f.named,
-      undoable-from b taken h number at f low soft,
-      sym f.flag ∙ off,
-      subst (λ c. IsAppliedDependent h taken c n) (sym f.class) (subst (λ m. IsAppliedDependent h taken (class_at b at).name m) first.3
-          (hinders-dependent b taken h at first.0 r f.within first.1 first.2)),
-      λ m d.
-          let k = dependent-hinders b taken h at m r f.within (subst (λ c. IsAppliedDependent h taken c m) f.class d) in
-          subst (λ q. n ≤ q) k.2 (least.1 k.0 k.1 k.3),
-    )
+    let first = least.0 in
+    is_depended_on h taken number n f.patch r.coherent f.named (undoable-from b taken h number at f low soft) (sym f.flag ∙ off)
+    (subst (λ c. IsAppliedDependent h taken c n) (sym f.class) (subst (λ m. IsAppliedDependent h taken (class_at b at).name m) first.3
+    (hinders-dependent b taken h at first.0 r f.within first.1 first.2)))
+    (λ m d.
+    let k = dependent-hinders b taken h at m r f.within (subst (λ c. IsAppliedDependent h taken c m) f.class d) in
+    subst (λ q. n ≤ q) k.2 (least.1 k.0 k.1 k.3))
 
 pub takes : (b : Block) (taken : List ℕ) (h : History) (number at : ℕ) → Represents b taken h → place_of b number ≡ Some at
     → (class_at b at).flying ≡ false → (class_at b at).hard ≡ false → (class_at b at).taken ≡ false
@@ -167,26 +159,25 @@ takes b taken h number at r e low soft off none =
     let f = found b taken h number at r e in
     let may : may_be_taken (class_at b at) ≡ true = and_from _ _ (not_from_false _ low) (not_from_false _ soft) in
     let step = taking b taken h at r f.within may off none in
+    let now : Represents (exchanged_at b at true) (f.patch.class ∷ taken) h =
+    subst (λ c. Represents (exchanged_at b at true) (c ∷ taken) h) (sym f.class)
+    (exchanged-represents b taken ((class_at b at).name ∷ taken) h at true r f.within may (take-exchange h (class_at b at).name taken ((class_at b at).name ∷ taken) r.coherent step)) in
     record {
-      patch = f.patch;
-      named = f.named;
-      undoable = undoable-from b taken h number at f low soft;
-      was_applied = sym f.flag ∙ off;
-      represents = subst (λ c. Represents (exchanged_at b at true) (c ∷ taken) h) (sym f.class)
-          (exchanged-represents b taken ((class_at b at).name ∷ taken) h at true r f.within may (take-exchange h (class_at b at).name taken ((class_at b at).name ∷ taken) r.coherent step));
+      none = take_done h taken number f.patch r.coherent f.named (undoable-from b taken h number at f low soft) (sym f.flag ∙ off) now.holds;
+      represents = subst (λ (c : ℕ). Represents (exchanged_at b at true) (c ∷ taken) h) (sym (class_is h number f.patch r.coherent f.named)) now;
     }
 
-pub why_not_taken : (b : Block) (taken : List ℕ) (h : History) (number : ℕ) → Represents b taken h → place_of b number ≡ None
-    → IsWhyNotPutBack h taken number NotTaken
-why_not_taken b taken h number r none e is = false_from_ne_true _ (λ t.
-    both_ways _ (undoable-not_durable e ((upper r).undoable e is.is_in t)) (no_place b taken h number r none e is))
+pub why_nowhere : (b : Block) (taken : List ℕ) (h : History) (number : ℕ) → Represents b taken h → place_of b number ≡ None
+    → why_not_put_back h taken number ≡ Some (put_back_cause NotTaken)
+why_nowhere b taken h number r none = is_not_taken h taken number (λ e is. false_from_ne_true _ (λ t.
+    both_ways _ (undoable-not_durable e ((upper r).undoable e is.is_in t)) (no_place b taken h number r none e is)))
 
 pub why_applied : (b : Block) (taken : List ℕ) (h : History) (number at : ℕ) → Represents b taken h → place_of b number ≡ Some at
-    → (class_at b at).taken ≡ false → IsWhyNotPutBack h taken number NotTaken
-why_applied b taken h number at r e off g is =
+    → (class_at b at).taken ≡ false → why_not_put_back h taken number ≡ Some (put_back_cause NotTaken)
+why_applied b taken h number at r e off = is_not_taken h taken number (λ g is.
     let f = found b taken h number at r e in
     let same : f.patch ≡ g = r.coherent.numbers f.patch g f.named.is_in is.is_in (f.named.number ∙ sym is.number) in
-    ap (λ z. is_among taken z.class) (sym same) ∙ sym f.flag ∙ off
+    ap (λ z. is_among taken z.class) (sym same) ∙ sym f.flag ∙ off)
 
 hinders-dependency : (b : Block) (taken : List ℕ) (h : History) (at k : ℕ) → Represents b taken h → at < length b.classes → k < length b.classes
     → hinders false b at k ≡ true → IsTakenDependency h taken (class_at b at).name (class_at b k).name
@@ -214,19 +205,16 @@ dependency-hinders b taken h at m r within d =
 
 pub why_dependency : (b : Block) (taken : List ℕ) (h : History) (number at n : ℕ) → Represents b taken h → place_of b number ≡ Some at
     → (class_at b at).taken ≡ true
-    → IsLeast (hinders false b at) b (Some n) → IsWhyNotPutBack h taken number (DependencyTaken n)
+    → IsLeast (hinders false b at) b (Some n) → why_not_put_back h taken number ≡ Some (put_back_cause (DependencyTaken n))
 why_dependency b taken h number at n r e on least =
     let f = found b taken h number at r e in
-    let first = least.0 in (
-      f.patch,
-      f.named,
-      sym f.flag ∙ on,
-      subst (λ c. IsTakenDependency h taken c n) (sym f.class) (subst (λ m. IsTakenDependency h taken (class_at b at).name m) first.3
-          (hinders-dependency b taken h at first.0 r f.within first.1 first.2)),
-      λ m d.
-          let k = dependency-hinders b taken h at m r f.within (subst (λ c. IsTakenDependency h taken c m) f.class d) in
-          subst (λ q. n ≤ q) k.2 (least.1 k.0 k.1 k.3),
-    )
+    let first = least.0 in
+    is_dependent h taken number n f.patch r.coherent f.named (sym f.flag ∙ on)
+    (subst (λ c. IsTakenDependency h taken c n) (sym f.class) (subst (λ m. IsTakenDependency h taken (class_at b at).name m) first.3
+    (hinders-dependency b taken h at first.0 r f.within first.1 first.2)))
+    (λ m d.
+    let k = dependency-hinders b taken h at m r f.within (subst (λ c. IsTakenDependency h taken c m) f.class d) in
+    subst (λ q. n ≤ q) k.2 (least.1 k.0 k.1 k.3))
 
 pub puts_back : (b : Block) (taken : List ℕ) (h : History) (number at : ℕ) → Represents b taken h → place_of b number ≡ Some at
     → (class_at b at).taken ≡ true
@@ -238,10 +226,10 @@ puts_back b taken h number at r e on none =
     let undoable : is_undoable f.patch ≡ true = (upper r).undoable f.patch f.named.is_in (sym f.flag ∙ on) in
     let may : may_be_taken (class_at b at) ≡ true =
     ap (λ z. z && not (class_at b at).hard) (sym f.memory) ∙ ap (λ z. is_memory f.patch && not z) (sym f.hard) ∙ undoable in
+    let now : Represents (exchanged_at b at false) (moved taken (Back f.patch.class)) h =
+    subst (λ c. Represents (exchanged_at b at false) (moved taken (Back c)) h) (sym f.class)
+    (exchanged-represents b taken (moved taken (Back (class_at b at).name)) h at false r f.within may (back-exchange h (class_at b at).name (moved taken (Back (class_at b at).name)) taken r.coherent step)) in
     record {
-      patch = f.patch;
-      named = f.named;
-      was_taken = sym f.flag ∙ on;
-      represents = subst (λ c. Represents (exchanged_at b at false) (moved taken (Back c)) h) (sym f.class)
-          (exchanged-represents b taken (moved taken (Back (class_at b at).name)) h at false r f.within may (back-exchange h (class_at b at).name (moved taken (Back (class_at b at).name)) taken r.coherent step));
+      none = back_done h taken number f.patch r.coherent r.holds f.named (sym f.flag ∙ on) now.holds;
+      represents = subst (λ (c : ℕ). Represents (exchanged_at b at false) (moved taken (Back c)) h) (sym (class_is h number f.patch r.coherent f.named)) now;
     }

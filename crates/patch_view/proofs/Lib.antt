@@ -5,6 +5,8 @@ pub mod Chain
 pub mod Steps
 pub mod Exchange
 pub mod Resting
+pub mod Finding
+pub mod Causes
 pub mod Answering
 pub mod Accepting
 pub mod Same

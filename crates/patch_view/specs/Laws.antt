@@ -1,5 +1,5 @@
 -- Laws of histories, of the sets that may be taken, and of the records that represent them.
-use Rattle.std.specs.Prelude.{ℕ, ◌≡◌, ◌≢◌, IsTrue, List, ◌∷◌}
+use Rattle.std.specs.Prelude.{ℕ, ◌≡◌, ◌≢◌, ◌↔◌, None, IsTrue, List, ◌∷◌}
 use Rattle.patch_model.specs.Entry.{Entry, is_among, is_flight, is_memory, is_live, is_undoable}
 use Rattle.patch_model.specs.Dependency.{depends_directly}
 use Rattle.patch_model.specs.Step.{Send}
@@ -8,9 +8,11 @@ use Rattle.patch_model.specs.State.{entries_of}
 use Rattle.patch_model.specs.History.{History, HoldsDependents, history_of, without, image}
 use Rattle.patch_model.specs.Orderly.{IsOrderlyBlock, left_behind}
 use Rattle.patch_model.specs.Member.{In}
+use Rattle.patch_model.specs.Refusing.{why_not_taken, why_not_put_back, class_named}
 use Rattle.patch_view.specs.History.{IsCoherent, IsNext, MayLand, laid, undoable_classes}
 use Rattle.patch_view.specs.State.{Block, outline}
 use Rattle.patch_view.specs.Meaning.{Represents}
+use Rattle.patch_view.specs.Answers.{IsPatch, MayTake, MayPutBack}
 
 -- the two lists name the same classes
 abbrev pub NameTheSame : List ℕ → List ℕ → Type 0
@@ -35,6 +37,22 @@ UppermostMayBeTaken =
     → ((f g : Entry) → In h.entries f → In h.entries g → IsTrue (is_live f) → g.class ≡ e.class → f.class ≢ e.class
     → IsTrue (depends_directly f.patch g.patch) → IsTrue (is_among taken f.class))
     → HoldsDependents h (e.class ∷ taken)
+
+-- a class may be taken just where no cause stands against it
+abbrev pub TakenWithoutCause : Type 0
+TakenWithoutCause =
+    (h : History) (taken : List ℕ) (number : ℕ) → IsCoherent h → HoldsDependents h taken
+    → (why_not_taken h taken number ≡ None) ↔ MayTake h taken number
+
+-- and put back likewise
+abbrev pub PutBackWithoutCause : Type 0
+PutBackWithoutCause =
+    (h : History) (taken : List ℕ) (number : ℕ) → IsCoherent h → HoldsDependents h taken
+    → (why_not_put_back h taken number ≡ None) ↔ MayPutBack h taken number
+
+-- a patch's number names its class
+abbrev pub NumberNamesClass : Type 0
+NumberNamesClass = (h : History) (number : ℕ) (e : Entry) → IsCoherent h → IsPatch h number e → class_named h number ≡ e.class
 
 -- records of one outline that represent one history, with the same classes taken, are equal
 abbrev pub OneValue : Type 0

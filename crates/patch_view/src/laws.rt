@@ -1,5 +1,5 @@
 //! Laws of the definitions, each the contract of a function that does nothing.
-ghost use Rattle.patch_view.specs.Laws.{OrderlyIsCoherent, LastIsNext, FlightMayLand, UppermostMayBeTaken, OneValue, ImageIsWithout, SendLeavesTheImage};
+ghost use Rattle.patch_view.specs.Laws.{OrderlyIsCoherent, LastIsNext, FlightMayLand, UppermostMayBeTaken, TakenWithoutCause, PutBackWithoutCause, NumberNamesClass, OneValue, ImageIsWithout, SendLeavesTheImage};
 
 /// What the calls ask of a block's history is true of each block of an execution.
 pub fn blocks_are_coherent()
@@ -16,6 +16,13 @@ pub fn flights_may_land()
 /// may always be.
 pub fn uppermost_may_be_taken()
     ensures { UppermostMayBeTaken }
+{}
+
+/// A class may be taken, and put back, just where no cause of a refusal stands against it; a patch's number names its class.
+pub fn refusals_have_causes()
+    ensures take { TakenWithoutCause }
+    ensures put_back { PutBackWithoutCause }
+    ensures class { NumberNamesClass }
 {}
 
 /// Of records with one outline, one history and one set of taken classes leave one value.

@@ -1,10 +1,10 @@
 //! One block's bytes and the records of its live classes.
-ghost use Rattle.std.specs.Prelude.{◌≡◌, ◌<◌, ◌↔◌, length, [], OnErr, ℕ, List, MatchResult, IsOk};
+ghost use Rattle.std.specs.Prelude.{◌≡◌, ◌<◌, ◌↔◌, length, [], OnErr, ℕ, List, IsOk};
 ghost use Rattle.patch_model.specs.History.{History, HoldsDependents, without, cached as the_cached};
 ghost use Rattle.patch_view.specs.State.{Block, is_left, swept_to, class_at, exchanged_at, follows, hinders, place_of, restored_to, outline, IsLeast};
 ghost use Rattle.patch_view.specs.History.{undoable_classes};
 ghost use Rattle.patch_view.specs.Meaning.{Represents};
-ghost use Rattle.patch_view.specs.Answers.{MayTake, MayPutBack, IsTaken, IsWhyNotTaken, IsPutBack, IsWhyNotPutBack};
+ghost use Rattle.patch_view.specs.Answers.{MayTake, MayPutBack, IsTakeAnswer, IsPutBackAnswer};
 
 use crate::classes::Class;
 use crate::refusals::{PutBackRefusal, TakeRefusal};
@@ -127,7 +127,7 @@ impl<A: Allocator> BlockState<A> {
     /// It is public for the views of a cache, which put all back at their end; elsewhere a [`view`](BlockState::view) does it.
     pub fn take(&mut self, no: PatchNo) -> Result<(), TakeRefusal>
         ensures answer { (h : History) (taken : List ℕ) → Represents self.old taken h
-            → MatchResult result (λ done. IsTaken h taken no self.new) (λ refusal. IsWhyNotTaken h taken no refusal) }
+            → IsTakeAnswer h taken no self.new result }
         ensures accepted { (h : History) (taken : List ℕ) → Represents self.old taken h → IsOk result ↔ MayTake h taken no }
         ensures outline { outline self.new ≡ outline self.old }
         ensures refused { OnErr result (self.new ≡ self.old) }
@@ -137,7 +137,7 @@ impl<A: Allocator> BlockState<A> {
 
     fn take_exactly(&mut self, no: PatchNo) -> Result<(), TakeRefusal>
         ensures answer { (h : History) (taken : List ℕ) → Represents self.old taken h
-            → MatchResult result (λ done. IsTaken h taken no self.new) (λ refusal. IsWhyNotTaken h taken no refusal) }
+            → IsTakeAnswer h taken no self.new result }
         ensures outline { outline self.new ≡ outline self.old }
         ensures refused { OnErr result (self.new ≡ self.old) }
     {
@@ -164,7 +164,7 @@ impl<A: Allocator> BlockState<A> {
     /// cache, as [`take`](BlockState::take) is.
     pub fn put_back(&mut self, no: PatchNo) -> Result<(), PutBackRefusal>
         ensures answer { (h : History) (taken : List ℕ) → Represents self.old taken h
-            → MatchResult result (λ done. IsPutBack h taken no self.new) (λ refusal. IsWhyNotPutBack h taken no refusal) }
+            → IsPutBackAnswer h taken no self.new result }
         ensures accepted { (h : History) (taken : List ℕ) → Represents self.old taken h → IsOk result ↔ MayPutBack h taken no }
         ensures outline { outline self.new ≡ outline self.old }
         ensures refused { OnErr result (self.new ≡ self.old) }
@@ -174,7 +174,7 @@ impl<A: Allocator> BlockState<A> {
 
     fn put_back_exactly(&mut self, no: PatchNo) -> Result<(), PutBackRefusal>
         ensures answer { (h : History) (taken : List ℕ) → Represents self.old taken h
-            → MatchResult result (λ done. IsPutBack h taken no self.new) (λ refusal. IsWhyNotPutBack h taken no refusal) }
+            → IsPutBackAnswer h taken no self.new result }
         ensures outline { outline self.new ≡ outline self.old }
         ensures refused { OnErr result (self.new ≡ self.old) }
     {

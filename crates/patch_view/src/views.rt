@@ -1,11 +1,11 @@
 //! A block lent with classes to be taken back, which has to be put right again.
-ghost use Rattle.std.specs.Prelude.{◌≡◌, ℕ, List, [], length, OnErr, MatchResult, IsOk, ◌↔◌};
+ghost use Rattle.std.specs.Prelude.{◌≡◌, ℕ, List, [], length, OnErr, IsOk, ◌↔◌};
 ghost use Rattle.patch_model.specs.History.{History, HoldsDependents, without};
 ghost use Rattle.patch_view.specs.History.{undoable_classes};
 ghost use Rattle.patch_view.specs.State.{Block, outline};
 ghost use Rattle.patch_view.specs.Meaning.{Represents};
 ghost use Rattle.patch_view.specs.View.{seen_by, borrow_of};
-ghost use Rattle.patch_view.specs.Answers.{MayTake, MayPutBack, IsTaken, IsWhyNotTaken, IsPutBack, IsWhyNotPutBack};
+ghost use Rattle.patch_view.specs.Answers.{MayTake, MayPutBack, IsTakeAnswer, IsPutBackAnswer};
 
 use crate::refusals::{PutBackRefusal, TakeRefusal};
 use crate::states::BlockState;
@@ -35,7 +35,7 @@ impl<'a, A: Allocator> BlockView<'a, A> {
     pub fn take(&mut self, no: PatchNo) -> Result<(), TakeRefusal>
         ensures same_reference { borrow_of self.new ≡ borrow_of self.old }
         ensures answer { (h : History) (taken : List ℕ) → Represents (seen_by self.old) taken h
-            → MatchResult result (λ done. IsTaken h taken no (seen_by self.new)) (λ refusal. IsWhyNotTaken h taken no refusal) }
+            → IsTakeAnswer h taken no (seen_by self.new) result }
         ensures accepted { (h : History) (taken : List ℕ) → Represents (seen_by self.old) taken h → IsOk result ↔ MayTake h taken no }
         ensures outline { outline (seen_by self.new) ≡ outline (seen_by self.old) }
         ensures refused { OnErr result (seen_by self.new ≡ seen_by self.old) }
@@ -47,7 +47,7 @@ impl<'a, A: Allocator> BlockView<'a, A> {
     pub fn put_back(&mut self, no: PatchNo) -> Result<(), PutBackRefusal>
         ensures same_reference { borrow_of self.new ≡ borrow_of self.old }
         ensures answer { (h : History) (taken : List ℕ) → Represents (seen_by self.old) taken h
-            → MatchResult result (λ done. IsPutBack h taken no (seen_by self.new)) (λ refusal. IsWhyNotPutBack h taken no refusal) }
+            → IsPutBackAnswer h taken no (seen_by self.new) result }
         ensures accepted { (h : History) (taken : List ℕ) → Represents (seen_by self.old) taken h → IsOk result ↔ MayPutBack h taken no }
         ensures outline { outline (seen_by self.new) ≡ outline (seen_by self.old) }
         ensures refused { OnErr result (seen_by self.new ≡ seen_by self.old) }

@@ -18,16 +18,18 @@ returns-clause-moves c = λ run block moves names legal known.
     let whole = orderly.blocks run block legal known in
     let coherent = c.blocks_are_coherent.ensures.coherent h block whole in
     let all = orderly.patches run legal in
-    let numbered = orderly.numbered run in (
-      λ is. accepted run block all numbered whole coherent c.uppermost_may_be_taken.ensures [] names moves (none_taken h) is,
-      λ p. permitted_ones run block all numbered whole coherent c.uppermost_may_be_taken.ensures [] moves (none_taken h) p.0 ∙ ap Ok p.1,
+    let numbered = orderly.numbered run in
+    let causes = c.refusals_have_causes.ensures in (
+      λ is. accepted run block all numbered whole coherent causes.take causes.put_back causes.class [] names moves (none_taken h) is,
+      λ p. permitted_ones run block all numbered whole coherent causes.take causes.put_back causes.class [] moves (none_taken h) p.0 ∙ ap Ok p.1,
     )
 
 pub returns-clause-looks : goal.returns-clause-looks
 returns-clause-looks c = λ run block start len moves without cached legal is.
     let orderly = c.executions_are_orderly.ensures in
+    let causes = c.refusals_have_causes.ensures in
     looked run block start len moves without cached (orderly.numbered run) (λ known. orderly.blocks run block legal known) (orderly.patches run legal)
-    c.blocks_are_coherent.ensures.coherent c.uppermost_may_be_taken.ensures is
+    c.blocks_are_coherent.ensures.coherent causes.take causes.put_back causes.class is
 
 pub returns-clause-images : goal.returns-clause-images
 returns-clause-images c = sent_image

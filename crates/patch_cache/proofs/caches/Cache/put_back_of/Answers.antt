@@ -1,14 +1,15 @@
-use Rattle.std.proofs.Common.{◌≡◌, ℕ, List, Result, Ok, Err}
+use Rattle.std.proofs.Common.{◌≡◌, ℕ, List, Result, Ok, Err, Some}
 use Rattle.std.specs.Result.{MatchResult, OnErr}
 use Rattle.patch_model.specs.Execution.{Execution}
 use Rattle.patch_model.specs.History.{History, history_of}
+use Rattle.patch_model.specs.Refusing.{why_not_put_back}
 use Rattle.patch_view.specs.State.{Block}
 use Rattle.patch_view.specs.Meaning.{Represents as IsBlockOf}
-use Rattle.patch_view.specs.Answers.{IsPutBack, IsWhyNotPutBack}
+use Rattle.patch_view.specs.Answers.{IsPutBackAnswer}
 use Rattle.patch_view.specs.declared.refusals.PutBackRefusal.{PutBackRefusal}
 use Rattle.patch_cache.specs.Contents.{Contents, with_block}
 use Rattle.patch_cache.specs.Meaning.{ShowsWithout}
-use Rattle.patch_cache.specs.Refusals.{put_back_cause}
+use Rattle.patch_view.specs.Refusal.{put_back_cause}
 use Rattle.patch_cache.specs.Viewing.{with_move}
 use Rattle.patch_cache.specs.declared.asks.Move.TheVariants.{Back}
 use Rattle.patch_cache.proofs.Showing.{Lent, started, put_back, put_back_is_refused, only_one, as_was, still_a_view}
@@ -16,7 +17,7 @@ use Rattle.patch_cache.proofs.caches.Cache.put_back_of.Goals as goal
 
 answered : {X : Type 0} → (r : Result X PutBackRefusal) (now c : Contents) (block place number : ℕ) (b after : Block) (names : List ℕ) (run : Execution) → Lent now c block place b
     → ShowsWithout now block names run
-    → ((h : History) (taken : List ℕ) → IsBlockOf b taken h → MatchResult r (λ done. IsPutBack h taken number after) (λ refusal. IsWhyNotPutBack h taken number refusal))
+    → ((h : History) (taken : List ℕ) → IsBlockOf b taken h → IsPutBackAnswer h taken number after r)
     → MatchResult r
     (λ done. (left : List ℕ) × (with_move run block names (Back number) ≡ Ok left) × ShowsWithout (with_block c place after) block left run)
     (λ refusal. with_move run block names (Back number) ≡ Err (put_back_cause refusal))

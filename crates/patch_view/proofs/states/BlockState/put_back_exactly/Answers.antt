@@ -1,12 +1,12 @@
 use Rattle.std.proofs.Common.{ap, sym, false, ◌∙◌}
-use Rattle.patch_view.proofs.Answering.{why_not_taken, why_applied, why_dependency, puts_back}
+use Rattle.patch_view.proofs.Answering.{why_nowhere, why_applied, why_dependency, puts_back}
 use Rattle.std.proofs.lemmas.List.Quantifiers.{position-Some}
 use Rattle.patch_view.specs.State.{outline, no_class}
 use Rattle.patch_view.proofs.Restoring.{outline-exchanged}
 use Rattle.patch_view.proofs.states.BlockState.put_back_exactly.Goals as goal
 
 pub returns-in_default-clause-answer : goal.returns-in_default-clause-answer
-returns-in_default-clause-answer g c h taken r = why_not_taken c.args.self.now taken h c.args.no r (sym c.in_default.ensures)
+returns-in_default-clause-answer g c h taken r = why_nowhere c.args.self.now taken h c.args.no r (sym c.in_default.ensures)
 
 pub returns-then-not-is_taken_at-clause-answer : goal.returns-then-not-is_taken_at-clause-answer
 returns-then-not-is_taken_at-clause-answer g c h taken r = why_applied c.args.self.now taken h c.args.no c.in-Some.at r (sym c.in-Some.ensures)

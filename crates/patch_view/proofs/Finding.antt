@@ -1,5 +1,5 @@
 -- What is found in a list, and the least of some numbers.
-use Rattle.std.proofs.Common.{◌≡◌, ℕ, ◌≤◌, ◌⊎◌, ◌∙◌, inl, inr, Bool, true, false, List, [], ◌∷◌, Some, None, refl, ap, subst, arith, min, fold, map}
+use Rattle.std.proofs.Common.{◌≡◌, ℕ, ◌≤◌, ◌⊎◌, ◌∙◌, inl, inr, Bool, true, false, List, [], ◌∷◌, Some, None, refl, sym, ap, subst, arith, min, fold, map}
 use Rattle.std.specs.Prelude.{find, ◌==◌}
 use Rattle.std.proofs.lemmas.Bool.{cases_Bool, eqb-true, eq-eqb}
 use Rattle.patch_model.specs.Entry.{is_among}
@@ -57,3 +57,11 @@ among-In ns n t = let r = list_any-at (λ m. m == n) ns t in subst (In ns) (eqb-
 
 pub In-among : (ns : List ℕ) (n : ℕ) → In ns n → is_among ns n ≡ true
 In-among ns n h = list_any-from (λ m. m == n) ns n h (eq-eqb n n refl)
+
+-- what is found passes
+pub find_in : {X : Type 0} → (p : X → Bool) (xs : List X) (x : X) → find p xs ≡ Some x → In xs x × (p x ≡ true)
+find_in p [] x e = absurd (cc)
+find_in p (y ∷ ys) x e = elim (cases_Bool (p y)) [
+  | inl t ↦ let same : y ≡ x = let two : Some y ≡ Some x = rw t at e in cc in (inl same, ap p (sym same) ∙ t)
+  | inr f ↦ let r = find_in p ys x (rw f at e) in (inr r.0, r.1)
+]
