@@ -250,3 +250,11 @@ joint-joins b new h x y e f joint is r p q may answer = elim is.1 [
   | inl at_ ↦ joins_named b new h x y joint.low joint.high e f r at_.0 at_.1 p q may answer
   | inr at_ ↦ joins_swapped b new h x y joint.high joint.low e f r at_.0 at_.1 p q may answer
 ]
+
+-- what isn't two classes of the block has no joint
+pub one_class : (b : Block) (x y : ℕ) (joint : Option Joint) → IsJoint b x y joint → IsJoint b x y None → joint ≡ None
+one_class b x y None is none = refl
+one_class b x y (Some joint) is none = elim is.1 [
+  | inl p ↦ let same = none joint.low joint.high p.0 p.1 in let less = is.0 in absurd (omega (arith, same, less))
+  | inr p ↦ let same = none joint.high joint.low p.0 p.1 in let less = is.0 in absurd (omega (arith, same, less))
+]

@@ -1,5 +1,5 @@
 //! What becomes of a block's records as patches are made, merged, sent and completed.
-ghost use Rattle.std.specs.Prelude.{◌≡◌, ◌+◌, ◌<◌, ◌≤◌, length, map, [], IfOk, OnOk, OnErr, ℕ, List, true, false, IsTrue, IsFalse};
+ghost use Rattle.std.specs.Prelude.{◌≡◌, ◌+◌, ◌<◌, ◌≤◌, length, map, [], IfOk, OnOk, OnErr, ℕ, List, None, true, false, IsTrue, IsFalse};
 ghost use Rattle.std.specs.List.Sorted.{IsNonDecreasing};
 ghost use Rattle.patch_model.specs.declared.patches.Undo.{Undo};
 ghost use Rattle.patch_model.specs.declared.patches.Mark.TheVariants.{Flight, Durable};
@@ -283,12 +283,14 @@ impl<A: Allocator> BlockState<A> {
     }
 
     /// Makes the classes of two patches one, under the lesser name. Both may be taken back, their spans meet or touch, and no
-    /// third class lies on a path from one to the other. Without memory nothing is changed, and no byte of the block in any case.
+    /// third class lies on a path from one to the other. Without memory nothing is changed, nor where they aren't two classes of the
+    /// block; and no byte of the block in any case.
     pub fn join(&mut self, a: PatchNo, b: PatchNo) -> Result<(), OutOfMemory>
     where
         A: Clone,
         ensures answer { (h : History) (e f : Entry) → Represents self.old [] h → IsPatch h a e → IsPatch h b f → MayJoin h.entries e.class f.class
             → OnOk result (Represents self.new [] (with_joined h e.class f.class)) }
+        ensures one_class { IsJoint self.old a b None → self.new ≡ self.old }
         ensures bytes { self.new.bytes ≡ self.old.bytes }
         ensures refused { OnErr result (self.new ≡ self.old) }
     {

@@ -228,6 +228,19 @@ complete 0 = refused Stranger
 drain = create 0 0; send 0; create 0 1; complete 0;
 ";
 
+// Over the same: a fault is told of one completion alone.
+const ONE_FAULT: &str = "\
+patch 0 0 a = patch 0
+patch 1 0 b = patch 1
+send 0 = sent 0 [0] [a]
+send 1 = sent 1 [1] [b]
+complete 0 = refused Fault
+complete 1 = durable 1 [1]
+complete 0 = durable 0 [0]
+disk 0 = [a]
+disk 1 = [b]
+";
+
 // A cache with the flights that it waits for, and its device.
 struct Bench {
     alloc: Global,
@@ -627,6 +640,7 @@ fn answers_are_as_worked(rt: HostRuntime) -> Result<(), Fail> {
 fn a_refused_completion_is_asked_again(rt: HostRuntime) -> Result<(), Fail> {
     for lands in [false, true] {
         walk(&rt, rt.alloc(), 0, lands, REFUSED_WRITE)?;
+        walk(&rt, rt.alloc(), 0, lands, ONE_FAULT)?;
     }
     Ok(())
 }
