@@ -1,8 +1,8 @@
 //! What the program does, over any streams.
-ghost use Rattle.std.specs.Prelude.{◌≡◌, ◌≢◌, ◌<◌, ◌≤◌, IfErr};
+ghost use Rattle.std.specs.Prelude.{◌≡◌, ◌≢◌, ◌<◌, ◌≤◌, IfErr, IfSome};
 ghost use Rattle.std.specs.IoError.{error_kind};
 ghost use Rattle.std.specs.declared.io.ErrorKind.TheVariants.{InvalidData};
-ghost use Rattle.patch_tool.specs.Ending.{HasStarved};
+ghost use Rattle.patch_tool.specs.Ending.{HasStarved, IsExitOf};
 
 use crate::arguments;
 use crate::arguments::Request;
@@ -63,6 +63,7 @@ fn run_replay<R: Read + Drop, W: Write + Drop, E: Write>(
 ) -> u8
     requires some { 0 < blocks }
     requires few { blocks ≤ MAX_BLOCKS }
+    ensures { IfSome (R.remaining input) (λ script. IsExitOf script result) }
 {
     let Ok(buffered) = BufWriter::new(alloc, &mut *output) else {
         return out_of_memory(output);
