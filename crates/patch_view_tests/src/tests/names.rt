@@ -1,7 +1,9 @@
 //! The names of refusals, and spans exchanged.
 use patch_model::{PatchNo, RefusalKind};
 use patch_view::{PutBackRefusal, TakeRefusal, swap_span};
+use std::alloc::{AllocError, Global};
 use std::process::Abort;
+use std::test::Fail;
 
 type Names<'a> = (RefusalKind, u8, &'a str);
 
@@ -19,6 +21,27 @@ fn expect_names(rt: &impl Abort, names: Names, kind: RefusalKind, code: u8, name
         names.0 == kind && names.1 == code && names.2 == name,
         "{name}"
     );
+}
+
+// All refusals of views, as they are shown, with commas between.
+fn tell_all(alloc: Global) -> Result<String, AllocError> {
+    let (unknown, flying) = (TakeRefusal::Unknown, TakeRefusal::InFlight);
+    let (hard, taken) = (TakeRefusal::Hard, TakeRefusal::AlreadyTaken);
+    let applied = TakeRefusal::DependentApplied(PatchNo(3));
+    let (back, below) = (
+        PutBackRefusal::NotTaken,
+        PutBackRefusal::DependencyTaken(PatchNo(70_000)),
+    );
+    format!(in alloc; "{unknown}, {flying}, {hard}, {taken}, {applied}, {back}, {below}")
+}
+
+#[test]
+fn refusals_have_their_texts(rt: HostRuntime) -> Result<(), Fail> {
+    assert_eq!(rt;
+        tell_all(rt.alloc())?.as_str(),
+        "Unknown, InFlight, Hard, AlreadyTaken, DependentApplied 3, NotTaken, DependencyTaken 70000"
+    );
+    Ok(())
 }
 
 #[test]
