@@ -1,10 +1,10 @@
 -- What a crash may leave.
-use Rattle.std.specs.Prelude.{ℕ, Bool, ◌≡◌, ◌≤◌, ◌&&◌, ◌||◌, IsTrue, List, [], ◌∷◌, map, length, Contains}
+use Rattle.std.specs.Prelude.{ℕ, Bool, ◌≡◌, ◌≤◌, ◌&&◌, ◌||◌, IsTrue, List, [], ◌∷◌, map, length, slice_set, Contains}
 use Rattle.std.specs.List.{range_with_len}
 use Rattle.patch_model.specs.Execution.{Execution, cut}
 use Rattle.patch_model.specs.Entry.{Entry, is_durable, is_flight, is_among}
 use Rattle.patch_model.specs.Dependency.{depends_directly}
-use Rattle.patch_model.specs.History.{history_of, pile_of}
+use Rattle.patch_model.specs.History.{history_of, image, pile_of}
 
 -- each patch that one of the set depends on directly is in the set
 abbrev pub IsClosed : List Entry → (Entry → Bool) → Type 0
@@ -26,6 +26,10 @@ disk_of run set = map (λ block. pile_of (history_of run block) set) (range_with
 pub record MayLeave (run : Execution) (disk : List (List ℕ)) : Type 0 where
   pub landed : List ℕ
   pub disk_is : disk ≡ disk_of run (crash_set landed)
+
+-- the disk with the block's image written
+abbrev pub with_image : Execution → ℕ → List (List ℕ) → List (List ℕ)
+with_image run block disk = slice_set disk block (image (history_of run block))
 
 -- each contents is a disk that a crash may leave after as many steps as its count says; no count is below the one before
 -- it, nor the first one below this one

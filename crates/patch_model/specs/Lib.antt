@@ -10,9 +10,11 @@ pub mod Ready
 pub mod State
 pub mod History
 pub mod Legal
+pub mod Progress
 pub mod Refusing
 pub mod Crash
 pub mod Orderly
 pub mod Piles
+pub mod Laws
 pub mod Member
 pub mod Rows

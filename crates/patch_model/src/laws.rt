@@ -1,21 +1,23 @@
 //! Laws of the definitions. Each is the contract of a function that does nothing: who calls it may rest on the law.
-ghost use Rattle.std.specs.Prelude.{ℕ, ◌≡◌, ◌≢◌, ◌<◌, ◌≤◌, ◌+◌, ◌++◌, ◌∷◌, ◌==◌, ◌&&◌, ◌↔◌, [], IsTrue, IsFalse, None, List, Contains, All, count_by, length, map, slice_set};
+ghost use Rattle.std.specs.Prelude.{ℕ, ◌≡◌, ◌≢◌, ◌<◌, ◌≤◌, ◌+◌, ◌==◌, ◌&&◌, ◌↔◌, [], IsTrue, None, List, Contains, All, length, map};
 ghost use Rattle.std.specs.List.{list_any};
 ghost use Rattle.std.specs.List.Sorted.{IsNonDecreasing};
 ghost use Rattle.patch_model.specs.declared.patches.Undo.{Undo};
 ghost use Rattle.patch_model.specs.Patch.{Patch};
 ghost use Rattle.patch_model.specs.Step.{Step, Create, Merge, Send, Complete};
-ghost use Rattle.patch_model.specs.Pile.{end, covers};
-ghost use Rattle.patch_model.specs.Execution.{Execution, extended, followed_by};
-ghost use Rattle.patch_model.specs.Entry.{Entry, is_memory, is_flight, is_live, is_among, in_memory_of};
+ghost use Rattle.patch_model.specs.Pile.{covers};
+ghost use Rattle.patch_model.specs.Execution.{Execution, extended};
+ghost use Rattle.patch_model.specs.Entry.{Entry, is_memory, is_flight, is_among, in_memory_of};
 ghost use Rattle.patch_model.specs.Dependency.{shares_byte, depends_directly, Path, has_live};
 ghost use Rattle.patch_model.specs.Ready.{IsLargestWritable, IsRising, has, ready};
-ghost use Rattle.patch_model.specs.State.{fresh, class_of, joined, sent, landed, has_flight, after_step, state_of, entries_of, next_patch, flying_of, numbers_of};
-ghost use Rattle.patch_model.specs.Legal.{IsLegal, IsLegalStep, IsLegalCreate, IsLegalMerge, block_at, touch};
+ghost use Rattle.patch_model.specs.State.{joined, sent, landed, has_flight, after_step, state_of, entries_of};
+ghost use Rattle.patch_model.specs.Legal.{IsLegal, IsLegalCreate, IsLegalMerge, touch};
 ghost use Rattle.patch_model.specs.Refusing.{IsBetween, why_not_made, why_not_near, why_not_sent};
 ghost use Rattle.patch_model.specs.History.{History, of_block, history_of, without, image, HoldsDependents, holds_dependents};
-ghost use Rattle.patch_model.specs.Orderly.{IsUnder, IsOrderly, IsNumbered, IsOrderlyBlock, MayJoin, MeetAt, IsClassUnder, CoversIt, left_behind};
-ghost use Rattle.patch_model.specs.Crash.{AreWhole, IsClosed, HasTrail, MayLeave, crash_set};
+ghost use Rattle.patch_model.specs.Orderly.{IsUnder, IsOrderly, IsNumbered, IsOrderlyBlock, MayJoin, MeetAt, IsClassUnder, left_behind};
+ghost use Rattle.patch_model.specs.Crash.{AreWhole, IsClosed, MayLeave, crash_set, with_image};
+ghost use Rattle.patch_model.specs.Progress.{IsMade, IsIdle, MayFollow, history_after, class_in, block_in, live_count, ready_in, ready_numbers, flying_numbers};
+ghost use Rattle.patch_model.specs.Laws.{MadeIsLast, MadeHereAlone, KeepsLimits, NoneComesBetween, ClassesLeaveNoGap, NearClassesTouch, TakenAreLast, TakenAreInMemory, TrailsJoin};
 ghost use Rattle.patch_model.specs.Piles.{NeighboursCommute, RearrangedAlike, MayComeLast, UncoveredByte, CoveredByte, TakenBack};
 
 // Piles.
@@ -59,31 +61,27 @@ pub fn steps_extend()
     ensures state { (run : Execution) (step : Step)
         → state_of (extended run step) ≡ after_step (state_of run) step }
     ensures legal { (run : Execution) (step : Step) → IsLegal run
-        → IsLegalStep (length run.first) (state_of run) step → IsLegal (extended run step) }
+        → MayFollow run step → IsLegal (extended run step) }
 {}
 
 /// What a step makes of each block's history: a patch is added to its block; a merge, a send and a completion change the
 /// entries where they stand, and those of one block alone.
 pub fn steps_change_blocks()
-    ensures made_here { (run : Execution) (block start : ℕ) (bytes after : List ℕ) (undo : Undo)
-        → (history_of (extended run (Create block start bytes after undo)) block).entries
-        ≡ (history_of run block).entries ++ fresh (entries_of run) (next_patch run block start bytes after undo) ∷ [] }
-    ensures made_elsewhere { (run : Execution) (block start : ℕ) (bytes after : List ℕ) (undo : Undo) (other : ℕ)
-        → other ≢ block → history_of (extended run (Create block start bytes after undo)) other ≡ history_of run other }
+    ensures made_here { MadeIsLast }
+    ensures made_elsewhere { MadeHereAlone }
     ensures merged { (run : Execution) (a b block : ℕ)
-        → (history_of (extended run (Merge a b)) block).entries
-        ≡ map (joined (class_of (entries_of run) a) (class_of (entries_of run) b)) (history_of run block).entries }
-    ensures merged_elsewhere { (run : Execution) (a b other : ℕ) → IsLegal run → IsLegalMerge (entries_of run) a b
-        → other ≢ block_at (entries_of run) a → history_of (extended run (Merge a b)) other ≡ history_of run other }
+        → (history_after run (Merge a b) block).entries
+        ≡ map (joined (class_in run a) (class_in run b)) (history_of run block).entries }
+    ensures merged_elsewhere { (run : Execution) (a b other : ℕ) → IsLegal run → MayFollow run (Merge a b)
+        → other ≢ block_in run a → history_after run (Merge a b) other ≡ history_of run other }
     ensures sent { (run : Execution) (block other : ℕ)
-        → (history_of (extended run (Send block)) other).entries
-        ≡ map (sent (ready (entries_of run) block)) (history_of run other).entries }
+        → (history_after run (Send block) other).entries ≡ map (sent (ready_in run block)) (history_of run other).entries }
     ensures sent_elsewhere { (run : Execution) (block other : ℕ) → other ≢ block
-        → history_of (extended run (Send block)) other ≡ history_of run other }
+        → history_after run (Send block) other ≡ history_of run other }
     ensures landed { (run : Execution) (block other : ℕ)
-        → (history_of (extended run (Complete block)) other).entries ≡ map (landed block) (history_of run other).entries }
+        → (history_after run (Complete block) other).entries ≡ map (landed block) (history_of run other).entries }
     ensures landed_elsewhere { (run : Execution) (block other : ℕ) → other ≢ block
-        → history_of (extended run (Complete block)) other ≡ history_of run other }
+        → history_after run (Complete block) other ≡ history_of run other }
 {}
 
 /// The patches of a legal execution are orderly, and so are those of each block.
@@ -98,7 +96,7 @@ pub fn executions_are_orderly()
 pub fn executions_are_limited()
     ensures blocks { (run : Execution) → IsLegal run → length run.first ≤ 4096 }
     ensures patches { (run : Execution) → IsLegal run → length (entries_of run) ≤ 16777216 }
-    ensures live { (run : Execution) → IsLegal run → count_by is_live (entries_of run) ≤ 65536 }
+    ensures live { (run : Execution) → IsLegal run → live_count run ≤ 65536 }
     ensures sends { (run : Execution) → IsLegal run → (state_of run).sends ≤ 16777216 }
     ensures opened { (first : List (List ℕ)) → 0 < length first → length first ≤ 4096 → All (λ block. length block ≡ 4096) first
         → IsLegal (record { first = first; steps = [] }) }
@@ -108,8 +106,7 @@ pub fn executions_are_limited()
 pub fn creations_are_limited()
     ensures { (blocks block start : ℕ) (all : List Entry) (bytes after : List ℕ)
         → IsLegalCreate blocks all block start bytes after
-        ↔ ((block < blocks) × (0 < length bytes) × (start + length bytes ≤ 4096) × All (λ n. n < length all) after
-        × (length all < 16777216) × (count_by is_live all < 65536)) }
+        ↔ KeepsLimits blocks all block start bytes after }
 {}
 
 /// A patch is made just where no cause of a refusal holds.
@@ -120,9 +117,9 @@ pub fn legal_patches_are_made()
 
 /// A patch is of a block that there is, and one in flight is of a block with a flight.
 pub fn patches_are_placed()
-    ensures known { (run : Execution) (e : Entry) → IsLegal run → Contains (entries_of run) e
+    ensures known { (run : Execution) (e : Entry) → IsLegal run → IsMade run e
         → e.patch.block < length run.first }
-    ensures flying { (run : Execution) (e : Entry) → IsLegal run → Contains (entries_of run) e
+    ensures flying { (run : Execution) (e : Entry) → IsLegal run → IsMade run e
         → IsTrue (is_flight e) → IsTrue (has_flight (state_of run) e.patch.block) }
 {}
 
@@ -138,35 +135,28 @@ pub fn flights_are_single()
 
 /// What a send puts in flight is what was ready; no other step changes what is in flight of a block until its write ends.
 pub fn flights_are_ready()
-    ensures sent { (run : Execution) (block : ℕ) → IsLegal run → IsFalse (has_flight (state_of run) block)
-        → numbers_of (flying_of (entries_of (extended run (Send block))) block)
-        ≡ numbers_of (ready (entries_of run) block) }
+    ensures sent { (run : Execution) (block : ℕ) → IsLegal run → IsIdle run block
+        → flying_numbers (extended run (Send block)) block ≡ ready_numbers run block }
     ensures made { (run : Execution) (at start : ℕ) (bytes after : List ℕ) (undo : Undo) (block : ℕ)
-        → numbers_of (flying_of (entries_of (extended run (Create at start bytes after undo))) block)
-        ≡ numbers_of (flying_of (entries_of run) block) }
+        → flying_numbers (extended run (Create at start bytes after undo)) block ≡ flying_numbers run block }
     ensures merged { (run : Execution) (a b block : ℕ)
-        → numbers_of (flying_of (entries_of (extended run (Merge a b))) block)
-        ≡ numbers_of (flying_of (entries_of run) block) }
+        → flying_numbers (extended run (Merge a b)) block ≡ flying_numbers run block }
     ensures sent_elsewhere { (run : Execution) (other block : ℕ) → other ≢ block
-        → numbers_of (flying_of (entries_of (extended run (Send other))) block)
-        ≡ numbers_of (flying_of (entries_of run) block) }
+        → flying_numbers (extended run (Send other)) block ≡ flying_numbers run block }
     ensures landed_elsewhere { (run : Execution) (other block : ℕ) → other ≢ block
-        → numbers_of (flying_of (entries_of (extended run (Complete other))) block)
-        ≡ numbers_of (flying_of (entries_of run) block) }
+        → flying_numbers (extended run (Complete other)) block ≡ flying_numbers run block }
 {}
 
 /// How many patches are live after each step: a patch that is made is, and those whose write ends no more.
 pub fn live_are_counted()
     ensures made { (run : Execution) (block start : ℕ) (bytes after : List ℕ) (undo : Undo)
-        → count_by is_live (entries_of (extended run (Create block start bytes after undo)))
-        ≡ count_by is_live (entries_of run) + 1 }
+        → live_count (extended run (Create block start bytes after undo)) ≡ live_count run + 1 }
     ensures merged { (run : Execution) (a b : ℕ)
-        → count_by is_live (entries_of (extended run (Merge a b))) ≡ count_by is_live (entries_of run) }
+        → live_count (extended run (Merge a b)) ≡ live_count run }
     ensures sent { (run : Execution) (block : ℕ)
-        → count_by is_live (entries_of (extended run (Send block))) ≡ count_by is_live (entries_of run) }
+        → live_count (extended run (Send block)) ≡ live_count run }
     ensures landed { (run : Execution) (block : ℕ)
-        → count_by is_live (entries_of (extended run (Complete block))) + length (numbers_of (flying_of (entries_of run) block))
-        ≡ count_by is_live (entries_of run) }
+        → live_count (extended run (Complete block)) + length (flying_numbers run block) ≡ live_count run }
 {}
 
 // Dependencies, classes and marks.
@@ -174,7 +164,7 @@ pub fn live_are_counted()
 /// What a durable patch depends on directly is durable; what one in flight depends on is durable or in flight of its
 /// block; what a hard one depends on is durable or hard of its block.
 pub fn marks_are_closed()
-    ensures { (run : Execution) (e f : Entry) → IsLegal run → Contains (entries_of run) e → Contains (entries_of run) f
+    ensures { (run : Execution) (e f : Entry) → IsLegal run → IsMade run e → IsMade run f
         → IsTrue (depends_directly e.patch f.patch) → IsUnder e f }
 {}
 
@@ -190,9 +180,7 @@ pub fn paths_form_no_ring()
 /// Of the patches that change a byte, those of a class are neighbours, and of two classes that change it just one
 /// depends on the other: that of the later patch, directly.
 pub fn classes_are_neighbours()
-    ensures neighbours { (run : Execution) (place : ℕ) (e f g : Entry) → IsLegal run
-        → MeetAt (entries_of run) place e f → MeetAt (entries_of run) place f g
-        → e.patch.no < f.patch.no → f.patch.no < g.patch.no → e.class ≡ g.class → f.class ≡ e.class }
+    ensures neighbours { NoneComesBetween }
     ensures over { (run : Execution) (place : ℕ) (e f : Entry) → IsLegal run
         → MeetAt (entries_of run) place e f → e.patch.no < f.patch.no → e.class ≢ f.class
         → IsClassUnder (entries_of run) e f }
@@ -202,13 +190,8 @@ pub fn classes_are_neighbours()
 
 /// A class's patches leave no gap between them, so two classes touch where their spans do.
 pub fn spans_are_whole()
-    ensures gap { (run : Execution) (e g : Entry) (place : ℕ) → IsLegal run → Contains (entries_of run) e
-        → Contains (entries_of run) g → e.class ≡ g.class → e.patch.start ≤ place → place < end g.patch
-        → (f : Entry) × CoversIt (entries_of run) e.class place f }
-    ensures near { (run : Execution) (e e2 g g2 : Entry) → IsLegal run → Contains (entries_of run) e
-        → Contains (entries_of run) e2 → Contains (entries_of run) g → Contains (entries_of run) g2
-        → e.class ≡ e2.class → g.class ≡ g2.class → e.patch.start ≤ end g2.patch → g.patch.start ≤ end e2.patch
-        → IsTrue (touch (entries_of run) e.class g.class) }
+    ensures gap { ClassesLeaveNoGap }
+    ensures near { NearClassesTouch }
 {}
 
 /// Two classes merge just where no cause of a refusal holds and no third class lies between them, and a write of a block
@@ -217,20 +200,20 @@ pub fn near_classes_merge()
     ensures legal { (all : List Entry) (a b : ℕ)
         → ((why_not_near all a b ≡ None) × ((c : ℕ) → IsBetween all a b c → ⊥)) ↔ IsLegalMerge all a b }
     ensures sent { (run : Execution) (block : ℕ) → (why_not_sent run block ≡ None)
-        ↔ ((block < length run.first) × IsLegalStep (length run.first) (state_of run) (Send block)) }
+        ↔ ((block < length run.first) × MayFollow run (Send block)) }
 {}
 
 /// The numbers of what is ready of a block rise, and name its classes: a class is ready where its name is one of them.
 pub fn classes_have_names()
-    ensures rising { (run : Execution) (block : ℕ) → IsNonDecreasing (numbers_of (ready (entries_of run) block)) }
-    ensures ready { (run : Execution) (block : ℕ) (e : Entry) → IsLegal run → Contains (entries_of run) e
-        → is_among (numbers_of (ready (entries_of run) block)) e.class ≡ has (ready (entries_of run) block) e }
+    ensures rising { (run : Execution) (block : ℕ) → IsNonDecreasing (ready_numbers run block) }
+    ensures ready { (run : Execution) (block : ℕ) (e : Entry) → IsLegal run → IsMade run e
+        → is_among (ready_numbers run block) e.class ≡ has (ready_in run block) e }
 {}
 
 /// The classes of a legal merge may be joined, as the patches of their block alone show.
 pub fn merges_may_join()
-    ensures { (run : Execution) (a b : ℕ) → IsLegal run → IsLegalMerge (entries_of run) a b
-        → MayJoin (of_block (block_at (entries_of run) a) (entries_of run)) (class_of (entries_of run) a) (class_of (entries_of run) b) }
+    ensures { (run : Execution) (a b : ℕ) → IsLegal run → MayFollow run (Merge a b)
+        → MayJoin (of_block (block_in run a) (entries_of run)) (class_in run a) (class_in run b) }
 {}
 
 // What a send takes.
@@ -246,30 +229,29 @@ pub fn ready_is_largest()
 
 /// Where a block has no flight, each hard patch of it in memory is ready.
 pub fn hard_is_ready()
-    ensures { (run : Execution) (block : ℕ) (e : Entry) → IsLegal run → IsFalse (has_flight (state_of run) block)
-        → Contains (entries_of run) e → IsTrue (in_memory_of block e) → IsTrue e.hard
-        → Contains (ready (entries_of run) block) e }
+    ensures { (run : Execution) (block : ℕ) (e : Entry) → IsLegal run → IsIdle run block
+        → IsMade run e → IsTrue (in_memory_of block e) → IsTrue e.hard → Contains (ready_in run block) e }
 {}
 
 /// Where nothing is in flight and some patch is in memory, some block may be sent.
 pub fn some_is_ready()
-    ensures { (run : Execution) (e : Entry) → IsLegal run → (state_of run).flights ≡ [] → Contains (entries_of run) e
-        → IsTrue (is_memory e) → (block : ℕ) × (block < length run.first) × (ready (entries_of run) block ≢ []) }
+    ensures { (run : Execution) (e : Entry) → IsLegal run → (state_of run).flights ≡ [] → IsMade run e
+        → IsTrue (is_memory e) → (block : ℕ) × (block < length run.first) × (ready_in run block ≢ []) }
 {}
 
 /// What a send of a block leaves in memory holds its dependents, and the block without it is the image sent.
 pub fn sends_leave()
-    ensures holds { (run : Execution) (block : ℕ) → IsLegal run → IsFalse (has_flight (state_of run) block)
+    ensures holds { (run : Execution) (block : ℕ) → IsLegal run → IsIdle run block
         → HoldsDependents (history_of run block) (left_behind (entries_of run) block) }
-    ensures image { (run : Execution) (block : ℕ) → IsLegal run → IsFalse (has_flight (state_of run) block)
-        → image (history_of (extended run (Send block)) block)
+    ensures image { (run : Execution) (block : ℕ) → IsLegal run → IsIdle run block
+        → image (history_after run (Send block) block)
         ≡ without (history_of run block) (left_behind (entries_of run) block) }
 {}
 
 /// Only a send of the block changes its image.
 pub fn images_stay()
     ensures { (run : Execution) (step : Step) (block : ℕ) → step ≢ Send block
-        → image (history_of (extended run step) block) ≡ image (history_of run block) }
+        → image (history_after run step block) ≡ image (history_of run block) }
 {}
 
 // Views.
@@ -281,12 +263,8 @@ pub fn holding_is_tested()
 
 /// What a set that holds its dependents takes is in memory, of the block, and at each byte above all that it doesn't take.
 pub fn taken_are_last()
-    ensures last { (run : Execution) (block : ℕ) (names : List ℕ) (place : ℕ) (e f : Entry) → IsLegal run
-        → HoldsDependents (history_of run block) names → MeetAt (entries_of run) place e f → e.patch.no < f.patch.no
-        → IsTrue (is_among names e.class) → IsTrue (is_among names f.class) }
-    ensures memory { (run : Execution) (block : ℕ) (names : List ℕ) (e : Entry) → IsLegal run
-        → HoldsDependents (history_of run block) names → Contains (entries_of run) e
-        → IsTrue (is_among names e.class) → IsTrue (is_memory e) × (e.patch.block ≡ block) }
+    ensures last { TakenAreLast }
+    ensures memory { TakenAreInMemory }
 {}
 
 /// What is left without some classes rests on which they are, and not on the order in which they were taken.
@@ -307,14 +285,12 @@ pub fn crash_sets_are_closed()
 /// Where a crash may leave a disk, it may also leave that disk with a block's image written.
 pub fn images_land()
     ensures { (run : Execution) (disk : List (List ℕ)) (block : ℕ) → block < length run.first → MayLeave run disk
-        → MayLeave run (slice_set disk block (image (history_of run block))) }
+        → MayLeave run (with_image run block disk) }
 {}
 
 /// The trails of two calls, one after the other, join to one.
 pub fn trails_join()
-    ensures { (run : Execution) (more : List Step) (from : ℕ) (disks later : List (List (List ℕ))) (counts next : List ℕ)
-        → HasTrail run from disks counts → HasTrail (followed_by run more) (length run.steps) later next
-        → HasTrail (followed_by run more) from (disks ++ later) (counts ++ next) }
+    ensures { TrailsJoin }
 {}
 
 /// A crash before any step leaves the first bytes.
@@ -325,7 +301,7 @@ pub fn first_bytes_are_left()
 /// A disk that a crash may leave it may also leave after one more step that ends no write.
 pub fn disks_stay()
     ensures { (run : Execution) (step : Step) (disk : List (List ℕ)) → IsLegal run
-        → IsLegalStep (length run.first) (state_of run) step → ((block : ℕ) → step ≢ Complete block)
+        → MayFollow run step → ((block : ℕ) → step ≢ Complete block)
         → MayLeave run disk → MayLeave (extended run step) disk }
 {}
 
@@ -333,5 +309,5 @@ pub fn disks_stay()
 pub fn writes_end()
     ensures { (run : Execution) (disk : List (List ℕ)) (block : ℕ) → IsLegal run → block < length run.first
         → MayLeave run disk
-        → MayLeave (extended run (Complete block)) (slice_set disk block (image (history_of run block))) }
+        → MayLeave (extended run (Complete block)) (with_image run block disk) }
 {}
