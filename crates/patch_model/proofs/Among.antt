@@ -1,16 +1,10 @@
 -- What is among some numbers.
-use Rattle.std.proofs.Common.{◌≡◌, ℕ, inl, inr, true, false, List, [], ◌∷◌, map, refl, ap, arith, subst}
+use Rattle.std.proofs.Common.{◌≡◌, ℕ, inl, inr, true, false, List, [], ◌∷◌, map, refl, ap, arith}
 use Rattle.std.specs.Prelude.{◌==◌}
 use Rattle.std.proofs.lemmas.Bool.{cases_Bool}
 use Rattle.std.proofs.lemmas.Bool.Decides.{nat_tests}
 use Rattle.patch_model.specs.Entry.{is_among}
-use Rattle.patch_model.specs.Member.{In, list_any-at, list_any-from}
-
-pub among-In : (names : List ℕ) (n : ℕ) → is_among names n ≡ true → In names n
-among-In names n h = let r = list_any-at (λ m. m == n) names h in let same : r.0 ≡ n = grind (arith, nat_tests, r.2) in subst (λ m. In names m) same r.1
-
-pub In-among : (names : List ℕ) (n : ℕ) → In names n → is_among names n ≡ true
-In-among names n i = list_any-from (λ m. m == n) names n i (let same : (n == n) ≡ true = grind (arith, nat_tests) in same)
+use Rattle.patch_model.specs.Member.{In}
 
 -- a number that something of the list has
 pub among_map-at : {X : Type 0} → (f : X → ℕ) (xs : List X) (n : ℕ) → is_among (map f xs) n ≡ true → (x : X) × In xs x × (f x ≡ n)

@@ -3,19 +3,19 @@ use Rattle.std.proofs.Common.{◌≡◌, ℕ, zero, suc, ◌+◌, ◌<◌, ◌�
 use Rattle.std.specs.Prelude.{◌==◌, ◌&&◌, ◌||◌, IsTrue, min, slice_get, Some, None}
 use Rattle.std.proofs.lemmas.Bool.{cases_Bool, and_parts, or_cases, both_ways, not-true}
 use Rattle.std.proofs.lemmas.Bool.Decides.{nat_tests}
+use Rattle.patch_model.specs.Marked.{only_memory}
 use Rattle.patch_model.specs.Step.{Step, Create, Merge, Send, Complete}
-use Rattle.patch_model.specs.declared.patches.Mark.{Mark}
-use Rattle.patch_model.specs.declared.patches.Mark.TheVariants.{Memory, Flight, Durable}
 use Rattle.patch_model.specs.Execution.{Execution}
-use Rattle.patch_model.specs.Entry.{Entry, marks_memory, marks_flight, marks_durable, is_memory, is_flight, is_among, is_undoable}
+use Rattle.patch_model.specs.Entry.{Entry, marks_flight, marks_durable, is_memory, is_flight, is_among, is_undoable}
 use Rattle.patch_model.specs.Ready.{has, ready}
 use Rattle.patch_model.specs.State.{State, fresh, joined, sent, landed, class_of, after_step, after_steps, at_first, entries_of}
 use Rattle.patch_model.specs.Legal.{IsLegal, IsLegalStep, AreLegal, block_at}
 use Rattle.patch_model.specs.Crash.{AreWhole, crash_set}
-use Rattle.patch_model.specs.Member.{In, In-from_Contains, Contains-from_In}
+use Rattle.patch_model.specs.Member.{In, In-from_Contains, Contains-from_In, map-In}
+use Rattle.patch_model.specs.Kept.{class-landed, class-sent, patch-landed, patch-sent}
 use Rattle.patch_model.proofs.Striking.{AreApart, ready-largest, ready-In, has-In, In-has}
-use Rattle.patch_model.proofs.Numbering.{Numbered, Numbered-after_step, apart-from_Numbered, patch-sent, patch-landed}
-use Rattle.patch_model.proofs.Crashes.{In-map, In-push, Numbered-below}
+use Rattle.patch_model.proofs.Numbering.{Numbered, Numbered-after_step, apart-from_Numbered}
+use Rattle.patch_model.proofs.Crashes.{In-push, Numbered-below}
 
 -- two members of one class
 pub record AreAlike (e f : Entry) : Type 0 where
@@ -34,11 +34,6 @@ at_number n [] k P h = absurd (cc)
 at_number n (x ∷ xs) zero P h = (x, inl refl, refl, h)
 at_number n (x ∷ xs) (suc k) P h = let r = at_number (n + 1) xs k P h in (r.0, inr r.1, r.2, r.3)
 
-pub only_memory : (m : Mark) → marks_memory m ≡ true → m ≡ Memory
-only_memory Memory h = refl
-only_memory Flight h = absurd (cc)
-only_memory Durable h = absurd (cc)
-
 alike-sym : (e f : Entry) → AreAlike e f → AreAlike f e
 alike-sym e f a = record { mark = sym a.mark; block = sym a.block; hard = sym a.hard }
 
@@ -47,22 +42,16 @@ keeps-classes : (f : Entry → Entry) (all : List Entry) → ((e : Entry) → (f
     → ((e g : Entry) → In all e → In all g → e.class ≡ g.class → AreAlike e g → AreAlike (f e) (f g))
     → AreClasses all → AreClasses (map f all)
 keeps-classes f all same class keeps o = record {
-  named = λ y i. let r = In-map f all y i in
+  named = λ y i. let r = map-In f all y i in
       let p : y.patch.no ≡ r.0.patch.no = ap (λ z. z.patch.no) (sym r.2) ∙ ap (λ q. q.no) (same r.0) in
       let c : y.class ≡ r.0.class = ap (λ z. z.class) (sym r.2) ∙ class r.0 in
       let old : r.0.class ≤ r.0.patch.no = o.named r.0 r.1 in omega arith;
-  alike = λ y z i j e. let r = In-map f all y i in let s = In-map f all z j in
+  alike = λ y z i j e. let r = map-In f all y i in let s = map-In f all z j in
       let c : y.class ≡ r.0.class = ap (λ z. z.class) (sym r.2) ∙ class r.0 in
       let d : z.class ≡ s.0.class = ap (λ z. z.class) (sym s.2) ∙ class s.0 in
       let one : r.0.class ≡ s.0.class = sym c ∙ e ∙ d in
       subst (λ u. AreAlike u z) r.2 (subst (λ v. AreAlike (f r.0) v) s.2 (keeps r.0 s.0 r.1 s.1 one (o.alike r.0 s.0 r.1 s.1 one)));
 }
-
-pub class-sent : (set : List Entry) (e : Entry) → (sent set e).class ≡ e.class
-class-sent set e = elim (cases_Bool (has set e)) [ inl u ↦ rw u refl | inr u ↦ rw u refl ]
-
-pub class-landed : (block : ℕ) (e : Entry) → (landed block e).class ≡ e.class
-class-landed block e = elim (cases_Bool (is_flight e && (e.patch.block == block))) [ inl u ↦ rw u refl | inr u ↦ rw u refl ]
 
 module _ (all : List Entry) (block : ℕ) (apart : AreApart all) where
   pub goes_along : (e f : Entry) → In all e → In all f → e.class ≡ f.class → has (ready all block) e ≡ true → has (ready all block) f ≡ true
@@ -102,9 +91,9 @@ module _ (all : List Entry) (a b : Entry) (in_a : In all a) (in_b : In all b) (o
 
   AreClasses-joined : AreClasses (map (joined a.class b.class) all)
   AreClasses-joined = record {
-    named = λ y i. let r = In-map (joined a.class b.class) all y i in
+    named = λ y i. let r = map-In (joined a.class b.class) all y i in
         subst (λ z. z.class ≤ z.patch.no) r.2 (named_joined r.0 r.1);
-    alike = λ y z i j e. let r = In-map (joined a.class b.class) all y i in let s = In-map (joined a.class b.class) all z j in
+    alike = λ y z i j e. let r = map-In (joined a.class b.class) all y i in let s = map-In (joined a.class b.class) all z j in
         let e2 : (joined a.class b.class r.0).class ≡ (joined a.class b.class s.0).class = ap (λ u. u.class) r.2 ∙ e ∙ ap (λ u. u.class) (sym s.2) in
         subst (λ u. AreAlike u z) r.2 (subst (λ v. AreAlike (joined a.class b.class r.0) v) s.2 (alike_joined r.0 s.0 r.1 s.1 e2));
   }

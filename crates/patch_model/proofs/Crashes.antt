@@ -15,9 +15,10 @@ use Rattle.patch_model.specs.Ready.{has, ready}
 use Rattle.patch_model.specs.State.{State, fresh, joined, sent, landed, class_of, after_step, after_steps, at_first, entries_of}
 use Rattle.patch_model.specs.Legal.{IsLegal, IsLegalStep, AreLegal}
 use Rattle.patch_model.specs.Crash.{IsClosed, crash_set}
-use Rattle.patch_model.specs.Member.{In, In-from_Contains, Contains-from_In}
+use Rattle.patch_model.specs.Member.{In, In-from_Contains, Contains-from_In, map-In}
+use Rattle.patch_model.specs.Kept.{patch-joined, patch-landed, patch-sent}
 use Rattle.patch_model.proofs.Striking.{AreApart, ready-largest, ready-In, has-In, In-has, or_last}
-use Rattle.patch_model.proofs.Numbering.{Numbered, Numbered-after_step, apart-from_Numbered, patch-joined, patch-sent, patch-landed}
+use Rattle.patch_model.proofs.Numbering.{Numbered, Numbered-after_step, apart-from_Numbered}
 
 -- e's mark goes no further than that of f, on which it depends
 pub record IsMet (e f : Entry) : Type 0 where
@@ -42,11 +43,6 @@ pub not_landed : (m : Mark) → marks_flight m ≡ true → marks_durable m ≡ 
 not_landed Memory h g = cc
 not_landed Flight h g = cc
 not_landed Durable h g = cc
-
-pub In-map : (f : Entry → Entry) (xs : List Entry) (y : Entry) → In (map f xs) y → (x : Entry) × In xs x × (f x ≡ y)
-In-map f [] y h = absurd h
-In-map f (x ∷ xs) y (inl e) = (x, inl refl, e)
-In-map f (x ∷ xs) y (inr h) = let r = In-map f xs y h in (r.0, inr r.1, r.2)
 
 pub In-push : (xs : List Entry) (x y : Entry) → In (xs ++ x ∷ []) y → In xs y ⊎ (x ≡ y)
 In-push [] x y (inl e) = inr e
@@ -77,10 +73,10 @@ keeps-order : (f : Entry → Entry) (all : List Entry) → ((e : Entry) → (f e
     → ((e g : Entry) → In all e → In all g → depends_directly e.patch g.patch ≡ true → IsMet e g → IsMet (f e) (f g))
     → IsOrdered all → IsOrdered (map f all)
 keeps-order f all same keeps o = record {
-  earlier = λ y i n h. let r = In-map f all y i in
+  earlier = λ y i n h. let r = map-In f all y i in
       let eq : y.patch ≡ r.0.patch = ap (λ z. z.patch) (sym r.2) ∙ same r.0 in
       subst (λ p. n < p.no) (sym eq) (o.earlier r.0 r.1 n (subst (λ p. is_among p.after n ≡ true) eq h));
-  met = λ y z i j d. let r = In-map f all y i in let s = In-map f all z j in
+  met = λ y z i j d. let r = map-In f all y i in let s = map-In f all z j in
       let eq : y.patch ≡ r.0.patch = ap (λ z. z.patch) (sym r.2) ∙ same r.0 in
       let eq2 : z.patch ≡ s.0.patch = ap (λ z. z.patch) (sym s.2) ∙ same s.0 in
       let d' : depends_directly r.0.patch s.0.patch ≡ true = subst (λ p. depends_directly p s.0.patch ≡ true) eq (subst (λ q. depends_directly y.patch q ≡ true) eq2 d) in

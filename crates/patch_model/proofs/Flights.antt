@@ -10,11 +10,12 @@ use Rattle.patch_model.specs.Entry.{Entry, is_flight, is_memory}
 use Rattle.patch_model.specs.Ready.{has, ready}
 use Rattle.patch_model.specs.State.{State, joined, sent, landed, class_of, after_step, after_steps, at_first, state_of, entries_of, has_flight}
 use Rattle.patch_model.specs.Legal.{IsLegal, IsLegalStep, AreLegal}
-use Rattle.patch_model.specs.Member.{In, In-from_Contains, filter-In, list_any-at, list_any-from}
+use Rattle.patch_model.specs.Member.{In, In-from_Contains, filter-In, list_any-at, list_any-from, In-map}
+use Rattle.patch_model.specs.Kept.{mark-joined, patch-joined, patch-landed, patch-sent}
 use Rattle.patch_model.proofs.Striking.{In-has, ready-In}
-use Rattle.patch_model.proofs.Numbering.{apart-from_Numbered, patch-joined, patch-sent, patch-landed}
-use Rattle.patch_model.proofs.Marks.{IsSettled, IsSettled-after_step, settled_first, mark-joined}
-use Rattle.patch_model.proofs.Spans.{In-to_map, In-to_push}
+use Rattle.patch_model.proofs.Numbering.{apart-from_Numbered}
+use Rattle.patch_model.proofs.Marks.{IsSettled, IsSettled-after_step, settled_first}
+use Rattle.patch_model.proofs.Spans.{In-to_push}
 use Rattle.patch_model.proofs.Rings.{same_name}
 
 -- a patch that is in flight on this block
@@ -40,7 +41,7 @@ keeps-flying : (g : Entry → Entry) (all : List Entry) → ((e : Entry) → (g 
     → Flying all block → Flying (map g all) block
 keeps-flying g all patch block stays f = record {
   it = g f.it;
-  inside = In-to_map g all f.it f.inside;
+  inside = In-map g all f.it f.inside;
   flight = stays f.it f.inside f.flight f.here;
   here = ap (λ p. p.block) (patch f.it) ∙ f.here;
 }
@@ -91,7 +92,7 @@ AreFlights-after_step blocks st (Send block) legal s o =
             let at : first.0.patch.block ≡ block = grind (arith, nat_tests, p.1) in
             record {
               it = sent (ready st.entries block) first.0;
-              inside = In-to_map (sent (ready st.entries block)) st.entries first.0 r.0;
+              inside = In-map (sent (ready st.entries block)) st.entries first.0 r.0;
               flight = flight;
               here = ap (λ q. q.block) (patch-sent (ready st.entries block) first.0) ∙ at ∙ ap (λ q. q.0) e;
             }

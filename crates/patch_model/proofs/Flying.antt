@@ -3,8 +3,7 @@ use Rattle.std.proofs.Common.{◌≡◌, ◌≢◌, ℕ, ◌+◌, ◌∙◌, inl
 use Rattle.std.specs.Prelude.{◌==◌, ◌&&◌, not, cond, filter, count_by, IsFalse}
 use Rattle.std.proofs.lemmas.Bool.{cases_Bool, and_parts, and_right}
 use Rattle.std.proofs.lemmas.Bool.Decides.{nat_tests}
-use Rattle.patch_model.specs.declared.patches.Mark.{Mark}
-use Rattle.patch_model.specs.declared.patches.Mark.TheVariants.{Memory, Flight, Durable}
+use Rattle.patch_model.specs.Marked.{memory_live, flight_live}
 use Rattle.patch_model.specs.declared.patches.Undo.{Undo}
 use Rattle.patch_model.specs.Step.{Step, Create, Merge, Send, Complete}
 use Rattle.patch_model.specs.Execution.{Execution, extended}
@@ -13,11 +12,11 @@ use Rattle.patch_model.specs.Ready.{has, ready}
 use Rattle.patch_model.specs.State.{fresh, joined, sent, landed, class_of, after_step, state_of, entries_of, has_flight, next_patch, flying_of, numbers_of}
 use Rattle.patch_model.specs.Legal.{IsLegal}
 use Rattle.patch_model.specs.Member.{In, In-filter, filter-In}
+use Rattle.patch_model.specs.Kept.{mark-joined, patch-joined, patch-landed, patch-sent}
 use Rattle.patch_model.proofs.Counting.{count-cons, count-push, count-map_same}
 use Rattle.patch_model.proofs.Leaving.{entries_on, kept_same, filter-last}
-use Rattle.patch_model.proofs.Marks.{mark-joined, sent_from}
-use Rattle.patch_model.proofs.Numbering.{AreApart-run, Numbered-run, patch-joined, patch-sent, patch-landed}
-use Rattle.patch_model.proofs.Rings.{memory_live}
+use Rattle.patch_model.proofs.Marks.{sent_from}
+use Rattle.patch_model.proofs.Numbering.{AreApart-run, Numbered-run}
 use Rattle.patch_model.proofs.Rising.{rising-from_Numbered, rising-filter, rising-ready, rising_same}
 use Rattle.patch_model.proofs.Striking.{has-In, In-has, ready-In}
 use Rattle.patch_model.proofs.Waiting.{no_flying}
@@ -125,11 +124,6 @@ sent_count run block =
       | inl u ↦ rw u (sym (memory_live e.mark (sent_from (entries_of run) block (AreApart-run run) e i u).0))
       | inr u ↦ rw u refl
     ])
-
-flight_live : (m : Mark) → marks_flight m ≡ true → not (marks_durable m) ≡ true
-flight_live Memory h = refl
-flight_live Flight h = refl
-flight_live Durable h = absurd (cc)
 
 -- what lands is live no more
 count-landed : (block : ℕ) (es : List Entry) → count_by is_live (map (landed block) es) + length (numbers_of (filter (flies_of block) es)) ≡ count_by is_live es

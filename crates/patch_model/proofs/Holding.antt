@@ -7,8 +7,7 @@ use Rattle.std.proofs.lemmas.Bool.Decides.{nat_tests}
 use Rattle.patch_model.specs.Entry.{Entry, is_live, is_undoable, is_among}
 use Rattle.patch_model.specs.Dependency.{depends_directly}
 use Rattle.patch_model.specs.History.{History, HoldsDependents, holds_dependents}
-use Rattle.patch_model.specs.Member.{In-from_Contains, Contains-from_In, list_all-at, list_all-from, list_any-at, list_any-from}
-use Rattle.patch_model.proofs.Among.{among-In, In-among}
+use Rattle.patch_model.specs.Member.{In-from_Contains, Contains-from_In, list_all-at, list_all-from, list_any-at, list_any-from, among-In, In-among}
 use Rattle.patch_model.proofs.Striking.{implied, from_cases}
 
 module _ (h : History) (names : List ℕ) where

@@ -1,5 +1,5 @@
--- A patch laid on a block, byte by byte.
-use Rattle.std.proofs.Common.{◌≡◌, ℕ, ◌+◌, ◌-◌, ◌<◌, ◌≤◌, ◌⊎◌, ◌∙◌, false, inl, inr, List, [], ◌∷◌, ◌++◌, length, get_or, refl, sym, ap, arith, subst, true}
+-- Piles of patches, byte by byte.
+use Rattle.std.proofs.Common.{◌≡◌, ℕ, ◌+◌, ◌-◌, ◌<◌, ◌≤◌, ◌∙◌, false, inl, inr, List, [], ◌∷◌, ◌++◌, length, get_or, refl, sym, ap, arith, subst, true}
 use Rattle.std.proofs.lemmas.List.{places, same_lists}
 use Rattle.std.proofs.lemmas.Bool.Decides.{nat_tests}
 use Rattle.std.proofs.lemmas.Bool.{cases_Bool, and_parts, and_from}
@@ -10,33 +10,7 @@ use Rattle.patch_model.specs.Patch.{Patch}
 use Rattle.patch_model.specs.Pile.{end, lay, pile, covers}
 use Rattle.patch_model.specs.Piles.{Fit, IsApart, NeighboursCommute, MayComeLast, UncoveredByte, CoveredByte, under, TakenBack, RearrangedAlike, unchanged, exchange}
 use Rattle.patch_model.specs.Dependency.{shares_byte}
-
-pub length-lay : (b : List ℕ) (p : Patch) → end p ≤ length b → length (lay b p) ≡ length b
-length-lay b p fits = grind (arith, places)
-
-pub lay-before : (b : List ℕ) (p : Patch) (i d : ℕ) → end p ≤ length b → i < p.start → get_or (lay b p) i d ≡ get_or b i d
-lay-before b p i d fits before = grind (arith, places)
-
-pub lay-inside : (b : List ℕ) (p : Patch) (i d : ℕ) → end p ≤ length b → p.start ≤ i → i < end p → get_or (lay b p) i d ≡ get_or p.bytes (i - p.start) d
-lay-inside b p i d fits from to = grind (arith, places)
-
-pub lay-behind : (b : List ℕ) (p : Patch) (i d : ℕ) → end p ≤ length b → end p ≤ i → get_or (lay b p) i d ≡ get_or b i d
-lay-behind b p i d fits behind = grind (arith, places)
-
-pub covers-from : (p : Patch) (i : ℕ) → IsTrue (covers p i) → (p.start ≤ i) × (i < end p)
-covers-from p i h = grind (arith, nat_tests)
-
-pub covers-to : (p : Patch) (i : ℕ) → p.start ≤ i → i < end p → IsTrue (covers p i)
-covers-to p i from to = grind (arith, nat_tests)
-
-pub uncovered : (p : Patch) (i : ℕ) → IsFalse (covers p i) → (i < p.start) ⊎ (end p ≤ i)
-uncovered p i h = grind (arith, nat_tests)
-
-pub lay-uncovered : (b : List ℕ) (p : Patch) (i d : ℕ) → end p ≤ length b → IsFalse (covers p i) → get_or (lay b p) i d ≡ get_or b i d
-lay-uncovered b p i d fits off = elim (uncovered p i off) [ inl before ↦ lay-before b p i d fits before | inr behind ↦ lay-behind b p i d fits behind ]
-
-pub lay-covered : (b : List ℕ) (p : Patch) (i d : ℕ) → end p ≤ length b → IsTrue (covers p i) → get_or (lay b p) i d ≡ get_or p.bytes (i - p.start) d
-lay-covered b p i d fits on = let both = covers-from p i on in lay-inside b p i d fits both.0 both.1
+use Rattle.patch_model.specs.Laying.{length-lay, lay-uncovered, lay-covered, covers-from, covers-to}
 
 pub fits-lay : (b : List ℕ) (p q : Patch) → end p ≤ length b → end q ≤ length b → end q ≤ length (lay b p)
 fits-lay b p q fits_p fits_q = rw (length-lay b p fits_p) fits_q

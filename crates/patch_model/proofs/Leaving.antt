@@ -14,12 +14,13 @@ use Rattle.patch_model.specs.History.{without, image, HoldsDependents, history_o
 use Rattle.patch_model.specs.Legal.{IsLegal}
 use Rattle.patch_model.specs.Orderly.{left_behind}
 use Rattle.patch_model.specs.Member.{In, In-from_Contains, Contains-from_In, In-filter, filter-In, filter-same}
+use Rattle.patch_model.specs.Kept.{mark-joined, patch-joined, patch-landed, patch-sent}
 use Rattle.patch_model.proofs.Among.{among_map-at, among_map-from}
 use Rattle.patch_model.proofs.Striking.{In-has, has-In, ready-In}
-use Rattle.patch_model.proofs.Numbering.{AreApart-run, ready_is_largest, state_of-extended, patch-joined, patch-sent, patch-landed}
+use Rattle.patch_model.proofs.Numbering.{AreApart-run, ready_is_largest, state_of-extended}
 use Rattle.patch_model.proofs.Classes.{goes_along}
 use Rattle.patch_model.proofs.Crashes.{not_both, not_flying}
-use Rattle.patch_model.proofs.Marks.{IsSettled-run, mark-joined, sent_from}
+use Rattle.patch_model.proofs.Marks.{IsSettled-run, sent_from}
 use Rattle.patch_model.proofs.Rings.{same_name}
 use Rattle.patch_model.proofs.Waiting.{hard_in_ready, memory_left}
 use Rattle.patch_model.proofs.Images.{pile_of-history}

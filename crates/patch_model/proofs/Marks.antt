@@ -15,10 +15,11 @@ use Rattle.patch_model.specs.Ready.{has, ready}
 use Rattle.patch_model.specs.State.{State, is_made_hard, fresh, joined, sent, landed, class_of, after_step, after_steps, at_first, state_of, entries_of, has_flight}
 use Rattle.patch_model.specs.Legal.{IsLegal, IsLegalStep, AreLegal}
 use Rattle.patch_model.specs.Orderly.{IsUnder}
-use Rattle.patch_model.specs.Member.{In, In-from_Contains, In-filter, list_all-at, list_any-at, list_any-from}
+use Rattle.patch_model.specs.Member.{In, In-from_Contains, In-filter, list_all-at, list_any-at, list_any-from, map-In}
+use Rattle.patch_model.specs.Kept.{hard-joined, hard-landed, hard-sent, mark-joined, patch-joined, patch-landed, patch-sent}
 use Rattle.patch_model.proofs.Striking.{AreApart, ready-In, has-In}
-use Rattle.patch_model.proofs.Numbering.{Numbered, Numbered-after_step, apart-from_Numbered, patch-joined, patch-sent, patch-landed}
-use Rattle.patch_model.proofs.Crashes.{IsOrdered, IsOrdered-after_step, In-map, In-push, Numbered-below, depends-earlier, not_both}
+use Rattle.patch_model.proofs.Numbering.{Numbered, Numbered-after_step, apart-from_Numbered}
+use Rattle.patch_model.proofs.Crashes.{IsOrdered, IsOrdered-after_step, In-push, Numbered-below, depends-earlier, not_both}
 use Rattle.patch_model.proofs.Classes.{AreClasses, AreClasses-after_step}
 
 -- what a hard patch depends on is durable, or hard and of its block
@@ -32,7 +33,7 @@ AreHardUnder all = (e f : Entry) → In all e → In all f → depends_directly 
 keeps-hard : (g : Entry → Entry) (all : List Entry) → ((e : Entry) → (g e).patch ≡ e.patch) → ((e : Entry) → (g e).hard ≡ e.hard)
     → ((e : Entry) → In all e → is_durable e ≡ true → is_durable (g e) ≡ true) → AreHardUnder all → AreHardUnder (map g all)
 keeps-hard g all same hard stays o = λ y z i j d h.
-    let r = In-map g all y i in let s = In-map g all z j in
+    let r = map-In g all y i in let s = map-In g all z j in
     let eq : y.patch ≡ r.0.patch = ap (λ u. u.patch) (sym r.2) ∙ same r.0 in
     let eq2 : z.patch ≡ s.0.patch = ap (λ u. u.patch) (sym s.2) ∙ same s.0 in
     let d' : depends_directly r.0.patch s.0.patch ≡ true = subst (λ p. depends_directly p s.0.patch ≡ true) eq (subst (λ q. depends_directly y.patch q ≡ true) eq2 d) in
@@ -41,18 +42,6 @@ keeps-hard g all same hard stays o = λ y z i j d h.
       | inl done ↦ inl (subst (λ u. is_durable u ≡ true) s.2 (stays s.0 s.1 done))
       | inr k ↦ inr (sym (ap (λ u. u.hard) s.2) ∙ hard s.0 ∙ k.0, ap (λ p. p.block) eq2 ∙ k.1 ∙ sym (ap (λ p. p.block) eq))
     ]
-
-hard-joined : (a b : ℕ) (e : Entry) → (joined a b e).hard ≡ e.hard
-hard-joined a b e = elim (cases_Bool ((e.class == a) || (e.class == b))) [ inl u ↦ rw u refl | inr u ↦ rw u refl ]
-
-hard-sent : (set : List Entry) (e : Entry) → (sent set e).hard ≡ e.hard
-hard-sent set e = elim (cases_Bool (has set e)) [ inl u ↦ rw u refl | inr u ↦ rw u refl ]
-
-hard-landed : (block : ℕ) (e : Entry) → (landed block e).hard ≡ e.hard
-hard-landed block e = elim (cases_Bool (is_flight e && (e.patch.block == block))) [ inl u ↦ rw u refl | inr u ↦ rw u refl ]
-
-pub mark-joined : (a b : ℕ) (e : Entry) → (joined a b e).mark ≡ e.mark
-mark-joined a b e = elim (cases_Bool ((e.class == a) || (e.class == b))) [ inl u ↦ rw u refl | inr u ↦ rw u refl ]
 
 durable-joined : (a b : ℕ) (e : Entry) → is_durable e ≡ true → is_durable (joined a b e) ≡ true
 durable-joined a b e h = rw (mark-joined a b e) h
@@ -144,12 +133,12 @@ HaveFlights-after_step blocks st (Create block begin bytes after undo) n h = λ 
 ]
 HaveFlights-after_step blocks st (Merge a b) n h = λ e i t.
     let g = joined (class_of st.entries a) (class_of st.entries b) in
-    let r = In-map g st.entries e i in
+    let r = map-In g st.entries e i in
     let t' : is_flight r.0 ≡ true = rw (sym (mark-joined (class_of st.entries a) (class_of st.entries b) r.0)) (subst (λ x. is_flight x ≡ true) (sym r.2) t) in
     let eq : r.0.patch ≡ e.patch = sym (patch-joined (class_of st.entries a) (class_of st.entries b) r.0) ∙ ap (λ x. x.patch) r.2 in
     subst (λ p. has_flight st p.block ≡ true) eq (h r.0 r.1 t')
 HaveFlights-after_step blocks st (Send block) n h = λ e i t.
-    let r = In-map (sent (ready st.entries block)) st.entries e i in
+    let r = map-In (sent (ready st.entries block)) st.entries e i in
     let eq : r.0.patch ≡ e.patch = sym (patch-sent (ready st.entries block) r.0) ∙ ap (λ x. x.patch) r.2 in
     let t' : is_flight (sent (ready st.entries block) r.0) ≡ true = subst (λ x. is_flight x ≡ true) (sym r.2) t in
     subst (λ p. has_flight (after_step st (Send block)) p.block ≡ true) eq (elim (cases_Bool (has (ready st.entries block) r.0)) [
@@ -158,7 +147,7 @@ HaveFlights-after_step blocks st (Send block) n h = λ e i t.
       | inr u ↦ any-front (λ f. f.0 == r.0.patch.block) st.flights ((block, st.sends) ∷ []) (h r.0 r.1 (rw u at t'))
     ])
 HaveFlights-after_step blocks st (Complete block) n h = λ e i t.
-    let r = In-map (landed block) st.entries e i in
+    let r = map-In (landed block) st.entries e i in
     let eq : r.0.patch ≡ e.patch = sym (patch-landed block r.0) ∙ ap (λ x. x.patch) r.2 in
     let t' : is_flight (landed block r.0) ≡ true = subst (λ x. is_flight x ≡ true) (sym r.2) t in
     subst (λ p. has_flight (after_step st (Complete block)) p.block ≡ true) eq (elim (cases_Bool (is_flight r.0 && (r.0.patch.block == block))) [
@@ -174,7 +163,7 @@ HaveFlights-after_step blocks st (Complete block) n h = λ e i t.
     ])
 
 known-map : (blocks : ℕ) (g : Entry → Entry) (all : List Entry) → ((e : Entry) → (g e).patch ≡ e.patch) → AreKnown blocks all → AreKnown blocks (map g all)
-known-map blocks g all same h = λ e i. let r = In-map g all e i in subst (λ p. p.block < blocks) (sym (same r.0) ∙ ap (λ x. x.patch) r.2) (h r.0 r.1)
+known-map blocks g all same h = λ e i. let r = map-In g all e i in subst (λ p. p.block < blocks) (sym (same r.0) ∙ ap (λ x. x.patch) r.2) (h r.0 r.1)
 
 AreKnown-after_step : (blocks : ℕ) (st : State) (step : Step) → IsLegalStep blocks st step → AreKnown blocks st.entries → AreKnown blocks (after_step st step).entries
 AreKnown-after_step blocks st (Create block begin bytes after undo) legal h = λ e i. elim (In-push st.entries _ e i) [

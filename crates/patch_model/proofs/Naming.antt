@@ -1,8 +1,9 @@
 -- The numbers of what is ready of a block rise, and name its classes.
-use Rattle.std.proofs.Common.{◌≡◌, ℕ, zero, suc, ◌<◌, ◌∙◌, Bool, true, false, List, [], ◌∷◌, length, get_or, refl, sym, ap, arith, subst}
+use Rattle.std.proofs.Common.{◌≡◌, ℕ, zero, suc, ◌<◌, ◌∙◌, true, List, [], ◌∷◌, length, get_or, sym, ap, arith, subst}
 use Rattle.std.specs.Prelude.{Contains}
 use Rattle.std.specs.List.{AllByRecursion}
 use Rattle.std.specs.List.Sorted.{IsNonDecreasing}
+use Rattle.std.specs.Cmp.{both_ways as same_bool}
 use Rattle.patch_model.specs.Execution.{Execution}
 use Rattle.patch_model.specs.Entry.{Entry, is_among}
 use Rattle.patch_model.specs.Ready.{IsRising, has, ready}
@@ -31,11 +32,6 @@ numbers_rise (e ∷ es) h (suc i) (suc j) d le within = numbers_rise es h.1 i j 
 pub ready_numbers_rise : (run : Execution) (block : ℕ) → IsNonDecreasing (numbers_of (ready (entries_of run) block))
 ready_numbers_rise run block = numbers_rise (ready (entries_of run) block) (rising-ready run block)
 
-same_bits : (a b : Bool) → (a ≡ true → b ≡ true) → (b ≡ true → a ≡ true) → a ≡ b
-same_bits true b h g = sym (h refl)
-same_bits false true h g = g refl
-same_bits false false h g = refl
-
 module _ (run : Execution) (block : ℕ) (legal : IsLegal run) where
   inside : (f : Entry) → In (ready (entries_of run) block) f → In (entries_of run) f
   inside f j = (ready-In (entries_of run) block (AreApart-run run) f j).0
@@ -63,6 +59,6 @@ pub ready_names : (run : Execution) (block : ℕ) (e : Entry) → IsLegal run �
     → is_among (numbers_of (ready (entries_of run) block)) e.class ≡ has (ready (entries_of run) block) e
 ready_names run block e legal i =
     let at = In-from_Contains _ e i in
-    same_bits _ _
+    same_bool _ _
     (λ h. In-has (ready (entries_of run) block) e (named-at run block legal e at h))
     (λ h. named-from run block legal e at (has-In (entries_of run) (ready (entries_of run) block) e (AreApart-run run) (inside run block legal) at h))

@@ -1,14 +1,13 @@
 -- A patch's number is its place, in every world.
-use Rattle.std.proofs.Common.{◌≡◌, ℕ, ◌+◌, ◌≤◌, ◌∙◌, inl, inr, List, [], ◌∷◌, ◌++◌, length, map, refl, sym, ap, arith}
-use Rattle.std.specs.Prelude.{◌==◌, ◌&&◌, ◌||◌}
-use Rattle.std.proofs.lemmas.Bool.{cases_Bool}
+use Rattle.std.proofs.Common.{◌≡◌, ℕ, ◌+◌, ◌≤◌, ◌∙◌, inl, inr, List, [], ◌∷◌, ◌++◌, length, map, sym, ap, arith}
 use Rattle.std.proofs.lemmas.List.Sums.{fold_push}
 use Rattle.patch_model.specs.Step.{Step, Create, Merge, Send, Complete}
 use Rattle.patch_model.specs.Execution.{Execution, extended}
-use Rattle.patch_model.specs.Entry.{Entry, is_flight}
-use Rattle.patch_model.specs.Ready.{has, ready, IsLargestWritable}
+use Rattle.patch_model.specs.Entry.{Entry}
+use Rattle.patch_model.specs.Ready.{ready, IsLargestWritable}
 use Rattle.patch_model.specs.State.{State, joined, sent, landed, class_of, after_step, after_steps, at_first, state_of, entries_of}
 use Rattle.patch_model.specs.Member.{In}
+use Rattle.patch_model.specs.Kept.{patch-joined, patch-landed, patch-sent}
 use Rattle.patch_model.proofs.Striking.{AreApart, ready-largest}
 
 -- the patches are numbered from n on
@@ -23,15 +22,6 @@ Numbered-push n (x ∷ xs) e h same = (h.0, Numbered-push (n + 1) xs e h.1 (omeg
 Numbered-map : (f : Entry → Entry) → ((e : Entry) → (f e).patch ≡ e.patch) → (n : ℕ) (es : List Entry) → Numbered n es → Numbered n (map f es)
 Numbered-map f keeps n [] h = tt
 Numbered-map f keeps n (x ∷ xs) h = (ap (λ p. p.no) (keeps x) ∙ h.0, Numbered-map f keeps (n + 1) xs h.1)
-
-pub patch-joined : (a b : ℕ) (e : Entry) → (joined a b e).patch ≡ e.patch
-patch-joined a b e = elim (cases_Bool ((e.class == a) || (e.class == b))) [ inl u ↦ rw u refl | inr u ↦ rw u refl ]
-
-pub patch-sent : (set : List Entry) (e : Entry) → (sent set e).patch ≡ e.patch
-patch-sent set e = elim (cases_Bool (has set e)) [ inl u ↦ rw u refl | inr u ↦ rw u refl ]
-
-pub patch-landed : (block : ℕ) (e : Entry) → (landed block e).patch ≡ e.patch
-patch-landed block e = elim (cases_Bool (is_flight e && (e.patch.block == block))) [ inl u ↦ rw u refl | inr u ↦ rw u refl ]
 
 pub Numbered-after_step : (st : State) (step : Step) → Numbered 0 st.entries → Numbered 0 (after_step st step).entries
 Numbered-after_step st (Create block begin bytes after undo) h = Numbered-push 0 st.entries _ h (omega arith)

@@ -5,6 +5,8 @@ use Rattle.std.specs.List.{AllByRecursion}
 use Rattle.std.proofs.lemmas.Bool.{and_parts, and_from}
 use Rattle.std.proofs.lemmas.Bool.Decides.{nat_tests}
 use Rattle.std.proofs.lemmas.List.Elements.{recursion_from_All}
+use Rattle.patch_model.specs.Link.{Link-at, Link-from}
+use Rattle.patch_model.specs.Marked.{memory_live}
 use Rattle.patch_model.specs.declared.blocks.TheConstants.{BLOCK}
 use Rattle.patch_model.specs.Execution.{Execution}
 use Rattle.patch_model.specs.Entry.{Entry, is_memory, is_live, is_undoable}
@@ -19,7 +21,7 @@ use Rattle.patch_model.proofs.Crashes.{Numbered-below}
 use Rattle.patch_model.proofs.Classes.{at_number}
 use Rattle.patch_model.proofs.Rising.{rising-from_Numbered, rising-filter}
 use Rattle.patch_model.proofs.Marks.{marks_closed, IsSettled-run}
-use Rattle.patch_model.proofs.Rings.{members_alike, same_name, Link-at, Link-from, apart_in, Path-map, live_paths, memory_live}
+use Rattle.patch_model.proofs.Rings.{members_alike, same_name, apart_in, Path-map, live_paths}
 use Rattle.patch_model.proofs.Spans.{least_name, own_name, touch-at, touch-from}
 use Rattle.patch_model.proofs.Sizes.{AreFew-run}
 
@@ -109,7 +111,7 @@ module _ (run : Execution) (a b : ℕ) (legal : IsLegal run) (m : IsLegalMerge (
       let i = of_block-In (block_at (entries_of run) a) (entries_of run) l.from (Contains-from_In _ l.from l.in_from) in
       let j = of_block-In (block_at (entries_of run) a) (entries_of run) l.to (Contains-from_In _ l.to l.in_to) in
       subst (λ n. class_depends (entries_of run) n d ≡ true) l.name_from (subst (λ n. class_depends (entries_of run) l.from.class n ≡ true) l.name_to
-      (Link-from (entries_of run) l.from l.to i.0 j.0 (apart_in l) l.depends))
+      (Link-from (entries_of run) l.from l.to i.0 j.0 (apart_in h l) l.depends))
 
   widen : {c d : ℕ} → Path here c d → Path (entries_of run) c d
   widen p = Path-map here (entries_of run) links p

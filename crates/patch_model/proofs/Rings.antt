@@ -1,41 +1,27 @@
 -- Paths of dependencies between classes form no ring.
-use Rattle.std.proofs.Common.{◌≡◌, ◌≢◌, ℕ, ◌+◌, ◌<◌, ◌≤◌, ◌⊎◌, ◌∙◌, inl, inr, Bool, true, false, List, [], ◌∷◌, ◌++◌, length, map, refl, sym, ap, arith, subst}
+use Rattle.std.proofs.Common.{◌≡◌, ◌≢◌, ℕ, ◌+◌, ◌<◌, ◌≤◌, ◌⊎◌, ◌∙◌, inl, inr, true, false, List, [], ◌∷◌, ◌++◌, length, map, refl, sym, ap, arith, subst}
 use Rattle.std.specs.Prelude.{nat_lt, nat_le, ◌==◌, ◌&&◌, ◌||◌, not, min, max, if◌then◌else◌, IsTrue, Contains}
 use Rattle.std.specs.List.{list_any}
 use Rattle.std.proofs.lemmas.Bool.{cases_Bool, and_parts, and_from, or_cases}
 use Rattle.std.proofs.lemmas.Bool.Decides.{nat_tests}
+use Rattle.patch_model.specs.Link.{Link, Link-at, Link-from, depends-apart}
+use Rattle.patch_model.specs.Marked.{memory_live}
 use Rattle.patch_model.specs.Step.{Step, Create, Merge, Send, Complete}
-use Rattle.patch_model.specs.declared.patches.Mark.{Mark}
-use Rattle.patch_model.specs.declared.patches.Mark.TheVariants.{Memory, Flight, Durable}
 use Rattle.patch_model.specs.Pile.{end, covers}
 use Rattle.patch_model.specs.Execution.{Execution}
-use Rattle.patch_model.specs.Entry.{Entry, marks_memory, marks_durable, is_memory, is_durable, is_undoable, is_live}
+use Rattle.patch_model.specs.Entry.{Entry, is_memory, is_durable, is_undoable, is_live}
 use Rattle.patch_model.specs.Dependency.{shares_byte, depends_directly, Path, one, onward, class_depends, has_live}
 use Rattle.patch_model.specs.Ready.{ready}
 use Rattle.patch_model.specs.State.{State, fresh, joined, sent, landed, class_of, after_step, after_steps, at_first, entries_of}
 use Rattle.patch_model.specs.Legal.{IsLegal, IsLegalStep, AreLegal, IsLegalMerge, is_undoable_at}
 use Rattle.patch_model.specs.Orderly.{MeetAt, IsClassUnder, IsUnder, IsLike}
-use Rattle.patch_model.specs.Member.{In, In-from_Contains, list_any-at, list_any-from}
-use Rattle.patch_model.proofs.Numbering.{Numbered, patch-joined, patch-sent, patch-landed}
-use Rattle.patch_model.proofs.Crashes.{IsOrdered, In-map, In-push, Numbered-below, depends-earlier}
-use Rattle.patch_model.proofs.Classes.{AreClasses, at_number, class-sent, class-landed}
+use Rattle.patch_model.specs.Member.{In, In-from_Contains, list_any-at, list_any-from, map-In}
+use Rattle.patch_model.specs.Kept.{class-landed, class-sent, patch-joined, patch-landed, patch-sent}
+use Rattle.patch_model.proofs.Numbering.{Numbered}
+use Rattle.patch_model.proofs.Crashes.{IsOrdered, In-push, Numbered-below, depends-earlier}
+use Rattle.patch_model.proofs.Classes.{AreClasses, at_number}
 use Rattle.patch_model.proofs.Marks.{marks_closed, never, IsSettled, IsSettled-after_step, IsSettled-run, settled_first}
 use Rattle.patch_model.proofs.Striking.{or_last}
-
--- a direct dependency of one class on another, with its patches
-pub record Link (all : List Entry) (a b : ℕ) : Type 0 where
-  pub other : a ≢ b
-  pub from : Entry
-  pub to : Entry
-  pub in_from : In all from
-  pub in_to : In all to
-  pub name_from : from.class ≡ a
-  pub name_to : to.class ≡ b
-  pub depends : depends_directly from.patch to.patch ≡ true
-
--- a member of the class a depends directly on one of b
-abbrev any_depends : List Entry → ℕ → ℕ → Bool
-any_depends all a b = list_any (λ e. (e.class == a) && list_any (λ f. (f.class == b) && depends_directly e.patch f.patch) all) all
 
 pub same_name : (a b : ℕ) → a ≡ b → (a == b) ≡ true
 same_name a b e = grind (arith, nat_tests)
@@ -46,34 +32,9 @@ other_name a b ne = grind (arith, nat_tests)
 pub other_from_test : (a b : ℕ) → not (a == b) ≡ true → a ≢ b
 other_from_test a b h e = grind (arith, nat_tests)
 
-pub Link-at : (all : List Entry) (a b : ℕ) → class_depends all a b ≡ true → Link all a b
-Link-at all a b h =
-    let two = and_parts (not (a == b)) (any_depends all a b) h in
-    let r = list_any-at (λ e. (e.class == a) && list_any (λ f. (f.class == b) && depends_directly e.patch f.patch) all) all two.1 in
-    let p = and_parts (r.0.class == a) (list_any (λ f. (f.class == b) && depends_directly r.0.patch f.patch) all) r.2 in
-    let s = list_any-at (λ f. (f.class == b) && depends_directly r.0.patch f.patch) all p.1 in
-    let q = and_parts (s.0.class == b) (depends_directly r.0.patch s.0.patch) s.2 in
-    record {
-      other = other_from_test a b two.0;
-      from = r.0;
-      to = s.0;
-      in_from = r.1;
-      in_to = s.1;
-      name_from = grind (arith, nat_tests, p.0);
-      name_to = grind (arith, nat_tests, q.0);
-      depends = q.1;
-    }
-
-pub Link-from : (all : List Entry) (e f : Entry) → In all e → In all f → e.class ≢ f.class → depends_directly e.patch f.patch ≡ true → class_depends all e.class f.class ≡ true
-Link-from all e f i j other d =
-    and_from (not (e.class == f.class)) (any_depends all e.class f.class) (other_name e.class f.class other)
-    (list_any-from (λ x. (x.class == e.class) && list_any (λ y. (y.class == f.class) && depends_directly x.patch y.patch) all) all e i
-    (and_from _ _ (same_name e.class e.class refl)
-    (list_any-from (λ y. (y.class == f.class) && depends_directly e.patch y.patch) all f j (and_from _ _ (same_name f.class f.class refl) d))))
-
 -- the two patches of a link are of different classes
-pub apart_in : {all : List Entry} {a b : ℕ} → (l : Link all a b) → l.from.class ≢ l.to.class
-apart_in l e = l.other (sym l.name_from ∙ e ∙ l.name_to)
+pub apart_in : {all : List Entry} {a b : ℕ} → class_depends all a b ≡ true → (l : Link all a b) → l.from.class ≢ l.to.class
+apart_in h l e = depends-apart _ _ _ h (sym l.name_from ∙ e ∙ l.name_to)
 
 pub Path-append : {all : List Entry} {a b c : ℕ} → Path all a b → Path all b c → Path all a c
 Path-append (one h) q = onward h q
@@ -94,8 +55,8 @@ HasNoRing all = (a : ℕ) → Path all a a → ⊥
 
 -- a ring leads through another class
 ring_parts : {all : List Entry} {a : ℕ} → Path all a a → (b : ℕ) × (a ≢ b) × Path all a b × Path all b a
-ring_parts {all} {a} (one h) = absurd ((Link-at all a a h).other refl)
-ring_parts {all} {a} (onward {b = b} h p) = (b, (Link-at all a b h).other, one h, p)
+ring_parts {all} {a} (one h) = absurd (depends-apart all a a h refl)
+ring_parts {all} {a} (onward {b = b} h p) = (b, depends-apart all a b h, one h, p)
 
 -- a change that leaves patches and classes leaves rings as they are
 keeps-rings : (g : Entry → Entry) (all : List Entry) → ((e : Entry) → (g e).patch ≡ e.patch) → ((e : Entry) → (g e).class ≡ e.class) → HasNoRing all → HasNoRing (map g all)
@@ -104,13 +65,13 @@ keeps-rings g all patch class free = λ a p. free a (Path-map (map g all) all li
     links : (a b : ℕ) → class_depends (map g all) a b ≡ true → class_depends all a b ≡ true
     links a b h =
         let l = Link-at (map g all) a b h in
-        let r = In-map g all l.from l.in_from in let s = In-map g all l.to l.in_to in
+        let r = map-In g all l.from l.in_from in let s = map-In g all l.to l.in_to in
         let p : r.0.patch ≡ l.from.patch = sym (patch r.0) ∙ ap (λ x. x.patch) r.2 in
         let q : s.0.patch ≡ l.to.patch = sym (patch s.0) ∙ ap (λ x. x.patch) s.2 in
         let c : r.0.class ≡ a = sym (class r.0) ∙ ap (λ x. x.class) r.2 ∙ l.name_from in
         let d : s.0.class ≡ b = sym (class s.0) ∙ ap (λ x. x.class) s.2 ∙ l.name_to in
         subst (λ n. class_depends all n b ≡ true) c (subst (λ n. class_depends all r.0.class n ≡ true) d
-        (Link-from all r.0 s.0 r.1 s.1 (λ e. l.other (sym c ∙ e ∙ d)) (subst (λ x. depends_directly x s.0.patch ≡ true) (sym p) (subst (λ x. depends_directly l.from.patch x ≡ true) (sym q) l.depends))))
+        (Link-from all r.0 s.0 r.1 s.1 (λ e. depends-apart (map g all) a b h (sym c ∙ e ∙ d)) (subst (λ x. depends_directly x s.0.patch ≡ true) (sym p) (subst (λ x. depends_directly l.from.patch x ≡ true) (sym q) l.depends))))
 
 -- A new patch: nothing depends on it.
 module _ (es : List Entry) (new : Entry) (n : Numbered 0 es) (o : IsOrdered (es ++ new ∷ [])) (c : AreClasses es) (at : new.patch.no ≡ length es) (own : new.class ≡ length es) where
@@ -143,7 +104,7 @@ module _ (es : List Entry) (new : Entry) (n : Numbered 0 es) (o : IsOrdered (es 
       let l = Link-at (es ++ new ∷ []) a b h in
       let i = link_to a b l in
       elim (In-push es new l.from l.in_from) [
-        | inl g ↦ subst (λ m. class_depends es m b ≡ true) l.name_from (subst (λ m. class_depends es l.from.class m ≡ true) l.name_to (Link-from es l.from l.to g i (apart_in l) l.depends))
+        | inl g ↦ subst (λ m. class_depends es m b ≡ true) l.name_from (subst (λ m. class_depends es l.from.class m ≡ true) l.name_to (Link-from es l.from l.to g i (apart_in h l) l.depends))
         | inr same ↦ let eq : new.class ≡ l.from.class = ap (λ x. x.class) same in let eq2 : l.from.class ≡ a = l.name_from in absurd (omega arith)
       ]
 
@@ -160,11 +121,6 @@ module _ (es : List Entry) (new : Entry) (n : Numbered 0 es) (o : IsOrdered (es 
 
 not_live : (x : Entry) → is_live x ≡ true → is_durable x ≡ true → ⊥
 not_live x h d = let bad : false ≡ true = rw d at h in never bad
-
-pub memory_live : (m : Mark) → marks_memory m ≡ true → not (marks_durable m) ≡ true
-memory_live Memory h = refl
-memory_live Flight h = refl
-memory_live Durable h = absurd (never h)
 
 -- with a durable class each class at the end of a path from it is durable
 module _ (all : List Entry) (o : IsOrdered all) (c : AreClasses all) where
@@ -267,7 +223,7 @@ module _ (all : List Entry) (a b : ℕ) (free : HasNoRing all) (closed : (z s t 
       → (x : ℕ) × (y : ℕ) × (renamed a b x ≡ p) × (renamed a b y ≡ q) × (class_depends all x y ≡ true)
   link_beneath p q h =
       let l = Link-at (map (joined a b) all) p q h in
-      let r = In-map (joined a b) all l.from l.in_from in let s = In-map (joined a b) all l.to l.in_to in
+      let r = map-In (joined a b) all l.from l.in_from in let s = map-In (joined a b) all l.to l.in_to in
       let pr : r.0.patch ≡ l.from.patch = sym (patch-joined a b r.0) ∙ ap (λ x. x.patch) r.2 in
       let ps : s.0.patch ≡ l.to.patch = sym (patch-joined a b s.0) ∙ ap (λ x. x.patch) s.2 in
       let nr : renamed a b r.0.class ≡ p = sym (class-joined a b r.0) ∙ ap (λ x. x.class) r.2 ∙ l.name_from in
@@ -276,7 +232,7 @@ module _ (all : List Entry) (a b : ℕ) (free : HasNoRing all) (closed : (z s t 
         s.0.class,
         nr,
         ns,
-        Link-from all r.0 s.0 r.1 s.1 (λ e. l.other (sym nr ∙ ap (renamed a b) e ∙ ns)) (subst (λ x. depends_directly x s.0.patch ≡ true) (sym pr) (subst (λ x. depends_directly l.from.patch x ≡ true) (sym ps) l.depends)),
+        Link-from all r.0 s.0 r.1 s.1 (λ e. depends-apart (map (joined a b) all) p q h (sym nr ∙ ap (renamed a b) e ∙ ns)) (subst (λ x. depends_directly x s.0.patch ≡ true) (sym pr) (subst (λ x. depends_directly l.from.patch x ≡ true) (sym ps) l.depends)),
       )
 
   way_beneath : {p q : ℕ} → Path (map (joined a b) all) p q → (x y : ℕ) → renamed a b x ≡ p → renamed a b y ≡ q → Way x y

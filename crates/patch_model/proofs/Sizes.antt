@@ -3,6 +3,7 @@ use Rattle.std.proofs.Common.{◌≡◌, ℕ, ◌+◌, ◌<◌, ◌≤◌, ◌�
 use Rattle.std.specs.Prelude.{◌==◌, ◌&&◌, count_by}
 use Rattle.std.proofs.lemmas.List.{length-map}
 use Rattle.std.proofs.lemmas.Bool.{cases_Bool}
+use Rattle.patch_model.specs.Marked.{memory_live}
 use Rattle.patch_model.specs.declared.blocks.TheConstants.{BLOCK}
 use Rattle.patch_model.specs.declared.limits.TheConstants.{MAX_PATCHES, MAX_LIVE}
 use Rattle.patch_model.specs.Patch.{Patch}
@@ -13,12 +14,12 @@ use Rattle.patch_model.specs.Entry.{Entry, is_flight, is_live}
 use Rattle.patch_model.specs.Ready.{has, ready}
 use Rattle.patch_model.specs.State.{State, at_first, fresh, joined, sent, landed, class_of, after_step, after_steps, entries_of}
 use Rattle.patch_model.specs.Legal.{IsLegal, IsLegalStep, AreLegal}
-use Rattle.patch_model.specs.Member.{In}
-use Rattle.patch_model.proofs.Numbering.{Numbered, Numbered-after_step, apart-from_Numbered, patch-joined, patch-sent, patch-landed}
+use Rattle.patch_model.specs.Member.{In, map-In}
+use Rattle.patch_model.specs.Kept.{mark-joined, patch-joined, patch-landed, patch-sent}
+use Rattle.patch_model.proofs.Numbering.{Numbered, Numbered-after_step, apart-from_Numbered}
 use Rattle.patch_model.proofs.Counting.{count-push, count-map_le}
-use Rattle.patch_model.proofs.Crashes.{In-map, In-push}
-use Rattle.patch_model.proofs.Marks.{mark-joined, sent_from}
-use Rattle.patch_model.proofs.Rings.{memory_live}
+use Rattle.patch_model.proofs.Crashes.{In-push}
+use Rattle.patch_model.proofs.Marks.{sent_from}
 
 -- a patch has a byte, and fits
 pub record IsSized (p : Patch) : Type 0 where
@@ -34,7 +35,7 @@ pub record AreFew (all : List Entry) : Type 0 where
 keeps-few : (g : Entry → Entry) (all : List Entry) → ((e : Entry) → (g e).patch ≡ e.patch) → ((e : Entry) → In all e → is_live (g e) ≡ true → is_live e ≡ true)
     → AreFew all → AreFew (map g all)
 keeps-few g all same live few = record {
-  sized = λ e i. let r = In-map g all e i in subst (λ p. IsSized p) (sym (same r.0) ∙ ap (λ x. x.patch) r.2) (few.sized r.0 r.1);
+  sized = λ e i. let r = map-In g all e i in subst (λ p. IsSized p) (sym (same r.0) ∙ ap (λ x. x.patch) r.2) (few.sized r.0 r.1);
   made = rw (length-map all g) few.made;
   live = (let less = count-map_le is_live g all live in let most : count_by is_live all ≤ MAX_LIVE = few.live in omega arith);
 }

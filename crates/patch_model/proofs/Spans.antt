@@ -13,10 +13,11 @@ use Rattle.patch_model.specs.Ready.{ready}
 use Rattle.patch_model.specs.State.{State, fresh, joined, sent, landed, class_of, after_step, after_steps, at_first, entries_of}
 use Rattle.patch_model.specs.Legal.{IsLegal, IsLegalStep, AreLegal, touch}
 use Rattle.patch_model.specs.Orderly.{NamesIt, CoversIt}
-use Rattle.patch_model.specs.Member.{In, In-from_Contains, Contains-from_In, list_any-at, list_any-from}
-use Rattle.patch_model.proofs.Numbering.{Numbered, patch-joined, patch-sent, patch-landed}
-use Rattle.patch_model.proofs.Crashes.{In-map, In-push, Numbered-below}
-use Rattle.patch_model.proofs.Classes.{AreClasses, class-sent, class-landed}
+use Rattle.patch_model.specs.Member.{In, In-from_Contains, Contains-from_In, list_any-at, list_any-from, In-map, map-In}
+use Rattle.patch_model.specs.Kept.{class-landed, class-sent, patch-joined, patch-landed, patch-sent}
+use Rattle.patch_model.proofs.Numbering.{Numbered}
+use Rattle.patch_model.proofs.Crashes.{In-push, Numbered-below}
+use Rattle.patch_model.proofs.Classes.{AreClasses}
 use Rattle.patch_model.proofs.Marks.{IsSettled, IsSettled-after_step, IsSettled-run, settled_first}
 use Rattle.patch_model.proofs.Rings.{same_name, class-joined, renamed, renamed_same, Either, either_test, neither}
 
@@ -38,11 +39,6 @@ record AreWholeSpans (all : List Entry) : Type 0 where
   full : (e g : Entry) → In all e → In all g → e.class ≡ g.class → (place : ℕ) → e.patch.start ≤ place → place < end g.patch → Covering all e.class place
   named : (e : Entry) → In all e → Named all e.class
 
-pub In-to_map : (g : Entry → Entry) (xs : List Entry) (x : Entry) → In xs x → In (map g xs) (g x)
-In-to_map g [] x i = i
-In-to_map g (y ∷ ys) x (inl e) = inl (ap g e)
-In-to_map g (y ∷ ys) x (inr i) = inr (In-to_map g ys x i)
-
 pub In-to_push : (xs : List Entry) (y x : Entry) → In xs x → In (xs ++ y ∷ []) x
 In-to_push [] y x i = absurd i
 In-to_push (z ∷ zs) y x (inl e) = inl e
@@ -56,18 +52,18 @@ In-last (z ∷ zs) y = inr (In-last zs y)
 keeps-spans : (g : Entry → Entry) (all : List Entry) → ((e : Entry) → (g e).patch ≡ e.patch) → ((e : Entry) → (g e).class ≡ e.class) → AreWholeSpans all → AreWholeSpans (map g all)
 keeps-spans g all patch class s = record {
   full = λ x y i j same place from to.
-      let r = In-map g all x i in let q = In-map g all y j in
+      let r = map-In g all x i in let q = map-In g all y j in
       let px : r.0.patch ≡ x.patch = sym (patch r.0) ∙ ap (λ z. z.patch) r.2 in
       let py : q.0.patch ≡ y.patch = sym (patch q.0) ∙ ap (λ z. z.patch) q.2 in
       let cx : r.0.class ≡ x.class = sym (class r.0) ∙ ap (λ z. z.class) r.2 in
       let cy : q.0.class ≡ y.class = sym (class q.0) ∙ ap (λ z. z.class) q.2 in
       let f = s.full r.0 q.0 r.1 q.1 (cx ∙ same ∙ sym cy) place (subst (λ p. p.start ≤ place) (sym px) from) (subst (λ p. place < end p) (sym py) to) in
-      record { it = g f.it; inside = In-to_map g all f.it f.inside; name = class f.it ∙ f.name ∙ cx; covered = subst (λ p. covers p place ≡ true) (sym (patch f.it)) f.covered };
+      record { it = g f.it; inside = In-map g all f.it f.inside; name = class f.it ∙ f.name ∙ cx; covered = subst (λ p. covers p place ≡ true) (sym (patch f.it)) f.covered };
   named = λ x i.
-      let r = In-map g all x i in
+      let r = map-In g all x i in
       let cx : r.0.class ≡ x.class = sym (class r.0) ∙ ap (λ z. z.class) r.2 in
       let f = s.named r.0 r.1 in
-      record { it = g f.it; inside = In-to_map g all f.it f.inside; name = class f.it ∙ f.name ∙ cx; number = ap (λ p. p.no) (patch f.it) ∙ f.number ∙ cx };
+      record { it = g f.it; inside = In-map g all f.it f.inside; name = class f.it ∙ f.name ∙ cx; number = ap (λ p. p.no) (patch f.it) ∙ f.number ∙ cx };
 }
 
 -- a new patch is a class of its own
@@ -128,14 +124,14 @@ module _ (all : List Entry) (a b : ℕ) (s : AreWholeSpans all) (x y : Entry) (i
     | inl one ↦ let f = s.full e g i j one place from to in
         record {
           it = joined a b f.it;
-          inside = In-to_map (joined a b) all f.it f.inside;
+          inside = In-map (joined a b) all f.it f.inside;
           name = class-joined a b f.it ∙ ap (renamed a b) f.name ∙ sym (class-joined a b e);
           covered = subst (λ p. covers p place ≡ true) (sym (patch-joined a b f.it)) f.covered;
         }
     | inr k ↦ let f = both e g i j k.0 k.1 place from to in
         record {
           it = joined a b f.0;
-          inside = In-to_map (joined a b) all f.0 f.1;
+          inside = In-map (joined a b) all f.0 f.1;
           name = from_either f.0 f.3 ∙ sym (from_either e k.0);
           covered = subst (λ p. covers p place ≡ true) (sym (patch-joined a b f.0)) f.2;
         }
@@ -160,7 +156,7 @@ module _ (all : List Entry) (a b : ℕ) (s : AreWholeSpans all) (x y : Entry) (i
     | inl u ↦ let f = least_named in let h = either_test a b e.class u in
         record {
           it = joined a b f.0;
-          inside = In-to_map (joined a b) all f.0 f.1;
+          inside = In-map (joined a b) all f.0 f.1;
           name = from_either f.0 f.2 ∙ sym (from_either e h);
           number = ap (λ p. p.no) (patch-joined a b f.0) ∙ f.3 ∙ sym (from_either e h);
         }
@@ -168,7 +164,7 @@ module _ (all : List Entry) (a b : ℕ) (s : AreWholeSpans all) (x y : Entry) (i
         let same : (joined a b e).class ≡ e.class = rw u refl in
         record {
           it = joined a b f.it;
-          inside = In-to_map (joined a b) all f.it f.inside;
+          inside = In-map (joined a b) all f.it f.inside;
           name = class-joined a b f.it ∙ ap (renamed a b) f.name ∙ sym (class-joined a b e);
           number = ap (λ p. p.no) (patch-joined a b f.it) ∙ f.number ∙ sym same;
         }
@@ -177,13 +173,13 @@ module _ (all : List Entry) (a b : ℕ) (s : AreWholeSpans all) (x y : Entry) (i
   spans-joined : AreWholeSpans (map (joined a b) all)
   spans-joined = record {
     full = λ z v i j same place from to.
-        let r = In-map (joined a b) all z i in let q = In-map (joined a b) all v j in
+        let r = map-In (joined a b) all z i in let q = map-In (joined a b) all v j in
         let pz : r.0.patch ≡ z.patch = sym (patch-joined a b r.0) ∙ ap (λ u. u.patch) r.2 in
         let pv : q.0.patch ≡ v.patch = sym (patch-joined a b q.0) ∙ ap (λ u. u.patch) q.2 in
         let one : renamed a b r.0.class ≡ renamed a b q.0.class = sym (class-joined a b r.0) ∙ ap (λ u. u.class) r.2 ∙ same ∙ sym (ap (λ u. u.class) q.2) ∙ class-joined a b q.0 in
         subst (λ u. Covering (map (joined a b) all) u.class place) r.2
         (spans_full r.0 q.0 r.1 q.1 one place (subst (λ p. p.start ≤ place) (sym pz) from) (subst (λ p. place < end p) (sym pv) to));
-    named = λ z i. let r = In-map (joined a b) all z i in subst (λ u. Named (map (joined a b) all) u.class) r.2 (spans_named r.0 r.1);
+    named = λ z i. let r = map-In (joined a b) all z i in subst (λ u. Named (map (joined a b) all) u.class) r.2 (spans_named r.0 r.1);
   }
 
 -- the two patches by which two classes touch

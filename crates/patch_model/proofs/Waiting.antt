@@ -4,6 +4,7 @@ use Rattle.std.specs.Prelude.{◌==◌, ◌&&◌, not, IsTrue, IsFalse, Contains
 use Rattle.std.specs.List.{list_any}
 use Rattle.std.proofs.lemmas.Bool.{cases_Bool, and_parts, and_from, both_ways, not-true}
 use Rattle.std.proofs.lemmas.Bool.Decides.{nat_tests}
+use Rattle.patch_model.specs.Link.{Link-from}
 use Rattle.patch_model.specs.declared.patches.Mark.{Mark}
 use Rattle.patch_model.specs.declared.patches.Mark.TheVariants.{Memory, Flight, Durable}
 use Rattle.patch_model.specs.Execution.{Execution}
@@ -15,7 +16,7 @@ use Rattle.patch_model.specs.Legal.{IsLegal}
 use Rattle.patch_model.specs.Member.{In, In-from_Contains, Contains-from_In, In-filter, filter-In, filter_cases, list_any-at, list_any-from}
 use Rattle.patch_model.proofs.Numbering.{ready_is_largest}
 use Rattle.patch_model.proofs.Marks.{never, IsSettled-run}
-use Rattle.patch_model.proofs.Rings.{Link-from, same_name, other_from_test, Path-append, no_ring}
+use Rattle.patch_model.proofs.Rings.{same_name, other_from_test, Path-append, no_ring}
 
 -- what is neither in flight nor durable is in memory
 pub memory_left : (m : Mark) → marks_flight m ≡ false → marks_durable m ≡ false → marks_memory m ≡ true

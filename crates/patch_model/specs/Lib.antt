@@ -17,4 +17,8 @@ pub mod Orderly
 pub mod Piles
 pub mod Laws
 pub mod Member
+pub mod Laying
+pub mod Kept
+pub mod Marked
+pub mod Link
 pub mod Rows

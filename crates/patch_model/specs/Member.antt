@@ -1,8 +1,9 @@
 -- Members of a list by cases on it, and what tests and filters say of them: the lemmas of every crate's proofs.
-use Rattle.std.proofs.Common.{◌≡◌, ℕ, zero, suc, ◌<◌, ◌⊎◌, ◌∙◌, inl, inr, Bool, true, List, [], ◌∷◌, length, refl, sym, ap, arith}
-use Rattle.std.proofs.lemmas.Bool.{cases_Bool, and_parts, and_from}
-use Rattle.std.specs.Prelude.{◌&&◌}
+use Rattle.std.proofs.Common.{◌≡◌, ℕ, zero, suc, ◌<◌, ◌⊎◌, ◌∙◌, inl, inr, Bool, true, List, [], ◌∷◌, length, map, refl, sym, ap, arith, subst}
+use Rattle.std.proofs.lemmas.Bool.{cases_Bool, and_parts, and_from, eqb-true, eq-eqb}
+use Rattle.std.specs.Prelude.{◌&&◌, ◌==◌}
 use Rattle.std.specs.List.{Contains, filter, list_all, list_any, slice_index_or}
+use Rattle.patch_model.specs.Entry.{is_among}
 
 abbrev pub In : {X : Type 0} → List X → X → Type 0
 In [] x = ⊥
@@ -80,3 +81,19 @@ filter-filter p q (y ∷ ys) = elim (cases_Bool (q y)) [
 pub filter-same : {X : Type 0} → (p q : X → Bool) (xs : List X) → ((x : X) → p x ≡ q x) → filter p xs ≡ filter q xs
 filter-same p q [] same = refl
 filter-same p q (x ∷ xs) same = rw (same x, filter-same p q xs same) refl
+
+pub In-map : {X Y : Type 0} → (f : X → Y) (xs : List X) (x : X) → In xs x → In (map f xs) (f x)
+In-map f [] x h = absurd h
+In-map f (y ∷ ys) x (inl e) = inl (ap f e)
+In-map f (y ∷ ys) x (inr h) = inr (In-map f ys x h)
+
+pub map-In : {X Y : Type 0} → (f : X → Y) (xs : List X) (y : Y) → In (map f xs) y → (x : X) × In xs x × (f x ≡ y)
+map-In f [] y h = absurd h
+map-In f (x ∷ xs) y (inl e) = (x, inl refl, e)
+map-In f (x ∷ xs) y (inr h) = let r = map-In f xs y h in (r.0, inr r.1, r.2)
+
+pub among-In : (numbers : List ℕ) (n : ℕ) → is_among numbers n ≡ true → In numbers n
+among-In numbers n t = let r = list_any-at (λ m. m == n) numbers t in subst (In numbers) (eqb-true r.0 n r.2) r.1
+
+pub In-among : (numbers : List ℕ) (n : ℕ) → In numbers n → is_among numbers n ≡ true
+In-among numbers n h = list_any-from (λ m. m == n) numbers n h (eq-eqb n n refl)
