@@ -1,7 +1,7 @@
 -- A device that fails one call.
-use Rattle.std.specs.Prelude.{ℕ, zero, suc, ◌+◌, ◌≤◌, min, Bool, Option, Some, None}
+use Rattle.std.specs.Prelude.{ℕ, zero, suc, ◌≡◌, ◌+◌, ◌≤◌, ◌⊎◌, min, Bool, List, slice_set, Option, Some, None}
 use Rattle.std.proofs.Math.Nat.{min-le_right}
-use Rattle.patch_device.specs.Device.{most_faults}
+use Rattle.patch_device.specs.Device.{most_faults, HasRisen}
 use Rattle.patch_device.specs.declared.faulty.FaultyDevice.{FaultyDevice}
 
 -- the device that it calls
@@ -12,9 +12,19 @@ inner_of d = d.inner
 abbrev pub calls_before : {D : Type 0} → FaultyDevice D → Option ℕ
 calls_before d = d.calls_left
 
+-- the next call is the one that fails
+abbrev pub IsDue : {D : Type 0} → FaultyDevice D → Type 0
+IsDue d = calls_before d ≡ Some 0
+
 -- whether the failing call, a write, lands
 abbrev pub does_land : {D : Type 0} → FaultyDevice D → Bool
 does_land d = d.lands
+
+-- the write that fails has landed, or the other device met a fault
+abbrev pub Lands : {D : Type 0} (contents : D → List (List ℕ)) (fault_count : D → ℕ) (old : FaultyDevice D) → ℕ → List ℕ → FaultyDevice D → Type 0
+Lands contents fault_count old n bytes new =
+    (contents (inner_of new) ≡ slice_set (contents (inner_of old)) n bytes)
+    ⊎ HasRisen (fault_count (inner_of old)) (fault_count (inner_of new))
 
 -- how many calls are still to come, after one more
 abbrev pub after_a_call : Option ℕ → Option ℕ

@@ -1,6 +1,6 @@
 //! A device that fails one call.
-ghost use Rattle.std.specs.Prelude.{◌≡◌, ◌≢◌, ◌≤◌, ◌<◌, ◌↔◌, ◌⊎◌, length, slice_get, slice_set, Some, IsTrue, IsFalse, OnOk, OnErr, IsErrOf};
-ghost use Rattle.patch_device.specs.Device.{HasRisen, CountsFault, IsOldOrNew, AddsOutcome};
+ghost use Rattle.std.specs.Prelude.{◌≡◌, ◌≢◌, ◌≤◌, ◌<◌, ◌↔◌, length, slice_get, slice_set, Some, IsTrue, IsFalse, OnOk, OnErr, IsErrOf};
+ghost use Rattle.patch_device.specs.Device.{CountsFault, IsOldOrNew, AddsOutcome};
 
 use crate::devices::Device;
 use crate::refusals::DeviceRefusal;
@@ -36,7 +36,7 @@ impl<D: Device> FaultyDevice<D> {
         }
     }
 
-    // Counts a call, and answers whether it is the one that fails.
+    /// Counts a call, and answers whether it is the one that fails.
     fn is_failing(&mut self) -> bool
         ensures inner { self.new.inner ≡ self.old.inner }
         ensures lands { self.new.lands ≡ self.old.lands }
@@ -52,7 +52,7 @@ impl<D: Device> FaultyDevice<D> {
 }
 
 impl<D: Device> Device for FaultyDevice<D> {
-    ghost use Rattle.patch_device.specs.FaultyDevice.{inner_of, calls_before, does_land, after_a_call, faults_of_both, faults_of_both_fit};
+    ghost use Rattle.patch_device.specs.FaultyDevice.{inner_of, calls_before, IsDue, does_land, Lands, after_a_call, faults_of_both, faults_of_both_fit};
 
     ghost contents = { λ d. D.contents (inner_of d) };
 
@@ -85,7 +85,7 @@ impl<D: Device> Device for FaultyDevice<D> {
         ensures not_counted { D.block_count (inner_of self.old) ≤ n → self.new ≡ self.old }
         ensures counted { n < D.block_count (inner_of self.old)
             → calls_before self.new ≡ after_a_call (calls_before self.old) }
-        ensures fails { n < D.block_count (inner_of self.old) → calls_before self.old ≡ Some 0
+        ensures fails { n < D.block_count (inner_of self.old) → IsDue self.old
             → IsErrOf result DeviceRefusal.Fault × (inner_of self.new ≡ inner_of self.old) }
         ensures passes { calls_before self.old ≢ Some 0
             → CountsFault (D.fault_count (inner_of self.old))
@@ -120,14 +120,13 @@ impl<D: Device> Device for FaultyDevice<D> {
         ensures not_counted { D.block_count (inner_of self.old) ≤ n → self.new ≡ self.old }
         ensures counted { n < D.block_count (inner_of self.old)
             → calls_before self.new ≡ after_a_call (calls_before self.old) }
-        ensures fails { n < D.block_count (inner_of self.old) → calls_before self.old ≡ Some 0
+        ensures fails { n < D.block_count (inner_of self.old) → IsDue self.old
             → IsErrOf result DeviceRefusal.Fault }
-        ensures not_landed { n < D.block_count (inner_of self.old) → calls_before self.old ≡ Some 0
+        ensures not_landed { n < D.block_count (inner_of self.old) → IsDue self.old
             → IsFalse (does_land self.old) → inner_of self.new ≡ inner_of self.old }
-        ensures landed { n < D.block_count (inner_of self.old) → calls_before self.old ≡ Some 0
+        ensures landed { n < D.block_count (inner_of self.old) → IsDue self.old
             → IsTrue (does_land self.old) → D.is_honest (inner_of self.old)
-            → (D.contents (inner_of self.new) ≡ slice_set (D.contents (inner_of self.old)) n from.now)
-            ⊎ HasRisen (D.fault_count (inner_of self.old)) (D.fault_count (inner_of self.new)) }
+            → Lands D.contents D.fault_count self.old n from.now self.new }
         ensures passes { calls_before self.old ≢ Some 0
             → CountsFault (D.fault_count (inner_of self.old))
             (D.fault_count (inner_of self.new)) result }
