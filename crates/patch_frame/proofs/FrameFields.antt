@@ -6,12 +6,13 @@ use Rattle.std.specs.Str.{bytes_eq}
 use Rattle.std.proofs.lemmas.Bool.{ltb-false, le-ltb, not-false, or_parts}
 use Rattle.std.proofs.lemmas.Nat.{from_be_bytes-to_be_bytes_4}
 use Rattle.std.proofs.lemmas.List.{length-append, drop_at}
+use Rattle.patch_frame.specs.Passing.{read_is, passed}
 use Rattle.patch_frame.specs.declared.faults.FrameFault.{FrameFault}
 use Rattle.patch_frame.specs.declared.faults.FrameFault.TheVariants.{BadMagic, BadKey, BadValue, Short, NotZero}
 use Rattle.patch_frame.specs.declared.framing.Frame.{Frame}
 use Rattle.patch_frame.specs.Field.{zeros, are_zeros, Gives}
 use Rattle.patch_frame.specs.Frame.{Content, content, Fits, spelling, length_of, key_length, value_length, key_end, value_end, content_of, frame_tests, frame_at}
-use Rattle.patch_frame.proofs.Parts.{read_is, passed, passes, same_bytes, bytes_same, IsBytes, length-zeros, zeros_are_zeros, are_zeros_is, length-range, number_back, field_then, skip, byte_then, skip_byte, positive, not_zero}
+use Rattle.patch_frame.proofs.Parts.{passes, same_bytes, bytes_same, IsBytes, length-zeros, zeros_are_zeros, are_zeros_is, length-range, number_back, field_then, skip, byte_then, skip_byte, positive, not_zero}
 
 regroup : (a b c d e f g rest : List ℕ) → a ++ b ++ c ++ d ++ e ++ f ++ g ++ rest ≡ a ++ (b ++ (c ++ (d ++ (e ++ (f ++ (g ++ rest))))))
 regroup a b c d e f g rest = simp append_assoc

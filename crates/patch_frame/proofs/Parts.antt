@@ -1,5 +1,5 @@
 -- Tests in order, and fields one after another.
-use Rattle.std.proofs.Common.{◌≡◌, ℕ, zero, suc, ◌+◌, ◌-◌, ◌^◌, ◌<◌, ◌≤◌, Bool, true, false, ◌&&◌, eqb, List, [], ◌∷◌, ◌++◌, length, get_or, take, drop, slice_range, Result, Ok, refl, sym, ap, ◌∙◌, inl, inr, arith, add-one, drop-cons}
+use Rattle.std.proofs.Common.{◌≡◌, ℕ, zero, suc, ◌+◌, ◌-◌, ◌^◌, ◌<◌, ◌≤◌, Bool, true, false, ◌&&◌, eqb, List, [], ◌∷◌, ◌++◌, length, get_or, take, drop, slice_range, Ok, refl, sym, ap, ◌∙◌, inl, inr, arith, add-one, drop-cons}
 use Rattle.std.specs.Int.{w16, w32, to_be_bytes, from_be_bytes}
 use Rattle.std.specs.Str.{bytes_eq}
 use Rattle.std.proofs.lemmas.Bool.{cases_lt, eqb-true, eqb-false, ne_eqb, and_parts}
@@ -10,17 +10,6 @@ use Rattle.std.proofs.lemmas.Slice.Eq.{bytes_eq-Decides}
 use Rattle.patch_frame.specs.Field.{zeros, are_zeros, outcome}
 
 -- ---- tests
-
-abbrev done : {X E : Type 0} → X → Result X E
-done x = Ok x
-
-pub read_is : {X E : Type 0} (x y : X) → done {E = E} x ≡ done y → x ≡ y
-read_is x y h = cc
-
--- what is read has passed the first test
-pub passed : {X E : Type 0} (b : Bool) (e : E) (tests : List (Bool × E)) (x y : X) → outcome ((b, e) ∷ tests) x ≡ Ok y → (b ≡ false) × (outcome tests x ≡ Ok y)
-passed true e tests x y h = absurd cc
-passed false e tests x y h = (refl, h)
 
 pub passes : {X E : Type 0} (b : Bool) (e : E) (tests : List (Bool × E)) (x y : X) → b ≡ false → outcome tests x ≡ Ok y → outcome ((b, e) ∷ tests) x ≡ Ok y
 passes true e tests x y h rest = absurd cc

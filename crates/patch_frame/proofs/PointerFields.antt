@@ -4,11 +4,12 @@ use Rattle.std.specs.Prelude.{IfOk}
 use Rattle.std.specs.Int.{w32, to_be_bytes, from_be_bytes}
 use Rattle.std.proofs.lemmas.Bool.{ltb-false, le-ltb}
 use Rattle.std.proofs.lemmas.Nat.{from_be_bytes-to_be_bytes_4}
+use Rattle.patch_frame.specs.Passing.{read_is, passed}
 use Rattle.patch_frame.specs.declared.faults.FrameFault.{FrameFault}
 use Rattle.patch_frame.specs.declared.faults.FrameFault.TheVariants.{BadValue}
 use Rattle.patch_frame.specs.declared.pointers.Pointer.{Pointer}
 use Rattle.patch_frame.specs.Pointer.{Fits, spelling, pointer_of, pointer_at}
-use Rattle.patch_frame.proofs.Parts.{read_is, passed, passes, skip, IsBytes, IsBytes-range, number_back, number_below, field_then, nothing_left}
+use Rattle.patch_frame.proofs.Parts.{passes, skip, IsBytes, IsBytes-range, number_back, number_below, field_then, nothing_left}
 
 is_spelled : (bytes : List ℕ) → IsBytes bytes → length bytes ≡ 8 → bytes ≡ spelling (pointer_of bytes)
 is_spelled bytes fits long =

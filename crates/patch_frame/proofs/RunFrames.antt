@@ -87,10 +87,10 @@ not_nil : (xs : List ℕ) → 0 < length xs → xs ≢ []
 not_nil xs h e = let none = ap length e in absurd (omega arith)
 
 pub stops : (limit : ℕ) (bytes : List ℕ) (frames : List Frame) (rest : List ℕ) (f : FrameFault) → IsRead limit bytes frames rest → 0 < length rest → frame_at limit rest ≡ Err f → StopsSo limit bytes (Fault f)
-stops limit bytes frames rest f is some refused = record { before = map content frames; rest = rest; fit = is.fit; stands = is.stands; left = not_nil rest some; refused = refused }
+stops limit bytes frames rest f is some refused = record { before = map content frames; rest = rest; fit = is.fit; stands = is.stands; some_rest = not_nil rest some; refused = refused }
 
 pub is_given : {V : Type 0} (view : V → List Frame) (limit : ℕ) (bytes : List ℕ) (r : Result V FramesRefusal) → limit < 2 ^ 32 → IfOk r (λ v. IsRead limit bytes (view v) []) → IfErr r (StopsSo limit bytes)
     → (cs : List Content) → AllFit limit cs → bytes ≡ run cs → GivesRun (λ v. map content (view v)) r cs
 is_given view limit bytes (Ok v) small found refused cs fit e = one_run limit (map content (view v)) cs small found.fit fit (sym (append-nil (run (map content (view v)))) ∙ sym found.stands ∙ e)
-is_given view limit bytes (Err (Fault f)) small found refused cs fit e = no_stop limit cs refused.before refused.rest f small fit refused.fit refused.left refused.refused (sym e ∙ refused.stands)
+is_given view limit bytes (Err (Fault f)) small found refused cs fit e = no_stop limit cs refused.before refused.rest f small fit refused.fit refused.some_rest refused.refused (sym e ∙ refused.stands)
 is_given view limit bytes (Err OutOfMemory) small found refused cs fit e = tt

@@ -5,12 +5,13 @@ use Rattle.std.specs.Int.{w16, w32, to_be_bytes, from_be_bytes}
 use Rattle.std.proofs.lemmas.Bool.{ltb-false, le-ltb, ne_eqb, eq-eqb, not-false, or_parts, or_from, cond-true, cond-false, cases_Bool}
 use Rattle.std.proofs.lemmas.Nat.{from_be_bytes-to_be_bytes_2, from_be_bytes-to_be_bytes_4}
 use Rattle.std.proofs.lemmas.List.{length-append, get_or-replicate}
+use Rattle.patch_frame.specs.Passing.{read_is, passed}
 use Rattle.patch_frame.specs.declared.faults.FrameFault.{FrameFault}
 use Rattle.patch_frame.specs.declared.faults.FrameFault.TheVariants.{BadMagic, BadKey, BadValue, NotZero}
 use Rattle.patch_frame.specs.declared.slots.SlotState.{SlotState}
 use Rattle.patch_frame.specs.Field.{zeros, are_zeros, outcome, Gives}
 use Rattle.patch_frame.specs.Slot.{SlotFields, fields, Fits, FitsUsed, used_spelling, spelling, state, key_length, key_end, frame_length, fields_of, empty_tests, used_tests, slot_at}
-use Rattle.patch_frame.proofs.Parts.{read_is, passed, passes, IsBytes, IsBytes-range, length-zeros, zeros_are_zeros, are_zeros_is, length-range, number_back, number_back_2, number_below, number_below_2, padding_is, nothing_left, field_then, skip, byte_then, skip_byte, positive, not_zero}
+use Rattle.patch_frame.proofs.Parts.{passes, IsBytes, IsBytes-range, length-zeros, zeros_are_zeros, are_zeros_is, length-range, number_back, number_back_2, number_below, number_below_2, padding_is, nothing_left, field_then, skip, byte_then, skip_byte, positive, not_zero}
 
 regroup : (a c d e f g h : List ℕ) → a ++ c ++ d ++ e ++ f ++ g ++ h ≡ a ++ (c ++ (d ++ (e ++ (f ++ (g ++ h)))))
 regroup a c d e f g h = simp append_assoc

@@ -1,46 +1,27 @@
 -- A superblock that is read is spelled so, and what is spelled so is read.
-use Rattle.std.proofs.Common.{◌≡◌, ℕ, ◌<◌, ◌≤◌, true, false, not, ◌||◌, ◌&&◌, eqb, ltb, leb, List, [], ◌++◌, length, drop, slice_range, Result, Ok, Err, refl, sym, ap, subst, ◌∙◌, append_assoc, append-nil, inl, inr, ◌⊎◌, arith}
+use Rattle.std.proofs.Common.{◌≡◌, ℕ, ◌<◌, ◌≤◌, true, false, not, ◌||◌, eqb, ltb, List, [], ◌++◌, length, drop, slice_range, Result, Ok, Err, refl, sym, ap, subst, ◌∙◌, append_assoc, append-nil, inl, inr, ◌⊎◌, arith}
 use Rattle.std.specs.Prelude.{codes, IfOk}
 use Rattle.std.specs.Int.{w32, to_be_bytes, from_be_bytes}
 use Rattle.std.specs.Str.{bytes_eq}
-use Rattle.std.proofs.lemmas.Bool.{ltb-false, le-ltb, leb-true, le-leb, eqb-true, eqb-false, eq-eqb, ne_eqb, not-false, or_parts, or_from, and_parts, and_from, cond-true, cond-false, cases_Bool}
+use Rattle.std.proofs.lemmas.Bool.{ltb-false, le-ltb, le-leb, eqb-true, eqb-false, eq-eqb, ne_eqb, not-false, or_parts, or_from, and_from, cond-true, cond-false, cases_Bool}
 use Rattle.std.proofs.lemmas.Nat.{from_be_bytes-to_be_bytes_4}
 use Rattle.std.proofs.lemmas.List.{length-append}
+use Rattle.patch_frame.specs.Passing.{read_is, passed, IsGeometry-at}
 use Rattle.patch_frame.specs.declared.faults.FrameFault.{FrameFault}
 use Rattle.patch_frame.specs.declared.faults.FrameFault.TheVariants.{BadMagic, BadValue, NotZero}
 use Rattle.patch_frame.specs.declared.geometries.Format.{Format}
 use Rattle.patch_frame.specs.declared.geometries.Format.TheVariants.{One, Two}
 use Rattle.patch_frame.specs.declared.geometries.Geometry.{Geometry}
 use Rattle.patch_frame.specs.Field.{zeros, are_zeros}
-use Rattle.patch_frame.specs.Geometry.{version_of, block_count, is_format, is_geometry, IsFormat, IsGeometry}
+use Rattle.patch_frame.specs.Geometry.{version_of, is_format, is_geometry, IsFormat, IsGeometry}
 use Rattle.patch_frame.specs.Superblock.{spelling, last_fields, version, format_of, fields_end, geometry_of, superblock_tests, superblock_at}
-use Rattle.patch_frame.proofs.Parts.{read_is, passed, passes, same_bytes, bytes_same, IsBytes, length-zeros, zeros_are_zeros, number_back, padding_is, nothing_left, field_then, skip, positive, not_zero}
+use Rattle.patch_frame.proofs.Parts.{passes, same_bytes, bytes_same, IsBytes, length-zeros, zeros_are_zeros, number_back, padding_is, nothing_left, field_then, skip, positive, not_zero}
 
 -- ---- the test of a geometry
-
-valid_format : (f : Format) → is_format f ≡ true → IsFormat f
-valid_format One h = tt
-valid_format (Two x) h = let p = and_parts (leb 16 x) (leb x 64) h in (leb-true 16 x p.0, leb-true x 64 p.1)
 
 format_valid : (f : Format) → IsFormat f → is_format f ≡ true
 format_valid One h = refl
 format_valid (Two x) h = and_from _ _ (le-leb 16 x h.0) (le-leb x 64 h.1)
-
-pub valid : (g : Geometry) → is_geometry g ≡ true → IsGeometry g
-valid g h =
-    let p5 = and_parts (leb 1 g.index && leb g.index 16 && leb 2 g.extents && leb g.extents 254 && is_format g.format) (leb (block_count g) 4096) h in
-    let p4 = and_parts (leb 1 g.index && leb g.index 16 && leb 2 g.extents && leb g.extents 254) (is_format g.format) p5.0 in
-    let p3 = and_parts (leb 1 g.index && leb g.index 16 && leb 2 g.extents) (leb g.extents 254) p4.0 in
-    let p2 = and_parts (leb 1 g.index && leb g.index 16) (leb 2 g.extents) p3.0 in
-    let p1 = and_parts (leb 1 g.index) (leb g.index 16) p2.0 in
-    record {
-      some_index = leb-true _ _ p1.0;
-      short_index = leb-true _ _ p1.1;
-      some_extents = leb-true _ _ p2.1;
-      few_extents = leb-true _ _ p3.1;
-      format = valid_format g.format p4.1;
-      blocks = leb-true _ _ p5.1;
-    }
 
 pub valid_again : (g : Geometry) → IsGeometry g → is_geometry g ≡ true
 valid_again g is =
@@ -83,7 +64,7 @@ tests_pass bytes g h =
         begin = same_bytes _ _ (not-false _ p0.0);
         some_version = positive (version bytes) p0.1;
         known_version = ltb-false _ _ p1.1;
-        geometry = valid x (not-false _ t1.0);
+        geometry = IsGeometry-at x (not-false _ t1.0);
         padding = not-false _ t2.0;
       },
       read_is x g t2.1,

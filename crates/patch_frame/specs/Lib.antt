@@ -6,3 +6,4 @@ pub mod Slot
 pub mod Frame
 pub mod Run
 pub mod Refusal
+pub mod Passing

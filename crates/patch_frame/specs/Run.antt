@@ -26,7 +26,7 @@ pub record StopsAt (limit : ℕ) (bytes : List ℕ) (fault : FrameFault) : Type 
   pub rest : List ℕ
   pub fit : AllFit limit before
   pub stands : bytes ≡ run before ++ rest
-  pub left : rest ≢ []
+  pub some_rest : rest ≢ []
   pub refused : frame_at limit rest ≡ Err fault
 
 -- why no run is read

@@ -1,5 +1,5 @@
 -- The superblock: mark, version, and how the disk is divided.
-use Rattle.std.specs.Prelude.{ℕ, Bool, not, ◌||◌, ◌==◌, nat_lt, if◌then◌else◌, List, [], ◌∷◌, ◌++◌, slice_range, codes, Result}
+use Rattle.std.specs.Prelude.{ℕ, Bool, ◌≡◌, not, ◌||◌, ◌==◌, nat_lt, if◌then◌else◌, List, [], ◌∷◌, ◌++◌, take, drop, slice_range, codes, Result}
 use Rattle.std.specs.Int.{w32, to_be_bytes, from_be_bytes}
 use Rattle.std.specs.Str.{bytes_eq}
 use Rattle.patch_frame.specs.declared.faults.FrameFault.{FrameFault}
@@ -53,3 +53,14 @@ superblock_tests bytes =
 -- how the disk of these 4,096 bytes is divided
 abbrev pub superblock_at : List ℕ → Result Geometry FrameFault
 superblock_at bytes = outcome (superblock_tests bytes) (geometry_of bytes)
+
+-- Version 1 beside version 2 with extents of 16 blocks.
+abbrev pub in_version_1 : (index extents : ℕ) → Geometry
+in_version_1 index extents = record { index = index; extents = extents; format = One }
+
+abbrev pub in_version_2 : (index extents : ℕ) → Geometry
+in_version_2 index extents = record { index = index; extents = extents; format = Two 16 }
+
+-- the second bytes are the first ones but for those from one place to another
+abbrev pub AgreeOutside : (start stop : ℕ) (first second : List ℕ) → Type 0
+AgreeOutside start stop first second = second ≡ take start first ++ slice_range second start stop ++ drop stop first

@@ -24,6 +24,7 @@ pub fn u32_at(bytes: &[u8], place: usize) -> u32
     u32::from_be_bytes([field[0], field[1], field[2], field[3]])
 }
 
+/// Whether each of the bytes is zero, as of none at all.
 pub fn is_zeros(bytes: &[u8]) -> bool
     ensures { result ≡ are_zeros bytes.now }
 {

@@ -4,8 +4,22 @@ ghost use Rattle.patch_frame.specs.Geometry.{version_of, extent_blocks, largest_
 
 use crate::framing::MAX_VALUE;
 use crate::pointers::POINTER_BYTES;
-use crate::slots::SLOT_BYTES;
+use crate::slots::{MAX_FRAME, SLOT_BYTES};
 use patch_model::{BLOCK, MAX_BLOCKS};
+
+// The fewest and the most blocks of an extent. Version 1 has the fewest.
+const MIN_EXTENT_BLOCKS: u32 = 16;
+
+const MAX_EXTENT_BLOCKS: u32 = 64;
+
+const MAX_INDEX_BLOCKS: u32 = 16;
+
+const MAX_EXTENTS: u32 = 254;
+
+const SLOTS_PER_BLOCK: u32 = 64;
+
+// How many bytes a frame has beside its value, where its key is a longest one.
+const MAX_OVERHEAD: u32 = 48;
 
 /// The version of a disk, with what only that version says.
 #[derive(Clone, Copy, Debug, PartialEq, Eq)]
@@ -32,7 +46,7 @@ impl Format {
         ensures { result ≡ extent_blocks self }
     {
         match self {
-            Format::One => 16,
+            Format::One => MIN_EXTENT_BLOCKS,
             Format::Two { length } => length,
         }
     }
@@ -52,7 +66,7 @@ impl Format {
     {
         match self {
             Format::One => 32_768,
-            Format::Two { .. } => MAX_VALUE.min(self.largest_pointer() - 48),
+            Format::Two { .. } => MAX_VALUE.min(self.largest_pointer() - MAX_OVERHEAD),
         }
     }
 
@@ -62,7 +76,7 @@ impl Format {
     {
         match self {
             Format::One => 32_816,
-            Format::Two { .. } => 131_120,
+            Format::Two { .. } => MAX_FRAME,
         }
     }
 
@@ -73,7 +87,7 @@ impl Format {
     {
         match self {
             Format::One => true,
-            Format::Two { length } => 16 <= length && length <= 64,
+            Format::Two { length } => MIN_EXTENT_BLOCKS <= length && length <= MAX_EXTENT_BLOCKS,
         }
     }
 }
@@ -95,9 +109,9 @@ impl Geometry {
         ensures fact { IsTrue result ↔ IsGeometry self }
     {
         1 <= self.index
-            && self.index <= 16
+            && self.index <= MAX_INDEX_BLOCKS
             && 2 <= self.extents
-            && self.extents <= 254
+            && self.extents <= MAX_EXTENTS
             && self.format.is_valid()
             && self.block_count() <= MAX_BLOCKS as u32
     }
@@ -115,7 +129,7 @@ impl Geometry {
         requires { IsGeometry self }
         ensures { result ≡ slot_count self }
     {
-        64 * self.index
+        SLOTS_PER_BLOCK * self.index
     }
 
     /// The number of the block that holds the pointer records. The index blocks are those from 1 up to it.
@@ -141,7 +155,7 @@ impl Geometry {
 pub fn slot_block(slot: u32) -> u32
     ensures { result ≡ slot_block slot }
 {
-    1 + slot / 64
+    1 + slot / SLOTS_PER_BLOCK
 }
 
 /// Where in its block an index slot begins.
@@ -149,7 +163,7 @@ pub fn slot_start(slot: u32) -> usize
     ensures value { result ≡ slot_start slot }
     ensures within { result + SLOT_BYTES ≤ BLOCK }
 {
-    SLOT_BYTES * (slot % 64) as usize
+    SLOT_BYTES * (slot % SLOTS_PER_BLOCK) as usize
 }
 
 /// Where in the pointer block the record of an extent begins.

@@ -1,7 +1,7 @@
 //! Laws of the formats. Each is the contract of a function that does nothing: who calls it may rest on the law.
-ghost use Rattle.std.specs.Prelude.{◌≡◌, ◌<◌, ◌≤◌, ◌^◌, ◌+◌, ◌++◌, ℕ, List, [], Option, Ok, take, drop, slice_range, length};
+ghost use Rattle.std.specs.Prelude.{◌≡◌, ◌<◌, ◌≤◌, ◌^◌, ◌+◌, ◌++◌, ℕ, List, [], Option, Ok, length};
 ghost use Rattle.patch_frame.specs.declared.geometries.Format.{Format as FormatFields};
-ghost use Rattle.patch_frame.specs.declared.geometries.Format.TheVariants.{One, Two};
+ghost use Rattle.patch_frame.specs.declared.geometries.Format.TheVariants.{Two};
 ghost use Rattle.patch_frame.specs.declared.pointers.TheConstants.{MAX_POINTER};
 ghost use Rattle.patch_frame.specs.declared.geometries.Geometry.{Geometry as GeometryFields};
 ghost use Rattle.patch_frame.specs.declared.pointers.Pointer.{Pointer as PointerFields};
@@ -71,13 +71,10 @@ pub fn superblocks_are_read_again()
 /// The superblocks of version 1 and of version 2 with extents of 16 blocks differ in bytes 8 to 23 alone, and the disks
 /// are divided alike.
 pub fn versions_differ_in_sixteen_bytes()
-    ensures bytes { (index extents : ℕ) →
-        let one = superblock.spelling (record { index = index; extents = extents; format = One }) in
-        let two = superblock.spelling (record { index = index; extents = extents; format = Two 16 }) in
-        two ≡ take 8 one ++ slice_range two 8 24 ++ drop 24 one }
+    ensures bytes { (index extents : ℕ) → superblock.AgreeOutside 8 24
+        (superblock.spelling (superblock.in_version_1 index extents)) (superblock.spelling (superblock.in_version_2 index extents)) }
     ensures blocks { (index extents : ℕ) →
-        block_count (record { index = index; extents = extents; format = Two 16 })
-        ≡ block_count (record { index = index; extents = extents; format = One }) }
+        block_count (superblock.in_version_2 index extents) ≡ block_count (superblock.in_version_1 index extents) }
 {}
 
 /// Slots lie before the pointer block. The extents lie behind it, one behind the other, and end with the disk.

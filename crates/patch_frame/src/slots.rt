@@ -18,6 +18,12 @@ pub const SLOT_BYTES: usize = 64;
 /// The longest frame that any slot names, on whatever disk.
 pub const MAX_FRAME: u32 = 131_120;
 
+// A frame has a key of one byte at least.
+const MIN_FRAME: u32 = 17;
+
+// Where in a slot its key begins.
+const KEY_START: usize = 16;
+
 /// What a used slot says: the frame with the key's value is there.
 #[derive(Clone, Copy, Debug, PartialEq, Eq)]
 pub struct Slot<'a> {
@@ -82,15 +88,15 @@ fn slot_of(bytes: &[u8], longest: u32) -> Result<SlotState<'_>, FrameFault>
     if key == 0 || key > MAX_KEY {
         return Err(FrameFault::BadKey);
     }
-    if !is_zeros(&bytes[16 + key..SLOT_BYTES]) {
+    if !is_zeros(&bytes[KEY_START + key..SLOT_BYTES]) {
         return Err(FrameFault::NotZero);
     }
     let length = u32_at(bytes, 12);
-    if length < 17 || length > longest {
+    if length < MIN_FRAME || length > longest {
         return Err(FrameFault::BadValue);
     }
     Ok(SlotState::Used(Slot {
-        key: &bytes[16..16 + key],
+        key: &bytes[KEY_START..KEY_START + key],
         extent: u16_at(bytes, 2),
         generation: u32_at(bytes, 4),
         offset: u32_at(bytes, 8),
@@ -129,6 +135,6 @@ fn used_bytes<A: Allocator>(alloc: A, slot: &Slot<'_>) -> Result<Vec<u8, A>, Out
     out.extend_from_slice(&slot.offset.to_be_bytes())?;
     out.extend_from_slice(&slot.length.to_be_bytes())?;
     out.extend_from_slice(slot.key)?;
-    push_zeros(&mut out, 48 - slot.key.len())?;
+    push_zeros(&mut out, SLOT_BYTES - KEY_START - slot.key.len())?;
     Ok(out)
 }
