@@ -10,28 +10,24 @@ use Rattle.patch_model.specs.Pile.{end, lay}
 use Rattle.patch_frame.specs.declared.geometries.Geometry.{Geometry}
 use Rattle.patch_frame.specs.Geometry.{first_block, pointer_block, block_count, slot_block, slot_start, slot_count}
 use Rattle.patch_frame.specs.Geometry.{extent_blocks, largest_pointer}
-use Rattle.patch_recovery.specs.Reading.{block_at}
+use Rattle.patch_recovery.specs.Reading.{block_on}
 
 -- the blocks with a patch laid on its block
 abbrev pub laid : List (List ℕ) → Patch → List (List ℕ)
-laid blocks p = slice_set blocks p.block (lay (block_at blocks p.block) p)
+laid blocks p = slice_set blocks p.block (lay (block_on blocks p.block) p)
 
 -- the block of the patch
 pub laid_here : (d : List (List ℕ)) (p : Patch) (b : ℕ) → b ≡ p.block → p.block < length d
-    → block_at (laid d p) b ≡ lay (block_at d b) p
-laid_here d p b same there = rw same (get_or-set_same d p.block (lay (block_at d p.block) p) [] there)
+    → block_on (laid d p) b ≡ lay (block_on d b) p
+laid_here d p b same there = rw same (get_or-set_same d p.block (lay (block_on d p.block) p) [] there)
 
 -- each other block is as it was
-pub laid_elsewhere : (d : List (List ℕ)) (p : Patch) (b : ℕ) → b ≢ p.block → block_at (laid d p) b ≡ block_at d b
-laid_elsewhere d p b other = get_or-set_other d p.block b (lay (block_at d p.block) p) [] other
+pub laid_elsewhere : (d : List (List ℕ)) (p : Patch) (b : ℕ) → b ≢ p.block → block_on (laid d p) b ≡ block_on d b
+laid_elsewhere d p b other = get_or-set_other d p.block b (lay (block_on d p.block) p) [] other
 
 -- there are as many blocks
 pub length-laid : (d : List (List ℕ)) (p : Patch) → length (laid d p) ≡ length d
-length-laid d p = length-set d p.block (lay (block_at d p.block) p)
-
--- and as many bytes in it
-pub length-lay : (b : List ℕ) (p : Patch) → end p ≤ length b → length (lay b p) ≡ length b
-length-lay b p fits = grind (arith, places)
+length-laid d p = length-set d p.block (lay (block_on d p.block) p)
 
 -- a range before the patch, one behind it, and the patch's own
 pub range_before : (b : List ℕ) (p : Patch) (i j : ℕ) → end p ≤ length b → j ≤ p.start
@@ -53,11 +49,6 @@ pub byte_off : (b : List ℕ) (p : Patch) (i d : ℕ) → end p ≤ length b →
     → get_or (lay b p) i d ≡ get_or b i d
 byte_off b p i d fits (inl before) = grind (arith, places)
 byte_off b p i d fits (inr behind) = grind (arith, places)
-
--- one inside is its own
-pub byte_on : (b : List ℕ) (p : Patch) (i d : ℕ) → end p ≤ length b → p.start ≤ i → i < end p
-    → get_or (lay b p) i d ≡ get_or p.bytes (i - p.start) d
-byte_on b p i d fits from to = grind (arith, places)
 
 -- slots lie in the index, and apart
 pub slot_low : (g : Geometry) (s : ℕ) → s < slot_count g → slot_block s < pointer_block g

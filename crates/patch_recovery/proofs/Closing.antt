@@ -21,7 +21,7 @@ use Rattle.patch_model.specs.Member.{In, Contains-from_In, filter-filter}
 use Rattle.patch_frame.specs.declared.geometries.Geometry.{Geometry}
 use Rattle.patch_recovery.specs.Change.{Change, Data, Point, Fill, Clear, Widen, Made, patch_of, patches_of}
 use Rattle.patch_recovery.specs.Ledger.{Ledger, after, after_all, after_those, map_of, value_in, SaysSame}
-use Rattle.patch_recovery.specs.Reading.{block_at}
+use Rattle.patch_recovery.specs.Reading.{block_on}
 use Rattle.patch_recovery.specs.Right.{IsRight, IsSound}
 use Rattle.patch_recovery.specs.Orders.{comes_after}
 use Rattle.patch_recovery.specs.Store.{IsOfStore}
@@ -126,9 +126,9 @@ kept_of keeps block p = p.block == block && keeps p.no
 
 last_kept : (keeps : ℕ → Bool) (g : Geometry) (first : List (List ℕ)) (block : ℕ) → block < length first
     → (made : Made) (ms : List Made) → length (those_laid keeps g first ms) ≡ length first
-    → pile (block_at (those_laid keeps g first ms) block)
+    → pile (block_on (those_laid keeps g first ms) block)
     (filter (kept_of keeps block) (patch_of g (length ms) made ∷ []))
-    ≡ block_at (those_laid keeps g first (made ∷ ms)) block
+    ≡ block_on (those_laid keeps g first (made ∷ ms)) block
 last_kept keeps g first block there made ms long =
     let p : Patch = patch_of g (length ms) made in
     elim (cases_Bool (keeps (length ms))) [
@@ -147,25 +147,25 @@ last_kept keeps g first block there made ms long =
 
 pile_kept : (keeps : ℕ → Bool) (g : Geometry) (first : List (List ℕ)) (block : ℕ) → block < length first
     → (ms : List Made)
-    → pile (block_at first block) (filter (kept_of keeps block) (patches_of g ms))
-    ≡ block_at (those_laid keeps g first ms) block
+    → pile (block_on first block) (filter (kept_of keeps block) (patches_of g ms))
+    ≡ block_on (those_laid keeps g first ms) block
 pile_kept keeps g first block there [] = refl
 pile_kept keeps g first block there (made ∷ ms) =
     let p : Patch = patch_of g (length ms) made in
     let before = pile_kept keeps g first block there ms in
     let long = length-those_laid keeps g first ms in
-    let split : pile (block_at first block) (filter (kept_of keeps block) (patches_of g ms ++ p ∷ []))
-    ≡ pile (block_at first block) (filter (kept_of keeps block) (patches_of g ms)
-    ++ filter (kept_of keeps block) (p ∷ [])) = ap (pile (block_at first block))
+    let split : pile (block_on first block) (filter (kept_of keeps block) (patches_of g ms ++ p ∷ []))
+    ≡ pile (block_on first block) (filter (kept_of keeps block) (patches_of g ms)
+    ++ filter (kept_of keeps block) (p ∷ [])) = ap (pile (block_on first block))
     (filter-append (kept_of keeps block) (patches_of g ms) (p ∷ [])) in
-    let parted : pile (block_at first block) (filter (kept_of keeps block) (patches_of g ms)
+    let parted : pile (block_on first block) (filter (kept_of keeps block) (patches_of g ms)
     ++ filter (kept_of keeps block) (p ∷ []))
-    ≡ pile (pile (block_at first block) (filter (kept_of keeps block) (patches_of g ms)))
-    (filter (kept_of keeps block) (p ∷ [])) = fold-append lay (block_at first block)
+    ≡ pile (pile (block_on first block) (filter (kept_of keeps block) (patches_of g ms)))
+    (filter (kept_of keeps block) (p ∷ [])) = fold-append lay (block_on first block)
     (filter (kept_of keeps block) (patches_of g ms)) (filter (kept_of keeps block) (p ∷ [])) in
-    let on : pile (pile (block_at first block) (filter (kept_of keeps block) (patches_of g ms)))
+    let on : pile (pile (block_on first block) (filter (kept_of keeps block) (patches_of g ms)))
     (filter (kept_of keeps block) (p ∷ []))
-    ≡ pile (block_at (those_laid keeps g first ms) block) (filter (kept_of keeps block) (p ∷ [])) =
+    ≡ pile (block_on (those_laid keeps g first ms) block) (filter (kept_of keeps block) (p ∷ [])) =
     ap (λ b. pile b (filter (kept_of keeps block) (p ∷ []))) before in
     split ∙ parted ∙ on ∙ last_kept keeps g first block there made ms long
 
@@ -182,12 +182,12 @@ disk_is run g ms set patches numbered =
     same_lists _ _ (long ∙ sym (length-those_laid (in_set (entries_of run) set) g run.first ms)) (λ k d h.
     let within : k < length run.first = omega (arith, long) in
     get_or-map-range_with_len (λ b. pile_of (history_of run b) set) 0 (length run.first) k k d within (omega arith)
-    ∙ ap (λ es. pile (block_at run.first k) (map (λ e. e.patch) es))
+    ∙ ap (λ es. pile (block_on run.first k) (map (λ e. e.patch) es))
     (filter-filter set (λ e. e.patch.block == k) (entries_of run)
     ∙ filter-same_In (λ e. e.patch.block == k && set e) (λ e. kept_of (in_set (entries_of run) set) k e.patch)
     (entries_of run)
     (λ e i. ap (λ t. e.patch.block == k && t) (sym (in_set_is 0 (entries_of run) set numbered e i))))
-    ∙ ap (pile (block_at run.first k)) (map-filter (kept_of (in_set (entries_of run) set) k) (entries_of run)
+    ∙ ap (pile (block_on run.first k)) (map-filter (kept_of (in_set (entries_of run) set) k) (entries_of run)
     ∙ ap (filter (kept_of (in_set (entries_of run) set) k)) patches)
     ∙ pile_kept (in_set (entries_of run) set) g run.first k within ms
     ∙ get_or_default (those_laid (in_set (entries_of run) set) g run.first ms) k [] d

@@ -16,7 +16,7 @@ use Rattle.patch_frame.specs.Geometry.{IsGeometry, slot_block, slot_start}
 use Rattle.patch_frame.specs.Slot.{SlotFields, slot_at}
 use Rattle.patch_recovery.specs.Change.{Change, Data, Point, Fill, Clear, Widen, Made}
 use Rattle.patch_recovery.specs.Ledger.{Ledger, after, after_all}
-use Rattle.patch_recovery.specs.Reading.{block_at, slot_bytes, read_as}
+use Rattle.patch_recovery.specs.Reading.{block_on, slot_bytes, read_as}
 use Rattle.patch_recovery.specs.Orders.{takes_from, AreWellMade}
 use Rattle.patch_recovery.specs.Naming.{NamesSuffice}
 use Rattle.patch_recovery.specs.Store.{IsOfStore, StoresBegin, StoresGrow}
@@ -45,7 +45,7 @@ no_slot s = elim (cases_Bool (nat_lt s 64)) [
       let count : 64 * s + 64 - 64 * s ≡ 64 = omega arith in
       let enough : 64 ≤ 4096 - 64 * s = omega arith in
       let bytes : slot_bytes (new_disk three) s ≡ replicate 64 0 =
-      ap (λ b. slice_range (block_at (new_disk three) b) (slot_start s) (slot_start s + 64)) block
+      ap (λ b. slice_range (block_on (new_disk three) b) (slot_start s) (slot_start s + 64)) block
       ∙ ap (λ n. slice_range zero_block n (n + 64)) start
       ∙ ap (λ n. take n (drop (64 * s) zero_block)) count
       ∙ ap (take 64) (drop-replicate (64 * s) 4096 0)

@@ -1,13 +1,12 @@
 -- A step more of a store.
-use Rattle.std.proofs.Common.{◌≡◌, ℕ, ◌∙◌, inl, inr, true, List, [], ◌∷◌, ◌++◌, length, map, refl, sym, ap, arith}
-use Rattle.std.specs.Prelude.{◌==◌, ◌&&◌, ◌||◌}
-use Rattle.std.proofs.lemmas.Bool.{cases_Bool}
+use Rattle.std.proofs.Common.{◌≡◌, ◌∙◌, true, List, [], ◌∷◌, ◌++◌, length, map, refl, sym, ap, arith}
 use Rattle.std.proofs.lemmas.List.{length-map, map-append, length-append}
 use Rattle.patch_model.specs.Step.{Step, Create, Merge, Send, Complete}
 use Rattle.patch_model.specs.Execution.{Execution, extended}
-use Rattle.patch_model.specs.Entry.{Entry, is_flight}
-use Rattle.patch_model.specs.Ready.{has, ready}
+use Rattle.patch_model.specs.Entry.{Entry}
+use Rattle.patch_model.specs.Ready.{ready}
 use Rattle.patch_model.specs.State.{State, after_step, state_of, entries_of, joined, sent, landed, class_of}
+use Rattle.patch_model.specs.Kept.{patch-joined, patch-sent, patch-landed}
 use Rattle.patch_frame.specs.declared.geometries.Geometry.{Geometry}
 use Rattle.patch_recovery.specs.Change.{Made, patch_of, patches_of, step_of}
 use Rattle.patch_recovery.specs.Ledger.{Ledger}
@@ -28,18 +27,6 @@ map-same : (f : Entry → Entry) (es : List Entry) → ((e : Entry) → (f e).pa
     → map (λ e. e.patch) (map f es) ≡ map (λ e. e.patch) es
 map-same f [] same = refl
 map-same f (e ∷ es) same = rw (same e, map-same f es same) refl
-
-patch-joined : (a b : ℕ) (e : Entry) → (joined a b e).patch ≡ e.patch
-patch-joined a b e = elim (cases_Bool (e.class == a || e.class == b)) [ inl u ↦ rw u refl | inr u ↦ rw u refl ]
-
-patch-sent : (set : List Entry) (e : Entry) → (sent set e).patch ≡ e.patch
-patch-sent set e = elim (cases_Bool (has set e)) [ inl u ↦ rw u refl | inr u ↦ rw u refl ]
-
-patch-landed : (block : ℕ) (e : Entry) → (landed block e).patch ≡ e.patch
-patch-landed block e = elim (cases_Bool (is_flight e && e.patch.block == block)) [
-  | inl u ↦ rw u refl
-  | inr u ↦ rw u refl
-]
 
 patches_left : (st : State) (step : Step) → makes_nothing step ≡ true
     → map (λ e. e.patch) (after_step st step).entries ≡ map (λ e. e.patch) st.entries

@@ -8,28 +8,27 @@ use Rattle.std.specs.Str.{bytes_eq}
 use Rattle.std.proofs.lemmas.Bool.{cases_Bool, cases_eq, cases_lt, and_parts, and_from, or_parts, not-false, both_ways}
 use Rattle.std.proofs.lemmas.Bool.Decides.{nat_tests}
 use Rattle.std.proofs.lemmas.Slice.Eq.{bytes_eq-Decides}
+use Rattle.patch_frame.specs.Passing.{read_is, IsGeometry-at}
 use Rattle.patch_model.specs.Member.{In}
 use Rattle.patch_frame.specs.declared.faults.FrameFault.{FrameFault}
 use Rattle.patch_frame.specs.declared.faults.FrameFault.TheVariants.{BadValue}
-use Rattle.patch_frame.specs.declared.geometries.Format.{Format}
-use Rattle.patch_frame.specs.declared.geometries.Format.TheVariants.{One, Two}
 use Rattle.patch_frame.specs.declared.geometries.Geometry.{Geometry}
 use Rattle.patch_frame.specs.declared.pointers.Pointer.{Pointer}
 use Rattle.patch_frame.specs.Field.{are_zeros, outcome}
 use Rattle.patch_frame.specs.Frame.{Content, length_of}
-use Rattle.patch_frame.specs.Geometry.{IsGeometry, IsFormat, is_geometry, is_format, pointer_block, pointer_start}
+use Rattle.patch_frame.specs.Geometry.{IsGeometry, is_geometry, pointer_block, pointer_start}
 use Rattle.patch_frame.specs.Geometry.{block_count, slot_count, largest_pointer, longest_frame}
 use Rattle.patch_frame.specs.Superblock.{superblock_at}
 use Rattle.patch_frame.specs.Slot.{SlotFields, slot_at}
 use Rattle.patch_frame.specs.Pointer.{pointer_at, pointer_of}
 use Rattle.patch_recovery.specs.Ledger.{Ledger, frame_named, is_frame_of, names_frame, SaysSame}
-use Rattle.patch_recovery.specs.Reading.{Fault, FileSize, BadPointer, BadSlot, BadFrame, DuplicateKey, block_at}
+use Rattle.patch_recovery.specs.Reading.{Fault, FileSize, BadPointer, BadSlot, BadFrame, DuplicateKey, block_on}
 use Rattle.patch_recovery.specs.Reading.{record_at, slot_bytes, read_as, ledger_in, bad_pointers, has_key, used_tests}
 use Rattle.patch_recovery.specs.Reading.{slot_tests, disk_tests, read_under, reading}
 use Rattle.patch_recovery.specs.Right.{IsNamed, IsSound}
 use Rattle.patch_recovery.proofs.Widening.{limits_of, named_along}
 use Rattle.patch_recovery.proofs.Showing.{Shows}
-use Rattle.patch_recovery.proofs.Upgrading.{read_is, super_parts}
+use Rattle.patch_recovery.proofs.Upgrading.{super_parts}
 
 -- ---- tests
 
@@ -117,30 +116,6 @@ flat_map-same f h (x ∷ xs) e = rw (e x (inl refl), flat_map-same f h xs (λ y 
 
 -- ---- geometries
 
-format_valid : (f : Format) → is_format f ≡ true → IsFormat f
-format_valid One h = tt
-format_valid (Two x) h = let p = and_parts (nat_le 16 x) (nat_le x 64) h in
-    (grind (arith, nat_tests, p.0), grind (arith, nat_tests, p.1))
-
--- the test of a geometry tells it
-pub geometry_valid : (g : Geometry) → is_geometry g ≡ true → IsGeometry g
-geometry_valid g h =
-    let p5 = and_parts (nat_le 1 g.index && nat_le g.index 16 && nat_le 2 g.extents && nat_le g.extents 254
-    && is_format g.format) (nat_le (block_count g) 4096) h in
-    let p4 = and_parts (nat_le 1 g.index && nat_le g.index 16 && nat_le 2 g.extents && nat_le g.extents 254)
-    (is_format g.format) p5.0 in
-    let p3 = and_parts (nat_le 1 g.index && nat_le g.index 16 && nat_le 2 g.extents) (nat_le g.extents 254) p4.0 in
-    let p2 = and_parts (nat_le 1 g.index && nat_le g.index 16) (nat_le 2 g.extents) p3.0 in
-    let p1 = and_parts (nat_le 1 g.index) (nat_le g.index 16) p2.0 in
-    record {
-      some_index = grind (arith, nat_tests, p1.0);
-      short_index = grind (arith, nat_tests, p1.1);
-      some_extents = grind (arith, nat_tests, p2.1);
-      few_extents = grind (arith, nat_tests, p3.1);
-      format = format_valid g.format p4.1;
-      blocks = grind (arith, nat_tests, p5.1);
-    }
-
 -- ---- what a slot names
 
 frame_there : (s : SlotFields) (r : Result Content FrameFault) → is_frame_of s r ≡ true → (c : Content) × (r ≡ Ok c)
@@ -207,7 +182,7 @@ pub record Opened (first : List (List ℕ)) (l : Ledger) : Type 0 where
   pub sound : IsSound l
 
 module _ (first : List (List ℕ)) (long : (b : ℕ) → b < length first
-    → length (block_at first b) ≡ 4096) (g : Geometry) (super : superblock_at (block_at first 0) ≡ Ok g)
+    → length (block_on first b) ≡ 4096) (g : Geometry) (super : superblock_at (block_on first 0) ≡ Ok g)
     (pass : (t : Bool × Fault) → In (disk_tests (ledger_in g first) first) t → t.0 ≡ false) where
   pointers_pass : bad_pointers g first ≡ false
   pointers_pass = pass (bad_pointers g first, BadPointer) (inr (inl refl))
@@ -217,7 +192,7 @@ module _ (first : List (List ℕ)) (long : (b : ℕ) → b < length first
       (pointer_at (largest_pointer g.format) (record_at g first extent))) (range_with_len 0 g.extents) e
       (or_parts (list_any (λ extent. is_err (pointer_at (largest_pointer g.format) (record_at g first extent)))
       (range_with_len 0 g.extents)) (not (are_zeros
-      (slice_range (block_at first (pointer_block g)) (pointer_start g.extents) 4096))) pointers_pass).0
+      (slice_range (block_on first (pointer_block g)) (pointer_start g.extents) 4096))) pointers_pass).0
       (into_range 0 g.extents e (omega arith) (omega arith))
 
   slot_passes : (s : ℕ) → s < slot_count g → (t : Bool × Fault) → In (slot_tests (ledger_in g first) first s) t
@@ -258,16 +233,16 @@ module _ (first : List (List ℕ)) (long : (b : ℕ) → b < length first
 
   opened_in : Opened first (ledger_in g first)
   opened_in =
-      let parts = super_parts (block_at first 0) g super in
+      let parts = super_parts (block_on first 0) g super in
       let padding = or_parts (list_any (λ extent. is_err
       (pointer_at (largest_pointer g.format) (record_at g first extent))) (range_with_len 0 g.extents))
-      (not (are_zeros (slice_range (block_at first (pointer_block g)) (pointer_start g.extents) 4096)))
+      (not (are_zeros (slice_range (block_on first (pointer_block g)) (pointer_start g.extents) 4096)))
       pointers_pass in
       let size : not (length first == block_count g) ≡ false =
       pass (not (length first == block_count g), FileSize) (inl refl) in
       let size_is = not-false (length first == block_count g) size in
       record {
-        valid = geometry_valid g (ap is_geometry (sym parts.is) ∙ parts.valid);
+        valid = IsGeometry-at g (ap is_geometry (sym parts.is) ∙ parts.valid);
         shows = record {
           long = long;
           count = grind (arith, nat_tests, size_is);
@@ -297,8 +272,8 @@ module _ (first : List (List ℕ)) (long : (b : ℕ) → b < length first
         };
       }
 
-opened_under : (first : List (List ℕ)) (l : Ledger) → ((b : ℕ) → b < length first → length (block_at first b) ≡ 4096)
-    → (r : Result Geometry FrameFault) → superblock_at (block_at first 0) ≡ r → read_under first r ≡ Ok l
+opened_under : (first : List (List ℕ)) (l : Ledger) → ((b : ℕ) → b < length first → length (block_on first b) ≡ 4096)
+    → (r : Result Geometry FrameFault) → superblock_at (block_on first 0) ≡ r → read_under first r ≡ Ok l
     → Opened first l
 opened_under first l long (Ok g) super h =
     let all = outcome_all (disk_tests (ledger_in g first) first) (ledger_in g first) l h in
@@ -306,9 +281,9 @@ opened_under first l long (Ok g) super h =
 opened_under first l long (Err fault) super h = absurd (cc)
 
 -- blocks that are read show a sound ledger
-pub opened : (first : List (List ℕ)) (l : Ledger) → ((b : ℕ) → b < length first → length (block_at first b) ≡ 4096)
+pub opened : (first : List (List ℕ)) (l : Ledger) → ((b : ℕ) → b < length first → length (block_on first b) ≡ 4096)
     → reading first ≡ Ok l → Opened first l
-opened first l long h = opened_under first l long (superblock_at (block_at first 0)) refl h
+opened first l long h = opened_under first l long (superblock_at (block_on first 0)) refl h
 
 -- ---- ledgers that agree where it counts
 

@@ -17,7 +17,7 @@ use Rattle.patch_frame.specs.Geometry.{largest_pointer, extent_blocks, value_lim
 use Rattle.patch_frame.specs.Slot.{SlotFields}
 use Rattle.patch_frame.specs.Pointer.{pointer_at, pointer_of}
 use Rattle.patch_recovery.specs.Ledger.{Ledger, bytes_at, frame_named, entry_read, entry_of, map_of, SaysSame}
-use Rattle.patch_recovery.specs.Reading.{Fault, block_at, record_at, read_as, ledger_in, has_key, used_tests}
+use Rattle.patch_recovery.specs.Reading.{Fault, block_on, record_at, read_as, ledger_in, has_key, used_tests}
 use Rattle.patch_recovery.specs.Reading.{slot_tests, disk_tests, read_under, reading, map_read}
 use Rattle.patch_recovery.specs.Right.{IsSound}
 use Rattle.patch_recovery.proofs.Widening.{Wider, Limits, limits_of, bytes_same}
@@ -55,7 +55,7 @@ agrees_shown g d l wider shows sound =
       geometry = refl;
       pointer = λ e known.
           let extents = limits.extents in
-          ap (λ b. pointer_of (slice_range (block_at d b) (pointer_start e) (pointer_start e + 8))) at.pointers
+          ap (λ b. pointer_of (slice_range (block_on d b) (pointer_start e) (pointer_start e + 8))) at.pointers
           ∙ pointer_back (largest_pointer g.format) (record_at g d e) (l.pointer e) (shows.points e (omega arith));
       slot = λ s. elim (cases_Bool (nat_lt s (slot_count l.geometry))) [
         | inl u ↦
@@ -70,12 +70,12 @@ agrees_shown g d l wider shows sound =
       byte = λ e i known inside.
           let extents = limits.extents in
           let largest = limits.pointer in
-          ap (λ n. slice_index (block_at d (n + i / 4096)) (i % 4096)) (at.first e)
+          ap (λ n. slice_index (block_on d (n + i / 4096)) (i % 4096)) (at.first e)
           ∙ shows.bytes e i (omega arith) (omega arith);
     }
 
 record_same : (g h : Geometry) (d : List (List ℕ)) (e : ℕ) → SameAddresses g h → record_at h d e ≡ record_at g d e
-record_same g h d e at = ap (λ b. slice_range (block_at d b) (pointer_start e) (pointer_start e + 8)) at.pointers
+record_same g h d e at = ap (λ b. slice_range (block_on d b) (pointer_start e) (pointer_start e + 8)) at.pointers
 
 key_other : (key : List ℕ) (o : Option SlotFields) → ((f : SlotFields) → o ≡ Some f → f.key ≡ key → ⊥)
     → has_key key o ≡ false
@@ -124,10 +124,10 @@ module _ (g : Geometry) (d : List (List ℕ)) (l : Ledger) (wider : Wider g l.ge
       ap (λ n. is_err (pointer_at n (record_at l.geometry d x))) limits.pointer
       ∙ ap (λ b. is_err (pointer_at (largest_pointer g.format) b)) (record_same g l.geometry d x at)
       ∙ ap is_err (shows.points x (omega arith))) in
-      let zeros : are_zeros (slice_range (block_at d (pointer_block l.geometry))
+      let zeros : are_zeros (slice_range (block_on d (pointer_block l.geometry))
       (pointer_start l.geometry.extents) 4096) ≡ true =
-      ap (λ b. are_zeros (slice_range (block_at d b) (pointer_start l.geometry.extents) 4096)) at.pointers
-      ∙ ap (λ n. are_zeros (slice_range (block_at d (pointer_block g)) (pointer_start n) 4096)) extents
+      ap (λ b. are_zeros (slice_range (block_on d b) (pointer_start l.geometry.extents) 4096)) at.pointers
+      ∙ ap (λ n. are_zeros (slice_range (block_on d (pointer_block g)) (pointer_start n) 4096)) extents
       ∙ shows.padding in
       ap (λ q. q.0) (sym e) ∙ rw (each, zeros) refl
   tests_pass t (inr (inr i)) =

@@ -21,9 +21,10 @@ use Rattle.patch_frame.specs.Pointer.{pointer_at}
 use Rattle.patch_frame.specs.Pointer as pointers
 use Rattle.patch_recovery.specs.Change.{Data, Point}
 use Rattle.patch_recovery.specs.Ledger.{Ledger, after}
-use Rattle.patch_recovery.specs.Reading.{block_at, record_at, slot_bytes}
-use Rattle.patch_recovery.proofs.Blocks.{laid, laid_here, laid_elsewhere, length-laid, length-lay, range_before}
-use Rattle.patch_recovery.proofs.Blocks.{range_behind, range_of, byte_off, byte_on, slot_low, slot_inside, slots_apart}
+use Rattle.patch_recovery.specs.Reading.{block_on, record_at, slot_bytes}
+use Rattle.patch_model.specs.Laying.{length-lay, lay-inside}
+use Rattle.patch_recovery.proofs.Blocks.{laid, laid_here, laid_elsewhere, length-laid, range_before}
+use Rattle.patch_recovery.proofs.Blocks.{range_behind, range_of, byte_off, slot_low, slot_inside, slots_apart}
 use Rattle.patch_recovery.proofs.Blocks.{extent_high, extent_within, same_place}
 
 -- what the formats' readers and spellings say of one another
@@ -36,24 +37,24 @@ pub record Formats : Type 0 where
 
 -- the blocks, divided as g says, show the ledger
 pub record Shows (g : Geometry) (d : List (List ℕ)) (l : Ledger) : Type 0 where
-  pub long : (b : ℕ) → b < length d → length (block_at d b) ≡ 4096
+  pub long : (b : ℕ) → b < length d → length (block_on d b) ≡ 4096
   pub count : length d ≡ block_count g
-  pub super : superblock_at (block_at d 0) ≡ Ok l.geometry
+  pub super : superblock_at (block_on d 0) ≡ Ok l.geometry
   pub points : (e : ℕ) → e < g.extents → pointer_at (largest_pointer g.format) (record_at g d e) ≡ Ok (l.pointer e)
-  pub padding : are_zeros (slice_range (block_at d (pointer_block g)) (pointer_start g.extents) 4096) ≡ true
+  pub padding : are_zeros (slice_range (block_on d (pointer_block g)) (pointer_start g.extents) 4096) ≡ true
   pub slots : (s : ℕ) → s < slot_count g → slot_at (longest_frame l.geometry.format) (slot_bytes d s) ≡ Ok (l.slot s)
   pub bytes : (e i : ℕ) → e < g.extents → i < largest_pointer g.format
-      → slice_index (block_at d (first_block g e + i / 4096)) (i % 4096) ≡ l.byte e i
+      → slice_index (block_on d (first_block g e + i / 4096)) (i % 4096) ≡ l.byte e i
 
 -- the blocks stay as long as they are
-pub long_laid : (d : List (List ℕ)) (p : Patch) → ((b : ℕ) → b < length d → length (block_at d b) ≡ 4096)
+pub long_laid : (d : List (List ℕ)) (p : Patch) → ((b : ℕ) → b < length d → length (block_on d b) ≡ 4096)
     → p.block < length d → end p ≤ 4096
-    → (b : ℕ) → b < length (laid d p) → length (block_at (laid d p) b) ≡ 4096
+    → (b : ℕ) → b < length (laid d p) → length (block_on (laid d p) b) ≡ 4096
 long_laid d p long there fits b inside =
     let known : b < length d = let e = length-laid d p in omega arith in
     let whole = long b known in
     elim (cases_eq b p.block) [
-      | inl same ↦ ap length (laid_here d p b same there) ∙ length-lay (block_at d b) p (omega arith) ∙ whole
+      | inl same ↦ ap length (laid_here d p b same there) ∙ length-lay (block_on d b) p (omega arith) ∙ whole
       | inr other ↦ ap length (laid_elsewhere d p b other) ∙ whole
     ]
 
@@ -76,8 +77,8 @@ module _ (g : Geometry) (d : List (List ℕ)) (l : Ledger) (shows : Shows g d l)
       let there : p.block < length d = omega arith in
       let long : length p.bytes ≡ length bytes = ap length is in
       let fits : end p ≤ 4096 = omega arith in
-      let whole : length (block_at d p.block) ≡ 4096 = shows.long p.block there in
-      let other : (b : ℕ) → b ≤ pointer_block g → block_at (laid d p) b ≡ block_at d b =
+      let whole : length (block_on d p.block) ≡ 4096 = shows.long p.block there in
+      let other : (b : ℕ) → b ≤ pointer_block g → block_on (laid d p) b ≡ block_on d b =
       λ b le. laid_elsewhere d p b (λ e. absurd (omega arith)) in
       record {
         long = long_laid d p shows.long there fits;
@@ -105,10 +106,10 @@ module _ (g : Geometry) (d : List (List ℕ)) (l : Ledger) (shows : Shows g d l)
                   let block_same : i / 4096 ≡ offset / 4096 = omega arith in
                   let first : first_block g x ≡ first_block g e = ap (first_block g) same in
                   let here : first_block g x + i / 4096 ≡ p.block = omega arith in
-                  let whole_i : length (block_at d (first_block g x + i / 4096)) ≡ 4096 =
+                  let whole_i : length (block_on d (first_block g x + i / 4096)) ≡ 4096 =
                   shows.long (first_block g x + i / 4096) (omega arith) in
                   rw u (ap (λ b. slice_index b (i % 4096)) (laid_here d p (first_block g x + i / 4096) here there)
-                  ∙ byte_on (block_at d (first_block g x + i / 4096)) p (i % 4096) 0 (omega arith) (omega arith)
+                  ∙ lay-inside (block_on d (first_block g x + i / 4096)) p (i % 4096) 0 (omega arith) (omega arith)
                   (omega arith)
                   ∙ ap (λ bs. get_or bs (i % 4096 - p.start) 0) is
                   ∙ ap (λ k. get_or bytes k 0) (let at : i % 4096 - p.start ≡ i - offset = omega arith in at))
@@ -116,7 +117,7 @@ module _ (g : Geometry) (d : List (List ℕ)) (l : Ledger) (shows : Shows g d l)
                 | inl here ↦
                     let both = same_place g x e i offset in_extent low (here ∙ block) in
                     let block_same = both.1 in
-                    let whole_i : length (block_at d (first_block g x + i / 4096)) ≡ 4096 =
+                    let whole_i : length (block_on d (first_block g x + i / 4096)) ≡ 4096 =
                     shows.long (first_block g x + i / 4096) (omega arith) in
                     let off : (i % 4096 < p.start) ⊎ (end p ≤ i % 4096) = elim (cases_lt i offset) [
                       | inl less ↦ inl (omega arith)
@@ -130,7 +131,7 @@ module _ (g : Geometry) (d : List (List ℕ)) (l : Ledger) (shows : Shows g d l)
                       ]
                     ] in
                     ap (λ b. slice_index b (i % 4096)) (laid_here d p (first_block g x + i / 4096) here there)
-                    ∙ byte_off (block_at d (first_block g x + i / 4096)) p (i % 4096) 0 (omega arith) off
+                    ∙ byte_off (block_on d (first_block g x + i / 4096)) p (i % 4096) 0 (omega arith) off
                     ∙ shows.bytes x i in_range in_extent
                 | inr away ↦ ap (λ b. slice_index b (i % 4096)) (laid_elsewhere d p (first_block g x + i / 4096) away)
                     ∙ shows.bytes x i in_range in_extent
@@ -152,10 +153,10 @@ module _ (g : Geometry) (d : List (List ℕ)) (l : Ledger) (shows : Shows g d l)
       let there : p.block < length d = omega arith in
       let long : length p.bytes ≡ 8 = ap length is in
       let fits : end p ≤ 4096 = omega arith in
-      let whole : length (block_at d (pointer_block g)) ≡ 4096 = shows.long (pointer_block g) (omega arith) in
-      let other : (b : ℕ) → b ≢ pointer_block g → block_at (laid d p) b ≡ block_at d b =
+      let whole : length (block_on d (pointer_block g)) ≡ 4096 = shows.long (pointer_block g) (omega arith) in
+      let other : (b : ℕ) → b ≢ pointer_block g → block_on (laid d p) b ≡ block_on d b =
       λ b ne. laid_elsewhere d p b (λ e. ne (e ∙ block)) in
-      let here : block_at (laid d p) (pointer_block g) ≡ lay (block_at d (pointer_block g)) p =
+      let here : block_on (laid d p) (pointer_block g) ≡ lay (block_on d (pointer_block g)) p =
       laid_here d p (pointer_block g) (sym block) there in
       record {
         long = long_laid d p shows.long there fits;
@@ -166,7 +167,7 @@ module _ (g : Geometry) (d : List (List ℕ)) (l : Ledger) (shows : Shows g d l)
               rw u (ap (λ b. pointer_at (largest_pointer g.format)
               (slice_range b (pointer_start x) (pointer_start x + 8))) here
               ∙ ap (pointer_at (largest_pointer g.format))
-              (range_of (block_at d (pointer_block g)) p (pointer_start x) (pointer_start x + 8) (omega arith)
+              (range_of (block_on d (pointer_block g)) p (pointer_start x) (pointer_start x + 8) (omega arith)
               (omega arith) (omega arith) ∙ is)
               ∙ formats.pointer_read (largest_pointer g.format)
               (record { generation = generation; offset = offset }) small fit)
@@ -174,15 +175,15 @@ module _ (g : Geometry) (d : List (List ℕ)) (l : Ledger) (shows : Shows g d l)
               rw u (ap (λ b. pointer_at (largest_pointer g.format)
               (slice_range b (pointer_start x) (pointer_start x + 8))) here
               ∙ ap (pointer_at (largest_pointer g.format)) (elim (cases_lt x e) [
-                | inl less ↦ range_before (block_at d (pointer_block g)) p (pointer_start x) (pointer_start x + 8)
+                | inl less ↦ range_before (block_on d (pointer_block g)) p (pointer_start x) (pointer_start x + 8)
                     (omega arith) (omega arith)
-                | inr le ↦ range_behind (block_at d (pointer_block g)) p (pointer_start x) (pointer_start x + 8)
+                | inr le ↦ range_behind (block_on d (pointer_block g)) p (pointer_start x) (pointer_start x + 8)
                     (omega arith) (omega arith) (omega arith)
               ])
               ∙ shows.points x in_range)
         ];
         padding = ap (λ b. are_zeros (slice_range b (pointer_start g.extents) 4096)) here
-            ∙ ap are_zeros (range_behind (block_at d (pointer_block g)) p (pointer_start g.extents) 4096 (omega arith)
+            ∙ ap are_zeros (range_behind (block_on d (pointer_block g)) p (pointer_start g.extents) 4096 (omega arith)
             (omega arith) (omega arith)) ∙ shows.padding;
         slots = λ s in_range. let less = slot_low g s in_range in
             ap (λ b. slot_at (longest_frame l.geometry.format) (slice_range b (slot_start s) (slot_start s + 64)))
@@ -204,7 +205,7 @@ module _ (g : Geometry) (d : List (List ℕ)) (l : Ledger) (shows : Shows g d l)
       let inside = slot_inside s in
       let long : length p.bytes ≡ 64 = ap length is ∙ formats.slot_long (longest_frame l.geometry.format) o fit in
       let fits : end p ≤ 4096 = omega arith in
-      let other : (b : ℕ) → b ≢ slot_block s → block_at (laid d p) b ≡ block_at d b =
+      let other : (b : ℕ) → b ≢ slot_block s → block_on (laid d p) b ≡ block_on d b =
       λ b ne. laid_elsewhere d p b (λ e. ne (e ∙ block)) in
       record {
         long = long_laid d p shows.long there fits;
@@ -219,27 +220,27 @@ module _ (g : Geometry) (d : List (List ℕ)) (l : Ledger) (shows : Shows g d l)
           | inl u ↦ let same : t ≡ s = grind (arith, nat_tests) in
               let block_same : slot_block t ≡ slot_block s = ap slot_block same in
               let start_same : slot_start t ≡ slot_start s = ap slot_start same in
-              let whole : length (block_at d (slot_block t)) ≡ 4096 = shows.long (slot_block t) (omega arith) in
+              let whole : length (block_on d (slot_block t)) ≡ 4096 = shows.long (slot_block t) (omega arith) in
               rw u (ap (λ b. slot_at (longest_frame l.geometry.format)
               (slice_range b (slot_start t) (slot_start t + 64)))
               (laid_here d p (slot_block t) (block_same ∙ sym block) there)
               ∙ ap (slot_at (longest_frame l.geometry.format))
-              (range_of (block_at d (slot_block t)) p (slot_start t) (slot_start t + 64) (omega arith) (omega arith)
+              (range_of (block_on d (slot_block t)) p (slot_start t) (slot_start t + 64) (omega arith) (omega arith)
               (omega arith) ∙ is)
               ∙ formats.slot_read (longest_frame l.geometry.format) o small fit)
           | inr u ↦ let apart : t ≢ s = λ same. absurd (grind (arith, nat_tests)) in
               rw u (elim (cases_eq (slot_block t) (slot_block s)) [
                 | inl block_same ↦
-                    let whole : length (block_at d (slot_block t)) ≡ 4096 = shows.long (slot_block t) (omega arith) in
+                    let whole : length (block_on d (slot_block t)) ≡ 4096 = shows.long (slot_block t) (omega arith) in
                     let fit_t = slot_inside t in
-                    let clear : slice_range (lay (block_at d (slot_block t)) p) (slot_start t) (slot_start t + 64)
-                    ≡ slice_range (block_at d (slot_block t)) (slot_start t) (slot_start t + 64) =
+                    let clear : slice_range (lay (block_on d (slot_block t)) p) (slot_start t) (slot_start t + 64)
+                    ≡ slice_range (block_on d (slot_block t)) (slot_start t) (slot_start t + 64) =
                     elim (slots_apart t s apart) [
                       | inl ne ↦ absurd (ne block_same)
                       | inr far ↦ elim far [
-                        | inl less ↦ range_before (block_at d (slot_block t)) p (slot_start t) (slot_start t + 64)
+                        | inl less ↦ range_before (block_on d (slot_block t)) p (slot_start t) (slot_start t + 64)
                             (omega arith) (omega arith)
-                        | inr more ↦ range_behind (block_at d (slot_block t)) p (slot_start t) (slot_start t + 64)
+                        | inr more ↦ range_behind (block_on d (slot_block t)) p (slot_start t) (slot_start t + 64)
                             (omega arith) (omega arith) (omega arith)
                       ]
                     ] in

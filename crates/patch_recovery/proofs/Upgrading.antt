@@ -1,6 +1,6 @@
 -- The upgrade's patch makes a superblock of version 2 of one of version 1.
-use Rattle.std.proofs.Common.{◌≡◌, ◌≢◌, ℕ, zero, suc, ◌+◌, ◌-◌, ◌/◌, ◌%◌, ◌<◌, ◌≤◌, ◌^◌, ◌∙◌, inl, inr, Bool, true}
-use Rattle.std.proofs.Common.{false, not, List, [], ◌∷◌, length, drop, slice_range, Option, Some, None, Result, Ok, Err}
+use Rattle.std.proofs.Common.{◌≡◌, ◌≢◌, ℕ, zero, suc, ◌+◌, ◌-◌, ◌/◌, ◌%◌, ◌<◌, ◌≤◌, ◌^◌, ◌∙◌, inl, inr, true}
+use Rattle.std.proofs.Common.{false, not, List, [], ◌∷◌, length, drop, slice_range, Option, Some, None, Ok}
 use Rattle.std.proofs.Common.{refl, sym, ap, arith}
 use Rattle.std.specs.Prelude.{◌==◌, ◌||◌, nat_lt, slice_index, codes}
 use Rattle.std.specs.Int.{w32, from_be_bytes}
@@ -9,6 +9,7 @@ use Rattle.std.proofs.lemmas.Bool.{cases_Bool, and_parts, or_parts, not-false}
 use Rattle.std.proofs.lemmas.Bool.Decides.{nat_tests}
 use Rattle.std.proofs.lemmas.List.{places, same_lists}
 use Rattle.std.proofs.lemmas.Nat.{from_be_bytes-to_be_bytes_4}
+use Rattle.patch_frame.specs.Passing.{read_is, passed}
 use Rattle.patch_model.specs.Patch.{Patch}
 use Rattle.patch_model.specs.Pile.{end, lay}
 use Rattle.patch_frame.specs.declared.faults.FrameFault.TheVariants.{BadMagic, BadKey, BadValue, NotZero}
@@ -23,15 +24,9 @@ use Rattle.patch_frame.specs.Slot.{empty_tests, used_tests}
 use Rattle.patch_frame.specs.Pointer.{pointer_at}
 use Rattle.patch_recovery.specs.Change.{Widen, widened, bytes_of}
 use Rattle.patch_recovery.specs.Ledger.{Ledger, after}
-use Rattle.patch_recovery.specs.Reading.{block_at, slot_bytes}
+use Rattle.patch_recovery.specs.Reading.{block_on, slot_bytes}
 use Rattle.patch_recovery.proofs.Blocks.{laid, laid_here, laid_elsewhere, length-laid, range_before, range_behind}
 use Rattle.patch_recovery.proofs.Showing.{Shows, long_laid}
-
--- what is read has passed the first test
-pub passed : {X E : Type 0} (b : Bool) (e : E) (tests : List (Bool × E)) (x y : X) → outcome ((b, e) ∷ tests) x ≡ Ok y
-    → (b ≡ false) × (outcome tests x ≡ Ok y)
-passed true e tests x y h = absurd (let g : Err e ≡ Ok y = h in cc)
-passed false e tests x y h = (refl, h)
 
 -- bytes inside the patch are its own
 pub range_inside : (b : List ℕ) (p : Patch) (i j : ℕ) → end p ≤ length b → p.start ≤ i → j ≤ end p → i ≤ j
@@ -55,14 +50,6 @@ pub record IsSuper (bytes : List ℕ) (g : Geometry) : Type 0 where
   pub valid : is_geometry (geometry_of bytes) ≡ true
   pub padding : are_zeros (slice_range bytes (fields_end bytes) 4096) ≡ true
   pub is : geometry_of bytes ≡ g
-
--- a reading that succeeds
-abbrev done : {X E : Type 0} → X → Result X E
-done x = Ok x
-
--- is of one thing
-pub read_is : {X E : Type 0} (x y : X) → done {E = E} x ≡ done y → x ≡ y
-read_is x y h = cc
 
 -- a superblock that is read passes the tests
 pub super_parts : (bytes : List ℕ) (g : Geometry) → superblock_at bytes ≡ Ok g → IsSuper bytes g
@@ -173,14 +160,14 @@ shows_widen g d l p shows same one few_index few_extents block start is =
     let there : p.block < length d = omega arith in
     let long : length p.bytes ≡ 16 = ap length is in
     let fits : end p ≤ 4096 = omega arith in
-    let other : (b : ℕ) → b ≢ 0 → block_at (laid d p) b ≡ block_at d b =
+    let other : (b : ℕ) → b ≢ 0 → block_on (laid d p) b ≡ block_on d b =
     λ b ne. laid_elsewhere d p b (λ e. ne (e ∙ block)) in
-    let whole : length (block_at d 0) ≡ 4096 = shows.long 0 (omega arith) in
+    let whole : length (block_on d 0) ≡ 4096 = shows.long 0 (omega arith) in
     record {
       long = long_laid d p shows.long there fits;
       count = length-laid d p ∙ shows.count;
       super = ap superblock_at (laid_here d p 0 (sym block) there)
-          ∙ super_widened (block_at d 0) g p whole (shows.super
+          ∙ super_widened (block_on d 0) g p whole (shows.super
           ∙ ap (λ h. Ok h) same) one few_index few_extents start is ∙ ap (λ h. Ok (widened h)) (sym same);
       points = λ x in_range. ap (λ b. pointer_at (largest_pointer g.format)
           (slice_range b (pointer_start x) (pointer_start x + 8))) (other (pointer_block g) (λ e. absurd (omega arith)))

@@ -23,14 +23,14 @@ abbrev pub ledger_of : Execution → (Entry → Bool) → Ledger → List Made �
 ledger_of run set first made = after_those (in_set (entries_of run) set) first made
 
 -- The disk is read as a ledger that says the same as this one, which is sound. So it is read as the map of this one, in
--- which each key has what is told of it.
-pub record Opens (disk : List (List ℕ)) (says : Ledger) (told : List ℕ → Option (List ℕ)) : Type 0 where
+-- which each key has this value.
+pub record Opens (disk : List (List ℕ)) (says : Ledger) (value : List ℕ → Option (List ℕ)) : Type 0 where
   pub l : Ledger
   pub read : reading disk ≡ Ok l
   pub same : SaysSame l says
   pub sound : IsSound says
   pub map : map_read disk ≡ Ok (map_of says)
-  pub tells : (key : List ℕ) → value_in (map_of says) key ≡ told key
+  pub tells : (key : List ℕ) → value_in (map_of says) key ≡ value key
 
 -- whatever closed set of the patches reached the disk, it opens, and says what their changes alone leave: of each key
 -- what the last of them that speaks of it says, as it was said where it was made
@@ -52,18 +52,18 @@ ClosedDisksHaveWords =
 -- so a disk that a crash leaves opens, and says what the changes that had reached it leave
 abbrev pub CrashDisksOpen : Type 0
 CrashDisksOpen =
-    (run : Execution) (first : Ledger) (made : List Made) (disk : List (List ℕ)) (left : MayLeave run disk)
+    (run : Execution) (first : Ledger) (made : List Made) (disk : List (List ℕ)) (crash : MayLeave run disk)
     → IsLegal run → IsOfStore run first made
-    → Opens disk (ledger_of run (crash_set left.landed) first made)
-    (last_said (in_set (entries_of run) (crash_set left.landed)) first made)
+    → Opens disk (ledger_of run (crash_set crash.landed) first made)
+    (last_said (in_set (entries_of run) (crash_set crash.landed)) first made)
 
 -- and each key has the value of its last put or delete that had reached the disk, or a later move of which had
 abbrev pub CrashDisksHaveWords : Type 0
 CrashDisksHaveWords =
-    (run : Execution) (first : Ledger) (made : List Made) (disk : List (List ℕ)) (left : MayLeave run disk)
+    (run : Execution) (first : Ledger) (made : List Made) (disk : List (List ℕ)) (crash : MayLeave run disk)
     (moves : ℕ → Bool) → IsLegal run → IsOfStore run first made → AreMoves moves first made
-    → Opens disk (ledger_of run (crash_set left.landed) first made)
-    (last_word_kept (in_set (entries_of run) (crash_set left.landed)) moves first made)
+    → Opens disk (ledger_of run (crash_set crash.landed) first made)
+    (last_word_kept (in_set (entries_of run) (crash_set crash.landed)) moves first made)
 
 -- the blocks with all patches
 abbrev pub cached_blocks : Execution → List (List ℕ)

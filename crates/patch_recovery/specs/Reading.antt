@@ -26,17 +26,17 @@ pub data Fault : Type 0 where
   DuplicateKey : (slot : ℕ) → Fault
 
 -- the block of this number
-abbrev pub block_at : List (List ℕ) → ℕ → List ℕ
-block_at blocks n = slice_index_or blocks n []
+abbrev pub block_on : List (List ℕ) → ℕ → List ℕ
+block_on blocks n = slice_index_or blocks n []
 
 -- the 8 bytes of an extent's pointer record
 abbrev pub record_at : Geometry → List (List ℕ) → ℕ → List ℕ
 record_at g blocks extent =
-    slice_range (block_at blocks (pointer_block g)) (pointer_start extent) (pointer_start extent + 8)
+    slice_range (block_on blocks (pointer_block g)) (pointer_start extent) (pointer_start extent + 8)
 
 -- the 64 bytes of a slot
 abbrev pub slot_bytes : List (List ℕ) → ℕ → List ℕ
-slot_bytes blocks slot = slice_range (block_at blocks (slot_block slot)) (slot_start slot) (slot_start slot + 64)
+slot_bytes blocks slot = slice_range (block_on blocks (slot_block slot)) (slot_start slot) (slot_start slot + 64)
 
 -- what a slot that is read says
 abbrev pub read_as : Result (Option SlotFields) FrameFault → Option SlotFields
@@ -50,14 +50,14 @@ ledger_in g blocks = record {
   pointer = λ extent. pointer_of (record_at g blocks extent);
   slot = λ s.
       if nat_lt s (slot_count g) then read_as (slot_at (longest_frame g.format) (slot_bytes blocks s)) else None;
-  byte = λ extent place. slice_index (block_at blocks (first_block g extent + place / 4096)) (place % 4096);
+  byte = λ extent place. slice_index (block_on blocks (first_block g extent + place / 4096)) (place % 4096);
 }
 
 -- a record is refused, or a byte behind the last one isn't zero
 abbrev pub bad_pointers : Geometry → List (List ℕ) → Bool
 bad_pointers g blocks =
     list_any (λ e. is_err (pointer_at (largest_pointer g.format) (record_at g blocks e))) (range_with_len 0 g.extents)
-    || not (are_zeros (slice_range (block_at blocks (pointer_block g)) (pointer_start g.extents) 4096))
+    || not (are_zeros (slice_range (block_on blocks (pointer_block g)) (pointer_start g.extents) 4096))
 
 -- the slot is used and has this key
 abbrev pub has_key : List ℕ → Option SlotFields → Bool
@@ -94,7 +94,7 @@ read_under blocks (Err fault) = Err BadSuper
 -- What the blocks are read as, or the first test that refuses them. A disk without a block is refused as one without a
 -- superblock.
 abbrev pub reading : List (List ℕ) → Result Ledger Fault
-reading blocks = read_under blocks (superblock_at (block_at blocks 0))
+reading blocks = read_under blocks (superblock_at (block_on blocks 0))
 
 -- the map that blocks are read as
 abbrev pub map_read : List (List ℕ) → Result (List Content) Fault
