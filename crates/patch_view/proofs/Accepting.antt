@@ -1,25 +1,24 @@
 -- A class may be taken, or put back, just where no cause of a refusal holds.
-use Rattle.std.proofs.Common.{◌≡◌, ◌≢◌, ℕ, ◌∙◌, true, false, not, inl, inr, Bool, List, [], ◌∷◌, Option, Some, None, refl, sym, subst, Result, Ok, Err, ◌↔◌, IsOk}
+use Rattle.std.proofs.Common.{◌≡◌, ℕ, ◌∙◌, true, false, not, inl, inr, Bool, List, [], ◌∷◌, Option, Some, None, refl, sym, subst, Result, Ok, Err, ◌↔◌, IsOk}
 use Rattle.std.specs.Prelude.{find, cond, ◌==◌, ◌&&◌}
-use Rattle.std.proofs.lemmas.Bool.{cases_Bool, cases_eq, and_parts, and_from, eqb-true, eq-eqb, ne_eqb, not_from_false}
+use Rattle.std.proofs.lemmas.Bool.{cases_Bool, cases_eq, and_parts, and_from, eqb-true, eq-eqb, not_from_false}
 use Rattle.std.proofs.lemmas.Option.{none-some}
+use Rattle.patch_model.specs.Link.{Link-from}
 use Rattle.patch_model.specs.declared.patches.Mark.{Mark}
 use Rattle.patch_model.specs.declared.patches.Mark.TheVariants.{Memory, Flight, Durable}
 use Rattle.patch_model.specs.declared.refusals.RefusalKind.TheVariants as kind
 use Rattle.patch_model.specs.Entry.{Entry, is_live, is_flight, is_among, is_undoable, marks_memory, marks_flight, marks_durable}
-use Rattle.patch_model.specs.Dependency.{class_depends, depends_directly}
+use Rattle.patch_model.specs.Dependency.{class_depends}
 use Rattle.patch_model.specs.Member.{In, In-from_Contains, list_any-from}
 use Rattle.patch_model.specs.History.{History, HoldsDependents, Back, moved}
-use Rattle.patch_model.specs.Refusing.{Refusal as Cause, bare, least, applied_dependents, taken_dependencies, hindered_by, why_class_not_taken, why_not_taken, why_not_put_back}
+use Rattle.patch_model.specs.Refusing.{Refusal as Cause, bare, least, applied_dependents, taken_dependencies, hindered_by, why_class_not_taken}
 use Rattle.patch_view.specs.declared.refusals.TakeRefusal.{TakeRefusal}
 use Rattle.patch_view.specs.declared.refusals.PutBackRefusal.{PutBackRefusal}
 use Rattle.patch_view.specs.State.{Block}
 use Rattle.patch_view.specs.History.{IsCoherent}
 use Rattle.patch_view.specs.Meaning.{Represents}
-use Rattle.patch_view.specs.Refusal.{take_cause, put_back_cause}
 use Rattle.patch_view.specs.Answers.{IsPatch, MayTake, MayPutBack, IsTakeAnswer, IsPutBackAnswer}
 use Rattle.patch_view.specs.Laws.{TakenWithoutCause, PutBackWithoutCause}
-use Rattle.patch_view.proofs.Resting.{linked_by}
 use Rattle.patch_view.proofs.Steps.{among-filter, among-left}
 use Rattle.patch_view.proofs.Finding.{find_in}
 use Rattle.patch_view.proofs.Causes.{take_done, back_done, is_applied, is_taken_one}
@@ -44,12 +43,6 @@ in_memory Memory live still = refl
 in_memory Flight live still = absurd (cc)
 in_memory Durable live still = absurd (cc)
 
--- a patch of the one class that depends on one of the other
-depends : (h : History) (e f : Entry) → In h.entries e → In h.entries f → e.class ≢ f.class → depends_directly e.patch f.patch ≡ true
-    → class_depends h.entries e.class f.class ≡ true
-depends h e f in_e in_f apart goes =
-    and_from _ _ (not_from_false _ (ne_eqb e.class f.class apart)) (linked_by h e.class f.class e f in_e in_f refl refl goes)
-
 -- Takes.
 
 may_be_taken : (h : History) (names : List ℕ) (number : ℕ) (e : Entry) → IsCoherent h → HoldsDependents h names → IsPatch h number e → is_live e ≡ true
@@ -69,7 +62,7 @@ may_be_taken h names number e r holds is live why =
         | inl t ↦ t
         | inr u ↦
             let on : class_depends h.entries f.class e.class ≡ true = subst (λ (n : ℕ). class_depends h.entries f.class n ≡ true) same
-            (depends h f g in_f in_g (λ eq. apart (eq ∙ same)) goes) in
+            (Link-from h.entries f g in_f in_g (λ eq. apart (eq ∙ same)) goes) in
             let i : In (applied_dependents h names e.class) f.class = is_applied h names e.class f.class (record {
               live = list_any-from (λ x. x.class == f.class && is_live x) h.entries f in_f (and_from _ _ (eq-eqb f.class f.class refl) live_f);
               depends = on;
@@ -111,7 +104,7 @@ left_holds h names c holds none = record {
       elim (cases_eq e.class c) [
         | inl at ↦
             let on : class_depends h.entries c f.class ≡ true = subst (λ (n : ℕ). class_depends h.entries n f.class ≡ true) at
-            (depends h e f (In-from_Contains _ _ i) (In-from_Contains _ _ j) (λ eq. left.1 (sym eq ∙ at)) goes) in
+            (Link-from h.entries e f (In-from_Contains _ _ i) (In-from_Contains _ _ j) (λ eq. left.1 (sym eq ∙ at)) goes) in
             absurd (subst (λ (ns : List ℕ). In ns f.class) none (is_taken_one h names c f.class (record { depends = on; is_taken = left.0 })))
         | inr apart ↦ among-filter e.class c names apart ∙ over
       ];

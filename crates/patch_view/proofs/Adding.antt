@@ -6,17 +6,19 @@ use Rattle.std.proofs.lemmas.Bool.{cases_Bool, cases_lt, and_parts, and_left, an
 use Rattle.std.proofs.lemmas.List.{get_or_append_left, get_or_push, length_push, places}
 use Rattle.std.proofs.lemmas.List.Sorted.{list_any-IsPermutation}
 use Rattle.std.proofs.lemmas.List.Folds.{list_any-append}
+use Rattle.std.specs.Cmp.{both_ways as same_bool}
+use Rattle.patch_model.specs.Marked.{memory-not_durable}
 use Rattle.patch_model.specs.Pile.{end, covers, lay, pile}
 use Rattle.patch_model.specs.Dependency.{shares_byte, depends_directly}
 use Rattle.patch_model.specs.Entry.{Entry, is_durable, is_memory, is_among}
 use Rattle.patch_model.specs.Member.{In, list_any-at, list_any-from}
 use Rattle.patch_model.specs.History.{History, without}
-use Rattle.patch_view.proofs.Sets.{same_bool, class_depends_on, none-held, never-from, ordered_on}
+use Rattle.patch_view.proofs.Sets.{class_depends_on, none-held, never-from, ordered_on}
 use Rattle.patch_view.specs.History.{IsCoherent, IsNext, laid, class_covers, comes_before, below}
 use Rattle.patch_view.specs.State.{Class, Block, class_at, no_class, new_class, with_laid}
 use Rattle.patch_view.specs.Meaning.{IsClassOf, Represents}
-use Rattle.patch_view.proofs.Laying.{covers-from}
-use Rattle.patch_view.proofs.Chain.{same_byte, covering, before-at, before-from, memory-not_durable, range-at, length-by}
+use Rattle.patch_model.specs.Laying.{covers-from}
+use Rattle.patch_view.proofs.Chain.{same_byte, covering, before-at, before-from, range-at, length-by}
 
 pub In-left : {X : Type 0} → (xs ys : List X) (x : X) → In xs x → In (xs ++ ys) x
 In-left [] ys x i = absurd i

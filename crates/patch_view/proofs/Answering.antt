@@ -12,6 +12,7 @@ use Rattle.patch_model.specs.Dependency.{class_depends}
 use Rattle.patch_model.specs.Member.{list_any-at, list_any-from}
 use Rattle.patch_model.specs.History.{History, moved, Back}
 use Rattle.patch_model.specs.Refusing.{why_not_taken, why_not_put_back}
+use Rattle.patch_view.specs.declared.classes.Turn.TheVariants.{Take, PutBack}
 use Rattle.patch_view.proofs.Sets.{upper}
 use Rattle.patch_view.proofs.Resting.{linked_as, follows-apart}
 use Rattle.patch_view.specs.State.{Block, class_at, no_class, may_be_taken, follows, hinders, place_of, IsLeast, exchanged_at}
@@ -116,7 +117,7 @@ live-name b taken h k r within =
     list_any-from (λ e. e.class == (class_at b k).name && is_live e) h.entries q.0 q.1 (and_from _ _ q.2 (not_from_false _ m.0))
 
 hinders-dependent : (b : Block) (taken : List ℕ) (h : History) (at k : ℕ) → Represents b taken h → at < length b.classes → k < length b.classes
-    → hinders true b at k ≡ true → IsAppliedDependent h taken (class_at b at).name (class_at b k).name
+    → hinders Take b at k ≡ true → IsAppliedDependent h taken (class_at b at).name (class_at b k).name
 hinders-dependent b taken h at k r within w_k t =
     let p = and_parts (not (class_at b k).taken) (follows b k at) t in
     record {
@@ -127,7 +128,7 @@ hinders-dependent b taken h at k r within w_k t =
 
 dependent-hinders : (b : Block) (taken : List ℕ) (h : History) (at m : ℕ) → Represents b taken h → at < length b.classes
     → IsAppliedDependent h taken (class_at b at).name m
-    → (k : ℕ) × (k < length b.classes) × ((class_at b k).name ≡ m) × (hinders true b at k ≡ true)
+    → (k : ℕ) × (k < length b.classes) × ((class_at b k).name ≡ m) × (hinders Take b at k ≡ true)
 dependent-hinders b taken h at m r within d =
     let q = list_any-at _ h.entries d.live in
     let both = and_parts _ _ q.2 in
@@ -141,7 +142,7 @@ dependent-hinders b taken h at m r within d =
 
 pub why_dependent : (b : Block) (taken : List ℕ) (h : History) (number at n : ℕ) → Represents b taken h → place_of b number ≡ Some at
     → (class_at b at).flying ≡ false → (class_at b at).hard ≡ false → (class_at b at).taken ≡ false
-    → IsLeast (hinders true b at) b (Some n) → why_not_taken h taken number ≡ Some (take_cause (DependentApplied n))
+    → IsLeast (hinders Take b at) b (Some n) → why_not_taken h taken number ≡ Some (take_cause (DependentApplied n))
 why_dependent b taken h number at n r e low soft off least =
     let f = found b taken h number at r e in
     let first = least.0 in
@@ -154,17 +155,17 @@ why_dependent b taken h number at n r e low soft off least =
 
 pub takes : (b : Block) (taken : List ℕ) (h : History) (number at : ℕ) → Represents b taken h → place_of b number ≡ Some at
     → (class_at b at).flying ≡ false → (class_at b at).hard ≡ false → (class_at b at).taken ≡ false
-    → IsLeast (hinders true b at) b None → IsTaken h taken number (exchanged_at b at true)
+    → IsLeast (hinders Take b at) b None → IsTaken h taken number (exchanged_at b at Take)
 takes b taken h number at r e low soft off none =
     let f = found b taken h number at r e in
     let may : may_be_taken (class_at b at) ≡ true = and_from _ _ (not_from_false _ low) (not_from_false _ soft) in
     let step = taking b taken h at r f.within may off none in
-    let now : Represents (exchanged_at b at true) (f.patch.class ∷ taken) h =
-    subst (λ c. Represents (exchanged_at b at true) (c ∷ taken) h) (sym f.class)
-    (exchanged-represents b taken ((class_at b at).name ∷ taken) h at true r f.within may (take-exchange h (class_at b at).name taken ((class_at b at).name ∷ taken) r.coherent step)) in
+    let now : Represents (exchanged_at b at Take) (f.patch.class ∷ taken) h =
+    subst (λ c. Represents (exchanged_at b at Take) (c ∷ taken) h) (sym f.class)
+    (exchanged-represents b taken ((class_at b at).name ∷ taken) h at Take r f.within may (take-exchange h (class_at b at).name taken ((class_at b at).name ∷ taken) r.coherent step)) in
     record {
       none = take_done h taken number f.patch r.coherent f.named (undoable-from b taken h number at f low soft) (sym f.flag ∙ off) now.holds;
-      represents = subst (λ (c : ℕ). Represents (exchanged_at b at true) (c ∷ taken) h) (sym (class_is h number f.patch r.coherent f.named)) now;
+      represents = subst (λ (c : ℕ). Represents (exchanged_at b at Take) (c ∷ taken) h) (sym (class_is h number f.patch r.coherent f.named)) now;
     }
 
 pub why_nowhere : (b : Block) (taken : List ℕ) (h : History) (number : ℕ) → Represents b taken h → place_of b number ≡ None
@@ -180,7 +181,7 @@ why_applied b taken h number at r e off = is_not_taken h taken number (λ g is.
     ap (λ z. is_among taken z.class) (sym same) ∙ sym f.flag ∙ off)
 
 hinders-dependency : (b : Block) (taken : List ℕ) (h : History) (at k : ℕ) → Represents b taken h → at < length b.classes → k < length b.classes
-    → hinders false b at k ≡ true → IsTakenDependency h taken (class_at b at).name (class_at b k).name
+    → hinders PutBack b at k ≡ true → IsTakenDependency h taken (class_at b at).name (class_at b k).name
 hinders-dependency b taken h at k r within w_k t =
     let p = and_parts (class_at b k).taken (follows b at k) t in
     record {
@@ -190,7 +191,7 @@ hinders-dependency b taken h at k r within w_k t =
 
 dependency-hinders : (b : Block) (taken : List ℕ) (h : History) (at m : ℕ) → Represents b taken h → at < length b.classes
     → IsTakenDependency h taken (class_at b at).name m
-    → (k : ℕ) × (k < length b.classes) × ((class_at b k).name ≡ m) × (hinders false b at k ≡ true)
+    → (k : ℕ) × (k < length b.classes) × ((class_at b k).name ≡ m) × (hinders PutBack b at k ≡ true)
 dependency-hinders b taken h at m r within d =
     let q = list_any-at _ h.entries ((upper r).known m d.is_taken) in
     let of_m : q.0.class ≡ m = eqb-true _ _ q.2 in
@@ -205,7 +206,7 @@ dependency-hinders b taken h at m r within d =
 
 pub why_dependency : (b : Block) (taken : List ℕ) (h : History) (number at n : ℕ) → Represents b taken h → place_of b number ≡ Some at
     → (class_at b at).taken ≡ true
-    → IsLeast (hinders false b at) b (Some n) → why_not_put_back h taken number ≡ Some (put_back_cause (DependencyTaken n))
+    → IsLeast (hinders PutBack b at) b (Some n) → why_not_put_back h taken number ≡ Some (put_back_cause (DependencyTaken n))
 why_dependency b taken h number at n r e on least =
     let f = found b taken h number at r e in
     let first = least.0 in
@@ -218,7 +219,7 @@ why_dependency b taken h number at n r e on least =
 
 pub puts_back : (b : Block) (taken : List ℕ) (h : History) (number at : ℕ) → Represents b taken h → place_of b number ≡ Some at
     → (class_at b at).taken ≡ true
-    → IsLeast (hinders false b at) b None → IsPutBack h taken number (exchanged_at b at false)
+    → IsLeast (hinders PutBack b at) b None → IsPutBack h taken number (exchanged_at b at PutBack)
 puts_back b taken h number at r e on none =
     let f = found b taken h number at r e in
     let c = r.classes at f.within in
@@ -226,10 +227,10 @@ puts_back b taken h number at r e on none =
     let undoable : is_undoable f.patch ≡ true = (upper r).undoable f.patch f.named.is_in (sym f.flag ∙ on) in
     let may : may_be_taken (class_at b at) ≡ true =
     ap (λ z. z && not (class_at b at).hard) (sym f.memory) ∙ ap (λ z. is_memory f.patch && not z) (sym f.hard) ∙ undoable in
-    let now : Represents (exchanged_at b at false) (moved taken (Back f.patch.class)) h =
-    subst (λ c. Represents (exchanged_at b at false) (moved taken (Back c)) h) (sym f.class)
-    (exchanged-represents b taken (moved taken (Back (class_at b at).name)) h at false r f.within may (back-exchange h (class_at b at).name (moved taken (Back (class_at b at).name)) taken r.coherent step)) in
+    let now : Represents (exchanged_at b at PutBack) (moved taken (Back f.patch.class)) h =
+    subst (λ c. Represents (exchanged_at b at PutBack) (moved taken (Back c)) h) (sym f.class)
+    (exchanged-represents b taken (moved taken (Back (class_at b at).name)) h at PutBack r f.within may (back-exchange h (class_at b at).name (moved taken (Back (class_at b at).name)) taken r.coherent step)) in
     record {
       none = back_done h taken number f.patch r.coherent r.holds f.named (sym f.flag ∙ on) now.holds;
-      represents = subst (λ (c : ℕ). Represents (exchanged_at b at false) (moved taken (Back c)) h) (sym (class_is h number f.patch r.coherent f.named)) now;
+      represents = subst (λ (c : ℕ). Represents (exchanged_at b at PutBack) (moved taken (Back c)) h) (sym (class_is h number f.patch r.coherent f.named)) now;
     }

@@ -3,12 +3,14 @@ use Rattle.std.proofs.Common.{◌≡◌, ℕ, ◌≤◌, ◌∙◌, true, false,
 use Rattle.std.specs.Prelude.{find, ◌==◌, ◌&&◌, ◌||◌, ◌≢◌}
 use Rattle.std.specs.List.{list_any}
 use Rattle.std.proofs.lemmas.Bool.{and_parts, and_from, or_cases, both_ways, eqb-true, eq-eqb, not_from_false, not-true, false_from_ne_true}
+use Rattle.patch_model.specs.Link.{Link-at}
+use Rattle.patch_model.specs.Marked.{memory_live, flight_live}
 use Rattle.patch_model.specs.declared.patches.Mark.{Mark}
 use Rattle.patch_model.specs.declared.patches.Mark.TheVariants.{Memory, Flight, Durable}
 use Rattle.patch_model.specs.declared.refusals.RefusalKind.TheVariants as kind
 use Rattle.patch_model.specs.Entry.{Entry, is_live, is_flight, is_memory, is_among, is_undoable, marks_memory, marks_flight, marks_durable}
 use Rattle.patch_model.specs.Dependency.{class_depends, has_live}
-use Rattle.patch_model.specs.Member.{In, In-from_Contains, Contains-from_In, In-filter, filter-In, list_any-at, list_any-from}
+use Rattle.patch_model.specs.Member.{In, In-from_Contains, Contains-from_In, In-filter, filter-In, list_any-at, list_any-from, In-map, map-In, among-In, In-among}
 use Rattle.patch_model.specs.History.{History, HoldsDependents, Back, moved}
 use Rattle.patch_model.specs.Refusing.{least, applied_dependents, taken_dependencies, hindered_by, why_class_not_taken, why_not_taken, why_not_put_back, class_named}
 use Rattle.patch_view.specs.declared.refusals.TakeRefusal.TheVariants.{Unknown, InFlight, Hard, AlreadyTaken, DependentApplied}
@@ -16,8 +18,7 @@ use Rattle.patch_view.specs.declared.refusals.PutBackRefusal.TheVariants.{NotTak
 use Rattle.patch_view.specs.History.{IsCoherent}
 use Rattle.patch_view.specs.Answers.{IsPatch}
 use Rattle.patch_view.specs.Refusal.{take_cause, put_back_cause}
-use Rattle.patch_view.proofs.Finding.{find_is, find_none, least_is, least_of_none, In-map, map-In, among-In, In-among}
-use Rattle.patch_view.proofs.Resting.{link}
+use Rattle.patch_view.proofs.Finding.{find_is, find_none, least_is, least_of_none}
 use Rattle.patch_view.proofs.Steps.{among-filter, among-filtered}
 
 -- Marks.
@@ -26,16 +27,6 @@ not_flight : (m : Mark) → marks_memory m ≡ true → marks_flight m ≡ false
 not_flight Memory t = refl
 not_flight Flight t = absurd (cc)
 not_flight Durable t = absurd (cc)
-
-memory_live : (m : Mark) → marks_memory m ≡ true → not (marks_durable m) ≡ true
-memory_live Memory t = refl
-memory_live Flight t = absurd (cc)
-memory_live Durable t = absurd (cc)
-
-flight_live : (m : Mark) → marks_flight m ≡ true → not (marks_durable m) ≡ true
-flight_live Memory t = absurd (cc)
-flight_live Flight t = refl
-flight_live Durable t = absurd (cc)
 
 -- Patches by their numbers.
 
@@ -92,14 +83,14 @@ is_applied h taken c n d =
 
 none_applied : (h : History) (taken : List ℕ) (c n : ℕ) → IsCoherent h → HoldsDependents h (c ∷ taken) → IsAppliedDependent h taken c n → ⊥
 none_applied h taken c n r s d =
-    let k = link h n c d.depends in
+    let k = Link-at h.entries n c d.depends in
     let g = list_any-at (λ e. e.class == n && is_live e) h.entries d.live in
     let p = and_parts (g.0.class == n) (is_live g.0) g.2 in
-    let same = r.one_mark g.0 k.e g.1 k.in_e (eqb-true _ _ p.0 ∙ sym k.class_e) in
-    let live : is_live k.e ≡ true = ap (λ m. not (marks_durable m)) (sym same.0) ∙ p.1 in
-    let inside : is_among (c ∷ taken) k.f.class ≡ true = ap (is_among (c ∷ taken)) k.class_f ∙ ap (λ z. z || is_among taken c) (eq-eqb c c refl) in
-    let t : is_among (c ∷ taken) n ≡ true = ap (is_among (c ∷ taken)) (sym k.class_e)
-    ∙ s.dependents k.e k.f (Contains-from_In h.entries k.e k.in_e) (Contains-from_In h.entries k.f k.in_f) live k.goes inside in
+    let same = r.one_mark g.0 k.from g.1 k.in_from (eqb-true _ _ p.0 ∙ sym k.name_from) in
+    let live : is_live k.from ≡ true = ap (λ m. not (marks_durable m)) (sym same.0) ∙ p.1 in
+    let inside : is_among (c ∷ taken) k.to.class ≡ true = ap (is_among (c ∷ taken)) k.name_to ∙ ap (λ z. z || is_among taken c) (eq-eqb c c refl) in
+    let t : is_among (c ∷ taken) n ≡ true = ap (is_among (c ∷ taken)) (sym k.name_from)
+    ∙ s.dependents k.from k.to (Contains-from_In h.entries k.from k.in_from) (Contains-from_In h.entries k.to k.in_to) live k.depends inside in
     elim (or_cases (c == n) (is_among taken n) t) [
       | inl u ↦ depends-another h n c d.depends (sym (eqb-true _ _ u))
       | inr u ↦ both_ways _ d.applied u
@@ -175,12 +166,12 @@ taken_live h taken e r s in_e t =
 none_taken : (h : History) (taken : List ℕ) (c n : ℕ) → IsCoherent h → HoldsDependents h taken → HoldsDependents h (moved taken (Back c)) → is_among taken c ≡ true
     → IsTakenDependency h taken c n → ⊥
 none_taken h taken c n r old s t d =
-    let k = link h c n d.depends in
-    let live : is_live k.e ≡ true = taken_live h taken k.e r old k.in_e (ap (is_among taken) k.class_e ∙ t) in
+    let k = Link-at h.entries c n d.depends in
+    let live : is_live k.from ≡ true = taken_live h taken k.from r old k.in_from (ap (is_among taken) k.name_from ∙ t) in
     let apart : n ≢ c = (λ q. depends-another h c n d.depends (sym q)) in
-    let inside : is_among (moved taken (Back c)) k.f.class ≡ true = ap (is_among (moved taken (Back c))) k.class_f ∙ among-filter n c taken apart ∙ d.is_taken in
-    both_ways _ (among-filtered c taken) (ap (is_among (moved taken (Back c))) (sym k.class_e)
-    ∙ s.dependents k.e k.f (Contains-from_In h.entries k.e k.in_e) (Contains-from_In h.entries k.f k.in_f) live k.goes inside)
+    let inside : is_among (moved taken (Back c)) k.to.class ≡ true = ap (is_among (moved taken (Back c))) k.name_to ∙ among-filter n c taken apart ∙ d.is_taken in
+    both_ways _ (among-filtered c taken) (ap (is_among (moved taken (Back c))) (sym k.name_from)
+    ∙ s.dependents k.from k.to (Contains-from_In h.entries k.from k.in_from) (Contains-from_In h.entries k.to k.in_to) live k.depends inside)
 
 why_back : (h : History) (taken : List ℕ) (number : ℕ) (e : Entry) → IsCoherent h → IsPatch h number e → is_among taken e.class ≡ true
     → why_not_put_back h taken number ≡ hindered_by kind.DependencyTaken (least (taken_dependencies h taken e.class))

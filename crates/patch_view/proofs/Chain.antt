@@ -3,16 +3,15 @@ use Rattle.std.proofs.Common.{◌≡◌, ℕ, ◌+◌, ◌-◌, ◌<◌, ◌≤�
 use Rattle.std.specs.Prelude.{◌==◌, ◌&&◌, ◌||◌, ◌≢◌, nat_lt, filter, slice_range}
 use Rattle.std.proofs.lemmas.Bool.{cases_Bool, and_parts, and_from, or_left, or_right, both_ways, eqb-true, eq-eqb, ne_eqb, ltb-true, lt-ltb, not_from_false, cases_eq, cases_lt, cases_order, false_from_ne_true}
 use Rattle.std.proofs.lemmas.List.{places, ext_get_or}
+use Rattle.patch_model.specs.Marked.{memory-not_durable}
 use Rattle.patch_model.specs.Pile.{end, covers, lay, pile}
 use Rattle.patch_model.specs.Dependency.{depends_directly}
-use Rattle.patch_model.specs.declared.patches.Mark.{Mark}
-use Rattle.patch_model.specs.declared.patches.Mark.TheVariants.{Memory, Flight, Durable}
-use Rattle.patch_model.specs.Entry.{Entry, is_durable, is_memory, is_among, marks_memory, marks_durable, is_undoable}
+use Rattle.patch_model.specs.Entry.{Entry, is_durable, is_memory, is_among, is_undoable}
 use Rattle.patch_model.specs.Member.{In, list_any-at, list_any-from, list_all-at, list_all-from}
 use Rattle.patch_model.specs.History.{History, pile_of, without}
 use Rattle.patch_view.proofs.Sets.{IsUpper}
 use Rattle.patch_view.specs.History.{IsCoherent, class_covers, comes_before, top, below}
-use Rattle.patch_view.proofs.Laying.{length-lay, lay-covered, lay-uncovered, covers-from}
+use Rattle.patch_model.specs.Laying.{length-lay, lay-covered, lay-uncovered, covers-from}
 
 -- two sets that agree on the patches of a byte leave the same there
 pub pile-agree : (es : List Entry) (a b : List ℕ) (k l : Entry → Bool) (x n : ℕ) → length a ≡ n → length b ≡ n
@@ -86,11 +85,6 @@ later_depends h e f x o i j on_e on_f less =
     let b : (f.patch.start ≤ x) × (x < end f.patch) = covers-from f.patch x on_f in
     or_right (is_among e.patch.after f.patch.no) _ (and_from _ _ (lt-ltb _ _ less)
     (and_from _ _ (eq-eqb _ _ (o.one_block e f i j)) (lt-ltb (max e.patch.start f.patch.start) (min (end e.patch) (end f.patch)) (omega arith))))
-
-pub memory-not_durable : (m : Mark) → marks_memory m ≡ true → marks_durable m ≡ false
-memory-not_durable Memory u = refl
-memory-not_durable Flight u = refl
-memory-not_durable Durable u = absurd (cc)
 
 pub undoable-not_durable : (e : Entry) → is_undoable e ≡ true → is_durable e ≡ false
 undoable-not_durable e u = memory-not_durable e.mark (and_parts _ _ u).0

@@ -6,24 +6,25 @@ use Rattle.std.proofs.lemmas.Bool.{and_parts, and_from, both_ways, cases_eq, ltb
 use Rattle.std.proofs.lemmas.List.{length-set, places}
 use Rattle.patch_model.specs.Entry.{is_among}
 use Rattle.patch_model.specs.History.{History, without}
+use Rattle.patch_view.specs.declared.classes.Turn.{Turn}
 use Rattle.patch_view.proofs.Sets.{IsUpper, holds-from}
 use Rattle.patch_model.specs.Dependency.{class_depends}
 use Rattle.patch_view.specs.History.{IsCoherent, class_covers, top, below}
-use Rattle.patch_view.specs.State.{Class, Block, class_at, no_class, spans, may_be_taken, exchanged_with, exchanged_at}
+use Rattle.patch_view.specs.State.{Class, Block, class_at, no_class, spans, may_be_taken, exchanged_with, exchanged_at, leaves_taken}
 use Rattle.patch_view.specs.Meaning.{IsClassOf, Represents}
 use Rattle.patch_view.proofs.Chain.{IsStep, below-without, top-without, off-without, exchanged-bytes, range-at, length-by}
 
 -- what does not look at a class's saved bytes or flag
-pub kept-at : {X : Type 0} (F : Class → X) (b : Block) (at i : ℕ) (mark : Bool) → at < length b.classes
-    → F (exchanged_with (class_at b at) b.bytes mark) ≡ F (class_at b at)
-    → F (class_at (exchanged_at b at mark) i) ≡ F (class_at b i)
-kept-at F b at i mark within same = elim (cases_eq i at) [
-  | inl e ↦ rw e (ap F (get_or-set_same b.classes at (exchanged_with (class_at b at) b.bytes mark) no_class within) ∙ same)
-  | inr ne ↦ ap F (get_or-set_other b.classes at i (exchanged_with (class_at b at) b.bytes mark) no_class ne)
+pub kept-at : {X : Type 0} (F : Class → X) (b : Block) (at i : ℕ) (turn : Turn) → at < length b.classes
+    → F (exchanged_with (class_at b at) b.bytes turn) ≡ F (class_at b at)
+    → F (class_at (exchanged_at b at turn) i) ≡ F (class_at b i)
+kept-at F b at i turn within same = elim (cases_eq i at) [
+  | inl e ↦ rw e (ap F (get_or-set_same b.classes at (exchanged_with (class_at b at) b.bytes turn) no_class within) ∙ same)
+  | inr ne ↦ ap F (get_or-set_other b.classes at i (exchanged_with (class_at b at) b.bytes turn) no_class ne)
 ]
 
-pub name-kept : (b : Block) (at i : ℕ) (mark : Bool) → at < length b.classes → (class_at (exchanged_at b at mark) i).name ≡ (class_at b i).name
-name-kept b at i mark within = kept-at (λ c. c.name) b at i mark within refl
+pub name-kept : (b : Block) (at i : ℕ) (turn : Turn) → at < length b.classes → (class_at (exchanged_at b at turn) i).name ≡ (class_at b i).name
+name-kept b at i turn within = kept-at (λ c. c.name) b at i turn within refl
 
 names-set : (cs : List Class) (at n : ℕ) (c : Class) → at < length cs → c.name ≡ (slice_index_or cs at no_class).name
     → list_any (λ d. d.name == n) (slice_set cs at c) ≡ list_any (λ d. d.name == n) cs
@@ -88,9 +89,9 @@ others-kept h from to c r same = record {
 }
 
 -- the exchanged class's record
-own-kept : (h : History) (from to : List ℕ) (mark : Bool) (bytes : List ℕ) (c : Class) → IsClassOf h from c → IsExchange h c.name from to mark
-    → bytes ≡ without h from → length bytes ≡ 4096 → may_be_taken c ≡ true → IsClassOf h to (exchanged_with c bytes mark)
-own-kept h from to mark bytes c r step is size may =
+own-kept : (h : History) (from to : List ℕ) (turn : Turn) (bytes : List ℕ) (c : Class) → IsClassOf h from c → IsExchange h c.name from to (leaves_taken turn)
+    → bytes ≡ without h from → length bytes ≡ 4096 → may_be_taken c ≡ true → IsClassOf h to (exchanged_with c bytes turn)
+own-kept h from to turn bytes c r step is size may =
     let long : c.start + length c.saved ≡ c.stop = r.long may in
     let fits : c.stop ≤ 4096 = r.fits in
     record {
@@ -111,13 +112,13 @@ own-kept h from to mark bytes c r step is size may =
     }
 
 -- one class exchanged: bytes and records are those of the other set
-pub exchanged-represents : (b : Block) (from to : List ℕ) (h : History) (at : ℕ) (mark : Bool) → Represents b from h → at < length b.classes
-    → may_be_taken (class_at b at) ≡ true → IsExchange h (class_at b at).name from to mark
-    → Represents (exchanged_at b at mark) to h
-exchanged-represents b from to h at mark r within may step =
+pub exchanged-represents : (b : Block) (from to : List ℕ) (h : History) (at : ℕ) (turn : Turn) → Represents b from h → at < length b.classes
+    → may_be_taken (class_at b at) ≡ true → IsExchange h (class_at b at).name from to (leaves_taken turn)
+    → Represents (exchanged_at b at turn) to h
+exchanged-represents b from to h at turn r within may step =
     let c = r.classes at within in
     let size : length b.bytes ≡ 4096 = ap length r.bytes ∙ length-by h _ r.coherent in
-    let same_length : length (exchanged_at b at mark).classes ≡ length b.classes = length-set b.classes at _ in
+    let same_length : length (exchanged_at b at turn).classes ≡ length b.classes = length-set b.classes at _ in
     record {
       coherent = r.coherent;
       holds = holds-from h to step.holds;
@@ -127,17 +128,17 @@ exchanged-represents b from to h at mark r within may step =
           c.saved may x on ∙ rw flag (sym (step.gives x (sym (c.span x) ∙ on))))
           (λ x away. step.off x (sym (c.span x) ∙ spans-not (class_at b at) x away));
       classes = λ i h_i. elim (cases_eq i at) [
-        | inl e ↦ rw (e, get_or-set_same b.classes at (exchanged_with (class_at b at) b.bytes mark) no_class within)
-            (own-kept h from to mark b.bytes (class_at b at) c step r.bytes size may)
-        | inr ne ↦ rw (get_or-set_other b.classes at i (exchanged_with (class_at b at) b.bytes mark) no_class ne)
+        | inl e ↦ rw (e, get_or-set_same b.classes at (exchanged_with (class_at b at) b.bytes turn) no_class within)
+            (own-kept h from to turn b.bytes (class_at b at) c step r.bytes size may)
+        | inr ne ↦ rw (get_or-set_other b.classes at i (exchanged_with (class_at b at) b.bytes turn) no_class ne)
             (let w : i < length b.classes = rw same_length at h_i in
             others-kept h from to (class_at b i) (r.classes i w) (step.others (class_at b i).name (λ q. ne (r.distinct i at w within q))))
       ];
-      complete = λ e i low. names-set b.classes at e.class (exchanged_with (class_at b at) b.bytes mark) within refl ∙ r.complete e i low;
+      complete = λ e i low. names-set b.classes at e.class (exchanged_with (class_at b at) b.bytes turn) within refl ∙ r.complete e i low;
       distinct = λ i j h_i h_j same. r.distinct i j (rw same_length at h_i) (rw same_length at h_j)
-          (sym (name-kept b at i mark within) ∙ same ∙ name-kept b at j mark within);
+          (sym (name-kept b at i turn within) ∙ same ∙ name-kept b at j turn within);
       ordered = λ i j less h_j.
-          ap (λ n. class_depends h.entries n (class_at (exchanged_at b at mark) j).name) (name-kept b at i mark within)
-          ∙ ap (λ n. class_depends h.entries (class_at b i).name n) (name-kept b at j mark within)
+          ap (λ n. class_depends h.entries n (class_at (exchanged_at b at turn) j).name) (name-kept b at i turn within)
+          ∙ ap (λ n. class_depends h.entries (class_at b i).name n) (name-kept b at j turn within)
           ∙ r.ordered i j less (rw same_length at h_j);
     }

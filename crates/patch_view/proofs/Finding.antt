@@ -1,9 +1,8 @@
 -- What is found in a list, and the least of some numbers.
-use Rattle.std.proofs.Common.{◌≡◌, ℕ, ◌≤◌, ◌⊎◌, ◌∙◌, inl, inr, Bool, true, false, List, [], ◌∷◌, Some, None, refl, sym, ap, subst, arith, min, fold, map}
-use Rattle.std.specs.Prelude.{find, ◌==◌}
-use Rattle.std.proofs.lemmas.Bool.{cases_Bool, eqb-true, eq-eqb}
-use Rattle.patch_model.specs.Entry.{is_among}
-use Rattle.patch_model.specs.Member.{In, list_any-at, list_any-from}
+use Rattle.std.proofs.Common.{◌≡◌, ℕ, ◌≤◌, ◌⊎◌, ◌∙◌, inl, inr, Bool, true, false, List, [], ◌∷◌, Some, None, refl, sym, ap, arith, min, fold}
+use Rattle.std.specs.Prelude.{find}
+use Rattle.std.proofs.lemmas.Bool.{cases_Bool}
+use Rattle.patch_model.specs.Member.{In}
 use Rattle.patch_model.specs.Refusing.{least}
 
 -- the one that passes is found
@@ -41,22 +40,6 @@ least_is (x ∷ xs) n h all = ap Some (fold_min x n xs h (all x (inl refl)) (λ 
 pub least_of_none : (ns : List ℕ) → ((m : ℕ) → In ns m → ⊥) → least ns ≡ None
 least_of_none [] none = refl
 least_of_none (x ∷ xs) none = absurd (none x (inl refl))
-
-pub In-map : {X Y : Type 0} → (f : X → Y) (xs : List X) (x : X) → In xs x → In (map f xs) (f x)
-In-map f [] x h = absurd h
-In-map f (y ∷ ys) x (inl e) = inl (ap f e)
-In-map f (y ∷ ys) x (inr h) = inr (In-map f ys x h)
-
-pub map-In : {X Y : Type 0} → (f : X → Y) (xs : List X) (y : Y) → In (map f xs) y → (x : X) × In xs x × (f x ≡ y)
-map-In f [] y h = absurd h
-map-In f (x ∷ xs) y (inl e) = (x, inl refl, e)
-map-In f (x ∷ xs) y (inr h) = let r = map-In f xs y h in (r.0, inr r.1, r.2)
-
-pub among-In : (ns : List ℕ) (n : ℕ) → is_among ns n ≡ true → In ns n
-among-In ns n t = let r = list_any-at (λ m. m == n) ns t in subst (In ns) (eqb-true r.0 n r.2) r.1
-
-pub In-among : (ns : List ℕ) (n : ℕ) → In ns n → is_among ns n ≡ true
-In-among ns n h = list_any-from (λ m. m == n) ns n h (eq-eqb n n refl)
 
 -- what is found passes
 pub find_in : {X : Type 0} → (p : X → Bool) (xs : List X) (x : X) → find p xs ≡ Some x → In xs x × (p x ≡ true)

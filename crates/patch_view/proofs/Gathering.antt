@@ -11,7 +11,7 @@ use Rattle.patch_model.specs.State.{joined}
 use Rattle.patch_model.specs.History.{History}
 use Rattle.patch_model.specs.Orderly.{MayJoin}
 use Rattle.patch_view.proofs.Resting.{linked_as}
-use Rattle.patch_view.proofs.Laying.{covers-to}
+use Rattle.patch_model.specs.Laying.{covers-to}
 use Rattle.patch_view.proofs.Exchange.{spans-at}
 use Rattle.patch_view.proofs.Joining.{joins, cases_in, joined-out}
 use Rattle.patch_view.proofs.Chain.{undoable-not_durable}

@@ -7,22 +7,23 @@ use Rattle.std.proofs.lemmas.List.{length-set, length-replicate, places}
 use Rattle.std.proofs.lemmas.List.Folds.{list_any-append}
 use Rattle.std.proofs.lemmas.List.Sorted.{list_any-IsPermutation}
 use Rattle.std.proofs.lemmas.List.Edits.{length-remove}
+use Rattle.std.specs.Cmp.{both_ways as same_bool}
+use Rattle.patch_model.specs.Marked.{only_memory}
 use Rattle.patch_model.specs.Pile.{end, covers, pile}
-use Rattle.patch_model.specs.declared.patches.Mark.{Mark}
-use Rattle.patch_model.specs.declared.patches.Mark.TheVariants.{Memory, Flight, Durable}
 use Rattle.patch_model.specs.Entry.{Entry, is_durable, is_memory, is_among, marks_memory, marks_durable}
 use Rattle.patch_model.specs.Dependency.{depends_directly, class_depends}
 use Rattle.patch_model.specs.State.{joined}
-use Rattle.patch_model.specs.Member.{In, list_any-from}
+use Rattle.patch_model.specs.Member.{In, list_any-from, map-In}
 use Rattle.patch_model.specs.History.{History, pile_of, without}
-use Rattle.patch_view.proofs.Sets.{same_bool, class_depends_on, class_depends-apart, none-held, never-from, ordered_on}
+use Rattle.patch_model.specs.Kept.{hard-joined, mark-joined, patch-joined}
+use Rattle.patch_view.proofs.Sets.{class_depends_on, class_depends-apart, none-held, never-from, ordered_on}
 use Rattle.patch_view.specs.History.{IsCoherent, with_joined, class_covers, comes_before, below, top}
 use Rattle.patch_view.specs.State.{Class, Block, class_at, no_class, spans, may_be_taken, merged, IsMerged, settled_at, laid_over}
 use Rattle.patch_view.specs.Meaning.{IsClassOf, Represents}
 use Rattle.patch_view.proofs.Chain.{same_byte, covering, before-at, before-from, later_depends, laid-before, laid-inside, laid-behind}
 use Rattle.patch_view.proofs.Steps.{record_of, depends-from}
 use Rattle.patch_view.proofs.Exchange.{spans-at, spans-from}
-use Rattle.patch_view.proofs.Marking.{In-map, any-map, all-map, kept-patches, stood, stood_is, at_stood, named-remove}
+use Rattle.patch_view.proofs.Marking.{any-map, all-map, kept-patches, stood, stood_is, at_stood, named-remove}
 
 shuffle_or : (a b u v : Bool) → ((a || b) || (u || v)) ≡ ((a || u) || (b || v))
 shuffle_or true b u v = refl
@@ -68,15 +69,6 @@ and_true : (a : Bool) → (a && true) ≡ a
 and_true true = refl
 and_true false = refl
 
-pub joined-patch : (c d : ℕ) (e : Entry) → (joined c d e).patch ≡ e.patch
-joined-patch c d e = elim (cases_Bool (e.class == c || e.class == d)) [ inl t ↦ rw t refl | inr t ↦ rw t refl ]
-
-pub joined-mark : (c d : ℕ) (e : Entry) → (joined c d e).mark ≡ e.mark
-joined-mark c d e = elim (cases_Bool (e.class == c || e.class == d)) [ inl t ↦ rw t refl | inr t ↦ rw t refl ]
-
-pub joined-hard : (c d : ℕ) (e : Entry) → (joined c d e).hard ≡ e.hard
-joined-hard c d e = elim (cases_Bool (e.class == c || e.class == d)) [ inl t ↦ rw t refl | inr t ↦ rw t refl ]
-
 pub joined-in : (c d : ℕ) (e : Entry) → (e.class ≡ c) ⊎ (e.class ≡ d) → (joined c d e).class ≡ min c d
 joined-in c d e (inl is) = let t : (e.class == c || e.class == d) ≡ true = or_left _ (e.class == d) (eq-eqb _ _ is) in rw t refl
 joined-in c d e (inr is) = let t : (e.class == c || e.class == d) ≡ true = or_right (e.class == c) _ (eq-eqb _ _ is) in rw t refl
@@ -113,14 +105,14 @@ joined-other c d k e not_c not_d = elim (cases_in c d e) [
 pub covers-merged : (h : History) (c d x : ℕ) → class_covers (with_joined h c d) (min c d) x ≡ (class_covers h c x || class_covers h d x)
 covers-merged h c d x =
     any-map (joined c d) (λ e. e.class == min c d && covers e.patch x) (λ e. (e.class == c || e.class == d) && covers e.patch x) h.entries
-    (λ e. ap (λ z. z && covers (joined c d e).patch x) (joined-merged c d e) ∙ ap (λ z. (e.class == c || e.class == d) && covers z x) (joined-patch c d e))
+    (λ e. ap (λ z. z && covers (joined c d e).patch x) (joined-merged c d e) ∙ ap (λ z. (e.class == c || e.class == d) && covers z x) (patch-joined c d e))
     ∙ any-either (λ e. (e.class == c || e.class == d) && covers e.patch x) (λ e. e.class == c && covers e.patch x) (λ e. e.class == d && covers e.patch x) h.entries
     (λ e. or_and (e.class == c) (e.class == d) (covers e.patch x))
 
 pub covers-other : (h : History) (c d k x : ℕ) → k ≢ c → k ≢ d → class_covers (with_joined h c d) k x ≡ class_covers h k x
 covers-other h c d k x not_c not_d =
     any-map (joined c d) (λ e. e.class == k && covers e.patch x) (λ e. e.class == k && covers e.patch x) h.entries
-    (λ e. ap (λ z. z && covers (joined c d e).patch x) (joined-other c d k e not_c not_d) ∙ ap (λ z. e.class == k && covers z x) (joined-patch c d e))
+    (λ e. ap (λ z. z && covers (joined c d e).patch x) (joined-other c d k e not_c not_d) ∙ ap (λ z. e.class == k && covers z x) (patch-joined c d e))
 
 -- what was made before the merged class was made before both
 pub before-merged : (h : History) (c d x : ℕ) (e : Entry)
@@ -129,8 +121,8 @@ before-merged h c d x e =
     all-map (joined c d) (λ g. not (g.class == min c d && covers g.patch x) || nat_lt (joined c d e).patch.no g.patch.no)
     (λ g. not ((g.class == c || g.class == d) && covers g.patch x) || nat_lt e.patch.no g.patch.no) h.entries
     (λ g. ap (λ z. not (z && covers (joined c d g).patch x) || nat_lt (joined c d e).patch.no (joined c d g).patch.no) (joined-merged c d g)
-    ∙ ap (λ z. not ((g.class == c || g.class == d) && covers z x) || nat_lt (joined c d e).patch.no z.no) (joined-patch c d g)
-    ∙ ap (λ z. not ((g.class == c || g.class == d) && covers g.patch x) || nat_lt z.no g.patch.no) (joined-patch c d e))
+    ∙ ap (λ z. not ((g.class == c || g.class == d) && covers z x) || nat_lt (joined c d e).patch.no z.no) (patch-joined c d g)
+    ∙ ap (λ z. not ((g.class == c || g.class == d) && covers g.patch x) || nat_lt z.no g.patch.no) (patch-joined c d e))
     ∙ all-both (λ g. not ((g.class == c || g.class == d) && covers g.patch x) || nat_lt e.patch.no g.patch.no)
     (λ g. not (g.class == c && covers g.patch x) || nat_lt e.patch.no g.patch.no)
     (λ g. not (g.class == d && covers g.patch x) || nat_lt e.patch.no g.patch.no) h.entries
@@ -141,21 +133,21 @@ before-other h c d k x e not_c not_d =
     all-map (joined c d) (λ g. not (g.class == k && covers g.patch x) || nat_lt (joined c d e).patch.no g.patch.no)
     (λ g. not (g.class == k && covers g.patch x) || nat_lt e.patch.no g.patch.no) h.entries
     (λ g. ap (λ z. not (z && covers (joined c d g).patch x) || nat_lt (joined c d e).patch.no (joined c d g).patch.no) (joined-other c d k g not_c not_d)
-    ∙ ap (λ z. not (g.class == k && covers z x) || nat_lt (joined c d e).patch.no z.no) (joined-patch c d g)
-    ∙ ap (λ z. not (g.class == k && covers g.patch x) || nat_lt z.no g.patch.no) (joined-patch c d e))
+    ∙ ap (λ z. not (g.class == k && covers z x) || nat_lt (joined c d e).patch.no z.no) (patch-joined c d g)
+    ∙ ap (λ z. not (g.class == k && covers g.patch x) || nat_lt z.no g.patch.no) (patch-joined c d e))
 
 pub below-other : (h : History) (c d k x : ℕ) → k ≢ c → k ≢ d → below (with_joined h c d) k x ≡ below h k x
 below-other h c d k x not_c not_d = ap (λ ps. get_or (pile h.first ps) x 0)
-    (kept-patches (joined c d) (comes_before (with_joined h c d) k x) (comes_before h k x) h.entries (joined-patch c d) (λ e. before-other h c d k x e not_c not_d))
+    (kept-patches (joined c d) (comes_before (with_joined h c d) k x) (comes_before h k x) h.entries (patch-joined c d) (λ e. before-other h c d k x e not_c not_d))
 
 pub without-joined : (h : History) (c d : ℕ) → without (with_joined h c d) [] ≡ without h []
 without-joined h c d = ap (λ ps. pile h.first ps)
-    (kept-patches (joined c d) (λ e. not (is_among [] e.class)) (λ e. not (is_among [] e.class)) h.entries (joined-patch c d) (λ e. refl))
+    (kept-patches (joined c d) (λ e. not (is_among [] e.class)) (λ e. not (is_among [] e.class)) h.entries (patch-joined c d) (λ e. refl))
 
 -- the merged class's byte is under both
 below-both : (h : History) (c d x : ℕ) → below (with_joined h c d) (min c d) x ≡ get_or (pile_of h (λ e. comes_before h c x e && comes_before h d x e)) x 0
 below-both h c d x = ap (λ ps. get_or (pile h.first ps) x 0)
-    (kept-patches (joined c d) (comes_before (with_joined h c d) (min c d) x) (λ e. comes_before h c x e && comes_before h d x e) h.entries (joined-patch c d)
+    (kept-patches (joined c d) (comes_before (with_joined h c d) (min c d) x) (λ e. comes_before h c x e && comes_before h d x e) h.entries (patch-joined c d)
     (λ e. before-merged h c d x e))
 
 -- a byte that the other class doesn't cover
@@ -195,16 +187,16 @@ inner-other : (h : History) (c d k : ℕ) (e : Entry) → k ≢ c → k ≢ d
     → list_any (λ g. g.class == k && depends_directly (joined c d e).patch g.patch) (map (joined c d) h.entries) ≡ list_any (λ g. g.class == k && depends_directly e.patch g.patch) h.entries
 inner-other h c d k e not_c not_d = any-map (joined c d) (λ g. g.class == k && depends_directly (joined c d e).patch g.patch) (λ g. g.class == k && depends_directly e.patch g.patch) h.entries
     (λ g. ap (λ z. z && depends_directly (joined c d e).patch (joined c d g).patch) (joined-other c d k g not_c not_d)
-    ∙ ap (λ z. g.class == k && depends_directly z (joined c d g).patch) (joined-patch c d e)
-    ∙ ap (λ z. g.class == k && depends_directly e.patch z) (joined-patch c d g))
+    ∙ ap (λ z. g.class == k && depends_directly z (joined c d g).patch) (patch-joined c d e)
+    ∙ ap (λ z. g.class == k && depends_directly e.patch z) (patch-joined c d g))
 
 inner-merged : (h : History) (c d : ℕ) (e : Entry)
     → list_any (λ g. g.class == min c d && depends_directly (joined c d e).patch g.patch) (map (joined c d) h.entries)
     ≡ (list_any (λ g. g.class == c && depends_directly e.patch g.patch) h.entries || list_any (λ g. g.class == d && depends_directly e.patch g.patch) h.entries)
 inner-merged h c d e = any-map (joined c d) (λ g. g.class == min c d && depends_directly (joined c d e).patch g.patch) (λ g. (g.class == c || g.class == d) && depends_directly e.patch g.patch) h.entries
     (λ g. ap (λ z. z && depends_directly (joined c d e).patch (joined c d g).patch) (joined-merged c d g)
-    ∙ ap (λ z. (g.class == c || g.class == d) && depends_directly z (joined c d g).patch) (joined-patch c d e)
-    ∙ ap (λ z. (g.class == c || g.class == d) && depends_directly e.patch z) (joined-patch c d g))
+    ∙ ap (λ z. (g.class == c || g.class == d) && depends_directly z (joined c d g).patch) (patch-joined c d e)
+    ∙ ap (λ z. (g.class == c || g.class == d) && depends_directly e.patch z) (patch-joined c d g))
     ∙ any-either (λ g. (g.class == c || g.class == d) && depends_directly e.patch g.patch) (λ g. g.class == c && depends_directly e.patch g.patch) (λ g. g.class == d && depends_directly e.patch g.patch) h.entries
     (λ g. or_and (g.class == c) (g.class == d) (depends_directly e.patch g.patch))
 
@@ -268,33 +260,28 @@ spans-merged low high ms us x near_a near_b some_a some_b = same_bool (spans (me
 length-laid_over : (place : ℕ) (over bytes : List ℕ) → place + length over ≤ length bytes → length (laid_over place over bytes) ≡ length bytes
 length-laid_over place over bytes fits = grind (arith, places)
 
-only_memory : (m : Mark) → marks_memory m ≡ true → m ≡ Memory
-only_memory Memory h = refl
-only_memory Flight h = absurd (cc)
-only_memory Durable h = absurd (cc)
-
 -- the history afterwards
 pub orderly-joined : (h : History) (c d : ℕ) → IsCoherent h
     → ((e : Entry) → In h.entries e → (e.class ≡ c) ⊎ (e.class ≡ d) → (is_memory e ≡ true) × (e.hard ≡ false)) → IsCoherent (with_joined h c d)
 orderly-joined h c d o soft = record {
   long = o.long;
-  fits = λ y i. let r = In-map (joined c d) h.entries y i in subst (λ z. end z ≤ 4096) (sym (joined-patch c d r.0) ∙ ap (λ z. z.patch) r.2) (o.fits r.0 r.1);
-  some = λ y i. let r = In-map (joined c d) h.entries y i in subst (λ z. 0 < length z.bytes) (sym (joined-patch c d r.0) ∙ ap (λ z. z.patch) r.2) (o.some r.0 r.1);
-  one_block = λ y z i j. let r = In-map (joined c d) h.entries y i in let s = In-map (joined c d) h.entries z j in
-      ap (λ k. k.block) (ap (λ k. k.patch) (sym r.2) ∙ joined-patch c d r.0) ∙ o.one_block r.0 s.0 r.1 s.1 ∙ ap (λ k. k.block) (sym (joined-patch c d s.0) ∙ ap (λ k. k.patch) s.2);
-  numbers = λ y z i j same. let r = In-map (joined c d) h.entries y i in let s = In-map (joined c d) h.entries z j in
-      let one : r.0 ≡ s.0 = o.numbers r.0 s.0 r.1 s.1 (ap (λ k. k.no) (sym (joined-patch c d r.0) ∙ ap (λ k. k.patch) r.2) ∙ same ∙ ap (λ k. k.no) (ap (λ k. k.patch) (sym s.2) ∙ joined-patch c d s.0)) in
+  fits = λ y i. let r = map-In (joined c d) h.entries y i in subst (λ z. end z ≤ 4096) (sym (patch-joined c d r.0) ∙ ap (λ z. z.patch) r.2) (o.fits r.0 r.1);
+  some = λ y i. let r = map-In (joined c d) h.entries y i in subst (λ z. 0 < length z.bytes) (sym (patch-joined c d r.0) ∙ ap (λ z. z.patch) r.2) (o.some r.0 r.1);
+  one_block = λ y z i j. let r = map-In (joined c d) h.entries y i in let s = map-In (joined c d) h.entries z j in
+      ap (λ k. k.block) (ap (λ k. k.patch) (sym r.2) ∙ patch-joined c d r.0) ∙ o.one_block r.0 s.0 r.1 s.1 ∙ ap (λ k. k.block) (sym (patch-joined c d s.0) ∙ ap (λ k. k.patch) s.2);
+  numbers = λ y z i j same. let r = map-In (joined c d) h.entries y i in let s = map-In (joined c d) h.entries z j in
+      let one : r.0 ≡ s.0 = o.numbers r.0 s.0 r.1 s.1 (ap (λ k. k.no) (sym (patch-joined c d r.0) ∙ ap (λ k. k.patch) r.2) ∙ same ∙ ap (λ k. k.no) (ap (λ k. k.patch) (sym s.2) ∙ patch-joined c d s.0)) in
       sym r.2 ∙ ap (joined c d) one ∙ s.2;
-  named_earlier = λ y n i t. let r = In-map (joined c d) h.entries y i in let p : y.patch ≡ r.0.patch = ap (λ z. z.patch) (sym r.2) ∙ joined-patch c d r.0 in
+  named_earlier = λ y n i t. let r = map-In (joined c d) h.entries y i in let p : y.patch ≡ r.0.patch = ap (λ z. z.patch) (sym r.2) ∙ patch-joined c d r.0 in
       subst (λ z. n < z.no) (sym p) (o.named_earlier r.0 n r.1 (ap (λ z. is_among z.after n) (sym p) ∙ t));
-  class_first = λ y i. let r = In-map (joined c d) h.entries y i in
+  class_first = λ y i. let r = map-In (joined c d) h.entries y i in
       let old : r.0.class ≤ r.0.patch.no = o.class_first r.0 r.1 in
-      let p : (joined c d r.0).patch.no ≡ r.0.patch.no = ap (λ z. z.no) (joined-patch c d r.0) in
+      let p : (joined c d r.0).patch.no ≡ r.0.patch.no = ap (λ z. z.no) (patch-joined c d r.0) in
       subst (λ z. z.class ≤ z.patch.no) r.2 (elim (cases_in c d r.0) [
         | inl is ↦ let k : (joined c d r.0).class ≡ min c d = joined-in c d r.0 is in elim is [ inl q ↦ omega arith | inr q ↦ omega arith ]
         | inr out ↦ let k : (joined c d r.0).class ≡ r.0.class = ap (λ z. z.class) (joined-out c d r.0 out.0 out.1) in omega arith
       ]);
-  one_mark = λ y z i j same. let r = In-map (joined c d) h.entries y i in let s = In-map (joined c d) h.entries z j in
+  one_mark = λ y z i j same. let r = map-In (joined c d) h.entries y i in let s = map-In (joined c d) h.entries z j in
       let c_y : (joined c d r.0).class ≡ y.class = ap (λ k. k.class) r.2 in
       let c_z : (joined c d s.0).class ≡ z.class = ap (λ k. k.class) s.2 in
       let old : (r.0.mark ≡ s.0.mark) × (r.0.hard ≡ s.0.hard) = elim (cases_in c d r.0) [
@@ -307,14 +294,14 @@ orderly-joined h c d o soft = record {
           | inr b ↦ o.one_mark r.0 s.0 r.1 s.1 (ap (λ k. k.class) (sym (joined-out c d r.0 a.0 a.1)) ∙ c_y ∙ same ∙ sym c_z ∙ ap (λ k. k.class) (joined-out c d s.0 b.0 b.1))
         ]
       ] in (
-        ap (λ k. k.mark) (sym r.2) ∙ joined-mark c d r.0 ∙ old.0 ∙ sym (joined-mark c d s.0) ∙ ap (λ k. k.mark) s.2,
-        ap (λ k. k.hard) (sym r.2) ∙ joined-hard c d r.0 ∙ old.1 ∙ sym (joined-hard c d s.0) ∙ ap (λ k. k.hard) s.2,
+        ap (λ k. k.mark) (sym r.2) ∙ mark-joined c d r.0 ∙ old.0 ∙ sym (mark-joined c d s.0) ∙ ap (λ k. k.mark) s.2,
+        ap (λ k. k.hard) (sym r.2) ∙ hard-joined c d r.0 ∙ old.1 ∙ sym (hard-joined c d s.0) ∙ ap (λ k. k.hard) s.2,
       );
-  durable_first = λ y z i j dep t. let r = In-map (joined c d) h.entries y i in let s = In-map (joined c d) h.entries z j in
+  durable_first = λ y z i j dep t. let r = map-In (joined c d) h.entries y i in let s = map-In (joined c d) h.entries z j in
       let goes : depends_directly r.0.patch s.0.patch ≡ true =
-      ap (λ k. depends_directly k s.0.patch) (sym (joined-patch c d r.0) ∙ ap (λ k. k.patch) r.2) ∙ ap (λ k. depends_directly y.patch k) (sym (joined-patch c d s.0) ∙ ap (λ k. k.patch) s.2) ∙ dep in
-      ap is_memory (sym s.2) ∙ ap marks_memory (joined-mark c d s.0)
-      ∙ o.durable_first r.0 s.0 r.1 s.1 goes (ap marks_durable (sym (joined-mark c d r.0)) ∙ ap is_durable r.2 ∙ t);
+      ap (λ k. depends_directly k s.0.patch) (sym (patch-joined c d r.0) ∙ ap (λ k. k.patch) r.2) ∙ ap (λ k. depends_directly y.patch k) (sym (patch-joined c d s.0) ∙ ap (λ k. k.patch) s.2) ∙ dep in
+      ap is_memory (sym s.2) ∙ ap marks_memory (mark-joined c d s.0)
+      ∙ o.durable_first r.0 s.0 r.1 s.1 goes (ap marks_durable (sym (mark-joined c d r.0)) ∙ ap is_durable r.2 ∙ t);
 }
 
 -- another class's record doesn't change
@@ -323,15 +310,15 @@ apart-class h c d k r not_c not_d = record {
   known = any-map (joined c d) (λ e. e.class == k.name) (λ e. e.class == k.name) h.entries (λ e. joined-other c d k.name e not_c not_d) ∙ r.known;
   named_by_member = r.named_by_member;
   members = λ n. r.members n ∙ sym (any-map (joined c d) (λ e. e.patch.no == n && e.class == k.name) (λ e. e.patch.no == n && e.class == k.name) h.entries
-      (λ e. ap (λ z. z.no == n && (joined c d e).class == k.name) (joined-patch c d e) ∙ ap (λ z. e.patch.no == n && z) (joined-other c d k.name e not_c not_d)));
+      (λ e. ap (λ z. z.no == n && (joined c d e).class == k.name) (patch-joined c d e) ∙ ap (λ z. e.patch.no == n && z) (joined-other c d k.name e not_c not_d)));
   after = λ n. r.after n ∙ sym (any-map (joined c d) (λ e. e.class == k.name && is_among e.patch.after n) (λ e. e.class == k.name && is_among e.patch.after n) h.entries
-      (λ e. ap (λ z. z && is_among (joined c d e).patch.after n) (joined-other c d k.name e not_c not_d) ∙ ap (λ z. e.class == k.name && is_among z.after n) (joined-patch c d e)));
-  marked = λ y i of. let q = In-map (joined c d) h.entries y i in
+      (λ e. ap (λ z. z && is_among (joined c d e).patch.after n) (joined-other c d k.name e not_c not_d) ∙ ap (λ z. e.class == k.name && is_among z.after n) (patch-joined c d e)));
+  marked = λ y i of. let q = map-In (joined c d) h.entries y i in
       let is : q.0.class ≡ k.name = eqb-true _ _ (sym (joined-other c d k.name q.0 not_c not_d) ∙ eq-eqb _ _ (ap (λ z. z.class) q.2 ∙ of)) in
       let old = r.marked q.0 q.1 is in (
-        ap is_durable (sym q.2) ∙ ap marks_durable (joined-mark c d q.0) ∙ old.0,
-        ap is_memory (sym q.2) ∙ ap marks_memory (joined-mark c d q.0) ∙ old.1,
-        ap (λ z. z.hard) (sym q.2) ∙ joined-hard c d q.0 ∙ old.2,
+        ap is_durable (sym q.2) ∙ ap marks_durable (mark-joined c d q.0) ∙ old.0,
+        ap is_memory (sym q.2) ∙ ap marks_memory (mark-joined c d q.0) ∙ old.1,
+        ap (λ z. z.hard) (sym q.2) ∙ hard-joined c d q.0 ∙ old.2,
       );
   span = λ x. r.span x ∙ sym (covers-other h c d k.name x not_c not_d);
   flag = r.flag;
@@ -423,7 +410,7 @@ merged-class_of h low high ms us pm pa o rl rh may_l may_h two none near_a near_
       members = λ n. among-merged low high ms n pm
           ∙ ap (λ z. z || is_among high.members n) (rl.members n) ∙ ap (λ z. list_any (λ e. e.patch.no == n && e.class == low.name) h.entries || z) (rh.members n)
           ∙ sym (any-map (joined low.name high.name) (λ e. e.patch.no == n && e.class == min low.name high.name) (λ e. e.patch.no == n && (e.class == low.name || e.class == high.name)) h.entries
-          (λ e. ap (λ z. z.no == n && (joined low.name high.name e).class == min low.name high.name) (joined-patch low.name high.name e) ∙ ap (λ z. e.patch.no == n && z) (joined-merged low.name high.name e))
+          (λ e. ap (λ z. z.no == n && (joined low.name high.name e).class == min low.name high.name) (patch-joined low.name high.name e) ∙ ap (λ z. e.patch.no == n && z) (joined-merged low.name high.name e))
           ∙ any-either (λ e. e.patch.no == n && (e.class == low.name || e.class == high.name)) (λ e. e.patch.no == n && e.class == low.name) (λ e. e.patch.no == n && e.class == high.name) h.entries
           (λ e. and_or (e.patch.no == n) (e.class == low.name) (e.class == high.name)));
       after = λ n. sym (list_any-IsPermutation (λ k. k == n) (low.after ++ high.after) us pa) ∙ list_any-append (λ k. k == n) low.after high.after
@@ -431,19 +418,19 @@ merged-class_of h low high ms us pm pa o rl rh may_l may_h two none near_a near_
           ∙ sym (any-map (joined low.name high.name) (λ e. e.class == min low.name high.name && is_among e.patch.after n)
           (λ e. (e.class == low.name || e.class == high.name) && is_among e.patch.after n) h.entries
           (λ e. ap (λ z. z && is_among (joined low.name high.name e).patch.after n) (joined-merged low.name high.name e)
-          ∙ ap (λ z. (e.class == low.name || e.class == high.name) && is_among z.after n) (joined-patch low.name high.name e))
+          ∙ ap (λ z. (e.class == low.name || e.class == high.name) && is_among z.after n) (patch-joined low.name high.name e))
           ∙ any-either (λ e. (e.class == low.name || e.class == high.name) && is_among e.patch.after n) (λ e. e.class == low.name && is_among e.patch.after n)
           (λ e. e.class == high.name && is_among e.patch.after n) h.entries
           (λ e. or_and (e.class == low.name) (e.class == high.name) (is_among e.patch.after n)));
-      marked = λ y i of. let q = In-map (joined low.name high.name) h.entries y i in
+      marked = λ y i of. let q = map-In (joined low.name high.name) h.entries y i in
           let is : (q.0.class == low.name || q.0.class == high.name) ≡ true = sym (joined-merged low.name high.name q.0) ∙ eq-eqb _ _ (ap (λ z. z.class) q.2 ∙ of) in
           let old : (is_durable q.0 ≡ false) × (is_memory q.0 ≡ true) × (q.0.hard ≡ false) = elim (or_cases (q.0.class == low.name) (q.0.class == high.name) is) [
             | inl u ↦ soft-of h low rl may_l q.0 q.1 (eqb-true _ _ u)
             | inr u ↦ soft-of h high rh may_h q.0 q.1 (eqb-true _ _ u)
           ] in (
-            ap is_durable (sym q.2) ∙ ap marks_durable (joined-mark low.name high.name q.0) ∙ old.0,
-            ap is_memory (sym q.2) ∙ ap marks_memory (joined-mark low.name high.name q.0) ∙ old.1,
-            ap (λ z. z.hard) (sym q.2) ∙ joined-hard low.name high.name q.0 ∙ old.2,
+            ap is_durable (sym q.2) ∙ ap marks_durable (mark-joined low.name high.name q.0) ∙ old.0,
+            ap is_memory (sym q.2) ∙ ap marks_memory (mark-joined low.name high.name q.0) ∙ old.1,
+            ap (λ z. z.hard) (sym q.2) ∙ hard-joined low.name high.name q.0 ∙ old.2,
           );
       span = λ x. spans-merged low high ms us x near_a near_b some_l some_h ∙ ap (λ z. z || spans high x) (rl.span x) ∙ ap (λ z. class_covers h low.name x || z) (rh.span x)
           ∙ sym (covers-merged h low.name high.name x);
@@ -522,13 +509,13 @@ joins_of b h low high ms us r m pm pa =
         | inl s ↦ rw s.2 (merged-class h (class_at b low) (class_at b high) c is_c r.coherent rl rh m.may_low m.may_high two none m.near_a m.near_b)
         | inr s ↦ rw s.2 (apart-class h (class_at b low).name (class_at b high).name (class_at b (stood high i)) (r.classes (stood high i) (w i h_i)) (not_low i h_i s.0) (not_high i h_i))
       ];
-      complete = λ y i t. let q = In-map (joined (class_at b low).name (class_at b high).name) h.entries y i in
+      complete = λ y i t. let q = map-In (joined (class_at b low).name (class_at b high).name) h.entries y i in
           let of : (joined (class_at b low).name (class_at b high).name q.0).class ≡ y.class = ap (λ z. z.class) q.2 in
           elim (cases_in (class_at b low).name (class_at b high).name q.0) [
             | inl is ↦ named-remove (slice_set b.classes low c) high y.class low w_set (omega arith) (omega arith)
                 (ap (λ k. k.name) (get_or-set_same b.classes low c no_class w_low) ∙ sym (joined-in (class_at b low).name (class_at b high).name q.0 is) ∙ of)
             | inr out ↦
-                let low_ : is_durable q.0 ≡ false = ap marks_durable (sym (joined-mark (class_at b low).name (class_at b high).name q.0)) ∙ ap is_durable q.2 ∙ t in
+                let low_ : is_durable q.0 ≡ false = ap marks_durable (sym (mark-joined (class_at b low).name (class_at b high).name q.0)) ∙ ap is_durable q.2 ∙ t in
                 let k = record_of b [] h q.0 r q.1 low_ in
                 let ne_h : k.0 ≢ high = (λ z. out.1 (sym k.2 ∙ ap (λ n. (class_at b n).name) z)) in
                 let ne_l : k.0 ≢ low = (λ z. out.0 (sym k.2 ∙ ap (λ n. (class_at b n).name) z)) in

@@ -1,24 +1,13 @@
 -- Laws of histories and of the sets that may be taken.
-use Rattle.std.proofs.Common.{◌≡◌, ◌<◌, ◌∙◌, true, false, inl, inr, List, [], ◌∷◌, ◌++◌, refl, sym, ap}
+use Rattle.std.proofs.Common.{◌≡◌, ◌<◌, ◌∙◌, true, inl, inr, List, [], ◌∷◌, ◌++◌, sym, ap}
 use Rattle.std.specs.Prelude.{◌==◌}
 use Rattle.std.specs.List.{AllByRecursion}
 use Rattle.std.proofs.lemmas.Bool.{or_cases, or_left, or_right, cases_eq, eqb-true, eq-eqb}
-use Rattle.patch_model.specs.declared.patches.Mark.{Mark}
-use Rattle.patch_model.specs.declared.patches.Mark.TheVariants.{Memory, Flight, Durable}
-use Rattle.patch_model.specs.Entry.{Entry, is_among, is_flight, marks_memory, marks_flight, marks_durable}
+use Rattle.patch_model.specs.Marked.{durable-not_memory, flight-not_memory}
+use Rattle.patch_model.specs.Entry.{Entry, is_among, is_flight, marks_flight}
 use Rattle.patch_model.specs.Ready.{IsRising}
 use Rattle.patch_model.specs.Member.{In, In-from_Contains, Contains-from_In}
 use Rattle.patch_view.specs.Laws.{OrderlyIsCoherent, LastIsNext, FlightMayLand, UppermostMayBeTaken}
-
-durable-not_memory : (m : Mark) → marks_durable m ≡ true → marks_memory m ≡ false
-durable-not_memory Memory t = absurd (cc)
-durable-not_memory Flight t = refl
-durable-not_memory Durable t = refl
-
-flight-not_memory : (m : Mark) → marks_flight m ≡ true → marks_memory m ≡ false
-flight-not_memory Memory t = absurd (cc)
-flight-not_memory Flight t = refl
-flight-not_memory Durable t = refl
 
 pub orderly_is_coherent : OrderlyIsCoherent
 orderly_is_coherent h block o = record {

@@ -1,32 +1,25 @@
 -- What a send leaves behind of a block.
-use Rattle.std.proofs.Common.{◌≡◌, ℕ, zero, suc, ◌∙◌, true, false, not, inl, inr, Bool, List, length, map, refl, sym, ap, subst}
+use Rattle.std.proofs.Common.{◌≡◌, ℕ, zero, suc, ◌∙◌, true, false, not, inl, inr, Bool, List, length, map, sym, ap, subst}
 use Rattle.std.specs.Prelude.{◌==◌, ◌&&◌, filter}
 use Rattle.std.proofs.lemmas.Bool.{cases_Bool, false_from_ne_true, and_parts, and_from, both_ways, eqb-true, not-true, not_from_false}
-use Rattle.patch_model.specs.declared.patches.Mark.{Mark}
-use Rattle.patch_model.specs.declared.patches.Mark.TheVariants.{Memory, Flight, Durable}
-use Rattle.patch_model.specs.Entry.{Entry, is_among, is_live, is_memory, is_undoable, in_memory_of, marks_memory, marks_durable}
+use Rattle.patch_model.specs.Marked.{memory_live}
+use Rattle.patch_model.specs.Entry.{Entry, is_among, is_live, is_memory, is_undoable, in_memory_of, marks_memory}
 use Rattle.patch_model.specs.Dependency.{depends_directly}
 use Rattle.patch_model.specs.Execution.{Execution, extended}
 use Rattle.patch_model.specs.Step.{Send}
 use Rattle.patch_model.specs.Ready.{has, ready, struck, may_stay}
 use Rattle.patch_model.specs.State.{sent, entries_of}
-use Rattle.patch_model.specs.Member.{In, In-from_Contains, Contains-from_In, In-filter, filter-In, list_any-at}
+use Rattle.patch_model.specs.Member.{In, In-from_Contains, Contains-from_In, In-filter, filter-In, list_any-at, In-map, map-In}
 use Rattle.patch_model.specs.History.{History, HoldsDependents, history_of, without, image}
 use Rattle.patch_model.specs.Orderly.{left_behind}
 use Rattle.patch_view.specs.History.{IsCoherent, undoable_classes}
 use Rattle.patch_view.specs.Laws.{SendLeavesTheImage}
-use Rattle.patch_view.proofs.Marking.{In-map, map-In}
 use Rattle.patch_view.proofs.Together.{sent-marking, sent-in, sent-out}
 use Rattle.patch_view.proofs.Same.{map-among, among-map, image_is_without}
 
 struck-in : (n : ℕ) (stays : List Entry → Entry → Bool) (set : List Entry) (e : Entry) → In (struck n stays set) e → In set e
 struck-in zero stays set e i = i
 struck-in (suc n) stays set e i = (filter-In (stays set) set e (struck-in n stays (filter (stays set) set) e i)).0
-
-memory-live : (m : Mark) → marks_memory m ≡ true → not (marks_durable m) ≡ true
-memory-live Memory t = refl
-memory-live Flight t = absurd (cc)
-memory-live Durable t = absurd (cc)
 
 module _ (run : Execution) (block : ℕ) (o : IsCoherent (history_of run block)) (holds : HoldsDependents (history_of run block) (left_behind (entries_of run) block)) where
   abbrev all : List Entry
@@ -52,7 +45,7 @@ module _ (run : Execution) (block : ℕ) (o : IsCoherent (history_of run block))
 
   was-live : (e : Entry) → In before.entries e → is_live (sent set e) ≡ true → is_live e ≡ true
   was-live e i live = elim (cases_Bool (has set e)) [
-    | inl t ↦ memory-live e.mark (was-memory e i t)
+    | inl t ↦ memory_live e.mark (was-memory e i t)
     | inr t ↦ ap is_live (sym (sent-out set e t)) ∙ live
   ]
 
@@ -81,7 +74,7 @@ module _ (run : Execution) (block : ℕ) (o : IsCoherent (history_of run block))
       let b = and_parts (is_memory q.0) (q.0.patch.block == block) a.0 in
       let i : In before.entries q.0 = In-filter (λ f. f.patch.block == block) all q.0 p.0 b.1 in
       let off : has set q.0 ≡ false = not-true _ a.1 in
-      let j : In behind.entries q.0 = subst (λ e. In behind.entries e) (sent-out set q.0 off) (map-In (sent set) before.entries q.0 i) in
+      let j : In behind.entries q.0 = subst (λ e. In behind.entries e) (sent-out set q.0 off) (In-map (sent set) before.entries q.0 i) in
       let soft : is_undoable q.0 ≡ true = is-soft q.0 i (is-left q.0 i b.0 off) in
       ap (is_among (undoable_classes behind)) (sym q.2) ∙ among-map (filter is_undoable behind.entries) q.0 (In-filter is_undoable behind.entries q.0 j soft)
 
@@ -90,7 +83,7 @@ module _ (run : Execution) (block : ℕ) (o : IsCoherent (history_of run block))
   named-is c t =
       let q = map-among (filter is_undoable behind.entries) c t in
       let p = filter-In is_undoable behind.entries q.0 q.1 in
-      let x = In-map (sent set) before.entries q.0 p.0 in
+      let x = map-In (sent set) before.entries q.0 p.0 in
       let m : is_memory (sent set x.0) ≡ true = ap is_memory x.2 ∙ (and_parts _ _ p.1).0 in
       let off = not_sent x.0 m in
       let same : x.0 ≡ q.0 = sym (sent-out set x.0 off) ∙ x.2 in
@@ -102,8 +95,8 @@ module _ (run : Execution) (block : ℕ) (o : IsCoherent (history_of run block))
         let p = filter-In is_undoable behind.entries q.0 q.1 in
         (q.0, Contains-from_In behind.entries q.0 p.0, q.2, p.1);
     dependents = λ e f ce cf live goes t.
-        let x = In-map (sent set) before.entries e (In-from_Contains behind.entries e ce) in
-        let y = In-map (sent set) before.entries f (In-from_Contains behind.entries f cf) in
+        let x = map-In (sent set) before.entries e (In-from_Contains behind.entries e ce) in
+        let y = map-In (sent set) before.entries f (In-from_Contains behind.entries f cf) in
         let went : depends_directly x.0.patch y.0.patch ≡ true =
         ap (λ z. depends_directly z y.0.patch) (sym ((sent-marking set).patch x.0) ∙ ap (λ k. k.patch) x.2)
         ∙ ap (λ z. depends_directly e.patch z) (sym ((sent-marking set).patch y.0) ∙ ap (λ k. k.patch) y.2) ∙ goes in
@@ -117,7 +110,7 @@ module _ (run : Execution) (block : ℕ) (o : IsCoherent (history_of run block))
 
   pub left-soft : (e : Entry) → In behind.entries e → is_memory e ≡ true → is_undoable e ≡ true
   left-soft e i m =
-      let x = In-map (sent set) before.entries e i in
+      let x = map-In (sent set) before.entries e i in
       let still : is_memory (sent set x.0) ≡ true = ap is_memory x.2 ∙ m in
       let off = not_sent x.0 still in
       let same : x.0 ≡ e = sym (sent-out set x.0 off) ∙ x.2 in

@@ -1,6 +1,5 @@
 pub mod Sets
 pub mod Numbers
-pub mod Laying
 pub mod Chain
 pub mod Steps
 pub mod Exchange

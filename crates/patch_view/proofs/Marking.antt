@@ -6,19 +6,19 @@ use Rattle.std.proofs.lemmas.Bool.{cases_Bool, cases_eq, cases_lt, both_ways, eq
 use Rattle.std.proofs.lemmas.List.{length-set}
 use Rattle.std.proofs.lemmas.List.Folds.{list_any_at}
 use Rattle.std.proofs.lemmas.List.Edits.{length-remove, get_or-remove_below, get_or-remove_above}
+use Rattle.patch_model.specs.Marked.{memory-not_durable}
 use Rattle.patch_model.specs.declared.patches.Mark.{Mark}
 use Rattle.patch_model.specs.declared.patches.Mark.TheVariants.{Memory, Flight, Durable}
 use Rattle.patch_model.specs.Pile.{end, covers, pile}
 use Rattle.patch_model.specs.Entry.{Entry, is_durable, is_memory, is_among, marks_memory, marks_durable, marks_flight}
 use Rattle.patch_model.specs.Dependency.{depends_directly}
-use Rattle.patch_model.specs.Member.{In}
+use Rattle.patch_model.specs.Member.{In, map-In}
 use Rattle.patch_model.specs.History.{History, without}
 use Rattle.patch_view.proofs.Sets.{class_depends_on, none-held, never-from, ordered_on}
 use Rattle.patch_view.specs.History.{IsCoherent, MayLand, re_marked, with_mark, class_covers, comes_before, below, top}
 use Rattle.patch_view.specs.State.{Class, Block, class_at, no_class, may_be_taken, place_of, departed, departed_at, landed_at}
 use Rattle.patch_view.specs.Meaning.{IsClassOf, Represents}
 use Rattle.patch_view.specs.Answers.{IsPatch}
-use Rattle.patch_view.proofs.Chain.{memory-not_durable}
 use Rattle.patch_view.proofs.Steps.{record_of}
 use Rattle.patch_view.proofs.Answering.{found, no_place}
 
@@ -30,16 +30,6 @@ pub record IsMarking (f : Entry → Entry) : Type 0 where
 
 abbrev pub changed : (Entry → Entry) → History → History
 changed f h = record h { entries = map f h.entries }
-
-pub In-map : {X Y : Type 0} (f : X → Y) (xs : List X) (y : Y) → In (map f xs) y → (x : X) × In xs x × (f x ≡ y)
-In-map f [] y i = absurd i
-In-map f (x ∷ xs) y (inl e) = (x, inl refl, e)
-In-map f (x ∷ xs) y (inr i) = let r = In-map f xs y i in (r.0, inr r.1, r.2)
-
-pub map-In : {X Y : Type 0} (f : X → Y) (xs : List X) (x : X) → In xs x → In (map f xs) (f x)
-map-In f [] x i = absurd i
-map-In f (y ∷ xs) x (inl e) = inl (ap f e)
-map-In f (y ∷ xs) x (inr i) = inr (map-In f xs x i)
 
 pub any-map : {X Y : Type 0} (f : X → Y) (p : Y → Bool) (q : X → Bool) (xs : List X) → ((x : X) → p (f x) ≡ q x) → list_any p (map f xs) ≡ list_any q xs
 any-map f p q [] same = refl
@@ -95,27 +85,27 @@ pub record AreMarks (f : Entry → Entry) (h : History) : Type 0 where
 pub orderly-changed : (f : Entry → Entry) (h : History) → IsMarking f → AreMarks f h → IsCoherent h → IsCoherent (changed f h)
 orderly-changed f h m marks o = record {
   long = o.long;
-  fits = λ y i. let r = In-map f h.entries y i in let p : r.0.patch ≡ y.patch = sym (m.patch r.0) ∙ ap (λ z. z.patch) r.2 in
+  fits = λ y i. let r = map-In f h.entries y i in let p : r.0.patch ≡ y.patch = sym (m.patch r.0) ∙ ap (λ z. z.patch) r.2 in
       subst (λ z. end z ≤ 4096) p (o.fits r.0 r.1);
-  some = λ y i. let r = In-map f h.entries y i in let p : r.0.patch ≡ y.patch = sym (m.patch r.0) ∙ ap (λ z. z.patch) r.2 in
+  some = λ y i. let r = map-In f h.entries y i in let p : r.0.patch ≡ y.patch = sym (m.patch r.0) ∙ ap (λ z. z.patch) r.2 in
       subst (λ z. 0 < length z.bytes) p (o.some r.0 r.1);
-  one_block = λ y z i j. let r = In-map f h.entries y i in let s = In-map f h.entries z j in
+  one_block = λ y z i j. let r = map-In f h.entries y i in let s = map-In f h.entries z j in
       ap (λ k. k.block) (ap (λ k. k.patch) (sym r.2) ∙ m.patch r.0) ∙ o.one_block r.0 s.0 r.1 s.1 ∙ ap (λ k. k.block) (sym (m.patch s.0) ∙ ap (λ k. k.patch) s.2);
-  numbers = λ y z i j same. let r = In-map f h.entries y i in let s = In-map f h.entries z j in
+  numbers = λ y z i j same. let r = map-In f h.entries y i in let s = map-In f h.entries z j in
       let one : r.0 ≡ s.0 = o.numbers r.0 s.0 r.1 s.1 (ap (λ k. k.no) (sym (m.patch r.0) ∙ ap (λ k. k.patch) r.2) ∙ same ∙ ap (λ k. k.no) (ap (λ k. k.patch) (sym s.2) ∙ m.patch s.0)) in
       sym r.2 ∙ ap f one ∙ s.2;
-  named_earlier = λ y n i t. let r = In-map f h.entries y i in let p : y.patch ≡ r.0.patch = ap (λ z. z.patch) (sym r.2) ∙ m.patch r.0 in
+  named_earlier = λ y n i t. let r = map-In f h.entries y i in let p : y.patch ≡ r.0.patch = ap (λ z. z.patch) (sym r.2) ∙ m.patch r.0 in
       subst (λ z. n < z.no) (sym p) (o.named_earlier r.0 n r.1 (ap (λ z. is_among z.after n) (sym p) ∙ t));
-  class_first = λ y i. let r = In-map f h.entries y i in
+  class_first = λ y i. let r = map-In f h.entries y i in
       let p : y.patch ≡ r.0.patch = ap (λ z. z.patch) (sym r.2) ∙ m.patch r.0 in
       let q : y.class ≡ r.0.class = ap (λ z. z.class) (sym r.2) ∙ m.class r.0 in
       subst (λ n. n ≤ y.patch.no) (sym q) (subst (λ z. r.0.class ≤ z.no) (sym p) (o.class_first r.0 r.1));
-  one_mark = λ y z i j same. let r = In-map f h.entries y i in let s = In-map f h.entries z j in
+  one_mark = λ y z i j same. let r = map-In f h.entries y i in let s = map-In f h.entries z j in
       let c : r.0.class ≡ s.0.class = sym (m.class r.0) ∙ ap (λ k. k.class) r.2 ∙ same ∙ ap (λ k. k.class) (sym s.2) ∙ m.class s.0 in (
         ap (λ k. k.mark) (sym r.2) ∙ marks.one_mark r.0 s.0 r.1 s.1 c ∙ ap (λ k. k.mark) s.2,
         ap (λ k. k.hard) (sym r.2) ∙ m.hard r.0 ∙ (o.one_mark r.0 s.0 r.1 s.1 c).1 ∙ sym (m.hard s.0) ∙ ap (λ k. k.hard) s.2,
       );
-  durable_first = λ y z i j d t. let r = In-map f h.entries y i in let s = In-map f h.entries z j in
+  durable_first = λ y z i j d t. let r = map-In f h.entries y i in let s = map-In f h.entries z j in
       let goes : depends_directly r.0.patch s.0.patch ≡ true =
       ap (λ k. depends_directly k s.0.patch) (sym (m.patch r.0) ∙ ap (λ k. k.patch) r.2) ∙ ap (λ k. depends_directly y.patch k) (sym (m.patch s.0) ∙ ap (λ k. k.patch) s.2) ∙ d in
       ap is_memory (sym s.2) ∙ marks.durable_first r.0 s.0 r.1 s.1 goes (ap is_durable r.2 ∙ t);
@@ -134,7 +124,7 @@ re-class f h c flying saved m r marks keeps = record {
       (λ e. ap (λ z. z.no == n && (f e).class == c.name) (m.patch e) ∙ ap (λ z. e.patch.no == n && z == c.name) (m.class e)));
   after = λ n. r.after n ∙ sym (any-map f (λ e. e.class == c.name && is_among e.patch.after n) (λ e. e.class == c.name && is_among e.patch.after n) h.entries
       (λ e. ap (λ z. z == c.name && is_among (f e).patch.after n) (m.class e) ∙ ap (λ z. e.class == c.name && is_among z.after n) (m.patch e)));
-  marked = λ y i of. let q = In-map f h.entries y i in
+  marked = λ y i of. let q = map-In f h.entries y i in
       let is : q.0.class ≡ c.name = sym (m.class q.0) ∙ ap (λ z. z.class) q.2 ∙ of in
       let new = marks q.0 q.1 is in
       (ap is_durable (sym q.2) ∙ new.0, ap is_memory (sym q.2) ∙ new.1, ap (λ z. z.hard) (sym q.2) ∙ m.hard q.0 ∙ (r.marked q.0 q.1 is).2);
@@ -241,7 +231,7 @@ departs b h at r within =
             rw (get_or-set_other b.classes at i (departed (class_at b at)) no_class ne)
             (other-class Flight (class_at b at).name h (class_at b i) (r.classes i w) (λ q. ne (r.distinct i at w within q)))
       ];
-      complete = λ y i low. let q = In-map (re_marked Flight (class_at b at).name) h.entries y i in
+      complete = λ y i low. let q = map-In (re_marked Flight (class_at b at).name) h.entries y i in
           names-set b.classes at y.class (departed (class_at b at)) within refl
           ∙ ap (λ k. list_any (λ d. d.name == k) b.classes) (ap (λ z. z.class) (sym q.2) ∙ m.class q.0)
           ∙ (elim (cases_eq q.0.class (class_at b at).name) [
@@ -300,7 +290,7 @@ lands b h at r within may =
       bytes = r.bytes ∙ sym (without-changed (re_marked Durable (class_at b at).name) h m);
       classes = λ i h_i. rw (at_ i) (other-class Durable (class_at b at).name h (class_at b (stood at i)) (r.classes (stood at i) (w i h_i))
           (λ q. away i (r.distinct (stood at i) at (w i h_i) within q)));
-      complete = λ y i low. let q = In-map (re_marked Durable (class_at b at).name) h.entries y i in
+      complete = λ y i low. let q = map-In (re_marked Durable (class_at b at).name) h.entries y i in
           let out : q.0.class ≢ (class_at b at).name = (λ is. both_ways _ low (ap is_durable (sym q.2) ∙ ap marks_durable (marked-in Durable (class_at b at).name q.0 is))) in
           let k = record_of b [] h q.0 r q.1 (ap is_durable (sym (marked-out Durable (class_at b at).name q.0 out) ∙ q.2) ∙ low) in
           let ne : k.0 ≢ at = (λ z. out (sym k.2 ∙ ap (λ n. (class_at b n).name) z)) in

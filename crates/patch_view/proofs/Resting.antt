@@ -1,48 +1,21 @@
 -- Of two classes of which the lower doesn't depend on the upper, the upper depends on the lower just where their spans meet
 -- or it names one of its members.
-use Rattle.std.proofs.Common.{◌≡◌, ℕ, ◌<◌, ◌⊎◌, ◌∙◌, true, false, not, inl, inr, List, length, refl, sym, ap, arith, min, max}
+use Rattle.std.proofs.Common.{◌≡◌, ℕ, ◌<◌, ◌⊎◌, ◌∙◌, true, false, inl, inr, List, length, refl, sym, ap, arith, min, max}
 use Rattle.std.specs.Prelude.{◌==◌, ◌&&◌, ◌||◌, ◌≢◌, nat_lt}
-use Rattle.std.specs.List.{list_any}
 use Rattle.std.proofs.lemmas.Bool.{cases_Bool, cases_order, and_parts, and_from, and_left, or_cases, or_left, or_right, both_ways, eqb-true, eq-eqb, ltb-true, lt-ltb, le-ltb, false_from_ne_true}
+use Rattle.patch_model.specs.Link.{Link-some, some-Link}
 use Rattle.patch_model.specs.Pile.{end, covers}
-use Rattle.patch_model.specs.Entry.{Entry, is_among}
-use Rattle.patch_model.specs.Dependency.{depends_directly, shares_byte, class_depends}
-use Rattle.patch_model.specs.Member.{In, list_any-at, list_any-from}
+use Rattle.patch_model.specs.Entry.{is_among}
+use Rattle.patch_model.specs.Dependency.{shares_byte, class_depends}
+use Rattle.patch_model.specs.Member.{list_any-at, list_any-from}
 use Rattle.patch_model.specs.History.{History}
 use Rattle.patch_view.specs.History.{IsCoherent}
 use Rattle.patch_view.specs.State.{Class, Block, class_at, names, meets, follows}
 use Rattle.patch_view.specs.Meaning.{IsClassOf, Represents}
 use Rattle.patch_view.proofs.Sets.{class_depends_on, class_depends-apart, ordered_on}
-use Rattle.patch_view.proofs.Laying.{covers-to}
+use Rattle.patch_model.specs.Laying.{covers-to}
 use Rattle.patch_view.proofs.Chain.{later_depends, covering}
 use Rattle.patch_view.proofs.Exchange.{spans-at, spans-from}
-
--- patches of the two classes, of which the one depends directly on the other
-pub record Link (h : History) (a c : ℕ) : Type 0 where
-  pub e : Entry
-  pub f : Entry
-  pub in_e : In h.entries e
-  pub in_f : In h.entries f
-  pub class_e : e.class ≡ a
-  pub class_f : f.class ≡ c
-  pub goes : depends_directly e.patch f.patch ≡ true
-
-pub link_on : (h : History) (a c : ℕ) → class_depends_on h a c ≡ true → Link h a c
-link_on h a c t =
-    let q = list_any-at (λ e. e.class == a && list_any (λ f. f.class == c && depends_directly e.patch f.patch) h.entries) h.entries t in
-    let u = and_parts (q.0.class == a) (list_any (λ f. f.class == c && depends_directly q.0.patch f.patch) h.entries) q.2 in
-    let v = list_any-at (λ f. f.class == c && depends_directly q.0.patch f.patch) h.entries u.1 in
-    let w = and_parts (v.0.class == c) (depends_directly q.0.patch v.0.patch) v.2 in
-    record { e = q.0; f = v.0; in_e = q.1; in_f = v.1; class_e = eqb-true _ _ u.0; class_f = eqb-true _ _ w.0; goes = w.1 }
-
-pub link : (h : History) (a c : ℕ) → class_depends h.entries a c ≡ true → Link h a c
-link h a c t = link_on h a c (and_parts (not (a == c)) (class_depends_on h a c) t).1
-
-pub linked_by : (h : History) (a c : ℕ) (e f : Entry) → In h.entries e → In h.entries f → e.class ≡ a → f.class ≡ c → depends_directly e.patch f.patch ≡ true
-    → class_depends_on h a c ≡ true
-linked_by h a c e f i j is_a is_c goes =
-    list_any-from (λ g. g.class == a && list_any (λ k. k.class == c && depends_directly g.patch k.patch) h.entries) h.entries e i
-    (and_from _ _ (eq-eqb _ _ is_a) (list_any-from (λ k. k.class == c && depends_directly e.patch k.patch) h.entries f j (and_from _ _ (eq-eqb _ _ is_c) goes)))
 
 -- a class depends on one of which it names a member
 pub names-depends : (h : History) (t u : List ℕ) (c d : Class) → IsClassOf h t c → IsClassOf h u d → names c d ≡ true → class_depends_on h c.name d.name ≡ true
@@ -52,7 +25,7 @@ names-depends h t u c d r s on =
     let p = and_parts (e.0.class == c.name) (is_among e.0.patch.after q.0) e.2 in
     let f = list_any-at (λ g. g.patch.no == q.0 && g.class == d.name) h.entries (sym (s.members q.0) ∙ q.2) in
     let v = and_parts (f.0.patch.no == q.0) (f.0.class == d.name) f.2 in
-    linked_by h c.name d.name e.0 f.0 e.1 f.1 (eqb-true _ _ p.0) (eqb-true _ _ v.1)
+    some-Link h.entries c.name d.name e.0 f.0 e.1 f.1 (eqb-true _ _ p.0) (eqb-true _ _ v.1)
     (or_left _ (nat_lt f.0.patch.no e.0.patch.no && shares_byte e.0.patch f.0.patch) (ap (is_among e.0.patch.after) (eqb-true _ _ v.0) ∙ p.1))
 
 -- of two that meet one depends on the other
@@ -70,8 +43,8 @@ meets-depends h t u c d o r s apart on =
     elim (cases_order e.0.patch.no f.0.patch.no) [
       | inl same ↦ absurd (apart (sym e.2 ∙ ap (λ g. g.class) (o.numbers e.0 f.0 e.1 f.1 same) ∙ f.2))
       | inr k ↦ elim k [
-        | inl less ↦ inr (linked_by h d.name c.name f.0 e.0 f.1 e.1 f.2 e.2 (later_depends h f.0 e.0 (max c.start d.start) o f.1 e.1 f.3 e.3 less))
-        | inr more ↦ inl (linked_by h c.name d.name e.0 f.0 e.1 f.1 e.2 f.2 (later_depends h e.0 f.0 (max c.start d.start) o e.1 f.1 e.3 f.3 more))
+        | inl less ↦ inr (some-Link h.entries d.name c.name f.0 e.0 f.1 e.1 f.2 e.2 (later_depends h f.0 e.0 (max c.start d.start) o f.1 e.1 f.3 e.3 less))
+        | inr more ↦ inl (some-Link h.entries c.name d.name e.0 f.0 e.1 f.1 e.2 f.2 (later_depends h e.0 f.0 (max c.start d.start) o e.1 f.1 e.3 f.3 more))
       ]
     ]
 
@@ -79,26 +52,26 @@ meets-depends h t u c d o r s apart on =
 pub depends-rests : (h : History) (t u : List ℕ) (c d : Class) → IsCoherent h → IsClassOf h t c → IsClassOf h u d → class_depends_on h c.name d.name ≡ true
     → (meets c d || names c d) ≡ true
 depends-rests h t u c d o r s on =
-    let k = link_on h c.name d.name on in
-    elim (or_cases (is_among k.e.patch.after k.f.patch.no) (nat_lt k.f.patch.no k.e.patch.no && shares_byte k.e.patch k.f.patch) k.goes) [
+    let k = Link-some h.entries c.name d.name on in
+    elim (or_cases (is_among k.from.patch.after k.to.patch.no) (nat_lt k.to.patch.no k.from.patch.no && shares_byte k.from.patch k.to.patch) k.depends) [
       | inl v ↦
-          let named : is_among c.after k.f.patch.no ≡ true = r.after k.f.patch.no
-          ∙ list_any-from (λ g. g.class == c.name && is_among g.patch.after k.f.patch.no) h.entries k.e k.in_e (and_from _ _ (eq-eqb _ _ k.class_e) v) in
-          let member : is_among d.members k.f.patch.no ≡ true = s.members k.f.patch.no
-          ∙ list_any-from (λ g. g.patch.no == k.f.patch.no && g.class == d.name) h.entries k.f k.in_f (and_from _ _ (eq-eqb k.f.patch.no k.f.patch.no refl) (eq-eqb _ _ k.class_f)) in
-          let q = list_any-at (λ m. m == k.f.patch.no) c.after named in
+          let named : is_among c.after k.to.patch.no ≡ true = r.after k.to.patch.no
+          ∙ list_any-from (λ g. g.class == c.name && is_among g.patch.after k.to.patch.no) h.entries k.from k.in_from (and_from _ _ (eq-eqb _ _ k.name_from) v) in
+          let member : is_among d.members k.to.patch.no ≡ true = s.members k.to.patch.no
+          ∙ list_any-from (λ g. g.patch.no == k.to.patch.no && g.class == d.name) h.entries k.to k.in_to (and_from _ _ (eq-eqb k.to.patch.no k.to.patch.no refl) (eq-eqb _ _ k.name_to)) in
+          let q = list_any-at (λ m. m == k.to.patch.no) c.after named in
           or_right (meets c d) _ (list_any-from (λ n. is_among d.members n) c.after q.0 q.1 (ap (is_among d.members) (eqb-true _ _ q.2) ∙ member))
       | inr v ↦
-          let p = and_parts (nat_lt k.f.patch.no k.e.patch.no) (shares_byte k.e.patch k.f.patch) v in
-          let w = and_parts (k.e.patch.block == k.f.patch.block) (nat_lt (max k.e.patch.start k.f.patch.start) (min (end k.e.patch) (end k.f.patch))) p.1 in
-          let less : max k.e.patch.start k.f.patch.start < min (end k.e.patch) (end k.f.patch) = ltb-true _ _ w.1 in
-          let x : ℕ = max k.e.patch.start k.f.patch.start in
-          let in_c = spans-at c (max k.e.patch.start k.f.patch.start) (r.span (max k.e.patch.start k.f.patch.start)
-          ∙ list_any-from (λ g. g.class == c.name && covers g.patch (max k.e.patch.start k.f.patch.start)) h.entries k.e k.in_e
-          (and_from _ _ (eq-eqb _ _ k.class_e) (covers-to k.e.patch (max k.e.patch.start k.f.patch.start) (omega arith) (omega arith)))) in
-          let in_d = spans-at d (max k.e.patch.start k.f.patch.start) (s.span (max k.e.patch.start k.f.patch.start)
-          ∙ list_any-from (λ g. g.class == d.name && covers g.patch (max k.e.patch.start k.f.patch.start)) h.entries k.f k.in_f
-          (and_from _ _ (eq-eqb _ _ k.class_f) (covers-to k.f.patch (max k.e.patch.start k.f.patch.start) (omega arith) (omega arith)))) in
+          let p = and_parts (nat_lt k.to.patch.no k.from.patch.no) (shares_byte k.from.patch k.to.patch) v in
+          let w = and_parts (k.from.patch.block == k.to.patch.block) (nat_lt (max k.from.patch.start k.to.patch.start) (min (end k.from.patch) (end k.to.patch))) p.1 in
+          let less : max k.from.patch.start k.to.patch.start < min (end k.from.patch) (end k.to.patch) = ltb-true _ _ w.1 in
+          let x : ℕ = max k.from.patch.start k.to.patch.start in
+          let in_c = spans-at c (max k.from.patch.start k.to.patch.start) (r.span (max k.from.patch.start k.to.patch.start)
+          ∙ list_any-from (λ g. g.class == c.name && covers g.patch (max k.from.patch.start k.to.patch.start)) h.entries k.from k.in_from
+          (and_from _ _ (eq-eqb _ _ k.name_from) (covers-to k.from.patch (max k.from.patch.start k.to.patch.start) (omega arith) (omega arith)))) in
+          let in_d = spans-at d (max k.from.patch.start k.to.patch.start) (s.span (max k.from.patch.start k.to.patch.start)
+          ∙ list_any-from (λ g. g.class == d.name && covers g.patch (max k.from.patch.start k.to.patch.start)) h.entries k.to k.in_to
+          (and_from _ _ (eq-eqb _ _ k.name_to) (covers-to k.to.patch (max k.from.patch.start k.to.patch.start) (omega arith) (omega arith)))) in
           or_left _ (names c d) (and_from _ _ (lt-ltb c.start d.stop (omega (arith, in_c, in_d))) (lt-ltb d.start c.stop (omega (arith, in_c, in_d))))
     ]
 

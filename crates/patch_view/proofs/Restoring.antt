@@ -1,11 +1,13 @@
 -- Putting every class back, the lowest place first.
-use Rattle.std.proofs.Common.{◌≡◌, ℕ, zero, suc, ◌<◌, ◌≤◌, ◌∙◌, true, false, not, inl, inr, Bool, List, [], ◌∷◌, length, map, refl, sym, ap, arith, subst, get_or-set_same, get_or-set_other}
+use Rattle.std.proofs.Common.{◌≡◌, ℕ, zero, suc, ◌<◌, ◌≤◌, ◌∙◌, true, false, not, inl, inr, List, [], ◌∷◌, length, map, refl, sym, ap, arith, subst, get_or-set_same, get_or-set_other}
 use Rattle.std.specs.Prelude.{◌&&◌, ◌||◌, ◌≢◌, slice_index_or, slice_set}
 use Rattle.std.proofs.lemmas.Bool.{cases_Bool, cases_lt, le-ltb, and_left, and_right, or_left, both_ways, eqb-true, eq-eqb, false_from_ne_true}
 use Rattle.std.proofs.lemmas.List.{length-set}
 use Rattle.patch_model.specs.Entry.{is_durable, is_memory, is_among, is_undoable}
 use Rattle.patch_model.specs.Member.{list_any-at}
 use Rattle.patch_model.specs.History.{History, moved, Back}
+use Rattle.patch_view.specs.declared.classes.Turn.{Turn}
+use Rattle.patch_view.specs.declared.classes.Turn.TheVariants.{PutBack}
 use Rattle.patch_view.proofs.Sets.{upper, none-held}
 use Rattle.patch_view.specs.History.{unpatched}
 use Rattle.patch_view.specs.State.{Class, Block, class_at, no_class, may_be_taken, follows, meets, names, hinders, exchanged_at, exchanged_with, restored_to, outline, bare}
@@ -20,8 +22,8 @@ outline-set [] at c within e = refl
 outline-set (d ∷ ds) zero c within e = ap (λ z. z ∷ map bare ds) e
 outline-set (d ∷ ds) (suc at) c within e = ap (λ z. bare d ∷ z) (outline-set ds at c (omega arith) e)
 
-pub outline-exchanged : (b : Block) (at : ℕ) (mark : Bool) → at < length b.classes → outline (exchanged_at b at mark) ≡ outline b
-outline-exchanged b at mark within = outline-set b.classes at (exchanged_with (class_at b at) b.bytes mark) within refl
+pub outline-exchanged : (b : Block) (at : ℕ) (turn : Turn) → at < length b.classes → outline (exchanged_at b at turn) ≡ outline b
+outline-exchanged b at turn within = outline-set b.classes at (exchanged_with (class_at b at) b.bytes turn) within refl
 
 pub length-restored_to : (n : ℕ) (b : Block) → length (restored_to n b).classes ≡ length b.classes
 length-restored_to zero b = refl
@@ -33,7 +35,7 @@ length-restored_to (suc n) b = elim (cases_Bool (class_at (restored_to n b) n).t
 pub outline-restored_to : (n : ℕ) (b : Block) → n ≤ length b.classes → outline (restored_to n b) ≡ outline b
 outline-restored_to zero b fits = refl
 outline-restored_to (suc n) b fits = elim (cases_Bool (class_at (restored_to n b) n).taken) [
-  | inl on ↦ let l = length-restored_to n b in rw on (outline-exchanged (restored_to n b) n false (omega arith) ∙ outline-restored_to n b (omega arith))
+  | inl on ↦ let l = length-restored_to n b in rw on (outline-exchanged (restored_to n b) n PutBack (omega arith) ∙ outline-restored_to n b (omega arith))
   | inr off ↦ rw off (outline-restored_to n b (omega arith))
 ]
 
@@ -56,26 +58,26 @@ pub record IsRestoredTo (n : ℕ) (b : Block) (h : History) : Type 0 where
 -- nothing keeps the lowest class that is taken from going back
 lowest-free : (b : Block) (taken : List ℕ) (h : History) (n : ℕ) → Represents b taken h → n < length b.classes
     → ((i : ℕ) → i < n → (class_at b i).taken ≡ false)
-    → (k : ℕ) → k < length b.classes → hinders false b n k ≡ false
+    → (k : ℕ) → k < length b.classes → hinders PutBack b n k ≡ false
 lowest-free b taken h n r within applied k w_k = elim (cases_lt k n) [
   | inl before ↦ and_left _ (follows b n k) (applied k before)
   | inr from ↦ and_right (class_at b k).taken _ (and_left _ (meets (class_at b n) (class_at b k) || names (class_at b n) (class_at b k)) (le-ltb k n from))
 ]
 
 restore_step : (n : ℕ) (b : Block) (h : History) → n < length b.classes → IsRestoredTo n b h → (class_at b n).taken ≡ true
-    → IsRestoredTo (suc n) (exchanged_at b n false) h
+    → IsRestoredTo (suc n) (exchanged_at b n PutBack) h
 restore_step n b h within r on =
     let may = taken-may b r.taken h n r.represents within on in
     let step = putting_back b r.taken h n r.represents within on (lowest-free b r.taken h n r.represents within r.applied) in
     record {
       taken = moved r.taken (Back (class_at b n).name);
-      represents = exchanged-represents b r.taken (moved r.taken (Back (class_at b n).name)) h n false r.represents within may
+      represents = exchanged-represents b r.taken (moved r.taken (Back (class_at b n).name)) h n PutBack r.represents within may
           (back-exchange h (class_at b n).name (moved r.taken (Back (class_at b n).name)) r.taken r.represents.coherent step);
       applied = λ i lt. elim (cases_lt i n) [
         | inl before ↦ let ne : i ≢ n = omega arith in
-            ap (λ c. c.taken) (get_or-set_other b.classes n i (exchanged_with (class_at b n) b.bytes false) no_class ne) ∙ r.applied i before
+            ap (λ c. c.taken) (get_or-set_other b.classes n i (exchanged_with (class_at b n) b.bytes PutBack) no_class ne) ∙ r.applied i before
         | inr here ↦ let e : i ≡ n = omega arith in
-            rw e (ap (λ c. c.taken) (get_or-set_same b.classes n (exchanged_with (class_at b n) b.bytes false) no_class within))
+            rw e (ap (λ c. c.taken) (get_or-set_same b.classes n (exchanged_with (class_at b n) b.bytes PutBack) no_class within))
       ];
     }
 

@@ -3,11 +3,11 @@ use Rattle.std.proofs.Common.{◌≡◌, ℕ, zero, suc, ◌+◌, ◌-◌, ◌<�
 use Rattle.std.specs.Prelude.{◌==◌, ◌&&◌, filter, slice_index_or, if◌then◌else◌}
 use Rattle.std.proofs.lemmas.Bool.{cases_Bool, and_parts, or_cases, or_left, or_right, eqb-true, eq-eqb}
 use Rattle.std.proofs.lemmas.List.{ext_get_or}
+use Rattle.std.specs.Cmp.{both_ways as same_bool}
 use Rattle.patch_model.specs.Pile.{pile}
 use Rattle.patch_model.specs.Entry.{Entry, is_among, is_undoable, is_memory, marks_memory}
 use Rattle.patch_model.specs.Member.{In, In-filter, filter-In}
 use Rattle.patch_model.specs.History.{History, without}
-use Rattle.patch_view.proofs.Sets.{same_bool}
 use Rattle.patch_view.specs.History.{IsCoherent, below, top, undoable_classes}
 use Rattle.patch_view.specs.State.{Class, Block, class_at, no_class, spans, may_be_taken, bare}
 use Rattle.patch_view.specs.Meaning.{IsClassOf}

@@ -1,8 +1,9 @@
 -- Sets of classes that hold their dependents, and which classes depend on which.
-use Rattle.std.proofs.Common.{◌≡◌, inl, inr, ℕ, ◌<◌, ◌∙◌, true, false, not, Bool, List, length, sym, ap, [], arith}
+use Rattle.std.proofs.Common.{◌≡◌, ℕ, ◌<◌, ◌∙◌, true, false, not, Bool, List, length, sym, ap, [], arith}
 use Rattle.std.specs.Prelude.{◌==◌, ◌&&◌, ◌≢◌}
 use Rattle.std.specs.List.{list_any}
-use Rattle.std.proofs.lemmas.Bool.{cases_Bool, both_ways, false_from_ne_true, eqb-true, eq-eqb, ne_eqb, not_from_false, not-true, and_right}
+use Rattle.std.proofs.lemmas.Bool.{eqb-true, eq-eqb, ne_eqb, not_from_false, not-true, and_right}
+use Rattle.patch_model.specs.Link.{some_depends}
 use Rattle.patch_model.specs.Entry.{Entry, is_durable, is_among, is_undoable, marks_memory}
 use Rattle.patch_model.specs.Dependency.{depends_directly, class_depends}
 use Rattle.patch_model.specs.Member.{In, In-from_Contains, Contains-from_In, list_any-at, list_any-from}
@@ -10,12 +11,6 @@ use Rattle.patch_model.specs.History.{History, HoldsDependents}
 use Rattle.patch_view.specs.History.{IsCoherent}
 use Rattle.patch_view.specs.State.{Block, class_at}
 use Rattle.patch_view.specs.Meaning.{Represents}
-
-pub same_bool : (a b : Bool) → (a ≡ true → b ≡ true) → (b ≡ true → a ≡ true) → a ≡ b
-same_bool a b f g = elim (cases_Bool a) [
-  | inl t ↦ t ∙ sym (f t)
-  | inr t ↦ t ∙ sym (false_from_ne_true _ (λ u. both_ways _ t (g u)))
-]
 
 -- whole undoable classes, in which stands each class that isn't durable and depends directly on one of them
 pub record IsUpper (h : History) (names : List ℕ) : Type 0 where
@@ -46,7 +41,7 @@ upper {b} {taken} {h} r = upper-from h taken r.coherent r.holds
 
 -- a patch of the class a depends directly on one of the class c
 abbrev pub class_depends_on : History → ℕ → ℕ → Bool
-class_depends_on h a c = list_any (λ e. e.class == a && list_any (λ f. f.class == c && depends_directly e.patch f.patch) h.entries) h.entries
+class_depends_on h a c = some_depends h.entries a c
 
 pub class_depends-apart : (h : History) (a c : ℕ) → a ≢ c → class_depends h.entries a c ≡ class_depends_on h a c
 class_depends-apart h a c apart = ap (λ z. not z && class_depends_on h a c) (ne_eqb a c apart)

@@ -3,10 +3,12 @@ use Rattle.std.proofs.Common.{◌≡◌, ℕ, suc, ◌<◌, ◌∙◌, true, fal
 use Rattle.std.specs.Prelude.{◌==◌, ◌&&◌, ◌||◌, ◌≢◌, filter, slice_index_or}
 use Rattle.std.specs.List.{list_any}
 use Rattle.std.proofs.lemmas.Bool.{cases_Bool, and_from, or_cases, or_left, or_right, both_ways, eqb-true, eq-eqb, ne_eqb, cases_eq, not_from_false, true_from_ne_false}
+use Rattle.patch_model.specs.Link.{some-Link}
 use Rattle.patch_model.specs.Entry.{Entry, is_durable, is_among}
 use Rattle.patch_model.specs.Dependency.{depends_directly}
-use Rattle.patch_model.specs.Member.{In, list_any-from}
+use Rattle.patch_model.specs.Member.{In}
 use Rattle.patch_model.specs.History.{History}
+use Rattle.patch_view.specs.declared.classes.Turn.TheVariants.{Take, PutBack}
 use Rattle.patch_view.proofs.Sets.{upper, class_depends_on}
 use Rattle.patch_view.proofs.Resting.{linked}
 use Rattle.patch_view.specs.State.{Class, Block, class_at, no_class, may_be_taken, follows, hinders}
@@ -24,10 +26,7 @@ record_named (c ∷ cs) n t = elim (cases_Bool (c.name == n)) [
 
 pub depends-from : (h : History) (e f : Entry) → In h.entries e → In h.entries f → depends_directly e.patch f.patch ≡ true
     → class_depends_on h e.class f.class ≡ true
-depends-from h e f i j d =
-    list_any-from (λ g. g.class == e.class && list_any (λ k. k.class == f.class && depends_directly g.patch k.patch) h.entries) h.entries e i
-    (and_from _ _ (eq-eqb e.class e.class refl)
-    (list_any-from (λ k. k.class == f.class && depends_directly e.patch k.patch) h.entries f j (and_from _ _ (eq-eqb f.class f.class refl) d)))
+depends-from h e f i j d = some-Link h.entries e.class f.class e f i j refl refl d
 
 -- each of these is one of the block's live classes: its record
 pub record_of : (b : Block) (taken : List ℕ) (h : History) (e : Entry) → Represents b taken h → In h.entries e → is_durable e ≡ false
@@ -37,7 +36,7 @@ record_of b taken h e r i low = record_named b.classes e.class (r.complete e i l
 -- taking the class of a record that nothing keeps from it
 pub taking : (b : Block) (taken : List ℕ) (h : History) (at : ℕ) → Represents b taken h → at < length b.classes
     → may_be_taken (class_at b at) ≡ true → (class_at b at).taken ≡ false
-    → ((k : ℕ) → k < length b.classes → hinders true b at k ≡ false)
+    → ((k : ℕ) → k < length b.classes → hinders Take b at k ≡ false)
     → IsStep h (class_at b at).name taken ((class_at b at).name ∷ taken)
 taking b taken h at r within may out none =
     let c = r.classes at within in
@@ -98,7 +97,7 @@ among-left n c xs t =
 -- putting back the class of a record that nothing keeps from it
 pub putting_back : (b : Block) (taken : List ℕ) (h : History) (at : ℕ) → Represents b taken h → at < length b.classes
     → (class_at b at).taken ≡ true
-    → ((k : ℕ) → k < length b.classes → hinders false b at k ≡ false)
+    → ((k : ℕ) → k < length b.classes → hinders PutBack b at k ≡ false)
     → IsStep h (class_at b at).name (filter (λ n. not (n == (class_at b at).name)) taken) taken
 putting_back b taken h at r within in_it none =
     let c = r.classes at within in

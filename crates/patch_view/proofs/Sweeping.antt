@@ -3,9 +3,12 @@ use Rattle.std.proofs.Common.{◌≡◌, ℕ, zero, suc, ◌-◌, ◌<◌, ◌�
 use Rattle.std.specs.Prelude.{◌&&◌, ◌||◌, filter, nat_lt}
 use Rattle.std.proofs.lemmas.Bool.{cases_Bool, le-ltb, cases_eq, cases_order, and_parts, and_from, both_ways, not_from_false, not-true, false_from_ne_true, true_from_ne_false}
 use Rattle.std.proofs.lemmas.List.{length-set}
+use Rattle.std.specs.Cmp.{both_ways as same_bool}
+use Rattle.patch_model.specs.Link.{Link-at}
 use Rattle.patch_model.specs.Entry.{Entry, is_durable, is_memory, is_among, is_undoable}
 use Rattle.patch_model.specs.Member.{In, In-from_Contains, Contains-from_In, filter-In}
 use Rattle.patch_model.specs.History.{History, HoldsDependents}
+use Rattle.patch_view.specs.declared.classes.Turn.TheVariants.{Take}
 use Rattle.patch_view.specs.History.{undoable_classes}
 use Rattle.patch_view.specs.State.{Block, class_at, no_class, may_be_taken, is_left, follows, meets, names, hinders, exchanged_at, exchanged_with, swept_to, outline}
 use Rattle.patch_view.specs.Meaning.{Represents}
@@ -13,8 +16,7 @@ use Rattle.patch_view.specs.Laws.{NameTheSame}
 use Rattle.patch_view.proofs.Chain.{undoable-not_durable}
 use Rattle.patch_view.proofs.Steps.{record_of, taking}
 use Rattle.patch_view.proofs.Exchange.{exchanged-represents, take-exchange, others-kept}
-use Rattle.patch_view.proofs.Resting.{link, linked_as, follows-apart}
-use Rattle.patch_view.proofs.Sets.{same_bool}
+use Rattle.patch_view.proofs.Resting.{linked_as, follows-apart}
 use Rattle.patch_view.proofs.Same.{same_names_same_bytes, among-undoable, map-among}
 use Rattle.patch_view.proofs.Restoring.{outline-exchanged}
 
@@ -55,7 +57,7 @@ record_soft b taken h k e r w i is may =
 -- nothing keeps the highest class that is left from being taken
 highest-free : (n : ℕ) (b : Block) (h : History) → n < length b.classes → HoldsDependents h (undoable_classes h) → (s : IsSweptTo (suc n) b h)
     → may_be_taken (class_at b n) ≡ true
-    → (k : ℕ) → k < length b.classes → hinders true b n k ≡ false
+    → (k : ℕ) → k < length b.classes → hinders Take b n k ≡ false
 highest-free n b h within holds s may k w_k = false_from_ne_true _ (λ t.
     let r = s.represents in
     let p = and_parts (not (class_at b k).taken) (follows b k n) t in
@@ -65,30 +67,30 @@ highest-free n b h within holds s may k w_k = false_from_ne_true _ (λ t.
       | inr o ↦ elim o [
         | inl before ↦ both_ways _ (le-ltb n k (omega arith)) (and_parts (nat_lt n k) (meets (class_at b k) (class_at b n) || names (class_at b k) (class_at b n)) p.1).0
         | inr behind ↦
-            let d = link h (class_at b k).name (class_at b n).name (sym (linked_as r k n w_k within apart) ∙ p.1) in
-            let soft_f = record_soft b s.taken h n d.f r within d.in_f d.class_f may in
-            let inside : is_among (undoable_classes h) d.f.class ≡ true = among-undoable h d.f r.coherent d.in_f ∙ soft_f in
-            let low : is_durable d.e ≡ false = ((r.classes k w_k).marked d.e d.in_e d.class_e).0 in
-            let also = holds.dependents d.e d.f (Contains-from_In h.entries d.e d.in_e) (Contains-from_In h.entries d.f d.in_f) (not_from_false _ low) d.goes inside in
-            let soft_e : is_undoable d.e ≡ true = sym (among-undoable h d.e r.coherent d.in_e) ∙ also in
-            both_ways _ (not-true _ p.0) (s.swept k behind w_k (soft_record b s.taken h k d.e r w_k d.in_e d.class_e soft_e))
+            let d = Link-at h.entries (class_at b k).name (class_at b n).name (sym (linked_as r k n w_k within apart) ∙ p.1) in
+            let soft_f = record_soft b s.taken h n d.to r within d.in_to d.name_to may in
+            let inside : is_among (undoable_classes h) d.to.class ≡ true = among-undoable h d.to r.coherent d.in_to ∙ soft_f in
+            let low : is_durable d.from ≡ false = ((r.classes k w_k).marked d.from d.in_from d.name_from).0 in
+            let also = holds.dependents d.from d.to (Contains-from_In h.entries d.from d.in_from) (Contains-from_In h.entries d.to d.in_to) (not_from_false _ low) d.depends inside in
+            let soft_e : is_undoable d.from ≡ true = sym (among-undoable h d.from r.coherent d.in_from) ∙ also in
+            both_ways _ (not-true _ p.0) (s.swept k behind w_k (soft_record b s.taken h k d.from r w_k d.in_from d.name_from soft_e))
       ]
     ])
 
 sweep_step : (n : ℕ) (b : Block) (h : History) → n < length b.classes → HoldsDependents h (undoable_classes h) → IsSweptTo (suc n) b h
-    → is_left (class_at b n) ≡ true → IsSweptTo n (exchanged_at b n true) h
+    → is_left (class_at b n) ≡ true → IsSweptTo n (exchanged_at b n Take) h
 sweep_step n b h within holds s left =
     let p = and_parts (may_be_taken (class_at b n)) (not (class_at b n).taken) left in
     let step = taking b s.taken h n s.represents within p.0 (not-true _ p.1) (highest-free n b h within holds s p.0) in
-    let l = length-set b.classes n (exchanged_with (class_at b n) b.bytes true) in
+    let l = length-set b.classes n (exchanged_with (class_at b n) b.bytes Take) in
     record {
       taken = (class_at b n).name ∷ s.taken;
-      represents = exchanged-represents b s.taken ((class_at b n).name ∷ s.taken) h n true s.represents within p.0
+      represents = exchanged-represents b s.taken ((class_at b n).name ∷ s.taken) h n Take s.represents within p.0
           (take-exchange h (class_at b n).name s.taken ((class_at b n).name ∷ s.taken) s.represents.coherent step);
       swept = λ i from w may. elim (cases_eq i n) [
-        | inl e ↦ rw (e, get_or-set_same b.classes n (exchanged_with (class_at b n) b.bytes true) no_class within) refl
+        | inl e ↦ rw (e, get_or-set_same b.classes n (exchanged_with (class_at b n) b.bytes Take) no_class within) refl
         | inr ne ↦
-            let same : class_at (exchanged_at b n true) i ≡ class_at b i = get_or-set_other b.classes n i (exchanged_with (class_at b n) b.bytes true) no_class ne in
+            let same : class_at (exchanged_at b n Take) i ≡ class_at b i = get_or-set_other b.classes n i (exchanged_with (class_at b n) b.bytes Take) no_class ne in
             ap (λ c. c.taken) same ∙ s.swept i (omega arith) (omega arith) (ap may_be_taken (sym same) ∙ may)
       ];
     }
@@ -116,7 +118,7 @@ pub outline-swept_to : (n : ℕ) (b : Block) → n ≤ length b.classes → outl
 outline-swept_to zero b fits = refl
 outline-swept_to (suc n) b fits = elim (cases_Bool (is_left (class_at (swept_to n b) (length b.classes - suc n)))) [
   | inl on ↦ let l = length-swept_to n b in
-      rw on (outline-exchanged (swept_to n b) (length b.classes - suc n) true (omega arith) ∙ outline-swept_to n b (omega arith))
+      rw on (outline-exchanged (swept_to n b) (length b.classes - suc n) Take (omega arith) ∙ outline-swept_to n b (omega arith))
   | inr off ↦ rw off (outline-swept_to n b (omega arith))
 ]
 

@@ -6,10 +6,11 @@ use Rattle.std.proofs.lemmas.Bool.{cases_Bool, cases_eq, cases_lt, both_ways, eq
 use Rattle.std.proofs.lemmas.List.{length-map, length-set, get_or-map, get_or_default}
 use Rattle.std.proofs.lemmas.List.Elements.{All-filter, filter_passes, Contains-get_or}
 use Rattle.std.proofs.lemmas.List.Kept.{AllPairs-filter}
+use Rattle.patch_model.specs.Marked.{memory-not_durable}
 use Rattle.patch_model.specs.declared.patches.Mark.{Mark}
 use Rattle.patch_model.specs.declared.patches.Mark.TheVariants.{Memory, Flight, Durable}
 use Rattle.patch_model.specs.Entry.{Entry, is_durable, is_memory, is_flight, is_among, marks_memory, marks_durable, marks_flight}
-use Rattle.patch_model.specs.Member.{In, In-from_Contains, Contains-from_In, In-filter, list_any-from}
+use Rattle.patch_model.specs.Member.{In, In-from_Contains, Contains-from_In, In-filter, list_any-from, map-In}
 use Rattle.patch_model.specs.History.{History}
 use Rattle.patch_model.specs.Orderly.{IsOrderlyBlock}
 use Rattle.patch_model.specs.Ready.{has}
@@ -18,10 +19,9 @@ use Rattle.patch_view.specs.History.{IsCoherent, MayDepart}
 use Rattle.patch_view.specs.State.{Class, Block, class_at, no_class, departed_among, MayHaveDeparted, HasDeparted, with_departed, with_landed}
 use Rattle.patch_view.specs.Meaning.{IsClassOf, Represents}
 use Rattle.patch_view.proofs.Sets.{class_depends_on, none-held, never-from, ordered_on}
-use Rattle.patch_view.proofs.Chain.{memory-not_durable}
 use Rattle.patch_view.proofs.Steps.{record_of}
 use Rattle.patch_view.proofs.Lawful.{flight_may_land}
-use Rattle.patch_view.proofs.Marking.{IsMarking, AreMarks, changed, In-map, any-map, depends-changed, without-changed, orderly-changed, re-class}
+use Rattle.patch_view.proofs.Marking.{IsMarking, AreMarks, changed, any-map, depends-changed, without-changed, orderly-changed, re-class}
 
 -- Put in flight.
 
@@ -124,7 +124,7 @@ departs_together b h numbers set r may =
       bytes = r.bytes ∙ sym (without-changed (sent set) h m);
       classes = λ i h_i. let w : i < length b.classes = rw long at h_i in
           subst (IsClassOf H []) (sym (at_ i w)) (departed-class h numbers set (class_at b i) may (r.classes i w));
-      complete = λ y i low. let q = In-map (sent set) h.entries y i in
+      complete = λ y i low. let q = map-In (sent set) h.entries y i in
           let live : is_durable q.0 ≡ false = elim (cases_Bool (has set q.0)) [
             | inl t ↦ memory-not_durable q.0.mark (may.memory q.0 q.1 t)
             | inr t ↦ ap is_durable (sym (sent-out set q.0 t) ∙ q.2) ∙ low
@@ -217,7 +217,7 @@ lands_together b h block r o =
       bytes = r.bytes ∙ sym (without-changed (landed block) h m);
       classes = λ i w. grounded-class h block (class_at (with_landed b) i) (filter_passes stays b.classes i no_class w)
           (All-filter stays (IsClassOf h []) b.classes each i no_class w);
-      complete = λ y i low. let q = In-map (landed block) h.entries y i in
+      complete = λ y i low. let q = map-In (landed block) h.entries y i in
           let out : is_flight q.0 ≡ false = elim (cases_Bool (is_flight q.0)) [
             | inl t ↦ absurd (both_ways _ low (ap is_durable (sym q.2) ∙ ap marks_durable (landed-in block q.0 (in_block h block o q.0 q.1) t)))
             | inr t ↦ t

@@ -1,13 +1,14 @@
 -- What the calls of a view answer.
-use Rattle.std.specs.Prelude.{ℕ, ◌≡◌, IsTrue, IsFalse, List, Some, None, Result, MatchResult}
+use Rattle.std.specs.Prelude.{ℕ, ◌≡◌, ◌↔◌, IsTrue, IsFalse, List, [], Some, None, Result, MatchResult, IsOk}
 use Rattle.patch_model.specs.Entry.{Entry, is_among, is_undoable}
 use Rattle.patch_model.specs.Member.{In}
-use Rattle.patch_model.specs.History.{History, HoldsDependents, Take, Back, moved}
+use Rattle.patch_model.specs.History.{History, HoldsDependents, Take, Back, moved, without}
 use Rattle.patch_model.specs.Refusing.{why_not_taken, why_not_put_back, class_named}
 use Rattle.patch_view.specs.declared.refusals.TakeRefusal.{TakeRefusal}
 use Rattle.patch_view.specs.declared.refusals.PutBackRefusal.{PutBackRefusal}
 use Rattle.patch_view.specs.Refusal.{take_cause, put_back_cause}
-use Rattle.patch_view.specs.State.{Block}
+use Rattle.patch_view.specs.State.{Block, outline}
+use Rattle.patch_view.specs.History.{undoable_classes}
 use Rattle.patch_view.specs.Meaning.{Represents}
 
 -- the block's patch of this number
@@ -49,3 +50,37 @@ IsTakeAnswer h taken number new result =
 abbrev pub IsPutBackAnswer : {X : Type 0} → History → List ℕ → ℕ → Block → Result X PutBackRefusal → Type 0
 IsPutBackAnswer h taken number new result =
     MatchResult result (λ done. IsPutBack h taken number new) (λ refusal. why_not_put_back h taken number ≡ Some (put_back_cause refusal))
+
+-- a take of a block answers so, whatever history its records represent, and whichever classes are taken
+abbrev pub AnswersTake : {X : Type 0} → Block → ℕ → Block → Result X TakeRefusal → Type 0
+AnswersTake old number new result = (h : History) (taken : List ℕ) → Represents old taken h → IsTakeAnswer h taken number new result
+
+-- and it is done just where the class may be taken
+abbrev pub AcceptsTake : {X : Type 0} → Block → ℕ → Result X TakeRefusal → Type 0
+AcceptsTake old number result = (h : History) (taken : List ℕ) → Represents old taken h → IsOk result ↔ MayTake h taken number
+
+-- a put back likewise
+abbrev pub AnswersPutBack : {X : Type 0} → Block → ℕ → Block → Result X PutBackRefusal → Type 0
+AnswersPutBack old number new result = (h : History) (taken : List ℕ) → Represents old taken h → IsPutBackAnswer h taken number new result
+
+abbrev pub AcceptsPutBack : {X : Type 0} → Block → ℕ → Result X PutBackRefusal → Type 0
+AcceptsPutBack old number result = (h : History) (taken : List ℕ) → Represents old taken h → IsOk result ↔ MayPutBack h taken number
+
+-- all undoable classes are taken, if together they hold their dependents
+abbrev pub TakesAll : Block → Block → Type 0
+TakesAll old new =
+    (h : History) (taken : List ℕ) → Represents old taken h → HoldsDependents h (undoable_classes h) → Represents new (undoable_classes h) h
+
+-- nothing is taken any more
+abbrev pub PutsAllBack : Block → Block → Type 0
+PutsAllBack old new = (h : History) (taken : List ℕ) → Represents old taken h → Represents new [] h
+
+-- the block is the one before all takes
+abbrev pub IsAsBefore : Block → Block → Type 0
+IsAsBefore old new =
+    (h : History) (taken : List ℕ) (before : Block)
+    → Represents old taken h → Represents before [] h → outline before ≡ outline old → new ≡ before
+
+-- these are the block's bytes without the classes that are taken
+abbrev pub Shows : Block → List ℕ → Type 0
+Shows b bytes = (h : History) (taken : List ℕ) → Represents b taken h → bytes ≡ without h taken

@@ -3,5 +3,6 @@ pub mod State
 pub mod Meaning
 pub mod Refusal
 pub mod Answers
+pub mod Changes
 pub mod View
 pub mod Laws

@@ -2,6 +2,8 @@
 use Rattle.std.specs.Prelude.{ℕ, Bool, true, false, ◌≡◌, ◌<◌, ◌≤◌, Some, None, ◌+◌, ◌&&◌, ◌||◌, not, nat_le, nat_lt, List, [], ◌∷◌, ◌++◌, ◌⊎◌, length, take, drop, slice_range, slice_index_or, slice_set, replicate, min, max, ◌-◌, Option, position, zero, suc, map, filter, if◌then◌else◌, IsPermutation}
 use Rattle.std.specs.List.{list_any, remove, insert}
 use Rattle.patch_model.specs.Entry.{is_among}
+use Rattle.patch_view.specs.declared.classes.Turn.{Turn}
+use Rattle.patch_view.specs.declared.classes.Turn.TheVariants.{Take, PutBack}
 
 -- a live class: its name and members, its span, the bytes that the block would have there in the other state, the numbers
 -- that its members name, whether it is in flight, whether it is hard, and whether it is taken back
@@ -47,11 +49,11 @@ follows b i j = nat_lt j i && (meets (class_at b i) (class_at b j) || names (cla
 abbrev pub place_of : Block → ℕ → Option ℕ
 place_of b number = position (λ c. is_among c.members number) b.classes
 
--- What keeps the class at a place from being taken, where true: the one at the place k depends directly on it and isn't
--- taken. And from being put back, where false: it depends directly on the one at the place k, which is taken.
-abbrev pub hinders : Bool → Block → ℕ → ℕ → Bool
-hinders true b at k = not (class_at b k).taken && follows b k at
-hinders false b at k = (class_at b k).taken && follows b at k
+-- What keeps the class at a place from being taken: the one at the place k depends directly on it and isn't taken. And from
+-- being put back: it depends directly on the one at the place k, which is taken.
+abbrev pub hinders : Turn → Block → ℕ → ℕ → Bool
+hinders Take b at k = not (class_at b k).taken && follows b k at
+hinders PutBack b at k = (class_at b k).taken && follows b at k
 
 -- among the first n places, the least name of a class at one that passes
 abbrev pub IsLeastBelow : (ℕ → Bool) → Block → ℕ → Option ℕ → Type 0
@@ -66,18 +68,23 @@ IsLeast p b o = IsLeastBelow p b (length b.classes) o
 abbrev pub laid_on : Class → List ℕ → List ℕ
 laid_on c bytes = take c.start bytes ++ c.saved ++ drop (c.start + length c.saved) bytes
 
+-- whether a class is taken after the turn
+abbrev pub leaves_taken : Turn → Bool
+leaves_taken Take = true
+leaves_taken PutBack = false
+
 -- the class with the bytes that were there
-abbrev pub exchanged_with : Class → List ℕ → Bool → Class
-exchanged_with c bytes mark = record c { saved = slice_range bytes c.start (c.start + length c.saved); taken = mark }
+abbrev pub exchanged_with : Class → List ℕ → Turn → Class
+exchanged_with c bytes turn = record c { saved = slice_range bytes c.start (c.start + length c.saved); taken = leaves_taken turn }
 
 -- the block with one class exchanged
-abbrev pub exchanged_at : Block → ℕ → Bool → Block
-exchanged_at b at mark = record { bytes = laid_on (class_at b at) b.bytes; classes = slice_set b.classes at (exchanged_with (class_at b at) b.bytes mark) }
+abbrev pub exchanged_at : Block → ℕ → Turn → Block
+exchanged_at b at turn = record { bytes = laid_on (class_at b at) b.bytes; classes = slice_set b.classes at (exchanged_with (class_at b at) b.bytes turn) }
 
 -- with the first n classes put back, the lowest place first
 abbrev pub restored_to : ℕ → Block → Block
 restored_to zero b = b
-restored_to (suc n) b = let r = restored_to n b in if (class_at r n).taken then exchanged_at r n false else r
+restored_to (suc n) b = let r = restored_to n b in if (class_at r n).taken then exchanged_at r n PutBack else r
 
 -- the class may be taken and isn't
 abbrev pub is_left : Class → Bool
@@ -89,7 +96,7 @@ swept_to zero b = b
 swept_to (suc n) b =
     let r = swept_to n b in
     let at = length b.classes - suc n in
-    if is_left (class_at r at) then exchanged_at r at true else r
+    if is_left (class_at r at) then exchanged_at r at Take else r
 
 -- what a view leaves of the records: all but the saved bytes, and that a class is taken
 abbrev pub bare : Class → Class

@@ -1,18 +1,19 @@
 //! What becomes of a block's records as patches are made, merged, sent and completed.
-ghost use Rattle.std.specs.Prelude.{◌≡◌, ◌+◌, ◌<◌, ◌≤◌, length, map, [], IfOk, OnOk, OnErr, ℕ, List, None, true, false, IsTrue, IsFalse};
+ghost use Rattle.std.specs.Prelude.{◌≡◌, ◌+◌, ◌<◌, ◌≤◌, length, map, [], IfOk, OnOk, OnErr, ℕ, None, true, false, IsTrue, IsFalse};
 ghost use Rattle.std.specs.List.Sorted.{IsNonDecreasing};
-ghost use Rattle.patch_model.specs.declared.patches.Undo.{Undo};
 ghost use Rattle.patch_model.specs.declared.patches.Mark.TheVariants.{Flight, Durable};
 ghost use Rattle.patch_model.specs.Entry.{Entry, is_memory};
 ghost use Rattle.patch_model.specs.History.{History};
-ghost use Rattle.patch_model.specs.Orderly.{IsOrderlyBlock, MayJoin};
-ghost use Rattle.patch_model.specs.State.{sent, landed};
-ghost use Rattle.patch_view.specs.State.{Block, class_at, follows, with_laid, IsLaid, without_newest, with_newest_hard, departed_at, landed_at, with_departed, HasDeparted, with_one_departed, with_one_landed, with_landed, moved_down, IsMerged, settled_at, IsJoint, IsJointAt, has_places};
-ghost use Rattle.patch_view.specs.History.{unpatched, IsNext, MayDepart, MayLand, laid, made, with_mark, with_joined};
+ghost use Rattle.patch_model.specs.Orderly.{IsOrderlyBlock};
+ghost use Rattle.patch_model.specs.State.{landed};
+ghost use Rattle.patch_view.specs.State.{follows, with_laid, IsLaid, without_newest, with_newest_hard, departed_at, landed_at, with_departed, HasDeparted};
+ghost use Rattle.patch_view.specs.State.{with_one_departed, with_one_landed, with_landed, moved_down, settled_at, IsJoint, IsJointAt, has_places};
+ghost use Rattle.patch_view.specs.History.{unpatched, MayLand, with_mark};
 ghost use Rattle.patch_view.specs.Meaning.{Represents, IsGathered};
 ghost use Rattle.patch_view.specs.Answers.{IsPatch};
+ghost use Rattle.patch_view.specs.Changes.{Lays, Unlays, Hardens, JoinsPlaces, JoinsBy, Joins, DepartsEach};
 
-use crate::classes::{Class, sort};
+use crate::classes::{Class, Turn, sort};
 use crate::spans::swap_span;
 use crate::states::BlockState;
 use patch_model::{BLOCK, BlockBytes, OutOfMemory, PatchNo};
@@ -60,8 +61,7 @@ impl<A: Allocator> BlockState<A> {
     where
         A: Clone,
         requires { start + length bytes.now ≤ BLOCK }
-        ensures answer { (h : History) (block : ℕ) (undo : Undo) → Represents self.old [] h → IsNext h (made no block start bytes.now after.now undo hard)
-            → OnOk result (Represents self.new [] (laid h (made no block start bytes.now after.now undo hard))) }
+        ensures answer { Lays self.old no start bytes.now after.now hard result self.new }
         ensures laid { OnOk result (IsLaid self.old no start bytes.now after.now hard self.new) }
         ensures refused { OnErr result (self.new ≡ self.old) }
     {
@@ -115,6 +115,7 @@ impl<A: Allocator> BlockState<A> {
             swap_span(self.bytes.as_mut_slice(), start, saved.as_mut_slice());
         }
         let class = Class::new(no, members, start, stop, saved, all, hard);
+        // Never refused: the room for it was made above.
         self.classes.push(class).unwrap();
         Ok(())
     }
@@ -123,17 +124,16 @@ impl<A: Allocator> BlockState<A> {
     /// span's bytes, looks at no other record, and takes no memory. A block with no live class stays as it is.
     pub fn unlay(&mut self)
         ensures exact { self.new ≡ without_newest self.old }
-        ensures as_before { (before : Block) (no start : ℕ) (bytes after : List ℕ) → IsLaid before no start bytes after false self.old
-            → length before.bytes ≡ BLOCK → start + length bytes ≤ BLOCK → self.new ≡ before }
+        ensures as_before { Unlays self.old self.new }
     {
-        self.unlay_newest();
+        self.unlay_exactly();
     }
 
-    fn unlay_newest(&mut self)
+    fn unlay_exactly(&mut self)
         ensures { self.new ≡ without_newest self.old }
     {
         if let Some(mut class) = self.classes.pop() {
-            class.exchange(self.bytes.as_mut_slice(), true);
+            class.exchange(self.bytes.as_mut_slice(), Turn::Take);
         }
     }
 
@@ -141,14 +141,12 @@ impl<A: Allocator> BlockState<A> {
     /// block with no live class stays as it is.
     pub fn harden(&mut self)
         ensures exact { self.new ≡ with_newest_hard self.old }
-        ensures answer { (before : Block) (h : History) (no block start : ℕ) (bytes after : List ℕ) (undo : Undo)
-            → IsLaid before no start bytes after false self.old → Represents before [] h → IsNext h (made no block start bytes after undo true)
-            → start + length bytes ≤ BLOCK → Represents self.new [] (laid h (made no block start bytes after undo true)) }
+        ensures answer { Hardens self.old self.new }
     {
-        self.harden_newest();
+        self.harden_exactly();
     }
 
-    fn harden_newest(&mut self)
+    fn harden_exactly(&mut self)
         ensures { self.new ≡ with_newest_hard self.old }
     {
         if let Some(class) = self.classes.last_mut() {
@@ -237,9 +235,7 @@ impl<A: Allocator> BlockState<A> {
         requires less { low < high }
         requires within { high < length self.old.classes }
         ensures bytes { self.new.bytes ≡ self.old.bytes }
-        ensures answer { (h : History) → IsMerged (class_at self.old low) (class_at self.old high) class → Represents self.old [] h
-            → MayJoin h.entries (class_at self.old low).name (class_at self.old high).name
-            → Represents self.new [] (with_joined h (class_at self.old low).name (class_at self.old high).name) }
+        ensures answer { JoinsPlaces self.old low high class self.new }
     {
         let front = self.gather(low, high);
         self.settle(front, high, class);
@@ -270,12 +266,11 @@ impl<A: Allocator> BlockState<A> {
     pub fn join_by(&mut self, joint: Option<Joint<A>>)
         ensures elsewhere { has_places self.old joint ≡ false → self.new ≡ self.old }
         ensures bytes { self.new.bytes ≡ self.old.bytes }
-        ensures answer { (h : History) (a b : ℕ) (e f : Entry) → IsJoint self.old a b joint → Represents self.old [] h
-            → IsPatch h a e → IsPatch h b f → MayJoin h.entries e.class f.class
-            → Represents self.new [] (with_joined h e.class f.class) }
+        ensures answer { JoinsBy self.old joint self.new }
     {
         if let Some(joint) = joint {
             let Joint { low, high, class } = joint;
+            // A joint has two places, one below the other; a block that changed since it was drawn up may lack them.
             if low < high && high < self.len() {
                 self.join_at(low, high, class);
             }
@@ -288,8 +283,7 @@ impl<A: Allocator> BlockState<A> {
     pub fn join(&mut self, a: PatchNo, b: PatchNo) -> Result<(), OutOfMemory>
     where
         A: Clone,
-        ensures answer { (h : History) (e f : Entry) → Represents self.old [] h → IsPatch h a e → IsPatch h b f → MayJoin h.entries e.class f.class
-            → OnOk result (Represents self.new [] (with_joined h e.class f.class)) }
+        ensures answer { Joins self.old a b result self.new }
         ensures one_class { IsJoint self.old a b None → self.new ≡ self.old }
         ensures bytes { self.new.bytes ≡ self.old.bytes }
         ensures refused { OnErr result (self.new ≡ self.old) }
@@ -304,13 +298,12 @@ impl<A: Allocator> BlockState<A> {
     pub fn depart_each(&mut self, numbers: &[PatchNo])
         ensures exact { IsNonDecreasing numbers.now → self.new ≡ with_departed self.old numbers.now }
         ensures named { HasDeparted numbers.now self.old self.new }
-        ensures answer { (h : History) (set : List Entry) → Represents self.old [] h → IsNonDecreasing numbers.now → MayDepart h numbers.now set
-            → Represents self.new [] (record h { entries = map (sent set) h.entries }) }
+        ensures answer { DepartsEach self.old numbers.now self.new }
     {
-        self.depart_among(numbers);
+        self.depart_each_exactly(numbers);
     }
 
-    fn depart_among(&mut self, numbers: &[PatchNo])
+    fn depart_each_exactly(&mut self, numbers: &[PatchNo])
         ensures exact { IsNonDecreasing numbers.now → self.new ≡ with_departed self.old numbers.now }
         ensures named { HasDeparted numbers.now self.old self.new }
     {

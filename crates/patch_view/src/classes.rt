@@ -3,12 +3,32 @@ ghost use Rattle.std.specs.Prelude.{◌≡◌, ◌||◌, ◌+◌, ◌≤◌, ◌
 ghost use Rattle.std.specs.List.{list_any};
 ghost use Rattle.std.specs.List.Sorted.{IsNonDecreasing};
 ghost use Rattle.patch_model.specs.Entry.{is_among};
-ghost use Rattle.patch_view.specs.State.{is_left, laid_on, exchanged_with, meets, names, hardened, departed, departed_among, MayHaveDeparted, merged, IsMerged};
+ghost use Rattle.patch_view.specs.State.{is_left, laid_on, exchanged_with, leaves_taken, meets, names, hardened, departed, departed_among, MayHaveDeparted, merged, IsMerged};
 
 use crate::spans::swap_span;
 use patch_model::{BLOCK, OutOfMemory, PatchNo};
 use std::alloc::{Allocator, Global};
 use std::marker::Model;
+
+/// Which way a class is exchanged.
+#[derive(Clone, Copy)]
+pub(crate) enum Turn {
+    /// It is taken back.
+    Take,
+    /// It is put back.
+    PutBack,
+}
+
+impl Turn {
+    fn leaves_taken(self) -> bool
+        ensures { result ≡ leaves_taken self }
+    {
+        match self {
+            Turn::Take => true,
+            Turn::PutBack => false,
+        }
+    }
+}
 
 /// A live class of the block. The numbers of its members, and those that they name, rise.
 #[derive(Drop)]
@@ -239,15 +259,15 @@ impl<A: Allocator> Class<A> {
     }
 
     /// Exchanges the saved bytes with the block's, and marks the class.
-    pub(crate) fn exchange(&mut self, bytes: &mut [u8], taken: bool)
+    pub(crate) fn exchange(&mut self, bytes: &mut [u8], turn: Turn)
         requires { length bytes.old ≡ 4096 }
         ensures laid { bytes.new ≡ laid_on self.old bytes.old }
-        ensures class { self.new ≡ exchanged_with self.old bytes.old taken }
+        ensures class { self.new ≡ exchanged_with self.old bytes.old turn }
     {
         let start = self.start;
         let saved = self.saved.as_mut_slice();
         swap_span(bytes, start, saved);
-        self.taken = taken;
+        self.taken = turn.leaves_taken();
     }
 }
 

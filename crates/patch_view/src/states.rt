@@ -1,12 +1,11 @@
 //! One block's bytes and the records of its live classes.
-ghost use Rattle.std.specs.Prelude.{◌≡◌, ◌<◌, ◌↔◌, length, [], OnErr, ℕ, List, IsOk};
-ghost use Rattle.patch_model.specs.History.{History, HoldsDependents, without, cached as the_cached};
+ghost use Rattle.std.specs.Prelude.{◌≡◌, ◌<◌, length, [], OnErr};
+ghost use Rattle.patch_model.specs.History.{History, cached as the_cached};
 ghost use Rattle.patch_view.specs.State.{Block, is_left, swept_to, class_at, exchanged_at, follows, hinders, place_of, restored_to, outline, IsLeast};
-ghost use Rattle.patch_view.specs.History.{undoable_classes};
 ghost use Rattle.patch_view.specs.Meaning.{Represents};
-ghost use Rattle.patch_view.specs.Answers.{MayTake, MayPutBack, IsTakeAnswer, IsPutBackAnswer};
+ghost use Rattle.patch_view.specs.Answers.{AnswersTake, AcceptsTake, AnswersPutBack, AcceptsPutBack, TakesAll, PutsAllBack, IsAsBefore, Shows};
 
-use crate::classes::Class;
+use crate::classes::{Class, Turn};
 use crate::refusals::{PutBackRefusal, TakeRefusal};
 use patch_model::{BLOCK, PatchNo};
 use std::alloc::{Allocator, Global};
@@ -15,8 +14,8 @@ use std::marker::Model;
 /// One block's bytes, and a record of each live class: its members, its span, what its members name, whether it is in
 /// flight, and the bytes that a take or a put back exchanges (a hard class and one in flight keep none).
 ///
-/// `take`, `take_all`, `put_back` and `put_all_back` are what a [`BlockView`](crate::BlockView) does, public for the views of a
-/// cache, which cannot hold one: whoever calls them puts all back. Between them the block is one of which
+/// `take`, `put_back` and `put_all_back` are what a [`BlockView`](crate::BlockView) does, public for the views of a cache,
+/// which cannot hold one: whoever calls them puts all back. Between them the block is one of which
 /// `Represents state taken history` speaks. The calls that change the records (`lay`, `unlay`, `harden`, `join`, `join_by`,
 /// `depart`, `depart_each`, `land`, `land_each`) are for a block of which nothing is taken.
 #[derive(Drop)]
@@ -92,26 +91,25 @@ impl<A: Allocator> BlockState<A> {
     }
 
     /// Whether the class at the second place keeps that at the first from being taken, or from going back.
-    fn hinders_at(&self, taking: bool, at: usize, other: usize) -> bool
+    fn hinders_at(&self, turn: Turn, at: usize, other: usize) -> bool
         requires first { at < length self.now.classes }
         requires second { other < length self.now.classes }
-        ensures { result ≡ hinders taking self.now at other }
+        ensures { result ≡ hinders turn self.now at other }
     {
-        if taking {
-            at < other && !self.is_taken_at(other) && self.follows_at(other, at)
-        } else {
-            other < at && self.is_taken_at(other) && self.follows_at(at, other)
+        match turn {
+            Turn::Take => at < other && !self.is_taken_at(other) && self.follows_at(other, at),
+            Turn::PutBack => other < at && self.is_taken_at(other) && self.follows_at(at, other),
         }
     }
 
     /// The least name of a class that keeps this one from being taken, or from going back.
-    fn hindrance(&self, taking: bool, at: usize) -> Option<PatchNo>
+    fn hindrance(&self, turn: Turn, at: usize) -> Option<PatchNo>
         requires { at < length self.now.classes }
-        ensures { IsLeast (hinders taking self.now at) self.now result }
+        ensures { IsLeast (hinders turn self.now at) self.now result }
     {
         let mut least: Option<PatchNo> = None;
         for other in 0..self.len() {
-            if self.hinders_at(taking, at, other) {
+            if self.hinders_at(turn, at, other) {
                 let name = self.name_at(other);
                 least = match least {
                     Some(before) => Some(if before < name { before } else { name }),
@@ -126,9 +124,8 @@ impl<A: Allocator> BlockState<A> {
     /// without what was taken before. It looks at the records one after another, exchanges the span's bytes, and takes no memory.
     /// It is public for the views of a cache, which put all back at their end; elsewhere a [`view`](BlockState::view) does it.
     pub fn take(&mut self, no: PatchNo) -> Result<(), TakeRefusal>
-        ensures answer { (h : History) (taken : List ℕ) → Represents self.old taken h
-            → IsTakeAnswer h taken no self.new result }
-        ensures accepted { (h : History) (taken : List ℕ) → Represents self.old taken h → IsOk result ↔ MayTake h taken no }
+        ensures answer { AnswersTake self.old no self.new result }
+        ensures accepted { AcceptsTake self.old no result }
         ensures outline { outline self.new ≡ outline self.old }
         ensures refused { OnErr result (self.new ≡ self.old) }
     {
@@ -136,8 +133,7 @@ impl<A: Allocator> BlockState<A> {
     }
 
     fn take_exactly(&mut self, no: PatchNo) -> Result<(), TakeRefusal>
-        ensures answer { (h : History) (taken : List ℕ) → Represents self.old taken h
-            → IsTakeAnswer h taken no self.new result }
+        ensures answer { AnswersTake self.old no self.new result }
         ensures outline { outline self.new ≡ outline self.old }
         ensures refused { OnErr result (self.new ≡ self.old) }
     {
@@ -153,19 +149,18 @@ impl<A: Allocator> BlockState<A> {
         if self.is_taken_at(at) {
             return Err(TakeRefusal::AlreadyTaken);
         }
-        if let Some(name) = self.hindrance(true, at) {
+        if let Some(name) = self.hindrance(Turn::Take, at) {
             return Err(TakeRefusal::DependentApplied(name));
         }
-        self.exchange_at(at, true);
+        self.exchange_at(at, Turn::Take);
         Ok(())
     }
 
     /// Puts the class of this patch back, whose number is any member's. It takes no memory. It is public for the views of a
     /// cache, as [`take`](BlockState::take) is.
     pub fn put_back(&mut self, no: PatchNo) -> Result<(), PutBackRefusal>
-        ensures answer { (h : History) (taken : List ℕ) → Represents self.old taken h
-            → IsPutBackAnswer h taken no self.new result }
-        ensures accepted { (h : History) (taken : List ℕ) → Represents self.old taken h → IsOk result ↔ MayPutBack h taken no }
+        ensures answer { AnswersPutBack self.old no self.new result }
+        ensures accepted { AcceptsPutBack self.old no result }
         ensures outline { outline self.new ≡ outline self.old }
         ensures refused { OnErr result (self.new ≡ self.old) }
     {
@@ -173,8 +168,7 @@ impl<A: Allocator> BlockState<A> {
     }
 
     fn put_back_exactly(&mut self, no: PatchNo) -> Result<(), PutBackRefusal>
-        ensures answer { (h : History) (taken : List ℕ) → Represents self.old taken h
-            → IsPutBackAnswer h taken no self.new result }
+        ensures answer { AnswersPutBack self.old no self.new result }
         ensures outline { outline self.new ≡ outline self.old }
         ensures refused { OnErr result (self.new ≡ self.old) }
     {
@@ -184,31 +178,30 @@ impl<A: Allocator> BlockState<A> {
         if !self.is_taken_at(at) {
             return Err(PutBackRefusal::NotTaken);
         }
-        if let Some(name) = self.hindrance(false, at) {
+        if let Some(name) = self.hindrance(Turn::PutBack, at) {
             return Err(PutBackRefusal::DependencyTaken(name));
         }
-        self.exchange_at(at, false);
+        self.exchange_at(at, Turn::PutBack);
         Ok(())
     }
 
     /// Takes every class back that is in memory and not hard, in one pass downwards over the records: what a send does that
     /// leaves them behind. It comes to the same as the takes one by one. The condition is that together they hold their
-    /// dependents. It is public for the views of a cache, as [`take`](BlockState::take) is.
-    pub fn take_all(&mut self)
-        ensures answer { (h : History) (taken : List ℕ) → Represents self.old taken h → HoldsDependents h (undoable_classes h)
-            → Represents self.new (undoable_classes h) h }
+    /// dependents.
+    pub(crate) fn take_all(&mut self)
+        ensures answer { TakesAll self.old self.new }
         ensures outline { outline self.new ≡ outline self.old }
     {
-        self.take_each();
+        self.take_all_exactly();
     }
 
-    fn take_each(&mut self)
+    fn take_all_exactly(&mut self)
         ensures { self.new ≡ swept_to (length self.old.classes) self.old }
     {
         for passed in 0..self.len() {
             let at = self.len() - 1 - passed;
             if self.is_left_at(at) {
-                self.exchange_at(at, true);
+                self.exchange_at(at, Turn::Take);
             }
         }
     }
@@ -224,20 +217,19 @@ impl<A: Allocator> BlockState<A> {
     /// Puts every class back, in one pass upwards over the records: bytes and records are as before the first take. It is how
     /// a cache's view ends; none of the calls that change the records comes between the first take and it.
     pub fn put_all_back(&mut self)
-        ensures answer { (h : History) (taken : List ℕ) → Represents self.old taken h → Represents self.new [] h }
+        ensures answer { PutsAllBack self.old self.new }
         ensures outline { outline self.new ≡ outline self.old }
-        ensures as_before { (h : History) (taken : List ℕ) (before : Block)
-            → Represents self.old taken h → Represents before [] h → outline before ≡ outline self.old → self.new ≡ before }
+        ensures as_before { IsAsBefore self.old self.new }
     {
-        self.put_back_each();
+        self.put_all_back_exactly();
     }
 
-    fn put_back_each(&mut self)
+    fn put_all_back_exactly(&mut self)
         ensures { self.new ≡ restored_to (length self.old.classes) self.old }
     {
         for at in 0..self.len() {
             if self.is_taken_at(at) {
-                self.exchange_at(at, false);
+                self.exchange_at(at, Turn::PutBack);
             }
         }
     }
@@ -255,16 +247,16 @@ impl<A: Allocator> BlockState<A> {
     pub fn bytes(&self) -> &[u8]
         ensures value { result.now ≡ self.now.bytes }
         ensures length { length result.now ≡ BLOCK }
-        ensures answer { (h : History) (taken : List ℕ) → Represents self.now taken h → result.now ≡ without h taken }
+        ensures answer { Shows self.now result.now }
     {
         &self.bytes
     }
 
-    fn exchange_at(&mut self, at: usize, taken: bool)
+    fn exchange_at(&mut self, at: usize, turn: Turn)
         requires { at < length self.old.classes }
-        ensures { self.new ≡ exchanged_at self.old at taken }
+        ensures { self.new ≡ exchanged_at self.old at turn }
     {
         let class = &mut self.classes[at];
-        class.exchange(self.bytes.as_mut_slice(), taken);
+        class.exchange(self.bytes.as_mut_slice(), turn);
     }
 }

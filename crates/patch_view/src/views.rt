@@ -1,11 +1,8 @@
 //! A block lent with classes to be taken back, which has to be put right again.
-ghost use Rattle.std.specs.Prelude.{◌≡◌, ℕ, List, [], length, OnErr, IsOk, ◌↔◌};
-ghost use Rattle.patch_model.specs.History.{History, HoldsDependents, without};
-ghost use Rattle.patch_view.specs.History.{undoable_classes};
-ghost use Rattle.patch_view.specs.State.{Block, outline};
-ghost use Rattle.patch_view.specs.Meaning.{Represents};
+ghost use Rattle.std.specs.Prelude.{◌≡◌, length, OnErr};
+ghost use Rattle.patch_view.specs.State.{outline};
 ghost use Rattle.patch_view.specs.View.{seen_by, borrow_of};
-ghost use Rattle.patch_view.specs.Answers.{MayTake, MayPutBack, IsTakeAnswer, IsPutBackAnswer};
+ghost use Rattle.patch_view.specs.Answers.{AnswersTake, AcceptsTake, AnswersPutBack, AcceptsPutBack, TakesAll, PutsAllBack, IsAsBefore, Shows};
 
 use crate::refusals::{PutBackRefusal, TakeRefusal};
 use crate::states::BlockState;
@@ -34,9 +31,8 @@ impl<'a, A: Allocator> BlockView<'a, A> {
     /// Takes the class of this patch back.
     pub fn take(&mut self, no: PatchNo) -> Result<(), TakeRefusal>
         ensures same_reference { borrow_of self.new ≡ borrow_of self.old }
-        ensures answer { (h : History) (taken : List ℕ) → Represents (seen_by self.old) taken h
-            → IsTakeAnswer h taken no (seen_by self.new) result }
-        ensures accepted { (h : History) (taken : List ℕ) → Represents (seen_by self.old) taken h → IsOk result ↔ MayTake h taken no }
+        ensures answer { AnswersTake (seen_by self.old) no (seen_by self.new) result }
+        ensures accepted { AcceptsTake (seen_by self.old) no result }
         ensures outline { outline (seen_by self.new) ≡ outline (seen_by self.old) }
         ensures refused { OnErr result (seen_by self.new ≡ seen_by self.old) }
     {
@@ -46,9 +42,8 @@ impl<'a, A: Allocator> BlockView<'a, A> {
     /// Puts the class of this patch back.
     pub fn put_back(&mut self, no: PatchNo) -> Result<(), PutBackRefusal>
         ensures same_reference { borrow_of self.new ≡ borrow_of self.old }
-        ensures answer { (h : History) (taken : List ℕ) → Represents (seen_by self.old) taken h
-            → IsPutBackAnswer h taken no (seen_by self.new) result }
-        ensures accepted { (h : History) (taken : List ℕ) → Represents (seen_by self.old) taken h → IsOk result ↔ MayPutBack h taken no }
+        ensures answer { AnswersPutBack (seen_by self.old) no (seen_by self.new) result }
+        ensures accepted { AcceptsPutBack (seen_by self.old) no result }
         ensures outline { outline (seen_by self.new) ≡ outline (seen_by self.old) }
         ensures refused { OnErr result (seen_by self.new ≡ seen_by self.old) }
     {
@@ -59,8 +54,7 @@ impl<'a, A: Allocator> BlockView<'a, A> {
     /// they hold their dependents.
     pub fn take_all(&mut self)
         ensures same_reference { borrow_of self.new ≡ borrow_of self.old }
-        ensures answer { (h : History) (taken : List ℕ) → Represents (seen_by self.old) taken h → HoldsDependents h (undoable_classes h)
-            → Represents (seen_by self.new) (undoable_classes h) h }
+        ensures answer { TakesAll (seen_by self.old) (seen_by self.new) }
         ensures outline { outline (seen_by self.new) ≡ outline (seen_by self.old) }
     {
         self.state.take_all();
@@ -69,18 +63,16 @@ impl<'a, A: Allocator> BlockView<'a, A> {
     /// The block's bytes without the classes that are taken.
     pub fn bytes(&self) -> &[u8]
         ensures length { length result.now ≡ BLOCK }
-        ensures answer { (h : History) (taken : List ℕ) → Represents (seen_by self.now) taken h → result.now ≡ without h taken }
+        ensures answer { Shows (seen_by self.now) result.now }
     {
         self.state.bytes()
     }
 
     /// Puts every class back, and spends the view.
     pub fn restore(self)
-        ensures answer { (h : History) (taken : List ℕ) → Represents (seen_by self.entry) taken h → Represents self.exit.0.now [] h }
+        ensures answer { PutsAllBack (seen_by self.entry) self.exit.0.now }
         ensures outline { outline self.exit.0.now ≡ outline (seen_by self.entry) }
-        ensures as_before { (h : History) (taken : List ℕ) (before : Block)
-            → Represents (seen_by self.entry) taken h → Represents before [] h → outline before ≡ outline (seen_by self.entry)
-            → self.exit.0.now ≡ before }
+        ensures as_before { IsAsBefore (seen_by self.entry) self.exit.0.now }
     {
         let BlockView { state } = self;
         state.put_all_back();

@@ -1,4 +1,4 @@
-use Rattle.std.proofs.Common.{ap, ◌∙◌}
+use Rattle.std.proofs.Common.{ap}
 use Rattle.patch_view.specs.State.{has_places}
 use Rattle.patch_view.proofs.Gathering.{one_class}
 use Rattle.patch_view.proofs.states.BlockState.join.Goals as goal

@@ -1,4 +1,5 @@
-use Rattle.std.proofs.Common.{ap, sym, false, ◌∙◌}
+use Rattle.std.proofs.Common.{ap, sym, ◌∙◌}
+use Rattle.patch_view.specs.declared.classes.Turn.TheVariants.{PutBack}
 use Rattle.patch_view.proofs.Answering.{why_nowhere, why_applied, why_dependency, puts_back}
 use Rattle.std.proofs.lemmas.List.Quantifiers.{position-Some}
 use Rattle.patch_view.specs.State.{outline, no_class}
@@ -25,4 +26,4 @@ returns-clause-answer g c h taken r = let e = c.exchange_at.ensures in
 
 pub returns-clause-outline : goal.returns-clause-outline
 returns-clause-outline g c = let w = position-Some _ c.args.self.now.classes c.in-Some.at no_class (sym c.in-Some.ensures) in
-    ap outline c.exchange_at.ensures ∙ outline-exchanged c.args.self.now c.in-Some.at false w.0
+    ap outline c.exchange_at.ensures ∙ outline-exchanged c.args.self.now c.in-Some.at PutBack w.0

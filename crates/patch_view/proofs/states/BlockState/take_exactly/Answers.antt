@@ -1,4 +1,5 @@
-use Rattle.std.proofs.Common.{ap, sym, true, ◌∙◌}
+use Rattle.std.proofs.Common.{ap, sym, ◌∙◌}
+use Rattle.patch_view.specs.declared.classes.Turn.TheVariants.{Take}
 use Rattle.patch_view.proofs.Answering.{why_unknown, why_in_flight, why_hard, why_taken, why_dependent, takes}
 use Rattle.std.proofs.lemmas.List.Quantifiers.{position-Some}
 use Rattle.patch_view.specs.State.{outline, no_class}
@@ -33,4 +34,4 @@ returns-clause-answer g c h taken r = let e = c.exchange_at.ensures in
 
 pub returns-clause-outline : goal.returns-clause-outline
 returns-clause-outline g c = let w = position-Some _ c.args.self.now.classes c.in-Some.at no_class (sym c.in-Some.ensures) in
-    ap outline c.exchange_at.ensures ∙ outline-exchanged c.args.self.now c.in-Some.at true w.0
+    ap outline c.exchange_at.ensures ∙ outline-exchanged c.args.self.now c.in-Some.at Take w.0

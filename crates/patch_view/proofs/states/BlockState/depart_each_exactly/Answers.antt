@@ -3,7 +3,7 @@ use Rattle.std.proofs.lemmas.List.{with_items_is}
 use Rattle.std.proofs.lemmas.List.Edits.{map_over_more}
 use Rattle.patch_view.specs.State.{departed_among}
 use Rattle.patch_view.proofs.Together.{more_departed, has_departed}
-use Rattle.patch_view.proofs.states.BlockState.depart_among.Goals as goal
+use Rattle.patch_view.proofs.states.BlockState.depart_each_exactly.Goals as goal
 
 pub loop-class-preserved : goal.loop-class-preserved
 loop-class-preserved g c =

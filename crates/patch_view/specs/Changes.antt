@@ -1,0 +1,57 @@
+-- What the calls that change a block's records make of the history that these represent, where nothing is taken.
+use Rattle.std.specs.Prelude.{ℕ, Bool, true, false, ◌≡◌, ◌+◌, ◌≤◌, List, [], length, map, Option, Result, OnOk}
+use Rattle.std.specs.List.Sorted.{IsNonDecreasing}
+use Rattle.patch_model.specs.declared.blocks.TheConstants.{BLOCK}
+use Rattle.patch_model.specs.declared.patches.Undo.{Undo}
+use Rattle.patch_model.specs.Entry.{Entry}
+use Rattle.patch_model.specs.History.{History}
+use Rattle.patch_model.specs.Orderly.{MayJoin}
+use Rattle.patch_model.specs.State.{sent}
+use Rattle.patch_view.specs.History.{IsNext, MayDepart, laid, made, with_joined}
+use Rattle.patch_view.specs.State.{Block, Class, Joint, IsLaid, IsMerged, IsJoint, class_at}
+use Rattle.patch_view.specs.Meaning.{Represents}
+use Rattle.patch_view.specs.Answers.{IsPatch}
+
+-- the patch is laid on any block's history where it may come next
+abbrev pub Lays : {X E : Type 0} → Block → (number start : ℕ) (bytes after : List ℕ) (hard : Bool) → Result X E → Block → Type 0
+Lays old number start bytes after hard result new =
+    (h : History) (block : ℕ) (undo : Undo) → Represents old [] h → IsNext h (made number block start bytes after undo hard)
+    → OnOk result (Represents new [] (laid h (made number block start bytes after undo hard)))
+
+-- a block on which a patch was laid last is as before that
+abbrev pub Unlays : Block → Block → Type 0
+Unlays old new =
+    (before : Block) (number start : ℕ) (bytes after : List ℕ) → IsLaid before number start bytes after false old
+    → length before.bytes ≡ BLOCK → start + length bytes ≤ BLOCK → new ≡ before
+
+-- a block on which a patch was laid last has that patch as a hard one
+abbrev pub Hardens : Block → Block → Type 0
+Hardens old new =
+    (before : Block) (h : History) (number block start : ℕ) (bytes after : List ℕ) (undo : Undo)
+    → IsLaid before number start bytes after false old → Represents before [] h → IsNext h (made number block start bytes after undo true)
+    → start + length bytes ≤ BLOCK → Represents new [] (laid h (made number block start bytes after undo true))
+
+-- the classes at two places are one, if the class is the record of both
+abbrev pub JoinsPlaces : Block → (low high : ℕ) → Class → Block → Type 0
+JoinsPlaces old low high class new =
+    (h : History) → IsMerged (class_at old low) (class_at old high) class → Represents old [] h
+    → MayJoin h.entries (class_at old low).name (class_at old high).name
+    → Represents new [] (with_joined h (class_at old low).name (class_at old high).name)
+
+-- the classes of two patches are one, if the joint is theirs
+abbrev pub JoinsBy : Block → Option Joint → Block → Type 0
+JoinsBy old joint new =
+    (h : History) (a b : ℕ) (e f : Entry) → IsJoint old a b joint → Represents old [] h
+    → IsPatch h a e → IsPatch h b f → MayJoin h.entries e.class f.class → Represents new [] (with_joined h e.class f.class)
+
+-- the classes of these two patches are one
+abbrev pub Joins : {X E : Type 0} → Block → (a b : ℕ) → Result X E → Block → Type 0
+Joins old a b result new =
+    (h : History) (e f : Entry) → Represents old [] h → IsPatch h a e → IsPatch h b f → MayJoin h.entries e.class f.class
+    → OnOk result (Represents new [] (with_joined h e.class f.class))
+
+-- the classes of a set are in flight, if these are their names
+abbrev pub DepartsEach : Block → List ℕ → Block → Type 0
+DepartsEach old numbers new =
+    (h : History) (set : List Entry) → Represents old [] h → IsNonDecreasing numbers → MayDepart h numbers set
+    → Represents new [] (record h { entries = map (sent set) h.entries })
