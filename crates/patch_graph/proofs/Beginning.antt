@@ -1,7 +1,7 @@
 -- A graph of no patches.
 use Rattle.std.proofs.Common.{[], refl, arith}
 use Rattle.patch_graph.specs.Meaning.{Represents}
-use Rattle.patch_graph.specs.Listing.{AreListed}
+use Rattle.patch_graph.specs.BlockKeys.{AreListed}
 
 pub begins : Represents (record { made = 0; slots = []; numbers = [] }) []
 begins = record {

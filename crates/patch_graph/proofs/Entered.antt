@@ -3,7 +3,7 @@ use Rattle.std.proofs.Common.{◌≡◌, ℕ, ◌+◌, ◌∙◌, Bool, List, sy
 use Rattle.patch_model.specs.declared.patches.Undo.{Undo}
 use Rattle.patch_model.specs.Member.{In}
 use Rattle.patch_graph.specs.State.{Class, Graph, Slots, Numbers}
-use Rattle.patch_graph.specs.Listing.{Lists, listed, AreListed, HoldsKeys}
+use Rattle.patch_graph.specs.BlockKeys.{Lists, listed, AreListed, HoldsKeys}
 use Rattle.patch_graph.specs.Adding.{dependencies, is_hard, new_class, IsAdded, IsDrawnUp, HasAdded}
 
 -- the keys that are listed for a block are all that its classes have

@@ -7,12 +7,12 @@ use Rattle.std.proofs.lemmas.List.{get_or-set_same, get_or-set_other, length-set
 use Rattle.patch_model.specs.Entry.{is_among}
 use Rattle.patch_model.specs.Member.{In-from_Contains, Contains-from_In}
 use Rattle.patch_graph.specs.State.{Class, Slots, Numbers, find, class_at}
-use Rattle.patch_graph.specs.Landing.{lands, lands_at, AreForgotten, AreLanded}
-use Rattle.patch_graph.proofs.Readying.{is_among-In, In-is_among, class_same}
-use Rattle.patch_graph.proofs.Rounds.{below-slots}
-use Rattle.patch_graph.proofs.Flights.{cases_class}
+use Rattle.patch_graph.specs.MarkDurable.{lands, lands_at, AreForgotten, AreLanded}
+use Rattle.patch_graph.proofs.ReadySet.{is_among-In, In-is_among, class_same}
+use Rattle.patch_graph.proofs.Marks.{below-slots}
+use Rattle.patch_graph.proofs.MarkFlight.{cases_class}
 use Rattle.patch_graph.proofs.Places.{same_default}
-use Rattle.patch_graph.specs.Listing.{HoldsKeys}
+use Rattle.patch_graph.specs.BlockKeys.{HoldsKeys}
 use Rattle.patch_graph.proofs.Searches.{take-place}
 use Rattle.patch_graph.proofs.OneMore.{same_bool}
 

@@ -15,11 +15,11 @@ use Rattle.patch_model.specs.Orderly.{IsOrderly}
 use Rattle.patch_model.specs.Member.{In, list_any-at, list_any-from}
 use Rattle.patch_graph.specs.State.{Class, Graph, Slots, Numbers, find, class_at}
 use Rattle.patch_graph.specs.Meaning.{Represents}
-use Rattle.patch_graph.specs.Joining.{HasJoined}
+use Rattle.patch_graph.specs.Merging.{HasJoined}
 use Rattle.patch_graph.proofs.Facts.{known}
 use Rattle.patch_graph.proofs.Rising.{all-In}
-use Rattle.patch_graph.proofs.Readying.{placed}
-use Rattle.patch_graph.proofs.Merging.{MayMerge, merges}
+use Rattle.patch_graph.proofs.ReadySet.{placed}
+use Rattle.patch_graph.proofs.MergedClasses.{MayMerge, merges}
 
 slice_get-In : (es : List Entry) (i : ℕ) (e : Entry) → slice_get es i ≡ Some e → In es e
 slice_get-In [] i e at = absurd (cc)

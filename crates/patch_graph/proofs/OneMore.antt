@@ -16,10 +16,10 @@ use Rattle.patch_model.specs.declared.patches.Undo.{Undo}
 use Rattle.patch_model.specs.declared.patches.Undo.TheVariants.{Keep, MayDrop}
 use Rattle.patch_graph.specs.State.{Class, Graph, Slots, find, class_at, leads, leads_at, spans}
 use Rattle.patch_graph.proofs.Facts.{IsOrdered, ordered, known}
-use Rattle.patch_graph.specs.Listing.{HoldsKeys}
+use Rattle.patch_graph.specs.BlockKeys.{HoldsKeys}
 use Rattle.patch_graph.specs.Meaning.{Leads, one, onward, DependsOn, IsClassOf, Represents}
 use Rattle.patch_graph.specs.Adding.{overlaps, overlap_at, overlapped, dependencies, lets_drop, is_hard, new_class, IsAdded, HasAdded, IsPatch}
-use Rattle.patch_graph.proofs.Readying.{placed, cases_found, some_same, class_same, In-left, In-right, In-parts, is_among-In, In-is_among}
+use Rattle.patch_graph.proofs.ReadySet.{placed, cases_found, some_same, class_same, In-left, In-right, In-parts, is_among-In, In-is_among}
 
 overlap-here : (slots : Slots) (block start stop key : ℕ) (c : Class) → class_at slots key ≡ Some c → overlaps block start stop c ≡ true → In (overlap_at slots block start stop key) c.name
 overlap-here slots block start stop key c at t =

@@ -6,7 +6,7 @@ use Rattle.std.specs.Option.{option_map}
 use Rattle.std.proofs.lemmas.Bool.{cases_Bool, cases_eq, both_ways}
 use Rattle.patch_model.specs.Entry.{is_among}
 use Rattle.patch_graph.specs.State.{Numbers, find}
-use Rattle.patch_graph.specs.Joining.{AreRedirected}
+use Rattle.patch_graph.specs.Merging.{AreRedirected}
 use Rattle.patch_graph.proofs.Forgetting.{among-place, place-among}
 
 -- so far, for the first of them

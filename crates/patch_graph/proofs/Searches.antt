@@ -11,7 +11,7 @@ use Rattle.patch_graph.specs.Marks.{is_marked, HoldsMarked, marked_count}
 use Rattle.patch_graph.specs.Meaning.{Leads, one, onward}
 use Rattle.patch_graph.specs.Search.{queued_at, Reaches, IsSearch, IsReachable, Visited, IsLook}
 use Rattle.patch_graph.proofs.Places.{at-place}
-use Rattle.patch_graph.proofs.Readying.{cases_found, class_same}
+use Rattle.patch_graph.proofs.ReadySet.{cases_found, class_same}
 
 abbrev one_for : Bool → ℕ
 one_for b = cond b 1 0

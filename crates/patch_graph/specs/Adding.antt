@@ -7,7 +7,7 @@ use Rattle.patch_model.specs.Pile.{end}
 use Rattle.patch_model.specs.declared.patches.Mark.TheVariants.{Memory}
 use Rattle.patch_model.specs.declared.patches.Undo.{Undo}
 use Rattle.patch_model.specs.declared.patches.Undo.TheVariants.{Keep, MayDrop}
-use Rattle.patch_graph.specs.Listing.{HoldsKeys}
+use Rattle.patch_graph.specs.BlockKeys.{HoldsKeys}
 use Rattle.patch_graph.specs.State.{Class, Graph, Slots, Numbers, find, class_at}
 
 abbrev pub overlaps : ℕ → ℕ → ℕ → Class → Bool

@@ -3,9 +3,9 @@ pub mod Marks
 pub mod Meaning
 pub mod Adding
 pub mod Search
-pub mod Flying
+pub mod MarkFlight
 pub mod Between
-pub mod Landing
-pub mod Joining
-pub mod Listing
+pub mod MarkDurable
+pub mod Merging
+pub mod BlockKeys
 pub mod Showing

@@ -7,11 +7,11 @@ ghost use Rattle.indexmap.specs.IndexMap.{spare};
 ghost use Rattle.slab.specs.Slab.{HasRoomFor};
 ghost use Rattle.patch_graph.specs.State.{class_at};
 ghost use Rattle.patch_graph.specs.Adding.{overlap_at, dependencies, lets_drop, is_hard, IsAdded};
-ghost use Rattle.patch_graph.specs.Listing.{AreListed};
+ghost use Rattle.patch_graph.specs.BlockKeys.{AreListed};
 
+use crate::block_keys::{BlockKeys, list};
 use crate::classes::{Class, Classes, Keys, enter, find};
-use crate::listing::{BlockKeys, list};
-use crate::rooms::Room;
+use crate::scratch::Scratch;
 use patch_model::{BlockNo, PatchNo, Undo};
 use std::alloc::{AllocError, Allocator};
 
@@ -19,18 +19,18 @@ use std::alloc::{AllocError, Allocator};
 fn make_room<A: Allocator + Copy>(
     classes: &mut Classes<A>,
     keys: &mut Keys<A>,
-    room: &mut Room<A>,
+    scratch: &mut Scratch<A>,
 ) -> Result<(), AllocError>
     ensures classes { OnOk result (HasRoomFor classes.new 1) }
     ensures keys { OnOk result (0 < spare keys.new) }
-    ensures searches { OnOk result (classes.new.capacity ≤ room.new) }
+    ensures searches { OnOk result (classes.new.capacity ≤ scratch.new) }
     ensures same_classes { classes.new.slots ≡ classes.old.slots }
     ensures same_keys { keys.new.entries ≡ keys.old.entries }
-    ensures kept { room.old ≤ room.new }
+    ensures kept { scratch.old ≤ scratch.new }
 {
     classes.reserve(1)?;
     keys.reserve(1)?;
-    room.grow(classes.capacity())
+    scratch.grow(classes.capacity())
 }
 
 fn add_overlap<A: Allocator>(
@@ -126,17 +126,17 @@ pub fn insert<A: Allocator + Copy>(
     classes: &mut Classes<A>,
     keys: &mut Keys<A>,
     lists: &mut BlockKeys<A>,
-    room: &mut Room<A>,
+    scratch: &mut Scratch<A>,
     class: Class<A>,
 ) -> Result<usize, AllocError>
     ensures inserted { IfOk result (λ key. IsAdded (record { made = class.name; slots = classes.old.slots; numbers = keys.old.entries })
         (record { made = class.name + 1; slots = classes.new.slots; numbers = keys.new.entries }) key class) }
-    ensures room { length classes.old.slots ≤ room.old → length classes.new.slots ≤ room.new }
+    ensures room { length classes.old.slots ≤ scratch.old → length classes.new.slots ≤ scratch.new }
     ensures listed { AreListed classes.old.slots lists.old.entries → AreListed classes.new.slots lists.new.entries }
     ensures refused_classes { OnErr result (classes.new.slots ≡ classes.old.slots) }
     ensures refused_keys { OnErr result (keys.new.entries ≡ keys.old.entries) }
 {
-    make_room(classes, keys, room)?;
+    make_room(classes, keys, scratch)?;
     let no = class.name;
     list(alloc, lists, class.block, classes.vacant_key())?;
     let key = classes.insert_reserved(class);

@@ -12,13 +12,13 @@ ghost use Rattle.patch_graph.specs.Between.{HasNoRing, IsLeastBetween, LacksAnEn
 ghost use Rattle.patch_graph.specs.Adding.{IsPatch, IsDrawnUp, HasAdded};
 
 use crate::adding::{dependencies, insert, is_hard};
-use crate::answering::{between, is_any_ready, numbers_ready, reaches};
+use crate::block_keys::{BlockKeys, listed, unlist};
 use crate::classes::{Class, Classes, Keys, LiveClass, find, mark_at, name_at, shown_at};
-use crate::flying::fly_ready;
-use crate::joining;
-use crate::landing::land;
-use crate::listing::{BlockKeys, listed, unlist};
-use crate::rooms::Room;
+use crate::mark_durable::land;
+use crate::mark_flight::fly_ready;
+use crate::merging;
+use crate::queries::{between, is_any_ready, numbers_ready, reaches};
+use crate::scratch::Scratch;
 use patch_model::{BlockNo, Mark, OutOfMemory, PatchNo, Undo};
 use std::alloc::{AllocError, Allocator, Global};
 use std::marker::Model;
@@ -41,19 +41,19 @@ pub struct Graph<A: Allocator + Copy = Global> {
     classes: Classes<A>,
     keys: Keys<A>,
     lists: BlockKeys<A>,
-    room: Room<A>,
+    scratch: Scratch<A>,
 }
 
 impl<A: Allocator + Copy> Model for Graph<A> {
     ghost use Rattle.std.specs.Prelude.{◌≤◌, length};
     ghost use Rattle.patch_graph.specs.State.{Graph as Seen};
-    ghost use Rattle.patch_graph.specs.Listing.{AreListed};
+    ghost use Rattle.patch_graph.specs.BlockKeys.{AreListed};
 
     ghost Value = { Seen };
 
     ghost view = { λ g. record { made = g.made; slots = g.classes.slots; numbers = g.keys.entries } };
 
-    ghost invariant = { λ g. (length g.classes.slots ≤ g.room) × AreListed g.classes.slots g.lists.entries };
+    ghost invariant = { λ g. (length g.classes.slots ≤ g.scratch) × AreListed g.classes.slots g.lists.entries };
 }
 
 impl<A: Allocator + Copy> Graph<A> {
@@ -67,7 +67,7 @@ impl<A: Allocator + Copy> Graph<A> {
             classes: Classes::new(alloc),
             keys: Keys::new(alloc),
             lists: BlockKeys::new(alloc),
-            room: Room::new(alloc),
+            scratch: Scratch::new(alloc),
         }
     }
 
@@ -95,7 +95,7 @@ impl<A: Allocator + Copy> Graph<A> {
             &self.keys,
             block,
             listed(&self.lists, block),
-            &mut self.room,
+            &mut self.scratch,
         )?;
         Ok(numbers)
     }
@@ -110,7 +110,7 @@ impl<A: Allocator + Copy> Graph<A> {
             &self.keys,
             block,
             listed(&self.lists, block),
-            &mut self.room,
+            &mut self.scratch,
         )
     }
 
@@ -159,7 +159,7 @@ impl<A: Allocator + Copy> Graph<A> {
             &mut self.classes,
             &mut self.keys,
             &mut self.lists,
-            &mut self.room,
+            &mut self.scratch,
             class,
         )?;
         self.made += 1;
@@ -199,7 +199,7 @@ impl<A: Allocator + Copy> Graph<A> {
         ensures made { self.new.made ≡ self.old.made }
         ensures refused { OnErr result (self.new ≡ self.old) }
     {
-        let name = joining::merge(
+        let name = merging::merge(
             self.alloc,
             &mut self.classes,
             &mut self.keys,
@@ -218,7 +218,14 @@ impl<A: Allocator + Copy> Graph<A> {
         ensures absent { (all : List Entry) → Represents self.old all → LacksAnEnd all a b → result ≡ None }
         ensures same { self.new ≡ self.old }
     {
-        between(&self.classes, &self.keys, self.made, a, b, &mut self.room)
+        between(
+            &self.classes,
+            &self.keys,
+            self.made,
+            a,
+            b,
+            &mut self.scratch,
+        )
     }
 
     /// Puts in flight what a send of the block takes.
@@ -228,7 +235,13 @@ impl<A: Allocator + Copy> Graph<A> {
         ensures made { self.new.made ≡ self.old.made }
     {
         let near = listed(&self.lists, block);
-        fly_ready(&mut self.classes, &self.keys, block, near, &mut self.room);
+        fly_ready(
+            &mut self.classes,
+            &self.keys,
+            block,
+            near,
+            &mut self.scratch,
+        );
     }
 
     /// Makes durable what is in flight of the block, and forgets it.
@@ -250,7 +263,7 @@ impl<A: Allocator + Copy> Graph<A> {
         ensures absent { (all : List Entry) → Represents self.old all → LacksAnEnd all a b → result ≡ false }
         ensures same { self.new ≡ self.old }
     {
-        reaches(&self.classes, &self.keys, a, b, &mut self.room)
+        reaches(&self.classes, &self.keys, a, b, &mut self.scratch)
     }
 
     /// The name of a live patch's class.

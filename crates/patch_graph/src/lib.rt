@@ -2,16 +2,16 @@
 #![tactic(auto)]
 
 mod adding;
-mod answering;
+mod between;
+mod block_keys;
 mod classes;
-mod flying;
 mod graphs;
-mod joining;
-mod landing;
-mod listing;
-mod marking;
-mod middles;
-mod rooms;
+mod mark_durable;
+mod mark_flight;
+mod merging;
+mod queries;
+mod ready;
+mod scratch;
 mod searching;
 
 pub use classes::LiveClass;

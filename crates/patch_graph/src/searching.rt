@@ -5,7 +5,7 @@ ghost use Rattle.patch_graph.specs.Marks.{is_marked, AreClear, HoldsMarked};
 ghost use Rattle.patch_graph.specs.Search.{IsSearch, IsReachable, IsLook, Visited};
 
 use crate::classes::{Class, Classes, Keys, find};
-use crate::marking::is_marked;
+use crate::ready::is_marked;
 use patch_model::PatchNo;
 use std::alloc::Allocator;
 

@@ -1,7 +1,7 @@
 use Rattle.std.proofs.Common.{subst, sym, ap, ◌∙◌, ◌++◌, ◌∷◌, [], ◌≡◌, ℕ}
 use Rattle.patch_graph.specs.State.{Class, Slots}
-use Rattle.patch_graph.specs.Listing.{listed, AreListed, IsRelisted}
-use Rattle.patch_graph.proofs.Lists.{listed-more}
+use Rattle.patch_graph.specs.BlockKeys.{listed, AreListed, IsRelisted}
+use Rattle.patch_graph.proofs.BlockKeys.{listed-more}
 use Rattle.patch_graph.proofs.adding.insert.Goals as goal
 
 pub returns-clause-listed : goal.returns-clause-listed

@@ -1,5 +1,5 @@
 use Rattle.std.proofs.Common.{subst, sym}
-use Rattle.patch_graph.proofs.Readying.{class_answer, not_live}
+use Rattle.patch_graph.proofs.ReadySet.{class_answer, not_live}
 use Rattle.patch_graph.specs.State.{Graph}
 use Rattle.patch_graph.specs.Meaning.{Represents}
 use Rattle.patch_graph.proofs.graphs.Graph.class_of.Goals as goal

@@ -1,5 +1,5 @@
 use Rattle.std.proofs.Common.{subst, sym}
-use Rattle.patch_graph.proofs.Readying.{shown_answer}
+use Rattle.patch_graph.proofs.ReadySet.{shown_answer}
 use Rattle.patch_graph.specs.State.{Graph}
 use Rattle.patch_graph.specs.Meaning.{Represents}
 use Rattle.patch_graph.proofs.graphs.Graph.live_class.Goals as goal

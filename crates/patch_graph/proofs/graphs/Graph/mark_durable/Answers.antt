@@ -1,7 +1,7 @@
 use Rattle.std.proofs.Common.{subst, sym, refl, arith}
 use Rattle.patch_graph.specs.State.{Graph}
 use Rattle.patch_graph.specs.Meaning.{Represents}
-use Rattle.patch_graph.proofs.Lists.{listed-fewer}
+use Rattle.patch_graph.proofs.BlockKeys.{listed-fewer}
 use Rattle.patch_graph.proofs.graphs.Graph.mark_durable.Goals as goal
 
 pub returns-clause-answer : goal.returns-clause-answer

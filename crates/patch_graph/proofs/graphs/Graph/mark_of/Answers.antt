@@ -1,5 +1,5 @@
 use Rattle.std.proofs.Common.{subst, sym, arith}
-use Rattle.patch_graph.proofs.Readying.{mark_answer, mark_not_live}
+use Rattle.patch_graph.proofs.ReadySet.{mark_answer, mark_not_live}
 use Rattle.patch_graph.specs.State.{Graph}
 use Rattle.patch_graph.specs.Meaning.{Represents}
 use Rattle.patch_graph.proofs.graphs.Graph.mark_of.Goals as goal

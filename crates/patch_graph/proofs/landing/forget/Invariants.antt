@@ -1,5 +1,0 @@
-use Rattle.patch_graph.specs.Landing.{AreForgotten}
-use Rattle.patch_graph.proofs.landing.forget.Given as goal
-
-abbrev pub invariant-loop-no : goal.invariant-loop-no
-invariant-loop-no g l = AreForgotten l.members l.initial.keys.entries l.keys.entries l.no-index

@@ -1,5 +1,0 @@
-use Rattle.patch_graph.proofs.Rounds.{IsPartCleared}
-use Rattle.patch_graph.proofs.marking.clear.Given as goal
-
-abbrev pub invariant-loop-key : goal.invariant-loop-key
-invariant-loop-key l = IsPartCleared l.listed l.initial.marks l.marks l.key-index

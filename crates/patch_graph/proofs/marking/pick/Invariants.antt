@@ -1,5 +1,0 @@
-use Rattle.patch_graph.proofs.Rounds.{IsPartPicked}
-use Rattle.patch_graph.proofs.marking.pick.Given as goal
-
-abbrev pub invariant-loop-key : goal.invariant-loop-key
-invariant-loop-key g l = IsPartPicked l.classes.slots l.block l.listed l.initial.marks l.marks l.key-index

@@ -1,5 +1,0 @@
-use Rattle.patch_graph.proofs.Midst.{IsPartWithout}
-use Rattle.patch_graph.proofs.middles.copy_without.Given as goal
-
-abbrev pub invariant-loop-key : goal.invariant-loop-key
-invariant-loop-key l = IsPartWithout l.to l.marks l.listed l.initial.rest l.rest l.key-index

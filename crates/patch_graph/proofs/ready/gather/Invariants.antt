@@ -1,0 +1,6 @@
+use Rattle.std.proofs.Common.{◌≡◌, ◌++◌, drop}
+use Rattle.patch_graph.specs.Marks.{gathered}
+use Rattle.patch_graph.proofs.ready.gather.Given as goal
+
+abbrev pub invariant-loop-key : goal.invariant-loop-key
+invariant-loop-key g l = l.all.items ++ gathered l.classes.slots l.marks (drop l.key-index l.listed) ≡ gathered l.classes.slots l.marks l.listed

@@ -1,0 +1,112 @@
+//! Which keys are those of a block's classes.
+ghost use Rattle.std.specs.Prelude.{◌≡◌, ◌∷◌, ◌++◌, [], filter, IfOk, OnOk, OnErr};
+ghost use Rattle.patch_graph.specs.BlockKeys.{listed, is_key, IsRelisted, HasPushed};
+
+use crate::classes::Classes;
+use indexmap::IndexMap;
+use patch_model::BlockNo;
+use std::alloc::{AllocError, Allocator, Global};
+use std::hash::{BuildHasherDefault, FoldHasher};
+use std::marker::Model;
+
+/// The keys of one block's classes, the oldest first.
+#[derive(Drop)]
+pub struct KeyList<A: Allocator = Global> {
+    keys: Vec<usize, A>,
+}
+
+impl<A: Allocator> Model for KeyList<A> {
+    ghost use Rattle.std.specs.Prelude.{List, ℕ};
+
+    ghost Value = { List ℕ };
+
+    ghost view = { λ l. l.keys.items };
+}
+
+/// The keys of each block's classes.
+pub type BlockKeys<A> = IndexMap<BlockNo, KeyList<A>, BuildHasherDefault<FoldHasher>, A>;
+
+impl<A: Allocator> KeyList<A> {
+    fn of(alloc: A, key: usize) -> Result<KeyList<A>, AllocError>
+        ensures { IfOk result (λ list. list ≡ key ∷ []) }
+    {
+        let keys = Vec::from_slice(alloc, &[key])?;
+        Ok(KeyList { keys })
+    }
+
+    fn push(&mut self, key: usize) -> Result<(), AllocError>
+        ensures added { OnOk result (self.new ≡ self.old ++ key ∷ []) }
+        ensures refused { OnErr result (self.new ≡ self.old) }
+    {
+        self.keys.push(key)?;
+        Ok(())
+    }
+
+    fn as_slice(&self) -> &[usize]
+        ensures { result.now ≡ self.now }
+    {
+        self.keys.as_slice()
+    }
+}
+
+impl<A: Allocator> KeyList<A> {
+    // Leaves out the keys that have no class.
+    fn keep_live(&mut self, classes: &Classes<A>)
+        ensures { self.new ≡ filter (is_key classes.now.slots) self.old }
+    {
+        self.keys.retain(|key| classes.contains(*key));
+    }
+}
+
+/// The keys that are listed for the block.
+pub fn listed<A: Allocator>(lists: &BlockKeys<A>, block: BlockNo) -> &[usize]
+    ensures { result.now ≡ listed lists.now.entries block }
+{
+    match lists.get(&block) {
+        Some(list) => list.as_slice(),
+        None => &[],
+    }
+}
+
+fn push_to<A: Allocator>(
+    lists: &mut BlockKeys<A>,
+    block: BlockNo,
+    key: usize,
+) -> Result<bool, AllocError>
+    ensures added { IfOk result (λ found. HasPushed lists.old.entries lists.new.entries block key found) }
+    ensures refused { OnErr result (IsRelisted lists.old.entries lists.new.entries block (listed lists.old.entries block)) }
+{
+    match lists.get_mut(&block) {
+        Some(list) => {
+            list.push(key)?;
+            Ok(true)
+        }
+        None => Ok(false),
+    }
+}
+
+/// Lists a key for the block, behind those that are.
+pub fn list<A: Allocator + Copy>(
+    alloc: A,
+    lists: &mut BlockKeys<A>,
+    block: BlockNo,
+    key: usize,
+) -> Result<(), AllocError>
+    ensures added { OnOk result (IsRelisted lists.old.entries lists.new.entries block (listed lists.old.entries block ++ key ∷ [])) }
+    ensures refused { OnErr result (IsRelisted lists.old.entries lists.new.entries block (listed lists.old.entries block)) }
+{
+    if !push_to(lists, block, key)? {
+        let list = KeyList::of(alloc, key)?;
+        lists.insert(block, list)?;
+    }
+    Ok(())
+}
+
+/// Leaves out the block's keys that have no class.
+pub fn unlist<A: Allocator>(lists: &mut BlockKeys<A>, classes: &Classes<A>, block: BlockNo)
+    ensures { IsRelisted lists.old.entries lists.new.entries block (filter (is_key classes.now.slots) (listed lists.old.entries block)) }
+{
+    if let Some(list) = lists.get_mut(&block) {
+        list.keep_live(classes);
+    }
+}

@@ -1,0 +1,75 @@
+//! Scratch for searches, which `add` makes.
+ghost use Rattle.std.specs.Prelude.{◌≡◌, ◌≤◌, length, max, OnOk, OnErr};
+ghost use Rattle.patch_graph.specs.Marks.{AreClear};
+
+use std::alloc::{AllocError, Allocator, Global};
+use std::marker::Model;
+
+/// Scratch for searches among as many classes: which of them were met, in what order, and which are left over. Between two
+/// searches nothing is marked.
+#[derive(Drop)]
+pub struct Scratch<A: Allocator = Global> {
+    pub marks: Vec<bool, A>,
+    pub queue: Vec<usize, A>,
+    pub rest: Vec<bool, A>,
+}
+
+impl<A: Allocator> Model for Scratch<A> {
+    ghost use Rattle.std.specs.Prelude.{◌≤◌, ℕ, length};
+    ghost use Rattle.patch_graph.specs.Marks.{AreClear};
+
+    ghost Value = { ℕ };
+
+    ghost view = { λ r. length r.marks.items };
+
+    ghost invariant = { λ r. (length r.marks.items ≤ length r.queue.items) × (length r.marks.items ≤ length r.rest.items)
+        × AreClear r.marks.items × AreClear r.rest.items };
+}
+
+impl<A: Allocator + Copy> Scratch<A> {
+    /// Scratch for no class.
+    pub fn new(alloc: A) -> Scratch<A>
+        ensures { result ≡ 0 }
+    {
+        Scratch {
+            marks: Vec::new(alloc),
+            queue: Vec::new(alloc),
+            rest: Vec::new(alloc),
+        }
+    }
+}
+
+impl<A: Allocator> Scratch<A> {
+    /// Makes room for so many classes.
+    pub fn grow(&mut self, count: usize) -> Result<(), AllocError>
+        ensures enough { OnOk result (count ≤ self.new) }
+        ensures kept { self.old ≤ self.new }
+    {
+        lengthen_queue(&mut self.queue, count)?;
+        lengthen(&mut self.rest, count)?;
+        lengthen(&mut self.marks, count)?;
+        Ok(())
+    }
+}
+
+fn lengthen<A: Allocator>(marks: &mut Vec<bool, A>, count: usize) -> Result<(), AllocError>
+    ensures enough { OnOk result (count ≤ length marks.new.items) }
+    ensures kept { length marks.old.items ≤ length marks.new.items }
+    ensures bounded { length marks.new.items ≤ max (length marks.old.items) count }
+    ensures clear { AreClear marks.old.items → AreClear marks.new.items }
+{
+    if marks.len() < count {
+        marks.resize(count, false)?;
+    }
+    Ok(())
+}
+
+fn lengthen_queue<A: Allocator>(queue: &mut Vec<usize, A>, count: usize) -> Result<(), AllocError>
+    ensures enough { OnOk result (count ≤ length queue.new.items) }
+    ensures kept { length queue.old.items ≤ length queue.new.items }
+{
+    if queue.len() < count {
+        queue.resize(count, 0)?;
+    }
+    Ok(())
+}
