@@ -1,8 +1,8 @@
 -- The graph with one more class.
-use Rattle.std.proofs.Common.{◌≡◌, ℕ, ◌+◌, ◌∙◌, Bool, List, sym, ap, subst}
+use Rattle.std.proofs.Common.{◌≡◌, ℕ, ◌∙◌, Bool, List, sym, ap, subst}
 use Rattle.patch_model.specs.declared.patches.Undo.{Undo}
 use Rattle.patch_model.specs.Member.{In}
-use Rattle.patch_graph.specs.State.{Class, Graph, Slots, Numbers}
+use Rattle.patch_graph.specs.State.{Class, Graph, Slots}
 use Rattle.patch_graph.specs.BlockKeys.{Lists, listed, AreListed, HoldsKeys}
 use Rattle.patch_graph.specs.Adding.{dependencies, is_hard, new_class, IsAdded, IsDrawnUp, HasAdded}
 
@@ -19,18 +19,10 @@ drawn-up g block start stop after keys deps undo hard c enough deps_is hard_is i
   is = is ∙ ap (new_class g.made block start stop deps) hard_is ∙ ap (λ d. new_class g.made block start stop d (is_hard g.slots g.numbers block undo d)) deps_is;
 }
 
-pub has-added : (made : ℕ) (slots next : Slots) (numbers rest : Numbers) (block start stop : ℕ) (after : List ℕ) (undo : Undo) (hard : Bool) (key : ℕ) (c : Class)
-    → IsDrawnUp (record { made = made; slots = slots; numbers = numbers }) block start stop undo after c → hard ≡ c.hard
-    → IsAdded (record { made = c.name; slots = slots; numbers = numbers }) (record { made = c.name + 1; slots = next; numbers = rest }) key c
-    → HasAdded (record { made = made; slots = slots; numbers = numbers }) (record { made = made + 1; slots = next; numbers = rest }) block start stop undo after hard
-has-added made slots next numbers rest block start stop after undo hard key c d hard_is added =
-    let same : hard ≡ is_hard slots numbers block undo (dependencies slots block start stop after d.keys) = hard_is ∙ ap (λ z. z.hard) d.is in
-    let is : c ≡ new_class made block start stop (dependencies slots block start stop after d.keys) hard = d.is ∙ ap (new_class made block start stop (dependencies slots block start stop after d.keys)) (sym same) in
-    record {
-      key = key;
-      keys = d.keys;
-      enough = d.enough;
-      hard_is = same;
-      added = subst (λ (z : Class). IsAdded (record { made = made; slots = slots; numbers = numbers }) (record { made = made + 1; slots = next; numbers = rest }) key z) is
-          (subst (λ (n : ℕ). IsAdded (record { made = n; slots = slots; numbers = numbers }) (record { made = n + 1; slots = next; numbers = rest }) key c) (ap (λ z. z.name) is) added);
-    }
+pub has-added : (old new : Graph) (block start stop : ℕ) (after : List ℕ) (undo : Undo) (hard : Bool) (key : ℕ) (c : Class)
+    → IsDrawnUp old block start stop undo after c → hard ≡ c.hard → IsAdded old new key c → HasAdded old new block start stop undo after hard
+has-added old new block start stop after undo hard key c d hard_is added =
+    let deps = dependencies old.slots block start stop after d.keys in
+    let same : hard ≡ is_hard old.slots old.numbers block undo deps = hard_is ∙ ap (λ z. z.hard) d.is in
+    let is : c ≡ new_class old.made block start stop deps hard = d.is ∙ ap (new_class old.made block start stop deps) (sym same) in
+    record { key = key; keys = d.keys; enough = d.enough; hard_is = same; added = subst (IsAdded old new key) is added }

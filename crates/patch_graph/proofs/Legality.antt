@@ -15,7 +15,7 @@ use Rattle.patch_model.specs.Orderly.{IsOrderly}
 use Rattle.patch_model.specs.Member.{In, list_any-at, list_any-from}
 use Rattle.patch_graph.specs.State.{Class, Graph, Slots, Numbers, find, class_at}
 use Rattle.patch_graph.specs.Meaning.{Represents}
-use Rattle.patch_graph.specs.Merging.{HasJoined}
+use Rattle.patch_graph.specs.Merging.{merged, merged_name, HasJoined}
 use Rattle.patch_graph.proofs.Facts.{known}
 use Rattle.patch_graph.proofs.Rising.{all-In}
 use Rattle.patch_graph.proofs.ReadySet.{placed}
@@ -98,16 +98,13 @@ map-swap : (x y : ℕ) (es : List Entry) → map (joined x y) es ≡ map (joined
 map-swap x y [] = refl
 map-swap x y (e ∷ es) = let h = joined-swap x y e in let t = map-swap x y es in ap (λ z. z ∷ map (joined x y) es) h ∙ ap (λ zs. joined y x e ∷ zs) t
 
-module _ (made : ℕ) (old : Slots) (numbers : Numbers) (all : List Entry) (r : Represents (record { made = made; slots = old; numbers = numbers }) all) where
-  abbrev g : Graph
-  g = record { made = made; slots = old; numbers = numbers }
-
+module _ (g : Graph) (all : List Entry) (r : Represents g all) where
   -- the class of an undoable patch
-  undoable : (n key : ℕ) → is_undoable_at all n ≡ true → find numbers n ≡ Some key
-      → (c : Class) × (class_at old key ≡ Some c) × (c.name ≡ class_of all n) × (c.mark ≡ Memory) × (c.hard ≡ false) × (c.block ≡ block_at all n)
+  undoable : (n key : ℕ) → is_undoable_at all n ≡ true → find g.numbers n ≡ Some key
+      → (c : Class) × (class_at g.slots key ≡ Some c) × (c.name ≡ class_of all n) × (c.mark ≡ Memory) × (c.hard ≡ false) × (c.block ≡ block_at all n)
   undoable n key t there = by (slice_get all n) refl
     where
-      by : (o : Option Entry) → slice_get all n ≡ o → (c : Class) × (class_at old key ≡ Some c) × (c.name ≡ class_of all n) × (c.mark ≡ Memory) × (c.hard ≡ false) × (c.block ≡ block_at all n)
+      by : (o : Option Entry) → slice_get all n ≡ o → (c : Class) × (class_at g.slots key ≡ Some c) × (c.name ≡ class_of all n) × (c.mark ≡ Memory) × (c.hard ≡ false) × (c.block ≡ block_at all n)
       by None at = let u : is_undoable_at all n ≡ false = ap (λ o. elim o [ Some e ↦ is_undoable e | None ↦ false ]) at in absurd (both_ways _ u t)
       by (Some e) at =
           let u : is_undoable e ≡ true = sym (ap (λ o. elim o [ Some e ↦ is_undoable e | None ↦ false ]) at) ∙ t in
@@ -115,7 +112,7 @@ module _ (made : ℕ) (old : Slots) (numbers : Numbers) (all : List Entry) (r : 
           let i = slice_get-In all n e at in
           let place : e.patch.no ≡ 0 + n = place-is all 0 n e (known g all r).rising (λ x j. omega arith) (λ x j. let b = (known g all r).numbered x j in omega arith) at in
           let no_is : e.patch.no ≡ n = omega arith in
-          let p = placed g all r e key i (ap (find numbers) no_is ∙ there) in
+          let p = placed g all r e key i (ap (find g.numbers) no_is ∙ there) in
           let l = (r.classes key p.0 p.1).looks e i (sym p.2) in (
             p.0,
             p.1,
@@ -126,7 +123,7 @@ module _ (made : ℕ) (old : Slots) (numbers : Numbers) (all : List Entry) (r : 
           )
 
   -- an undoable patch is live
-  undoable-found : (n : ℕ) → is_undoable_at all n ≡ true → find numbers n ≡ None → ⊥
+  undoable-found : (n : ℕ) → is_undoable_at all n ≡ true → find g.numbers n ≡ None → ⊥
   undoable-found n t none = by (slice_get all n) refl
     where
       by : (o : Option Entry) → slice_get all n ≡ o → ⊥
@@ -138,21 +135,21 @@ module _ (made : ℕ) (old : Slots) (numbers : Numbers) (all : List Entry) (r : 
           let place : e.patch.no ≡ 0 + n = place-is all 0 n e (known g all r).rising (λ x j. omega arith) (λ x j. let b = (known g all r).numbered x j in omega arith) at in
           let no_is : e.patch.no ≡ n = omega arith in
           let f = r.found e i (memory-live e parts.0) in
-          let hit : find numbers n ≡ Some f.0 = subst (λ m. find numbers m ≡ Some f.0) no_is f.2 in
+          let hit : find g.numbers n ≡ Some f.0 = subst (λ m. find g.numbers m ≡ Some f.0) no_is f.2 in
           absurd (cc)
 
-  pub not-found : (a b : ℕ) → IsLegalMerge all a b → (find numbers a ≡ None) ⊎ (find numbers b ≡ None) → ⊥
+  pub not-found : (a b : ℕ) → IsLegalMerge all a b → (find g.numbers a ≡ None) ⊎ (find g.numbers b ≡ None) → ⊥
   not-found a b l (inl none) = undoable-found a l.undoable_a none
   not-found a b l (inr none) = undoable-found b l.undoable_b none
 
-  module _ (new : Slots) (rest : Numbers) where
-    pub merged : (keep gone a b : ℕ) (name : Option ℕ) → IsLegalMerge all a b → find numbers a ≡ Some keep → find numbers b ≡ Some gone → HasJoined keep gone old new numbers rest
-        → name ≡ option_map (λ c. c.name) (class_at new keep) → IsOrderly (map (joined (class_of all a) (class_of all b)) all)
-        → Represents (record { made = made; slots = new; numbers = rest }) (map (joined (class_of all a) (class_of all b)) all) × (name ≡ Some (min (class_of all a) (class_of all b)))
-    merged keep gone a b name l fa fb j named o =
+  module _ (new : Graph) (made : new.made ≡ g.made) where
+    pub merges-to : (keep gone a b : ℕ) (name : Option ℕ) → IsLegalMerge all a b → find g.numbers a ≡ Some keep → find g.numbers b ≡ Some gone → HasJoined keep gone g new
+        → name ≡ option_map (λ c. c.name) (class_at new.slots keep) → IsOrderly (merged all a b)
+        → Represents new (merged all a b) × (name ≡ Some (merged_name all a b))
+    merges-to keep gone a b name l fa fb j named o =
         let x = undoable a keep l.undoable_a fa in
         let y = undoable b gone l.undoable_b fb in
-        let differ : keep ≢ gone = λ e. l.two (sym x.2 ∙ ap (λ z. z.name) (same_class x.0 y.0 (sym x.1 ∙ ap (class_at old) e ∙ y.1)) ∙ y.2) in
+        let differ : keep ≢ gone = λ e. l.two (sym x.2 ∙ ap (λ z. z.name) (same_class x.0 y.0 (sym x.1 ∙ ap (class_at g.slots) e ∙ y.1)) ∙ y.2) in
         let is = j x.0 y.0 differ x.1 y.1 in
         let t = l.near in
         let e = list_any-at (λ e. e.class == class_of all a && list_any (λ f. f.class == class_of all b && nat_le e.patch.start (end f.patch) && nat_le f.patch.start (end e.patch)) all) all t in
@@ -174,19 +171,19 @@ module _ (made : ℕ) (old : Slots) (numbers : Numbers) (all : List Entry) (r : 
           near_back = leb-true f.0.patch.start (end e.0.patch) f2.1;
         } in
         let lists : map (joined x.0.name y.0.name) all ≡ map (joined (class_of all a) (class_of all b)) all = ap (λ n. map (joined n y.0.name) all) x.2 ∙ ap (λ n. map (joined (class_of all a) n) all) y.2 in
-        let m = merges made keep gone x.0 y.0 old new numbers rest all r differ x.1 y.1 may is (subst IsOrderly (sym lists) o) in (
-          subst (Represents (record { made = made; slots = new; numbers = rest })) lists m,
+        let m = merges g.made keep gone x.0 y.0 g.slots new.slots g.numbers new.numbers all r differ x.1 y.1 may is (subst IsOrderly (sym lists) o) in (
+          subst (Represents new) lists (subst (λ n. Represents (record { made = n; slots = new.slots; numbers = new.numbers }) (map (joined x.0.name y.0.name) all)) (sym made) m),
           named ∙ ap (option_map (λ c. c.name)) is.here ∙ ap (λ n. Some (min n y.0.name)) x.2 ∙ ap (λ n. Some (min (class_of all a) n)) y.2,
         )
       where
         same_class : (c d : Class) → ◌≡◌ {A = Option Class} (Some c) (Some d) → c ≡ d
         same_class c d e = cc
 
-    pub merged-swapped : (keep gone a b : ℕ) (name : Option ℕ) → IsLegalMerge all a b → find numbers a ≡ Some gone → find numbers b ≡ Some keep → HasJoined keep gone old new numbers rest
-        → name ≡ option_map (λ c. c.name) (class_at new keep) → IsOrderly (map (joined (class_of all a) (class_of all b)) all)
-        → Represents (record { made = made; slots = new; numbers = rest }) (map (joined (class_of all a) (class_of all b)) all) × (name ≡ Some (min (class_of all a) (class_of all b)))
-    merged-swapped keep gone a b name l fa fb j named o =
+    pub merges-swapped : (keep gone a b : ℕ) (name : Option ℕ) → IsLegalMerge all a b → find g.numbers a ≡ Some gone → find g.numbers b ≡ Some keep → HasJoined keep gone g new
+        → name ≡ option_map (λ c. c.name) (class_at new.slots keep) → IsOrderly (merged all a b)
+        → Represents new (merged all a b) × (name ≡ Some (merged_name all a b))
+    merges-swapped keep gone a b name l fa fb j named o =
         let lists = map-swap (class_of all b) (class_of all a) all in
-        let m = merged keep gone b a name (legal-swap all a b l) fb fa j named (subst IsOrderly (sym lists) o) in
+        let m = merges-to keep gone b a name (legal-swap all a b l) fb fa j named (subst IsOrderly (sym lists) o) in
         let least : min (class_of all b) (class_of all a) ≡ min (class_of all a) (class_of all b) = omega arith in
-        (subst (Represents (record { made = made; slots = new; numbers = rest })) lists m.0, m.1 ∙ ap (λ n. Some n) least)
+        (subst (Represents new) lists m.0, m.1 ∙ ap (λ n. Some n) least)

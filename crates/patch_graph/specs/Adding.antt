@@ -3,11 +3,15 @@ use Rattle.std.specs.Prelude.{ℕ, Bool, true, false, ◌≡◌, ◌≢◌, ◌+
 use Rattle.std.specs.List.{list_all}
 use Rattle.std.specs.Option.{option_map_or}
 use Rattle.patch_model.specs.Patch.{Patch}
+use Rattle.patch_model.specs.Entry.{Entry}
+use Rattle.patch_model.specs.State.{fresh}
 use Rattle.patch_model.specs.Pile.{end}
 use Rattle.patch_model.specs.declared.patches.Mark.TheVariants.{Memory}
 use Rattle.patch_model.specs.declared.patches.Undo.{Undo}
 use Rattle.patch_model.specs.declared.patches.Undo.TheVariants.{Keep, MayDrop}
 use Rattle.patch_graph.specs.BlockKeys.{HoldsKeys}
+use Rattle.patch_graph.specs.declared.graphs.Added.{Added}
+use Rattle.patch_graph.specs.Meaning.{Represents}
 use Rattle.patch_graph.specs.State.{Class, Graph, Slots, Numbers, find, class_at}
 
 abbrev pub overlaps : ℕ → ℕ → ℕ → Class → Bool
@@ -68,3 +72,11 @@ pub record IsPatch (p : Patch) (number block start stop : ℕ) (after : List ℕ
   pub end_is : end p ≡ stop
   pub after_is : p.after ≡ after
   pub undo_is : p.undo ≡ undo
+
+-- the patches with one more
+abbrev pub with_patch : List Entry → Patch → List Entry
+with_patch all p = all ++ fresh all p ∷ []
+
+-- the graph is that of the patches with one more, of which this is told
+abbrev pub HasMade : Graph → List Entry → Patch → Added → Type 0
+HasMade new all p added = Represents new (with_patch all p) × (added.no ≡ p.no) × (added.hard ≡ (fresh all p).hard)

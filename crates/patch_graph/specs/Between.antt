@@ -1,11 +1,11 @@
 -- What lies on the paths from one class to another.
-use Rattle.std.specs.Prelude.{ℕ, Bool, true, not, ◌+◌, ◌<◌, ◌≡◌, ◌≢◌, ◌≤◌, ◌⊎◌, ◌==◌, ◌&&◌, false, nat_lt, if◌then◌else◌, List, slice_index_or, Option, Some, None}
+use Rattle.std.specs.Prelude.{ℕ, Bool, IsTrue, ◌↔◌, true, not, ◌+◌, ◌<◌, ◌≡◌, ◌≢◌, ◌≤◌, ◌⊎◌, ◌==◌, ◌&&◌, false, nat_lt, if◌then◌else◌, List, slice_index_or, Option, Some, None}
 use Rattle.std.specs.Option.{option_map, option_map_or}
 use Rattle.patch_model.specs.Entry.{Entry}
 use Rattle.patch_model.specs.Dependency.{Path, LiesBetween}
-use Rattle.patch_graph.specs.State.{Class, Slots, Numbers, find, class_at}
+use Rattle.patch_graph.specs.State.{Class, Graph, Slots, Numbers, find, class_at}
 use Rattle.patch_graph.specs.Marks.{is_marked}
-use Rattle.patch_graph.specs.Meaning.{IsNotLive}
+use Rattle.patch_graph.specs.Meaning.{Represents, IsLiveClass, IsNotLive}
 
 -- reached, not left over, and neither end
 abbrev pub lies : List Bool → List Bool → ℕ → ℕ → ℕ → Bool
@@ -53,3 +53,11 @@ LacksAnEnd all a b = IsNotLive all a ⊎ IsNotLive all b
 -- one of the two numbers has no key
 abbrev pub LacksAKey : Numbers → ℕ → ℕ → Type 0
 LacksAKey numbers a b = (find numbers a ≡ None) ⊎ (find numbers b ≡ None)
+
+-- of the classes of a graph's two live patches: the least name of a third one between them
+abbrev pub TellsLeastBetween : Graph → ℕ → ℕ → Option ℕ → Type 0
+TellsLeastBetween g a b least = (all : List Entry) (x y : ℕ) → Represents g all → HasNoRing all → IsLiveClass all a x → IsLiveClass all b y → IsLeastBetween all x y least
+
+-- of the classes of a graph's two live patches: whether a path leads from the one to the other
+abbrev pub TellsReach : Graph → ℕ → ℕ → Bool → Type 0
+TellsReach g a b reaches = (all : List Entry) (x y : ℕ) → Represents g all → IsLiveClass all a x → IsLiveClass all b y → IsTrue reaches ↔ ReachesOther all x y

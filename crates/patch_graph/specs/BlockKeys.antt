@@ -41,3 +41,7 @@ is_key slots key = is_some (class_at slots key)
 -- each class that is gone was of the block
 abbrev pub LosesOf : ℕ → Slots → Slots → Type 0
 LosesOf block old new = (key : ℕ) (c : Class) → class_at old key ≡ Some c → class_at new key ≡ None → c.block ≡ block
+
+-- each class that is left was there
+abbrev pub LosesOnly : Slots → Slots → Type 0
+LosesOnly old new = (key : ℕ) (c : Class) → class_at new key ≡ Some c → class_at old key ≡ Some c

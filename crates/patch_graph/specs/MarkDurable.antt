@@ -2,7 +2,7 @@
 use Rattle.std.specs.Prelude.{ℕ, Bool, true, false, ◌≡◌, ◌≢◌, ◌<◌, ◌==◌, ◌&&◌, if◌then◌else◌, List, length, Some, None, slice_index_or}
 use Rattle.std.specs.Option.{option_map_or}
 use Rattle.patch_model.specs.Entry.{marks_flight, is_among}
-use Rattle.patch_graph.specs.State.{Class, Slots, Numbers, find, class_at}
+use Rattle.patch_graph.specs.State.{Class, Graph, Slots, Numbers, find, class_at}
 
 -- the class is in flight of the block
 abbrev pub lands : ℕ → Class → Bool
@@ -22,3 +22,7 @@ pub record AreLanded (old_slots new_slots : Slots) (old new : Numbers) (block : 
   pub gone : (key n : ℕ) (c : Class) → set key ≡ true → class_at old_slots key ≡ Some c → lands block c ≡ true → is_among c.members n ≡ true → find new n ≡ None
   pub kept : (n : ℕ) → ((key : ℕ) (c : Class) → set key ≡ true → class_at old_slots key ≡ Some c → lands block c ≡ true → is_among c.members n ≡ false) → find new n ≡ find old n
   pub long : length new_slots ≡ length old_slots
+
+-- of the keys in the set, the graph has forgotten the classes in flight of the block
+abbrev pub HasLanded : Graph → Graph → ℕ → (ℕ → Bool) → Type 0
+HasLanded old new block set = AreLanded old.slots new.slots old.numbers new.numbers block set

@@ -1,8 +1,10 @@
 -- Two classes made one.
-use Rattle.std.specs.Prelude.{ℕ, ◌≡◌, ◌≢◌, ◌++◌, min, max, if◌then◌else◌, List, Some, None, slice_set}
+use Rattle.std.specs.Prelude.{ℕ, map, ◌≡◌, ◌≢◌, ◌++◌, min, max, if◌then◌else◌, List, Some, None, slice_set}
 use Rattle.std.specs.Option.{option_map, option_map_or}
-use Rattle.patch_model.specs.Entry.{is_among}
-use Rattle.patch_graph.specs.State.{Class, Slots, Numbers, find, class_at}
+use Rattle.patch_model.specs.Entry.{Entry, is_among}
+use Rattle.patch_model.specs.State.{class_of, joined}
+use Rattle.patch_graph.specs.Meaning.{Represents}
+use Rattle.patch_graph.specs.State.{Class, Graph, Slots, Numbers, find, class_at}
 
 -- the class with another one's patches
 abbrev pub joined_class : Class → Class → Class
@@ -29,6 +31,19 @@ pub record IsJoined (keep gone : ℕ) (c d : Class) (old_slots new_slots : Slots
   pub others : (k : ℕ) → k ≢ keep → k ≢ gone → class_at new_slots k ≡ class_at old_slots k
   pub numbers : AreRedirected d.members keep old new
 
-abbrev pub HasJoined : ℕ → ℕ → Slots → Slots → Numbers → Numbers → Type 0
-HasJoined keep gone old_slots new_slots old new =
-    (c d : Class) → keep ≢ gone → class_at old_slots keep ≡ Some c → class_at old_slots gone ≡ Some d → IsJoined keep gone c d old_slots new_slots old new
+-- the graph with the class that was at the one key part of that at the other
+abbrev pub HasJoined : ℕ → ℕ → Graph → Graph → Type 0
+HasJoined keep gone old new =
+    (c d : Class) → keep ≢ gone → class_at old.slots keep ≡ Some c → class_at old.slots gone ≡ Some d → IsJoined keep gone c d old.slots new.slots old.numbers new.numbers
+
+-- the patches after a merge of the classes of two of them
+abbrev pub merged : List Entry → ℕ → ℕ → List Entry
+merged all a b = map (joined (class_of all a) (class_of all b)) all
+
+-- the name of the class that a merge leaves
+abbrev pub merged_name : List Entry → ℕ → ℕ → ℕ
+merged_name all a b = min (class_of all a) (class_of all b)
+
+-- the graph is that of the merged patches, and their class has this name
+abbrev pub HasMerged : Graph → List Entry → ℕ → ℕ → ℕ → Type 0
+HasMerged new all a b name = Represents new (merged all a b) × (name ≡ merged_name all a b)

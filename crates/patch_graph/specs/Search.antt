@@ -1,6 +1,6 @@
 -- A search through the classes, by marks and a queue of keys.
 use Rattle.std.specs.Prelude.{ℕ, Bool, true, false, ◌≡◌, ◌≢◌, ◌<◌, ◌≤◌, ◌⊎◌, ◌+◌, List, length, Some, slice_index_or, slice_set}
-use Rattle.patch_graph.specs.State.{Class, Slots, Numbers, find, class_at, leads}
+use Rattle.patch_graph.specs.State.{Class, Graph, Slots, Numbers, find, class_at, leads}
 use Rattle.patch_graph.specs.Marks.{is_marked, marked_count}
 use Rattle.patch_graph.specs.Meaning.{Leads}
 
@@ -55,3 +55,24 @@ pub record IsLook (slots : Slots) (numbers : Numbers) (from to key : ℕ) (after
   pub inside : head < tail
   pub long : length marks ≤ length queue
   pub seen : (m j : ℕ) → m < upto → find numbers (slice_index_or after m 0) ≡ Some j → j < length marks → is_marked marks j ≡ true
+
+-- what a search has come to: the marks, the queue of the marked keys, and how many they are
+pub record Walk : Type 0 where
+  pub marks : List Bool
+  pub queue : List ℕ
+  pub tail : ℕ
+
+abbrev pub walk : List Bool → List ℕ → ℕ → Walk
+walk marks queue tail = record { marks = marks; queue = queue; tail = tail }
+
+-- all numbers of the class at the queue's head were looked at
+abbrev pub HasFollowed : Graph → Class → ℕ → Walk → Walk → Type 0
+HasFollowed g c head old new = (from to key : ℕ) → class_at g.slots key ≡ Some c
+    → IsLook g.slots g.numbers from to key c.after old.marks old.queue head old.tail 0
+    → IsLook g.slots g.numbers from to key c.after new.marks new.queue head new.tail (length c.after)
+
+-- the search has looked behind one more of the queue
+abbrev pub HasLooked : Graph → ℕ → ℕ → Walk → Walk → Type 0
+HasLooked g to head old new = (from : ℕ) → head < old.tail
+    → IsSearch g.slots g.numbers from to old.marks old.queue head old.tail
+    → IsSearch g.slots g.numbers from to new.marks new.queue (head + 1) new.tail

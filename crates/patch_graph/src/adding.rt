@@ -10,12 +10,13 @@ ghost use Rattle.patch_graph.specs.Adding.{overlap_at, dependencies, lets_drop, 
 ghost use Rattle.patch_graph.specs.BlockKeys.{AreListed};
 
 use crate::block_keys::{BlockKeys, list};
-use crate::classes::{Class, Classes, Keys, enter, find};
+use crate::classes::Class;
+use crate::register::{Classes, Keys, Register, enter};
 use crate::scratch::Scratch;
-use patch_model::{BlockNo, PatchNo, Undo};
+use patch_model::{BlockNo, MAX_PATCHES, PatchNo, Undo};
 use std::alloc::{AllocError, Allocator};
 
-// Makes room for one more class, and for searches through it.
+/// Makes room for one more class, and for searches through it.
 fn make_room<A: Allocator + Copy>(
     classes: &mut Classes<A>,
     keys: &mut Keys<A>,
@@ -34,16 +35,16 @@ fn make_room<A: Allocator + Copy>(
 }
 
 fn add_overlap<A: Allocator>(
-    classes: &Classes<A>,
+    register: &Register<A>,
     block: BlockNo,
     start: usize,
     stop: usize,
     key: usize,
     all: &mut Vec<PatchNo, A>,
 ) -> Result<(), AllocError>
-    ensures { OnOk result (all.new.items ≡ all.old.items ++ overlap_at classes.now.slots block start stop key) }
+    ensures { OnOk result (all.new.items ≡ all.old.items ++ overlap_at register.now.slots block start stop key) }
 {
-    if let Some(class) = classes.get(key) {
+    if let Some(class) = register.class_at(key) {
         if class.overlaps(block, start, stop) {
             all.push(class.name)?;
         }
@@ -54,94 +55,82 @@ fn add_overlap<A: Allocator>(
 /// The numbers that a patch of this span names, and the classes that it overlaps, of these keys.
 pub fn dependencies<A: Allocator>(
     alloc: A,
-    classes: &Classes<A>,
+    register: &Register<A>,
     block: BlockNo,
     start: usize,
     stop: usize,
     after: &[PatchNo],
-    listed: &[usize],
+    keys: &[usize],
 ) -> Result<Vec<PatchNo, A>, AllocError>
-    ensures { IfOk result (λ all. all.items ≡ dependencies classes.now.slots block start stop after.now listed.now) }
+    ensures { IfOk result (λ all. all.items ≡ dependencies register.now.slots block start stop after.now keys.now) }
 {
     let mut all = Vec::from_slice(alloc, after)?;
-    for key in listed {
-        add_overlap(classes, block, start, stop, *key, &mut all)?;
+    for key in keys {
+        add_overlap(register, block, start, stop, *key, &mut all)?;
     }
     Ok(all)
 }
 
-fn is_hard_at<A: Allocator>(classes: &Classes<A>, block: BlockNo, key: usize) -> bool
-    ensures { result ≡ option_map_or (λ c. c.hard && c.block == block) (class_at classes.now.slots key) false }
+fn is_hard_at<A: Allocator>(register: &Register<A>, block: BlockNo, key: usize) -> bool
+    ensures { result ≡ option_map_or (λ c. c.hard && c.block == block) (class_at register.now.slots key) false }
 {
-    match classes.get(key) {
+    match register.class_at(key) {
         Some(class) => class.hard && class.block == block,
         None => false,
     }
 }
 
-fn lets_drop<A: Allocator>(
-    classes: &Classes<A>,
-    keys: &Keys<A>,
-    block: BlockNo,
-    no: PatchNo,
-) -> bool
-    ensures { result ≡ lets_drop classes.now.slots keys.now.entries block no }
+fn lets_drop<A: Allocator>(register: &Register<A>, block: BlockNo, no: PatchNo) -> bool
+    ensures { result ≡ lets_drop register.now.slots register.now.numbers block no }
 {
-    match find(keys, no) {
-        Some(key) => is_hard_at(classes, block, key),
+    match register.find(no) {
+        Some(key) => is_hard_at(register, block, key),
         None => true,
     }
 }
 
-fn let_drop<A: Allocator>(
-    classes: &Classes<A>,
-    keys: &Keys<A>,
-    block: BlockNo,
-    deps: &[PatchNo],
-) -> bool
-    ensures { result ≡ list_all (lets_drop classes.now.slots keys.now.entries block) deps.now }
+fn let_drop<A: Allocator>(register: &Register<A>, block: BlockNo, deps: &[PatchNo]) -> bool
+    ensures { result ≡ list_all (lets_drop register.now.slots register.now.numbers block) deps.now }
 {
-    deps.iter().all(|no| lets_drop(classes, keys, block, *no))
+    deps.iter().all(|no| lets_drop(register, block, *no))
 }
 
 /// Whether a patch is hard that depends on these.
 pub fn is_hard<A: Allocator>(
-    classes: &Classes<A>,
-    keys: &Keys<A>,
+    register: &Register<A>,
     block: BlockNo,
     undo: Undo,
     deps: &[PatchNo],
 ) -> bool
-    ensures { result ≡ is_hard classes.now.slots keys.now.entries block undo deps.now }
+    ensures { result ≡ is_hard register.now.slots register.now.numbers block undo deps.now }
 {
     match undo {
         Undo::Keep => false,
-        Undo::MayDrop => let_drop(classes, keys, block, deps),
+        Undo::MayDrop => let_drop(register, block, deps),
     }
 }
 
 /// Puts in a new patch's class, lists its key for its block, and makes room for searches through one class more.
 pub fn insert<A: Allocator + Copy>(
     alloc: A,
-    classes: &mut Classes<A>,
-    keys: &mut Keys<A>,
+    register: &mut Register<A>,
     lists: &mut BlockKeys<A>,
     scratch: &mut Scratch<A>,
     class: Class<A>,
 ) -> Result<usize, AllocError>
-    ensures inserted { IfOk result (λ key. IsAdded (record { made = class.name; slots = classes.old.slots; numbers = keys.old.entries })
-        (record { made = class.name + 1; slots = classes.new.slots; numbers = keys.new.entries }) key class) }
-    ensures room { length classes.old.slots ≤ scratch.old → length classes.new.slots ≤ scratch.new }
-    ensures listed { AreListed classes.old.slots lists.old.entries → AreListed classes.new.slots lists.new.entries }
-    ensures refused_classes { OnErr result (classes.new.slots ≡ classes.old.slots) }
-    ensures refused_keys { OnErr result (keys.new.entries ≡ keys.old.entries) }
+    requires { register.old.made < MAX_PATCHES }
+    ensures inserted { IfOk result (λ key. IsAdded register.old register.new key class) }
+    ensures room { length register.old.slots ≤ scratch.old → length register.new.slots ≤ scratch.new }
+    ensures listed { AreListed register.old.slots lists.old.entries → AreListed register.new.slots lists.new.entries }
+    ensures refused { OnErr result (register.new ≡ register.old) }
 {
-    make_room(classes, keys, scratch)?;
-    let no = class.name;
-    list(alloc, lists, class.block, classes.vacant_key())?;
-    let key = classes.insert_reserved(class);
+    make_room(&mut register.classes, &mut register.keys, scratch)?;
+    let no = PatchNo(register.made);
+    list(alloc, lists, class.block, register.classes.vacant_key())?;
+    let key = register.classes.insert_reserved(class);
     // No key is past the capacity, and the room is as large.
-    let _count = classes.capacity();
-    enter(keys, no, key);
+    let _count = register.classes.capacity();
+    enter(&mut register.keys, no, key);
+    register.made += 1;
     Ok(key)
 }

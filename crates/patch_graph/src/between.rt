@@ -3,8 +3,8 @@ ghost use Rattle.std.specs.Prelude.{◌≡◌, ◌≤◌, ℕ, length};
 ghost use Rattle.patch_graph.specs.Between.{lies, lesser, name_if, IsLeastOf, AreWithout};
 ghost use Rattle.patch_graph.specs.Marks.{AreClear, HoldsMarked};
 
-use crate::classes::{Classes, name_at};
-use crate::ready::{is_marked, set_mark};
+use crate::ready::{is_marked, put_mark};
+use crate::register::Register;
 use patch_model::PatchNo;
 use std::alloc::Allocator;
 
@@ -27,17 +27,17 @@ fn lesser(a: Option<PatchNo>, b: Option<PatchNo>) -> Option<PatchNo>
 }
 
 fn name_if<A: Allocator>(
-    classes: &Classes<A>,
+    register: &Register<A>,
     marks: &[bool],
     rest: &[bool],
     from: usize,
     to: usize,
     key: usize,
 ) -> Option<PatchNo>
-    ensures { result ≡ name_if classes.now.slots (lies marks.now rest.now from to) key }
+    ensures { result ≡ name_if register.now.slots (lies marks.now rest.now from to) key }
 {
     if lies(marks, rest, from, to, key) {
-        name_at(classes, key)
+        register.name_at(key)
     } else {
         None
     }
@@ -45,33 +45,33 @@ fn name_if<A: Allocator>(
 
 /// The least name of a class, of those listed, that is marked, not left over, and neither end.
 pub fn least_name<A: Allocator>(
-    classes: &Classes<A>,
-    listed: &[usize],
+    register: &Register<A>,
+    keys: &[usize],
     marks: &[bool],
     rest: &[bool],
     from: usize,
     to: usize,
 ) -> Option<PatchNo>
-    ensures { IsLeastOf classes.now.slots (lies marks.now rest.now from to) listed.now (length listed.now) result }
+    ensures { IsLeastOf register.now.slots (lies marks.now rest.now from to) keys.now (length keys.now) result }
 {
     let mut least = None;
-    for key in listed {
-        least = lesser(least, name_if(classes, marks, rest, from, to, *key));
+    for key in keys {
+        least = lesser(least, name_if(register, marks, rest, from, to, *key));
     }
     least
 }
 
 /// Copies the marks of those listed, but for one key.
-pub fn copy_without(listed: &[usize], marks: &[bool], rest: &mut [bool], to: usize)
+pub fn copy_without(keys: &[usize], marks: &[bool], rest: &mut [bool], to: usize)
     requires long { length marks.now ≤ length rest.old }
     requires clear { AreClear rest.old }
-    requires held { HoldsMarked marks.now listed.now }
+    requires held { HoldsMarked marks.now keys.now }
     ensures copied { AreWithout to marks.now rest.new }
     ensures length { length rest.new ≡ length rest.old }
 {
-    for key in listed {
+    for key in keys {
         if is_marked(marks, *key) && *key != to {
-            set_mark(rest, *key, true);
+            put_mark(rest, *key);
         }
     }
 }

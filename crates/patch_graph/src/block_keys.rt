@@ -2,7 +2,7 @@
 ghost use Rattle.std.specs.Prelude.{◌≡◌, ◌∷◌, ◌++◌, [], filter, IfOk, OnOk, OnErr};
 ghost use Rattle.patch_graph.specs.BlockKeys.{listed, is_key, IsRelisted, HasPushed};
 
-use crate::classes::Classes;
+use crate::register::Register;
 use indexmap::IndexMap;
 use patch_model::BlockNo;
 use std::alloc::{AllocError, Allocator, Global};
@@ -51,10 +51,10 @@ impl<A: Allocator> KeyList<A> {
 
 impl<A: Allocator> KeyList<A> {
     // Leaves out the keys that have no class.
-    fn keep_live(&mut self, classes: &Classes<A>)
-        ensures { self.new ≡ filter (is_key classes.now.slots) self.old }
+    fn keep_live(&mut self, register: &Register<A>)
+        ensures { self.new ≡ filter (is_key register.now.slots) self.old }
     {
-        self.keys.retain(|key| classes.contains(*key));
+        self.keys.retain(|key| register.contains(*key));
     }
 }
 
@@ -103,10 +103,10 @@ pub fn list<A: Allocator + Copy>(
 }
 
 /// Leaves out the block's keys that have no class.
-pub fn unlist<A: Allocator>(lists: &mut BlockKeys<A>, classes: &Classes<A>, block: BlockNo)
-    ensures { IsRelisted lists.old.entries lists.new.entries block (filter (is_key classes.now.slots) (listed lists.old.entries block)) }
+pub fn unlist<A: Allocator>(lists: &mut BlockKeys<A>, register: &Register<A>, block: BlockNo)
+    ensures { IsRelisted lists.old.entries lists.new.entries block (filter (is_key register.now.slots) (listed lists.old.entries block)) }
 {
     if let Some(list) = lists.get_mut(&block) {
-        list.keep_live(classes);
+        list.keep_live(register);
     }
 }

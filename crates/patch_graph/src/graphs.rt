@@ -3,23 +3,25 @@ ghost use Rattle.std.specs.Prelude.{◌≡◌, ◌≢◌, ◌<◌, ◌≤◌, �
 ghost use Rattle.patch_model.specs.Patch.{Patch};
 ghost use Rattle.patch_model.specs.Entry.{Entry};
 ghost use Rattle.patch_model.specs.Ready.{ready};
-ghost use Rattle.patch_model.specs.State.{class_of, fresh, joined, landed, sent};
+ghost use Rattle.patch_model.specs.State.{landed, sent};
 ghost use Rattle.patch_model.specs.Legal.{IsLegalMerge};
 ghost use Rattle.patch_model.specs.Orderly.{IsOrderly};
 ghost use Rattle.patch_graph.specs.Meaning.{Represents, IsNotLive, IsLiveClass, HasMark};
 ghost use Rattle.patch_graph.specs.Showing.{IsShown};
-ghost use Rattle.patch_graph.specs.Between.{HasNoRing, IsLeastBetween, LacksAnEnd, ReachesOther};
-ghost use Rattle.patch_graph.specs.Adding.{IsPatch, IsDrawnUp, HasAdded};
+ghost use Rattle.patch_graph.specs.Between.{LacksAnEnd, TellsLeastBetween, TellsReach};
+ghost use Rattle.patch_graph.specs.Merging.{HasMerged, merged};
+ghost use Rattle.patch_graph.specs.Adding.{IsPatch, IsDrawnUp, HasAdded, HasMade, with_patch};
 
 use crate::adding::{dependencies, insert, is_hard};
 use crate::block_keys::{BlockKeys, listed, unlist};
-use crate::classes::{Class, Classes, Keys, LiveClass, find, mark_at, name_at, shown_at};
+use crate::classes::{Class, LiveClass};
 use crate::mark_durable::land;
 use crate::mark_flight::fly_ready;
 use crate::merging;
 use crate::queries::{between, is_any_ready, numbers_ready, reaches};
+use crate::register::Register;
 use crate::scratch::Scratch;
-use patch_model::{BlockNo, Mark, OutOfMemory, PatchNo, Undo};
+use patch_model::{BlockNo, MAX_PATCHES, Mark, OutOfMemory, PatchNo, Undo};
 use std::alloc::{AllocError, Allocator, Global};
 use std::marker::Model;
 
@@ -37,9 +39,7 @@ pub struct Added {
 #[derive(Drop)]
 pub struct Graph<A: Allocator + Copy = Global> {
     alloc: A,
-    made: u32,
-    classes: Classes<A>,
-    keys: Keys<A>,
+    register: Register<A>,
     lists: BlockKeys<A>,
     scratch: Scratch<A>,
 }
@@ -51,9 +51,9 @@ impl<A: Allocator + Copy> Model for Graph<A> {
 
     ghost Value = { Seen };
 
-    ghost view = { λ g. record { made = g.made; slots = g.classes.slots; numbers = g.keys.entries } };
+    ghost view = { λ g. g.register };
 
-    ghost invariant = { λ g. (length g.classes.slots ≤ g.scratch) × AreListed g.classes.slots g.lists.entries };
+    ghost invariant = { λ g. (length g.register.slots ≤ g.scratch) × AreListed g.register.slots g.lists.entries };
 }
 
 impl<A: Allocator + Copy> Graph<A> {
@@ -63,9 +63,7 @@ impl<A: Allocator + Copy> Graph<A> {
     {
         Graph {
             alloc,
-            made: 0,
-            classes: Classes::new(alloc),
-            keys: Keys::new(alloc),
+            register: Register::new(alloc),
             lists: BlockKeys::new(alloc),
             scratch: Scratch::new(alloc),
         }
@@ -75,8 +73,7 @@ impl<A: Allocator + Copy> Graph<A> {
     pub fn made(&self) -> u32
         ensures { result ≡ self.now.made }
     {
-        let Graph { made, .. } = self;
-        *made
+        self.register.made()
     }
 
     /// The patches that a send of the block takes, rising.
@@ -91,8 +88,7 @@ impl<A: Allocator + Copy> Graph<A> {
     {
         let numbers = numbers_ready(
             alloc,
-            &self.classes,
-            &self.keys,
+            &self.register,
             block,
             listed(&self.lists, block),
             &mut self.scratch,
@@ -106,8 +102,7 @@ impl<A: Allocator + Copy> Graph<A> {
         ensures same { self.new ≡ self.old }
     {
         is_any_ready(
-            &self.classes,
-            &self.keys,
+            &self.register,
             block,
             listed(&self.lists, block),
             &mut self.scratch,
@@ -126,15 +121,14 @@ impl<A: Allocator + Copy> Graph<A> {
         after: &[PatchNo],
         undo: Undo,
     ) -> Result<Added, OutOfMemory>
-        requires numbers { self.old.made < 2 ^ 24 }
+        requires numbers { self.old.made < MAX_PATCHES }
         requires span { start < stop }
         ensures answer { (all : List Entry) (p : Patch) → Represents self.old all → IsPatch p self.old.made block start stop after.now undo
-            → IsOrderly (all ++ fresh all p ∷ [])
-            → IfOk result (λ added. Represents self.new (all ++ fresh all p ∷ []) × (added.no ≡ p.no) × (added.hard ≡ (fresh all p).hard)) }
+            → IsOrderly (with_patch all p) → IfOk result (HasMade self.new all p) }
         ensures made { OnOk result (self.new.made ≡ self.old.made + 1) }
         ensures refused { OnErr result (self.new ≡ self.old) }
     {
-        let no = PatchNo(self.made);
+        let no = PatchNo(self.register.made());
         let hard = self.add_exactly(block, start, stop, after, undo)?;
         Ok(Added { no, hard })
     }
@@ -147,7 +141,7 @@ impl<A: Allocator + Copy> Graph<A> {
         after: &[PatchNo],
         undo: Undo,
     ) -> Result<bool, AllocError>
-        requires { self.old.made < 2 ^ 24 }
+        requires { self.old.made < MAX_PATCHES }
         ensures made { OnOk result (self.new.made ≡ self.old.made + 1) }
         ensures done { IfOk result (λ hard. HasAdded self.old self.new block start stop undo after.now hard) }
         ensures refused { OnErr result (self.new ≡ self.old) }
@@ -156,13 +150,11 @@ impl<A: Allocator + Copy> Graph<A> {
         let hard = class.hard;
         insert(
             self.alloc,
-            &mut self.classes,
-            &mut self.keys,
+            &mut self.register,
             &mut self.lists,
             &mut self.scratch,
             class,
         )?;
-        self.made += 1;
         Ok(hard)
     }
 
@@ -177,12 +169,12 @@ impl<A: Allocator + Copy> Graph<A> {
     ) -> Result<Class<A>, AllocError>
         ensures { IfOk result (IsDrawnUp self.now block start stop undo after.now) }
     {
-        let near = listed(&self.lists, block);
-        let deps = dependencies(self.alloc, &self.classes, block, start, stop, after, near)?;
-        let hard = is_hard(&self.classes, &self.keys, block, undo, deps.as_slice());
+        let keys = listed(&self.lists, block);
+        let deps = dependencies(self.alloc, &self.register, block, start, stop, after, keys)?;
+        let hard = is_hard(&self.register, block, undo, deps.as_slice());
         Class::alone(
             self.alloc,
-            PatchNo(self.made),
+            PatchNo(self.register.made()),
             block,
             start,
             stop,
@@ -193,39 +185,24 @@ impl<A: Allocator + Copy> Graph<A> {
 
     /// Makes one class of the classes of two patches, where that is legal. Its name.
     pub fn merge(&mut self, a: PatchNo, b: PatchNo) -> Result<PatchNo, OutOfMemory>
-        ensures answer { (all : List Entry) → Represents self.old all → IsLegalMerge all a b
-            → IsOrderly (map (joined (class_of all a) (class_of all b)) all)
-            → IfOk result (λ name. Represents self.new (map (joined (class_of all a) (class_of all b)) all) × (name ≡ min (class_of all a) (class_of all b))) }
+        ensures answer { (all : List Entry) → Represents self.old all → IsLegalMerge all a b → IsOrderly (merged all a b)
+            → IfOk result (HasMerged self.new all a b) }
         ensures made { self.new.made ≡ self.old.made }
         ensures refused { OnErr result (self.new ≡ self.old) }
     {
-        let name = merging::merge(
-            self.alloc,
-            &mut self.classes,
-            &mut self.keys,
-            &mut self.lists,
-            a,
-            b,
-        )?;
+        let name = merging::merge(self.alloc, &mut self.register, &mut self.lists, a, b)?;
+        // There is a name where both patches are live, as they are where a merge is legal.
         Ok(name.unwrap_or(a))
     }
 
     /// The least name of a third live class on a path from the class of the one live patch to that of the other. There is
     /// none, too, where one of the two numbers is durable or wasn't made: it names no live class.
     pub fn between(&mut self, a: PatchNo, b: PatchNo) -> Option<PatchNo>
-        ensures answer { (all : List Entry) (x y : ℕ) → Represents self.old all → HasNoRing all
-            → IsLiveClass all a x → IsLiveClass all b y → IsLeastBetween all x y result }
+        ensures answer { TellsLeastBetween self.old a b result }
         ensures absent { (all : List Entry) → Represents self.old all → LacksAnEnd all a b → result ≡ None }
         ensures same { self.new ≡ self.old }
     {
-        between(
-            &self.classes,
-            &self.keys,
-            self.made,
-            a,
-            b,
-            &mut self.scratch,
-        )
+        between(&self.register, a, b, &mut self.scratch)
     }
 
     /// Puts in flight what a send of the block takes.
@@ -234,14 +211,8 @@ impl<A: Allocator + Copy> Graph<A> {
             → Represents self.new (map (sent (ready all block)) all) }
         ensures made { self.new.made ≡ self.old.made }
     {
-        let near = listed(&self.lists, block);
-        fly_ready(
-            &mut self.classes,
-            &self.keys,
-            block,
-            near,
-            &mut self.scratch,
-        );
+        let keys = listed(&self.lists, block);
+        fly_ready(&mut self.register, block, keys, &mut self.scratch);
     }
 
     /// Makes durable what is in flight of the block, and forgets it.
@@ -250,28 +221,27 @@ impl<A: Allocator + Copy> Graph<A> {
             → Represents self.new (map (landed block) all) }
         ensures made { self.new.made ≡ self.old.made }
     {
-        let near = listed(&self.lists, block);
-        land(&mut self.classes, &mut self.keys, block, near);
-        unlist(&mut self.lists, &self.classes, block);
+        let keys = listed(&self.lists, block);
+        land(&mut self.register, block, keys);
+        unlist(&mut self.lists, &self.register, block);
     }
 
     /// Whether the class of the one live patch depends on that of the other, directly or through others. No class reaches
     /// itself, and a number that is durable or wasn't made reaches nothing and isn't reached.
     pub fn reaches(&mut self, a: PatchNo, b: PatchNo) -> bool
-        ensures answer { (all : List Entry) (x y : ℕ) → Represents self.old all → IsLiveClass all a x → IsLiveClass all b y
-            → IsTrue result ↔ ReachesOther all x y }
+        ensures answer { TellsReach self.old a b result }
         ensures absent { (all : List Entry) → Represents self.old all → LacksAnEnd all a b → result ≡ false }
         ensures same { self.new ≡ self.old }
     {
-        reaches(&self.classes, &self.keys, a, b, &mut self.scratch)
+        reaches(&self.register, a, b, &mut self.scratch)
     }
 
     /// The name of a live patch's class.
     pub fn class_of(&self, no: PatchNo) -> Option<PatchNo>
         ensures { (all : List Entry) → Represents self.now all → MatchOption result (IsNotLive all no) (IsLiveClass all no) }
     {
-        match find(&self.keys, no) {
-            Some(key) => name_at(&self.classes, key),
+        match self.register.find(no) {
+            Some(key) => self.register.name_at(key),
             None => None,
         }
     }
@@ -280,8 +250,8 @@ impl<A: Allocator + Copy> Graph<A> {
     pub fn live_class(&self, no: PatchNo) -> Option<LiveClass>
         ensures { (all : List Entry) → Represents self.now all → MatchOption result (IsNotLive all no) (IsShown all no) }
     {
-        match find(&self.keys, no) {
-            Some(key) => shown_at(&self.classes, key),
+        match self.register.find(no) {
+            Some(key) => self.register.shown_at(key),
             None => None,
         }
     }
@@ -290,11 +260,11 @@ impl<A: Allocator + Copy> Graph<A> {
     pub fn mark_of(&self, no: PatchNo) -> Option<Mark>
         ensures { (all : List Entry) → Represents self.now all → MatchOption result (length all ≤ no) (HasMark all no) }
     {
-        if no.0 >= self.made {
+        if no.0 >= self.register.made() {
             return None;
         }
-        match find(&self.keys, no) {
-            Some(key) => mark_at(&self.classes, key),
+        match self.register.find(no) {
+            Some(key) => self.register.mark_at(key),
             None => Some(Mark::Durable),
         }
     }

@@ -11,6 +11,7 @@ mod mark_flight;
 mod merging;
 mod queries;
 mod ready;
+mod register;
 mod scratch;
 mod searching;
 

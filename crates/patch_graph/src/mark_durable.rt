@@ -1,27 +1,28 @@
 //! Classes made durable.
-ghost use Rattle.std.specs.Prelude.{◌≡◌, ◌≤◌, ◌==◌, ℕ, List, map, length, Some};
+ghost use Rattle.std.specs.Prelude.{◌≡◌, ◌≤◌, ◌==◌, List, map, length};
 ghost use Rattle.patch_model.specs.Entry.{Entry, is_among};
 ghost use Rattle.patch_model.specs.State.{landed};
 ghost use Rattle.patch_model.specs.Orderly.{IsOrderly};
 ghost use Rattle.patch_graph.specs.Meaning.{Represents};
-ghost use Rattle.patch_graph.specs.State.{Class as TheClass, class_at};
-ghost use Rattle.patch_graph.specs.BlockKeys.{HoldsKeys, LosesOf};
-ghost use Rattle.patch_graph.specs.MarkDurable.{lands, lands_at, AreForgotten, AreLanded};
+ghost use Rattle.patch_graph.specs.BlockKeys.{HoldsKeys, LosesOf, LosesOnly};
+ghost use Rattle.patch_graph.specs.MarkDurable.{lands, lands_at, AreForgotten, HasLanded};
 
-use crate::classes::{Class, Classes, Keys};
+use crate::classes::Class;
+use crate::register::{Keys, Register};
 use patch_model::{BlockNo, Mark, PatchNo};
 use std::alloc::Allocator;
 
+/// Whether the class is in flight of the block.
 fn lands<A: Allocator>(class: &Class<A>, block: BlockNo) -> bool
     ensures { result ≡ lands block class.now }
 {
     matches!(class.mark, Mark::Flight) && class.block == block
 }
 
-fn lands_at<A: Allocator>(classes: &Classes<A>, block: BlockNo, key: usize) -> bool
-    ensures { result ≡ lands_at classes.now.slots block key }
+fn lands_at<A: Allocator>(register: &Register<A>, block: BlockNo, key: usize) -> bool
+    ensures { result ≡ lands_at register.now.slots block key }
 {
-    match classes.get(key) {
+    match register.class_at(key) {
         Some(class) => lands(class, block),
         None => false,
     }
@@ -35,43 +36,37 @@ fn forget<A: Allocator>(keys: &mut Keys<A>, members: &[PatchNo])
     }
 }
 
-fn land_at<A: Allocator>(classes: &mut Classes<A>, keys: &mut Keys<A>, block: BlockNo, key: usize)
-    ensures { AreLanded classes.old.slots classes.new.slots keys.old.entries keys.new.entries block (λ k. k == key) }
+/// Forgets the class at the key, if it is in flight of the block.
+fn land_at<A: Allocator>(register: &mut Register<A>, block: BlockNo, key: usize)
+    ensures landed { HasLanded register.old register.new block (λ k. k == key) }
+    ensures made { register.new.made ≡ register.old.made }
 {
-    if lands_at(classes, block, key) {
-        if let Some(class) = classes.try_remove(key) {
-            forget(keys, class.members.as_slice());
+    if lands_at(register, block, key) {
+        if let Some(class) = register.classes.try_remove(key) {
+            forget(&mut register.keys, class.members.as_slice());
         }
     }
 }
 
-fn land_all<A: Allocator>(
-    classes: &mut Classes<A>,
-    keys: &mut Keys<A>,
-    block: BlockNo,
-    listed: &[usize],
-)
-    ensures { AreLanded classes.old.slots classes.new.slots keys.old.entries keys.new.entries block (is_among listed.now) }
+/// Forgets the classes in flight of the block at these keys.
+fn land_exactly<A: Allocator>(register: &mut Register<A>, block: BlockNo, keys: &[usize])
+    ensures landed { HasLanded register.old register.new block (is_among keys.now) }
+    ensures made { register.new.made ≡ register.old.made }
 {
-    for key in listed {
-        land_at(classes, keys, block, *key);
+    for key in keys {
+        land_at(register, block, *key);
     }
 }
 
-/// Forgets the classes in flight of the block, which are among those listed.
-pub fn land<A: Allocator>(
-    classes: &mut Classes<A>,
-    keys: &mut Keys<A>,
-    block: BlockNo,
-    listed: &[usize],
-)
-    requires { HoldsKeys classes.old.slots block listed.now }
-    ensures answer { (made : ℕ) (all : List Entry) → Represents (record { made = made; slots = classes.old.slots; numbers = keys.old.entries }) all
-        → IsOrderly (map (landed block) all)
-        → Represents (record { made = made; slots = classes.new.slots; numbers = keys.new.entries }) (map (landed block) all) }
-    ensures length { length classes.new.slots ≡ length classes.old.slots }
-    ensures fewer { (key : ℕ) (c : TheClass) → class_at classes.new.slots key ≡ Some c → class_at classes.old.slots key ≡ Some c }
-    ensures gone { LosesOf block classes.old.slots classes.new.slots }
+/// Forgets the classes in flight of the block, whose keys are among these.
+pub fn land<A: Allocator>(register: &mut Register<A>, block: BlockNo, keys: &[usize])
+    requires { HoldsKeys register.old.slots block keys.now }
+    ensures answer { (all : List Entry) → Represents register.old all → IsOrderly (map (landed block) all)
+        → Represents register.new (map (landed block) all) }
+    ensures made { register.new.made ≡ register.old.made }
+    ensures length { length register.new.slots ≡ length register.old.slots }
+    ensures fewer { LosesOnly register.old.slots register.new.slots }
+    ensures gone { LosesOf block register.old.slots register.new.slots }
 {
-    land_all(classes, keys, block, listed);
+    land_exactly(register, block, keys);
 }

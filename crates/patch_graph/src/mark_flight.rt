@@ -9,12 +9,13 @@ ghost use Rattle.patch_graph.specs.Marks.{is_marked, HoldsMarked};
 ghost use Rattle.patch_graph.specs.BlockKeys.{HoldsKeys};
 ghost use Rattle.patch_graph.specs.MarkFlight.{flown_at, AreFlown};
 
-use crate::classes::{Classes, Keys};
 use crate::ready::{clear, is_marked, mark_ready};
+use crate::register::{Classes, Register};
 use crate::scratch::Scratch;
 use patch_model::{BlockNo, Mark};
 use std::alloc::Allocator;
 
+/// Puts the class at the key in flight, if there is one.
 fn fly<A: Allocator>(classes: &mut Classes<A>, key: usize)
     ensures { classes.new.slots ≡ flown_at classes.old.slots key }
 {
@@ -23,38 +24,37 @@ fn fly<A: Allocator>(classes: &mut Classes<A>, key: usize)
     }
 }
 
-/// Puts the marked classes in flight, which are among those listed.
-pub fn fly_marked<A: Allocator>(classes: &mut Classes<A>, listed: &[usize], marks: &[bool])
-    requires { HoldsMarked marks.now listed.now }
+/// Puts the marked classes in flight, which are of these keys.
+pub fn fly_marked<A: Allocator>(classes: &mut Classes<A>, keys: &[usize], marks: &[bool])
+    requires { HoldsMarked marks.now keys.now }
     ensures flown { AreFlown (is_marked marks.now) classes.old.slots classes.new.slots }
     ensures length { length classes.new.slots ≡ length classes.old.slots }
 {
-    for key in listed {
+    for key in keys {
         if is_marked(marks, *key) {
             fly(classes, *key);
         }
     }
 }
 
-/// Puts in flight what a send of the block takes, of those listed.
+/// Puts in flight what a send of the block takes, of these keys.
 pub fn fly_ready<A: Allocator>(
-    classes: &mut Classes<A>,
-    keys: &Keys<A>,
+    register: &mut Register<A>,
     block: BlockNo,
-    listed: &[usize],
+    keys: &[usize],
     scratch: &mut Scratch<A>,
 )
-    requires short { length classes.old.slots ≤ scratch.old }
-    requires all { HoldsKeys classes.old.slots block listed.now }
-    ensures answer { (made : ℕ) (all : List Entry) → Represents (record { made = made; slots = classes.old.slots; numbers = keys.now.entries }) all
-        → IsOrderly (map (sent (ready all block)) all)
-        → Represents (record { made = made; slots = classes.new.slots; numbers = keys.now.entries }) (map (sent (ready all block)) all) }
+    requires short { length register.old.slots ≤ scratch.old }
+    requires all { HoldsKeys register.old.slots block keys.now }
+    ensures answer { (all : List Entry) → Represents register.old all → IsOrderly (map (sent (ready all block)) all)
+        → Represents register.new (map (sent (ready all block)) all) }
     ensures scratch { scratch.new ≡ scratch.old }
-    ensures length { length classes.new.slots ≡ length classes.old.slots }
-    ensures kept { (set : ℕ → Bool) × AreFlown set classes.old.slots classes.new.slots }
+    ensures made { register.new.made ≡ register.old.made }
+    ensures length { length register.new.slots ≡ length register.old.slots }
+    ensures kept { (set : ℕ → Bool) × AreFlown set register.old.slots register.new.slots }
 {
     let marks = scratch.marks.as_mut_slice();
-    mark_ready(classes, keys, block, listed, marks);
-    fly_marked(classes, listed, marks);
-    clear(listed, marks);
+    mark_ready(register, block, keys, marks);
+    fly_marked(&mut register.classes, keys, marks);
+    clear(keys, marks);
 }

@@ -1,17 +1,17 @@
 //! Two classes made one.
-ghost use Rattle.std.specs.Prelude.{◌≡◌, ◌≢◌, ◌≤◌, ℕ, List, Some, map, length, min, IfOk, OnOk, OnErr};
+ghost use Rattle.std.specs.Prelude.{◌≡◌, ◌≢◌, ℕ, List, Some, length, min, IfOk, OnOk, OnErr};
 ghost use Rattle.std.specs.Option.{option_map};
 ghost use Rattle.patch_model.specs.Entry.{Entry};
-ghost use Rattle.patch_model.specs.State.{class_of, joined};
 ghost use Rattle.patch_model.specs.Legal.{IsLegalMerge};
 ghost use Rattle.patch_model.specs.Orderly.{IsOrderly};
 ghost use Rattle.patch_graph.specs.State.{class_at, find};
 ghost use Rattle.patch_graph.specs.Meaning.{Represents};
-ghost use Rattle.patch_graph.specs.Merging.{joined_class, absorbed_at, AreRedirected, HasJoined};
+ghost use Rattle.patch_graph.specs.Merging.{joined_class, absorbed_at, merged, merged_name, AreRedirected, HasJoined};
 ghost use Rattle.patch_graph.specs.BlockKeys.{AreListed};
 
 use crate::block_keys::{BlockKeys, unlist};
-use crate::classes::{Class, Classes, Keys, find, name_at};
+use crate::classes::Class;
+use crate::register::{Classes, Keys, Register};
 use patch_model::PatchNo;
 use std::alloc::{AllocError, Allocator};
 
@@ -34,12 +34,12 @@ where
 
 fn copy_at<A: Allocator + Copy>(
     alloc: A,
-    classes: &Classes<A>,
+    register: &Register<A>,
     key: usize,
 ) -> Result<Option<Class<A>>, AllocError>
-    ensures { IfOk result (λ copy. copy ≡ class_at classes.now.slots key) }
+    ensures { IfOk result (λ copy. copy ≡ class_at register.now.slots key) }
 {
-    match classes.get(key) {
+    match register.class_at(key) {
         Some(class) => Ok(Some(copy(class, alloc)?)),
         None => Ok(None),
     }
@@ -103,66 +103,64 @@ fn redirect<A: Allocator>(keys: &mut Keys<A>, members: &[PatchNo], key: usize)
     }
 }
 
-// Puts the class at the key `gone` into that at the key `keep`.
+/// Puts the class at the key `gone` into that at the key `keep`.
 fn join<A: Allocator + Copy>(
     alloc: A,
-    classes: &mut Classes<A>,
-    keys: &mut Keys<A>,
+    register: &mut Register<A>,
     lists: &mut BlockKeys<A>,
     keep: usize,
     gone: usize,
 ) -> Result<(), AllocError>
-    ensures joined { OnOk result (HasJoined keep gone classes.old.slots classes.new.slots keys.old.entries keys.new.entries) }
-    ensures refused_classes { OnErr result (classes.new.slots ≡ classes.old.slots) }
-    ensures refused_keys { OnErr result (keys.new.entries ≡ keys.old.entries) }
-    ensures length { length classes.new.slots ≡ length classes.old.slots }
-    ensures listed { AreListed classes.old.slots lists.old.entries → AreListed classes.new.slots lists.new.entries }
+    ensures joined { OnOk result (HasJoined keep gone register.old register.new) }
+    ensures refused { OnErr result (register.new ≡ register.old) }
+    ensures made { register.new.made ≡ register.old.made }
+    ensures length { length register.new.slots ≡ length register.old.slots }
+    ensures listed { AreListed register.old.slots lists.old.entries → AreListed register.new.slots lists.new.entries }
 {
-    if let Some(other) = copy_at(alloc, classes, gone)? {
-        absorb_at(classes, keep, &other)?;
-        classes.try_remove(gone);
-        redirect(keys, other.members.as_slice(), keep);
-        unlist(lists, classes, other.block);
+    if let Some(other) = copy_at(alloc, register, gone)? {
+        absorb_at(&mut register.classes, keep, &other)?;
+        register.classes.try_remove(gone);
+        redirect(&mut register.keys, other.members.as_slice(), keep);
+        unlist(lists, register, other.block);
     }
     Ok(())
 }
 
-fn members_at<A: Allocator>(classes: &Classes<A>, key: usize) -> usize {
-    match classes.get(key) {
+/// How many members the class at the key has.
+fn members_at<A: Allocator>(register: &Register<A>, key: usize) -> usize {
+    match register.class_at(key) {
         Some(class) => class.members.len(),
         None => 0,
     }
 }
 
-/// Makes one class of the classes of two patches, where that is legal. The name of the class.
+/// Makes one class of the classes of two patches, where that is legal. The name of the class; none where one of the
+/// patches isn't live, which is not legal.
 pub fn merge<A: Allocator + Copy>(
     alloc: A,
-    classes: &mut Classes<A>,
-    keys: &mut Keys<A>,
+    register: &mut Register<A>,
     lists: &mut BlockKeys<A>,
     a: PatchNo,
     b: PatchNo,
 ) -> Result<Option<PatchNo>, AllocError>
-    ensures answer { (made : ℕ) (all : List Entry) → Represents (record { made = made; slots = classes.old.slots; numbers = keys.old.entries }) all
-        → IsLegalMerge all a b → IsOrderly (map (joined (class_of all a) (class_of all b)) all)
-        → IfOk result (λ name. Represents (record { made = made; slots = classes.new.slots; numbers = keys.new.entries }) (map (joined (class_of all a) (class_of all b)) all)
-        × (name ≡ Some (min (class_of all a) (class_of all b)))) }
-    ensures refused_classes { OnErr result (classes.new.slots ≡ classes.old.slots) }
-    ensures refused_keys { OnErr result (keys.new.entries ≡ keys.old.entries) }
-    ensures length { length classes.new.slots ≡ length classes.old.slots }
-    ensures listed { AreListed classes.old.slots lists.old.entries → AreListed classes.new.slots lists.new.entries }
+    ensures answer { (all : List Entry) → Represents register.old all → IsLegalMerge all a b → IsOrderly (merged all a b)
+        → IfOk result (λ name. Represents register.new (merged all a b) × (name ≡ Some (merged_name all a b))) }
+    ensures refused { OnErr result (register.new ≡ register.old) }
+    ensures made { register.new.made ≡ register.old.made }
+    ensures length { length register.new.slots ≡ length register.old.slots }
+    ensures listed { AreListed register.old.slots lists.old.entries → AreListed register.new.slots lists.new.entries }
 {
-    let Some(first) = find(keys, a) else {
+    let Some(first) = register.find(a) else {
         return Ok(None);
     };
-    let Some(second) = find(keys, b) else {
+    let Some(second) = register.find(b) else {
         return Ok(None);
     };
-    if members_at(classes, first) < members_at(classes, second) {
-        join(alloc, classes, keys, lists, second, first)?;
-        Ok(name_at(classes, second))
+    if members_at(register, first) < members_at(register, second) {
+        join(alloc, register, lists, second, first)?;
+        Ok(register.name_at(second))
     } else {
-        join(alloc, classes, keys, lists, first, second)?;
-        Ok(name_at(classes, first))
+        join(alloc, register, lists, first, second)?;
+        Ok(register.name_at(first))
     }
 }

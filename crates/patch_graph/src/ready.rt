@@ -5,7 +5,8 @@ ghost use Rattle.patch_graph.specs.State.{find, class_at};
 ghost use Rattle.patch_graph.specs.BlockKeys.{HoldsKeys};
 ghost use Rattle.patch_graph.specs.Marks.{is_marked, AreClear, HoldsMarked, is_met, is_met_at, is_unmet, picks, IsRound, IsLargestMet, members_at, gathered, IsArranged};
 
-use crate::classes::{Class, Classes, Keys, find};
+use crate::classes::Class;
+use crate::register::Register;
 use patch_model::{BlockNo, PatchNo};
 use std::alloc::{AllocError, Allocator};
 
@@ -18,95 +19,100 @@ pub fn is_marked(marks: &[bool], key: usize) -> bool
     }
 }
 
-fn is_met_at<A: Allocator>(keys: &Keys<A>, marks: &[bool], no: PatchNo) -> bool
-    ensures { result ≡ is_met_at keys.now.entries (is_marked marks.now) no }
+fn is_met_at<A: Allocator>(register: &Register<A>, marks: &[bool], no: PatchNo) -> bool
+    ensures { result ≡ is_met_at register.now.numbers (is_marked marks.now) no }
 {
-    match find(keys, no) {
+    match register.find(no) {
         Some(key) => is_marked(marks, key),
         None => true,
     }
 }
 
-fn is_met<A: Allocator>(class: &Class<A>, keys: &Keys<A>, marks: &[bool]) -> bool
-    ensures { result ≡ is_met keys.now.entries (is_marked marks.now) class.now }
+fn is_met<A: Allocator>(register: &Register<A>, class: &Class<A>, marks: &[bool]) -> bool
+    ensures { result ≡ is_met register.now.numbers (is_marked marks.now) class.now }
 {
-    class.after.iter().all(|no| is_met_at(keys, marks, *no))
+    class.after.iter().all(|no| is_met_at(register, marks, *no))
 }
 
-fn picks<A: Allocator>(classes: &Classes<A>, block: BlockNo, key: usize) -> bool
-    ensures { result ≡ picks classes.now.slots block key }
+fn picks<A: Allocator>(register: &Register<A>, block: BlockNo, key: usize) -> bool
+    ensures { result ≡ picks register.now.slots block key }
 {
-    match classes.get(key) {
+    match register.class_at(key) {
         Some(class) => class.is_candidate(block),
         None => false,
     }
 }
 
-pub fn set_mark(marks: &mut [bool], key: usize, mark: bool)
-    ensures { marks.new ≡ slice_set marks.old key mark }
+/// Marks a key.
+pub fn put_mark(marks: &mut [bool], key: usize)
+    ensures { marks.new ≡ slice_set marks.old key true }
 {
     if key < marks.len() {
-        marks[key] = mark;
+        marks[key] = true;
     }
 }
 
-/// Marks the block's classes in memory, which are among those listed.
+/// Takes the mark off a key.
+pub fn take_mark(marks: &mut [bool], key: usize)
+    ensures { marks.new ≡ slice_set marks.old key false }
+{
+    if key < marks.len() {
+        marks[key] = false;
+    }
+}
+
+/// Marks the block's classes in memory, whose keys are among these.
 pub fn pick<A: Allocator>(
-    classes: &Classes<A>,
+    register: &Register<A>,
     block: BlockNo,
-    listed: &[usize],
+    keys: &[usize],
     marks: &mut [bool],
 )
-    requires short { length classes.now.slots ≤ length marks.old }
+    requires short { length register.now.slots ≤ length marks.old }
     requires clear { AreClear marks.old }
-    requires all { HoldsKeys classes.now.slots block listed.now }
-    ensures picked { (key : ℕ) → is_marked marks.new key ≡ picks classes.now.slots block key }
+    requires all { HoldsKeys register.now.slots block keys.now }
+    ensures picked { (key : ℕ) → is_marked marks.new key ≡ picks register.now.slots block key }
     ensures length { length marks.new ≡ length marks.old }
 {
-    for key in listed {
-        if picks(classes, block, *key) {
-            set_mark(marks, *key, true);
+    for key in keys {
+        if picks(register, block, *key) {
+            put_mark(marks, *key);
         }
     }
 }
 
-/// Takes the marks off those listed.
-pub fn clear(listed: &[usize], marks: &mut [bool])
-    requires { HoldsMarked marks.old listed.now }
+/// Takes the marks off these keys.
+pub fn clear(keys: &[usize], marks: &mut [bool])
+    requires { HoldsMarked marks.old keys.now }
     ensures clear { AreClear marks.new }
     ensures length { length marks.new ≡ length marks.old }
 {
-    for key in listed {
-        set_mark(marks, *key, false);
+    for key in keys {
+        take_mark(marks, *key);
     }
 }
 
-fn is_unmet<A: Allocator>(classes: &Classes<A>, keys: &Keys<A>, marks: &[bool], key: usize) -> bool
-    ensures { result ≡ is_unmet classes.now.slots keys.now.entries (is_marked marks.now) key }
+fn is_unmet<A: Allocator>(register: &Register<A>, marks: &[bool], key: usize) -> bool
+    ensures { result ≡ is_unmet register.now.slots register.now.numbers (is_marked marks.now) key }
 {
     if !is_marked(marks, key) {
         return false;
     }
-    match classes.get(key) {
-        Some(class) => !is_met(class, keys, marks),
+    match register.class_at(key) {
+        Some(class) => !is_met(register, class, marks),
         None => false,
     }
 }
 
-/// Takes the mark off each class, of those listed, whose dependencies aren't all marked. Whether it took any.
-fn strike<A: Allocator>(
-    classes: &Classes<A>,
-    keys: &Keys<A>,
-    listed: &[usize],
-    marks: &mut [bool],
-) -> bool
-    requires { HoldsMarked marks.old listed.now }
-    ensures { IsRound classes.now.slots keys.now.entries marks.old marks.new result }
+/// Takes the mark off each class, of these keys, whose dependencies aren't all marked. Whether it took any.
+fn strike<A: Allocator>(register: &Register<A>, keys: &[usize], marks: &mut [bool]) -> bool
+    requires { HoldsMarked marks.old keys.now }
+    ensures { IsRound register.now.slots register.now.numbers marks.old marks.new result }
 {
     let mut changed = false;
-    for key in listed {
-        if is_unmet(classes, keys, marks, *key) {
-            set_mark(marks, *key, false);
+    for key in keys {
+        if is_unmet(register, marks, *key) {
+            take_mark(marks, *key);
             changed = true;
         }
     }
@@ -114,69 +120,63 @@ fn strike<A: Allocator>(
 }
 
 /// Takes marks off until each marked class depends on marked ones alone.
-pub fn settle<A: Allocator>(
-    classes: &Classes<A>,
-    keys: &Keys<A>,
-    listed: &[usize],
-    marks: &mut [bool],
-)
-    requires { HoldsMarked marks.old listed.now }
-    ensures largest { IsLargestMet classes.now.slots keys.now.entries (is_marked marks.old) (is_marked marks.new) }
+pub fn settle<A: Allocator>(register: &Register<A>, keys: &[usize], marks: &mut [bool])
+    requires { HoldsMarked marks.old keys.now }
+    ensures largest { IsLargestMet register.now.slots register.now.numbers (is_marked marks.old) (is_marked marks.new) }
     ensures length { length marks.new ≡ length marks.old }
 {
     let mut changed = true;
     while changed {
-        changed = strike(classes, keys, listed, marks);
+        changed = strike(register, keys, marks);
     }
 }
 
-/// Marks what a send of the block takes, of those listed.
+/// Marks what a send of the block takes, of these keys.
 pub fn mark_ready<A: Allocator>(
-    classes: &Classes<A>,
-    keys: &Keys<A>,
+    register: &Register<A>,
     block: BlockNo,
-    listed: &[usize],
+    keys: &[usize],
     marks: &mut [bool],
 )
-    requires short { length classes.now.slots ≤ length marks.old }
+    requires short { length register.now.slots ≤ length marks.old }
     requires clear { AreClear marks.old }
-    requires all { HoldsKeys classes.now.slots block listed.now }
-    ensures largest { IsLargestMet classes.now.slots keys.now.entries (picks classes.now.slots block) (is_marked marks.new) }
-    ensures held { HoldsMarked marks.new listed.now }
+    requires all { HoldsKeys register.now.slots block keys.now }
+    ensures largest { IsLargestMet register.now.slots register.now.numbers (picks register.now.slots block) (is_marked marks.new) }
+    ensures held { HoldsMarked marks.new keys.now }
     ensures length { length marks.new ≡ length marks.old }
 {
-    pick(classes, block, listed, marks);
-    settle(classes, keys, listed, marks);
+    pick(register, block, keys, marks);
+    settle(register, keys, marks);
 }
 
 fn add_members<A: Allocator, B: Allocator>(
-    classes: &Classes<A>,
+    register: &Register<A>,
     marks: &[bool],
     key: usize,
     all: &mut Vec<PatchNo, B>,
 ) -> Result<(), AllocError>
-    ensures { OnOk result (all.new.items ≡ all.old.items ++ members_at classes.now.slots marks.now key) }
+    ensures { OnOk result (all.new.items ≡ all.old.items ++ members_at register.now.slots marks.now key) }
 {
     if is_marked(marks, key) {
-        if let Some(class) = classes.get(key) {
+        if let Some(class) = register.class_at(key) {
             all.extend_from_slice(class.members.as_slice())?;
         }
     }
     Ok(())
 }
 
-/// The numbers of the marked classes of those listed, in some order.
+/// The numbers of the marked classes of these keys, in some order.
 fn gather<A: Allocator, B: Allocator>(
     alloc: B,
-    classes: &Classes<A>,
-    listed: &[usize],
+    register: &Register<A>,
+    keys: &[usize],
     marks: &[bool],
 ) -> Result<Vec<PatchNo, B>, AllocError>
-    ensures { IfOk result (λ all. all.items ≡ gathered classes.now.slots marks.now listed.now) }
+    ensures { IfOk result (λ all. all.items ≡ gathered register.now.slots marks.now keys.now) }
 {
     let mut all = Vec::new(alloc);
-    for key in listed {
-        add_members(classes, marks, *key, &mut all)?;
+    for key in keys {
+        add_members(register, marks, *key, &mut all)?;
     }
     Ok(all)
 }
@@ -190,22 +190,22 @@ fn arrange<B: Allocator>(all: &mut Vec<PatchNo, B>) -> Result<(), AllocError>
     Ok(())
 }
 
-/// The numbers of the marked classes of those listed, rising.
+/// The numbers of the marked classes of these keys, rising.
 pub fn marked_numbers<A: Allocator, B: Allocator>(
     alloc: B,
-    classes: &Classes<A>,
-    listed: &[usize],
+    register: &Register<A>,
+    keys: &[usize],
     marks: &[bool],
 ) -> Result<Vec<PatchNo, B>, AllocError>
-    ensures { IfOk result (λ all. IsArranged (gathered classes.now.slots marks.now listed.now) all.items) }
+    ensures { IfOk result (λ all. IsArranged (gathered register.now.slots marks.now keys.now) all.items) }
 {
-    let mut all = gather(alloc, classes, listed, marks)?;
+    let mut all = gather(alloc, register, keys, marks)?;
     arrange(&mut all)?;
     Ok(all)
 }
 
-pub fn any_marked(listed: &[usize], marks: &[bool]) -> bool
-    ensures { result ≡ list_any (is_marked marks.now) listed.now }
+pub fn any_marked(keys: &[usize], marks: &[bool]) -> bool
+    ensures { result ≡ list_any (is_marked marks.now) keys.now }
 {
-    listed.iter().any(|key| is_marked(marks, *key))
+    keys.iter().any(|key| is_marked(marks, *key))
 }

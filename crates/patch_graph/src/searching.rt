@@ -1,25 +1,26 @@
 //! Searches through the classes.
 ghost use Rattle.std.specs.Prelude.{◌≡◌, ◌<◌, ◌≤◌, ◌+◌, ℕ, length, take, true, false, Some};
-ghost use Rattle.patch_graph.specs.State.{Class as SeenClass, class_at, leads};
+ghost use Rattle.patch_graph.specs.State.{class_at};
 ghost use Rattle.patch_graph.specs.Marks.{is_marked, AreClear, HoldsMarked};
-ghost use Rattle.patch_graph.specs.Search.{IsSearch, IsReachable, IsLook, Visited};
+ghost use Rattle.patch_graph.specs.Search.{IsReachable, HasFollowed, HasLooked, Visited, walk};
 
-use crate::classes::{Class, Classes, Keys, find};
+use crate::classes::Class;
 use crate::ready::is_marked;
+use crate::register::Register;
 use patch_model::PatchNo;
 use std::alloc::Allocator;
 
 // Marks the class of a number and puts it at the queue's end, unless it is marked. Returns the new end.
 fn visit<A: Allocator>(
-    keys: &Keys<A>,
+    register: &Register<A>,
     no: PatchNo,
     marks: &mut [bool],
     queue: &mut [usize],
     tail: usize,
 ) -> usize
-    ensures { Visited keys.now.entries no marks.old marks.new queue.old queue.new tail result }
+    ensures { Visited register.now.numbers no marks.old marks.new queue.old queue.new tail result }
 {
-    let Some(key) = find(keys, no) else {
+    let Some(key) = register.find(no) else {
         return tail;
     };
     if key >= marks.len() {
@@ -38,29 +39,26 @@ fn visit<A: Allocator>(
 
 // Marks what the class depends on directly.
 fn visit_all<A: Allocator>(
-    classes: &Classes<A>,
-    keys: &Keys<A>,
+    register: &Register<A>,
     class: &Class<A>,
     marks: &mut [bool],
     queue: &mut [usize],
     head: usize,
     tail: usize,
 ) -> usize
-    ensures { (from to key : ℕ) → class_at classes.now.slots key ≡ Some class.now → IsLook classes.now.slots keys.now.entries from to key class.now.after marks.old queue.old head tail 0
-        → IsLook classes.now.slots keys.now.entries from to key class.now.after marks.new queue.new head result (length class.now.after) }
+    ensures { HasFollowed register.now class.now head (walk marks.old queue.old tail) (walk marks.new queue.new result) }
 {
     let mut end = tail;
     let after = class.after.as_slice();
     for no in after {
-        end = visit(keys, *no, marks, queue, end);
+        end = visit(register, *no, marks, queue, end);
     }
     end
 }
 
 // Looks behind the next class of the queue, unless it is at the key `to`.
 fn look<A: Allocator>(
-    classes: &Classes<A>,
-    keys: &Keys<A>,
+    register: &Register<A>,
     to: usize,
     marks: &mut [bool],
     queue: &mut [usize],
@@ -69,15 +67,14 @@ fn look<A: Allocator>(
 ) -> usize
     requires long { length marks.old ≤ length queue.old }
     requires inside { head < length queue.old }
-    ensures { (from : ℕ) → head < tail → IsSearch classes.now.slots keys.now.entries from to marks.old queue.old head tail
-        → IsSearch classes.now.slots keys.now.entries from to marks.new queue.new (head + 1) result }
+    ensures { HasLooked register.now to head (walk marks.old queue.old tail) (walk marks.new queue.new result) }
 {
     let key = queue[head];
     if key == to {
         return tail;
     }
-    match classes.get(key) {
-        Some(class) => visit_all(classes, keys, class, marks, queue, head, tail),
+    match register.class_at(key) {
+        Some(class) => visit_all(register, class, marks, queue, head, tail),
         None => tail,
     }
 }
@@ -85,8 +82,7 @@ fn look<A: Allocator>(
 /// Marks what the class at `from` leads to, and itself, but doesn't look behind the key `to`. The marked ones are the
 /// first of the queue, as many as are returned.
 pub fn search<A: Allocator>(
-    classes: &Classes<A>,
-    keys: &Keys<A>,
+    register: &Register<A>,
     from: usize,
     to: usize,
     marks: &mut [bool],
@@ -95,7 +91,7 @@ pub fn search<A: Allocator>(
     requires long { length marks.old ≤ length queue.old }
     requires low { from < length marks.old }
     requires clear { AreClear marks.old }
-    ensures found { IsReachable classes.now.slots keys.now.entries from to marks.new }
+    ensures found { IsReachable register.now.slots register.now.numbers from to marks.new }
     ensures held { HoldsMarked marks.new (take result queue.new) }
     ensures within { result ≤ length queue.new }
     ensures length { length marks.new ≡ length marks.old }
@@ -106,7 +102,7 @@ pub fn search<A: Allocator>(
     let mut head = 0;
     let mut tail = 1;
     while head < tail && head < queue.len() {
-        tail = look(classes, keys, to, marks, queue, head, tail);
+        tail = look(register, to, marks, queue, head, tail);
         head += 1;
     }
     tail

@@ -7,4 +7,4 @@ pub returns-in-Some : goal.returns-in-Some
 returns-in-Some g c =
     let h = c.get_mut.follows.holds c.keep_live.new.self in
     let u = h.3 (is_some-from _ c.in-Some.list.now (sym c.in-Some.ensures.value)) in
-    relisted-by _ _ c.args.block (filter (is_key c.args.classes.now.slots)) c.in-Some.list.now c.keep_live.new.self (sym c.in-Some.ensures.value) u.1 c.keep_live.ensures u.2
+    relisted-by _ _ c.args.block (filter (is_key c.args.register.now.slots)) c.in-Some.list.now c.keep_live.new.self (sym c.in-Some.ensures.value) u.1 c.keep_live.ensures u.2

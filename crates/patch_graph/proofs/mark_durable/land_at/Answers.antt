@@ -1,14 +1,17 @@
 use Rattle.std.proofs.Common.{sym, ◌∙◌, ap, subst, Some, ◌≡◌, length, List, ℕ}
-use Rattle.patch_graph.specs.State.{class_at, Class}
-use Rattle.patch_graph.specs.MarkDurable.{AreForgotten}
+use Rattle.patch_graph.specs.State.{class_at, Class, Graph}
+use Rattle.patch_graph.specs.MarkDurable.{AreForgotten, HasLanded}
 use Rattle.patch_graph.proofs.Forgetting.{landed-at, lands-here}
 use Rattle.patch_graph.proofs.mark_durable.land_at.Goals as goal
+use Rattle.std.specs.Prelude.{◌==◌}
 
-pub returns-in-Some : goal.returns-in-Some
-returns-in-Some g c =
-    let there : class_at c.args.classes.now.slots c.args.key ≡ Some c.in-Some.class = sym c.in-Some.ensures.value in
+pub returns-in-Some-clause-landed : goal.returns-in-Some-clause-landed
+returns-in-Some-clause-landed g c =
+    let there : class_at c.register.inside.classes.slots c.args.key ≡ Some c.in-Some.class = sym c.in-Some.ensures.value in
+    let was : class_at c.args.register.now.slots c.args.key ≡ Some c.in-Some.class = subst (λ (z : Graph). class_at z.slots c.args.key ≡ Some c.in-Some.class) c.register.view_is there in
     let members : c.as_slice.result.now ≡ c.in-Some.class.members = c.as_slice.ensures.value ∙ ap (λ (x : Class). x.members) c.class.view_is in
-    landed-at _ _ _ _ c.args.block c.args.key c.in-Some.class there
-    (sym (lands-here c.args.classes.now.slots c.args.block c.args.key c.in-Some.class there) ∙ sym c.lands_at.ensures ∙ c.if-lands_at.true)
+    subst (λ (z : Graph). HasLanded z (record { made = z.made; slots = c.try_remove.new.self.slots; numbers = c.forget.new.keys.entries }) c.args.block (λ k. k == c.args.key)) c.register.view_is
+    (landed-at _ _ _ _ c.args.block c.args.key c.in-Some.class there
+    (sym (lands-here c.args.register.now.slots c.args.block c.args.key c.in-Some.class was) ∙ sym c.lands_at.ensures ∙ c.if-lands_at.true)
     c.in-Some.ensures.slots
-    (subst (λ (l : List ℕ). AreForgotten l c.args.keys.now.entries c.forget.new.keys.entries (length l)) members c.forget.ensures)
+    (subst (λ (l : List ℕ). AreForgotten l c.register.inside.keys.entries c.forget.new.keys.entries (length l)) members c.forget.ensures))

@@ -1,19 +1,19 @@
 use Rattle.std.proofs.Common.{sym, inl, inr}
-use Rattle.patch_graph.proofs.Legality.{not-found, merged, merged-swapped}
+use Rattle.patch_graph.proofs.Legality.{not-found, merges-to, merges-swapped}
 use Rattle.patch_graph.proofs.merging.merge.Goals as goal
 
 pub returns-in_default-clause-answer : goal.returns-in_default-clause-answer
-returns-in_default-clause-answer g c made all r l o = absurd (not-found made c.args.classes.now.slots c.args.keys.now.entries all r c.args.a c.args.b l (inl (sym c.in_default.ensures)))
+returns-in_default-clause-answer g c all r l o = absurd (not-found c.args.register.now all r c.args.a c.args.b l (inl (sym c.in_default.ensures)))
 
 pub returns-in_default-find-clause-answer : goal.returns-in_default-find-clause-answer
-returns-in_default-find-clause-answer g c made all r l o = absurd (not-found made c.args.classes.now.slots c.args.keys.now.entries all r c.args.a c.args.b l (inr (sym c.in_default-find.ensures)))
+returns-in_default-find-clause-answer g c all r l o = absurd (not-found c.args.register.now all r c.args.a c.args.b l (inr (sym c.in_default-find.ensures)))
 
 pub returns-in_ok-join-clause-answer : goal.returns-in_ok-join-clause-answer
-returns-in_ok-join-clause-answer g c made all r l o =
-    merged-swapped made c.args.classes.now.slots c.args.keys.now.entries all r c.join.new.classes.slots c.join.new.keys.entries c.in-Some-find.second c.in-Some.first c.args.a c.args.b
+returns-in_ok-join-clause-answer g c all r l o =
+    merges-swapped c.args.register.now all r c.join.new.register c.in_ok-join.ensures.made c.in-Some-find.second c.in-Some.first c.args.a c.args.b
     c.name_at.result l (sym c.in-Some.ensures) (sym c.in-Some-find.ensures) c.in_ok-join.ensures.joined c.name_at.ensures o
 
 pub returns-in_ok-join-2-clause-answer : goal.returns-in_ok-join-2-clause-answer
-returns-in_ok-join-2-clause-answer g c made all r l o =
-    merged made c.args.classes.now.slots c.args.keys.now.entries all r c.join-else-members_at.new.classes.slots c.join-else-members_at.new.keys.entries c.in-Some.first c.in-Some-find.second c.args.a c.args.b
+returns-in_ok-join-2-clause-answer g c all r l o =
+    merges-to c.args.register.now all r c.join-else-members_at.new.register c.in_ok-join-2.ensures.made c.in-Some.first c.in-Some-find.second c.args.a c.args.b
     c.name_at-else-members_at.result l (sym c.in-Some.ensures) (sym c.in-Some-find.ensures) c.in_ok-join-2.ensures.joined c.name_at-else-members_at.ensures o

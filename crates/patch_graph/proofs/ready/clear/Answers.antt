@@ -7,7 +7,7 @@ loop-key-init c = cleared-none _ _
 
 pub loop-key-preserved : goal.loop-key-preserved
 loop-key-preserved c =
-    rw c.set_mark.ensures (cleared-one _ _ _ _ _ refl c.loop-key.invariant)
+    rw c.take_mark.ensures (cleared-one _ _ _ _ _ refl c.loop-key.invariant)
 
 pub returns-clause-clear : goal.returns-clause-clear
 returns-clause-clear c = cleared-all _ _ _ _ (omega arith) c.requires c.loop-key.invariant

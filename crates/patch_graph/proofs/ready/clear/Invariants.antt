@@ -2,4 +2,4 @@ use Rattle.patch_graph.proofs.Marks.{IsPartCleared}
 use Rattle.patch_graph.proofs.ready.clear.Given as goal
 
 abbrev pub invariant-loop-key : goal.invariant-loop-key
-invariant-loop-key l = IsPartCleared l.listed l.initial.marks l.marks l.key-index
+invariant-loop-key l = IsPartCleared l.keys l.initial.marks l.marks l.key-index

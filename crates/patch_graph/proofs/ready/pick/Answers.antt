@@ -9,7 +9,7 @@ loop-key-init g c = picked-none _ _ _ _ c.requires.clear
 pub loop-key-preserved : goal.loop-key-preserved
 loop-key-preserved g c =
     elim c.if-picks.branch [
-      | then-picks w ↦ rw (w.marks-is, w.set_mark.ensures) (picked-one _ _ _ _ _ _ _ c.requires.short refl (sym c.picks.ensures ∙ w.if-picks.true) c.loop-key.invariant)
+      | then-picks w ↦ rw (w.marks-is, w.put_mark.ensures) (picked-one _ _ _ _ _ _ _ c.requires.short refl (sym c.picks.ensures ∙ w.if-picks.true) c.loop-key.invariant)
       | else-picks w ↦ rw w.marks-is (picked-not _ _ _ _ _ _ _ refl (sym c.picks.ensures ∙ w.if-picks.false) c.loop-key.invariant)
     ]
 

@@ -2,4 +2,4 @@ use Rattle.patch_graph.proofs.Marks.{IsPartPicked}
 use Rattle.patch_graph.proofs.ready.pick.Given as goal
 
 abbrev pub invariant-loop-key : goal.invariant-loop-key
-invariant-loop-key g l = IsPartPicked l.classes.slots l.block l.listed l.initial.marks l.marks l.key-index
+invariant-loop-key g l = IsPartPicked l.register.slots l.block l.keys l.initial.marks l.marks l.key-index

@@ -12,4 +12,4 @@ pub loop-changed-preserved : goal.loop-changed-preserved
 loop-changed-preserved g c = settling-more _ _ _ _ _ _ _ c.loop-changed.invariant c.strike-changed.ensures
 
 pub returns-clause-largest : goal.returns-clause-largest
-returns-clause-largest g c = settled _ _ _ _ (subst (λ b. IsSettling c.args.classes.now.slots c.args.keys.now.entries c.args.marks.now c.loop-changed.marks b) c.loop-changed-test.false c.loop-changed.invariant)
+returns-clause-largest g c = settled _ _ _ _ (subst (λ b. IsSettling c.args.register.now.slots c.args.register.now.numbers c.args.marks.now c.loop-changed.marks b) c.loop-changed-test.false c.loop-changed.invariant)

@@ -4,7 +4,7 @@ use Rattle.patch_graph.proofs.Marks.{IsSettling}
 use Rattle.patch_graph.proofs.ready.settle.Given as goal
 
 abbrev pub invariant-loop-changed : goal.invariant-loop-changed
-invariant-loop-changed g l = IsSettling l.classes.slots l.keys.entries l.initial.marks l.marks l.changed
+invariant-loop-changed g l = IsSettling l.register.slots l.register.numbers l.initial.marks l.marks l.changed
 
 abbrev pub decreases-loop-changed : goal.decreases-loop-changed
 decreases-loop-changed g l = marked_count l.marks + cond l.changed 1 0

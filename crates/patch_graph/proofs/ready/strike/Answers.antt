@@ -9,7 +9,7 @@ loop-key-init g c = part-none _ _ _ _
 pub loop-key-preserved : goal.loop-key-preserved
 loop-key-preserved g c =
     elim c.if-is_unmet.branch [
-      | then-is_unmet w ↦ rw (w.marks-is, w.changed-is, w.set_mark.ensures) (part-struck _ _ _ _ _ _ _ _ c.loop-key.invariant (sym c.is_unmet.ensures ∙ w.if-is_unmet.true))
+      | then-is_unmet w ↦ rw (w.marks-is, w.changed-is, w.take_mark.ensures) (part-struck _ _ _ _ _ _ _ _ c.loop-key.invariant (sym c.is_unmet.ensures ∙ w.if-is_unmet.true))
       | else-is_unmet w ↦ rw (w.marks-is, w.changed-is) (part-kept _ _ _ _ _ _ _ _ refl c.loop-key.invariant (sym c.is_unmet.ensures ∙ w.if-is_unmet.false))
     ]
 

@@ -4,4 +4,4 @@ use Rattle.patch_graph.specs.Meaning.{Represents}
 use Rattle.patch_graph.proofs.graphs.Graph.mark_flight.Goals as goal
 
 pub returns-clause-answer : goal.returns-clause-answer
-returns-clause-answer g c all r o = c.fly_ready.ensures.answer _ all (subst (λ (x : Graph). Represents x all) (sym c.self.view_is) r) o
+returns-clause-answer g c all r o = c.fly_ready.ensures.answer all (subst (λ (x : Graph). Represents x all) (sym c.self.view_is) r) o

@@ -2,7 +2,7 @@ use Rattle.std.proofs.Common.{sym, arith, ◌∙◌, ◌<◌, length}
 use Rattle.patch_graph.proofs.Reaching.{has-keys, is_found, is_low}
 use Rattle.patch_graph.proofs.LeastBetween.{between_is, newest_is, without-held}
 use Rattle.patch_graph.proofs.Places.{turned-held}
-use Rattle.patch_graph.proofs.queries.lies_between.Goals as goal
+use Rattle.patch_graph.proofs.queries.between_exactly.Goals as goal
 
 pub returns-in_default-clause-answer : goal.returns-in_default-clause-answer
 returns-in_default-clause-answer g c all x y r no_ring la lb = absurd (is_found _ all c.args.a x r la (sym c.in_default.ensures))
@@ -12,7 +12,7 @@ returns-in_default-find-clause-answer g c all x y r no_ring la lb = absurd (is_f
 
 pub returns-then-from-marks-clause-answer : goal.returns-then-from-marks-clause-answer
 returns-then-from-marks-clause-answer g c all x y r no_ring la lb =
-    let low : c.in-Some.from < length c.args.classes.now.slots = is_low (record { made = c.args.made; slots = c.args.classes.now.slots; numbers = c.args.keys.now.entries }) all c.args.a x c.in-Some.from r la (sym c.in-Some.ensures) in
+    let low : c.in-Some.from < length c.args.register.now.slots = is_low c.args.register.now all c.args.a x c.in-Some.from r la (sym c.in-Some.ensures) in
     absurd (omega arith)
 
 pub returns-then-is_newest-clause-answer : goal.returns-then-is_newest-clause-answer
@@ -32,9 +32,9 @@ clear-requires-2 g c key t = turned-held _ _ key c.reverse.ensures.permutation (
 
 pub returns-clause-answer : goal.returns-clause-answer
 returns-clause-answer g c all x y r no_ring la lb =
-    between_is (record { made = c.args.made; slots = c.args.classes.now.slots; numbers = c.args.keys.now.entries }) all c.args.a c.args.b x y c.in-Some.from c.in-Some-find.to c.reverse.new.self
+    between_is c.args.register.now all c.args.a c.args.b x y c.in-Some.from c.in-Some-find.to c.reverse.new.self
     c.search-count.new.marks c.copy_without.new.rest c.settle.new.marks c.least_name-least.result r no_ring (let l = c.search-count.ensures.length in omega arith) la lb (sym c.in-Some.ensures) (sym c.in-Some-find.ensures)
     (λ key t. turned-held _ _ key c.reverse.ensures.permutation (c.search-count.ensures.held key t)) c.search-count.ensures.found c.copy_without.ensures.copied c.settle.ensures.largest c.least_name-least.ensures
 
 pub returns-clause-absent : goal.returns-clause-absent
-returns-clause-absent g c off = absurd (has-keys c.args.keys.now.entries c.args.a c.args.b c.in-Some.from c.in-Some-find.to (sym c.in-Some.ensures) (sym c.in-Some-find.ensures) off)
+returns-clause-absent g c off = absurd (has-keys c.args.register.now.numbers c.args.a c.args.b c.in-Some.from c.in-Some-find.to (sym c.in-Some.ensures) (sym c.in-Some-find.ensures) off)
