@@ -8,7 +8,8 @@ use Rattle.patch_model.specs.Entry.{Entry, is_live, is_among}
 use Rattle.patch_model.specs.Dependency.{Path, LiesBetween, shares_byte, one as one_path, onward as onward_path}
 use Rattle.patch_model.specs.Member.{list_any-at, list_any-from}
 use Rattle.patch_graph.specs.State.{Class, Graph, Slots, find, class_at}
-use Rattle.patch_graph.specs.Marks.{is_marked, AreClear, HoldsMarked, Escapes, out, on, IsLargestMet}
+use Rattle.patch_graph.specs.Marks.{is_marked, AreClear, HoldsMarked}
+use Rattle.patch_graph.specs.Ready.{Escapes, out, on, IsLargestMet}
 use Rattle.patch_graph.specs.Meaning.{Leads, one, onward, DependsOn, IsLiveClass, Represents}
 use Rattle.patch_graph.specs.Search.{IsReachable}
 use Rattle.patch_graph.specs.Between.{lies, lesser, name_if, IsLeastOf, AreWithout, HasNoRing, is_newest, IsLeastBetween}

@@ -17,7 +17,7 @@ use Rattle.patch_graph.specs.State.{Class, Graph, Slots, Numbers, find, class_at
 use Rattle.patch_graph.specs.Meaning.{Represents}
 use Rattle.patch_graph.specs.Merging.{merged, merged_name, HasJoined}
 use Rattle.patch_graph.proofs.Facts.{known}
-use Rattle.patch_graph.proofs.Rising.{all-In}
+use Rattle.patch_model.specs.Entries.{all-In}
 use Rattle.patch_graph.proofs.ReadySet.{placed}
 use Rattle.patch_graph.proofs.MergedClasses.{MayMerge, merges}
 

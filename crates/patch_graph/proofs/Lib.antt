@@ -9,8 +9,6 @@ pub mod MarkFlight
 pub mod LeastBetween
 pub mod Facts
 pub mod Steps
-pub mod Striking
-pub mod Rising
 pub mod Beginning
 pub mod Forgetting
 pub mod MarkDurable

@@ -7,18 +7,19 @@ use Rattle.std.proofs.lemmas.List.{get_or-set_same, get_or-set_other, length-set
 use Rattle.std.specs.List.{list_any}
 use Rattle.patch_model.specs.declared.patches.Mark.TheVariants.{Flight}
 use Rattle.patch_model.specs.Entry.{Entry, is_durable, is_among}
-use Rattle.patch_model.specs.Ready.{has, ready}
+use Rattle.patch_model.specs.Ready.{has, ready, ReadyIsOnly}
 use Rattle.patch_model.specs.State.{sent}
 use Rattle.patch_model.specs.Dependency.{depends_directly}
 use Rattle.patch_model.specs.Pile.{covers}
 use Rattle.patch_model.specs.Orderly.{IsOrderly}
 use Rattle.patch_model.specs.Member.{In, In-filter, filter-In}
-use Rattle.patch_graph.proofs.Striking.{has-In, In-has}
+use Rattle.patch_model.specs.Entries.{has-In, In-has}
 use Rattle.patch_graph.proofs.Steps.{patch-sent, In-map, map-In, length-map, numbered-map}
 use Rattle.patch_graph.specs.State.{Class, Graph, Slots, Numbers, find, class_at, leads, spans}
 use Rattle.patch_graph.proofs.Facts.{known}
 use Rattle.patch_graph.specs.Meaning.{Leads, one, onward, DependsOn, IsClassOf, Represents}
-use Rattle.patch_graph.specs.Marks.{is_marked, HoldsMarked, picks, IsLargestMet}
+use Rattle.patch_graph.specs.Marks.{is_marked, HoldsMarked}
+use Rattle.patch_graph.specs.Ready.{picks, IsLargestMet}
 use Rattle.patch_graph.specs.MarkFlight.{flown, flown_at, AreFlown}
 use Rattle.patch_graph.proofs.Places.{place-of}
 use Rattle.patch_graph.proofs.ReadySet.{placed, chosen, chosen_set, chosen-ready, chosen-at, at-chosen, some_same, class_same}
@@ -266,11 +267,11 @@ module _ (made : ℕ) (old new : Slots) (numbers : Numbers) (all : List Entry) (
     live = λ n k at. let w = r.live n k at in (f w.0, In-map f all w.0 w.1, ap (λ p. p.no) (patch-sent set w.0) ∙ w.2, live-sent w.0 w.3);
   }
 
-  represents-ready : IsOrderly (map (sent (ready all block)) all) → Represents (record { made = made; slots = new; numbers = numbers }) (map (sent (ready all block)) all)
-  represents-ready = let is = chosen-ready g all r block (is_marked marks) l in
+  represents-ready : ReadyIsOnly → IsOrderly (map (sent (ready all block)) all) → Represents (record { made = made; slots = new; numbers = numbers }) (map (sent (ready all block)) all)
+  represents-ready only = let is = chosen-ready g all r block (is_marked marks) l only in
       subst (λ s. IsOrderly (map (sent s) all) → Represents (record { made = made; slots = new; numbers = numbers }) (map (sent s) all)) is represents
 
-pub flies : (made : ℕ) (old new : Slots) (numbers : Numbers) (all : List Entry) (block : ℕ) (marks : List Bool)
+pub flies : ReadyIsOnly → (made : ℕ) (old new : Slots) (numbers : Numbers) (all : List Entry) (block : ℕ) (marks : List Bool)
     → Represents (record { made = made; slots = old; numbers = numbers }) all → IsLargestMet old numbers (picks old block) (is_marked marks) → AreFlown (is_marked marks) old new
     → IsOrderly (map (sent (ready all block)) all) → Represents (record { made = made; slots = new; numbers = numbers }) (map (sent (ready all block)) all)
-flies made old new numbers all block marks r l a o = represents-ready made old new numbers all block marks r l a o
+flies only made old new numbers all block marks r l a o = represents-ready made old new numbers all block marks r l a only o

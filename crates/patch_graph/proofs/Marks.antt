@@ -8,7 +8,8 @@ use Rattle.std.proofs.lemmas.List.{get_or-set_same, get_or-set_other, length-set
 use Rattle.std.proofs.lemmas.List.Sums.{sum_by-set}
 use Rattle.patch_model.specs.Member.{In, list_all-at, list_all-from, list_any-from}
 use Rattle.patch_graph.specs.State.{Class, Slots, Numbers, find, class_at, leads, leads_at}
-use Rattle.patch_graph.specs.Marks.{is_marked, is_candidate, is_met, is_met_at, is_unmet, picks, AreMet, IsWithin, KeepsMet, KeepsStruck, IsStruck, Escapes, out, on, IsLargestMet, IsRound, AreClear, HoldsMarked, marked_count}
+use Rattle.patch_graph.specs.Marks.{is_marked, AreClear, HoldsMarked, marked_count}
+use Rattle.patch_graph.specs.Ready.{is_candidate, is_met, is_met_at, is_unmet, picks, AreMet, IsWithin, KeepsMet, KeepsStruck, IsStruck, Escapes, out, on, IsLargestMet, IsRound}
 use Rattle.patch_graph.specs.BlockKeys.{HoldsKeys}
 use Rattle.patch_graph.proofs.Places.{place-of}
 

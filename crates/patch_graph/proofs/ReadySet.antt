@@ -8,12 +8,12 @@ use Rattle.patch_model.specs.declared.patches.Mark.{Mark}
 use Rattle.patch_model.specs.declared.patches.Mark.TheVariants.{Memory, Flight, Durable}
 use Rattle.patch_model.specs.Entry.{Entry, marks_memory, is_durable, in_memory_of, is_among}
 use Rattle.patch_model.specs.Dependency.{depends_directly}
-use Rattle.patch_model.specs.Ready.{ready, may_stay, IsWritable, IsLargestWritable, IsRising}
+use Rattle.patch_model.specs.Ready.{ready, IsWritable, IsLargestWritable, IsRising, ReadyIsOnly}
 use Rattle.patch_model.specs.Member.{In, In-from_Contains, Contains-from_In, In-filter, filter-In, list_all-at, list_all-from, list_any-at, list_any-from}
-use Rattle.patch_graph.proofs.Striking.{AreApart, ready-largest}
-use Rattle.patch_graph.proofs.Rising.{rising-filter, rising-struck, rising_same}
+use Rattle.patch_model.specs.Entries.{rising-filter}
 use Rattle.patch_graph.specs.State.{Class, Graph, Slots, Numbers, find, class_at, leads, leads_at}
-use Rattle.patch_graph.specs.Marks.{is_marked, is_candidate, picks, is_met_at, AreMet, IsWithin, IsLargestMet, gathered, members_at, HoldsMarked, AreRising, IsArranged}
+use Rattle.patch_graph.specs.Marks.{is_marked, HoldsMarked}
+use Rattle.patch_graph.specs.Ready.{is_candidate, picks, is_met_at, AreMet, IsWithin, IsLargestMet, gathered, members_at, AreRising, IsArranged}
 use Rattle.patch_graph.proofs.Facts.{known}
 use Rattle.patch_graph.specs.declared.classes.LiveClass.{LiveClass}
 use Rattle.patch_graph.specs.Showing.{shown, IsShown}
@@ -25,15 +25,6 @@ some_same a b e = cc
 
 pub class_same : (a b : Class) → ◌≡◌ {A = Option Class} (Some a) (Some b) → a ≡ b
 class_same a b e = cc
-
--- a list's ready set is the only rising largest set
-pub ready_is_only : (all : List Entry) (block : ℕ) (set : List Entry) → AreApart all → IsRising all → IsLargestWritable all block set → IsRising set → set ≡ ready all block
-ready_is_only all block set apart rising l h =
-    let r = ready-largest all block apart in
-    let up : IsRising (ready all block) = rising-struck (length all) (may_stay all) (filter (in_memory_of block) all) (rising-filter (in_memory_of block) all rising) in
-    rising_same set (ready all block) h up
-    (λ e i. In-from_Contains _ e (r.largest set l.writable e (Contains-from_In _ e i)))
-    (λ e i. In-from_Contains _ e (l.largest (ready all block) r.writable e (Contains-from_In _ e i)))
 
 memory-live : (m : Mark) → marks_memory m ≡ true → (e : Entry) → e.mark ≡ m → is_durable e ≡ false
 memory-live Memory t e same = ap (λ k. elim k [ Memory ↦ false | Flight ↦ false | Durable ↦ true ]) same
@@ -58,9 +49,6 @@ closed slots numbers set met k j (one c at t) h = met-leads slots numbers set me
 closed slots numbers set met k l (onward {j = j} c at t rest) h = closed slots numbers set met j l rest (met-leads slots numbers set met k c j at t h)
 
 module _ (g : Graph) (all : List Entry) (r : Represents g all) where
-  pub apart : AreApart all
-  apart = (known g all r).numbers
-
   -- a live number's entry, and its class
   pub placed : (e : Entry) (key : ℕ) → In all e → find g.numbers e.patch.no ≡ Some key → (c : Class) × (class_at g.slots key ≡ Some c) × (c.name ≡ e.class) × (is_durable e ≡ false)
   placed e key i at =
@@ -218,8 +206,8 @@ module _ (g : Graph) (all : List Entry) (r : Represents g all) where
       largest = λ other w e h. Contains-from_In _ e (larger other w e (In-from_Contains other e h));
     }
 
-    pub chosen-ready : chosen_set ≡ ready all block
-    chosen-ready = ready_is_only all block chosen_set apart (known g all r).rising chosen-largest (rising-filter chosen all (known g all r).rising)
+    pub chosen-ready : ReadyIsOnly → chosen_set ≡ ready all block
+    chosen-ready only = only all block chosen_set (known g all r).rising chosen-largest (rising-filter chosen all (known g all r).rising)
 
 pub In-left : {X : Type 0} → (xs ys : List X) (x : X) → In xs x → In (xs ++ ys) x
 In-left [] ys x i = absurd i
@@ -285,12 +273,12 @@ is_among-In ns n t = let r = list_any-at (λ m. m == n) ns t in subst (λ m. In 
 pub In-is_among : (ns : List ℕ) (n : ℕ) → In ns n → is_among ns n ≡ true
 In-is_among ns n i = list_any-from (λ m. m == n) ns n i (eq-eqb n n refl)
 
-pub ready_numbers : (g : Graph) (all : List Entry) (block : ℕ) (keys : List ℕ) (marks : List Bool) (ns : List ℕ) → Represents g all → HoldsMarked marks keys
+pub ready_numbers : ReadyIsOnly → (g : Graph) (all : List Entry) (block : ℕ) (keys : List ℕ) (marks : List Bool) (ns : List ℕ) → Represents g all → HoldsMarked marks keys
     → IsLargestMet g.slots g.numbers (picks g.slots block) (is_marked marks)
     → IsArranged (gathered g.slots marks keys) ns → ns ≡ map (λ e. e.patch.no) (ready all block)
-ready_numbers g all block keys marks ns r held l a =
+ready_numbers only g all block keys marks ns r held l a =
     let set = chosen_set g all r block (is_marked marks) l in
-    let is = chosen-ready g all r block (is_marked marks) l in
+    let is = chosen-ready g all r block (is_marked marks) l only in
     subst (λ s. ns ≡ map (λ e. e.patch.no) s) is (numbers_same ns (map (λ e. e.patch.no) set) a.rising
     (rising-map set (rising-filter (chosen g all r block (is_marked marks) l) all (known g all r).rising))
     (λ n i.
@@ -324,12 +312,12 @@ picked_class slots block key = elim (class_at slots key) as (λ o. option_map_or
 ]
 
 -- some class is marked where some patch is ready
-pub any_is_ready : (g : Graph) (all : List Entry) (block : ℕ) (keys : List ℕ) (marks : List Bool) → Represents g all → HoldsMarked marks keys
+pub any_is_ready : ReadyIsOnly → (g : Graph) (all : List Entry) (block : ℕ) (keys : List ℕ) (marks : List Bool) → Represents g all → HoldsMarked marks keys
     → IsLargestMet g.slots g.numbers (picks g.slots block) (is_marked marks)
     → IsTrue (list_any (is_marked marks) keys) ↔ (ready all block ≢ [])
-any_is_ready g all block keys marks r held l =
+any_is_ready only g all block keys marks r held l =
     let set = chosen_set g all r block (is_marked marks) l in
-    let is = chosen-ready g all r block (is_marked marks) l in
+    let is = chosen-ready g all r block (is_marked marks) l only in
     subst (λ s. IsTrue (list_any (is_marked marks) keys) ↔ (s ≢ [])) is (
       (λ t.
           let found = list_any-at (is_marked marks) keys t in

@@ -4,6 +4,7 @@ use Rattle.std.specs.List.{list_all}
 use Rattle.std.specs.Option.{option_map_or}
 use Rattle.patch_model.specs.Patch.{Patch}
 use Rattle.patch_model.specs.Entry.{Entry}
+use Rattle.patch_model.specs.Orderly.{IsOrderly}
 use Rattle.patch_model.specs.State.{fresh}
 use Rattle.patch_model.specs.Pile.{end}
 use Rattle.patch_model.specs.declared.patches.Mark.TheVariants.{Memory}
@@ -77,6 +78,8 @@ pub record IsPatch (p : Patch) (number block start stop : ℕ) (after : List ℕ
 abbrev pub with_patch : List Entry → Patch → List Entry
 with_patch all p = all ++ fresh all p ∷ []
 
--- the graph is that of the patches with one more, of which this is told
-abbrev pub HasMade : Graph → List Entry → Patch → Added → Type 0
-HasMade new all p added = Represents new (with_patch all p) × (added.no ≡ p.no) × (added.hard ≡ (fresh all p).hard)
+-- the one graph's patches are the other's and one more, of which this is told
+abbrev pub Adds : Graph → Graph → ℕ → ℕ → ℕ → List ℕ → Undo → Added → Type 0
+Adds old new block start stop after undo added = (all : List Entry) (p : Patch)
+    → Represents old all → IsPatch p old.made block start stop after undo → IsOrderly (with_patch all p)
+    → Represents new (with_patch all p) × (added.no ≡ p.no) × (added.hard ≡ (fresh all p).hard)

@@ -1,5 +1,6 @@
 pub mod State
 pub mod Marks
+pub mod Ready
 pub mod Meaning
 pub mod Adding
 pub mod Search

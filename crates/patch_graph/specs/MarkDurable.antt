@@ -1,7 +1,10 @@
 -- Classes made durable, and so forgotten.
-use Rattle.std.specs.Prelude.{ℕ, Bool, true, false, ◌≡◌, ◌≢◌, ◌<◌, ◌==◌, ◌&&◌, if◌then◌else◌, List, length, Some, None, slice_index_or}
+use Rattle.std.specs.Prelude.{ℕ, Bool, true, false, ◌≡◌, ◌≢◌, ◌<◌, ◌==◌, ◌&&◌, if◌then◌else◌, List, map, length, Some, None, slice_index_or}
 use Rattle.std.specs.Option.{option_map_or}
-use Rattle.patch_model.specs.Entry.{marks_flight, is_among}
+use Rattle.patch_model.specs.Entry.{Entry, marks_flight, is_among}
+use Rattle.patch_model.specs.Orderly.{IsOrderly}
+use Rattle.patch_model.specs.State.{landed}
+use Rattle.patch_graph.specs.Meaning.{Represents}
 use Rattle.patch_graph.specs.State.{Class, Graph, Slots, Numbers, find, class_at}
 
 -- the class is in flight of the block
@@ -26,3 +29,7 @@ pub record AreLanded (old_slots new_slots : Slots) (old new : Numbers) (block : 
 -- of the keys in the set, the graph has forgotten the classes in flight of the block
 abbrev pub HasLanded : Graph → Graph → ℕ → (ℕ → Bool) → Type 0
 HasLanded old new block set = AreLanded old.slots new.slots old.numbers new.numbers block set
+
+-- the one graph's patches are the other's, with those in flight of the block durable
+abbrev pub MakesDurable : Graph → Graph → ℕ → Type 0
+MakesDurable old new block = (all : List Entry) → Represents old all → IsOrderly (map (landed block) all) → Represents new (map (landed block) all)

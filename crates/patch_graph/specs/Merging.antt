@@ -2,6 +2,8 @@
 use Rattle.std.specs.Prelude.{ℕ, map, ◌≡◌, ◌≢◌, ◌++◌, min, max, if◌then◌else◌, List, Some, None, slice_set}
 use Rattle.std.specs.Option.{option_map, option_map_or}
 use Rattle.patch_model.specs.Entry.{Entry, is_among}
+use Rattle.patch_model.specs.Legal.{IsLegalMerge}
+use Rattle.patch_model.specs.Orderly.{IsOrderly}
 use Rattle.patch_model.specs.State.{class_of, joined}
 use Rattle.patch_graph.specs.Meaning.{Represents}
 use Rattle.patch_graph.specs.State.{Class, Graph, Slots, Numbers, find, class_at}
@@ -44,6 +46,7 @@ merged all a b = map (joined (class_of all a) (class_of all b)) all
 abbrev pub merged_name : List Entry → ℕ → ℕ → ℕ
 merged_name all a b = min (class_of all a) (class_of all b)
 
--- the graph is that of the merged patches, and their class has this name
-abbrev pub HasMerged : Graph → List Entry → ℕ → ℕ → ℕ → Type 0
-HasMerged new all a b name = Represents new (merged all a b) × (name ≡ merged_name all a b)
+-- the one graph's patches are the other's after a legal merge, and their class has this name
+abbrev pub Merges : Graph → Graph → ℕ → ℕ → ℕ → Type 0
+Merges old new a b name = (all : List Entry) → Represents old all → IsLegalMerge all a b → IsOrderly (merged all a b)
+    → Represents new (merged all a b) × (name ≡ merged_name all a b)

@@ -2,7 +2,7 @@
 ghost use Rattle.std.specs.Prelude.{◌≡◌, IfOk};
 ghost use Rattle.patch_graph.specs.Showing.{shown};
 ghost use Rattle.patch_graph.specs.Adding.{new_class, overlaps};
-ghost use Rattle.patch_graph.specs.Marks.{is_candidate};
+ghost use Rattle.patch_graph.specs.Ready.{is_candidate};
 
 use patch_model::{BlockNo, Mark, PatchNo};
 use std::alloc::{AllocError, Allocator, Global};

@@ -1,16 +1,14 @@
 //! The graph of the classes that are live.
-ghost use Rattle.std.specs.Prelude.{◌≡◌, ◌≢◌, ◌<◌, ◌≤◌, ◌+◌, ◌==◌, ◌^◌, ℕ, List, [], ◌∷◌, ◌++◌, false, None, ◌↔◌, IsTrue, MatchOption, map, max, min, length, IfOk, OnOk, OnErr};
-ghost use Rattle.patch_model.specs.Patch.{Patch};
+ghost use Rattle.std.specs.Prelude.{◌≡◌, ◌<◌, ◌≤◌, ◌+◌, List, [], false, None, MatchOption, length, IfOk, OnOk, OnErr};
 ghost use Rattle.patch_model.specs.Entry.{Entry};
-ghost use Rattle.patch_model.specs.Ready.{ready};
-ghost use Rattle.patch_model.specs.State.{landed, sent};
-ghost use Rattle.patch_model.specs.Legal.{IsLegalMerge};
-ghost use Rattle.patch_model.specs.Orderly.{IsOrderly};
 ghost use Rattle.patch_graph.specs.Meaning.{Represents, IsNotLive, IsLiveClass, HasMark};
 ghost use Rattle.patch_graph.specs.Showing.{IsShown};
 ghost use Rattle.patch_graph.specs.Between.{LacksAnEnd, TellsLeastBetween, TellsReach};
-ghost use Rattle.patch_graph.specs.Merging.{HasMerged, merged};
-ghost use Rattle.patch_graph.specs.Adding.{IsPatch, IsDrawnUp, HasAdded, HasMade, with_patch};
+ghost use Rattle.patch_graph.specs.Ready.{AreReady, TellsReady};
+ghost use Rattle.patch_graph.specs.MarkFlight.{PutsInFlight};
+ghost use Rattle.patch_graph.specs.MarkDurable.{MakesDurable};
+ghost use Rattle.patch_graph.specs.Merging.{Merges};
+ghost use Rattle.patch_graph.specs.Adding.{Adds, HasAdded, IsDrawnUp};
 
 use crate::adding::{dependencies, insert, is_hard};
 use crate::block_keys::{BlockKeys, listed, unlist};
@@ -82,8 +80,7 @@ impl<A: Allocator + Copy> Graph<A> {
         alloc: B,
         block: BlockNo,
     ) -> Result<Vec<PatchNo, B>, OutOfMemory>
-        ensures answer { (all : List Entry) → Represents self.old all
-            → IfOk result (λ numbers. numbers.items ≡ map (λ e. e.patch.no) (ready all block)) }
+        ensures answer { IfOk result (λ numbers. AreReady self.old block numbers.items) }
         ensures same { self.new ≡ self.old }
     {
         let numbers = numbers_ready(
@@ -98,7 +95,7 @@ impl<A: Allocator + Copy> Graph<A> {
 
     /// Whether a send of the block takes any patch.
     pub fn any_ready(&mut self, block: BlockNo) -> bool
-        ensures answer { (all : List Entry) → Represents self.old all → IsTrue result ↔ (ready all block ≢ []) }
+        ensures answer { TellsReady self.old block result }
         ensures same { self.new ≡ self.old }
     {
         is_any_ready(
@@ -123,8 +120,7 @@ impl<A: Allocator + Copy> Graph<A> {
     ) -> Result<Added, OutOfMemory>
         requires numbers { self.old.made < MAX_PATCHES }
         requires span { start < stop }
-        ensures answer { (all : List Entry) (p : Patch) → Represents self.old all → IsPatch p self.old.made block start stop after.now undo
-            → IsOrderly (with_patch all p) → IfOk result (HasMade self.new all p) }
+        ensures answer { IfOk result (Adds self.old self.new block start stop after.now undo) }
         ensures made { OnOk result (self.new.made ≡ self.old.made + 1) }
         ensures refused { OnErr result (self.new ≡ self.old) }
     {
@@ -185,14 +181,12 @@ impl<A: Allocator + Copy> Graph<A> {
 
     /// Makes one class of the classes of two patches, where that is legal. Its name.
     pub fn merge(&mut self, a: PatchNo, b: PatchNo) -> Result<PatchNo, OutOfMemory>
-        ensures answer { (all : List Entry) → Represents self.old all → IsLegalMerge all a b → IsOrderly (merged all a b)
-            → IfOk result (HasMerged self.new all a b) }
+        ensures answer { IfOk result (Merges self.old self.new a b) }
         ensures made { self.new.made ≡ self.old.made }
         ensures refused { OnErr result (self.new ≡ self.old) }
     {
         let name = merging::merge(self.alloc, &mut self.register, &mut self.lists, a, b)?;
-        // There is a name where both patches are live, as they are where a merge is legal.
-        Ok(name.unwrap_or(a))
+        Ok(name)
     }
 
     /// The least name of a third live class on a path from the class of the one live patch to that of the other. There is
@@ -207,8 +201,7 @@ impl<A: Allocator + Copy> Graph<A> {
 
     /// Puts in flight what a send of the block takes.
     pub fn mark_flight(&mut self, block: BlockNo)
-        ensures answer { (all : List Entry) → Represents self.old all → IsOrderly (map (sent (ready all block)) all)
-            → Represents self.new (map (sent (ready all block)) all) }
+        ensures answer { PutsInFlight self.old self.new block }
         ensures made { self.new.made ≡ self.old.made }
     {
         let keys = listed(&self.lists, block);
@@ -217,8 +210,7 @@ impl<A: Allocator + Copy> Graph<A> {
 
     /// Makes durable what is in flight of the block, and forgets it.
     pub fn mark_durable(&mut self, block: BlockNo)
-        ensures answer { (all : List Entry) → Represents self.old all → IsOrderly (map (landed block) all)
-            → Represents self.new (map (landed block) all) }
+        ensures answer { MakesDurable self.old self.new block }
         ensures made { self.new.made ≡ self.old.made }
     {
         let keys = listed(&self.lists, block);

@@ -1,11 +1,8 @@
 //! Classes made durable.
-ghost use Rattle.std.specs.Prelude.{◌≡◌, ◌≤◌, ◌==◌, List, map, length};
-ghost use Rattle.patch_model.specs.Entry.{Entry, is_among};
-ghost use Rattle.patch_model.specs.State.{landed};
-ghost use Rattle.patch_model.specs.Orderly.{IsOrderly};
-ghost use Rattle.patch_graph.specs.Meaning.{Represents};
+ghost use Rattle.std.specs.Prelude.{◌≡◌, ◌==◌, length};
+ghost use Rattle.patch_model.specs.Entry.{is_among};
 ghost use Rattle.patch_graph.specs.BlockKeys.{HoldsKeys, LosesOf, LosesOnly};
-ghost use Rattle.patch_graph.specs.MarkDurable.{lands, lands_at, AreForgotten, HasLanded};
+ghost use Rattle.patch_graph.specs.MarkDurable.{lands, lands_at, AreForgotten, HasLanded, MakesDurable};
 
 use crate::classes::Class;
 use crate::register::{Keys, Register};
@@ -61,8 +58,7 @@ fn land_exactly<A: Allocator>(register: &mut Register<A>, block: BlockNo, keys: 
 /// Forgets the classes in flight of the block, whose keys are among these.
 pub fn land<A: Allocator>(register: &mut Register<A>, block: BlockNo, keys: &[usize])
     requires { HoldsKeys register.old.slots block keys.now }
-    ensures answer { (all : List Entry) → Represents register.old all → IsOrderly (map (landed block) all)
-        → Represents register.new (map (landed block) all) }
+    ensures answer { MakesDurable register.old register.new block }
     ensures made { register.new.made ≡ register.old.made }
     ensures length { length register.new.slots ≡ length register.old.slots }
     ensures fewer { LosesOnly register.old.slots register.new.slots }

@@ -1,18 +1,13 @@
 //! Classes put in flight.
-ghost use Rattle.std.specs.Prelude.{◌≡◌, ◌≤◌, ℕ, Bool, List, map, length};
-ghost use Rattle.patch_model.specs.Entry.{Entry};
-ghost use Rattle.patch_model.specs.Ready.{ready};
-ghost use Rattle.patch_model.specs.State.{sent};
-ghost use Rattle.patch_model.specs.Orderly.{IsOrderly};
-ghost use Rattle.patch_graph.specs.Meaning.{Represents};
+ghost use Rattle.std.specs.Prelude.{◌≡◌, ◌≤◌, ℕ, Bool, length};
 ghost use Rattle.patch_graph.specs.Marks.{is_marked, HoldsMarked};
 ghost use Rattle.patch_graph.specs.BlockKeys.{HoldsKeys};
-ghost use Rattle.patch_graph.specs.MarkFlight.{flown_at, AreFlown};
+ghost use Rattle.patch_graph.specs.MarkFlight.{flown_at, AreFlown, PutsInFlight};
 
 use crate::ready::{clear, is_marked, mark_ready};
 use crate::register::{Classes, Register};
 use crate::scratch::Scratch;
-use patch_model::{BlockNo, Mark};
+use patch_model::{BlockNo, Mark, laws};
 use std::alloc::Allocator;
 
 /// Puts the class at the key in flight, if there is one.
@@ -46,13 +41,13 @@ pub fn fly_ready<A: Allocator>(
 )
     requires short { length register.old.slots ≤ scratch.old }
     requires all { HoldsKeys register.old.slots block keys.now }
-    ensures answer { (all : List Entry) → Represents register.old all → IsOrderly (map (sent (ready all block)) all)
-        → Represents register.new (map (sent (ready all block)) all) }
+    ensures answer { PutsInFlight register.old register.new block }
     ensures scratch { scratch.new ≡ scratch.old }
     ensures made { register.new.made ≡ register.old.made }
     ensures length { length register.new.slots ≡ length register.old.slots }
     ensures kept { (set : ℕ → Bool) × AreFlown set register.old.slots register.new.slots }
 {
+    laws::ready_is_largest();
     let marks = scratch.marks.as_mut_slice();
     mark_ready(register, block, keys, marks);
     fly_marked(&mut register.classes, keys, marks);

@@ -1,12 +1,8 @@
 //! Two classes made one.
 ghost use Rattle.std.specs.Prelude.{◌≡◌, ◌≢◌, ℕ, List, Some, length, min, IfOk, OnOk, OnErr};
 ghost use Rattle.std.specs.Option.{option_map};
-ghost use Rattle.patch_model.specs.Entry.{Entry};
-ghost use Rattle.patch_model.specs.Legal.{IsLegalMerge};
-ghost use Rattle.patch_model.specs.Orderly.{IsOrderly};
 ghost use Rattle.patch_graph.specs.State.{class_at, find};
-ghost use Rattle.patch_graph.specs.Meaning.{Represents};
-ghost use Rattle.patch_graph.specs.Merging.{joined_class, absorbed_at, merged, merged_name, AreRedirected, HasJoined};
+ghost use Rattle.patch_graph.specs.Merging.{joined_class, absorbed_at, AreRedirected, HasJoined, Merges};
 ghost use Rattle.patch_graph.specs.BlockKeys.{AreListed};
 
 use crate::block_keys::{BlockKeys, unlist};
@@ -134,33 +130,32 @@ fn members_at<A: Allocator>(register: &Register<A>, key: usize) -> usize {
     }
 }
 
-/// Makes one class of the classes of two patches, where that is legal. The name of the class; none where one of the
-/// patches isn't live, which is not legal.
+/// Makes one class of the classes of two patches, where that is legal. The name of the class.
 pub fn merge<A: Allocator + Copy>(
     alloc: A,
     register: &mut Register<A>,
     lists: &mut BlockKeys<A>,
     a: PatchNo,
     b: PatchNo,
-) -> Result<Option<PatchNo>, AllocError>
-    ensures answer { (all : List Entry) → Represents register.old all → IsLegalMerge all a b → IsOrderly (merged all a b)
-        → IfOk result (λ name. Represents register.new (merged all a b) × (name ≡ Some (merged_name all a b))) }
+) -> Result<PatchNo, AllocError>
+    ensures answer { IfOk result (Merges register.old register.new a b) }
     ensures refused { OnErr result (register.new ≡ register.old) }
     ensures made { register.new.made ≡ register.old.made }
     ensures length { length register.new.slots ≡ length register.old.slots }
     ensures listed { AreListed register.old.slots lists.old.entries → AreListed register.new.slots lists.new.entries }
 {
+    // The patches of a legal merge are live, so each of them has a key, and its key a class.
     let Some(first) = register.find(a) else {
-        return Ok(None);
+        return Ok(a);
     };
     let Some(second) = register.find(b) else {
-        return Ok(None);
+        return Ok(a);
     };
     if members_at(register, first) < members_at(register, second) {
         join(alloc, register, lists, second, first)?;
-        Ok(register.name_at(second))
+        Ok(register.name_at(second).unwrap_or(a))
     } else {
         join(alloc, register, lists, first, second)?;
-        Ok(register.name_at(first))
+        Ok(register.name_at(first).unwrap_or(a))
     }
 }

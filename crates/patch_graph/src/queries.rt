@@ -1,8 +1,6 @@
 //! What is asked of the classes.
-ghost use Rattle.std.specs.Prelude.{◌≡◌, ◌≢◌, ◌≤◌, ℕ, false, None, List, [], ◌↔◌, IsTrue, map, length, IfOk};
-ghost use Rattle.patch_model.specs.Entry.{Entry};
-ghost use Rattle.patch_model.specs.Ready.{ready};
-ghost use Rattle.patch_graph.specs.Meaning.{Represents};
+ghost use Rattle.std.specs.Prelude.{◌≡◌, ◌≤◌, false, None, length, IfOk};
+ghost use Rattle.patch_graph.specs.Ready.{AreReady, TellsReady};
 ghost use Rattle.patch_graph.specs.Between.{LacksAKey, TellsLeastBetween, TellsReach, is_newest};
 ghost use Rattle.patch_graph.specs.BlockKeys.{HoldsKeys};
 ghost use Rattle.patch_graph.specs.Marks.{AreClear};
@@ -12,7 +10,7 @@ use crate::ready::{any_marked, clear, is_marked, mark_ready, marked_numbers, set
 use crate::register::Register;
 use crate::scratch::Scratch;
 use crate::searching::search;
-use patch_model::{BlockNo, PatchNo};
+use patch_model::{BlockNo, PatchNo, laws};
 use std::alloc::{AllocError, Allocator};
 
 /// The numbers that a send of the block takes, rising.
@@ -26,9 +24,9 @@ pub fn numbers_ready<A: Allocator, B: Allocator>(
     requires short { length register.now.slots ≤ scratch.old }
     requires all { HoldsKeys register.now.slots block keys.now }
     ensures scratch { scratch.new ≡ scratch.old }
-    ensures answer { (all : List Entry) → Represents register.now all
-        → IfOk result (λ ns. ns.items ≡ map (λ e. e.patch.no) (ready all block)) }
+    ensures answer { IfOk result (λ numbers. AreReady register.now block numbers.items) }
 {
+    laws::ready_is_largest();
     let marks = scratch.marks.as_mut_slice();
     mark_ready(register, block, keys, marks);
     let found = marked_numbers(alloc, register, keys, marks);
@@ -46,9 +44,9 @@ pub fn is_any_ready<A: Allocator>(
     requires short { length register.now.slots ≤ scratch.old }
     requires all { HoldsKeys register.now.slots block keys.now }
     ensures scratch { scratch.new ≡ scratch.old }
-    ensures answer { (all : List Entry) → Represents register.now all
-        → IsTrue result ↔ (ready all block ≢ []) }
+    ensures answer { TellsReady register.now block result }
 {
+    laws::ready_is_largest();
     let marks = scratch.marks.as_mut_slice();
     mark_ready(register, block, keys, marks);
     let any = any_marked(keys, marks);

@@ -3,7 +3,8 @@ ghost use Rattle.std.specs.Prelude.{◌++◌, OnOk, IfOk, OnErr, ◌≡◌, ◌<
 ghost use Rattle.std.specs.List.{list_any};
 ghost use Rattle.patch_graph.specs.State.{find, class_at};
 ghost use Rattle.patch_graph.specs.BlockKeys.{HoldsKeys};
-ghost use Rattle.patch_graph.specs.Marks.{is_marked, AreClear, HoldsMarked, is_met, is_met_at, is_unmet, picks, IsRound, IsLargestMet, members_at, gathered, IsArranged};
+ghost use Rattle.patch_graph.specs.Marks.{is_marked, AreClear, HoldsMarked};
+ghost use Rattle.patch_graph.specs.Ready.{is_met, is_met_at, is_unmet, picks, IsRound, IsLargestMet, members_at, gathered, IsArranged};
 
 use crate::classes::Class;
 use crate::register::Register;

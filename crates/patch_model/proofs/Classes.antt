@@ -4,6 +4,7 @@ use Rattle.std.specs.Prelude.{◌==◌, ◌&&◌, ◌||◌, IsTrue, min, slice_g
 use Rattle.std.proofs.lemmas.Bool.{cases_Bool, and_parts, or_cases, both_ways, not-true}
 use Rattle.std.proofs.lemmas.Bool.Decides.{nat_tests}
 use Rattle.patch_model.specs.Marked.{only_memory}
+use Rattle.patch_model.specs.Entries.{AreApart, has-In, In-has}
 use Rattle.patch_model.specs.Step.{Step, Create, Merge, Send, Complete}
 use Rattle.patch_model.specs.Execution.{Execution}
 use Rattle.patch_model.specs.Entry.{Entry, marks_flight, marks_durable, is_memory, is_flight, is_among, is_undoable}
@@ -13,7 +14,7 @@ use Rattle.patch_model.specs.Legal.{IsLegal, IsLegalStep, AreLegal, block_at}
 use Rattle.patch_model.specs.Crash.{AreWhole, crash_set}
 use Rattle.patch_model.specs.Member.{In, In-from_Contains, Contains-from_In, map-In}
 use Rattle.patch_model.specs.Kept.{class-landed, class-sent, patch-landed, patch-sent}
-use Rattle.patch_model.proofs.Striking.{AreApart, ready-largest, ready-In, has-In, In-has}
+use Rattle.patch_model.proofs.Striking.{ready-largest, ready-In}
 use Rattle.patch_model.proofs.Numbering.{Numbered, Numbered-after_step, apart-from_Numbered}
 use Rattle.patch_model.proofs.Crashes.{In-push, Numbered-below}
 

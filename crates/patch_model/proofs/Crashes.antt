@@ -5,6 +5,7 @@ use Rattle.std.proofs.lemmas.Bool.{cases_Bool, and_parts, and_from, or_cases, bo
 use Rattle.std.proofs.lemmas.Bool.Decides.{nat_tests}
 use Rattle.std.proofs.lemmas.List.Elements.{recursion_from_All}
 use Rattle.std.specs.List.{AllByRecursion}
+use Rattle.patch_model.specs.Entries.{AreApart, has-In, In-has}
 use Rattle.patch_model.specs.Step.{Step, Create, Merge, Send, Complete}
 use Rattle.patch_model.specs.declared.patches.Mark.{Mark}
 use Rattle.patch_model.specs.declared.patches.Mark.TheVariants.{Memory, Flight, Durable}
@@ -17,7 +18,7 @@ use Rattle.patch_model.specs.Legal.{IsLegal, IsLegalStep, AreLegal}
 use Rattle.patch_model.specs.Crash.{IsClosed, crash_set}
 use Rattle.patch_model.specs.Member.{In, In-from_Contains, Contains-from_In, map-In}
 use Rattle.patch_model.specs.Kept.{patch-joined, patch-landed, patch-sent}
-use Rattle.patch_model.proofs.Striking.{AreApart, ready-largest, ready-In, has-In, In-has, or_last}
+use Rattle.patch_model.proofs.Striking.{ready-largest, ready-In, or_last}
 use Rattle.patch_model.proofs.Numbering.{Numbered, Numbered-after_step, apart-from_Numbered}
 
 -- e's mark goes no further than that of f, on which it depends

@@ -4,6 +4,7 @@ use Rattle.std.specs.Prelude.{◌==◌, ◌&&◌, not, IsTrue, Contains, filter}
 use Rattle.std.specs.List.{list_any}
 use Rattle.std.proofs.lemmas.Bool.{cases_Bool, and_parts, and_from, both_ways, not-true}
 use Rattle.std.proofs.lemmas.Bool.Decides.{nat_tests}
+use Rattle.patch_model.specs.Entries.{In-has}
 use Rattle.patch_model.specs.Step.{Step, Create, Merge, Send, Complete}
 use Rattle.patch_model.specs.Execution.{Execution}
 use Rattle.patch_model.specs.Entry.{Entry, is_flight, is_memory}
@@ -12,7 +13,7 @@ use Rattle.patch_model.specs.State.{State, joined, sent, landed, class_of, after
 use Rattle.patch_model.specs.Legal.{IsLegal, IsLegalStep, AreLegal}
 use Rattle.patch_model.specs.Member.{In, In-from_Contains, filter-In, list_any-at, list_any-from, In-map}
 use Rattle.patch_model.specs.Kept.{mark-joined, patch-joined, patch-landed, patch-sent}
-use Rattle.patch_model.proofs.Striking.{In-has, ready-In}
+use Rattle.patch_model.proofs.Striking.{ready-In}
 use Rattle.patch_model.proofs.Numbering.{apart-from_Numbered}
 use Rattle.patch_model.proofs.Marks.{IsSettled, IsSettled-after_step, settled_first}
 use Rattle.patch_model.proofs.Spans.{In-to_push}

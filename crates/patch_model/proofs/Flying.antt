@@ -4,6 +4,7 @@ use Rattle.std.specs.Prelude.{◌==◌, ◌&&◌, not, cond, filter, count_by, I
 use Rattle.std.proofs.lemmas.Bool.{cases_Bool, and_parts, and_right}
 use Rattle.std.proofs.lemmas.Bool.Decides.{nat_tests}
 use Rattle.patch_model.specs.Marked.{memory_live, flight_live}
+use Rattle.patch_model.specs.Entries.{rising-filter, rising_same, has-In, In-has}
 use Rattle.patch_model.specs.declared.patches.Undo.{Undo}
 use Rattle.patch_model.specs.Step.{Step, Create, Merge, Send, Complete}
 use Rattle.patch_model.specs.Execution.{Execution, extended}
@@ -17,8 +18,8 @@ use Rattle.patch_model.proofs.Counting.{count-cons, count-push, count-map_same}
 use Rattle.patch_model.proofs.Leaving.{entries_on, kept_same, filter-last}
 use Rattle.patch_model.proofs.Marks.{sent_from}
 use Rattle.patch_model.proofs.Numbering.{AreApart-run, Numbered-run}
-use Rattle.patch_model.proofs.Rising.{rising-from_Numbered, rising-filter, rising-ready, rising_same}
-use Rattle.patch_model.proofs.Striking.{has-In, In-has, ready-In}
+use Rattle.patch_model.proofs.Rising.{rising-from_Numbered, rising-ready}
+use Rattle.patch_model.proofs.Striking.{ready-In}
 use Rattle.patch_model.proofs.Waiting.{no_flying}
 
 -- the patch is in flight, and of the block

@@ -3,6 +3,7 @@ use Rattle.std.proofs.Common.{◌≡◌, ◌≢◌, ℕ, ◌∙◌, inl, inr, Bo
 use Rattle.std.specs.Prelude.{◌==◌, ◌&&◌, not, IsFalse, filter}
 use Rattle.std.proofs.lemmas.Bool.{cases_Bool, and_parts, and_from, both_ways, not-true}
 use Rattle.std.proofs.lemmas.Bool.Decides.{nat_tests}
+use Rattle.patch_model.specs.Entries.{In-has, has-In}
 use Rattle.patch_model.specs.Step.{Step, Create, Merge, Send, Complete}
 use Rattle.patch_model.specs.Pile.{pile}
 use Rattle.patch_model.specs.Execution.{Execution, extended}
@@ -16,7 +17,7 @@ use Rattle.patch_model.specs.Orderly.{left_behind}
 use Rattle.patch_model.specs.Member.{In, In-from_Contains, Contains-from_In, In-filter, filter-In, filter-same}
 use Rattle.patch_model.specs.Kept.{mark-joined, patch-joined, patch-landed, patch-sent}
 use Rattle.patch_model.proofs.Among.{among_map-at, among_map-from}
-use Rattle.patch_model.proofs.Striking.{In-has, has-In, ready-In}
+use Rattle.patch_model.proofs.Striking.{ready-In}
 use Rattle.patch_model.proofs.Numbering.{AreApart-run, ready_is_largest, state_of-extended}
 use Rattle.patch_model.proofs.Classes.{goes_along}
 use Rattle.patch_model.proofs.Crashes.{not_both, not_flying}

@@ -4,6 +4,7 @@ use Rattle.std.specs.Prelude.{◌==◌, ◌&&◌, ◌||◌, not, IsTrue, Contain
 use Rattle.std.specs.List.{list_any}
 use Rattle.std.proofs.lemmas.Bool.{cases_Bool, and_parts, and_from, or_cases, both_ways}
 use Rattle.std.proofs.lemmas.Bool.Decides.{nat_tests}
+use Rattle.patch_model.specs.Entries.{AreApart, has-In}
 use Rattle.patch_model.specs.Patch.{Patch}
 use Rattle.patch_model.specs.Step.{Step, Create, Merge, Send, Complete}
 use Rattle.patch_model.specs.declared.patches.Undo.{Undo}
@@ -17,7 +18,7 @@ use Rattle.patch_model.specs.Legal.{IsLegal, IsLegalStep, AreLegal}
 use Rattle.patch_model.specs.Orderly.{IsUnder}
 use Rattle.patch_model.specs.Member.{In, In-from_Contains, In-filter, list_all-at, list_any-at, list_any-from, map-In}
 use Rattle.patch_model.specs.Kept.{hard-joined, hard-landed, hard-sent, mark-joined, patch-joined, patch-landed, patch-sent}
-use Rattle.patch_model.proofs.Striking.{AreApart, ready-In, has-In}
+use Rattle.patch_model.proofs.Striking.{ready-In}
 use Rattle.patch_model.proofs.Numbering.{Numbered, Numbered-after_step, apart-from_Numbered}
 use Rattle.patch_model.proofs.Crashes.{IsOrdered, IsOrdered-after_step, In-push, Numbered-below, depends-earlier, not_both}
 use Rattle.patch_model.proofs.Classes.{AreClasses, AreClasses-after_step}

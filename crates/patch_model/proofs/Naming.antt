@@ -4,6 +4,7 @@ use Rattle.std.specs.Prelude.{Contains}
 use Rattle.std.specs.List.{AllByRecursion}
 use Rattle.std.specs.List.Sorted.{IsNonDecreasing}
 use Rattle.std.specs.Cmp.{both_ways as same_bool}
+use Rattle.patch_model.specs.Entries.{has-In, In-has}
 use Rattle.patch_model.specs.Execution.{Execution}
 use Rattle.patch_model.specs.Entry.{Entry, is_among}
 use Rattle.patch_model.specs.Ready.{IsRising, has, ready}
@@ -15,7 +16,7 @@ use Rattle.patch_model.proofs.Classes.{goes_along}
 use Rattle.patch_model.proofs.Numbering.{AreApart-run}
 use Rattle.patch_model.proofs.Rising.{rising-ready}
 use Rattle.patch_model.proofs.Spans.{own_name}
-use Rattle.patch_model.proofs.Striking.{has-In, In-has, ready-In}
+use Rattle.patch_model.proofs.Striking.{ready-In}
 
 above : (n : ℕ) (es : List Entry) → AllByRecursion (λ f. n < f.patch.no) es → (j d : ℕ) → j < length (numbers_of es) → n < get_or (numbers_of es) j d
 above n [] h j d within = absurd (omega arith)

@@ -1,6 +1,7 @@
 -- A patch's number is its place, in every world.
 use Rattle.std.proofs.Common.{◌≡◌, ℕ, ◌+◌, ◌≤◌, ◌∙◌, inl, inr, List, [], ◌∷◌, ◌++◌, length, map, sym, ap, arith}
 use Rattle.std.proofs.lemmas.List.Sums.{fold_push}
+use Rattle.patch_model.specs.Entries.{AreApart}
 use Rattle.patch_model.specs.Step.{Step, Create, Merge, Send, Complete}
 use Rattle.patch_model.specs.Execution.{Execution, extended}
 use Rattle.patch_model.specs.Entry.{Entry}
@@ -8,7 +9,7 @@ use Rattle.patch_model.specs.Ready.{ready, IsLargestWritable}
 use Rattle.patch_model.specs.State.{State, joined, sent, landed, class_of, after_step, after_steps, at_first, state_of, entries_of}
 use Rattle.patch_model.specs.Member.{In}
 use Rattle.patch_model.specs.Kept.{patch-joined, patch-landed, patch-sent}
-use Rattle.patch_model.proofs.Striking.{AreApart, ready-largest}
+use Rattle.patch_model.proofs.Striking.{ready-largest}
 
 -- the patches are numbered from n on
 abbrev pub Numbered : ℕ → List Entry → Type 0

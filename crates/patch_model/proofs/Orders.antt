@@ -7,6 +7,7 @@ use Rattle.std.proofs.lemmas.Bool.Decides.{nat_tests}
 use Rattle.std.proofs.lemmas.List.Elements.{recursion_from_All}
 use Rattle.patch_model.specs.Link.{Link-at, Link-from}
 use Rattle.patch_model.specs.Marked.{memory_live}
+use Rattle.patch_model.specs.Entries.{rising-filter}
 use Rattle.patch_model.specs.declared.blocks.TheConstants.{BLOCK}
 use Rattle.patch_model.specs.Execution.{Execution}
 use Rattle.patch_model.specs.Entry.{Entry, is_memory, is_live, is_undoable}
@@ -19,7 +20,7 @@ use Rattle.patch_model.specs.Member.{In, In-from_Contains, Contains-from_In, In-
 use Rattle.patch_model.proofs.Numbering.{Numbered, Numbered-run, AreApart-run}
 use Rattle.patch_model.proofs.Crashes.{Numbered-below}
 use Rattle.patch_model.proofs.Classes.{at_number}
-use Rattle.patch_model.proofs.Rising.{rising-from_Numbered, rising-filter}
+use Rattle.patch_model.proofs.Rising.{rising-from_Numbered}
 use Rattle.patch_model.proofs.Marks.{marks_closed, IsSettled-run}
 use Rattle.patch_model.proofs.Rings.{members_alike, same_name, apart_in, Path-map, live_paths}
 use Rattle.patch_model.proofs.Spans.{least_name, own_name, touch-at, touch-from}

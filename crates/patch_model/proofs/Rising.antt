@@ -1,22 +1,14 @@
--- A set in the order of its numbers is one list.
-use Rattle.std.proofs.Common.{◌≡◌, ℕ, zero, suc, ◌+◌, ◌<◌, ◌≤◌, ◌∙◌, inl, inr, Bool, List, [], ◌∷◌, length, refl, sym, ap, arith, subst}
-use Rattle.std.specs.List.{AllByRecursion, filter}
-use Rattle.std.proofs.lemmas.Bool.{cases_Bool}
+-- What is ready of a list in the order of its numbers is in that order too, and is the only such set.
+use Rattle.std.proofs.Common.{◌≡◌, ℕ, zero, suc, ◌+◌, ◌<◌, ◌≤◌, Bool, List, [], ◌∷◌, length, arith}
+use Rattle.std.specs.List.{filter}
 use Rattle.patch_model.specs.Execution.{Execution}
 use Rattle.patch_model.specs.Entry.{Entry, in_memory_of}
-use Rattle.patch_model.specs.Ready.{struck, may_stay, ready, IsLargestWritable, IsRising}
+use Rattle.patch_model.specs.Entries.{all-from_In, rising-apart, rising-filter, rising_same}
+use Rattle.patch_model.specs.Ready.{struck, may_stay, ready, IsLargestWritable, IsRising, ReadyIsOnly}
 use Rattle.patch_model.specs.State.{entries_of}
-use Rattle.patch_model.specs.Member.{In, In-from_Contains, Contains-from_In, filter-In}
-use Rattle.patch_model.proofs.Numbering.{Numbered, Numbered-run, Numbered-above, ready_is_largest}
-
-all-In : (P : Entry → Type 0) (es : List Entry) → AllByRecursion P es → (e : Entry) → In es e → P e
-all-In P [] h e i = absurd i
-all-In P (x ∷ xs) h e (inl same) = subst P same h.0
-all-In P (x ∷ xs) h e (inr i) = all-In P xs h.1 e i
-
-all-from_In : (P : Entry → Type 0) (es : List Entry) → ((e : Entry) → In es e → P e) → AllByRecursion P es
-all-from_In P [] h = tt
-all-from_In P (x ∷ xs) h = (h x (inl refl), all-from_In P xs (λ e i. h e (inr i)))
+use Rattle.patch_model.specs.Member.{In-from_Contains, Contains-from_In}
+use Rattle.patch_model.proofs.Numbering.{Numbered, Numbered-run, Numbered-above}
+use Rattle.patch_model.proofs.Striking.{ready-largest}
 
 pub rising-from_Numbered : (n : ℕ) (es : List Entry) → Numbered n es → IsRising es
 rising-from_Numbered n [] h = tt
@@ -25,48 +17,25 @@ rising-from_Numbered n (x ∷ xs) h = (
   rising-from_Numbered (n + 1) xs h.1,
 )
 
-pub rising-filter : (p : Entry → Bool) (es : List Entry) → IsRising es → IsRising (filter p es)
-rising-filter p [] h = tt
-rising-filter p (x ∷ xs) h = elim (cases_Bool (p x)) [
-  | inl u ↦ rw u (all-from_In (λ f. x.patch.no < f.patch.no) (filter p xs) (λ f i. all-In (λ f. x.patch.no < f.patch.no) xs h.0 f (filter-In p xs f i).0), rising-filter p xs h.1)
-  | inr u ↦ rw u (rising-filter p xs h.1)
-]
+pub rising-run : (run : Execution) → IsRising (entries_of run)
+rising-run run = rising-from_Numbered 0 (entries_of run) (Numbered-run run)
 
 rising-struck : (n : ℕ) (stays : List Entry → Entry → Bool) (es : List Entry) → IsRising es → IsRising (struck n stays es)
 rising-struck zero stays es h = h
 rising-struck (suc n) stays es h = rising-struck n stays (filter (stays es) es) (rising-filter (stays es) es h)
 
+pub ready_rises : (all : List Entry) (block : ℕ) → IsRising all → IsRising (ready all block)
+ready_rises all block h = rising-struck (length all) (may_stay all) (filter (in_memory_of block) all) (rising-filter (in_memory_of block) all h)
+
 pub rising-ready : (run : Execution) (block : ℕ) → IsRising (ready (entries_of run) block)
-rising-ready run block = rising-struck (length (entries_of run)) (may_stay (entries_of run)) (filter (in_memory_of block) (entries_of run))
-    (rising-filter (in_memory_of block) (entries_of run) (rising-from_Numbered 0 (entries_of run) (Numbered-run run)))
+rising-ready run block = ready_rises (entries_of run) block (rising-run run)
 
--- a member of the rest is above the first
-above_first : (x : Entry) (xs : List Entry) → IsRising (x ∷ xs) → (e : Entry) → In xs e → x.patch.no < e.patch.no
-above_first x xs h e i = all-In (λ f. x.patch.no < f.patch.no) xs h.0 e i
+pub ready_is_largest : (all : List Entry) (block : ℕ) → IsRising all → IsLargestWritable all block (ready all block)
+ready_is_largest all block h = ready-largest all block (rising-apart all h)
 
-first_same : (x y : Entry) (xs ys : List Entry) → IsRising (x ∷ xs) → IsRising (y ∷ ys) → In (y ∷ ys) x → In (x ∷ xs) y → x ≡ y
-first_same x y xs ys h g (inl e) j = sym e
-first_same x y xs ys h g (inr i) (inl e) = e
-first_same x y xs ys h g (inr i) (inr j) =
-    let a : y.patch.no < x.patch.no = above_first y ys g x i in let b : x.patch.no < y.patch.no = above_first x xs h y j in absurd (omega arith)
-
-rest_In : (x y : Entry) (xs ys : List Entry) → IsRising (x ∷ xs) → x ≡ y → (e : Entry) → In xs e → In (y ∷ ys) e → In ys e
-rest_In x y xs ys h same e i (inr j) = j
-rest_In x y xs ys h same e i (inl eq) =
-    let a : x.patch.no < e.patch.no = above_first x xs h e i in let b : x.patch.no ≡ e.patch.no = ap (λ z. z.patch.no) (same ∙ eq) in absurd (omega arith)
-
-pub rising_same : (xs ys : List Entry) → IsRising xs → IsRising ys → ((e : Entry) → In xs e → In ys e) → ((e : Entry) → In ys e → In xs e) → xs ≡ ys
-rising_same [] [] h g f k = refl
-rising_same [] (y ∷ ys) h g f k = absurd (k y (inl refl))
-rising_same (x ∷ xs) [] h g f k = absurd (f x (inl refl))
-rising_same (x ∷ xs) (y ∷ ys) h g f k =
-    let same : x ≡ y = first_same x y xs ys h g (f x (inl refl)) (k y (inl refl)) in
-    let rest : xs ≡ ys = rising_same xs ys h.1 g.1 (λ e i. rest_In x y xs ys h same e i (f e (inr i))) (λ e i. rest_In y x ys xs g (sym same) e i (k e (inr i))) in
-    ap (λ z. z ∷ xs) same ∙ ap (λ zs. y ∷ zs) rest
-
-pub ready_is_only : (run : Execution) (block : ℕ) (set : List Entry) → IsLargestWritable (entries_of run) block set → IsRising set → set ≡ ready (entries_of run) block
-ready_is_only run block set l h =
-    let r = ready_is_largest run block in
-    rising_same set (ready (entries_of run) block) h (rising-ready run block)
+pub ready_is_only : ReadyIsOnly
+ready_is_only all block set rising l h =
+    let r = ready_is_largest all block rising in
+    rising_same set (ready all block) h (ready_rises all block rising)
     (λ e i. In-from_Contains _ e (r.largest set l.writable e (Contains-from_In _ e i)))
-    (λ e i. In-from_Contains _ e (l.largest (ready (entries_of run) block) r.writable e (Contains-from_In _ e i)))
+    (λ e i. In-from_Contains _ e (l.largest (ready all block) r.writable e (Contains-from_In _ e i)))

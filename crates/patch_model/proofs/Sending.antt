@@ -3,6 +3,7 @@ use Rattle.std.proofs.Common.{◌≡◌, ℕ, ◌+◌, ◌≤◌, inl, inr, true
 use Rattle.std.specs.Prelude.{◌==◌, ◌&&◌, count_by}
 use Rattle.std.proofs.lemmas.Bool.{cases_Bool, and_parts}
 use Rattle.std.proofs.lemmas.List.{length-map}
+use Rattle.patch_model.specs.Entries.{In-has}
 use Rattle.patch_model.specs.declared.limits.TheConstants.{MAX_PATCHES}
 use Rattle.patch_model.specs.Step.{Step, Create, Merge, Send, Complete}
 use Rattle.patch_model.specs.Execution.{Execution}
@@ -16,7 +17,7 @@ use Rattle.patch_model.proofs.Flights.{first_of_some}
 use Rattle.patch_model.proofs.Marks.{never}
 use Rattle.patch_model.proofs.Numbering.{Numbered, Numbered-after_step, apart-from_Numbered}
 use Rattle.patch_model.proofs.Sizes.{AreFew-run}
-use Rattle.patch_model.proofs.Striking.{In-has, ready-In}
+use Rattle.patch_model.proofs.Striking.{ready-In}
 
 -- the sends, with what may still be sent, are no more than the patches
 abbrev AreSends : State → Type 0

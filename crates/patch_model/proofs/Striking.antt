@@ -5,6 +5,7 @@ use Rattle.std.proofs.lemmas.Bool.Decides.{nat_tests}
 use Rattle.std.specs.Prelude.{◌==◌}
 use Rattle.std.specs.List.{filter}
 use Rattle.patch_model.specs.Entry.{Entry, in_memory_of, is_durable}
+use Rattle.patch_model.specs.Entries.{AreApart, has-In, In-has}
 use Rattle.patch_model.specs.Dependency.{depends_directly}
 use Rattle.patch_model.specs.Ready.{struck, has, may_stay, ready, IsWritable, IsLargestWritable}
 use Rattle.patch_model.specs.Member.{In, In-filter, filter-In, filter_cases, list_all-at, list_all-from, list_any-at, list_any-from, In-from_Contains, Contains-from_In}
@@ -36,19 +37,6 @@ struck-largest : (n : ℕ) (stays : List Entry → Entry → Bool) (set other : 
 struck-largest zero stays set other holds inside e h = inside e h
 struck-largest (suc n) stays set other holds inside e h =
     struck-largest n stays (filter (stays set) set) other holds (λ f g. In-filter (stays set) set f (inside f g) (holds set inside f g)) e h
-
--- each patch has a number of its own
-abbrev pub AreApart : List Entry → Type 0
-AreApart all = (e f : Entry) → In all e → In all f → e.patch.no ≡ f.patch.no → e ≡ f
-
-pub has-In : (all set : List Entry) (e : Entry) → AreApart all → ((f : Entry) → In set f → In all f) → In all e → has set e ≡ true → In set e
-has-In all set e apart inside h t =
-    let r = list_any-at (λ f. f.patch.no == e.patch.no) set t in
-    let same : r.0.patch.no ≡ e.patch.no = grind (arith, nat_tests, r.2) in
-    subst (λ x. In set x) (apart r.0 e (inside r.0 r.1) h same) r.1
-
-pub In-has : (set : List Entry) (e : Entry) → In set e → has set e ≡ true
-In-has set e h = list_any-from (λ f. f.patch.no == e.patch.no) set e h (grind (arith, nat_tests))
 
 -- of `not a || b`, where a holds
 pub implied : (a b : Bool) → (not a || b) ≡ true → a ≡ true → b ≡ true

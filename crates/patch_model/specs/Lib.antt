@@ -21,4 +21,5 @@ pub mod Laying
 pub mod Kept
 pub mod Marked
 pub mod Link
+pub mod Entries
 pub mod Rows

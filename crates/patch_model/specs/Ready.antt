@@ -45,3 +45,7 @@ struck (suc n) stays set = struck n stays (filter (stays set) set)
 -- of the block's patches in memory, those that are left when nothing more need be struck out
 abbrev pub ready : List Entry → ℕ → List Entry
 ready all block = struck (length all) (may_stay all) (filter (in_memory_of block) all)
+
+-- no other list in the order of its numbers is a largest set
+abbrev pub ReadyIsOnly : Type 0
+ReadyIsOnly = (all : List Entry) (block : ℕ) (set : List Entry) → IsRising all → IsLargestWritable all block set → IsRising set → set ≡ ready all block

@@ -9,7 +9,7 @@ ghost use Rattle.patch_model.specs.Pile.{covers};
 ghost use Rattle.patch_model.specs.Execution.{Execution, extended};
 ghost use Rattle.patch_model.specs.Entry.{Entry, is_memory, is_flight, is_among, in_memory_of};
 ghost use Rattle.patch_model.specs.Dependency.{shares_byte, depends_directly, Path, has_live};
-ghost use Rattle.patch_model.specs.Ready.{IsLargestWritable, IsRising, has, ready};
+ghost use Rattle.patch_model.specs.Ready.{IsLargestWritable, IsRising, has, ready, ReadyIsOnly};
 ghost use Rattle.patch_model.specs.State.{joined, sent, landed, has_flight, after_step, state_of, entries_of};
 ghost use Rattle.patch_model.specs.Legal.{IsLegal, IsLegalCreate, IsLegalMerge, touch};
 ghost use Rattle.patch_model.specs.Refusing.{IsBetween, why_not_made, why_not_near, why_not_sent};
@@ -218,13 +218,13 @@ pub fn merges_may_join()
 
 // What a send takes.
 
-/// What a send takes is the largest set that may be written, in order of making, and no other list is.
+/// What a send takes is the largest set that may be written, in order of making, and no other list is: of any patches in
+/// the order of their numbers, as those of an execution are.
 pub fn ready_is_largest()
-    ensures largest { (run : Execution) (block : ℕ)
-        → IsLargestWritable (entries_of run) block (ready (entries_of run) block) }
-    ensures rising { (run : Execution) (block : ℕ) → IsRising (ready (entries_of run) block) }
-    ensures only { (run : Execution) (block : ℕ) (set : List Entry)
-        → IsLargestWritable (entries_of run) block set → IsRising set → set ≡ ready (entries_of run) block }
+    ensures largest { (all : List Entry) (block : ℕ) → IsRising all → IsLargestWritable all block (ready all block) }
+    ensures rising { (all : List Entry) (block : ℕ) → IsRising all → IsRising (ready all block) }
+    ensures only { ReadyIsOnly }
+    ensures made { (run : Execution) → IsRising (entries_of run) }
 {}
 
 /// Where a block has no flight, each hard patch of it in memory is ready.

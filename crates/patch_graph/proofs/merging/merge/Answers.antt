@@ -1,4 +1,5 @@
-use Rattle.std.proofs.Common.{sym, inl, inr}
+use Rattle.std.proofs.Common.{sym, ap, ◌∙◌, inl, inr, Option, ℕ}
+use Rattle.std.specs.Option.{unwrap_or}
 use Rattle.patch_graph.proofs.Legality.{not-found, merges-to, merges-swapped}
 use Rattle.patch_graph.proofs.merging.merge.Goals as goal
 
@@ -10,10 +11,12 @@ returns-in_default-find-clause-answer g c all r l o = absurd (not-found c.args.r
 
 pub returns-in_ok-join-clause-answer : goal.returns-in_ok-join-clause-answer
 returns-in_ok-join-clause-answer g c all r l o =
-    merges-swapped c.args.register.now all r c.join.new.register c.in_ok-join.ensures.made c.in-Some-find.second c.in-Some.first c.args.a c.args.b
-    c.name_at.result l (sym c.in-Some.ensures) (sym c.in-Some-find.ensures) c.in_ok-join.ensures.joined c.name_at.ensures o
+    let m = merges-swapped c.args.register.now all r c.join.new.register c.in_ok-join.ensures.made c.in-Some-find.second c.in-Some.first c.args.a c.args.b
+    c.name_at.result l (sym c.in-Some.ensures) (sym c.in-Some-find.ensures) c.in_ok-join.ensures.joined c.name_at.ensures o in
+    (m.0, c.unwrap_or.ensures ∙ ap (λ (n : Option ℕ). unwrap_or n c.args.a) m.1)
 
 pub returns-in_ok-join-2-clause-answer : goal.returns-in_ok-join-2-clause-answer
 returns-in_ok-join-2-clause-answer g c all r l o =
-    merges-to c.args.register.now all r c.join-else-members_at.new.register c.in_ok-join-2.ensures.made c.in-Some.first c.in-Some-find.second c.args.a c.args.b
-    c.name_at-else-members_at.result l (sym c.in-Some.ensures) (sym c.in-Some-find.ensures) c.in_ok-join-2.ensures.joined c.name_at-else-members_at.ensures o
+    let m = merges-to c.args.register.now all r c.join-else-members_at.new.register c.in_ok-join-2.ensures.made c.in-Some.first c.in-Some-find.second c.args.a c.args.b
+    c.name_at-else-members_at.result l (sym c.in-Some.ensures) (sym c.in-Some-find.ensures) c.in_ok-join-2.ensures.joined c.name_at-else-members_at.ensures o in
+    (m.0, c.unwrap_or-else-members_at.ensures ∙ ap (λ (n : Option ℕ). unwrap_or n c.args.a) m.1)

@@ -3,5 +3,5 @@ use Rattle.patch_graph.proofs.ReadySet.{ready_numbers}
 use Rattle.patch_graph.proofs.queries.numbers_ready.Goals as goal
 
 pub returns-clause-answer : goal.returns-clause-answer
-returns-clause-answer g c all r = ok-more c.marked_numbers-found.result _ _ c.marked_numbers-found.ensures
-    (λ ns h. ready_numbers c.args.register.now all c.args.block c.args.keys.now c.mark_ready.new.marks ns.items r c.mark_ready.ensures.held c.mark_ready.ensures.largest h)
+returns-clause-answer g c = ok-more c.marked_numbers-found.result _ _ c.marked_numbers-found.ensures
+    (λ ns h all r. ready_numbers c.ready_is_largest.ensures.only c.args.register.now all c.args.block c.args.keys.now c.mark_ready.new.marks ns.items r c.mark_ready.ensures.held c.mark_ready.ensures.largest h)

@@ -1,5 +1,5 @@
 use Rattle.std.proofs.Common.{◌≡◌, ◌++◌, drop}
-use Rattle.patch_graph.specs.Marks.{gathered}
+use Rattle.patch_graph.specs.Ready.{gathered}
 use Rattle.patch_graph.proofs.ready.gather.Given as goal
 
 abbrev pub invariant-loop-key : goal.invariant-loop-key

@@ -32,7 +32,7 @@ returns-clause-answer g c = λ run at why numbers.
     let state : state_of next ≡ after_step (state_of run) (Send block) = c.steps_extend.ensures.state run (Send block) in
     let entries : entries_of next ≡ map (sent set) all = ap (λ st. st.entries) state in
     let seen = subst (λ (v : Contents). Represents v run) (sym c.self.view_is) at in
-    let largest = c.ready_is_largest.ensures.largest run block in
+    let largest = c.ready_is_largest.ensures.largest all block (c.ready_is_largest.ensures.made run) in
     let place : c.block.inside.0 ≡ block = c.block.view_is in
     let within : c.block.inside.0 < c.self.inside.blocks.len = let known = lawful.0 in let count = seen.count in let long = c.self.inside.blocks.ok.0 in omega arith in
     let found : c.index_mut-state.result.now ≡ get_or c.self.inside.blocks.items block no_block =

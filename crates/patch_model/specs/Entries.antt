@@ -1,10 +1,25 @@
--- A set in the order of its numbers is one list.
-use Rattle.std.proofs.Common.{◌≡◌, ℕ, zero, suc, ◌<◌, ◌∙◌, inl, inr, Bool, List, [], ◌∷◌, refl, sym, ap, arith, subst}
-use Rattle.std.specs.List.{AllByRecursion, filter}
+-- Lists of entries in the order of their numbers, and which patches are among some: the lemmas of several crates' proofs.
+use Rattle.std.proofs.Common.{◌≡◌, ℕ, ◌<◌, ◌∙◌, inl, inr, Bool, true, List, [], ◌∷◌, refl, sym, ap, arith, subst}
 use Rattle.std.proofs.lemmas.Bool.{cases_Bool}
+use Rattle.std.proofs.lemmas.Bool.Decides.{nat_tests}
+use Rattle.std.specs.Prelude.{◌==◌}
+use Rattle.std.specs.List.{AllByRecursion, filter}
 use Rattle.patch_model.specs.Entry.{Entry}
-use Rattle.patch_model.specs.Ready.{struck, IsRising}
-use Rattle.patch_model.specs.Member.{In, filter-In}
+use Rattle.patch_model.specs.Member.{In, filter-In, list_any-at, list_any-from}
+use Rattle.patch_model.specs.Ready.{IsRising, has}
+
+-- each patch has a number of its own
+abbrev pub AreApart : List Entry → Type 0
+AreApart all = (e f : Entry) → In all e → In all f → e.patch.no ≡ f.patch.no → e ≡ f
+
+pub has-In : (all set : List Entry) (e : Entry) → AreApart all → ((f : Entry) → In set f → In all f) → In all e → has set e ≡ true → In set e
+has-In all set e apart inside h t =
+    let r = list_any-at (λ f. f.patch.no == e.patch.no) set t in
+    let same : r.0.patch.no ≡ e.patch.no = grind (arith, nat_tests, r.2) in
+    subst (λ x. In set x) (apart r.0 e (inside r.0 r.1) h same) r.1
+
+pub In-has : (set : List Entry) (e : Entry) → In set e → has set e ≡ true
+In-has set e h = list_any-from (λ f. f.patch.no == e.patch.no) set e h (grind (arith, nat_tests))
 
 pub all-In : (P : Entry → Type 0) (es : List Entry) → AllByRecursion P es → (e : Entry) → In es e → P e
 all-In P [] h e i = absurd i
@@ -22,13 +37,17 @@ rising-filter p (x ∷ xs) h = elim (cases_Bool (p x)) [
   | inr u ↦ rw u (rising-filter p xs h.1)
 ]
 
-pub rising-struck : (n : ℕ) (stays : List Entry → Entry → Bool) (es : List Entry) → IsRising es → IsRising (struck n stays es)
-rising-struck zero stays es h = h
-rising-struck (suc n) stays es h = rising-struck n stays (filter (stays es) es) (rising-filter (stays es) es h)
-
 -- a member of the rest is above the first
 above_first : (x : Entry) (xs : List Entry) → IsRising (x ∷ xs) → (e : Entry) → In xs e → x.patch.no < e.patch.no
 above_first x xs h e i = all-In (λ f. x.patch.no < f.patch.no) xs h.0 e i
+
+-- patches in the order of their numbers have numbers of their own
+pub rising-apart : (es : List Entry) → IsRising es → AreApart es
+rising-apart [] h e f i j same = absurd i
+rising-apart (x ∷ xs) h e f (inl i) (inl j) same = sym i ∙ j
+rising-apart (x ∷ xs) h e f (inl i) (inr j) same = let at : x.patch.no ≡ e.patch.no = ap (λ y. y.patch.no) i in let above = above_first x xs h f j in absurd (omega arith)
+rising-apart (x ∷ xs) h e f (inr i) (inl j) same = let at : x.patch.no ≡ f.patch.no = ap (λ y. y.patch.no) j in let above = above_first x xs h e i in absurd (omega arith)
+rising-apart (x ∷ xs) h e f (inr i) (inr j) same = rising-apart xs h.1 e f i j same
 
 first_same : (x y : Entry) (xs ys : List Entry) → IsRising (x ∷ xs) → IsRising (y ∷ ys) → In (y ∷ ys) x → In (x ∷ xs) y → x ≡ y
 first_same x y xs ys h g (inl e) j = sym e
@@ -41,6 +60,7 @@ rest_In x y xs ys h same e i (inr j) = j
 rest_In x y xs ys h same e i (inl eq) =
     let a : x.patch.no < e.patch.no = above_first x xs h e i in let b : x.patch.no ≡ e.patch.no = ap (λ z. z.patch.no) (same ∙ eq) in absurd (omega arith)
 
+-- two rising lists of the same patches are one
 pub rising_same : (xs ys : List Entry) → IsRising xs → IsRising ys → ((e : Entry) → In xs e → In ys e) → ((e : Entry) → In ys e → In xs e) → xs ≡ ys
 rising_same [] [] h g f k = refl
 rising_same [] (y ∷ ys) h g f k = absurd (k y (inl refl))
