@@ -40,11 +40,11 @@ legal_last blocks st (s ∷ ss) step h = legal_last blocks (after_step st s) ss 
 pub unmoved : (run : Execution) (had : List (List (List ℕ))) (contents : List (List ℕ)) → MayLeave run contents → IsCrashSafe run run had had contents
 unmoved run had contents left = record { disks = []; counts = []; added = sym (append-nil had); trail = omega arith; left = left }
 
-longer : (run : Execution) (step : Step) → length run.steps ≤ length (extended run step).steps
+pub longer : (run : Execution) (step : Step) → length run.steps ≤ length (extended run step).steps
 longer run step = let e : length (run.steps ++ step ∷ []) ≡ length run.steps + 1 = length-append run.steps (step ∷ []) in omega (arith, e)
 
 -- or with a step more that ends no write
-unwritten_step : DisksStay → (run : Execution) (step : Step) (had : List (List (List ℕ))) (contents : List (List ℕ)) → ((block : ℕ) → step ≢ the.Complete block)
+pub unwritten_step : DisksStay → (run : Execution) (step : Step) (had : List (List (List ℕ))) (contents : List (List ℕ)) → ((block : ℕ) → step ≢ the.Complete block)
     → IsLegal run → IsLegal (extended run step) → MayLeave run contents → IsCrashSafe run (extended run step) had had contents
 unwritten_step stay run step had contents other legal longer_legal left = record {
   disks = [];

@@ -21,3 +21,6 @@ pub mod Underway
 pub mod Holding
 pub mod Answering
 pub mod Single
+pub mod Counting
+pub mod Waving
+pub mod Passing

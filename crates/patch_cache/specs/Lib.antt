@@ -8,6 +8,8 @@ pub mod Lending
 pub mod Asks
 pub mod Looking
 pub mod Running
+pub mod Waves
+pub mod Joining
 pub mod Promise
 pub mod Creating
 pub mod Merging

@@ -15,6 +15,8 @@ use Rattle.patch_cache.specs.declared.refusals.SendRefusal.{SendRefusal}
 use Rattle.patch_cache.specs.declared.refusals.SendRefusal.TheVariants as send
 use Rattle.patch_cache.specs.declared.refusals.TakeRefusal.{TakeRefusal}
 use Rattle.patch_cache.specs.declared.refusals.TakeRefusal.TheVariants as take
+use Rattle.patch_cache.specs.declared.refusals.FlushRefusal.{FlushRefusal}
+use Rattle.patch_cache.specs.declared.refusals.FlushRefusal.TheVariants as flush
 
 -- a refusal of an ask, by its kind and its number
 abbrev pub cause_of : Refusal → Cause
@@ -56,6 +58,10 @@ take_cause take.InFlight = bare kind.InFlight
 take_cause take.Hard = bare kind.Hard
 take_cause take.AlreadyTaken = bare kind.AlreadyTaken
 take_cause (take.DependentApplied n) = with_number kind.DependentApplied n
+
+abbrev pub flush_cause : FlushRefusal → Cause
+flush_cause (flush.DeviceGaveUp n) = with_number kind.DeviceGaveUp n
+flush_cause flush.OutOfMemory = bare kind.OutOfMemory
 
 -- the refusal has this cause; with no cause there was no memory
 abbrev pub IsCause : Option Cause → Cause → Type 0

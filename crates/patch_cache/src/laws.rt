@@ -1,9 +1,15 @@
 //! What the definitions say by themselves, each law the contract of a function that does nothing: the cache's promise once
-//! more, and that an ask has one answer.
-ghost use Rattle.std.specs.Prelude.{◌≡◌};
+//! more, that an ask has one answer, and how what is done in stretches, one after another, is done in one.
+ghost use Rattle.std.specs.Prelude.{◌≡◌, ◌≤◌, ℕ, List, count_by};
 ghost use Rattle.patch_model.specs.Execution.{Execution};
+ghost use Rattle.patch_model.specs.Entry.{Entry, is_live};
+ghost use Rattle.patch_model.specs.History.{history_of, image, cached};
+ghost use Rattle.patch_cache.specs.Waves.{classes_in_memory, live_classes, IsFlushed};
+ghost use Rattle.patch_cache.specs.Joining.{UnmovedIsSafe, UnwrittenIsSafe, SafeJoin, NoneSince, AddedSince, SinceJoin, StillIsStretch, StretchesJoin, StillIsKept, KeptJoin, FlightsStay};
 ghost use Rattle.patch_cache.specs.Asks.{Ask, Answer, IsAnswer};
 ghost use Rattle.patch_cache.specs.Promise.{TakingBack, MovesArePermitted, LooksShow, ImagesSent, CrashesClosed};
+
+use std::alloc::Allocator;
 
 /// For every execution of patch, merge, send and completion steps: taking back in any permitted order a set of undoable
 /// patches that holds its dependents leaves the block's other patches over its first bytes, and putting them back restores
@@ -31,3 +37,53 @@ pub fn answers_are_single()
 {
     patch_model::laws::near_classes_merge();
 }
+
+/// What is left of an honest device is what a crash may leave: where nothing changes, over a step that ends no write, and over
+/// one stretch of steps and the next. A run of steps of a crate above is shown so, one call after another.
+pub fn crashes_join()
+    ensures unmoved { UnmovedIsSafe }
+    ensures unwritten { UnwrittenIsSafe }
+    ensures joined { SafeJoin }
+{
+    patch_model::laws::trails_join();
+    patch_model::laws::disks_stay();
+}
+
+/// The steps that a cache has added, from one moment to the next and over both.
+pub fn traces_join()
+    ensures none { NoneSince }
+    ensures added { AddedSince }
+    ensures joined { SinceJoin }
+{}
+
+/// Two stretches of writes, one after the other, are one: of the cache and its flights, and of what they keep of an honest
+/// device. Where nothing is done there is a stretch of no steps.
+pub fn stretches_join<A: Allocator>()
+    ensures still { StillIsStretch A }
+    ensures joined { StretchesJoin A }
+    ensures still_kept { StillIsKept }
+    ensures kept { KeptJoin }
+{
+    patch_model::laws::trails_join();
+}
+
+/// Held flights stay those of the execution beside a patch that is made.
+pub fn flights_stay<A: Allocator>()
+    ensures { FlightsStay A }
+{
+    patch_model::laws::steps_extend();
+    patch_model::laws::flights_are_ready();
+    patch_model::laws::images_stay();
+}
+
+/// There are no more classes in memory than live ones, and no more than live patches: so many writes at most begin until all
+/// patches are on the disk.
+pub fn classes_are_few()
+    ensures classes { (all : List Entry) → classes_in_memory all ≤ live_classes all }
+    ensures patches { (all : List Entry) → classes_in_memory all ≤ count_by is_live all }
+{}
+
+/// Where nothing is left to be written, the image of each block is all that is cached of it.
+pub fn flushed_images_are_cached()
+    ensures { (run : Execution) (block : ℕ) → IsFlushed run → image (history_of run block) ≡ cached (history_of run block) }
+{}

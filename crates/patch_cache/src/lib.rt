@@ -6,6 +6,8 @@ mod caches;
 mod completing;
 mod creating;
 mod flights;
+mod flushing;
+mod landing;
 pub mod laws;
 mod merging;
 mod reading;
@@ -18,9 +20,11 @@ mod writes;
 pub use asks::{Answer, Ask, Move};
 pub use caches::Cache;
 pub use flights::Flights;
+pub use landing::TRIES;
 pub use patch_view::PutBackRefusal;
 pub use refusals::{
-    CreateRefusal, Fault, MergeRefusal, NoSuchBlock, ReadRefusal, Refusal, SendRefusal, TakeRefusal,
+    CreateRefusal, DeviceGaveUp, Fault, FlushRefusal, MergeRefusal, NoSuchBlock, ReadRefusal,
+    Refusal, SendRefusal, TakeRefusal,
 };
 pub use views::CacheView;
 pub use writes::{Done, Flight, Landed, write_out};

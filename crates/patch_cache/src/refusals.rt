@@ -3,10 +3,10 @@ ghost use Rattle.std.specs.Prelude.{◌≡◌};
 ghost use Rattle.patch_model.specs.Refusal.{code_of, name_of};
 ghost use Rattle.patch_model.specs.declared.refusals.RefusalKind.TheVariants as kind;
 ghost use Rattle.patch_model.specs.Refusing.{bare};
-ghost use Rattle.patch_cache.specs.Refusals.{cause_of, read_cause, create_cause, merge_cause, send_cause, take_cause};
+ghost use Rattle.patch_cache.specs.Refusals.{cause_of, read_cause, create_cause, merge_cause, send_cause, take_cause, flush_cause};
 ghost use Rattle.patch_view.specs.Refusal.{take_cause as view_take_cause, put_back_cause};
 
-use patch_model::{OutOfMemory, PatchNo, RefusalKind};
+use patch_model::{BlockNo, OutOfMemory, PatchNo, RefusalKind};
 use patch_view::PutBackRefusal;
 use thiserror::Error;
 
@@ -26,6 +26,21 @@ pub struct NoSuchBlock;
 #[derive(Clone, Copy, Debug, PartialEq, Eq, Error)]
 #[error("Fault")]
 pub struct Fault;
+
+/// The device refused the write of this block [`TRIES`](crate::TRIES) times. Its flight is held as before.
+#[derive(Clone, Copy, Debug, PartialEq, Eq, Error)]
+#[error("DeviceGaveUp {0}")]
+pub struct DeviceGaveUp(pub BlockNo);
+
+/// Why writes end before all patches are on the disk.
+#[derive(Clone, Copy, Debug, PartialEq, Eq, Error)]
+pub enum FlushRefusal {
+    /// The device refused the write of this block [`TRIES`](crate::TRIES) times. Its flight is held as before.
+    #[error("DeviceGaveUp {0}")]
+    DeviceGaveUp(BlockNo),
+    #[error("OutOfMemory")]
+    OutOfMemory,
+}
 
 /// Why bytes aren't read. The causes are tested in this order.
 #[derive(Clone, Copy, Debug, PartialEq, Eq, Error)]
@@ -336,6 +351,59 @@ impl TakeRefusal {
     }
 }
 
+impl DeviceGaveUp {
+    pub fn kind(self) -> RefusalKind
+        ensures { result ≡ kind.DeviceGaveUp }
+    {
+        RefusalKind::DeviceGaveUp
+    }
+
+    pub fn code(self) -> u8
+        ensures { result ≡ code_of kind.DeviceGaveUp }
+    {
+        self.kind().code()
+    }
+
+    pub fn name(self) -> &'static str
+        ensures { result.now ≡ name_of kind.DeviceGaveUp }
+    {
+        self.kind().name()
+    }
+}
+
+impl FlushRefusal {
+    pub fn kind(self) -> RefusalKind
+        ensures { result ≡ (flush_cause self).kind }
+    {
+        match self {
+            FlushRefusal::DeviceGaveUp(_) => RefusalKind::DeviceGaveUp,
+            FlushRefusal::OutOfMemory => RefusalKind::OutOfMemory,
+        }
+    }
+
+    /// The number that it carries.
+    pub fn number(&self) -> Option<u32>
+        ensures { result ≡ (flush_cause self.now).number }
+    {
+        match *self {
+            FlushRefusal::DeviceGaveUp(block) => Some(block.0),
+            FlushRefusal::OutOfMemory => None,
+        }
+    }
+
+    pub fn code(self) -> u8
+        ensures { result ≡ code_of (flush_cause self).kind }
+    {
+        self.kind().code()
+    }
+
+    pub fn name(self) -> &'static str
+        ensures { result.now ≡ name_of (flush_cause self).kind }
+    {
+        self.kind().name()
+    }
+}
+
 impl From<OutOfMemory> for CreateRefusal {
     ghost use Rattle.patch_cache.specs.declared.refusals.CreateRefusal.TheVariants.{OutOfMemory as NoMemory};
 
@@ -426,6 +494,18 @@ impl From<TakeRefusal> for Refusal {
     }
 }
 
+impl From<FlushRefusal> for Refusal {
+    ghost from_gives = { λ r e. cause_of e ≡ flush_cause r };
+
+    fn from(refusal: FlushRefusal) -> Refusal {
+        let number = refusal.number();
+        Refusal {
+            kind: refusal.kind(),
+            number,
+        }
+    }
+}
+
 impl From<ReadRefusal> for Refusal {
     ghost from_gives = { λ r e. cause_of e ≡ read_cause r };
 
@@ -470,5 +550,25 @@ impl Refusal {
         ensures { cause_of result ≡ bare kind }
     {
         Refusal { kind, number: None }
+    }
+}
+
+impl From<OutOfMemory> for FlushRefusal {
+    ghost use Rattle.patch_cache.specs.declared.refusals.FlushRefusal.TheVariants.{OutOfMemory as NoMemory};
+
+    ghost from_gives = { λ _ e. e ≡ NoMemory };
+
+    fn from(_: OutOfMemory) -> FlushRefusal {
+        FlushRefusal::OutOfMemory
+    }
+}
+
+impl From<DeviceGaveUp> for FlushRefusal {
+    ghost use Rattle.patch_cache.specs.declared.refusals.FlushRefusal.TheVariants.{DeviceGaveUp as GaveUp};
+
+    ghost from_gives = { λ r e. e ≡ GaveUp r.0 };
+
+    fn from(refusal: DeviceGaveUp) -> FlushRefusal {
+        FlushRefusal::DeviceGaveUp(refusal.0)
     }
 }

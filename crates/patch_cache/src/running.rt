@@ -1,5 +1,5 @@
 //! A list of asks, answered one after another.
-ghost use Rattle.std.specs.Prelude.{◌≡◌, ◌≢◌, ◌+◌, ◌<◌, ◌≤◌, ◌↔◌, ◌++◌, ◌∷◌, ◌⊎◌, ℕ, List, [], Some, None, length, map, IfOk, IfErr, OnOk, OnErr, MatchResult};
+ghost use Rattle.std.specs.Prelude.{◌≡◌, ◌≢◌, ◌+◌, ◌<◌, ◌≤◌, ◌↔◌, ◌++◌, ◌∷◌, ◌⊎◌, ℕ, List, [], true, Some, None, length, map, IfOk, IfErr, OnOk, OnErr, MatchResult};
 ghost use Rattle.patch_model.specs.declared.refusals.RefusalKind.TheVariants as kind;
 ghost use Rattle.patch_model.specs.Execution.{Execution, extended};
 ghost use Rattle.patch_model.specs.Crash.{MayLeave};
@@ -7,7 +7,7 @@ ghost use Rattle.patch_model.specs.Refusing.{bare, why_not_sent};
 ghost use Rattle.patch_device.specs.Device.{HasRisen};
 ghost use Rattle.patch_cache.specs.Contents.{write_at};
 ghost use Rattle.patch_cache.specs.Meaning.{Represents};
-ghost use Rattle.patch_cache.specs.Asks.{Create, Merge, Send, Complete, Refused, ask_of, answer_of, step_added, steps_added, after, after_all};
+ghost use Rattle.patch_cache.specs.Asks.{Create, Merge, Send, Complete, Refused, ask_of, answer_of, step_added, steps_added, is_complete, after, after_all};
 ghost use Rattle.patch_cache.specs.Promise.{TakingBack, MovesArePermitted, LooksShow, ImagesSent, CrashesClosed};
 ghost use Rattle.patch_cache.specs.Running.{Runs, IsDone, IsAnswered, IsCrashSafe, HasRun, CountFaults, HasWritten, HaveWritten, answers_in};
 
@@ -77,8 +77,8 @@ impl<A: Allocator + Copy> Cache<A> {
         Ok(answers)
     }
 
-    /// Answers one ask.
-    fn answer<D: Device>(
+    /// Answers one ask, as [`run`](Cache::run) does: so a crate that has asks of its own can answer a cache's among them.
+    pub fn answer<D: Device>(
         &mut self,
         flights: &mut Flights<A>,
         device: &mut D,
@@ -92,6 +92,8 @@ impl<A: Allocator + Copy> Cache<A> {
         ensures faults { D.fault_count device.old ≤ D.fault_count device.new }
         ensures fault { (run : Execution) → Runs self.old flights.old run → D.block_count device.old ≡ length run.first
             → answer_of result ≡ Refused (bare kind.Fault) → HasRisen (D.fault_count device.old) (D.fault_count device.new) }
+        ensures of_completion { (run : Execution) → Runs self.old flights.old run
+            → answer_of result ≡ Refused (bare kind.Fault) → is_complete (ask_of ask.now) ≡ true }
         ensures written { (run : Execution) → Runs self.old flights.old run → D.block_count device.old ≡ length run.first
             → D.is_honest device.old → HasWritten run (ask_of ask.now) (answer_of result) (D.contents device.old) (D.contents device.new) }
         ensures crash { (run : Execution) → Runs self.old flights.old run → D.block_count device.old ≡ length run.first
@@ -133,6 +135,7 @@ impl<A: Allocator + Copy> Cache<A> {
         ensures answer { (run : Execution) → Represents self.old run
             → IsDone run (Create block start bytes.now after.now undo) (answer_of result) self.new }
         ensures trace { self.new.trace ≡ self.old.trace ++ step_added (Create block start bytes.now after.now undo) (answer_of result) }
+        ensures no_fault { answer_of result ≢ Refused (bare kind.Fault) }
     {
         match self.create(block, start, bytes, after, undo) {
             Ok(no) => Answer::Made(no),

@@ -1,4 +1,4 @@
-//! Worked scripts, the calls one by one, want of memory, and the texts of refusals.
+//! Worked scripts, the calls one by one, writes in waves, want of memory, and the texts of refusals.
 use patch_cache::*;
 use patch_model::{BlockBytes, BlockNo, MAX_BLOCKS, OutOfMemory, PatchNo, Undo};
 use std::alloc::Allocator;
@@ -11,6 +11,7 @@ mod example;
 mod memory;
 mod names;
 mod scripts;
+mod waves;
 
 // Asserts of what is named.
 fn expect_equal<T: Copy + Debug + PartialEq>(rt: &impl Abort, what: &str, got: T, want: T) {

@@ -48,7 +48,7 @@ fn expect_shown(rt: &impl Abort, cache: &mut Cache<&LocalHeap>, want: Shown) {
 }
 
 // Pieces of a heap.
-type Ballast<'a> = Vec<Vec<u8, &'a LocalHeap>>;
+pub(super) type Ballast<'a> = Vec<Vec<u8, &'a LocalHeap>>;
 
 // Takes up to 64 pieces of this size.
 fn take_pieces<'a>(
@@ -80,7 +80,11 @@ fn all_of<'a>(alloc: Global, heap: &'a LocalHeap) -> Result<Ballast<'a>, OutOfMe
 }
 
 // Takes all of a heap's memory but one hole of this size.
-fn fill<'a>(alloc: Global, heap: &'a LocalHeap, hole: usize) -> Result<Ballast<'a>, OutOfMemory> {
+pub(super) fn fill<'a>(
+    alloc: Global,
+    heap: &'a LocalHeap,
+    hole: usize,
+) -> Result<Ballast<'a>, OutOfMemory> {
     let kept: Vec<u8, &'a LocalHeap> = Vec::with_capacity(heap, hole)?;
     let ballast = all_of(alloc, heap);
     drop(kept);
@@ -88,7 +92,7 @@ fn fill<'a>(alloc: Global, heap: &'a LocalHeap, hole: usize) -> Result<Ballast<'
 }
 
 // A hole larger than that of the size before it.
-fn hole_of(size: usize) -> usize {
+pub(super) fn hole_of(size: usize) -> usize {
     let small = size.min(64);
     let large = size.saturating_sub(small).min(1000);
     small * 16 + large * 64
@@ -327,7 +331,7 @@ fn ask_anew(
     asked
 }
 
-fn expect_empty(rt: &impl Abort, heap: &LocalHeap) {
+pub(super) fn expect_empty(rt: &impl Abort, heap: &LocalHeap) {
     expect_equal(rt, "used", heap.used(), 0);
 }
 

@@ -1,5 +1,6 @@
 //! The texts and names of refusals.
 use super::*;
+use patch_model::RefusalKind;
 use std::alloc::AllocError;
 use std::fmt;
 
@@ -82,6 +83,16 @@ fn tell_of_take(told: &mut String) -> Result<(), AllocError> {
     )
 }
 
+fn tell_of_flush(told: &mut String) -> Result<(), AllocError> {
+    tell_each(
+        told,
+        &[
+            FlushRefusal::DeviceGaveUp(BlockNo(7)),
+            FlushRefusal::OutOfMemory,
+        ],
+    )
+}
+
 fn tell_of_read(told: &mut String) -> Result<(), AllocError> {
     tell_each(told, &[ReadRefusal::NoSuchBlock, ReadRefusal::OutOfBlock])
 }
@@ -91,8 +102,10 @@ fn tell_all(told: &mut String) -> Result<(), AllocError> {
     tell_of_merge(told)?;
     tell_of_send(told)?;
     tell_of_take(told)?;
+    tell_of_flush(told)?;
     tell_of_read(told)?;
-    writeln!(told, "{NoSuchBlock}, {Fault}")
+    let gave_up = DeviceGaveUp(BlockNo(8));
+    writeln!(told, "{NoSuchBlock}, {Fault}, {gave_up}")
 }
 
 #[test]
@@ -129,9 +142,11 @@ InFlight: 8 InFlight 0
 Hard: 9 Hard 0
 AlreadyTaken: 10 AlreadyTaken 0
 DependentApplied 6: 11 DependentApplied 6
+DeviceGaveUp 7: 57 DeviceGaveUp 7
+OutOfMemory: 1 OutOfMemory 0
 NoSuchBlock: 2 NoSuchBlock 0
 OutOfBlock: 15 OutOfBlock 0
-NoSuchBlock, Fault
+NoSuchBlock, Fault, DeviceGaveUp 8
 ";
 
 // The code and the name of a refusal.
@@ -175,10 +190,19 @@ fn expect_looks_named(rt: &impl Abort) {
     );
 }
 
+fn expect_flushes_named(rt: &impl Abort) {
+    let refusal = FlushRefusal::DeviceGaveUp(BlockNo(1));
+    expect_named(rt, refusal.code(), refusal.name(), (57, "DeviceGaveUp"));
+    let refusal = DeviceGaveUp(BlockNo(1));
+    expect_named(rt, refusal.code(), refusal.name(), (57, "DeviceGaveUp"));
+    expect_equal(rt, "kind", refusal.kind(), RefusalKind::DeviceGaveUp);
+}
+
 #[test]
 fn names_and_codes_of_refusals(rt: HostRuntime) {
     expect_steps_named(&rt);
     expect_looks_named(&rt);
+    expect_flushes_named(&rt);
     expect_named(
         &rt,
         NoSuchBlock.code(),

@@ -68,6 +68,11 @@ returns-in-View-clause-fault g c run r count fault =
     let i = c.in-View in
     absurd (view_faultless run i.block c.as_slice-in-View.result.now i.start i.len (answer_of c.look.result) (c.look.ensures.answer run r.cache_is) fault)
 
+pub returns-in-View-clause-of_completion : goal.returns-in-View-clause-of_completion
+returns-in-View-clause-of_completion g c run r fault =
+    let i = c.in-View in
+    absurd (view_faultless run i.block c.as_slice-in-View.result.now i.start i.len (answer_of c.look.result) (c.look.ensures.answer run r.cache_is) fault)
+
 pub returns-in-View-clause-crash : goal.returns-in-View-clause-crash
 returns-in-View-clause-crash g c run r count honest left =
     let i = c.in-View in

@@ -1,0 +1,382 @@
+-- Stretches of writes, one after another.
+use Rattle.std.proofs.Common.{◌≡◌, ◌≢◌, ℕ, zero, suc, Bool, true, false, ◌+◌, ◌<◌, ◌≤◌, inl, inr, Result, Ok, Err, OnOk, OnErr, ◌∙◌, Some, List, [], ◌∷◌, ◌++◌, length, map, filter, drop, refl, sym, ap, subst, arith, append_assoc, length-append, get_or, set, slice_set}
+use Rattle.std.specs.Prelude.{◌==◌, ◌&&◌, ◌||◌, not, is_ok, count_by, slice_index_or, IsTrue, Contains}
+use Rattle.std.specs.List.{list_any}
+use Rattle.std.proofs.Math.Seq.{drop-append_seam}
+use Rattle.std.proofs.lemmas.List.{append-nil, get_or-set_same, get_or-set_other, length-set}
+use Rattle.std.proofs.lemmas.List.Folds.{list_all-append, list_any-append}
+use Rattle.std.proofs.lemmas.Bool.{cases_Bool, cases_eq, and_parts, and_from}
+use Rattle.std.proofs.lemmas.Bool.Decides.{nat_tests}
+use Rattle.patch_model.specs.Step.{Step, Send, Complete}
+use Rattle.patch_model.specs.Execution.{Execution, extended, followed_by}
+use Rattle.patch_model.specs.Entry.{Entry, is_memory, is_flight}
+use Rattle.patch_model.specs.State.{state_of, entries_of, has_flight, sent, landed}
+use Rattle.patch_model.specs.Ready.{ready, has, IsLargestWritable}
+use Rattle.patch_model.specs.Orderly.{IsOrderly}
+use Rattle.patch_model.specs.History.{history_of, image}
+use Rattle.patch_model.specs.Crash.{MayLeave}
+use Rattle.patch_model.specs.Member.{In, In-from_Contains, Contains-from_In, In-filter, list_any-from, list_any-at}
+use Rattle.patch_device.specs.Device.{HasRisen, IsOldOrNew, AddsOutcome, most_faults}
+use Rattle.patch_cache.specs.Contents.{Contents}
+use Rattle.patch_cache.specs.Meaning.{Represents}
+use Rattle.patch_cache.specs.Running.{Runs, IsCrashSafe, held_by}
+use Rattle.patch_cache.specs.Waves.{is_send, is_write, steps_since, Continues, classes_in_memory, HasRisenBy, HoldImages, HasGoneOn, HasKept, KeepsDisk, IsHeld}
+use Rattle.patch_cache.specs.declared.flights.Flights.{Flights}
+use Rattle.patch_cache.proofs.Crashing.{TrailsJoin, ImagesLand, WritesEnd, joined, longer, unmoved, write_refused}
+use Rattle.patch_cache.proofs.Holding.{StatesExtend, ImagesStay, held_flies, flying_known}
+use Rattle.patch_cache.proofs.Answering.{Stands}
+use Rattle.patch_cache.specs.Flights.{AreFlightsOf}
+use Rattle.patch_cache.specs.declared.writes.Flight.{Flight}
+use Rattle.patch_cache.specs.declared.writes.Landed.{Landed}
+use Rattle.patch_model.specs.Legal.{IsLegal}
+use Rattle.patch_cache.proofs.Counting.{count-append, count-map_le, count-map_lt}
+
+-- Tries of one write.
+
+set_again : {X : Type 0} → (xs : List X) (n : ℕ) (x : X) → set (set xs n x) n x ≡ set xs n x
+set_again [] n x = refl
+set_again (y ∷ ys) zero x = refl
+set_again (y ∷ ys) (suc n) x = ap (λ zs. y ∷ zs) (set_again ys n x)
+
+pub written_again : (old mid new : List (List ℕ)) (n : ℕ) (bytes : List ℕ) → IsOldOrNew old n bytes mid → new ≡ slice_set mid n bytes → new ≡ slice_set old n bytes
+written_again old mid new n bytes (inl same) now = now ∙ ap (λ d. slice_set d n bytes) same
+written_again old mid new n bytes (inr done) now = now ∙ ap (λ d. slice_set d n bytes) done ∙ set_again old n bytes
+
+pub either_again : (old mid new : List (List ℕ)) (n : ℕ) (bytes : List ℕ) → IsOldOrNew old n bytes mid → IsOldOrNew mid n bytes new → IsOldOrNew old n bytes new
+either_again old mid new n bytes first (inl same) = elim first [ inl e ↦ inl (same ∙ e) | inr e ↦ inr (same ∙ e) ]
+either_again old mid new n bytes first (inr done) = inr (written_again old mid new n bytes first done)
+
+pub risen_again : (i old mid new : ℕ) → HasRisenBy i old mid → HasRisen mid new → new ≤ most_faults → HasRisenBy (i + 1) old new
+risen_again i old mid new (inl h) (inl up) fits = inl (omega arith)
+risen_again i old mid new (inr h) (inl up) fits = let top : mid ≡ most_faults = h in absurd (omega (arith, top))
+risen_again i old mid new h (inr top) fits = inr top.1
+
+-- a write adds at most one contents
+pub outcome_longer : (old new : List (List ℕ)) (had had_now : List (List (List ℕ))) → AddsOutcome old new had had_now → length had_now ≤ length had + 1
+outcome_longer old new had had_now (inl same) = let e : length had_now ≡ length had = ap length same.1 in omega (arith, e)
+outcome_longer old new had had_now (inr added) = let e : length had_now ≡ length had + 1 = ap length added ∙ length-append had (new ∷ []) in omega (arith, e)
+
+abbrev same_run : (run : Execution) → followed_by run [] ≡ run
+same_run run = ap (λ steps. let v : Execution = record { first = run.first; steps = steps } in v) (append-nil run.steps)
+
+pub joined_still : TrailsJoin → (a b : Execution) (had had_between had_now : List (List (List ℕ))) (contents contents_now : List (List ℕ))
+    → IsCrashSafe a b had had_between contents → IsCrashSafe b b had_between had_now contents_now → IsCrashSafe a b had had_now contents_now
+joined_still join a b had had_between had_now contents contents_now first second = joined join a b b [] had had_between had_now contents contents_now (sym (same_run b)) first second
+
+-- one try more
+pub tried : TrailsJoin → ImagesLand → (run : Execution) (block : ℕ) (bytes : List ℕ) (had had_between had_now : List (List (List ℕ))) (contents now : List (List ℕ)) → block < length run.first
+    → bytes ≡ image (history_of run block) → IsOldOrNew contents block bytes now → AddsOutcome contents now had_between had_now
+    → IsCrashSafe run run had had_between contents → IsCrashSafe run run had had_now now
+tried join land run block bytes had had_between had_now contents now known is either adds so_far =
+    joined_still join run run had had_between had_now contents now so_far (write_refused land run block bytes had_between had_now contents now known is either adds so_far.left)
+
+-- Steps of traces.
+
+-- those that were added are those since
+pub since_is : (old now : Contents) (steps : List Step) → now.trace ≡ old.trace ++ steps → steps_since old now ≡ steps
+since_is old now steps added = ap (λ t. drop (length old.trace) t) added ∙ drop-append_seam old.trace steps
+
+pub continues : (old now : Contents) (steps : List Step) → now.trace ≡ old.trace ++ steps → Continues old now
+continues old now steps added = added ∙ ap (λ s. old.trace ++ s) (sym (since_is old now steps added))
+
+-- nothing was added
+pub none_added : (old now : Contents) → now ≡ old → now.trace ≡ old.trace ++ []
+none_added old now same = ap (λ c. c.trace) same ∙ sym (append-nil old.trace)
+
+pub no_sends : (old now : Contents) (steps : List Step) → now.trace ≡ old.trace ++ steps → count_by is_send steps ≡ 0 → count_by is_send (steps_since old now) ≡ 0
+no_sends old now steps added none = ap (λ s. count_by is_send s) (since_is old now steps added) ∙ none
+
+joined_trace : (old mid now : Contents) → Continues old mid → Continues mid now → now.trace ≡ old.trace ++ (steps_since old mid ++ steps_since mid now)
+joined_trace old mid now first second = second ∙ ap (λ t. t ++ steps_since mid now) first ∙ append_assoc old.trace (steps_since old mid) (steps_since mid now)
+
+-- and those of two stretches, one after another
+pub since_both : (old mid now : Contents) → Continues old mid → Continues mid now → steps_since old now ≡ steps_since old mid ++ steps_since mid now
+since_both old mid now first second = since_is old now (steps_since old mid ++ steps_since mid now) (joined_trace old mid now first second)
+
+pub continues_both : (old mid now : Contents) → Continues old mid → Continues mid now → Continues old now
+continues_both old mid now first second = continues old now (steps_since old mid ++ steps_since mid now) (joined_trace old mid now first second)
+
+-- Stretches.
+
+-- no step
+pub gone_still : {A : Type 0} (run : Execution) (cache : Contents) (flights : Flights A) → Runs cache flights run → HasGoneOn run [] cache flights
+gone_still run cache flights runs = record {
+  writes = refl;
+  sends = subst (λ r. 0 + classes_in_memory (entries_of r) ≤ classes_in_memory (entries_of run)) (sym (same_run run)) (omega arith);
+  runs = subst (Runs cache flights) (sym (same_run run)) runs;
+}
+
+-- a write that begins
+pub gone_send : {A : Type 0} (run : Execution) (block : ℕ) (cache : Contents) (flights : Flights A) → classes_in_memory (entries_of (extended run (Send block))) < classes_in_memory (entries_of run)
+    → Runs cache flights (extended run (Send block)) → HasGoneOn run (Send block ∷ []) cache flights
+gone_send run block cache flights fewer runs = record { writes = refl; sends = omega (arith, fewer); runs = runs }
+
+-- and one that ends
+pub gone_complete : {A : Type 0} (run : Execution) (block : ℕ) (cache : Contents) (flights : Flights A) → classes_in_memory (entries_of (extended run (Complete block))) ≤ classes_in_memory (entries_of run)
+    → Runs cache flights (extended run (Complete block)) → HasGoneOn run (Complete block ∷ []) cache flights
+gone_complete run block cache flights fewer runs = record { writes = refl; sends = omega (arith, fewer); runs = runs }
+
+abbrev flat : (run : Execution) (a b : List Step) → followed_by (followed_by run a) b ≡ followed_by run (a ++ b)
+flat run a b = ap (λ steps. let v : Execution = record { first = run.first; steps = steps } in v) (append_assoc run.steps a b)
+
+-- one stretch after another
+pub gone_both : {A : Type 0} (run : Execution) (a b : List Step) (mid now : Contents) (before flights : Flights A)
+    → HasGoneOn run a mid before → HasGoneOn (followed_by run a) b now flights → HasGoneOn run (a ++ b) now flights
+gone_both run a b mid now before flights first second =
+    let to = flat run a b in record {
+      writes = list_all-append is_write a b ∙ and_from _ _ first.writes second.writes;
+      sends =
+          let both = count-append is_send a b in
+          let one = first.sends in
+          let two : count_by is_send b + classes_in_memory (entries_of (followed_by run (a ++ b))) ≤ classes_in_memory (entries_of (followed_by run a)) =
+          subst (λ r. count_by is_send b + classes_in_memory (entries_of r) ≤ classes_in_memory (entries_of (followed_by run a))) to second.sends in omega (arith, both, one, two);
+      runs = subst (Runs now flights) to second.runs;
+    }
+
+-- What they keep of a device.
+
+-- no step, on a device that is as before or has had tries
+pub kept_still : (run : Execution) (had had_now : List (List (List ℕ))) (contents contents_now : List (List ℕ)) → (MayLeave run contents → IsCrashSafe run run had had_now contents_now)
+    → (HoldImages run contents → HoldImages run contents_now) → HasKept run [] had had_now contents contents_now
+kept_still run had had_now contents contents_now safe held = record {
+  crash = λ left. subst (λ r. IsCrashSafe run r had had_now contents_now) (sym (same_run run)) (safe left);
+  images = λ images. subst (λ r. HoldImages r contents_now) (sym (same_run run)) (held images);
+}
+
+pub kept_unmoved : (run : Execution) (had : List (List (List ℕ))) (contents : List (List ℕ)) → HasKept run [] had had contents contents
+kept_unmoved run had contents = kept_still run had had contents contents (λ left. unmoved run had contents left) (λ images. images)
+
+-- one stretch after another
+pub kept_both : TrailsJoin → (run : Execution) (a b : List Step) (had had_between had_now : List (List (List ℕ))) (contents contents_between contents_now : List (List ℕ))
+    → HasKept run a had had_between contents contents_between → HasKept (followed_by run a) b had_between had_now contents_between contents_now
+    → HasKept run (a ++ b) had had_now contents contents_now
+kept_both join run a b had had_between had_now contents contents_between contents_now first second =
+    let to = flat run a b in record {
+      crash = λ left.
+          let one = first.crash left in
+          subst (λ r. IsCrashSafe run r had had_now contents_now) to
+          (joined join run (followed_by run a) (followed_by (followed_by run a) b) b had had_between had_now contents_between contents_now refl one (second.crash one.left));
+      images = λ images. subst (λ r. HoldImages r contents_now) to (second.images (first.images images));
+    }
+
+-- Caches that went on.
+
+pub went_by : {A : Type 0} (run : Execution) (old now : Contents) (steps : List Step) (flights : Flights A) → now.trace ≡ old.trace ++ steps → HasGoneOn run steps now flights
+    → HasGoneOn run (steps_since old now) now flights
+went_by run old now steps flights added gone = subst (λ s. HasGoneOn run s now flights) (sym (since_is old now steps added)) gone
+
+pub keeps_by : (run : Execution) (old now : Contents) (steps : List Step) (had had_now : List (List (List ℕ))) (contents contents_now : List (List ℕ)) → now.trace ≡ old.trace ++ steps
+    → HasKept run steps had had_now contents contents_now → HasKept run (steps_since old now) had had_now contents contents_now
+keeps_by run old now steps had had_now contents contents_now added kept =
+    subst (λ s. HasKept run s had had_now contents contents_now) (sym (since_is old now steps added)) kept
+
+-- and twice
+
+pub went_both : {A : Type 0} (run : Execution) (old mid now : Contents) (before flights : Flights A) → Continues old mid → Continues mid now
+    → HasGoneOn run (steps_since old mid) mid before → HasGoneOn (followed_by run (steps_since old mid)) (steps_since mid now) now flights
+    → HasGoneOn run (steps_since old now) now flights
+went_both run old mid now before flights one two first second =
+    subst (λ s. HasGoneOn run s now flights) (sym (since_both old mid now one two)) (gone_both run (steps_since old mid) (steps_since mid now) mid now before flights first second)
+
+pub keeps_both : TrailsJoin → {A : Type 0} (old mid now : Contents) (at before : Flights A) (had had_between had_now : List (List (List ℕ))) (contents contents_between contents_now : List (List ℕ))
+    → Continues old mid → Continues mid now → ((run : Execution) → Runs old at run → HasGoneOn run (steps_since old mid) mid before)
+    → KeepsDisk old mid at had had_between contents contents_between → KeepsDisk mid now before had_between had_now contents_between contents_now
+    → KeepsDisk old now at had had_now contents contents_now
+keeps_both join old mid now at before had had_between had_now contents contents_between contents_now one two gone first second run runs =
+    subst (λ s. HasKept run s had had_now contents contents_now) (sym (since_both old mid now one two))
+    (kept_both join run (steps_since old mid) (steps_since mid now) had had_between had_now contents contents_between contents_now (first run runs)
+    (second (followed_by run (steps_since old mid)) (gone run runs).runs))
+
+-- Steps behind a stretch.
+pub since_more : (old mid now : Contents) (steps : List Step) → Continues old mid → now.trace ≡ mid.trace ++ steps → steps_since old now ≡ steps_since old mid ++ steps
+since_more old mid now steps one added = since_both old mid now one (continues mid now steps added) ∙ ap (λ s. steps_since old mid ++ s) (since_is mid now steps added)
+
+-- where the cache and the flights are as before
+pub runs_same : {A : Type 0} (run : Execution) (old now : Contents) (flights flights_now : Flights A) → now ≡ old → held_by flights_now ≡ held_by flights → Runs old flights run → Runs now flights_now run
+runs_same run old now flights flights_now same held runs =
+    record { cache_is = subst (λ (x : Contents). Represents x run) (sym same) runs.cache_is; flights_are = subst (AreFlightsOf run) (sym held) runs.flights_are }
+
+pub gone_same : {A : Type 0} (run : Execution) (old mid now : Contents) (flights flights_now : Flights A) → now ≡ mid → held_by flights_now ≡ held_by flights
+    → HasGoneOn run (steps_since old mid) mid flights → HasGoneOn run (steps_since old now) now flights_now
+gone_same run old mid now flights flights_now same held gone =
+    subst (λ (x : Contents). HasGoneOn run (steps_since old x) x flights_now) (sym same)
+    (record { writes = gone.writes; sends = gone.sends; runs = runs_same (followed_by run (steps_since old mid)) mid mid flights flights_now refl held gone.runs })
+
+-- how many writes began in both
+pub sends_since : (old mid now : Contents) → Continues old mid → Continues mid now
+    → count_by is_send (steps_since old now) ≡ count_by is_send (steps_since old mid) + count_by is_send (steps_since mid now)
+sends_since old mid now one two =
+    ap (λ s. count_by is_send s) (since_both old mid now one two) ∙ count-append is_send (steps_since old mid) (steps_since mid now)
+
+-- Classes in memory.
+
+abbrev heads : Entry → Bool
+heads e = is_memory e && e.patch.no == e.class
+
+sent_heads : (taken : List Entry) (e : Entry) → heads (sent taken e) ≡ true → heads e ≡ true
+sent_heads taken e t = elim (cases_Bool (has taken e)) [
+  | inl u ↦ let no : false ≡ true = rw u at t in absurd (cc)
+  | inr u ↦ rw u at t
+]
+
+sent_head : (taken : List Entry) (e : Entry) → has taken e ≡ true → heads (sent taken e) ≡ false
+sent_head taken e u = rw u refl
+
+landed_heads : (block : ℕ) (e : Entry) → heads (landed block e) ≡ true → heads e ≡ true
+landed_heads block e t = elim (cases_Bool (is_flight e && e.patch.block == block)) [
+  | inl u ↦ let no : false ≡ true = rw u at t in absurd (cc)
+  | inr u ↦ rw u at t
+]
+
+first_of : (xs : List Entry) → xs ≢ [] → (x : Entry) × In xs x
+first_of [] some = absurd (some refl)
+first_of (x ∷ xs) some = (x, inl refl)
+
+same_number : (a b : ℕ) → a ≡ b → (a == b) ≡ true
+same_number a b e = grind (arith, nat_tests)
+
+is_same : (a b : ℕ) → (a == b) ≡ true → a ≡ b
+is_same a b e = grind (arith, nat_tests)
+
+is_other : (a b : ℕ) → (a == b) ≡ false → a ≢ b
+is_other a b e = grind (arith, nat_tests)
+
+other_number : (a b : ℕ) → a ≢ b → not (a == b) ≡ true
+other_number a b e = grind (arith, nat_tests)
+
+-- a write takes a class out of memory
+pub fewer_sent : StatesExtend → (run : Execution) (block : ℕ) → IsOrderly (entries_of run) → IsLargestWritable (entries_of run) block (ready (entries_of run) block) → ready (entries_of run) block ≢ []
+    → classes_in_memory (entries_of (extended run (Send block))) < classes_in_memory (entries_of run)
+fewer_sent extend run block orderly largest some =
+    let all : List Entry = entries_of run in
+    let taken : List Entry = ready all block in
+    let r = first_of taken some in
+    let inside = Contains-from_In taken r.0 r.1 in
+    let own = orderly.own r.0 (largest.writable.in_memory r.0 inside).0 in
+    let head : Entry = own.0 in
+    let among = largest.writable.whole r.0 head inside own.1.inside own.1.name in
+    let named : (head.patch.no == head.class) ≡ true = same_number head.patch.no head.class (own.1.number ∙ sym own.1.name) in
+    let rests : is_memory head ≡ true = (and_parts _ _ (largest.writable.in_memory head among).1).0 in
+    let hit : has taken head ≡ true = list_any-from (λ f. f.patch.no == head.patch.no) taken head (In-from_Contains taken head among) (same_number head.patch.no head.patch.no refl) in
+    let now : entries_of (extended run (Send block)) ≡ map (sent taken) all = ap (λ st. st.entries) (extend run (Send block)) in
+    subst (λ es. classes_in_memory es < classes_in_memory all) (sym now)
+    (count-map_lt heads (sent taken) all (λ e i t. sent_heads taken e t) head (In-from_Contains all head own.1.inside) (and_from _ _ rests named) (sent_head taken head hit))
+
+-- and its end puts none there
+pub fewer_landed : StatesExtend → (run : Execution) (block : ℕ) → classes_in_memory (entries_of (extended run (Complete block))) ≤ classes_in_memory (entries_of run)
+fewer_landed extend run block =
+    let now : entries_of (extended run (Complete block)) ≡ map (landed block) (entries_of run) = ap (λ st. st.entries) (extend run (Complete block)) in
+    subst (λ es. classes_in_memory es ≤ classes_in_memory (entries_of run)) (sym now) (count-map_le heads (landed block) (entries_of run) (λ e i t. landed_heads block e t))
+
+-- Images on the device.
+
+-- a write that is begun
+pub images_sent : StatesExtend → ImagesStay → (run : Execution) (block : ℕ) (contents : List (List ℕ)) → HoldImages run contents → HoldImages (extended run (Send block)) contents
+images_sent extend stay run block contents held = record {
+  count = held.count;
+  images = λ b known none.
+      let now : (state_of (extended run (Send block))).flights ≡ (state_of run).flights ++ (block, (state_of run).sends) ∷ [] = ap (λ st. st.flights) (extend run (Send block)) in
+      let parts : (list_any (λ (f : ℕ × ℕ). f.0 == b) (state_of run).flights || list_any (λ (f : ℕ × ℕ). f.0 == b) ((block, (state_of run).sends) ∷ [])) ≡ false =
+      sym (list_any-append (λ (f : ℕ × ℕ). f.0 == b) (state_of run).flights ((block, (state_of run).sends) ∷ [])) ∙ sym (ap (λ (fs : List (ℕ × ℕ)). list_any (λ f. f.0 == b) fs) now) ∙ none in
+      elim (cases_Bool (has_flight (state_of run) b)) [
+        | inl flies ↦ (let no : true ≡ false = rw flies at parts in absurd (cc))
+        | inr grounded ↦ elim (cases_Bool (block == b)) [
+          | inl same ↦ (let no : true ≡ false = rw (grounded, same) at parts in absurd (cc))
+          | inr other ↦ held.images b known grounded ∙ sym (stay run (Send block) b (λ e. let same : block ≡ b = cc in is_other block b other same))
+        ]
+      ];
+}
+
+-- a write of a block that flies
+pub images_either : (run : Execution) (block : ℕ) (bytes : List ℕ) (contents now : List (List ℕ)) → IsTrue (has_flight (state_of run) block) → IsOldOrNew contents block bytes now → HoldImages run contents
+    → HoldImages run now
+images_either run block bytes contents now flies (inl same) held = subst (HoldImages run) (sym same) held
+images_either run block bytes contents now flies (inr done) held = record {
+  count = ap length done ∙ length-set contents block bytes ∙ held.count;
+  images = λ b known none.
+      let other : b ≢ block = λ e. let here : has_flight (state_of run) block ≡ false = subst (λ n. has_flight (state_of run) n ≡ false) e none in absurd (cc) in
+      ap (λ d. slice_index_or d b []) done ∙ get_or-set_other contents block b bytes [] other ∙ held.images b known none;
+}
+
+-- and its end
+pub images_landed : StatesExtend → ImagesStay → (run : Execution) (block : ℕ) (contents now : List (List ℕ)) → now ≡ slice_set contents block (image (history_of run block)) → HoldImages run contents
+    → HoldImages (extended run (Complete block)) now
+images_landed extend stay run block contents now done held =
+    let next : Execution = extended run (Complete block) in record {
+      count = ap length done ∙ length-set contents block (image (history_of run block)) ∙ held.count;
+      images = λ b known none. elim (cases_eq b block) [
+        | inl same ↦
+            let within : block < length contents = let c = held.count in omega (arith, c, known, same) in
+            let here : slice_index_or now block [] ≡ image (history_of run block) = ap (λ d. slice_index_or d block []) done ∙ get_or-set_same contents block (image (history_of run block)) [] within in
+            subst (λ n. slice_index_or now n [] ≡ image (history_of next n)) (sym same) (here ∙ sym (stay run (Complete block) block (λ e. absurd (cc))))
+        | inr other ↦
+            let flights : (state_of next).flights ≡ filter (λ (f : ℕ × ℕ). not (f.0 == block)) (state_of run).flights = ap (λ st. st.flights) (extend run (Complete block)) in
+            let grounded : has_flight (state_of run) b ≡ false = elim (cases_Bool (has_flight (state_of run) b)) [
+              | inl flies ↦
+                  let r = list_any-at (λ (f : ℕ × ℕ). f.0 == b) (state_of run).flights flies in
+                  let kept = In-filter (λ (f : ℕ × ℕ). not (f.0 == block)) (state_of run).flights r.0 r.1 (other_number r.0.0 block (λ e. other (sym (is_same r.0.0 b r.2) ∙ e))) in
+                  let still : has_flight (state_of next) b ≡ true =
+                  ap (λ (fs : List (ℕ × ℕ)). list_any (λ f. f.0 == b) fs) flights ∙ list_any-from (λ (f : ℕ × ℕ). f.0 == b) (filter (λ (f : ℕ × ℕ). not (f.0 == block)) (state_of run).flights) r.0 kept r.2 in
+                  absurd (cc)
+              | inr g ↦ g
+            ] in
+            ap (λ d. slice_index_or d b []) done ∙ get_or-set_other contents block b (image (history_of run block)) [] other ∙ held.images b known grounded ∙ sym (stay run (Complete block) b (λ e. absurd (cc)))
+      ];
+    }
+
+-- The flight that is held first.
+
+in_first : {X : Type 0} (xs : List X) (x : X) → 0 < length xs → x ≡ get_or xs 0 x → In xs x
+in_first [] x some it = absurd (omega (arith, some))
+in_first (y ∷ xs) x some it = inl (sym it)
+
+pub first_stands : {A : Type 0} → ((run : Execution) (block : ℕ) → IsLegal run → IsTrue (has_flight (state_of run) block) → IsTrue (list_any (λ e. is_flight e && e.patch.block == block) (entries_of run)))
+    → ((run : Execution) (e : Entry) → IsLegal run → Contains (entries_of run) e → e.patch.block < length run.first) → (run : Execution) (held : List (Flight A)) (flight : Flight A)
+    → IsLegal run → AreFlightsOf run held → 0 < length held → flight ≡ get_or held 0 flight → Stands run held flight.block 0 flight
+first_stands holds known run [] flight legal are some it = absurd (omega (arith, some))
+first_stands holds known run (f ∷ held) flight legal are some it =
+    let inside : In (f ∷ held) flight = inl (sym it) in
+    let flies : has_flight (state_of run) flight.block ≡ true = held_flies run (f ∷ held) flight are inside in record {
+      stands = ap Some (sym it);
+      block_is = refl;
+      is = are.each flight inside;
+      flies = flies;
+      block_flies = flies;
+      known = flying_known holds known run flight.block legal flies;
+    }
+
+-- and is held
+pub first_held : {A : Type 0} (flights : Flights A) (flight : Flight A) → 0 < length (held_by flights) → flight ≡ get_or (held_by flights) 0 flight → IsHeld flight.block flights
+first_held {A = A} flights flight some it = (flight, in_first (held_by flights) flight some it, refl)
+
+-- what a clause says of the variant that a test found
+pub is_ok_on : {T E : Type 0} (r : Result T E) (P : Type 0) → is_ok r ≡ true → OnOk r P → P
+is_ok_on (Ok x) P e h = h
+is_ok_on (Err x) P e h = absurd (cc)
+
+pub is_ok_off : {T E : Type 0} (r : Result T E) (P : Type 0) → is_ok r ≡ false → OnErr r P → P
+is_ok_off (Ok x) P e h = absurd (cc)
+is_ok_off (Err x) P e h = h
+
+pub first_same : {X : Type 0} (xs : List X) (a b : X) → 0 < length xs → a ≡ get_or xs 0 a → b ≡ get_or xs 0 b → a ≡ b
+first_same [] a b some p q = absurd (omega (arith, some))
+first_same (x ∷ xs) a b some p q = p ∙ sym q
+
+-- what is left of a flight is of its write
+pub its_flight : {A : Type 0} (run : Execution) (flight : Flight A) (landed : Landed) → landed.block ≡ flight.block → landed.number ≡ flight.number → Contains (state_of run).flights (flight.block, flight.number)
+    → Contains (state_of run).flights (landed.block, landed.number)
+its_flight run flight landed block number known =
+    let pair : ◌≡◌ {A = ℕ × ℕ} (flight.block, flight.number) (landed.block, landed.number) = cc in subst (λ (p : ℕ × ℕ). Contains (state_of run).flights p) pair known
+
+-- a write that was done after some tries, and completed
+pub completed : TrailsJoin → WritesEnd → (run : Execution) (block : ℕ) (had had_now : List (List (List ℕ))) (contents now : List (List ℕ)) → IsLegal run → block < length run.first
+    → now ≡ slice_set contents block (image (history_of run block)) → MayLeave run contents → IsCrashSafe run run had had_now now → IsCrashSafe run (extended run (Complete block)) had had_now now
+completed join ends run block had had_now contents now legal known done left safe =
+    let next : Execution = extended run (Complete block) in
+    joined join run run next (Complete block ∷ []) had had_now had_now now now refl safe (record {
+      disks = [];
+      counts = [];
+      added = sym (append-nil had_now);
+      trail = longer run (Complete block);
+      left = subst (MayLeave next) (sym done) (ends run contents block legal known left);
+    })

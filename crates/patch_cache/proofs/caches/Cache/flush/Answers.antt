@@ -1,0 +1,112 @@
+use Rattle.std.proofs.Common.{◌∙◌, sym, subst, arith}
+use Rattle.patch_model.specs.Execution.{Execution, followed_by}
+use Rattle.patch_model.specs.State.{entries_of}
+use Rattle.patch_cache.specs.Running.{Runs}
+use Rattle.patch_cache.specs.Waves.{steps_since, HasGoneOn, IsFlushed}
+use Rattle.patch_cache.proofs.Waving.{continues_both, since_both, went_both, keeps_both, sends_since}
+use Rattle.patch_cache.proofs.Passing.{passed_none, passed_some, flushed_after, few_classes}
+use Rattle.patch_cache.proofs.caches.Cache.flush.Goals as goal
+
+-- a wave can't begin
+pub returns-in_err-send_all-clause-ran : goal.returns-in_err-send_all-clause-ran
+returns-in_err-send_all-clause-ran g c run runs =
+    let told = c.send_all.ensures in
+    let first = c.loop.invariant.ran run runs in
+    went_both run c.args.self.now c.loop.self c.send_all.new.self _ _ c.loop.invariant.trace told.trace first (told.ran _ first.runs)
+
+pub returns-in_err-send_all-clause-trace : goal.returns-in_err-send_all-clause-trace
+returns-in_err-send_all-clause-trace g c = continues_both c.args.self.now c.loop.self c.send_all.new.self c.loop.invariant.trace c.send_all.ensures.trace
+
+pub returns-in_err-send_all-clause-disk : goal.returns-in_err-send_all-clause-disk
+returns-in_err-send_all-clause-disk g c honest =
+    let device = g.D.Device in
+    let before = c.loop.invariant in
+    keeps_both c.trails_join.ensures c.args.self.now c.loop.self c.send_all.new.self c.args.flights.now c.loop.flights _ _ _ _ _ _ before.trace c.send_all.ensures.trace before.ran (before.disk honest)
+    (c.send_all.ensures.disk (device.had c.loop.device) (device.contents c.loop.device))
+
+-- there was none to begin
+pub returns-then-not-branch-clause-flushed : goal.returns-then-not-branch-clause-flushed
+returns-then-not-branch-clause-flushed g c run runs =
+    let old = c.args.self.now in
+    let mid = c.loop.self in
+    let now = c.send_all.new.self in
+    let before = c.loop.invariant in
+    let told = c.in_ok-send_all.ensures in
+    let first = before.ran run runs in
+    let parts = since_both old mid now before.trace told.trace in
+    let pass = passed_none (followed_by run (steps_since old mid)) c.in_ok-send_all.field-0 (steps_since mid now) c.if-not-branch.true (told.pass _ first.runs) in
+    let both = went_both run old mid now _ _ before.trace told.trace first (told.ran _ first.runs) in
+    subst (λ s. IsFlushed (followed_by run s)) (sym parts)
+    (flushed_after c.some_is_ready.ensures c.patches_are_placed.ensures.flying c.near_classes_merge.ensures.sent run (steps_since old mid) (steps_since mid now) now _
+    (subst (λ s. Runs now c.send_all.new.flights (followed_by run s)) parts both.runs) (told.kept c.if-not-branch.true ∙ before.landed) pass.0 pass.1)
+
+-- a flight of the wave was given up
+pub returns-in_err-land-2-clause-ran : goal.returns-in_err-land-2-clause-ran
+returns-in_err-land-2-clause-ran g c run runs =
+    let old = c.args.self.now in
+    let mid = c.loop.self in
+    let sent = c.send_all.new.self in
+    let before = c.loop.invariant in
+    let told = c.in_ok-send_all.ensures in
+    let first = before.ran run runs in
+    let both = went_both run old mid sent _ _ before.trace told.trace first (told.ran _ first.runs) in
+    went_both run old sent c.land-in-loop.new.self _ _ (continues_both old mid sent before.trace told.trace) c.land-in-loop.ensures.trace both (c.land-in-loop.ensures.ran _ both.runs)
+
+pub returns-in_err-land-2-clause-disk : goal.returns-in_err-land-2-clause-disk
+returns-in_err-land-2-clause-disk g c honest =
+    let device = g.D.Device in
+    let old = c.args.self.now in
+    let mid = c.loop.self in
+    let sent = c.send_all.new.self in
+    let before = c.loop.invariant in
+    let told = c.in_ok-send_all.ensures in
+    let ran : (run : Execution) → Runs old c.args.flights.now run → HasGoneOn run (steps_since old sent) sent c.send_all.new.flights =
+    λ run runs. let first = before.ran run runs in went_both run old mid sent c.loop.flights c.send_all.new.flights before.trace told.trace first (told.ran _ first.runs) in
+    keeps_both c.trails_join.ensures old sent c.land-in-loop.new.self c.args.flights.now c.send_all.new.flights _ _ _ _ _ _ (continues_both old mid sent before.trace told.trace) c.land-in-loop.ensures.trace ran
+    (keeps_both c.trails_join.ensures old mid sent c.args.flights.now c.loop.flights _ _ _ _ _ _ before.trace told.trace before.ran (before.disk honest)
+    (told.disk (device.had c.loop.device) (device.contents c.loop.device)))
+    (c.land-in-loop.ensures.disk (before.honesty.0 honest))
+
+pub loop-preserved : goal.loop-preserved
+loop-preserved g c =
+    let device = g.D.Device in
+    let old = c.args.self.now in
+    let mid = c.loop.self in
+    let sent = c.send_all.new.self in
+    let now = c.land-in-loop.new.self in
+    let before = c.loop.invariant in
+    let wave = c.in_ok-send_all.ensures in
+    let told = c.land-in-loop.ensures in
+    let trace = continues_both old mid sent before.trace wave.trace in
+    let ran : (run : Execution) → Runs old c.args.flights.now run → HasGoneOn run (steps_since old sent) sent c.send_all.new.flights =
+    λ run runs. let first = before.ran run runs in went_both run old mid sent c.loop.flights c.send_all.new.flights before.trace wave.trace first (wave.ran _ first.runs) in
+    record {
+      ran = λ run runs. let both = ran run runs in went_both run old sent now _ _ trace told.trace both (told.ran _ both.runs);
+      waves = λ run runs.
+          let first = before.ran run runs in
+          let some = passed_some (followed_by run (steps_since old mid)) c.in_ok-send_all.field-0 (steps_since mid sent) c.if-not-branch.false (wave.pass _ first.runs) in
+          let so_far = before.waves run runs in
+          let inner = sends_since old mid sent before.trace wave.trace in
+          let outer = sends_since old sent now trace told.trace in omega (arith, some, so_far, inner, outer);
+      trace = continues_both old sent now trace told.trace;
+      disk = λ honest.
+          keeps_both c.trails_join.ensures old sent now c.args.flights.now c.send_all.new.flights _ _ _ _ _ _ trace told.trace ran
+          (keeps_both c.trails_join.ensures old mid sent c.args.flights.now c.loop.flights _ _ _ _ _ _ before.trace wave.trace before.ran (before.disk honest)
+          (wave.disk (device.had c.loop.device) (device.contents c.loop.device)))
+          (told.disk (before.honesty.0 honest));
+      landed = c.in_ok-land-2.ensures.landed;
+      honesty = (λ h. told.honesty.0 (before.honesty.0 h), λ h. before.honesty.1 (told.honesty.1 h));
+      count = told.count ∙ before.count;
+      faults = let a = before.faults in let b = told.faults in omega (arith, a, b);
+    }
+
+-- there are no more waves than classes in memory at first
+pub returns-clause-flushed : goal.returns-clause-flushed
+returns-clause-flushed g c run runs =
+    let first = c.loop.invariant.ran run runs in
+    let live = c.live.ensures.answer run runs.cache_is in
+    let some = few_classes (entries_of run) in
+    let sends = first.sends in
+    let turns = c.loop.invariant.waves run runs in
+    let past = c.loop-test.false in
+    let wide = c.from-turns.ensures in absurd (omega (arith, live, some, sends, turns, past, wide))

@@ -1,0 +1,58 @@
+use Rattle.std.proofs.Common.{[], refl, ◌∙◌, arith}
+use Rattle.patch_cache.proofs.Waving.{none_added, no_sends, continues, continues_both, gone_still, kept_unmoved, went_by, went_both, keeps_by, keeps_both, sends_since}
+use Rattle.patch_cache.proofs.caches.Cache.land.Goals as goal
+
+pub loop-self-init : goal.loop-self-init
+loop-self-init g c =
+    let old = c.args.self.now in
+    let none = none_added old old refl in
+    record {
+      ran = λ run runs. went_by run old old [] c.args.flights.now none (gone_still run old c.args.flights.now runs);
+      trace = continues old old [] none;
+      ends = no_sends old old [] none refl;
+      disk = λ honest run runs. keeps_by run old old [] _ _ _ _ none (kept_unmoved run _ _);
+      honesty = (λ h. h, λ h. h);
+      count = refl;
+      faults = omega arith;
+    }
+
+pub loop-self-preserved : goal.loop-self-preserved
+loop-self-preserved g c =
+    let old = c.args.self.now in
+    let mid = c.loop-self.self in
+    let next = c.land_first.new.self in
+    let before = c.loop-self.invariant in
+    let told = c.land_first.ensures in
+    record {
+      ran = λ run runs. let first = before.ran run runs in went_both run old mid next _ _ before.trace told.trace first (told.ran _ first.runs);
+      trace = continues_both old mid next before.trace told.trace;
+      ends = let both = sends_since old mid next before.trace told.trace in let a = before.ends in let b = told.ends in omega (arith, both, a, b);
+      disk = λ honest. keeps_both c.trails_join.ensures old mid next c.args.flights.now c.loop-self.flights _ _ _ _ _ _ before.trace told.trace before.ran (before.disk honest) (told.disk (before.honesty.0 honest));
+      honesty = (λ h. told.honesty.0 (before.honesty.0 h), λ h. before.honesty.1 (told.honesty.1 h));
+      count = told.count ∙ before.count;
+      faults = let a = before.faults in let b = told.faults in omega (arith, a, b);
+    }
+
+pub returns-in_err-land_first-clause-ran : goal.returns-in_err-land_first-clause-ran
+returns-in_err-land_first-clause-ran g c run runs =
+    let before = c.loop-self.invariant in
+    let told = c.land_first.ensures in
+    let first = before.ran run runs in went_both run c.args.self.now c.loop-self.self c.land_first.new.self _ _ before.trace told.trace first (told.ran _ first.runs)
+
+pub returns-in_err-land_first-clause-trace : goal.returns-in_err-land_first-clause-trace
+returns-in_err-land_first-clause-trace g c = continues_both c.args.self.now c.loop-self.self c.land_first.new.self c.loop-self.invariant.trace c.land_first.ensures.trace
+
+pub returns-in_err-land_first-clause-ends : goal.returns-in_err-land_first-clause-ends
+returns-in_err-land_first-clause-ends g c =
+    let before = c.loop-self.invariant in
+    let told = c.land_first.ensures in
+    let both = sends_since c.args.self.now c.loop-self.self c.land_first.new.self before.trace told.trace in
+    let a = before.ends in
+    let b = told.ends in omega (arith, both, a, b)
+
+pub returns-in_err-land_first-clause-disk : goal.returns-in_err-land_first-clause-disk
+returns-in_err-land_first-clause-disk g c honest =
+    let before = c.loop-self.invariant in
+    let told = c.land_first.ensures in
+    keeps_both c.trails_join.ensures c.args.self.now c.loop-self.self c.land_first.new.self c.args.flights.now c.loop-self.flights _ _ _ _ _ _ before.trace told.trace before.ran (before.disk honest)
+    (told.disk (before.honesty.0 honest))

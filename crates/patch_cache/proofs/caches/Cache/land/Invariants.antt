@@ -1,0 +1,24 @@
+use Rattle.std.proofs.Common.{◌≡◌, ◌≤◌, ◌↔◌, length}
+use Rattle.std.specs.Prelude.{count_by}
+use Rattle.patch_model.specs.Execution.{Execution}
+use Rattle.patch_cache.specs.Running.{Runs}
+use Rattle.patch_cache.specs.Waves.{is_send, steps_since, Continues, HasGoneOn, KeepsDisk}
+use Rattle.patch_cache.proofs.caches.Cache.land.Given as goal
+
+-- those so far were completed
+abbrev pub invariant-loop-self : goal.invariant-loop-self
+invariant-loop-self g l =
+    let device = g.D.Device in
+    let old = l.fn.device in
+    record {
+      ran : (run : Execution) → Runs l.fn.self l.fn.flights run → HasGoneOn run (steps_since l.fn.self l.self) l.self l.flights;
+      trace : Continues l.fn.self l.self;
+      ends : count_by is_send (steps_since l.fn.self l.self) ≡ 0;
+      disk : device.is_honest old → KeepsDisk l.fn.self l.self l.fn.flights (device.had old) (device.had l.device) (device.contents old) (device.contents l.device);
+      honesty : device.is_honest old ↔ device.is_honest l.device;
+      count : device.block_count l.device ≡ device.block_count old;
+      faults : device.fault_count old ≤ device.fault_count l.device;
+    }
+
+abbrev pub decreases-loop-self : goal.decreases-loop-self
+decreases-loop-self g l = length l.flights.held.items

@@ -1,0 +1,90 @@
+use Rattle.std.proofs.Common.{◌≡◌, ◌<◌, ◌∷◌, ◌++◌, [], slice_set, refl, sym, ap, subst, ◌∙◌}
+use Rattle.patch_model.specs.History.{history_of, image}
+use Rattle.patch_model.specs.Execution.{extended}
+use Rattle.patch_model.specs.Step as the
+use Rattle.patch_cache.specs.Meaning.{Represents}
+use Rattle.patch_cache.specs.Flights.{AreFlightsOf}
+use Rattle.patch_cache.proofs.Answering.{on_err, on_ok}
+use Rattle.patch_cache.proofs.Holding.{held_complete}
+use Rattle.patch_cache.proofs.Waving.{none_added, no_sends, continues, went_by, keeps_by, first_stands, first_same, its_flight, gone_still, gone_complete, kept_still, completed, fewer_landed, images_either, images_landed}
+use Rattle.patch_cache.proofs.caches.Cache.land_first.Goals as goal
+
+-- the device refused the write
+pub returns-then-is_err-clause-ran : goal.returns-then-is_err-clause-ran
+returns-then-is_err-clause-ran g c run runs =
+    let old = c.args.self.now in went_by run old old [] c.args.flights.now (none_added old old refl) (gone_still run old c.args.flights.now runs)
+
+pub returns-then-is_err-clause-trace : goal.returns-then-is_err-clause-trace
+returns-then-is_err-clause-trace g c = let old = c.args.self.now in continues old old [] (none_added old old refl)
+
+pub returns-then-is_err-clause-ends : goal.returns-then-is_err-clause-ends
+returns-then-is_err-clause-ends g c = let old = c.args.self.now in no_sends old old [] (none_added old old refl) refl
+
+pub returns-then-is_err-clause-disk : goal.returns-then-is_err-clause-disk
+returns-then-is_err-clause-disk g c honest run runs =
+    let s = first_stands c.flights_are_single.ensures.holds c.patches_are_placed.ensures.known run c.args.flights.now.held.items c.index.result.now runs.cache_is.legal runs.flights_are c.requires.some c.index.ensures in
+    let old = c.args.self.now in
+    keeps_by run old old [] _ _ _ _ (none_added old old refl)
+    (kept_still run _ _ _ _ (λ left. c.write_tried.ensures.crash honest run s.known s.is.image_is left) (λ held. images_either run _ _ _ _ s.flies (c.write_tried.ensures.either honest) held))
+
+pub returns-then-is_err-clause-cause : goal.returns-then-is_err-clause-cause
+returns-then-is_err-clause-cause g c run runs count =
+    let s = first_stands c.flights_are_single.ensures.holds c.patches_are_placed.ensures.known run c.args.flights.now.held.items c.index.result.now runs.cache_is.legal runs.flights_are c.requires.some c.index.ensures in
+    on_err c.write_tried.result _ (sym c.is_err.ensures.value ∙ c.if-is_err.true) (c.write_tried.ensures.cause (subst (λ n. c.index.result.now.block < n) (sym count) s.known))
+
+-- the write is completed
+pub returns-in-Ok-clause-trace : goal.returns-in-Ok-clause-trace
+returns-in-Ok-clause-trace g c = continues c.args.self.now c.complete.new.self (the.Complete c.landed-landed.result.block ∷ []) c.in-Ok.ensures.trace
+
+pub returns-in-Ok-clause-ends : goal.returns-in-Ok-clause-ends
+returns-in-Ok-clause-ends g c = no_sends c.args.self.now c.complete.new.self (the.Complete c.landed-landed.result.block ∷ []) c.in-Ok.ensures.trace refl
+
+pub returns-in-Ok-clause-ran : goal.returns-in-Ok-clause-ran
+returns-in-Ok-clause-ran g c run runs =
+    let flight = c.swap_remove.result in
+    let held = c.args.flights.now.held.items in
+    let block = flight.block in
+    let s = first_stands c.flights_are_single.ensures.holds c.patches_are_placed.ensures.known run held flight runs.cache_is.legal runs.flights_are c.requires.some c.swap_remove.ensures.value in
+    let stands : Represents c.complete.new.self (extended run (the.Complete c.landed-landed.result.block)) = (c.in-Ok.ensures.done run runs.cache_is).3 in
+    let added = c.in-Ok.ensures.trace ∙ ap (λ b. c.args.self.now.trace ++ the.Complete b ∷ []) c.landed-landed.ensures.block in
+    went_by run c.args.self.now c.complete.new.self (the.Complete block ∷ []) _ added
+    (gone_complete run block _ _ (fewer_landed c.steps_extend.ensures.state run block)
+    (record {
+      cache_is = subst (λ b. Represents c.complete.new.self (extended run (the.Complete b))) c.landed-landed.ensures.block stands;
+      flights_are = subst (AreFlightsOf (extended run (the.Complete block))) (sym c.swap_remove.ensures.items)
+          (held_complete c.steps_extend.ensures.state c.images_stay.ensures c.flights_are_ready.ensures.landed_elsewhere run block held 0 flight flight s.stands refl runs.flights_are);
+    }))
+
+pub returns-in-Ok-clause-disk : goal.returns-in-Ok-clause-disk
+returns-in-Ok-clause-disk g c honest run runs =
+    let device = g.D.Device in
+    let flight = c.swap_remove.result in
+    let held = c.args.flights.now.held.items in
+    let block = flight.block in
+    let s = first_stands c.flights_are_single.ensures.holds c.patches_are_placed.ensures.known run held flight runs.cache_is.legal runs.flights_are c.requires.some c.swap_remove.ensures.value in
+    let t = first_stands c.flights_are_single.ensures.holds c.patches_are_placed.ensures.known run held c.index.result.now runs.cache_is.legal runs.flights_are c.requires.some c.index.ensures in
+    let one : c.index.result.now ≡ flight = first_same held c.index.result.now flight c.requires.some c.index.ensures c.swap_remove.ensures.value in
+    let written : device.contents c.write_tried.new.device ≡ slice_set (device.contents c.args.device.now) block (image (history_of run block)) =
+    subst (λ bytes. device.contents c.write_tried.new.device ≡ slice_set (device.contents c.args.device.now) block bytes) s.is.image_is
+    (subst (λ f. device.contents c.write_tried.new.device ≡ slice_set (device.contents c.args.device.now) f.block f.image) one
+    (on_ok c.write_tried.result _ (sym c.is_err.ensures.value ∙ c.if-is_err.false) (c.write_tried.ensures.written honest))) in
+    let added = c.in-Ok.ensures.trace ∙ ap (λ b. c.args.self.now.trace ++ the.Complete b ∷ []) c.landed-landed.ensures.block in
+    keeps_by run c.args.self.now c.complete.new.self (the.Complete block ∷ []) _ _ _ _ added (record {
+      crash = λ left.
+          completed c.trails_join.ensures c.writes_end.ensures run block (device.had c.args.device.now) (device.had c.write_tried.new.device) (device.contents c.args.device.now) (device.contents c.write_tried.new.device)
+          runs.cache_is.legal s.known written left (c.write_tried.ensures.crash honest run t.known t.is.image_is left);
+      images = λ images. images_landed c.steps_extend.ensures.state c.images_stay.ensures run block (device.contents c.args.device.now) (device.contents c.write_tried.new.device) written images;
+    })
+
+-- the write isn't a stranger's
+pub returns-clause-ran : goal.returns-clause-ran
+returns-clause-ran g c run runs =
+    let flight = c.swap_remove.result in
+    let s = first_stands c.flights_are_single.ensures.holds c.patches_are_placed.ensures.known run c.args.flights.now.held.items flight runs.cache_is.legal runs.flights_are c.requires.some c.swap_remove.ensures.value in
+    absurd (c.in-Err.ensures.stranger run runs.cache_is (its_flight run flight c.landed-landed.result c.landed-landed.ensures.block c.landed-landed.ensures.number s.is.known))
+
+pub returns-clause-disk : goal.returns-clause-disk
+returns-clause-disk g c honest run runs =
+    let flight = c.swap_remove.result in
+    let s = first_stands c.flights_are_single.ensures.holds c.patches_are_placed.ensures.known run c.args.flights.now.held.items flight runs.cache_is.legal runs.flights_are c.requires.some c.swap_remove.ensures.value in
+    absurd (c.in-Err.ensures.stranger run runs.cache_is (its_flight run flight c.landed-landed.result c.landed-landed.ensures.block c.landed-landed.ensures.number s.is.known))

@@ -1,0 +1,68 @@
+use Rattle.std.proofs.Common.{◌≡◌, ◌||◌, ◌+◌, [], false, refl, sym, subst, ◌∙◌, arith}
+use Rattle.patch_cache.specs.Contents.{Contents}
+use Rattle.patch_cache.specs.Waves.{steps_since, Continues, HasKept, begun}
+use Rattle.patch_cache.proofs.Waving.{none_added, since_is, since_more, continues, continues_both, gone_same}
+use Rattle.patch_cache.proofs.Passing.{Passed, pass_begun, pass_more, pass_ended, neither}
+use Rattle.patch_cache.proofs.caches.Cache.send_all.Goals.{then-sent, else-sent}
+use Rattle.patch_cache.proofs.caches.Cache.send_all.Goals as goal
+
+pub loop-at-init : goal.loop-at-init
+loop-at-init g c =
+    let old = c.args.self.now in
+    let none = none_added old old refl in
+    record {
+      so_far = λ run runs. subst (λ s. Passed run 0 false s old c.args.flights.now) (sym (since_is old old [] none)) (pass_begun run old c.args.flights.now runs);
+      trace = continues old old [] none;
+      kept = λ e. refl;
+    }
+
+pub loop-at-preserved : goal.loop-at-preserved
+loop-at-preserved g c =
+    let old = c.args.self.now in
+    let mid = c.loop-at.self in
+    let next = c.send_if_ready.new.self in
+    let before = c.loop-at.invariant in
+    let told = c.in_ok-more.ensures in
+    let more = begun c.loop-at.at c.in_ok-more.more in
+    let is : c.if-sent.sent ≡ (c.loop-at.sent || c.in_ok-more.more) = elim c.if-sent.branch [
+      | then-sent w ↦ w.sent-is ∙ sym (rw w.if-sent.true refl)
+      | else-sent w ↦ w.sent-is ∙ sym (rw w.if-sent.false refl)
+    ] in
+    record {
+      so_far = λ run runs.
+          let first = before.so_far run runs in
+          subst (λ b. Passed run (c.loop-at.at + 1) b (steps_since old next) next c.send_if_ready.new.flights) (sym is)
+          (subst (λ s. Passed run (c.loop-at.at + 1) (c.loop-at.sent || c.in_ok-more.more) s next c.send_if_ready.new.flights) (sym (since_more old mid next more before.trace told.trace))
+          (pass_more c.trails_join.ensures c.steps_extend.ensures.state c.images_stay.ensures c.disks_stay.ensures c.executions_are_orderly.ensures.patches c.ready_is_largest.ensures.largest
+          c.near_classes_merge.ensures.sent run c.loop-at.at c.loop-at.sent c.in_ok-more.more (steps_since old mid) mid next c.loop-at.flights c.send_if_ready.new.flights first (told.sent _ first.gone.runs)));
+      trace = continues_both old mid next before.trace (continues mid next more told.trace);
+      kept = λ e.
+          let none = neither c.loop-at.sent c.in_ok-more.more (sym is ∙ e) in
+          told.kept none.1 ∙ before.kept none.0;
+    }
+
+-- a write was given up
+pub returns-in_err-more-clause-ran : goal.returns-in_err-more-clause-ran
+returns-in_err-more-clause-ran g c run runs =
+    let first = c.loop-at.invariant.so_far run runs in
+    gone_same run c.args.self.now c.loop-at.self c.send_if_ready.new.self c.loop-at.flights c.send_if_ready.new.flights c.in_err-more.ensures.refused c.in_err-more.ensures.held first.gone
+
+pub returns-in_err-more-clause-trace : goal.returns-in_err-more-clause-trace
+returns-in_err-more-clause-trace g c = subst (λ (x : Contents). Continues c.args.self.now x) (sym c.in_err-more.ensures.refused) c.loop-at.invariant.trace
+
+pub returns-in_err-more-clause-disk : goal.returns-in_err-more-clause-disk
+returns-in_err-more-clause-disk g c had contents run runs =
+    let first = c.loop-at.invariant.so_far run runs in
+    subst (λ (x : Contents). HasKept run (steps_since c.args.self.now x) had had contents contents) (sym c.in_err-more.ensures.refused) (first.kept had contents)
+
+pub returns-clause-ran : goal.returns-clause-ran
+returns-clause-ran g c run runs = (c.loop-at.invariant.so_far run runs).gone
+
+pub returns-clause-disk : goal.returns-clause-disk
+returns-clause-disk g c had contents run runs = (c.loop-at.invariant.so_far run runs).kept had contents
+
+pub returns-clause-pass : goal.returns-clause-pass
+returns-clause-pass g c run runs =
+    let first = c.loop-at.invariant.so_far run runs in
+    let all = c.blocks-at-end.ensures.answer run runs.cache_is in
+    pass_ended c.near_classes_merge.ensures.sent run c.loop-at.at c.loop-at.sent (steps_since c.args.self.now c.loop-at.self) (let past = c.loop-at-test.false in omega (arith, all, past)) first.pass

@@ -1,0 +1,14 @@
+use Rattle.std.proofs.Common.{◌≡◌, false}
+use Rattle.patch_model.specs.Execution.{Execution}
+use Rattle.patch_cache.specs.Running.{Runs, held_by}
+use Rattle.patch_cache.specs.Waves.{steps_since, Continues}
+use Rattle.patch_cache.proofs.Passing.{Passed}
+use Rattle.patch_cache.proofs.caches.Cache.send_all.Given as goal
+
+-- the blocks so far
+abbrev pub invariant-loop-at : goal.invariant-loop-at
+invariant-loop-at g l = record {
+  so_far : (run : Execution) → Runs l.fn.self l.fn.flights run → Passed run l.at l.sent (steps_since l.fn.self l.self) l.self l.flights;
+  trace : Continues l.fn.self l.self;
+  kept : l.sent ≡ false → held_by l.flights ≡ held_by l.fn.flights;
+}

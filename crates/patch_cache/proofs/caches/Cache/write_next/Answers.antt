@@ -1,0 +1,104 @@
+use Rattle.std.proofs.Common.{◌≡◌, ◌∷◌, [], sym, subst, ◌∙◌}
+use Rattle.patch_model.specs.Execution.{followed_by}
+use Rattle.patch_model.specs.Step.{Send}
+use Rattle.patch_cache.specs.Contents.{Contents}
+use Rattle.patch_cache.specs.Running.{Runs}
+use Rattle.patch_cache.specs.Waves.{IsFlushed}
+use Rattle.patch_cache.proofs.Waving.{none_added, since_is, continues, runs_same, gone_still, kept_unmoved, went_by, went_both, keeps_by, keeps_both}
+use Rattle.patch_cache.proofs.Passing.{begun_by, begun_gone, begun_kept, flushed, flushed_still}
+use Rattle.patch_cache.proofs.caches.Cache.write_next.Goals as goal
+
+-- no write can begin
+pub returns-in_default-clause-disk : goal.returns-in_default-clause-disk
+returns-in_default-clause-disk g c honest run runs =
+    let old = c.args.self.now in
+    let now = c.next_ready.new.self in keeps_by run old now [] _ _ _ _ (none_added old now c.next_ready.ensures.same) (kept_unmoved run _ _)
+
+pub returns-in_default-clause-wrote : goal.returns-in_default-clause-wrote
+returns-in_default-clause-wrote g c run runs empty =
+    let old = c.args.self.now in
+    let now = c.next_ready.new.self in
+    let none = since_is old now [] (none_added old now c.next_ready.ensures.same) in
+    let still = subst (λ (x : Contents). Runs x c.args.flights.now run) (sym c.next_ready.ensures.same) runs in (
+      none,
+      subst (λ s. IsFlushed (followed_by run s)) (sym none)
+          (flushed_still run (flushed c.some_is_ready.ensures c.patches_are_placed.ensures.flying c.near_classes_merge.ensures.sent run now c.args.flights.now still empty (c.in_default.ensures.answer run runs.cache_is))),
+    )
+
+-- it was given up
+pub returns-in_err-send_if_ready-clause-ran : goal.returns-in_err-send_if_ready-clause-ran
+returns-in_err-send_if_ready-clause-ran g c run runs =
+    let old = c.args.self.now in
+    let now = c.send_if_ready.new.self in
+    let same : now ≡ old = c.in_err-send_if_ready.ensures.refused ∙ c.next_ready.ensures.same in
+    went_by run old now [] _ (none_added old now same) (gone_still run now _ (runs_same run old now c.args.flights.now c.send_if_ready.new.flights same c.in_err-send_if_ready.ensures.held runs))
+
+pub returns-in_err-send_if_ready-clause-disk : goal.returns-in_err-send_if_ready-clause-disk
+returns-in_err-send_if_ready-clause-disk g c honest run runs =
+    let old = c.args.self.now in
+    let now = c.send_if_ready.new.self in
+    keeps_by run old now [] _ _ _ _ (none_added old now (c.in_err-send_if_ready.ensures.refused ∙ c.next_ready.ensures.same)) (kept_unmoved run _ _)
+
+-- it was begun, and the flights written out
+pub returns-in_err-land-clause-ran : goal.returns-in_err-land-clause-ran
+returns-in_err-land-clause-ran g c run runs =
+    let old = c.args.self.now in
+    let still = c.next_ready.new.self in
+    let mid = c.send_if_ready.new.self in
+    let block = c.in-Some.block in
+    let sent = c.in_ok-send_if_ready in
+    let one = begun_gone c.steps_extend.ensures.state c.executions_are_orderly.ensures.patches c.ready_is_largest.ensures.largest c.near_classes_merge.ensures.sent run block old still mid sent.field-0
+    c.args.flights.now c.send_if_ready.new.flights c.next_ready.ensures.same c.if-not-branch.false sent.ensures.trace (sent.ensures.sent run) runs in
+    went_both run old mid c.land.new.self _ _ (continues old mid (Send block ∷ []) (begun_by old still mid block sent.field-0 c.next_ready.ensures.same c.if-not-branch.false sent.ensures.trace))
+    c.land.ensures.trace one (c.land.ensures.ran _ one.runs)
+
+pub returns-in_err-land-clause-disk : goal.returns-in_err-land-clause-disk
+returns-in_err-land-clause-disk g c honest =
+    let device = g.D.Device in
+    let at = c.args.device.now in
+    let old = c.args.self.now in
+    let still = c.next_ready.new.self in
+    let mid = c.send_if_ready.new.self in
+    let block = c.in-Some.block in
+    let sent = c.in_ok-send_if_ready in
+    keeps_both c.trails_join.ensures old mid c.land.new.self c.args.flights.now c.send_if_ready.new.flights (device.had at) (device.had at) (device.had c.land.new.device) (device.contents at) (device.contents at) (device.contents c.land.new.device)
+    (continues old mid (Send block ∷ []) (begun_by old still mid block sent.field-0 c.next_ready.ensures.same c.if-not-branch.false sent.ensures.trace)) c.land.ensures.trace
+    (λ run runs.
+    begun_gone c.steps_extend.ensures.state c.executions_are_orderly.ensures.patches c.ready_is_largest.ensures.largest c.near_classes_merge.ensures.sent run block old still mid sent.field-0
+    c.args.flights.now c.send_if_ready.new.flights c.next_ready.ensures.same c.if-not-branch.false sent.ensures.trace (sent.ensures.sent run) runs)
+    (λ run runs.
+    begun_kept c.steps_extend.ensures.state c.images_stay.ensures c.disks_stay.ensures run block old still mid sent.field-0
+    c.args.flights.now c.send_if_ready.new.flights (device.had at) (device.contents at) c.next_ready.ensures.same c.if-not-branch.false sent.ensures.trace (sent.ensures.sent run) runs)
+    (c.land.ensures.disk honest)
+
+-- all of them
+pub returns-clause-ran : goal.returns-clause-ran
+returns-clause-ran g c run runs =
+    let old = c.args.self.now in
+    let still = c.next_ready.new.self in
+    let mid = c.send_if_ready.new.self in
+    let block = c.in-Some.block in
+    let sent = c.in_ok-send_if_ready in
+    let one = begun_gone c.steps_extend.ensures.state c.executions_are_orderly.ensures.patches c.ready_is_largest.ensures.largest c.near_classes_merge.ensures.sent run block old still mid sent.field-0
+    c.args.flights.now c.send_if_ready.new.flights c.next_ready.ensures.same c.if-not-branch.false sent.ensures.trace (sent.ensures.sent run) runs in
+    went_both run old mid c.land.new.self _ _ (continues old mid (Send block ∷ []) (begun_by old still mid block sent.field-0 c.next_ready.ensures.same c.if-not-branch.false sent.ensures.trace))
+    c.land.ensures.trace one (c.land.ensures.ran _ one.runs)
+
+pub returns-clause-disk : goal.returns-clause-disk
+returns-clause-disk g c honest =
+    let device = g.D.Device in
+    let at = c.args.device.now in
+    let old = c.args.self.now in
+    let still = c.next_ready.new.self in
+    let mid = c.send_if_ready.new.self in
+    let block = c.in-Some.block in
+    let sent = c.in_ok-send_if_ready in
+    keeps_both c.trails_join.ensures old mid c.land.new.self c.args.flights.now c.send_if_ready.new.flights (device.had at) (device.had at) (device.had c.land.new.device) (device.contents at) (device.contents at) (device.contents c.land.new.device)
+    (continues old mid (Send block ∷ []) (begun_by old still mid block sent.field-0 c.next_ready.ensures.same c.if-not-branch.false sent.ensures.trace)) c.land.ensures.trace
+    (λ run runs.
+    begun_gone c.steps_extend.ensures.state c.executions_are_orderly.ensures.patches c.ready_is_largest.ensures.largest c.near_classes_merge.ensures.sent run block old still mid sent.field-0
+    c.args.flights.now c.send_if_ready.new.flights c.next_ready.ensures.same c.if-not-branch.false sent.ensures.trace (sent.ensures.sent run) runs)
+    (λ run runs.
+    begun_kept c.steps_extend.ensures.state c.images_stay.ensures c.disks_stay.ensures run block old still mid sent.field-0
+    c.args.flights.now c.send_if_ready.new.flights (device.had at) (device.contents at) c.next_ready.ensures.same c.if-not-branch.false sent.ensures.trace (sent.ensures.sent run) runs)
+    (c.land.ensures.disk honest)

@@ -1,0 +1,70 @@
+-- How what was done in two stretches, one after the other, is done in one.
+use Rattle.std.specs.Prelude.{ℕ, ◌≡◌, ◌≢◌, ◌++◌, List, []}
+use Rattle.patch_model.specs.declared.patches.Undo.{Undo}
+use Rattle.patch_model.specs.Step.{Step, Create, Complete}
+use Rattle.patch_model.specs.Execution.{Execution, extended, followed_by}
+use Rattle.patch_model.specs.Legal.{IsLegal}
+use Rattle.patch_model.specs.Crash.{MayLeave}
+use Rattle.patch_cache.specs.Contents.{Contents}
+use Rattle.patch_cache.specs.Flights.{AreFlightsOf}
+use Rattle.patch_cache.specs.Running.{Runs, IsCrashSafe}
+use Rattle.patch_cache.specs.Waves.{steps_since, Continues, HasGoneOn, HasKept}
+use Rattle.patch_cache.specs.declared.flights.Flights.{Flights}
+use Rattle.patch_cache.specs.declared.writes.Flight.{Flight}
+
+-- a device that nothing was done to is left as a crash may leave it
+abbrev pub UnmovedIsSafe : Type 0
+UnmovedIsSafe = (run : Execution) (had : List (List (List ℕ))) (contents : List (List ℕ)) → MayLeave run contents → IsCrashSafe run run had had contents
+
+-- and so it is after a step that ends no write
+abbrev pub UnwrittenIsSafe : Type 0
+UnwrittenIsSafe =
+    (run : Execution) (step : Step) (had : List (List (List ℕ))) (contents : List (List ℕ))
+    → IsLegal run → IsLegal (extended run step) → ((block : ℕ) → step ≢ Complete block)
+    → MayLeave run contents → IsCrashSafe run (extended run step) had had contents
+
+-- what is so left from one execution to the next, and from there to a third, is so left from the first to the third
+abbrev pub SafeJoin : Type 0
+SafeJoin =
+    (a b : Execution) (more : List Step) (had had_between had_now : List (List (List ℕ))) (contents contents_now : List (List ℕ))
+    → IsCrashSafe a b had had_between contents → IsCrashSafe b (followed_by b more) had_between had_now contents_now
+    → IsCrashSafe a (followed_by b more) had had_now contents_now
+
+-- a cache adds no step to its own trace
+abbrev pub NoneSince : Type 0
+NoneSince = (cache : Contents) → Continues cache cache × (steps_since cache cache ≡ [])
+
+-- steps at the end of a trace are those since
+abbrev pub AddedSince : Type 0
+AddedSince = (old now : Contents) (steps : List Step) → now.trace ≡ old.trace ++ steps → Continues old now × (steps_since old now ≡ steps)
+
+-- and those since a cache before the last one are those of both
+abbrev pub SinceJoin : Type 0
+SinceJoin =
+    (old mid now : Contents) → Continues old mid → Continues mid now
+    → Continues old now × (steps_since old now ≡ steps_since old mid ++ steps_since mid now)
+
+-- where nothing was done there is a stretch of no steps
+abbrev pub StillIsStretch : (A : Type 0) → Type 0
+StillIsStretch A = (run : Execution) (cache : Contents) (flights : Flights A) → Runs cache flights run → HasGoneOn run [] cache flights
+
+abbrev pub StretchesJoin : (A : Type 0) → Type 0
+StretchesJoin A =
+    (run : Execution) (a b : List Step) (mid now : Contents) (before after : Flights A)
+    → HasGoneOn run a mid before → HasGoneOn (followed_by run a) b now after → HasGoneOn run (a ++ b) now after
+
+-- it keeps a device that nothing was done to
+abbrev pub StillIsKept : Type 0
+StillIsKept = (run : Execution) (had : List (List (List ℕ))) (contents : List (List ℕ)) → HasKept run [] had had contents contents
+
+abbrev pub KeptJoin : Type 0
+KeptJoin =
+    (run : Execution) (a b : List Step) (had had_between had_now : List (List (List ℕ))) (contents contents_between contents_now : List (List ℕ))
+    → HasKept run a had had_between contents contents_between → HasKept (followed_by run a) b had_between had_now contents_between contents_now
+    → HasKept run (a ++ b) had had_now contents contents_now
+
+-- flights stay those of the execution beside a patch that is made
+abbrev pub FlightsStay : (A : Type 0) → Type 0
+FlightsStay A =
+    (run : Execution) (block start : ℕ) (bytes after : List ℕ) (undo : Undo) (held : List (Flight A))
+    → AreFlightsOf run held → AreFlightsOf (extended run (Create block start bytes after undo)) held

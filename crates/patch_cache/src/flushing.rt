@@ -1,0 +1,152 @@
+//! How all that is ready is written: each write is begun, written out and completed.
+ghost use Rattle.std.specs.Prelude.{◌≡◌, ◌≤◌, ◌↔◌, ◌++◌, ℕ, List, [], false, None, length, IfOk, OnOk, OnErr, MatchResult};
+ghost use Rattle.patch_model.specs.Execution.{Execution, followed_by};
+ghost use Rattle.patch_model.specs.Refusing.{why_not_sent};
+ghost use Rattle.patch_cache.specs.Running.{Runs, held_by};
+ghost use Rattle.patch_cache.specs.Waves.{steps_since, Continues, HasGoneOn, HasKept, KeepsDisk, RisesIfGivenUp, IsHeldIfGivenUp, begun, IsSentOr, IsPass, IsFlushed, HasWrittenOne};
+
+use crate::caches::Cache;
+use crate::flights::Flights;
+use crate::refusals::FlushRefusal;
+use patch_device::Device;
+use patch_model::{BlockNo, OutOfMemory, laws as model_laws};
+use std::alloc::Allocator;
+
+impl<A: Allocator + Copy> Cache<A> {
+    /// Begins a write of the block, if one can begin, and holds its flight. Whether one did.
+    fn send_if_ready(
+        &mut self,
+        flights: &mut Flights<A>,
+        block: BlockNo,
+    ) -> Result<bool, OutOfMemory>
+        ensures sent { (run : Execution) → Runs self.old flights.old run
+            → IfOk result (λ sent. IsSentOr run block sent self.new flights.new) }
+        ensures cause { (run : Execution) → Runs self.old flights.old run → OnErr result (why_not_sent run block ≡ None) }
+        ensures trace { IfOk result (λ sent. self.new.trace ≡ self.old.trace ++ begun block sent) }
+        ensures refused { OnErr result (self.new ≡ self.old) }
+        ensures kept { IfOk result (λ sent. sent ≡ false → held_by flights.new ≡ held_by flights.old) }
+        ensures held { OnErr result (held_by flights.new ≡ held_by flights.old) }
+    {
+        model_laws::steps_extend();
+        model_laws::near_classes_merge();
+        model_laws::flights_are_ready();
+        model_laws::images_stay();
+        if self.why_not_sent(block).is_some() {
+            return Ok(false);
+        }
+        flights.held.reserve(1)?;
+        match self.send(block) {
+            Ok(flight) => {
+                flights.held.push_reserved(flight);
+                Ok(true)
+            }
+            Err(_) => Err(OutOfMemory),
+        }
+    }
+
+    /// Begins a write of each block of which one can begin, and holds the flights. Whether there was such a block.
+    fn send_all(&mut self, flights: &mut Flights<A>) -> Result<bool, OutOfMemory>
+        ensures ran { (run : Execution) → Runs self.old flights.old run
+            → HasGoneOn run (steps_since self.old self.new) self.new flights.new }
+        ensures trace { Continues self.old self.new }
+        ensures disk { (had : List (List (List ℕ))) (contents : List (List ℕ))
+            → KeepsDisk self.old self.new flights.old had had contents contents }
+        ensures pass { (run : Execution) → Runs self.old flights.old run
+            → IfOk result (λ sent. IsPass run sent (steps_since self.old self.new)) }
+        ensures kept { IfOk result (λ sent. sent ≡ false → held_by flights.new ≡ held_by flights.old) }
+    {
+        model_laws::steps_extend();
+        model_laws::near_classes_merge();
+        model_laws::executions_are_orderly();
+        model_laws::ready_is_largest();
+        model_laws::images_stay();
+        model_laws::disks_stay();
+        model_laws::trails_join();
+        let mut sent = false;
+        for at in 0..self.blocks() {
+            let more = self.send_if_ready(flights, BlockNo(at))?;
+            sent = sent || more;
+        }
+        Ok(sent)
+    }
+
+    /// Begins the write of the least block of which one can begin, and writes out and completes all that is held. Whether
+    /// there was such a block. Called until it answers false, with nothing held at first, it brings the patches to the disk
+    /// one flight at a time.
+    pub fn write_next<D: Device>(
+        &mut self,
+        flights: &mut Flights<A>,
+        device: &mut D,
+    ) -> Result<bool, FlushRefusal>
+        ensures ran { (run : Execution) → Runs self.old flights.old run
+            → HasGoneOn run (steps_since self.old self.new) self.new flights.new }
+        ensures trace { Continues self.old self.new }
+        ensures disk { D.is_honest device.old
+            → KeepsDisk self.old self.new flights.old (D.had device.old) (D.had device.new) (D.contents device.old) (D.contents device.new) }
+        ensures wrote { (run : Execution) → Runs self.old flights.old run → held_by flights.old ≡ []
+            → IfOk result (λ wrote. HasWrittenOne run wrote (steps_since self.old self.new)) }
+        ensures gave_up { (run : Execution) → Runs self.old flights.old run → D.block_count device.old ≡ length run.first
+            → RisesIfGivenUp result (D.fault_count device.old) (D.fault_count device.new) }
+        ensures held { IsHeldIfGivenUp result flights.new }
+        ensures landed { OnOk result (held_by flights.old ≡ [] → held_by flights.new ≡ []) }
+        ensures honesty { D.is_honest device.old ↔ D.is_honest device.new }
+        ensures count { D.block_count device.new ≡ D.block_count device.old }
+        ensures faults { D.fault_count device.old ≤ D.fault_count device.new }
+    {
+        model_laws::steps_extend();
+        model_laws::near_classes_merge();
+        model_laws::executions_are_orderly();
+        model_laws::ready_is_largest();
+        model_laws::images_stay();
+        model_laws::disks_stay();
+        model_laws::trails_join();
+        model_laws::some_is_ready();
+        model_laws::patches_are_placed();
+        let Some(block) = self.next_ready() else {
+            return Ok(false);
+        };
+        if !self.send_if_ready(flights, block)? {
+            return Ok(false);
+        }
+        self.land(flights, device)?;
+        Ok(true)
+    }
+
+    /// Brings all patches to the disk, in waves: completes all held flights, and then begins all writes that can begin,
+    /// writes them out and completes them, until none can begin. Where it is refused, what was completed stays so, and the
+    /// other flights are held: the next call goes on from there.
+    pub fn flush<D: Device>(
+        &mut self,
+        flights: &mut Flights<A>,
+        device: &mut D,
+    ) -> Result<(), FlushRefusal>
+        ensures ran { (run : Execution) → Runs self.old flights.old run
+            → HasGoneOn run (steps_since self.old self.new) self.new flights.new }
+        ensures trace { Continues self.old self.new }
+        ensures disk { D.is_honest device.old
+            → KeepsDisk self.old self.new flights.old (D.had device.old) (D.had device.new) (D.contents device.old) (D.contents device.new) }
+        ensures flushed { (run : Execution) → Runs self.old flights.old run
+            → OnOk result (IsFlushed (followed_by run (steps_since self.old self.new))) }
+        ensures gave_up { (run : Execution) → Runs self.old flights.old run → D.block_count device.old ≡ length run.first
+            → RisesIfGivenUp result (D.fault_count device.old) (D.fault_count device.new) }
+        ensures held { IsHeldIfGivenUp result flights.new }
+        ensures landed { OnOk result (held_by flights.new ≡ []) }
+        ensures honesty { D.is_honest device.old ↔ D.is_honest device.new }
+        ensures count { D.block_count device.new ≡ D.block_count device.old }
+        ensures faults { D.fault_count device.old ≤ D.fault_count device.new }
+    {
+        model_laws::trails_join();
+        model_laws::some_is_ready();
+        model_laws::near_classes_merge();
+        model_laws::patches_are_placed();
+        let turns = u64::from(self.live()) + 1;
+        self.land(flights, device)?;
+        for _ in 0..turns {
+            if !self.send_all(flights)? {
+                return Ok(());
+            }
+            self.land(flights, device)?;
+        }
+        Ok(())
+    }
+}
