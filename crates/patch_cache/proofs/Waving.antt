@@ -20,7 +20,7 @@ use Rattle.patch_device.specs.Device.{HasRisen, IsOldOrNew, AddsOutcome, most_fa
 use Rattle.patch_cache.specs.Contents.{Contents}
 use Rattle.patch_cache.specs.Meaning.{Represents}
 use Rattle.patch_cache.specs.Running.{Runs, IsCrashSafe, held_by}
-use Rattle.patch_cache.specs.Waves.{is_send, is_write, steps_since, Continues, classes_in_memory, HasRisenBy, HoldImages, HasGoneOn, HasKept, KeepsDisk, IsHeld}
+use Rattle.patch_cache.specs.Waves.{is_send, is_write, steps_since, Continues, classes_in_memory, HasRisenBy, HoldImages, HasGoneOn, HasKept, KeepsDisk}
 use Rattle.patch_cache.specs.declared.flights.Flights.{Flights}
 use Rattle.patch_cache.proofs.Crashing.{TrailsJoin, ImagesLand, WritesEnd, joined, longer, unmoved, write_refused}
 use Rattle.patch_cache.proofs.Holding.{StatesExtend, ImagesStay, held_flies, flying_known}
@@ -326,10 +326,6 @@ images_landed extend stay run block contents now done held =
 
 -- The flight that is held first.
 
-in_first : {X : Type 0} (xs : List X) (x : X) → 0 < length xs → x ≡ get_or xs 0 x → In xs x
-in_first [] x some it = absurd (omega (arith, some))
-in_first (y ∷ xs) x some it = inl (sym it)
-
 pub first_stands : {A : Type 0} → ((run : Execution) (block : ℕ) → IsLegal run → IsTrue (has_flight (state_of run) block) → IsTrue (list_any (λ e. is_flight e && e.patch.block == block) (entries_of run)))
     → ((run : Execution) (e : Entry) → IsLegal run → Contains (entries_of run) e → e.patch.block < length run.first) → (run : Execution) (held : List (Flight A)) (flight : Flight A)
     → IsLegal run → AreFlightsOf run held → 0 < length held → flight ≡ get_or held 0 flight → Stands run held flight.block 0 flight
@@ -344,10 +340,6 @@ first_stands holds known run (f ∷ held) flight legal are some it =
       block_flies = flies;
       known = flying_known holds known run flight.block legal flies;
     }
-
--- and is held
-pub first_held : {A : Type 0} (flights : Flights A) (flight : Flight A) → 0 < length (held_by flights) → flight ≡ get_or (held_by flights) 0 flight → IsHeld flight.block flights
-first_held {A = A} flights flight some it = (flight, in_first (held_by flights) flight some it, refl)
 
 -- what a clause says of the variant that a test found
 pub is_ok_on : {T E : Type 0} (r : Result T E) (P : Type 0) → is_ok r ≡ true → OnOk r P → P

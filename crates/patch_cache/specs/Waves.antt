@@ -1,5 +1,5 @@
 -- Writes that are begun and ended, with no other step between them.
-use Rattle.std.specs.Prelude.{ℕ, Bool, true, false, ◌≡◌, ◌≢◌, ◌==◌, ◌&&◌, ◌+◌, ◌<◌, ◌≤◌, ◌⊎◌, ◌++◌, List, [], ◌∷◌, IsFalse, length, drop, count_by, slice_index_or, Contains, None, Result, Ok, Err}
+use Rattle.std.specs.Prelude.{ℕ, Bool, true, false, ◌≡◌, ◌≢◌, ◌==◌, ◌&&◌, ◌+◌, ◌<◌, ◌≤◌, ◌⊎◌, ◌++◌, List, [], ◌∷◌, IsFalse, length, drop, count_by, slice_index_or, slice_get, Contains, Some, None, Result, Ok, Err}
 use Rattle.std.specs.List.{list_all}
 use Rattle.patch_model.specs.Step.{Step, Create, Merge, Send, Complete}
 use Rattle.patch_model.specs.Execution.{Execution, extended, followed_by}
@@ -8,7 +8,6 @@ use Rattle.patch_model.specs.State.{entries_of, state_of, has_flight}
 use Rattle.patch_model.specs.History.{history_of, image}
 use Rattle.patch_model.specs.Refusing.{why_not_sent}
 use Rattle.patch_model.specs.Crash.{MayLeave}
-use Rattle.patch_model.specs.Member.{In}
 use Rattle.patch_device.specs.Device.{most_faults}
 use Rattle.patch_cache.specs.Contents.{Contents}
 use Rattle.patch_cache.specs.Running.{Runs, IsCrashSafe, held_by}
@@ -90,14 +89,14 @@ IsTriedSafely flight had had_now contents contents_now =
     (run : Execution) → flight.block < length run.first → flight.image ≡ image (history_of run flight.block)
     → MayLeave run contents → IsCrashSafe run run had had_now contents_now
 
--- a flight of the block is held
-abbrev pub IsHeld : {A : Type 0} → ℕ → Flights A → Type 0
-IsHeld {A = A} block flights = (flight : Flight A) × In (held_by flights) flight × (flight.block ≡ block)
+-- the flight that is held first is of the block
+abbrev pub IsHeldFirst : {A : Type 0} → ℕ → Flights A → Type 0
+IsHeldFirst {A = A} block flights = (flight : Flight A) × (slice_get (held_by flights) 0 ≡ Some flight) × (flight.block ≡ block)
 
--- that of a block which the device gave up is held
+-- and so is that of a block which the device gave up
 abbrev pub IsHeldIfGivenUp : {A T : Type 0} → Result T FlushRefusal → Flights A → Type 0
 IsHeldIfGivenUp (Ok done) flights = Unit {0}
-IsHeldIfGivenUp (Err (flush.DeviceGaveUp block)) flights = IsHeld block flights
+IsHeldIfGivenUp (Err (flush.DeviceGaveUp block)) flights = IsHeldFirst block flights
 IsHeldIfGivenUp (Err flush.OutOfMemory) flights = Unit {0}
 
 -- the step that begins a write of the block, if it was begun

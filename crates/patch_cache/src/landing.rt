@@ -3,7 +3,7 @@ ghost use Rattle.std.specs.Prelude.{◌≡◌, ◌+◌, ◌<◌, ◌≤◌, ◌�
 ghost use Rattle.patch_model.specs.Execution.{Execution};
 ghost use Rattle.patch_device.specs.Device.{IsOldOrNew};
 ghost use Rattle.patch_cache.specs.Running.{Runs, held_by};
-ghost use Rattle.patch_cache.specs.Waves.{is_send, steps_since, Continues, HasRisenBy, HasGivenUp, HasGoneOn, KeepsDisk, IsHeld, IsTriedSafely};
+ghost use Rattle.patch_cache.specs.Waves.{is_send, steps_since, Continues, HasRisenBy, HasGivenUp, HasGoneOn, KeepsDisk, IsHeldFirst, IsTriedSafely};
 
 use crate::caches::Cache;
 use crate::flights::Flights;
@@ -65,7 +65,7 @@ impl<A: Allocator + Copy> Cache<A> {
         ensures landed { OnOk result (length (held_by flights.new) + 1 ≡ length (held_by flights.old)) }
         ensures refused { OnErr result (self.new ≡ self.old) }
         ensures held { OnErr result (held_by flights.new ≡ held_by flights.old) }
-        ensures block { IfErr result (λ refusal. IsHeld refusal.0 flights.new) }
+        ensures block { IfErr result (λ refusal. IsHeldFirst refusal.0 flights.new) }
     {
         model_laws::steps_extend();
         model_laws::flights_are_ready();
@@ -107,7 +107,7 @@ impl<A: Allocator + Copy> Cache<A> {
         ensures cause { (run : Execution) → Runs self.old flights.old run → D.block_count device.old ≡ length run.first
             → OnErr result (HasGivenUp (D.fault_count device.old) (D.fault_count device.new)) }
         ensures landed { OnOk result (held_by flights.new ≡ []) }
-        ensures block { IfErr result (λ refusal. IsHeld refusal.0 flights.new) }
+        ensures block { IfErr result (λ refusal. IsHeldFirst refusal.0 flights.new) }
     {
         model_laws::trails_join();
         while !flights.held.is_empty() {
