@@ -20,6 +20,7 @@ pub mod Refusing
 pub mod Underway
 pub mod Holding
 pub mod Answering
+pub mod Serving
 pub mod Single
 pub mod Counting
 pub mod Waving

@@ -7,6 +7,7 @@ use Rattle.patch_model.specs.Crash.{HasTrail, MayLeave}
 use Rattle.patch_model.specs.History.{history_of, image}
 use Rattle.patch_model.specs.Refusing.{bare}
 use Rattle.patch_device.specs.Device.{HasRisen}
+use Rattle.patch_device.specs.declared.devices.Device.{Ghosts}
 use Rattle.patch_cache.specs.Contents.{Contents}
 use Rattle.patch_cache.specs.Meaning.{Represents}
 use Rattle.patch_cache.specs.Flights.{AreFlightsOf}
@@ -29,6 +30,11 @@ pub record Runs {A : Type 0} (cache : Contents) (flights : Flights A) (run : Exe
   pub cache_is : Represents cache run
   pub flights_are : AreFlightsOf run (held_by flights)
 
+-- the cache runs on a device that has the cache's blocks
+pub record RunsOn {A D : Type 0} (g : Ghosts D) (cache : Contents) (flights : Flights A) (device : D) (run : Execution) : Type 0 where
+  pub runs : Runs cache flights run
+  pub blocks : g.block_count device ≡ length run.first
+
 -- the ask is answered right or given up, and the cache stands after its step
 pub record IsDone (run : Execution) (ask : Ask) (answer : Answer) (cache : Contents) : Type 0 where
   pub right : IsAnswer run ask answer ⊎ IsGivenUp run ask answer
@@ -47,6 +53,10 @@ pub record IsCrashSafe (old new : Execution) (had had_now : List (List (List ℕ
   pub added : had_now ≡ had ++ disks
   pub trail : HasTrail new (length old.steps) disks counts
   pub left : MayLeave new contents
+
+-- An honest device that held what a crash may leave has gone on so.
+abbrev pub LeavesSafe : {D : Type 0} → Ghosts D → (old new : Execution) → (before now : D) → Type 0
+LeavesSafe g old new before now = g.is_honest before → MayLeave old (g.contents before) → IsCrashSafe old new (g.had before) (g.had now) (g.contents now)
 
 -- Each ask that was answered is answered right or given up, and the cache stands after their steps.
 pub record HasRun {A : Type 0} (run : Execution) (asks : List Ask) (answers : List Answer) (cache : Contents) (flights : Flights A) : Type 0 where
@@ -81,3 +91,15 @@ HaveWritten run asks [] old new = new ≡ old
 HaveWritten run [] (answer ∷ answers) old new = ⊥
 HaveWritten run (ask ∷ asks) (answer ∷ answers) old new =
     (between : List (List ℕ)) × HasWritten run ask answer old between × HaveWritten (after run ask answer) asks answers between new
+
+-- and where the device is honest, of it
+abbrev pub HaveAllWritten : {D : Type 0} → Ghosts D → Execution → List Ask → List Answer → (before now : D) → Type 0
+HaveAllWritten g run asks answers before now = g.is_honest before → HaveWritten run asks answers (g.contents before) (g.contents now)
+
+-- What an ask has done that was served on a device: it is answered, a fault that it tells of was counted, an honest device
+-- holds what it has written, and was never left as a crash may not leave it.
+pub record IsServed {A D : Type 0} (g : Ghosts D) (run : Execution) (ask : Ask) (answer : Answer) (cache : Contents) (flights : Flights A) (before now : D) : Type 0 where
+  pub answered : IsAnswered run ask answer cache flights
+  pub fault : answer ≡ Refused (bare kind.Fault) → HasRisen (g.fault_count before) (g.fault_count now)
+  pub written : g.is_honest before → HasWritten run ask answer (g.contents before) (g.contents now)
+  pub crash : LeavesSafe g run (after run ask answer) before now

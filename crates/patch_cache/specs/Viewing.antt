@@ -1,12 +1,12 @@
 -- What a view of one block of a cache answers.
-use Rattle.std.specs.Prelude.{ℕ, ◌≡◌, ◌+◌, ◌==◌, not, List, [], ◌∷◌, filter, slice_get, slice_range, Option, Some, None, Result, Ok, Err, if◌then◌else◌}
+use Rattle.std.specs.Prelude.{ℕ, ◌≡◌, ◌+◌, ◌==◌, not, List, [], ◌∷◌, filter, slice_get, slice_range, Option, Some, None, Result, Ok, Err, MatchResult, length, if◌then◌else◌}
 use Rattle.std.specs.Borrow.{GName}
 use Rattle.patch_model.specs.declared.refusals.RefusalKind.TheVariants as kind
 use Rattle.patch_model.specs.Entry.{is_durable}
 use Rattle.patch_model.specs.Execution.{Execution}
 use Rattle.patch_model.specs.State.{entries_of}
-use Rattle.patch_model.specs.History.{history_of}
-use Rattle.patch_model.specs.Refusing.{Refusal as Cause, bare, why_not_taken, why_not_put_back, class_named}
+use Rattle.patch_model.specs.History.{history_of, cached}
+use Rattle.patch_model.specs.Refusing.{Refusal as Cause, bare, why_not_taken, why_not_put_back, why_not_shown, class_named}
 use Rattle.patch_view.specs.State.{outline as the_outline}
 use Rattle.patch_cache.specs.Contents.{Contents, block_at, with_block}
 use Rattle.patch_cache.specs.Meaning.{ShowsWithout}
@@ -44,9 +44,22 @@ with_moves run block names (move ∷ moves) = go_on (with_move run block names m
 abbrev pub bytes_at : List ℕ → (start len : ℕ) → List ℕ
 bytes_at bytes start len = slice_range bytes start (start + len)
 
+-- why a span isn't shown
+abbrev pub why_not_read : Execution → (block start len : ℕ) → Option Cause
+why_not_read run block start len = why_not_shown (length run.first) block start len
+
+-- the bytes of a span that no cause stands against showing, with all patches
+abbrev pub IsRead : Execution → (block start len : ℕ) → List ℕ → Type 0
+IsRead run block start len bytes = (why_not_read run block start len ≡ None) × (bytes ≡ bytes_at (cached (history_of run block)) start len)
+
 -- the cache stands where some classes of the block are taken
 abbrev pub Stands : Execution → ℕ → Contents → Type 0
 Stands run block c = (names : List ℕ) × ShowsWithout c block names run
+
+-- a move that was made, or why it wasn't
+abbrev pub IsMoved : {E : Type 0} → (E → Cause) → Execution → (block : ℕ) → List ℕ → Move → Result (Unit {0}) E → Contents → Type 0
+IsMoved cause run block names move result c =
+    MatchResult result (λ done. (now : List ℕ) × (with_move run block names move ≡ Ok now) × ShowsWithout c block now run) (λ refusal. with_move run block names move ≡ Err (cause refusal))
 
 -- the cache is this one but for what a view changes of the block: its bytes, which classes are taken, and what they keep
 pub record IsViewOf (before : Contents) (block : ℕ) (c : Contents) : Type 0 where
@@ -62,3 +75,11 @@ block_of v = v.block
 
 abbrev pub borrow_of : {A : Type 0} → CacheView A → GName
 borrow_of v = v.cache.ghost_name
+
+-- what the view shows: its cache with these classes of its block taken
+abbrev pub HasTaken : {A : Type 0} → CacheView A → List ℕ → Execution → Type 0
+HasTaken v names run = ShowsWithout (seen_by v) (block_of v) names run
+
+-- the cache was this one when the view was lent
+abbrev pub IsLentOf : {A : Type 0} → Contents → CacheView A → Type 0
+IsLentOf before v = IsViewOf before (block_of v) (seen_by v)

@@ -3,11 +3,11 @@ ghost use Rattle.std.specs.Prelude.{◌≡◌, ◌<◌, ◌≤◌, ℕ, [], None
 ghost use Rattle.patch_model.specs.Execution.{Execution};
 ghost use Rattle.patch_model.specs.State.{entries_of, state_of};
 ghost use Rattle.patch_model.specs.Entry.{Entry, is_live, is_memory};
-ghost use Rattle.patch_model.specs.Refusing.{why_not_sent};
 ghost use Rattle.patch_model.specs.StepOf.{step_of};
 ghost use Rattle.patch_graph.specs.Meaning.{HasMark};
 ghost use Rattle.patch_cache.specs.Contents.{drained};
 ghost use Rattle.patch_cache.specs.Meaning.{Represents};
+ghost use Rattle.patch_cache.specs.Flights.{IsLeastReady};
 ghost use Rattle.patch_cache.specs.Opening.{AreUnpatched};
 
 use crate::writes::Write;
@@ -39,6 +39,7 @@ pub struct Cache<A: Allocator + Copy = Global> {
 impl<A: Allocator + Copy> Model for Cache<A> {
     ghost use Rattle.std.specs.Prelude.{◌≡◌, ◌≤◌, ◌+◌, map, length, count_by, is_some, vec_capacity};
     ghost use Rattle.patch_model.specs.StepOf.{step_of};
+    ghost use Rattle.patch_model.specs.declared.limits.TheConstants.{MAX_BLOCKS};
     ghost use Rattle.patch_cache.specs.Contents.{Contents};
 
     ghost Value = { Contents };
@@ -53,7 +54,7 @@ impl<A: Allocator + Copy> Model for Cache<A> {
     } };
 
     ghost invariant = { λ c. (length c.writes.items ≡ length c.blocks.items)
-        × (length c.blocks.items ≤ 4096)
+        × (length c.blocks.items ≤ MAX_BLOCKS)
         × (c.under_way ≡ count_by is_some c.writes.items)
         × (length c.trace.items + c.under_way ≤ vec_capacity c.trace) };
 }
@@ -114,9 +115,7 @@ impl<A: Allocator + Copy> Cache<A> {
 
     /// The least block of which a write can begin. It takes no memory.
     pub fn next_ready(&mut self) -> Option<BlockNo>
-        ensures answer { (run : Execution) → Represents self.old run → MatchOption result
-            ((b : ℕ) → why_not_sent run b ≡ None → ⊥)
-            (λ block. (why_not_sent run block ≡ None) × ((b : ℕ) → why_not_sent run b ≡ None → block ≤ b)) }
+        ensures answer { (run : Execution) → Represents self.old run → IsLeastReady run result }
         ensures some { (run : Execution) (e : Entry) → Represents self.old run → (state_of run).flights ≡ []
             → Contains (entries_of run) e → IsTrue (is_memory e) → IsSome result }
         ensures same { self.new ≡ self.old }

@@ -4,7 +4,7 @@ ghost use Rattle.patch_model.specs.Execution.{Execution, extended};
 ghost use Rattle.patch_model.specs.Step.{Complete};
 ghost use Rattle.patch_model.specs.State.{entries_of, state_of, flying_of, numbers_of};
 ghost use Rattle.patch_cache.specs.Meaning.{Represents};
-ghost use Rattle.patch_cache.specs.Flights.{IsWithdrawn};
+ghost use Rattle.patch_cache.specs.Flights.{IsEnded, IsWithdrawn};
 
 use crate::caches::Cache;
 use crate::writes::{Done, Landed, Write};
@@ -15,11 +15,7 @@ impl<A: Allocator + Copy> Cache<A> {
     /// Ends a write that the device has done: what was in it is durable. A write that isn't this cache's, or was completed
     /// before, is a stranger and comes back. It takes no memory.
     pub fn complete(&mut self, landed: Landed) -> Result<Done<A>, Landed>
-        ensures done { (run : Execution) → Represents self.old run → IfOk result (λ done.
-            Contains (state_of run).flights (landed.block, landed.number)
-            × (done.block ≡ landed.block)
-            × (done.numbers ≡ numbers_of (flying_of (entries_of run) landed.block))
-            × Represents self.new (extended run (Complete landed.block))) }
+        ensures done { (run : Execution) → Represents self.old run → IfOk result (λ done. IsEnded run landed done self.new) }
         ensures stranger { (run : Execution) → Represents self.old run
             → OnErr result (Contains (state_of run).flights (landed.block, landed.number) → ⊥) }
         ensures back { IfErr result (λ back. back ≡ landed) }

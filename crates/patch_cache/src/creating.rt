@@ -3,14 +3,13 @@ ghost use Rattle.std.specs.Prelude.{◌≡◌, ◌+◌, ◌<◌, ◌≤◌, ◌+
 ghost use Rattle.std.specs.List.{list_any};
 ghost use Rattle.patch_model.specs.Entry.{Entry, is_live};
 ghost use Rattle.patch_model.specs.Execution.{Execution, extended};
-ghost use Rattle.patch_model.specs.Refusing.{why_not_made as the_cause};
 ghost use Rattle.patch_model.specs.Step.{Create};
 ghost use Rattle.patch_model.specs.State.{entries_of};
 ghost use Rattle.patch_model.specs.History.{history_of};
 ghost use Rattle.patch_model.specs.Legal.{IsLegal, IsLegalCreate};
 ghost use Rattle.patch_view.specs.Meaning.{Represents as IsBlockOf};
 ghost use Rattle.patch_graph.specs.Meaning.{Represents as IsGraphOf};
-ghost use Rattle.patch_cache.specs.Creating.{IsMadeOn};
+ghost use Rattle.patch_cache.specs.Creating.{why_not_created as the_cause, IsMade, MayLay, IsLaid};
 ghost use Rattle.patch_cache.specs.Meaning.{Represents};
 ghost use Rattle.patch_cache.specs.Refusals.{create_cause, IsCause};
 
@@ -38,11 +37,9 @@ impl<A: Allocator + Copy> Cache<A> {
         undo: Undo,
     ) -> Result<PatchNo, CreateRefusal>
         ensures made { (run : Execution) → Represents self.old run → IfOk result (λ no.
-            (the_cause (length run.first) (entries_of run) block start bytes.now after.now ≡ None)
-            × (no ≡ length (entries_of run))
-            × Represents self.new (extended run (Create block start bytes.now after.now undo))) }
+            IsMade run block start bytes.now after.now undo no self.new) }
         ensures cause { (run : Execution) → Represents self.old run → IfErr result (λ refusal.
-            IsCause (the_cause (length run.first) (entries_of run) block start bytes.now after.now) (create_cause refusal)) }
+            IsCause (the_cause run block start bytes.now after.now) (create_cause refusal)) }
         ensures trace { OnOk result (self.new.trace ≡ self.old.trace ++ Create block start bytes.now after.now undo ∷ []) }
         ensures refused { OnErr result (self.new ≡ self.old) }
     {
@@ -61,7 +58,7 @@ impl<A: Allocator + Copy> Cache<A> {
         after: &[PatchNo],
     ) -> Option<CreateRefusal>
         ensures cause { (run : Execution) → Represents self.now run
-            → option_map create_cause result ≡ the_cause (length run.first) (entries_of run) block start bytes.now after.now }
+            → option_map create_cause result ≡ the_cause run block start bytes.now after.now }
         ensures known { IsNone result → block < length self.now.blocks }
         ensures some { IsNone result → 0 < length bytes.now }
         ensures fits { IsNone result → start + length bytes.now ≤ BLOCK }
@@ -100,9 +97,9 @@ impl<A: Allocator + Copy> Cache<A> {
         requires fits { start + length bytes.now ≤ BLOCK }
         requires left { self.old.graph.made < MAX_PATCHES }
         requires room { self.old.live < MAX_LIVE }
-        ensures answer { (run : Execution) → Represents self.old run
-            → the_cause (length run.first) (entries_of run) block start bytes.now after.now ≡ None
-            → IfOk result (λ no. (no ≡ length (entries_of run)) × Represents self.new (extended run (Create block start bytes.now after.now undo))) }
+        ensures made { (run : Execution) → Represents self.old run
+            → the_cause run block start bytes.now after.now ≡ None
+            → IfOk result (λ no. IsMade run block start bytes.now after.now undo no self.new) }
         ensures trace { OnOk result (self.new.trace ≡ self.old.trace ++ Create block start bytes.now after.now undo ∷ []) }
         ensures refused { OnErr result (self.new ≡ self.old) }
     {
@@ -141,9 +138,8 @@ fn lay_on<A: Allocator + Copy>(
     requires some { 0 < length bytes.now }
     requires fits { start + length bytes.now ≤ BLOCK }
     requires left { graph.old.made < MAX_PATCHES }
-    ensures answer { (run : Execution) → IsLegal run → IsBlockOf state.old [] (history_of run block) → IsGraphOf graph.old (entries_of run)
-        → IsLegalCreate (length run.first) (entries_of run) block start bytes.now after.now
-        → IfOk result (λ no. IsMadeOn run block start bytes.now after.now undo no state.new graph.new) }
+    ensures laid { (run : Execution) → MayLay run block start bytes.now after.now state.old graph.old
+        → IfOk result (λ no. IsLaid run block start bytes.now after.now undo no state.new graph.new) }
     ensures refused { OnErr result ((state.new ≡ state.old) × (graph.new ≡ graph.old)) }
 {
     model_laws::steps_extend();

@@ -10,7 +10,7 @@ ghost use Rattle.patch_model.specs.Legal.{IsLegal, IsLegalMerge, block_at};
 ghost use Rattle.patch_view.specs.Meaning.{Represents as IsBlockOf};
 ghost use Rattle.patch_graph.specs.Meaning.{Represents as IsGraphOf};
 ghost use Rattle.patch_cache.specs.Meaning.{Represents};
-ghost use Rattle.patch_cache.specs.Merging.{IsInMemory, IsMergedOn, why_apart as as_apart};
+ghost use Rattle.patch_cache.specs.Merging.{IsInMemory, IsNear, IsThird, MayMerge, IsMerged, MayMergeOn, IsMergedOn, why_apart as as_apart};
 ghost use Rattle.patch_cache.specs.Refusals.{merge_cause, IsMergeCause};
 
 use crate::caches::Cache;
@@ -23,10 +23,7 @@ use std::alloc::Allocator;
 impl<A: Allocator + Copy> Cache<A> {
     /// Makes one class of the classes of two patches, whose numbers are any members'. Its name is the lesser of theirs.
     pub fn merge(&mut self, a: PatchNo, b: PatchNo) -> Result<PatchNo, MergeRefusal>
-        ensures merged { (run : Execution) → Represents self.old run → IfOk result (λ name.
-            IsLegalMerge (entries_of run) a b
-            × (name ≡ min (class_of (entries_of run) a) (class_of (entries_of run) b))
-            × Represents self.new (extended run (Merge a b))) }
+        ensures merged { (run : Execution) → Represents self.old run → IfOk result (λ name. IsMerged run a b name self.new) }
         ensures cause { (run : Execution) → Represents self.old run → IfErr result (λ refusal.
             IsMergeCause (entries_of run) a b (merge_cause refusal)) }
         ensures trace { OnOk result (self.new.trace ≡ self.old.trace ++ Merge a b ∷ []) }
@@ -43,7 +40,7 @@ impl<A: Allocator + Copy> Cache<A> {
     /// The block of both classes, or the first cause against the merge, but for a third class between them.
     fn near(&self, a: PatchNo, b: PatchNo) -> Result<BlockNo, MergeRefusal>
         ensures answer { (run : Execution) → Represents self.now run → MatchResult result
-            (λ block. (the_cause (entries_of run) a b ≡ None) × (block ≡ block_at (entries_of run) a))
+            (IsNear run a b)
             (λ refusal. the_cause (entries_of run) a b ≡ Some (merge_cause refusal)) }
         ensures known { IfOk result (λ block. block < length self.now.blocks) }
     {
@@ -85,7 +82,7 @@ impl<A: Allocator + Copy> Cache<A> {
     /// The least name of a third class between those of two live patches, one way or the other.
     fn third(&mut self, a: PatchNo, b: PatchNo) -> Option<PatchNo>
         ensures answer { (run : Execution) → Represents self.old run → the_cause (entries_of run) a b ≡ None
-            → MatchOption result ((c : ℕ) → IsBetween (entries_of run) a b c → ⊥) (IsLeastThird (entries_of run) a b) }
+            → IsThird run a b result }
         ensures same { self.new ≡ self.old }
     {
         model_laws::paths_form_no_ring();
@@ -98,8 +95,8 @@ impl<A: Allocator + Copy> Cache<A> {
     /// Makes one class of two that may be merged.
     fn make_one(&mut self, a: PatchNo, b: PatchNo, block: BlockNo) -> Result<PatchNo, OutOfMemory>
         requires known { block < length self.old.blocks }
-        ensures answer { (run : Execution) → Represents self.old run → IsLegalMerge (entries_of run) a b → block ≡ block_at (entries_of run) a
-            → IfOk result (λ name. (name ≡ min (class_of (entries_of run) a) (class_of (entries_of run) b)) × Represents self.new (extended run (Merge a b))) }
+        ensures merged { (run : Execution) → Represents self.old run → MayMerge run a b block
+            → IfOk result (λ name. IsMerged run a b name self.new) }
         ensures trace { OnOk result (self.new.trace ≡ self.old.trace ++ Merge a b ∷ []) }
         ensures refused { OnErr result (self.new ≡ self.old) }
     {
@@ -123,8 +120,7 @@ fn join_on<A: Allocator + Copy>(
     a: PatchNo,
     b: PatchNo,
 ) -> Result<PatchNo, OutOfMemory>
-    ensures answer { (run : Execution) → IsLegal run → IsLegalMerge (entries_of run) a b
-        → IsBlockOf state.old [] (history_of run (block_at (entries_of run) a)) → IsGraphOf graph.old (entries_of run)
+    ensures merged { (run : Execution) → MayMergeOn run a b state.old graph.old
         → IfOk result (λ name. IsMergedOn run a b name state.new graph.new) }
     ensures refused { OnErr result ((state.new ≡ state.old) × (graph.new ≡ graph.old)) }
 {

@@ -4,11 +4,11 @@ ghost use Rattle.patch_model.specs.declared.blocks.TheConstants.{BLOCK};
 ghost use Rattle.patch_model.specs.declared.refusals.RefusalKind.TheVariants as kind;
 ghost use Rattle.patch_model.specs.Execution.{Execution};
 ghost use Rattle.patch_model.specs.History.{history_of, cached as the_cached, without as the_rest};
-ghost use Rattle.patch_model.specs.Refusing.{bare, why_not_shown as the_cause};
+ghost use Rattle.patch_model.specs.Refusing.{bare};
 ghost use Rattle.patch_cache.specs.Contents.{Contents};
 ghost use Rattle.patch_cache.specs.Meaning.{Represents, ShowsWithout};
 ghost use Rattle.patch_cache.specs.Refusals.{cause_of, read_cause};
-ghost use Rattle.patch_cache.specs.Viewing.{with_move, with_moves, bytes_at, Stands, IsViewOf};
+ghost use Rattle.patch_cache.specs.Viewing.{why_not_read as the_cause, with_move, with_moves, bytes_at, IsRead, Stands, IsViewOf};
 ghost use Rattle.patch_cache.specs.Asks.{IsAnswer, IsGivenUp, View, answer_of};
 ghost use Rattle.patch_cache.specs.Looking.{HasLooked, HasMoved};
 
@@ -22,8 +22,8 @@ impl<A: Allocator + Copy> Cache<A> {
     /// The `len` bytes of a block from `start` on, with all its patches. It takes no memory.
     pub fn read(&self, block: BlockNo, start: usize, len: usize) -> Result<&[u8], ReadRefusal>
         ensures { (run : Execution) → Represents self.now run → MatchResult result
-            (λ bytes. (the_cause (length run.first) block start len ≡ None) × (bytes.now ≡ bytes_at (the_cached (history_of run block)) start len))
-            (λ refusal. the_cause (length run.first) block start len ≡ Some (read_cause refusal)) }
+            (λ bytes. IsRead run block start len bytes.now)
+            (λ refusal. the_cause run block start len ≡ Some (read_cause refusal)) }
     {
         match self.why_not_shown(block, start, len) {
             Some(refusal) => Err(refusal),
@@ -33,7 +33,7 @@ impl<A: Allocator + Copy> Cache<A> {
 
     /// The first cause against a look at the span.
     fn why_not_shown(&self, block: BlockNo, start: usize, len: usize) -> Option<ReadRefusal>
-        ensures cause { (run : Execution) → Represents self.now run → option_map read_cause result ≡ the_cause (length run.first) block start len }
+        ensures cause { (run : Execution) → Represents self.now run → option_map read_cause result ≡ the_cause run block start len }
         ensures known { IsNone result → block < length self.now.blocks }
         ensures fits { IsNone result → start + len ≤ BLOCK }
     {

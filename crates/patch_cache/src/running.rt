@@ -2,14 +2,13 @@
 ghost use Rattle.std.specs.Prelude.{◌≡◌, ◌≢◌, ◌+◌, ◌<◌, ◌≤◌, ◌↔◌, ◌++◌, ◌∷◌, ◌⊎◌, ℕ, List, [], true, Some, None, length, map, IfOk, IfErr, OnOk, OnErr, MatchResult};
 ghost use Rattle.patch_model.specs.declared.refusals.RefusalKind.TheVariants as kind;
 ghost use Rattle.patch_model.specs.Execution.{Execution, extended};
-ghost use Rattle.patch_model.specs.Crash.{MayLeave};
 ghost use Rattle.patch_model.specs.Refusing.{bare, why_not_sent};
-ghost use Rattle.patch_device.specs.Device.{HasRisen};
+ghost use Rattle.patch_device.specs.SameDevice.{IsSameDevice};
 ghost use Rattle.patch_cache.specs.Contents.{write_at};
 ghost use Rattle.patch_cache.specs.Meaning.{Represents};
 ghost use Rattle.patch_cache.specs.Asks.{Create, Merge, Send, Complete, Refused, ask_of, answer_of, step_added, steps_added, is_complete, after, after_all};
 ghost use Rattle.patch_cache.specs.Promise.{TakingBack, MovesArePermitted, LooksShow, ImagesSent, CrashesClosed};
-ghost use Rattle.patch_cache.specs.Running.{Runs, IsDone, IsAnswered, IsCrashSafe, HasRun, CountFaults, HasWritten, HaveWritten, answers_in};
+ghost use Rattle.patch_cache.specs.Running.{Runs, RunsOn, IsDone, IsAnswered, IsServed, LeavesSafe, HasRun, CountFaults, HaveAllWritten, answers_in};
 
 use crate::asks::{Answer, Ask};
 use crate::caches::Cache;
@@ -42,27 +41,23 @@ impl<A: Allocator + Copy> Cache<A> {
         device: &mut D,
         asks: &[Ask<A>],
     ) -> Result<Vec<Answer<A>, A>, (Vec<Answer<A>, A>, OutOfMemory)>
-        ensures answers { (run : Execution) → Runs self.old flights.old run → D.block_count device.old ≡ length run.first
+        ensures answers { (run : Execution) → RunsOn D.Device self.old flights.old device.old run
             → HasRun run (map ask_of asks.now) (answers_in result) self.new flights.new }
         ensures all { OnOk result (length (answers_in result) ≡ length asks.now) }
         ensures stopped { OnErr result (length (answers_in result) < length asks.now) }
         ensures trace { self.new.trace ≡ self.old.trace ++ steps_added (map ask_of asks.now) (answers_in result) }
-        ensures honesty { D.is_honest device.old ↔ D.is_honest device.new }
-        ensures count { D.block_count device.new ≡ D.block_count device.old }
-        ensures faults { D.fault_count device.old ≤ D.fault_count device.new }
-        ensures fault { (run : Execution) → Runs self.old flights.old run → D.block_count device.old ≡ length run.first
+        ensures device { IsSameDevice D.Device device.old device.new }
+        ensures fault { (run : Execution) → RunsOn D.Device self.old flights.old device.old run
             → CountFaults (answers_in result) (D.fault_count device.old) (D.fault_count device.new) }
-        ensures written { (run : Execution) → Runs self.old flights.old run → D.block_count device.old ≡ length run.first
-            → D.is_honest device.old
-            → HaveWritten run (map ask_of asks.now) (answers_in result) (D.contents device.old) (D.contents device.new) }
+        ensures written { (run : Execution) → RunsOn D.Device self.old flights.old device.old run
+            → HaveAllWritten D.Device run (map ask_of asks.now) (answers_in result) device.old device.new }
         ensures taking_back { TakingBack }
         ensures moves { MovesArePermitted }
         ensures looks { LooksShow }
         ensures images { ImagesSent }
         ensures closed { CrashesClosed }
-        ensures crash { (run : Execution) → Runs self.old flights.old run → D.block_count device.old ≡ length run.first
-            → D.is_honest device.old → MayLeave run (D.contents device.old)
-            → IsCrashSafe run (after_all run (map ask_of asks.now) (answers_in result)) (D.had device.old) (D.had device.new) (D.contents device.new) }
+        ensures crash { (run : Execution) → RunsOn D.Device self.old flights.old device.old run
+            → LeavesSafe D.Device run (after_all run (map ask_of asks.now) (answers_in result)) device.old device.new }
     {
         laws::promise();
         model_laws::trails_join();
@@ -77,28 +72,20 @@ impl<A: Allocator + Copy> Cache<A> {
         Ok(answers)
     }
 
-    /// Answers one ask, as [`run`](Cache::run) does: so a crate that has asks of its own can answer a cache's among them.
+    /// Answers one ask, on the same premises as [`run`](Cache::run): so a crate that has asks of its own can answer a cache's
+    /// among them.
     pub fn answer<D: Device>(
         &mut self,
         flights: &mut Flights<A>,
         device: &mut D,
         ask: &Ask<A>,
     ) -> Answer<A>
-        ensures answer { (run : Execution) → Runs self.old flights.old run → D.block_count device.old ≡ length run.first
-            → IsAnswered run (ask_of ask.now) (answer_of result) self.new flights.new }
+        ensures served { (run : Execution) → RunsOn D.Device self.old flights.old device.old run
+            → IsServed D.Device run (ask_of ask.now) (answer_of result) self.new flights.new device.old device.new }
         ensures trace { self.new.trace ≡ self.old.trace ++ step_added (ask_of ask.now) (answer_of result) }
-        ensures honesty { D.is_honest device.old ↔ D.is_honest device.new }
-        ensures count { D.block_count device.new ≡ D.block_count device.old }
-        ensures faults { D.fault_count device.old ≤ D.fault_count device.new }
-        ensures fault { (run : Execution) → Runs self.old flights.old run → D.block_count device.old ≡ length run.first
-            → answer_of result ≡ Refused (bare kind.Fault) → HasRisen (D.fault_count device.old) (D.fault_count device.new) }
+        ensures device { IsSameDevice D.Device device.old device.new }
         ensures of_completion { (run : Execution) → Runs self.old flights.old run
             → answer_of result ≡ Refused (bare kind.Fault) → is_complete (ask_of ask.now) ≡ true }
-        ensures written { (run : Execution) → Runs self.old flights.old run → D.block_count device.old ≡ length run.first
-            → D.is_honest device.old → HasWritten run (ask_of ask.now) (answer_of result) (D.contents device.old) (D.contents device.new) }
-        ensures crash { (run : Execution) → Runs self.old flights.old run → D.block_count device.old ≡ length run.first
-            → D.is_honest device.old → MayLeave run (D.contents device.old)
-            → IsCrashSafe run (after run (ask_of ask.now) (answer_of result)) (D.had device.old) (D.had device.new) (D.contents device.new) }
     {
         model_laws::steps_extend();
         model_laws::flights_are_ready();
@@ -158,6 +145,7 @@ impl<A: Allocator + Copy> Cache<A> {
     fn answer_send(&mut self, flights: &mut Flights<A>, block: BlockNo) -> Answer<A>
         ensures answer { (run : Execution) → Runs self.old flights.old run → IsAnswered run (Send block) (answer_of result) self.new flights.new }
         ensures trace { self.new.trace ≡ self.old.trace ++ step_added (Send block) (answer_of result) }
+        ensures no_fault { answer_of result ≢ Refused (bare kind.Fault) }
     {
         if let Some(refusal) = self.why_not_sent(block) {
             return Answer::Refused(Refusal::from(refusal));
@@ -180,6 +168,7 @@ impl<A: Allocator + Copy> Cache<A> {
         ensures answer { (run : Execution) → Runs self.old flights.old run → why_not_sent run block ≡ None → IfOk result (λ answer.
             IsAnswered run (Send block) (answer_of answer) self.new flights.new) }
         ensures trace { IfOk result (λ answer. self.new.trace ≡ self.old.trace ++ step_added (Send block) (answer_of answer)) }
+        ensures no_fault { IfOk result (λ answer. answer_of answer ≢ Refused (bare kind.Fault)) }
         ensures refused { OnErr result (self.new ≡ self.old) }
         ensures held { OnErr result (flights.new.held.items ≡ flights.old.held.items) }
     {
@@ -208,19 +197,10 @@ impl<A: Allocator + Copy> Cache<A> {
         device: &mut D,
         block: BlockNo,
     ) -> Answer<A>
-        ensures answer { (run : Execution) → Runs self.old flights.old run → D.block_count device.old ≡ length run.first
-            → IsAnswered run (Complete block) (answer_of result) self.new flights.new }
+        ensures served { (run : Execution) → RunsOn D.Device self.old flights.old device.old run
+            → IsServed D.Device run (Complete block) (answer_of result) self.new flights.new device.old device.new }
         ensures trace { self.new.trace ≡ self.old.trace ++ step_added (Complete block) (answer_of result) }
-        ensures honesty { D.is_honest device.old ↔ D.is_honest device.new }
-        ensures count { D.block_count device.new ≡ D.block_count device.old }
-        ensures faults { D.fault_count device.old ≤ D.fault_count device.new }
-        ensures fault { (run : Execution) → Runs self.old flights.old run → D.block_count device.old ≡ length run.first
-            → answer_of result ≡ Refused (bare kind.Fault) → HasRisen (D.fault_count device.old) (D.fault_count device.new) }
-        ensures written { (run : Execution) → Runs self.old flights.old run → D.block_count device.old ≡ length run.first
-            → D.is_honest device.old → HasWritten run (Complete block) (answer_of result) (D.contents device.old) (D.contents device.new) }
-        ensures crash { (run : Execution) → Runs self.old flights.old run → D.block_count device.old ≡ length run.first
-            → D.is_honest device.old → MayLeave run (D.contents device.old)
-            → IsCrashSafe run (after run (Complete block) (answer_of result)) (D.had device.old) (D.had device.new) (D.contents device.new) }
+        ensures device { IsSameDevice D.Device device.old device.new }
     {
         model_laws::steps_extend();
         model_laws::flights_are_ready();

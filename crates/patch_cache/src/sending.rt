@@ -11,7 +11,7 @@ ghost use Rattle.patch_view.specs.History.{undoable_classes};
 ghost use Rattle.patch_view.specs.Meaning.{Represents as IsBlockOf};
 ghost use Rattle.patch_cache.specs.Contents.{write_at};
 ghost use Rattle.patch_cache.specs.Meaning.{Represents};
-ghost use Rattle.patch_cache.specs.Flights.{IsSent};
+ghost use Rattle.patch_cache.specs.Flights.{MaySend, IsBegun};
 ghost use Rattle.patch_cache.specs.Refusals.{send_cause, IsCause};
 
 use crate::caches::Cache;
@@ -28,7 +28,7 @@ impl<A: Allocator + Copy> Cache<A> {
     /// set, and gives their image. What stays behind in memory is reverted in the image and in nothing else.
     pub fn send(&mut self, block: BlockNo) -> Result<Flight<A>, SendRefusal>
         ensures sent { (run : Execution) → Represents self.old run → IfOk result (λ flight.
-            (the_cause run block ≡ None) × IsSent run block flight × Represents self.new (extended run (Send block))) }
+            (the_cause run block ≡ None) × IsBegun run block flight self.new) }
         ensures cause { (run : Execution) → Represents self.old run → IfErr result (λ refusal. IsCause (the_cause run block) (send_cause refusal)) }
         ensures trace { OnOk result (self.new.trace ≡ self.old.trace ++ Send block ∷ []) }
         ensures refused { OnErr result (self.new ≡ self.old) }
@@ -71,8 +71,8 @@ impl<A: Allocator + Copy> Cache<A> {
     ) -> Result<Flight<A>, OutOfMemory>
         requires known { block < length self.old.blocks }
         requires grounded { write_at self.old block ≡ None }
-        ensures answer { (run : Execution) → Represents self.old run → the_cause run block ≡ None → numbers.items ≡ numbers_of (ready (entries_of run) block)
-            → IfOk result (λ flight. IsSent run block flight × Represents self.new (extended run (Send block))) }
+        ensures begun { (run : Execution) → Represents self.old run → MaySend run block numbers.items
+            → IfOk result (λ flight. IsBegun run block flight self.new) }
         ensures trace { OnOk result (self.new.trace ≡ self.old.trace ++ Send block ∷ []) }
         ensures refused { OnErr result (self.new ≡ self.old) }
     {

@@ -27,7 +27,7 @@ pub struct CacheView<'a, A: Allocator + Copy = Global> {
 
 impl<A: Allocator + Copy> Cache<A> {
     ghost use Rattle.patch_cache.specs.Lending.{RestsView};
-    ghost use Rattle.patch_cache.specs.Viewing.{with_move, seen_by, block_of, borrow_of, IsViewOf};
+    ghost use Rattle.patch_cache.specs.Viewing.{seen_by, block_of, borrow_of, IsViewOf, IsMoved, HasTaken, IsLentOf};
 
     /// Lends a block as a view.
     pub fn view(&mut self, block: BlockNo) -> Result<CacheView<'_, A>, NoSuchBlock>
@@ -47,9 +47,7 @@ impl<A: Allocator + Copy> Cache<A> {
     /// Takes the class of a patch back of the block.
     pub(crate) fn take_of(&mut self, block: BlockNo, no: PatchNo) -> Result<(), TakeRefusal>
         requires { block < length self.old.blocks }
-        ensures answer { (run : Execution) (names : List ℕ) → ShowsWithout self.old block names run → MatchResult result
-            (λ done. (now : List ℕ) × (with_move run block names (Take no) ≡ Ok now) × ShowsWithout self.new block now run)
-            (λ refusal. with_move run block names (Take no) ≡ Err (take_cause refusal)) }
+        ensures answer { (run : Execution) (names : List ℕ) → ShowsWithout self.old block names run → IsMoved take_cause run block names (Take no) result self.new }
         ensures accepted { (run : Execution) (names : List ℕ) → ShowsWithout self.old block names run → IsOk result ↔ MayTake (history_of run block) names no }
         ensures others { self.new ≡ with_block self.old block (block_at self.new block) }
         ensures view { (before : Contents) → IsViewOf before block self.old → IsViewOf before block self.new }
@@ -69,9 +67,7 @@ impl<A: Allocator + Copy> Cache<A> {
     /// Puts the class of a patch back.
     pub(crate) fn put_back_of(&mut self, block: BlockNo, no: PatchNo) -> Result<(), PutBackRefusal>
         requires { block < length self.old.blocks }
-        ensures answer { (run : Execution) (names : List ℕ) → ShowsWithout self.old block names run → MatchResult result
-            (λ done. (now : List ℕ) × (with_move run block names (Back no) ≡ Ok now) × ShowsWithout self.new block now run)
-            (λ refusal. with_move run block names (Back no) ≡ Err (put_back_cause refusal)) }
+        ensures answer { (run : Execution) (names : List ℕ) → ShowsWithout self.old block names run → IsMoved put_back_cause run block names (Back no) result self.new }
         ensures accepted { (run : Execution) (names : List ℕ) → ShowsWithout self.old block names run → IsOk result ↔ MayPutBack (history_of run block) names no }
         ensures others { self.new ≡ with_block self.old block (block_at self.new block) }
         ensures view { (before : Contents) → IsViewOf before block self.old → IsViewOf before block self.new }
@@ -106,16 +102,15 @@ impl<A: Allocator + Copy> Cache<A> {
 impl<'a, A: Allocator + Copy> Ending for CacheView<'a, A> {}
 
 impl<'a, A: Allocator + Copy> CacheView<'a, A> {
-    ghost use Rattle.patch_cache.specs.Viewing.{with_move, seen_by, block_of, borrow_of, IsViewOf};
+    ghost use Rattle.patch_cache.specs.Viewing.{seen_by, block_of, borrow_of, IsViewOf, IsMoved, HasTaken, IsLentOf};
 
     /// Takes the class of this patch back.
     pub fn take(&mut self, no: PatchNo) -> Result<(), TakeRefusal>
         ensures same_reference { borrow_of self.new ≡ borrow_of self.old }
         ensures same_block { block_of self.new ≡ block_of self.old }
-        ensures answer { (run : Execution) (names : List ℕ) → ShowsWithout (seen_by self.old) (block_of self.old) names run → MatchResult result
-            (λ done. (now : List ℕ) × (with_move run (block_of self.old) names (Take no) ≡ Ok now) × ShowsWithout (seen_by self.new) (block_of self.old) now run)
-            (λ refusal. with_move run (block_of self.old) names (Take no) ≡ Err (take_cause refusal)) }
-        ensures accepted { (run : Execution) (names : List ℕ) → ShowsWithout (seen_by self.old) (block_of self.old) names run
+        ensures answer { (run : Execution) (names : List ℕ) → HasTaken self.old names run
+            → IsMoved take_cause run (block_of self.old) names (Take no) result (seen_by self.new) }
+        ensures accepted { (run : Execution) (names : List ℕ) → HasTaken self.old names run
             → IsOk result ↔ MayTake (history_of run (block_of self.old)) names no }
         ensures others { seen_by self.new ≡ with_block (seen_by self.old) (block_of self.old) (block_at (seen_by self.new) (block_of self.old)) }
         ensures view { (before : Contents) → IsViewOf before (block_of self.old) (seen_by self.old) → IsViewOf before (block_of self.old) (seen_by self.new) }
@@ -128,10 +123,9 @@ impl<'a, A: Allocator + Copy> CacheView<'a, A> {
     pub fn put_back(&mut self, no: PatchNo) -> Result<(), PutBackRefusal>
         ensures same_reference { borrow_of self.new ≡ borrow_of self.old }
         ensures same_block { block_of self.new ≡ block_of self.old }
-        ensures answer { (run : Execution) (names : List ℕ) → ShowsWithout (seen_by self.old) (block_of self.old) names run → MatchResult result
-            (λ done. (now : List ℕ) × (with_move run (block_of self.old) names (Back no) ≡ Ok now) × ShowsWithout (seen_by self.new) (block_of self.old) now run)
-            (λ refusal. with_move run (block_of self.old) names (Back no) ≡ Err (put_back_cause refusal)) }
-        ensures accepted { (run : Execution) (names : List ℕ) → ShowsWithout (seen_by self.old) (block_of self.old) names run
+        ensures answer { (run : Execution) (names : List ℕ) → HasTaken self.old names run
+            → IsMoved put_back_cause run (block_of self.old) names (Back no) result (seen_by self.new) }
+        ensures accepted { (run : Execution) (names : List ℕ) → HasTaken self.old names run
             → IsOk result ↔ MayPutBack (history_of run (block_of self.old)) names no }
         ensures others { seen_by self.new ≡ with_block (seen_by self.old) (block_of self.old) (block_at (seen_by self.new) (block_of self.old)) }
         ensures view { (before : Contents) → IsViewOf before (block_of self.old) (seen_by self.old) → IsViewOf before (block_of self.old) (seen_by self.new) }
@@ -143,7 +137,7 @@ impl<'a, A: Allocator + Copy> CacheView<'a, A> {
     /// The block's bytes without the classes that are taken.
     pub fn bytes(&self) -> &[u8]
         ensures length { length result.now ≡ BLOCK }
-        ensures answer { (run : Execution) (names : List ℕ) → ShowsWithout (seen_by self.now) (block_of self.now) names run
+        ensures answer { (run : Execution) (names : List ℕ) → HasTaken self.now names run
             → result.now ≡ without (history_of run (block_of self.now)) names }
     {
         self.cache.bytes_of(self.block)
@@ -151,9 +145,9 @@ impl<'a, A: Allocator + Copy> CacheView<'a, A> {
 
     /// Puts every class back, and spends the view. The cache is then as it was before the view.
     pub fn restore(self)
-        ensures answer { (run : Execution) (names : List ℕ) → ShowsWithout (seen_by self.entry) (block_of self.entry) names run → Represents self.exit.0.now run }
-        ensures as_before { (run : Execution) (names : List ℕ) (before : Contents) → ShowsWithout (seen_by self.entry) (block_of self.entry) names run → Represents before run
-            → IsViewOf before (block_of self.entry) (seen_by self.entry) → self.exit.0.now ≡ before }
+        ensures answer { (run : Execution) (names : List ℕ) → HasTaken self.entry names run → Represents self.exit.0.now run }
+        ensures as_before { (run : Execution) (names : List ℕ) (before : Contents) → HasTaken self.entry names run
+            → Represents before run → IsLentOf before self.entry → self.exit.0.now ≡ before }
         ensures others { self.exit.0.now ≡ with_block (seen_by self.entry) (block_of self.entry) (block_at self.exit.0.now (block_of self.entry)) }
     {
         let CacheView { cache, block } = self;

@@ -1,6 +1,7 @@
 //! Writes of blocks, on their way to the disk.
-ghost use Rattle.std.specs.Prelude.{◌≡◌, ◌<◌, ◌≤◌, ◌↔◌, length, slice_set, IfOk, IfErr, OnOk, OnErr};
+ghost use Rattle.std.specs.Prelude.{◌≡◌, ◌<◌, length, slice_set, IfOk, IfErr, OnOk, OnErr};
 ghost use Rattle.patch_device.specs.Device.{HasRisen, IsOldOrNew, AddsOutcome};
+ghost use Rattle.patch_device.specs.SameDevice.{IsSameDevice};
 
 use crate::refusals::Fault;
 use patch_device::Device;
@@ -132,9 +133,7 @@ pub fn write_out<A: Allocator, D: Device>(
 ) -> Result<Landed, (Flight<A>, Fault)>
     ensures landed { IfOk result (λ landed. (landed.block ≡ flight.block) × (landed.number ≡ flight.number)) }
     ensures back { IfErr result (λ refused. refused.0 ≡ flight) }
-    ensures honesty { D.is_honest device.old ↔ D.is_honest device.new }
-    ensures count { D.block_count device.new ≡ D.block_count device.old }
-    ensures faults { D.fault_count device.old ≤ D.fault_count device.new }
+    ensures device { IsSameDevice D.Device device.old device.new }
     ensures cause { flight.block < D.block_count device.old → OnErr result (HasRisen (D.fault_count device.old) (D.fault_count device.new)) }
     ensures no_fault { OnOk result (D.fault_count device.new ≡ D.fault_count device.old) }
     ensures written { D.is_honest device.old → OnOk result (D.contents device.new ≡ slice_set (D.contents device.old) flight.block flight.image) }
@@ -152,9 +151,7 @@ pub(crate) fn write_image<A: Allocator, D: Device>(
     device: &mut D,
     flight: &Flight<A>,
 ) -> Result<(), Fault>
-    ensures honesty { D.is_honest device.old ↔ D.is_honest device.new }
-    ensures count { D.block_count device.new ≡ D.block_count device.old }
-    ensures faults { D.fault_count device.old ≤ D.fault_count device.new }
+    ensures device { IsSameDevice D.Device device.old device.new }
     ensures cause { flight.now.block < D.block_count device.old → OnErr result (HasRisen (D.fault_count device.old) (D.fault_count device.new)) }
     ensures no_fault { OnOk result (D.fault_count device.new ≡ D.fault_count device.old) }
     ensures written { D.is_honest device.old → OnOk result (D.contents device.new ≡ slice_set (D.contents device.old) flight.now.block flight.now.image) }

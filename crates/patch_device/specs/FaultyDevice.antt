@@ -1,7 +1,8 @@
 -- A device that fails one call.
-use Rattle.std.specs.Prelude.{ℕ, zero, suc, ◌≡◌, ◌+◌, ◌≤◌, ◌⊎◌, min, Bool, List, slice_set, Option, Some, None}
+use Rattle.std.specs.Prelude.{ℕ, zero, suc, ◌+◌, ◌≡◌, ◌<◌, ◌≤◌, ◌⊎◌, min, Bool, List, Option, Some, None, slice_set}
 use Rattle.std.proofs.Math.Nat.{min-le_right}
 use Rattle.patch_device.specs.Device.{most_faults, HasRisen}
+use Rattle.patch_device.specs.declared.devices.Device.{Ghosts}
 use Rattle.patch_device.specs.declared.faulty.FaultyDevice.{FaultyDevice}
 
 -- the device that it calls
@@ -12,19 +13,17 @@ inner_of d = d.inner
 abbrev pub calls_before : {D : Type 0} → FaultyDevice D → Option ℕ
 calls_before d = d.calls_left
 
--- the next call is the one that fails
-abbrev pub IsDue : {D : Type 0} → FaultyDevice D → Type 0
-IsDue d = calls_before d ≡ Some 0
-
 -- whether the failing call, a write, lands
 abbrev pub does_land : {D : Type 0} → FaultyDevice D → Bool
 does_land d = d.lands
 
--- the write that fails has landed, or the other device met a fault
-abbrev pub Lands : {D : Type 0} (contents : D → List (List ℕ)) (fault_count : D → ℕ) (old : FaultyDevice D) → ℕ → List ℕ → FaultyDevice D → Type 0
-Lands contents fault_count old n bytes new =
-    (contents (inner_of new) ≡ slice_set (contents (inner_of old)) n bytes)
-    ⊎ HasRisen (fault_count (inner_of old)) (fault_count (inner_of new))
+-- a call of block n, which there is, is the one that fails
+abbrev pub IsFailing : {D : Type 0} → Ghosts D → FaultyDevice D → (n : ℕ) → Type 0
+IsFailing g d n = (n < g.block_count (inner_of d)) × (calls_before d ≡ Some 0)
+
+-- the write of a block has landed on an honest device, or met a fault of that device's own
+abbrev pub HasLanded : {D : Type 0} → Ghosts D → D → (n : ℕ) (bytes : List ℕ) → D → Type 0
+HasLanded g old n bytes new = g.is_honest old → (g.contents new ≡ slice_set (g.contents old) n bytes) ⊎ HasRisen (g.fault_count old) (g.fault_count new)
 
 -- how many calls are still to come, after one more
 abbrev pub after_a_call : Option ℕ → Option ℕ

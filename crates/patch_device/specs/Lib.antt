@@ -1,5 +1,6 @@
 pub mod Refusals
 pub mod Device
+pub mod SameDevice
 pub mod Blocks
 pub mod Writes
 pub mod MemDevice

@@ -1,6 +1,7 @@
 //! A device that fails one call.
-ghost use Rattle.std.specs.Prelude.{◌≡◌, ◌≢◌, ◌≤◌, ◌<◌, ◌↔◌, length, slice_get, slice_set, Some, IsTrue, IsFalse, OnOk, OnErr, IsErrOf};
+ghost use Rattle.std.specs.Prelude.{◌≡◌, ◌≢◌, ◌≤◌, ◌<◌, ◌↔◌, ◌⊎◌, length, slice_get, slice_set, Some, IsTrue, IsFalse, OnOk, OnErr, IsErrOf};
 ghost use Rattle.patch_device.specs.Device.{CountsFault, IsOldOrNew, AddsOutcome};
+ghost use Rattle.patch_device.specs.SameDevice.{IsSameDevice};
 
 use crate::devices::Device;
 use crate::refusals::DeviceRefusal;
@@ -52,7 +53,7 @@ impl<D: Device> FaultyDevice<D> {
 }
 
 impl<D: Device> Device for FaultyDevice<D> {
-    ghost use Rattle.patch_device.specs.FaultyDevice.{inner_of, calls_before, IsDue, does_land, Lands, after_a_call, faults_of_both, faults_of_both_fit};
+    ghost use Rattle.patch_device.specs.FaultyDevice.{inner_of, calls_before, does_land, after_a_call, IsFailing, HasLanded, faults_of_both, faults_of_both_fit};
 
     ghost contents = { λ d. D.contents (inner_of d) };
 
@@ -70,11 +71,9 @@ impl<D: Device> Device for FaultyDevice<D> {
 
     fn read(&mut self, n: u32, into: &mut [u8]) -> Result<(), DeviceRefusal>
         requires { length into.old ≡ BLOCK }
-        ensures honesty { D.is_honest (inner_of self.old) ↔ D.is_honest (inner_of self.new) }
-        ensures count { D.block_count (inner_of self.new) ≡ D.block_count (inner_of self.old) }
+        ensures device { IsSameDevice D.Device (inner_of self.old) (inner_of self.new) }
         ensures no_such_block { IsErrOf result DeviceRefusal.NoSuchBlock
             ↔ (D.block_count (inner_of self.old) ≤ n) }
-        ensures faults { D.fault_count (inner_of self.old) ≤ D.fault_count (inner_of self.new) }
         ensures gives { D.is_honest (inner_of self.old)
             → OnOk result (slice_get (D.contents (inner_of self.old)) n ≡ Some into.new) }
         ensures same { D.is_honest (inner_of self.old)
@@ -85,7 +84,7 @@ impl<D: Device> Device for FaultyDevice<D> {
         ensures not_counted { D.block_count (inner_of self.old) ≤ n → self.new ≡ self.old }
         ensures counted { n < D.block_count (inner_of self.old)
             → calls_before self.new ≡ after_a_call (calls_before self.old) }
-        ensures fails { n < D.block_count (inner_of self.old) → IsDue self.old
+        ensures fails { IsFailing D.Device self.old n
             → IsErrOf result DeviceRefusal.Fault × (inner_of self.new ≡ inner_of self.old) }
         ensures passes { calls_before self.old ≢ Some 0
             → CountsFault (D.fault_count (inner_of self.old))
@@ -102,11 +101,9 @@ impl<D: Device> Device for FaultyDevice<D> {
 
     fn write(&mut self, n: u32, from: &[u8]) -> Result<(), DeviceRefusal>
         requires { length from.now ≡ BLOCK }
-        ensures honesty { D.is_honest (inner_of self.old) ↔ D.is_honest (inner_of self.new) }
-        ensures count { D.block_count (inner_of self.new) ≡ D.block_count (inner_of self.old) }
+        ensures device { IsSameDevice D.Device (inner_of self.old) (inner_of self.new) }
         ensures no_such_block { IsErrOf result DeviceRefusal.NoSuchBlock
             ↔ (D.block_count (inner_of self.old) ≤ n) }
-        ensures faults { D.fault_count (inner_of self.old) ≤ D.fault_count (inner_of self.new) }
         ensures written { D.is_honest (inner_of self.old)
             → OnOk result (D.contents (inner_of self.new)
             ≡ slice_set (D.contents (inner_of self.old)) n from.now) }
@@ -120,13 +117,11 @@ impl<D: Device> Device for FaultyDevice<D> {
         ensures not_counted { D.block_count (inner_of self.old) ≤ n → self.new ≡ self.old }
         ensures counted { n < D.block_count (inner_of self.old)
             → calls_before self.new ≡ after_a_call (calls_before self.old) }
-        ensures fails { n < D.block_count (inner_of self.old) → IsDue self.old
-            → IsErrOf result DeviceRefusal.Fault }
-        ensures not_landed { n < D.block_count (inner_of self.old) → IsDue self.old
-            → IsFalse (does_land self.old) → inner_of self.new ≡ inner_of self.old }
-        ensures landed { n < D.block_count (inner_of self.old) → IsDue self.old
-            → IsTrue (does_land self.old) → D.is_honest (inner_of self.old)
-            → Lands D.contents D.fault_count self.old n from.now self.new }
+        ensures fails { IsFailing D.Device self.old n → IsErrOf result DeviceRefusal.Fault }
+        ensures not_landed { IsFailing D.Device self.old n → IsFalse (does_land self.old)
+            → inner_of self.new ≡ inner_of self.old }
+        ensures landed { IsFailing D.Device self.old n → IsTrue (does_land self.old)
+            → HasLanded D.Device (inner_of self.old) n from.now (inner_of self.new) }
         ensures passes { calls_before self.old ≢ Some 0
             → CountsFault (D.fault_count (inner_of self.old))
             (D.fault_count (inner_of self.new)) result }

@@ -81,14 +81,14 @@ impl<F: FileExt + OpenFile + Drop> FileDevice<F> {
     }
 }
 
-// Where a block begins in the file.
+/// Where a block begins in the file.
 fn place_of(n: u32) -> u64
     ensures { result ≡ n * BLOCK }
 {
     u64::from(n) * BLOCK as u64
 }
 
-// How many blocks a file of this length has, if they are whole and as many as there may be.
+/// How many blocks a file of this length has, if they are whole and as many as there may be.
 fn whole_blocks(length: u64) -> Option<u32>
     ensures some { IfSome result (λ count. (length ≡ count * BLOCK) × FitsFile count) }
     ensures none { IsNone result → (count : ℕ) → length ≡ count * BLOCK → FitsFile count → ⊥ }
@@ -100,7 +100,7 @@ fn whole_blocks(length: u64) -> Option<u32>
     Some(blocks as u32)
 }
 
-// Writes so many blocks of zeros, and answers whether that went well.
+/// Writes so many blocks of zeros, and answers whether that went well.
 fn fill_with_zeros(file: &impl FileExt, blocks: u32) -> bool {
     let zeros = [0; BLOCK];
     for n in 0..blocks {

@@ -1,22 +1,21 @@
 //! All blocks of a device.
-ghost use Rattle.std.specs.Prelude.{◌≡◌, ◌≤◌, ◌↔◌, ◌<◌, length, slice_get, Some, None, IfOk, OnOk, IsErrOf};
+ghost use Rattle.std.specs.Prelude.{◌≡◌, ◌<◌, length, slice_get, Some, None, IfOk, OnOk, IsErrOf};
 ghost use Rattle.patch_device.specs.Device.{HasRisen};
+ghost use Rattle.patch_device.specs.SameDevice.{IsSameDevice};
 
 use crate::devices::Device;
 use crate::refusals::LoadFault;
 use patch_model::{BLOCK, BlockBytes};
 use std::alloc::Allocator;
 
-// One block of the device.
+/// One block of the device.
 fn read_block<A: Allocator, D: Device>(
     alloc: A,
     device: &mut D,
     n: u32,
 ) -> Result<BlockBytes<A>, LoadFault>
     requires { n < D.block_count device.old }
-    ensures honesty { D.is_honest device.old ↔ D.is_honest device.new }
-    ensures count { D.block_count device.new ≡ D.block_count device.old }
-    ensures faults { D.fault_count device.old ≤ D.fault_count device.new }
+    ensures device { IsSameDevice D.Device device.old device.new }
     ensures no_fault { OnOk result (D.fault_count device.new ≡ D.fault_count device.old) }
     ensures fault { IsErrOf result LoadFault.Fault
         → HasRisen (D.fault_count device.old) (D.fault_count device.new) }
@@ -39,10 +38,8 @@ pub fn load<A: Allocator + Copy, D: Device>(
     alloc: A,
     device: &mut D,
 ) -> Result<Vec<BlockBytes<A>, A>, LoadFault>
-    ensures honesty { D.is_honest device.old ↔ D.is_honest device.new }
-    ensures count { D.block_count device.new ≡ D.block_count device.old }
+    ensures device { IsSameDevice D.Device device.old device.new }
     ensures blocks { IfOk result (λ blocks. length blocks.items ≡ D.block_count device.old) }
-    ensures faults { D.fault_count device.old ≤ D.fault_count device.new }
     ensures no_fault { OnOk result (D.fault_count device.new ≡ D.fault_count device.old) }
     ensures fault { IsErrOf result LoadFault.Fault
         → HasRisen (D.fault_count device.old) (D.fault_count device.new) }

@@ -23,7 +23,7 @@ pub struct MemDevice<A: Allocator = Global> {
     ghost faults_fit: { faults ≤ most_faults },
 }
 
-// Puts these bytes in place of the block's.
+/// Puts these bytes in place of the block's.
 fn overwrite<A: Allocator>(block: &mut BlockBytes<A>, bytes: &[u8])
     requires { length bytes.now ≡ BLOCK }
     ensures { block.new ≡ bytes.now }

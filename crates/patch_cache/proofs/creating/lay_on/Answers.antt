@@ -15,8 +15,12 @@ use Rattle.patch_cache.proofs.Creations.{laid_here, made_alike}
 use Rattle.patch_cache.proofs.creating.lay_on.Goals.{then-added, else-added}
 use Rattle.patch_cache.proofs.creating.lay_on.Goals as goal
 
-pub returns-after-added-clause-answer : goal.returns-after-added-clause-answer
-returns-after-added-clause-answer g c = λ run before at holds lawful.
+pub returns-after-added-clause-laid : goal.returns-after-added-clause-laid
+returns-after-added-clause-laid g c = λ run may.
+    let before = may.run_legal in
+    let at = may.on_block in
+    let holds = may.in_graph in
+    let lawful = may.legal in
     let a = c.args in
     let all : List Entry = entries_of run in
     let step : Step = Create a.block a.start a.bytes.now a.after.now a.undo in
@@ -48,7 +52,7 @@ returns-after-added-clause-answer g c = λ run before at holds lawful.
           (c.in_ok-lay.ensures.answer h a.block a.undo at (subst (IsNext h) alike next)))
     ] in
     record {
-      number = added.1;
+      number_is = added.1;
       on_block = subst (λ x. IsBlockOf c.if-added.state [] x) (sym here) on_block;
       in_graph = subst (λ x. IsGraphOf c.add.new.self x) (sym entries) added.0;
     }

@@ -12,8 +12,12 @@ use Rattle.patch_graph.specs.Meaning.{Represents as IsGraphOf}
 use Rattle.patch_cache.proofs.Mergers.{undoable_at, on_its_block, name_at}
 use Rattle.patch_cache.proofs.merging.join_on.Goals as goal
 
-pub returns-clause-answer : goal.returns-clause-answer
-returns-clause-answer g c = λ run before lawful at holds.
+pub returns-clause-merged : goal.returns-clause-merged
+returns-clause-merged g c = λ run may_merge.
+    let before = may_merge.run_legal in
+    let lawful = may_merge.legal in
+    let at = may_merge.on_block in
+    let holds = may_merge.in_graph in
     let a : ℕ = c.args.a in
     let b : ℕ = c.args.b in
     let all : List Entry = entries_of run in

@@ -19,10 +19,10 @@ pub loop-n-preserved : goal.loop-n-preserved
 loop-n-preserved g c =
     record {
       honesty = (
-        λ h. c.in_ok-read_block.ensures.honesty.0 (c.loop-n.invariant.honesty.0 h),
-        λ h. c.loop-n.invariant.honesty.1 (c.in_ok-read_block.ensures.honesty.1 h),
+        λ h. c.in_ok-read_block.ensures.device.honesty.0 (c.loop-n.invariant.honesty.0 h),
+        λ h. c.loop-n.invariant.honesty.1 (c.in_ok-read_block.ensures.device.honesty.1 h),
       );
-      count = search (c.in_ok-read_block.ensures.count, c.loop-n.invariant.count);
+      count = search (c.in_ok-read_block.ensures.device.count, c.loop-n.invariant.count);
       faults = search (c.in_ok-read_block.ensures.no_fault, c.loop-n.invariant.faults);
       blocks = grind (arith, common_steps, c.in_ok-push.ensures.items, c.loop-n.invariant.blocks);
       gives = λ h.

@@ -19,8 +19,10 @@ use Rattle.patch_cache.proofs.Departing.{may_depart}
 use Rattle.patch_cache.proofs.Writing.{IsStepOf, stepped, sent_here, sent_other}
 use Rattle.patch_cache.proofs.caches.Cache.begin.Goals as goal
 
-pub returns-clause-answer : goal.returns-clause-answer
-returns-clause-answer g c = λ run at why numbers.
+pub returns-clause-begun : goal.returns-clause-begun
+returns-clause-begun g c = λ run at may.
+    let why = may.0 in
+    let numbers = may.1 in
     let block : ℕ = c.args.block in
     let all : List Entry = entries_of run in
     let set : List Entry = ready all block in

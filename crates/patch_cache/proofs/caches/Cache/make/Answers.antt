@@ -17,8 +17,8 @@ returns-in_err-no-clause-refused g c =
     let same = put_back _ _ _ _ c.in_err-no.ensures.refused.0 c.index_mut-state.ensures.value in
     on_err _ (unchanged _ _ _ _ same c.in_err-no.ensures.refused.1 (ap (map step_of) c.reserve.ensures.items) ∙ c.self.view_is)
 
-pub returns-clause-answer : goal.returns-clause-answer
-returns-clause-answer g c = λ run at why.
+pub returns-clause-made : goal.returns-clause-made
+returns-clause-made g c = λ run at why.
     let a = c.args in
     let all : List Entry = entries_of run in
     let step : Step = Create a.block a.start a.bytes.now a.after.now a.undo in
@@ -33,7 +33,7 @@ returns-clause-answer g c = λ run at why.
     } in
     let seen = subst (λ (s : Contents). Represents s run) (sym c.self.view_is) at in
     let here = lent _ a.block c.block.inside.0 _ run c.block.view_is c.index_mut-state.ensures.value seen lawful.known in
-    let made = c.in_ok-no.ensures.answer run at.legal here seen.graph lawful in
+    let made = c.in_ok-no.ensures.laid run (record { run_legal = at.legal; on_block = here; in_graph = seen.graph; legal = lawful }) in
     let one = c.live_are_counted.ensures.made run a.block a.start a.bytes.now a.after.now a.undo in
     let live = seen.live in
-    (made.number, stepped _ run step a.block c.block.inside.0 _ _ _ _ c.block.view_is seen on lawful.known made.on_block made.in_graph (omega (arith, one, live)))
+    (why, made.number_is, stepped _ run step a.block c.block.inside.0 _ _ _ _ c.block.view_is seen on lawful.known made.on_block made.in_graph (omega (arith, one, live)))

@@ -14,8 +14,10 @@ returns-in_err-name-clause-refused g c =
     let same = put_back _ _ _ _ c.in_err-name.ensures.refused.0 c.index_mut-state.ensures.value in
     on_err _ (unchanged _ _ _ _ same c.in_err-name.ensures.refused.1 (ap (map step_of) c.reserve.ensures.items) ∙ c.self.view_is)
 
-pub returns-clause-answer : goal.returns-clause-answer
-returns-clause-answer g c = λ run at lawful of_a.
+pub returns-clause-merged : goal.returns-clause-merged
+returns-clause-merged g c = λ run at may.
+    let lawful = may.0 in
+    let of_a = may.1 in
     let a : ℕ = c.args.a in
     let b : ℕ = c.args.b in
     let all : List Entry = entries_of run in
@@ -32,5 +34,5 @@ returns-clause-answer g c = λ run at lawful of_a.
     let place : c.block.inside.0 ≡ block = c.block.view_is ∙ of_a in
     let known : block < length run.first = let inside = c.requires.known in let many = at.count in omega (arith, inside, many, of_a) in
     let here = lent _ block c.block.inside.0 _ run place c.index_mut-state.ensures.value seen known in
-    let made = c.in_ok-name.ensures.answer run at.legal lawful here seen.graph in
-    (made.name_is, stepped _ run step block c.block.inside.0 _ _ _ _ place seen on known made.on_block made.in_graph (seen.live ∙ sym (c.live_are_counted.ensures.merged run a b)))
+    let made = c.in_ok-name.ensures.merged run (record { run_legal = at.legal; legal = lawful; on_block = here; in_graph = seen.graph }) in
+    (lawful, made.name_is, stepped _ run step block c.block.inside.0 _ _ _ _ place seen on known made.on_block made.in_graph (seen.live ∙ sym (c.live_are_counted.ensures.merged run a b)))

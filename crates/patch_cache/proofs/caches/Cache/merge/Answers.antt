@@ -33,5 +33,4 @@ returns-clause-merged g c = λ run at.
     let here = c.in_ok-block.ensures.answer run at in
     let lawful : IsLegalMerge all c.args.a c.args.b = (c.near_classes_merge.ensures.legal all c.args.a c.args.b).0 (here.0, c.in_default.ensures.answer run at here.0) in
     let still = subst (λ (s : Contents). Represents s run) (sym c.in_default.ensures.same) at in
-    let made = c.in_ok-make_one.ensures.answer run still lawful here.1 in
-    (lawful, made.0, made.1)
+    c.in_ok-make_one.ensures.merged run still (lawful, here.1)

@@ -2,7 +2,7 @@ use Rattle.std.proofs.Common.{◌≡◌, ◌∙◌, ◌<◌, ◌++◌, ◌∷◌
 use Rattle.std.proofs.lemmas.List.{length-append, map-append, append-nil}
 use Rattle.patch_model.specs.Execution.{Execution}
 use Rattle.patch_cache.specs.Asks.{ask_of, answer_of, after_all, step_added, steps_added}
-use Rattle.patch_cache.specs.Running.{CountsFaults, CountFaults, IsCrashSafe, HaveWritten}
+use Rattle.patch_cache.specs.Running.{RunsOn, CountsFaults, CountFaults, IsCrashSafe, HaveWritten}
 use Rattle.patch_cache.proofs.Asking.{all_first, one_more_counted}
 use Rattle.patch_cache.proofs.Crashing.{unmoved, joined_ask}
 use Rattle.patch_cache.proofs.Runs.{begun, stepped, stepped_added, stepped_written, after_begun}
@@ -15,14 +15,12 @@ loop-ask-init g c =
     let none : c.new-answers.result.items ≡ [] = c.new-answers.ensures.items in
     record {
       many = ap length none;
-      honesty = (λ h. h, λ h. h);
-      count = refl;
-      faults = omega arith;
-      so_far = λ run r count. rw none (begun run asks _ _ r);
-      fault = λ run r count. rw none refl;
+      device = record { honesty = (λ h. h, λ h. h); count = refl; faults = omega arith };
+      so_far = λ run on. rw none (begun run asks _ _ on.runs);
+      fault = λ run on. rw none refl;
       trace = rw none (sym (append-nil c.args.self.now.trace ∙ refl));
-      written = λ run r count honest. rw none refl;
-      crash = λ run r count honest left.
+      written = λ run on honest. rw none refl;
+      crash = λ run on honest left.
           rw none (subst (λ now. IsCrashSafe run now (device.had c.args.device.now) (device.had c.args.device.now) (device.contents c.args.device.now)) (sym (after_begun run asks)) (unmoved run _ _ left));
     }
 
@@ -42,49 +40,49 @@ loop-ask-preserved g c =
     let within : length answers < length asks = omega (arith, at, c.loop-ask-test.true) in
     let item = ap (λ n. get_or asks n c.ask-item.result) at ∙ sym c.ask-item.is in
     let so_far : Execution → Execution = λ run. after_all run (map ask_of asks) (map answer_of answers) in
-    let fits : (run : Execution) → device.block_count old ≡ length run.first → device.block_count now ≡ length (so_far run).first = λ run count.
-    before.count ∙ count ∙ ap length (sym (all_first run (map ask_of asks) (map answer_of answers))) in
+    let served = λ (run : Execution) (on : RunsOn device c.args.self.now c.args.flights.now old run). told.served (so_far run) (record {
+      runs = (before.so_far run on).runs;
+      blocks = before.device.count ∙ on.blocks ∙ ap length (sym (all_first run (map ask_of asks) (map answer_of answers)));
+    }) in
     record {
       many = ap length pushed ∙ length-append answers (answer ∷ []) ∙ ap (λ n. n + 1) at;
-      honesty = (λ h. told.honesty.0 (before.honesty.0 h), λ h. before.honesty.1 (told.honesty.1 h));
-      count = told.count ∙ before.count;
-      faults = let a = before.faults in let b = told.faults in omega (arith, a, b);
-      so_far = λ run r count.
-          let done = before.so_far run r count in
-          rw pushed (stepped run asks answers c.ask-item.result answer _ _ _ _ within item done (told.answer (so_far run) done.runs (fits run count))).0;
-      fault = λ run r count.
-          let done = before.so_far run r count in
-          let one : CountsFaults (answer_of answer) (device.fault_count now) (device.fault_count next) = record { kept = told.faults; met = told.fault (so_far run) done.runs (fits run count) } in
+      device = record {
+        honesty = (λ h. told.device.honesty.0 (before.device.honesty.0 h), λ h. before.device.honesty.1 (told.device.honesty.1 h));
+        count = told.device.count ∙ before.device.count;
+        faults = let a = before.device.faults in let b = told.device.faults in omega (arith, a, b);
+      };
+      so_far = λ run on.
+          rw pushed (stepped run asks answers c.ask-item.result answer _ _ _ _ within item (before.so_far run on) (served run on).answered).0;
+      fault = λ run on.
+          let one : CountsFaults (answer_of answer) (device.fault_count now) (device.fault_count next) = record { kept = told.device.faults; met = (served run on).fault } in
           subst (λ all. CountFaults all (device.fault_count old) (device.fault_count next)) (sym (ap (map answer_of) pushed ∙ map-append answer_of answers (answer ∷ [])))
-          (one_more_counted (map answer_of answers) (answer_of answer) _ _ _ (before.fault run r count) one);
+          (one_more_counted (map answer_of answers) (answer_of answer) _ _ _ (before.fault run on) one);
       trace =
           let steps = steps_added (map ask_of asks) (map answer_of answers) in
           let added = stepped_added asks answers c.ask-item.result answer within item in
           told.trace ∙ ap (λ s. s ++ step_added (ask_of c.ask-item.result) (answer_of answer)) before.trace ∙ append_assoc c.args.self.now.trace steps _
           ∙ ap (λ s. c.args.self.now.trace ++ s) (sym added ∙ sym (ap (λ xs. steps_added (map ask_of asks) (map answer_of xs)) pushed));
-      written = λ run r count honest.
-          let done = before.so_far run r count in
-          rw pushed (stepped_written run asks answers c.ask-item.result answer _ _ _ within item (before.written run r count honest)
-          (told.written (so_far run) done.runs (fits run count) (before.honesty.0 honest)));
-      crash = λ run r count honest left.
-          let done = before.so_far run r count in
-          let goes = (stepped run asks answers c.ask-item.result answer _ _ _ _ within item done (told.answer (so_far run) done.runs (fits run count))).1 in
-          let safe = before.crash run r count honest left in
-          let one = told.crash (so_far run) done.runs (fits run count) (before.honesty.0 honest) safe.left in
+      written = λ run on honest.
+          rw pushed (stepped_written run asks answers c.ask-item.result answer _ _ _ within item (before.written run on honest)
+          ((served run on).written (before.device.honesty.0 honest)));
+      crash = λ run on honest left.
+          let goes = (stepped run asks answers c.ask-item.result answer _ _ _ _ within item (before.so_far run on) (served run on).answered).1 in
+          let safe = before.crash run on honest left in
+          let one = (served run on).crash (before.device.honesty.0 honest) safe.left in
           rw pushed (subst (λ last. IsCrashSafe run last (device.had old) (device.had next) (device.contents next)) (sym goes)
           (joined_ask c.trails_join.ensures run (so_far run) (ask_of c.ask-item.result) (answer_of answer) _ _ _ _ _ safe one));
     }
 
 pub returns-in-Err-clause-fault : goal.returns-in-Err-clause-fault
-returns-in-Err-clause-fault g c run r count =
+returns-in-Err-clause-fault g c run on =
     let device = g.D.Device in
-    subst (λ xs. CountFaults (map answer_of xs) (device.fault_count c.args.device.now) (device.fault_count c.loop-ask.device)) (sym c.reserve.ensures.items) (c.loop-ask.invariant.fault run r count)
+    subst (λ xs. CountFaults (map answer_of xs) (device.fault_count c.args.device.now) (device.fault_count c.loop-ask.device)) (sym c.reserve.ensures.items) (c.loop-ask.invariant.fault run on)
 
 pub returns-in-Err-clause-crash : goal.returns-in-Err-clause-crash
-returns-in-Err-clause-crash g c run r count honest left = rw c.reserve.ensures.items (c.loop-ask.invariant.crash run r count honest left)
+returns-in-Err-clause-crash g c run on honest left = rw c.reserve.ensures.items (c.loop-ask.invariant.crash run on honest left)
 
 pub returns-in-Err-clause-written : goal.returns-in-Err-clause-written
-returns-in-Err-clause-written g c run r count honest =
+returns-in-Err-clause-written g c run on honest =
     let device = g.D.Device in
     subst (λ answers. HaveWritten run (map ask_of c.args.asks.now) (map answer_of answers) (device.contents c.args.device.now) (device.contents c.loop-ask.device)) (sym c.reserve.ensures.items)
-    (c.loop-ask.invariant.written run r count honest)
+    (c.loop-ask.invariant.written run on honest)

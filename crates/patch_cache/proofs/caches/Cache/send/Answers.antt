@@ -23,4 +23,4 @@ returns-in_ok-begin-in-None-clause-sent g c = λ run at.
     let seen : Represents (with_graph c.self.inside.graph) run = subst (λ (v : Contents). Represents v run) (sym same) at in
     let now : Represents (with_graph c.ready.new.self) run = subst (λ (graph : Graph). Represents (with_graph graph) run) (sym c.in_ok-numbers-in-None.ensures.same) seen in
     let numbers : c.in_ok-numbers-in-None.numbers.items ≡ numbers_of (ready (entries_of run) c.args.block) = c.in_ok-numbers-in-None.ensures.answer (entries_of run) seen.graph in
-    let done = c.in_ok-begin-in-None.ensures.answer run now none numbers in (none, done.0, done.1)
+    (none, c.in_ok-begin-in-None.ensures.begun run now (none, numbers))

@@ -1,0 +1,39 @@
+-- Asks that are served.
+use Rattle.std.proofs.Common.{◌≡◌, ℕ, false, List, refl, ap, ◌∙◌, sym}
+use Rattle.patch_model.specs.declared.refusals.RefusalKind.TheVariants as kind
+use Rattle.patch_model.specs.Execution.{Execution}
+use Rattle.patch_model.specs.Legal.{IsLegal}
+use Rattle.patch_model.specs.Refusing.{Refusal as Cause, bare}
+use Rattle.patch_device.specs.declared.devices.Device.{Ghosts}
+use Rattle.patch_cache.specs.Contents.{Contents}
+use Rattle.patch_cache.specs.Asks.{Ask, Create, Merge, Send, Complete, View, Answer, Refused, is_complete}
+use Rattle.patch_cache.specs.Running.{IsAnswered, IsServed, HasWritten}
+use Rattle.patch_cache.specs.declared.flights.Flights.{Flights}
+use Rattle.patch_cache.proofs.Crashing.{DisksStay, unwritten}
+
+-- nothing but a completion writes
+unchanged : (run : Execution) (ask : Ask) (answer : Answer) (disk : List (List ℕ)) → is_complete ask ≡ false → HasWritten run ask answer disk disk
+unchanged run (Create block start bytes named undo) answer disk other = refl
+unchanged run (Merge a b) answer disk other = refl
+unchanged run (Send block) answer disk other = refl
+unchanged run (Complete block) answer disk other = absurd (cc)
+unchanged run (View block moves start len) answer disk other = refl
+
+-- an ask that is answered with no use of the device
+pub served_aside : {A D : Type 0} → DisksStay → (g : Ghosts D) (run : Execution) (ask : Ask) (answer : Answer) (cache : Contents) (flights : Flights A) (device : D) → is_complete ask ≡ false
+    → IsLegal run → (answer ≡ Refused (bare kind.Fault) → ⊥) → IsAnswered run ask answer cache flights → IsServed g run ask answer cache flights device device
+served_aside stay g run ask answer cache flights device other legal faultless answered = record {
+  answered = answered;
+  fault = λ is. absurd (faultless is);
+  written = λ honest. unchanged run ask answer (g.contents device) other;
+  crash = λ honest left. unwritten stay run ask answer (g.had device) (g.contents device) other legal answered.runs.cache_is.legal left;
+}
+
+kinds : kind.Fault ≡ kind.Stranger → ⊥
+kinds e = absurd (cc)
+
+-- a stranger is no fault
+pub stranger_faultless : (cause : Cause) → cause ≡ bare kind.Stranger → Refused cause ≡ Refused (bare kind.Fault) → ⊥
+stranger_faultless cause is e =
+    let same : cause ≡ bare kind.Fault = cc in
+    kinds (ap (λ (c : Cause). c.kind) (sym same ∙ is))
