@@ -21,7 +21,7 @@ use Rattle.patch_cache.specs.Flights.{IsFlightOf, AreFlightsOf}
 use Rattle.patch_cache.specs.Asks.{Send, Complete, Sent, Landed, Refused, IsAnswer}
 use Rattle.patch_device.specs.Device.{IsOldOrNew}
 use Rattle.patch_cache.specs.Running.{Runs, IsAnswered, HasWritten, held_by}
-use Rattle.patch_cache.specs.declared.writes.Flight.{Flight}
+use Rattle.patch_cache.specs.declared.flights.Flight.{Flight}
 use Rattle.patch_cache.specs.declared.flights.Flights.{Flights}
 use Rattle.patch_cache.proofs.Holding.{stands_at, get_in, held_flies, flying_known}
 
@@ -60,9 +60,9 @@ found holds known run held block at flight legal are place it =
 
 -- it is no stranger
 pub no_stranger : {A : Type 0} (run : Execution) (held : List (Flight A)) (block at landed number : ℕ) (flight : Flight A) → Stands run held block at flight → landed ≡ flight.block
-    → number ≡ flight.number → (Contains (state_of run).flights (landed, number) → ⊥) → ⊥
+    → number ≡ flight.sequence → (Contains (state_of run).flights (landed, number) → ⊥) → ⊥
 no_stranger run held block at landed number flight s same_block same_number stranger =
-    let pair : ◌≡◌ {A = ℕ × ℕ} (flight.block, flight.number) (landed, number) = cc in
+    let pair : ◌≡◌ {A = ℕ × ℕ} (flight.block, flight.sequence) (landed, number) = cc in
     stranger (subst (λ (p : ℕ × ℕ). Contains (state_of run).flights p) pair s.is.known)
 
 -- what a completion answers

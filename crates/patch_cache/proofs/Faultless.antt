@@ -2,6 +2,7 @@
 use Rattle.std.proofs.Common.{◌≡◌, ◌≢◌, ℕ, ◌⊎◌, ◌∙◌, inl, inr, Bool, true, false, Option, Some, None, Result, Ok, Err, List, [], ◌∷◌, sym, ap}
 use Rattle.std.specs.Prelude.{find, slice_get, cond, ◌==◌, ◌&&◌, nat_le, nat_lt, length, ◌+◌, if◌then◌else◌}
 use Rattle.patch_model.specs.declared.refusals.RefusalKind.TheVariants as kind
+use Rattle.patch_model.specs.declared.blocks.TheConstants.{BLOCK}
 use Rattle.patch_model.specs.Entry.{Entry, is_live, is_flight, is_durable, is_among}
 use Rattle.patch_model.specs.Execution.{Execution}
 use Rattle.patch_model.specs.State.{entries_of}
@@ -79,7 +80,7 @@ unless_fault None done p q e = q e
 unless_fault (Some cause) done p q e = p (let same : bare kind.Fault ≡ cause = cc in sym (ap (λ (c : Cause). c.kind) same))
 
 shown_other : (blocks block start len : ℕ) → IsOther (why_not_shown blocks block start len)
-shown_other blocks block start len = if_either (nat_le blocks block) _ _ (λ e. absurd (cc)) (if_either (nat_lt 4096 (start + len)) _ _ (λ e. absurd (cc)) tt)
+shown_other blocks block start len = if_either (nat_le blocks block) _ _ (λ e. absurd (cc)) (if_either (nat_lt BLOCK (start + len)) _ _ (λ e. absurd (cc)) tt)
 
 kinds : kind.Fault ≡ kind.OutOfMemory → ⊥
 kinds e = absurd (cc)

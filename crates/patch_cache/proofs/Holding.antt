@@ -20,7 +20,7 @@ use Rattle.patch_model.specs.History.{history_of, image}
 use Rattle.patch_model.specs.Legal.{IsLegal}
 use Rattle.patch_model.specs.Member.{In, In-from_Contains, Contains-from_In, In-filter, filter-In, list_any-from, list_any-at}
 use Rattle.patch_cache.specs.Flights.{IsSent, IsFlightOf, AreFlightsOf}
-use Rattle.patch_cache.specs.declared.writes.Flight.{Flight}
+use Rattle.patch_cache.specs.declared.flights.Flight.{Flight}
 
 -- the laws of flights, as they are handed on
 abbrev pub StatesExtend : Type 0
@@ -48,7 +48,7 @@ AreSent = (run : Execution) (block : ℕ) → IsLegal run → IsFalse (has_fligh
 
 -- a flight, where all of it stays
 flight_alike : {A : Type 0} (run next : Execution) (flight : Flight A)
-    → (Contains (state_of run).flights (flight.block, flight.number) → Contains (state_of next).flights (flight.block, flight.number))
+    → (Contains (state_of run).flights (flight.block, flight.sequence) → Contains (state_of next).flights (flight.block, flight.sequence))
     → numbers_of (flying_of (entries_of next) flight.block) ≡ numbers_of (flying_of (entries_of run) flight.block)
     → image (history_of next flight.block) ≡ image (history_of run flight.block) → IsFlightOf run flight → IsFlightOf next flight
 flight_alike run next flight known numbers images is =
@@ -59,7 +59,7 @@ all_alike : {A : Type 0} (run next : Execution) (held : List (Flight A)) → (st
     → ((block : ℕ) → numbers_of (flying_of (entries_of next) block) ≡ numbers_of (flying_of (entries_of run) block))
     → ((block : ℕ) → image (history_of next block) ≡ image (history_of run block)) → AreFlightsOf run held → AreFlightsOf next held
 all_alike run next held same numbers images are = record {
-  each = λ f h. flight_alike run next f (subst (λ (fs : List (ℕ × ℕ)). Contains fs (f.block, f.number)) (sym same)) (numbers f.block) (images f.block) (are.each f h);
+  each = λ f h. flight_alike run next f (subst (λ (fs : List (ℕ × ℕ)). Contains fs (f.block, f.sequence)) (sym same)) (numbers f.block) (images f.block) (are.each f h);
   all = λ b t. are.all b (subst (λ (fs : List (ℕ × ℕ)). IsTrue (list_any (λ f. f.0 == b) fs)) same t);
   once = are.once;
 }
@@ -176,7 +176,7 @@ has_pair fs block number h = list_any-from (λ (f : ℕ × ℕ). f.0 == block) f
 -- the block of a held flight has one
 pub held_flies : {A : Type 0} (run : Execution) (held : List (Flight A)) (flight : Flight A) → AreFlightsOf run held → In held flight → IsTrue (has_flight (state_of run) flight.block)
 held_flies run held flight are h =
-    has_pair (state_of run).flights flight.block flight.number (In-from_Contains (state_of run).flights (flight.block, flight.number) (are.each flight h).known)
+    has_pair (state_of run).flights flight.block flight.sequence (In-from_Contains (state_of run).flights (flight.block, flight.sequence) (are.each flight h).known)
 
 -- a write begins, and its flight is held
 pub held_send : {A : Type 0} → StatesExtend → ImagesStay → AreSent → StaySent → (run : Execution) (block : ℕ) (held : List (Flight A)) (flight : Flight A) → IsLegal run
@@ -189,16 +189,16 @@ held_send {A = A} extend stay sent elsewhere run block held flight legal none is
     let apart : (f : Flight A) → In held f → f.block ≢ block =
     λ f h e. let yes : has_flight (state_of run) block ≡ true = subst (λ b. has_flight (state_of run) b ≡ true) e (held_flies run held f are h) in absurd (cc) in
     let new : IsFlightOf next flight = record {
-      known = subst (λ (fs : List (ℕ × ℕ)). Contains fs (flight.block, flight.number)) (sym now)
-          (Contains-from_In (before ++ pair ∷ []) (flight.block, flight.number) (new_in before pair (flight.block, flight.number) (let b = is.block_is in let n = is.number_is in cc)));
+      known = subst (λ (fs : List (ℕ × ℕ)). Contains fs (flight.block, flight.sequence)) (sym now)
+          (Contains-from_In (before ++ pair ∷ []) (flight.block, flight.sequence) (new_in before pair (flight.block, flight.sequence) (let b = is.block_is in let n = is.sequence_is in cc)));
       numbers_are = is.numbers_are ∙ sym (sent run block legal none) ∙ ap (λ b. numbers_of (flying_of (entries_of next) b)) (sym is.block_is);
       image_is = is.image_is ∙ ap (λ b. image (history_of next b)) (sym is.block_is);
     } in record {
       each = λ f h. elim (pushed held flight f h) [
         | inl i ↦
             flight_alike run next f
-            (λ k. subst (λ (fs : List (ℕ × ℕ)). Contains fs (f.block, f.number)) (sym now)
-            (Contains-from_In (before ++ pair ∷ []) (f.block, f.number) (old_in before pair (f.block, f.number) (In-from_Contains before (f.block, f.number) k))))
+            (λ k. subst (λ (fs : List (ℕ × ℕ)). Contains fs (f.block, f.sequence)) (sym now)
+            (Contains-from_In (before ++ pair ∷ []) (f.block, f.sequence) (old_in before pair (f.block, f.sequence) (In-from_Contains before (f.block, f.sequence) k))))
             (elsewhere run block f.block (λ e. apart f i (sym e))) (stay run (Send block) f.block (λ e. let same : block ≡ f.block = cc in apart f i (sym same))) (are.each f i)
         | inr e ↦ subst (IsFlightOf next) e new
       ];
@@ -241,9 +241,9 @@ held_complete {A = A} extend stay elsewhere run block held at flight left stands
     λ k f p other.
     let of_other : f.block ≢ block = apart k f p other in
     flight_alike run next f
-    (λ c. subst (λ (fs : List (ℕ × ℕ)). Contains fs (f.block, f.number)) (sym now)
-    (Contains-from_In (filter others before) (f.block, f.number)
-    (In-filter others before (f.block, f.number) (In-from_Contains before (f.block, f.number) c) (other_number f.block block of_other))))
+    (λ c. subst (λ (fs : List (ℕ × ℕ)). Contains fs (f.block, f.sequence)) (sym now)
+    (Contains-from_In (filter others before) (f.block, f.sequence)
+    (In-filter others before (f.block, f.sequence) (In-from_Contains before (f.block, f.sequence) c) (other_number f.block block of_other))))
     (elsewhere run block f.block (λ e. of_other (sym e))) (stay run (Complete block) f.block (λ e. absurd (cc))) (are.each f (get_in held f k p)) in record {
       each = λ f h.
           let r = in_get (swap_remove held at left) f h in

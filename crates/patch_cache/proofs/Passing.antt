@@ -23,7 +23,7 @@ use Rattle.patch_cache.specs.Running.{Runs, held_by}
 use Rattle.patch_cache.specs.Flights.{AreFlightsOf}
 use Rattle.patch_cache.specs.Waves.{is_send, steps_since, classes_in_memory, live_classes, HasGoneOn, HasKept, begun, IsPass, IsFlushed, IsSentOr}
 use Rattle.patch_cache.specs.declared.flights.Flights.{Flights}
-use Rattle.patch_cache.specs.declared.writes.Flight.{Flight as Held}
+use Rattle.patch_cache.specs.declared.flights.Flight.{Flight as Held}
 use Rattle.patch_cache.proofs.Crashing.{DisksStay, TrailsJoin, unwritten_step}
 use Rattle.patch_cache.proofs.Holding.{StatesExtend, ImagesStay}
 use Rattle.patch_cache.proofs.Counting.{count_le, count-append}

@@ -6,7 +6,7 @@ use Rattle.patch_model.specs.Execution.{Execution}
 use Rattle.patch_cache.specs.Asks.{Ask, Answer, Create, Merge, View, is_refused, step_for, extended_by, after}
 use Rattle.patch_cache.specs.Flights.{AreFlightsOf}
 use Rattle.patch_cache.specs.declared.asks.Move.{Move}
-use Rattle.patch_cache.specs.declared.writes.Flight.{Flight}
+use Rattle.patch_cache.specs.declared.flights.Flight.{Flight}
 use Rattle.patch_cache.proofs.Holding.{StatesExtend, StayMade, StayMerged, ImagesStay, held_create, held_merge}
 
 -- what holds of the execution, and with the ask's step, holds after the ask

@@ -17,7 +17,7 @@ use Rattle.patch_cache.specs.Meaning.{IsWriteOf}
 pub has_one : (run : Execution) (block : ℕ) (w : Option Write) → IsWriteOf run block w → has_flight (state_of run) block ≡ is_some w
 has_one run block None is = is
 has_one run block (Some write) is =
-    list_any-from (λ f. f.0 == block) (state_of run).flights (block, write.number) (In-from_Contains _ _ is.0) (eq-eqb block block refl)
+    list_any-from (λ f. f.0 == block) (state_of run).flights (block, write.sequence) (In-from_Contains _ _ is.0) (eq-eqb block block refl)
 
 pub already : (run : Execution) (block : ℕ) → block < length run.first → has_flight (state_of run) block ≡ true
     → why_not_sent run block ≡ Some (bare kind.AlreadyInFlight)

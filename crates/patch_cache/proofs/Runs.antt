@@ -50,9 +50,6 @@ stepped_written run asks answers ask answer old between new within at so_far one
     subst (λ all. HaveWritten run (map ask_of asks) all old new) (sym is) (one_more_written run (map ask_of asks) told (ask_of ask) (answer_of answer) old between new
     (omega (arith, within, long, asked)) here so_far one)
 
-pub after_begun : (run : Execution) (asks : List Ask) → after_all run asks [] ≡ run
-after_begun = after_none
-
 -- and of the trace
 pub stepped_added : {A : Type 0} (asks : List (CodeAsk A)) (answers : List (CodeAnswer A)) (ask : CodeAsk A) (answer : CodeAnswer A)
     → length answers < length asks → get_or asks (length answers) ask ≡ ask

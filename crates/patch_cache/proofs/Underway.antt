@@ -20,12 +20,12 @@ stays (y ∷ ys) zero x at = let same : y ≡ x = cc in ap (λ z. z ∷ ys) (sym
 stays (y ∷ ys) (suc i) x at = ap (λ zs. y ∷ zs) (stays ys i x at)
 
 -- a write of another number stays
-pub of_other : (ws : List (Option Write)) (i block number : ℕ) (begun : Write) → i ≡ block → slice_get ws i ≡ Some (Some begun) → (begun.number ≡ number → ⊥)
+pub of_other : (ws : List (Option Write)) (i block number : ℕ) (begun : Write) → i ≡ block → slice_get ws i ≡ Some (Some begun) → (begun.sequence ≡ number → ⊥)
     → IsWithdrawn ws block number None (set ws i (Some begun))
 of_other ws i block number begun place at other = (
   stays ws i (Some begun) at,
   λ write there is. let here : slice_get ws block ≡ Some (Some begun) = subst (λ k. slice_get ws k ≡ Some (Some begun)) place at in
-      let same : begun ≡ write = cc in other (ap (λ w. w.number) same ∙ is),
+      let same : begun ≡ write = cc in other (ap (λ w. w.sequence) same ∙ is),
 )
 
 pub of_none : (ws : List (Option Write)) (i block number : ℕ) → i ≡ block → slice_get ws i ≡ Some None → IsWithdrawn ws block number None (set ws i None)
@@ -49,7 +49,7 @@ one_less (w ∷ ws) (suc i) x at = sym (counted w (set ws i None) ws (sym (one_l
 
 -- a flight of the block is that of its write
 pub no_stranger : (run : Execution) (ws : List (Option Write)) (block number : ℕ) → ((f g : ℕ × ℕ) → Contains (state_of run).flights f → Contains (state_of run).flights g → f.0 ≡ g.0 → f ≡ g)
-    → block < length ws → IsWriteOf run block (get_or ws block None) → ((write : Write) → slice_get ws block ≡ Some (Some write) → write.number ≡ number → ⊥)
+    → block < length ws → IsWriteOf run block (get_or ws block None) → ((write : Write) → slice_get ws block ≡ Some (Some write) → write.sequence ≡ number → ⊥)
     → Contains (state_of run).flights (block, number) → ⊥
 no_stranger run ws block number single within is none flies = by (get_or ws block None) refl
   where
@@ -59,7 +59,7 @@ no_stranger run ws block number single within is none flies = by (get_or ws bloc
         both_ways _ still (list_any-from (λ f. f.0 == block) (state_of run).flights (block, number) (In-from_Contains (state_of run).flights (block, number) flies) (eq-eqb block block refl))
     by (Some write) same =
         let here : IsWriteOf run block (Some write) = subst (IsWriteOf run block) same is in
-        let one : (block, write.number) ≡ (block, number) = single (block, write.number) (block, number) here.0 flies refl in
+        let one : (block, write.sequence) ≡ (block, number) = single (block, write.sequence) (block, number) here.0 flies refl in
         none write (slice_get-get_or ws block None within ∙ ap (λ w. Some w) same) (ap (λ f. f.1) one)
 
 -- a flight is of a block that there is

@@ -26,8 +26,8 @@ use Rattle.patch_cache.proofs.Crashing.{TrailsJoin, ImagesLand, WritesEnd, joine
 use Rattle.patch_cache.proofs.Holding.{StatesExtend, ImagesStay, held_flies, flying_known}
 use Rattle.patch_cache.proofs.Answering.{Stands}
 use Rattle.patch_cache.specs.Flights.{AreFlightsOf}
-use Rattle.patch_cache.specs.declared.writes.Flight.{Flight}
-use Rattle.patch_cache.specs.declared.writes.Landed.{Landed}
+use Rattle.patch_cache.specs.declared.flights.Flight.{Flight}
+use Rattle.patch_cache.specs.declared.flights.Landed.{Landed}
 use Rattle.patch_model.specs.Legal.{IsLegal}
 use Rattle.patch_cache.proofs.Counting.{count-append, count-map_le, count-map_lt}
 

@@ -65,7 +65,7 @@ stepped run step c i block b w g sends live trace place at long is new write gra
 -- a write that begins is one of its block, and those of other blocks are as they were
 pub sent_here : (run : Execution) (block number : ℕ) (numbers : List ℕ) → state_of (extended run (Send block)) ≡ after_step (state_of run) (Send block)
     → number ≡ (state_of run).sends → numbers ≡ numbers_of (flying_of (entries_of (extended run (Send block))) block)
-    → IsWriteOf (extended run (Send block)) block (Some (record { number = number; numbers = numbers }))
+    → IsWriteOf (extended run (Send block)) block (Some (record { sequence = number; numbers = numbers }))
 sent_here run block number numbers state is same = (
   subst (λ n. Contains (state_of (extended run (Send block))).flights (block, n)) (sym is)
       (subst (λ fs. Contains fs (block, (state_of run).sends)) (sym (ap (λ st. st.flights) state))
@@ -80,8 +80,8 @@ sent_other run block other None state differ same is =
     let apart : (block == other) ≡ false = ne_eqb block other (λ e. differ (sym e)) in
     ap (λ st. has_flight st other) state ∙ list_any-append (λ f. f.0 == other) (state_of run).flights ((block, (state_of run).sends) ∷ []) ∙ rw (is, apart) refl
 sent_other run block other (Some write) state differ same is = (
-  subst (λ fs. Contains fs (other, write.number)) (sym (ap (λ st. st.flights) state))
-      (Contains-append_left (state_of run).flights ((block, (state_of run).sends) ∷ []) (other, write.number) is.0),
+  subst (λ fs. Contains fs (other, write.sequence)) (sym (ap (λ st. st.flights) state))
+      (Contains-append_left (state_of run).flights ((block, (state_of run).sends) ∷ []) (other, write.sequence) is.0),
   is.1 ∙ sym same,
 )
 
@@ -108,8 +108,8 @@ landed_other run block other None state differ same is =
     ap (λ st. has_flight st other) state ∙ still_none other (λ f. not (f.0 == block)) (state_of run).flights is
 landed_other run block other (Some write) state differ same is =
     let apart : (other == block) ≡ false = ne_eqb other block differ in
-    let kept : In (filter (λ f. not (f.0 == block)) (state_of run).flights) (other, write.number) =
-    In-filter (λ f. not (f.0 == block)) (state_of run).flights (other, write.number) (In-from_Contains _ _ is.0) (ap not apart) in (
-      subst (λ fs. Contains fs (other, write.number)) (sym (ap (λ st. st.flights) state)) (Contains-from_In _ _ kept),
+    let kept : In (filter (λ f. not (f.0 == block)) (state_of run).flights) (other, write.sequence) =
+    In-filter (λ f. not (f.0 == block)) (state_of run).flights (other, write.sequence) (In-from_Contains _ _ is.0) (ap not apart) in (
+      subst (λ fs. Contains fs (other, write.sequence)) (sym (ap (λ st. st.flights) state)) (Contains-from_In _ _ kept),
       is.1 ∙ sym same,
     )

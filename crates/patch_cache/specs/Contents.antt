@@ -4,9 +4,9 @@ use Rattle.patch_model.specs.Step.{Step}
 use Rattle.patch_view.specs.State.{Block}
 use Rattle.patch_graph.specs.State.{Graph}
 
--- a write under way: its number, and those of the patches in it
+-- a write under way: how many began before it, and the numbers of the patches in it
 pub record Write : Type 0 where
-  pub number : ℕ
+  pub sequence : ℕ
   pub numbers : List ℕ
 
 -- each block with its records and its write under way, the graph of the patches, how many writes began, how many patches

@@ -9,8 +9,8 @@ use Rattle.patch_model.specs.Refusing.{why_not_sent}
 use Rattle.patch_model.specs.Member.{In}
 use Rattle.patch_cache.specs.Contents.{Contents, Write}
 use Rattle.patch_cache.specs.Meaning.{Represents}
-use Rattle.patch_cache.specs.declared.writes.Flight.{Flight}
-use Rattle.patch_cache.specs.declared.writes.Landed.{Landed}
+use Rattle.patch_cache.specs.declared.flights.Flight.{Flight}
+use Rattle.patch_cache.specs.declared.flights.Landed.{Landed}
 use Rattle.patch_cache.specs.declared.writes.Done.{Done}
 
 -- the least block of which a write can begin, if there is one
@@ -21,7 +21,7 @@ IsLeastReady run least =
 -- the write of the block that begins next: how many began before it, all that is ready, and the block's image with it
 pub record IsSent {A : Type 0} (run : Execution) (block : ℕ) (flight : Flight A) : Type 0 where
   pub block_is : flight.block ≡ block
-  pub number_is : flight.number ≡ (state_of run).sends
+  pub sequence_is : flight.sequence ≡ (state_of run).sends
   pub numbers_are : flight.numbers ≡ numbers_of (ready (entries_of run) block)
   pub image_is : flight.image ≡ image (history_of (extended run (Send block)) block)
 
@@ -35,7 +35,7 @@ IsBegun run block flight c = IsSent run block flight × Represents c (extended r
 
 -- a write that was begun and not completed, with what is in flight of its block, and the block's image
 pub record IsFlightOf {A : Type 0} (run : Execution) (flight : Flight A) : Type 0 where
-  pub known : Contains (state_of run).flights (flight.block, flight.number)
+  pub known : Contains (state_of run).flights (flight.block, flight.sequence)
   pub numbers_are : flight.numbers ≡ numbers_of (flying_of (entries_of run) flight.block)
   pub image_is : flight.image ≡ image (history_of run flight.block)
 
@@ -48,12 +48,12 @@ pub record AreFlightsOf {A : Type 0} (run : Execution) (held : List (Flight A)) 
 -- the block's write is ended: it was under way, and what was in flight of the block is durable in the cache
 abbrev pub IsEnded : {A : Type 0} → Execution → Landed → Done A → Contents → Type 0
 IsEnded run landed done c =
-    Contains (state_of run).flights (landed.block, landed.number)
+    Contains (state_of run).flights (landed.block, landed.sequence)
     × (done.block ≡ landed.block)
     × (done.numbers ≡ numbers_of (flying_of (entries_of run) landed.block))
     × Represents c (extended run (Complete landed.block))
 
 -- the block's write, if it has this number, was taken out of the writes
 abbrev pub IsWithdrawn : List (Option Write) → ℕ → ℕ → Option Write → List (Option Write) → Type 0
-IsWithdrawn old block number None new = (new ≡ old) × ((write : Write) → slice_get old block ≡ Some (Some write) → write.number ≡ number → ⊥)
-IsWithdrawn old block number (Some write) new = (slice_get old block ≡ Some (Some write)) × (write.number ≡ number) × (new ≡ slice_set old block None)
+IsWithdrawn old block sequence None new = (new ≡ old) × ((write : Write) → slice_get old block ≡ Some (Some write) → write.sequence ≡ sequence → ⊥)
+IsWithdrawn old block sequence (Some write) new = (slice_get old block ≡ Some (Some write)) × (write.sequence ≡ sequence) × (new ≡ slice_set old block None)

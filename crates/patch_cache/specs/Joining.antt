@@ -10,7 +10,7 @@ use Rattle.patch_cache.specs.Flights.{AreFlightsOf}
 use Rattle.patch_cache.specs.Running.{Runs, IsCrashSafe}
 use Rattle.patch_cache.specs.Waves.{steps_since, Continues, HasGoneOn, HasKept}
 use Rattle.patch_cache.specs.declared.flights.Flights.{Flights}
-use Rattle.patch_cache.specs.declared.writes.Flight.{Flight}
+use Rattle.patch_cache.specs.declared.flights.Flight.{Flight}
 
 -- a device that nothing was done to is left as a crash may leave it
 abbrev pub UnmovedIsSafe : Type 0

@@ -12,7 +12,7 @@ use Rattle.patch_cache.specs.Contents.{Contents, Write, block_at, write_at}
 -- the block's write under way, or that it has none
 abbrev pub IsWriteOf : Execution → ℕ → Option Write → Type 0
 IsWriteOf run block None = IsFalse (has_flight (state_of run) block)
-IsWriteOf run block (Some write) = Contains (state_of run).flights (block, write.number) × (write.numbers ≡ numbers_of (flying_of (entries_of run) block))
+IsWriteOf run block (Some write) = Contains (state_of run).flights (block, write.sequence) × (write.numbers ≡ numbers_of (flying_of (entries_of run) block))
 
 -- The cache holds what a legal execution left: each block with its patches but for the classes that are taken back of it,
 -- the graph of its live patches, their count, the count of sends, and each write under way.

@@ -13,7 +13,7 @@ use Rattle.patch_cache.specs.Meaning.{Represents}
 use Rattle.patch_cache.specs.Flights.{AreFlightsOf}
 use Rattle.patch_cache.specs.Asks.{Ask, Answer, Create, Merge, Send, Complete, View, Refused, IsAnswer, IsGivenUp, AreAnswers, answer_of, is_refused, after, after_all}
 use Rattle.patch_cache.specs.declared.asks.Answer.{Answer as CodeAnswer}
-use Rattle.patch_cache.specs.declared.writes.Flight.{Flight}
+use Rattle.patch_cache.specs.declared.flights.Flight.{Flight}
 use Rattle.patch_cache.specs.declared.flights.Flights.{Flights}
 
 -- the answers of a run, whether it had room for all of them or not

@@ -12,7 +12,7 @@ use Rattle.patch_device.specs.Device.{most_faults}
 use Rattle.patch_cache.specs.Contents.{Contents}
 use Rattle.patch_cache.specs.Running.{Runs, IsCrashSafe, held_by}
 use Rattle.patch_cache.specs.declared.flights.Flights.{Flights}
-use Rattle.patch_cache.specs.declared.writes.Flight.{Flight}
+use Rattle.patch_cache.specs.declared.flights.Flight.{Flight}
 use Rattle.patch_cache.specs.declared.landing.TheConstants.{TRIES}
 use Rattle.patch_cache.specs.declared.refusals.FlushRefusal.{FlushRefusal}
 use Rattle.patch_cache.specs.declared.refusals.FlushRefusal.TheVariants as flush

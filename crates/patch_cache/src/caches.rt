@@ -1,5 +1,5 @@
 //! The cache, and what is read of it.
-ghost use Rattle.std.specs.Prelude.{◌≡◌, ◌<◌, ◌≤◌, ℕ, [], None, length, replicate, map, count_by, IsTrue, IsSome, MatchOption, IfOk, OnOk, OnErr, Contains};
+ghost use Rattle.std.specs.Prelude.{◌≡◌, ◌<◌, ◌≤◌, [], None, length, replicate, map, count_by, IsTrue, IsSome, MatchOption, IfOk, OnOk, OnErr, Contains};
 ghost use Rattle.patch_model.specs.Execution.{Execution};
 ghost use Rattle.patch_model.specs.State.{entries_of, state_of};
 ghost use Rattle.patch_model.specs.Entry.{Entry, is_live, is_memory};
@@ -150,6 +150,7 @@ impl<A: Allocator + Copy> Cache<A> {
     }
 }
 
+/// The state of each block as one with no patch.
 #[tactic(auto, using(crate::proofs::Opening::one_more))]
 fn unpatched<A: Allocator + Copy>(
     alloc: A,
@@ -164,6 +165,7 @@ fn unpatched<A: Allocator + Copy>(
     Ok(states)
 }
 
+/// So many blocks with no write under way.
 fn no_writes<A: Allocator + Copy>(
     alloc: A,
     count: usize,

@@ -1,13 +1,14 @@
 //! How a write of a block ends.
 ghost use Rattle.std.specs.Prelude.{◌≡◌, ◌++◌, ◌∷◌, [], Some, None, IfOk, IfErr, OnOk, OnErr, Contains};
-ghost use Rattle.patch_model.specs.Execution.{Execution, extended};
+ghost use Rattle.patch_model.specs.Execution.{Execution};
 ghost use Rattle.patch_model.specs.Step.{Complete};
-ghost use Rattle.patch_model.specs.State.{entries_of, state_of, flying_of, numbers_of};
+ghost use Rattle.patch_model.specs.State.{state_of};
 ghost use Rattle.patch_cache.specs.Meaning.{Represents};
 ghost use Rattle.patch_cache.specs.Flights.{IsEnded, IsWithdrawn};
 
 use crate::caches::Cache;
-use crate::writes::{Done, Landed, Write};
+use crate::flights::Landed;
+use crate::writes::{Done, Write};
 use patch_model::{BlockNo, Step, laws as model_laws};
 use std::alloc::Allocator;
 
@@ -17,7 +18,7 @@ impl<A: Allocator + Copy> Cache<A> {
     pub fn complete(&mut self, landed: Landed) -> Result<Done<A>, Landed>
         ensures done { (run : Execution) → Represents self.old run → IfOk result (λ done. IsEnded run landed done self.new) }
         ensures stranger { (run : Execution) → Represents self.old run
-            → OnErr result (Contains (state_of run).flights (landed.block, landed.number) → ⊥) }
+            → OnErr result (Contains (state_of run).flights (landed.block, landed.sequence) → ⊥) }
         ensures back { IfErr result (λ back. back ≡ landed) }
         ensures trace { OnOk result (self.new.trace ≡ self.old.trace ++ Complete landed.block ∷ []) }
         ensures refused { OnErr result (self.new ≡ self.old) }
@@ -29,10 +30,10 @@ impl<A: Allocator + Copy> Cache<A> {
         model_laws::flights_are_ready();
         model_laws::flights_are_single();
         model_laws::patches_are_placed();
-        let Some(write) = withdraw(&mut self.writes, landed.block, landed.number) else {
+        let Some(write) = withdraw(&mut self.writes, landed.block, landed.sequence) else {
             return Err(landed);
         };
-        let Landed { block, number: _ } = landed;
+        let Landed { block, sequence: _ } = landed;
         let numbers = write.numbers;
         let state = &mut self.blocks[block.0 as usize];
         state.land_each();
@@ -45,18 +46,18 @@ impl<A: Allocator + Copy> Cache<A> {
     }
 }
 
-/// Takes out the block's write of this number.
+/// Takes out the block's write, if so many began before it.
 fn withdraw<A: Allocator>(
     writes: &mut Vec<Option<Write<A>>, A>,
     block: BlockNo,
-    number: u32,
+    sequence: u32,
 ) -> Option<Write<A>>
-    ensures { IsWithdrawn writes.old.items block number result writes.new.items }
+    ensures { IsWithdrawn writes.old.items block sequence result writes.new.items }
 {
     let write = writes.get_mut(block.0 as usize)?;
     match write {
         Some(begun) => {
-            if begun.number == number {
+            if begun.sequence == sequence {
                 write.take()
             } else {
                 None

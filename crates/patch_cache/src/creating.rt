@@ -1,14 +1,8 @@
 //! How a patch is made.
-ghost use Rattle.std.specs.Prelude.{◌≡◌, ◌+◌, ◌<◌, ◌≤◌, ◌++◌, ◌∷◌, ℕ, List, [], Some, None, length, nat_le, count_by, option_map, IfOk, IfErr, IfSome, IsNone, OnOk, OnErr};
+ghost use Rattle.std.specs.Prelude.{◌≡◌, ◌+◌, ◌<◌, ◌≤◌, ◌++◌, ◌∷◌, [], Some, None, length, nat_le, option_map, IfOk, IfErr, IsNone, OnOk, OnErr};
 ghost use Rattle.std.specs.List.{list_any};
-ghost use Rattle.patch_model.specs.Entry.{Entry, is_live};
-ghost use Rattle.patch_model.specs.Execution.{Execution, extended};
+ghost use Rattle.patch_model.specs.Execution.{Execution};
 ghost use Rattle.patch_model.specs.Step.{Create};
-ghost use Rattle.patch_model.specs.State.{entries_of};
-ghost use Rattle.patch_model.specs.History.{history_of};
-ghost use Rattle.patch_model.specs.Legal.{IsLegal, IsLegalCreate};
-ghost use Rattle.patch_view.specs.Meaning.{Represents as IsBlockOf};
-ghost use Rattle.patch_graph.specs.Meaning.{Represents as IsGraphOf};
 ghost use Rattle.patch_cache.specs.Creating.{why_not_created as the_cause, IsMade, MayLay, IsLaid};
 ghost use Rattle.patch_cache.specs.Meaning.{Represents};
 ghost use Rattle.patch_cache.specs.Refusals.{create_cause, IsCause};
@@ -62,8 +56,8 @@ impl<A: Allocator + Copy> Cache<A> {
         ensures known { IsNone result → block < length self.now.blocks }
         ensures some { IsNone result → 0 < length bytes.now }
         ensures fits { IsNone result → start + length bytes.now ≤ BLOCK }
-        ensures left { IsNone result → self.now.graph.made < MAX_PATCHES }
-        ensures room { IsNone result → self.now.live < MAX_LIVE }
+        ensures numbers_left { IsNone result → self.now.graph.made < MAX_PATCHES }
+        ensures live_left { IsNone result → self.now.live < MAX_LIVE }
     {
         let refusal = if block.0 as usize >= self.blocks.len() {
             CreateRefusal::NoSuchBlock
@@ -95,8 +89,8 @@ impl<A: Allocator + Copy> Cache<A> {
         requires known { block < length self.old.blocks }
         requires some { 0 < length bytes.now }
         requires fits { start + length bytes.now ≤ BLOCK }
-        requires left { self.old.graph.made < MAX_PATCHES }
-        requires room { self.old.live < MAX_LIVE }
+        requires numbers_left { self.old.graph.made < MAX_PATCHES }
+        requires live_left { self.old.live < MAX_LIVE }
         ensures made { (run : Execution) → Represents self.old run
             → the_cause run block start bytes.now after.now ≡ None
             → IfOk result (λ no. IsMade run block start bytes.now after.now undo no self.new) }
@@ -137,7 +131,7 @@ fn lay_on<A: Allocator + Copy>(
 ) -> Result<PatchNo, OutOfMemory>
     requires some { 0 < length bytes.now }
     requires fits { start + length bytes.now ≤ BLOCK }
-    requires left { graph.old.made < MAX_PATCHES }
+    requires numbers_left { graph.old.made < MAX_PATCHES }
     ensures laid { (run : Execution) → MayLay run block start bytes.now after.now state.old graph.old
         → IfOk result (λ no. IsLaid run block start bytes.now after.now undo no state.new graph.new) }
     ensures refused { OnErr result ((state.new ≡ state.old) × (graph.new ≡ graph.old)) }

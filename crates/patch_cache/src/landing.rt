@@ -6,9 +6,9 @@ ghost use Rattle.patch_cache.specs.Running.{Runs, held_by};
 ghost use Rattle.patch_cache.specs.Waves.{is_send, steps_since, Continues, HasRisenBy, HasGivenUp, HasGoneOn, KeepsDisk, IsHeldFirst, IsTriedSafely};
 
 use crate::caches::Cache;
-use crate::flights::Flights;
+use crate::flights::{Flight, Flights};
 use crate::refusals::{DeviceGaveUp, Fault};
-use crate::writes::{Flight, write_image};
+use crate::writes::write_image;
 use patch_device::Device;
 use patch_model::laws as model_laws;
 use std::alloc::Allocator;

@@ -1,4 +1,8 @@
 //! The patch cache: patches are made, merged, sent and completed over the blocks of a disk, in an order that a crash keeps.
+//!
+//! A [`Cache`] is defined and opened in `caches`. Its other calls stand by themselves: `create` in `creating`, `merge` in
+//! `merging`, `send` in `sending`, `complete` in `completing`, `read` in `reading`, `view` in `views`, and `run`, with the answer
+//! of each ask, in `running`.
 #![tactic(auto)]
 
 mod asks;
@@ -9,6 +13,7 @@ mod flights;
 mod flushing;
 mod landing;
 pub mod laws;
+mod looking;
 mod merging;
 mod reading;
 mod refusals;
@@ -19,7 +24,7 @@ mod writes;
 
 pub use asks::{Answer, Ask, Move};
 pub use caches::Cache;
-pub use flights::Flights;
+pub use flights::{Flight, Flights, Landed};
 pub use landing::TRIES;
 pub use patch_view::PutBackRefusal;
 pub use refusals::{
@@ -27,4 +32,4 @@ pub use refusals::{
     Refusal, SendRefusal, TakeRefusal,
 };
 pub use views::CacheView;
-pub use writes::{Done, Flight, Landed, write_out};
+pub use writes::{Done, write_out};

@@ -1,13 +1,10 @@
 //! How two classes become one.
-ghost use Rattle.std.specs.Prelude.{◌≡◌, ◌<◌, ◌++◌, ◌∷◌, ℕ, false, List, [], None, Some, length, min, option_map, MatchResult, MatchOption, IfOk, IfErr, OnOk, OnErr};
+ghost use Rattle.std.specs.Prelude.{◌≡◌, ◌<◌, ◌++◌, ◌∷◌, false, List, [], None, Some, length, option_map, MatchResult, MatchOption, IfOk, IfErr, OnOk, OnErr};
 ghost use Rattle.patch_model.specs.Entry.{Entry};
-ghost use Rattle.patch_model.specs.Execution.{Execution, extended};
-ghost use Rattle.patch_model.specs.Refusing.{why_not_near as the_cause, is_memory_at, IsBetween, IsLeastThird};
+ghost use Rattle.patch_model.specs.Execution.{Execution};
+ghost use Rattle.patch_model.specs.Refusing.{why_not_near, is_memory_at};
 ghost use Rattle.patch_model.specs.Step.{Merge};
-ghost use Rattle.patch_model.specs.State.{entries_of, class_of};
-ghost use Rattle.patch_model.specs.History.{history_of};
-ghost use Rattle.patch_model.specs.Legal.{IsLegal, IsLegalMerge, block_at};
-ghost use Rattle.patch_view.specs.Meaning.{Represents as IsBlockOf};
+ghost use Rattle.patch_model.specs.State.{entries_of};
 ghost use Rattle.patch_graph.specs.Meaning.{Represents as IsGraphOf};
 ghost use Rattle.patch_cache.specs.Meaning.{Represents};
 ghost use Rattle.patch_cache.specs.Merging.{IsInMemory, IsNear, IsThird, MayMerge, IsMerged, MayMergeOn, IsMergedOn, why_apart as as_apart};
@@ -30,7 +27,7 @@ impl<A: Allocator + Copy> Cache<A> {
         ensures refused { OnErr result (self.new ≡ self.old) }
     {
         model_laws::near_classes_merge();
-        let block = self.near(a, b)?;
+        let block = self.block_of_both(a, b)?;
         if let Some(third) = self.third(a, b) {
             return Err(MergeRefusal::WouldCycle(third));
         }
@@ -38,10 +35,10 @@ impl<A: Allocator + Copy> Cache<A> {
     }
 
     /// The block of both classes, or the first cause against the merge, but for a third class between them.
-    fn near(&self, a: PatchNo, b: PatchNo) -> Result<BlockNo, MergeRefusal>
+    fn block_of_both(&self, a: PatchNo, b: PatchNo) -> Result<BlockNo, MergeRefusal>
         ensures answer { (run : Execution) → Represents self.now run → MatchResult result
             (IsNear run a b)
-            (λ refusal. the_cause (entries_of run) a b ≡ Some (merge_cause refusal)) }
+            (λ refusal. why_not_near (entries_of run) a b ≡ Some (merge_cause refusal)) }
         ensures known { IfOk result (λ block. block < length self.now.blocks) }
     {
         model_laws::spans_are_whole();
@@ -59,7 +56,7 @@ impl<A: Allocator + Copy> Cache<A> {
         if let Some(refusal) = why_apart(a, &first, b, &second) {
             return Err(refusal);
         }
-        // Each patch is of a block of the cache.
+        // Never so: each patch is of a block of the cache.
         if first.block.0 as usize >= self.blocks.len() {
             return Err(MergeRefusal::OtherBlock);
         }
@@ -81,7 +78,7 @@ impl<A: Allocator + Copy> Cache<A> {
 
     /// The least name of a third class between those of two live patches, one way or the other.
     fn third(&mut self, a: PatchNo, b: PatchNo) -> Option<PatchNo>
-        ensures answer { (run : Execution) → Represents self.old run → the_cause (entries_of run) a b ≡ None
+        ensures answer { (run : Execution) → Represents self.old run → why_not_near (entries_of run) a b ≡ None
             → IsThird run a b result }
         ensures same { self.new ≡ self.old }
     {

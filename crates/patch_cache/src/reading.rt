@@ -1,21 +1,14 @@
-//! What is read of a cache's blocks, with all their patches or without some.
-ghost use Rattle.std.specs.Prelude.{◌≡◌, ◌+◌, ◌<◌, ◌≤◌, ◌⊎◌, ℕ, List, [], Some, None, Ok, Err, length, slice_range, MatchResult, IfOk, IfErr, IsNone, option_map};
+//! What is read of a cache's blocks, with all their patches.
+ghost use Rattle.std.specs.Prelude.{◌≡◌, ◌+◌, ◌<◌, ◌≤◌, Some, None, Ok, Err, length, MatchResult, IsNone, option_map};
 ghost use Rattle.patch_model.specs.declared.blocks.TheConstants.{BLOCK};
-ghost use Rattle.patch_model.specs.declared.refusals.RefusalKind.TheVariants as kind;
 ghost use Rattle.patch_model.specs.Execution.{Execution};
-ghost use Rattle.patch_model.specs.History.{history_of, cached as the_cached, without as the_rest};
-ghost use Rattle.patch_model.specs.Refusing.{bare};
-ghost use Rattle.patch_cache.specs.Contents.{Contents};
-ghost use Rattle.patch_cache.specs.Meaning.{Represents, ShowsWithout};
-ghost use Rattle.patch_cache.specs.Refusals.{cause_of, read_cause};
-ghost use Rattle.patch_cache.specs.Viewing.{why_not_read as the_cause, with_move, with_moves, bytes_at, IsRead, Stands, IsViewOf};
-ghost use Rattle.patch_cache.specs.Asks.{IsAnswer, IsGivenUp, View, answer_of};
-ghost use Rattle.patch_cache.specs.Looking.{HasLooked, HasMoved};
+ghost use Rattle.patch_cache.specs.Meaning.{Represents};
+ghost use Rattle.patch_cache.specs.Refusals.{read_cause};
+ghost use Rattle.patch_cache.specs.Viewing.{why_not_read, IsRead};
 
-use crate::asks::{Answer, Move};
 use crate::caches::Cache;
-use crate::refusals::{ReadRefusal, Refusal};
-use patch_model::{BLOCK, BlockNo, Bytes, PatchNo, RefusalKind};
+use crate::refusals::ReadRefusal;
+use patch_model::{BLOCK, BlockNo};
 use std::alloc::Allocator;
 
 impl<A: Allocator + Copy> Cache<A> {
@@ -23,7 +16,7 @@ impl<A: Allocator + Copy> Cache<A> {
     pub fn read(&self, block: BlockNo, start: usize, len: usize) -> Result<&[u8], ReadRefusal>
         ensures { (run : Execution) → Represents self.now run → MatchResult result
             (λ bytes. IsRead run block start len bytes.now)
-            (λ refusal. the_cause run block start len ≡ Some (read_cause refusal)) }
+            (λ refusal. why_not_read run block start len ≡ Some (read_cause refusal)) }
     {
         match self.why_not_shown(block, start, len) {
             Some(refusal) => Err(refusal),
@@ -32,8 +25,13 @@ impl<A: Allocator + Copy> Cache<A> {
     }
 
     /// The first cause against a look at the span.
-    fn why_not_shown(&self, block: BlockNo, start: usize, len: usize) -> Option<ReadRefusal>
-        ensures cause { (run : Execution) → Represents self.now run → option_map read_cause result ≡ the_cause run block start len }
+    pub(crate) fn why_not_shown(
+        &self,
+        block: BlockNo,
+        start: usize,
+        len: usize,
+    ) -> Option<ReadRefusal>
+        ensures cause { (run : Execution) → Represents self.now run → option_map read_cause result ≡ why_not_read run block start len }
         ensures known { IsNone result → block < length self.now.blocks }
         ensures fits { IsNone result → start + len ≤ BLOCK }
     {
@@ -43,100 +41,6 @@ impl<A: Allocator + Copy> Cache<A> {
             Some(ReadRefusal::OutOfBlock)
         } else {
             None
-        }
-    }
-
-    /// Looks at a span of a block without the classes that the moves leave taken. All is put back behind the look.
-    pub(crate) fn look(
-        &mut self,
-        block: BlockNo,
-        moves: &[Move],
-        start: usize,
-        len: usize,
-    ) -> Answer<A>
-        ensures answer { (run : Execution) → Represents self.old run
-            → IsAnswer run (View block moves.now start len) (answer_of result) ⊎ IsGivenUp run (View block moves.now start len) (answer_of result) }
-        ensures restored { (run : Execution) → Represents self.old run → Represents self.new run }
-        ensures same { (run : Execution) → Represents self.old run → self.new ≡ self.old }
-        ensures trace { self.new.trace ≡ self.old.trace }
-    {
-        if let Some(refusal) = self.why_not_shown(block, start, len) {
-            return Answer::Refused(Refusal::from(refusal));
-        }
-        let without = self.without(block, moves, start, len);
-        self.restore_of(block);
-        let without = match without {
-            Ok(without) => without,
-            Err(refusal) => return Answer::Refused(refusal),
-        };
-        match self.copied(block, start, len) {
-            Ok(cached) => Answer::Seen { without, cached },
-            Err(refusal) => Answer::Refused(refusal),
-        }
-    }
-
-    /// The span without the classes that the moves leave taken, which stay so; or the first refusal of a move.
-    fn without(
-        &mut self,
-        block: BlockNo,
-        moves: &[Move],
-        start: usize,
-        len: usize,
-    ) -> Result<Bytes<A>, Refusal>
-        requires known { block < length self.old.blocks }
-        requires fits { start + len ≤ BLOCK }
-        ensures answer { (run : Execution) → Represents self.old run → HasLooked run block moves.now start len result }
-        ensures stands { (run : Execution) → Represents self.old run → Stands run block self.new }
-        ensures view { (before : Contents) → IsViewOf before block self.old → IsViewOf before block self.new }
-        ensures count { length self.new.blocks ≡ length self.old.blocks }
-        ensures trace { self.new.trace ≡ self.old.trace }
-    {
-        self.take_moves(block, moves)?;
-        self.copied(block, start, len)
-    }
-
-    /// Makes the moves in their order, up to the first that is refused.
-    fn take_moves(&mut self, block: BlockNo, moves: &[Move]) -> Result<(), Refusal>
-        requires { block < length self.old.blocks }
-        ensures answer { (run : Execution) (names : List ℕ) → ShowsWithout self.old block names run
-            → HasMoved run block (with_moves run block names moves.now) result self.new }
-        ensures view { (before : Contents) → IsViewOf before block self.old → IsViewOf before block self.new }
-        ensures count { length self.new.blocks ≡ length self.old.blocks }
-        ensures trace { self.new.trace ≡ self.old.trace }
-    {
-        for step in moves {
-            self.take_move(block, *step)?;
-        }
-        Ok(())
-    }
-
-    fn take_move(&mut self, block: BlockNo, step: Move) -> Result<(), Refusal>
-        requires { block < length self.old.blocks }
-        ensures answer { (run : Execution) (names : List ℕ) → ShowsWithout self.old block names run
-            → HasMoved run block (with_move run block names step) result self.new }
-        ensures view { (before : Contents) → IsViewOf before block self.old → IsViewOf before block self.new }
-        ensures count { length self.new.blocks ≡ length self.old.blocks }
-        ensures trace { self.new.trace ≡ self.old.trace }
-    {
-        match step {
-            Move::Take(no) => self.take_of(block, no)?,
-            Move::Back(no) => self.put_back_of(block, no)?,
-        }
-        Ok(())
-    }
-
-    /// A copy of the block's bytes in the span, without the classes that are taken of it.
-    fn copied(&self, block: BlockNo, start: usize, len: usize) -> Result<Bytes<A>, Refusal>
-        requires known { block < length self.now.blocks }
-        requires fits { start + len ≤ BLOCK }
-        ensures bytes { (run : Execution) (names : List ℕ) → ShowsWithout self.now block names run
-            → IfOk result (λ bytes. bytes ≡ bytes_at (the_rest (history_of run block) names) start len) }
-        ensures refusal { IfErr result (λ refusal. cause_of refusal ≡ bare kind.OutOfMemory) }
-    {
-        let bytes = self.bytes_of(block);
-        match Vec::from_slice(self.alloc, &bytes[start..start + len]) {
-            Ok(copy) => Ok(Bytes::from_vec(copy)),
-            Err(_) => Err(Refusal::bare(RefusalKind::OutOfMemory)),
         }
     }
 }

@@ -1,7 +1,7 @@
 //! A list of asks, answered one after another.
-ghost use Rattle.std.specs.Prelude.{◌≡◌, ◌≢◌, ◌+◌, ◌<◌, ◌≤◌, ◌↔◌, ◌++◌, ◌∷◌, ◌⊎◌, ℕ, List, [], true, Some, None, length, map, IfOk, IfErr, OnOk, OnErr, MatchResult};
+ghost use Rattle.std.specs.Prelude.{◌≡◌, ◌≢◌, ◌+◌, ◌<◌, ◌++◌, true, Some, None, length, map, IfOk, OnOk, OnErr};
 ghost use Rattle.patch_model.specs.declared.refusals.RefusalKind.TheVariants as kind;
-ghost use Rattle.patch_model.specs.Execution.{Execution, extended};
+ghost use Rattle.patch_model.specs.Execution.{Execution};
 ghost use Rattle.patch_model.specs.Refusing.{bare, why_not_sent};
 ghost use Rattle.patch_device.specs.SameDevice.{IsSameDevice};
 ghost use Rattle.patch_cache.specs.Contents.{write_at};
@@ -111,6 +111,7 @@ impl<A: Allocator + Copy> Cache<A> {
         }
     }
 
+    /// Makes a patch.
     fn answer_create(
         &mut self,
         block: BlockNo,
@@ -130,6 +131,7 @@ impl<A: Allocator + Copy> Cache<A> {
         }
     }
 
+    /// Makes one class of two.
     fn answer_merge(&mut self, a: PatchNo, b: PatchNo) -> Answer<A>
         ensures answer { (run : Execution) → Represents self.old run → IsDone run (Merge a b) (answer_of result) self.new }
         ensures trace { self.new.trace ≡ self.old.trace ++ step_added (Merge a b) (answer_of result) }
@@ -164,7 +166,7 @@ impl<A: Allocator + Copy> Cache<A> {
         block: BlockNo,
     ) -> Result<Answer<A>, OutOfMemory>
         requires known { block < length self.old.blocks }
-        requires grounded { write_at self.old block ≡ None }
+        requires not_under_way { write_at self.old block ≡ None }
         ensures answer { (run : Execution) → Runs self.old flights.old run → why_not_sent run block ≡ None → IfOk result (λ answer.
             IsAnswered run (Send block) (answer_of answer) self.new flights.new) }
         ensures trace { IfOk result (λ answer. self.new.trace ≡ self.old.trace ++ step_added (Send block) (answer_of answer)) }
@@ -177,16 +179,16 @@ impl<A: Allocator + Copy> Cache<A> {
         model_laws::flights_are_ready();
         model_laws::images_stay();
         let numbers = self.graph.ready(self.alloc, block)?;
-        let told = Vec::from_slice(self.alloc, numbers.as_slice())?;
-        let mut shown = Vec::with_capacity(self.alloc, BLOCK)?;
+        let answered_numbers = Vec::from_slice(self.alloc, numbers.as_slice())?;
+        let mut answered_image = Vec::with_capacity(self.alloc, BLOCK)?;
         flights.held.reserve(1)?;
         let flight = self.begin(block, numbers)?;
-        shown.extend_from_slice(flight.image()).unwrap();
+        answered_image.extend_from_slice(flight.image()).unwrap();
         flights.held.push_reserved(flight);
         Ok(Answer::Sent {
             block,
-            numbers: Numbers::from_vec(told),
-            image: BlockBytes::from_vec(shown),
+            numbers: Numbers::from_vec(answered_numbers),
+            image: BlockBytes::from_vec(answered_image),
         })
     }
 
@@ -221,6 +223,7 @@ impl<A: Allocator + Copy> Cache<A> {
                 block: done.block,
                 numbers: done.numbers,
             },
+            // Never so: a held flight is one of the cache's.
             Err(stranger) => {
                 stranger.abandon();
                 Answer::Refused(Refusal::bare(RefusalKind::Stranger))

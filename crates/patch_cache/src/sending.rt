@@ -1,11 +1,9 @@
 //! How a write of a block begins.
 ghost use Rattle.std.specs.Prelude.{◌≡◌, ◌<◌, ◌≤◌, ◌++◌, ◌∷◌, [], Some, None, length, option_map, vec_len, vec_capacity, IfOk, IfErr, IsNone, OnOk, OnErr};
 ghost use Rattle.patch_model.specs.declared.blocks.TheConstants.{BLOCK};
-ghost use Rattle.patch_model.specs.Execution.{Execution, extended};
-ghost use Rattle.patch_model.specs.Refusing.{why_not_sent as the_cause};
-ghost use Rattle.patch_model.specs.Ready.{ready};
+ghost use Rattle.patch_model.specs.Execution.{Execution};
+ghost use Rattle.patch_model.specs.Refusing.{why_not_sent};
 ghost use Rattle.patch_model.specs.Step.{Send};
-ghost use Rattle.patch_model.specs.State.{entries_of, numbers_of};
 ghost use Rattle.patch_model.specs.History.{History, HoldsDependents, without};
 ghost use Rattle.patch_view.specs.History.{undoable_classes};
 ghost use Rattle.patch_view.specs.Meaning.{Represents as IsBlockOf};
@@ -15,8 +13,9 @@ ghost use Rattle.patch_cache.specs.Flights.{MaySend, IsBegun};
 ghost use Rattle.patch_cache.specs.Refusals.{send_cause, IsCause};
 
 use crate::caches::Cache;
+use crate::flights::Flight;
 use crate::refusals::SendRefusal;
-use crate::writes::{Flight, Write};
+use crate::writes::Write;
 use patch_model::{
     BLOCK, BlockBytes, BlockNo, Numbers, OutOfMemory, PatchNo, Step, laws as model_laws,
 };
@@ -28,8 +27,8 @@ impl<A: Allocator + Copy> Cache<A> {
     /// set, and gives their image. What stays behind in memory is reverted in the image and in nothing else.
     pub fn send(&mut self, block: BlockNo) -> Result<Flight<A>, SendRefusal>
         ensures sent { (run : Execution) → Represents self.old run → IfOk result (λ flight.
-            (the_cause run block ≡ None) × IsBegun run block flight self.new) }
-        ensures cause { (run : Execution) → Represents self.old run → IfErr result (λ refusal. IsCause (the_cause run block) (send_cause refusal)) }
+            (why_not_sent run block ≡ None) × IsBegun run block flight self.new) }
+        ensures cause { (run : Execution) → Represents self.old run → IfErr result (λ refusal. IsCause (why_not_sent run block) (send_cause refusal)) }
         ensures trace { OnOk result (self.new.trace ≡ self.old.trace ++ Send block ∷ []) }
         ensures refused { OnErr result (self.new ≡ self.old) }
     {
@@ -44,9 +43,9 @@ impl<A: Allocator + Copy> Cache<A> {
 
     /// The first cause against a write of the block.
     pub(crate) fn why_not_sent(&mut self, block: BlockNo) -> Option<SendRefusal>
-        ensures cause { (run : Execution) → Represents self.old run → option_map send_cause result ≡ the_cause run block }
+        ensures cause { (run : Execution) → Represents self.old run → option_map send_cause result ≡ why_not_sent run block }
         ensures known { IsNone result → block < length self.old.blocks }
-        ensures grounded { IsNone result → write_at self.old block ≡ None }
+        ensures not_under_way { IsNone result → write_at self.old block ≡ None }
         ensures same { self.new ≡ self.old }
     {
         let at = block.0 as usize;
@@ -70,7 +69,7 @@ impl<A: Allocator + Copy> Cache<A> {
         numbers: Vec<PatchNo, A>,
     ) -> Result<Flight<A>, OutOfMemory>
         requires known { block < length self.old.blocks }
-        requires grounded { write_at self.old block ≡ None }
+        requires not_under_way { write_at self.old block ≡ None }
         ensures begun { (run : Execution) → Represents self.old run → MaySend run block numbers.items
             → IfOk result (λ flight. IsBegun run block flight self.new) }
         ensures trace { OnOk result (self.new.trace ≡ self.old.trace ++ Send block ∷ []) }
@@ -96,24 +95,24 @@ impl<A: Allocator + Copy> Cache<A> {
         state.depart_each(numbers.as_slice());
         self.graph.mark_flight(block);
         copy_image(state, &mut image);
-        let number = self.sends;
+        let sequence = self.sends;
         self.writes[at] = Some(Write {
-            number,
+            sequence,
             numbers: noted,
         });
         self.under_way += 1;
-        self.sends = number.saturating_add(1);
+        self.sends = sequence.saturating_add(1);
         self.trace.push_reserved(Step::Send { block });
         Ok(Flight {
             block,
-            number,
+            sequence,
             numbers: Numbers::from_vec(numbers),
             image: BlockBytes::from_vec(image),
         })
     }
 }
 
-/// Copies the block's bytes without the patches that are in memory, which are put back behind it.
+/// Copies the block's bytes without the patches that are in memory, which are put back afterwards.
 fn copy_image<A: Allocator>(state: &mut BlockState<A>, image: &mut Vec<u8, A>)
     requires empty { vec_len image.old ≡ 0 }
     requires room { BLOCK ≤ vec_capacity image.old }

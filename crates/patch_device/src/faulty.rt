@@ -1,5 +1,5 @@
 //! A device that fails one call.
-ghost use Rattle.std.specs.Prelude.{◌≡◌, ◌≢◌, ◌≤◌, ◌<◌, ◌↔◌, ◌⊎◌, length, slice_get, slice_set, Some, IsTrue, IsFalse, OnOk, OnErr, IsErrOf};
+ghost use Rattle.std.specs.Prelude.{◌≡◌, ◌≢◌, ◌≤◌, ◌<◌, ◌↔◌, length, slice_get, slice_set, Some, IsTrue, IsFalse, OnOk, OnErr, IsErrOf};
 ghost use Rattle.patch_device.specs.Device.{CountsFault, IsOldOrNew, AddsOutcome};
 ghost use Rattle.patch_device.specs.SameDevice.{IsSameDevice};
 

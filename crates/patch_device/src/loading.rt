@@ -1,5 +1,5 @@
 //! All blocks of a device.
-ghost use Rattle.std.specs.Prelude.{◌≡◌, ◌<◌, length, slice_get, Some, None, IfOk, OnOk, IsErrOf};
+ghost use Rattle.std.specs.Prelude.{◌≡◌, ◌<◌, length, slice_get, Some, IfOk, OnOk, IsErrOf};
 ghost use Rattle.patch_device.specs.Device.{HasRisen};
 ghost use Rattle.patch_device.specs.SameDevice.{IsSameDevice};
 

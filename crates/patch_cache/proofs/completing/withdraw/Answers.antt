@@ -4,13 +4,13 @@ use Rattle.std.proofs.lemmas.Option.{slice_get_read}
 use Rattle.patch_cache.proofs.Underway.{of_other, of_none}
 use Rattle.patch_cache.proofs.completing.withdraw.Goals as goal
 
-pub returns-else-begun-number : goal.returns-else-begun-number
-returns-else-begun-number g c =
+pub returns-else-begun-sequence : goal.returns-else-begun-sequence
+returns-else-begun-sequence g c =
     let items = c.args.writes.now.items in
     let here : slice_get items c.block.inside.0 ≡ Some (Some c.in-Some.begun) =
     slice_get_read items c.args.writes.now.len c.block.inside.0 c.in_ok-write.write.now c.args.writes.now.ok.0 (c.in_ok-write.ensures.variant.0 (refl {a = true})) c.in_ok-write.ensures.value
     ∙ ap (λ x. Some x) c.in-Some.is in
-    of_other items c.block.inside.0 c.args.block c.args.number c.in-Some.begun c.block.view_is here (λ is. c.if-begun-number.false (ap (λ x. x.number) c.begun.view_is ∙ is))
+    of_other items c.block.inside.0 c.args.block c.args.sequence c.in-Some.begun c.block.view_is here (λ is. c.if-begun-sequence.false (ap (λ x. x.sequence) c.begun.view_is ∙ is))
 
 pub returns-in-None : goal.returns-in-None
 returns-in-None g c =
@@ -18,4 +18,4 @@ returns-in-None g c =
     let here : slice_get items c.block.inside.0 ≡ Some None =
     slice_get_read items c.args.writes.now.len c.block.inside.0 c.in_ok-write.write.now c.args.writes.now.ok.0 (c.in_ok-write.ensures.variant.0 (refl {a = true})) c.in_ok-write.ensures.value
     ∙ ap (λ x. Some x) c.in-None.is in
-    rw (c.in-None.is) (of_none items c.block.inside.0 c.args.block c.args.number c.block.view_is here)
+    rw (c.in-None.is) (of_none items c.block.inside.0 c.args.block c.args.sequence c.block.view_is here)

@@ -91,8 +91,8 @@ returns-in-Err-clause-served g c = λ run on.
     let s =
     found c.flights_are_single.ensures.holds c.patches_are_placed.ensures.known run c.args.flights.now.held.items c.args.block c.in-Some.at c.swap_remove.result on.runs.cache_is.legal
     on.runs.flights_are (sym c.place_of.ensures ∙ c.in-Some.is) c.swap_remove.ensures.value in
-    absurd (no_stranger run c.args.flights.now.held.items c.args.block c.in-Some.at c.landed-landed.result.block c.landed-landed.result.number c.swap_remove.result s c.landed-landed.ensures.block
-    c.landed-landed.ensures.number (c.in-Err.ensures.stranger run on.runs.cache_is))
+    absurd (no_stranger run c.args.flights.now.held.items c.args.block c.in-Some.at c.landed-landed.result.block c.landed-landed.result.sequence c.swap_remove.result s c.landed-landed.ensures.block
+    c.landed-landed.ensures.sequence (c.in-Err.ensures.stranger run on.runs.cache_is))
 
 pub returns-in-Ok-clause-trace : goal.returns-in-Ok-clause-trace
 returns-in-Ok-clause-trace g c =

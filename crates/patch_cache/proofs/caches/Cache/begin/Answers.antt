@@ -65,7 +65,7 @@ returns-clause-begun g c = λ run at may.
     let counted : c.self.inside.live ≡ count_by is_live (entries_of next) = seen.live ∙ sym (c.live_are_counted.ensures.sent run block) in
     let noted : c.from_vec-noted.result ≡ numbers_of (flying_of (entries_of next) block) =
     c.from_vec-noted.ensures ∙ c.in_ok-from_slice.ensures.items ∙ c.as_slice.ensures.value ∙ numbers ∙ sym (c.flights_are_ready.ensures.sent run block at.legal lawful.1.0) in
-    let write : IsWriteOf next block (Some (record { number = c.self.inside.sends; numbers = c.from_vec-noted.result })) =
+    let write : IsWriteOf next block (Some (record { sequence = c.self.inside.sends; numbers = c.from_vec-noted.result })) =
     sent_here run block c.self.inside.sends c.from_vec-noted.result state seen.sends noted in
     let is : IsStepOf run (Send block) block = record {
       known = lawful.0;
@@ -73,7 +73,7 @@ returns-clause-begun g c = λ run at may.
       others = λ other differ. c.steps_change_blocks.ensures.sent_elsewhere run block other differ;
       writes = λ other w differ. sent_other run block other w state differ (c.flights_are_ready.ensures.sent_elsewhere run block other (λ e. differ (sym e)));
     } in (
-      record { block_is = refl; number_is = seen.sends; numbers_are = c.from_vec.ensures ∙ numbers; image_is = copied },
+      record { block_is = refl; sequence_is = seen.sends; numbers_are = c.from_vec.ensures ∙ numbers; image_is = copied },
       stepped run (Send block) _ c.block.inside.0 block c.copy_image.new.state _ c.mark_flight.new.self c.saturating_add-self-inside.result c.self.inside.live _
           c.block.view_is seen c.self.invariant.0 is restored write graph sends counted,
     )

@@ -24,9 +24,9 @@ returns-in_default-clause-stranger g c = λ run at flies.
     let block : ℕ = c.args.landed.block in
     let seen = subst (λ (v : Contents). Represents v run) (sym c.self.view_is) at in
     let known : block < length run.first =
-    placed run block c.args.landed.number (c.flights_are_single.ensures.holds run block at.legal) (λ e i. c.patches_are_placed.ensures.known run e at.legal i) flies in
+    placed run block c.args.landed.sequence (c.flights_are_single.ensures.holds run block at.legal) (λ e i. c.patches_are_placed.ensures.known run e at.legal i) flies in
     let within : block < length c.self.inside.writes.items = let count = seen.count in let long = c.self.invariant.0 in omega arith in
-    no_stranger run c.self.inside.writes.items block c.args.landed.number (λ e f. c.flights_are_single.ensures.single run e f at.legal) within (seen.writes block known) c.in_default.ensures.1 flies
+    no_stranger run c.self.inside.writes.items block c.args.landed.sequence (λ e f. c.flights_are_single.ensures.single run e f at.legal) within (seen.writes block known) c.in_default.ensures.1 flies
 
 pub index_mut-state-requires : goal.index_mut-state-requires
 index_mut-state-requires g c =

@@ -3,9 +3,9 @@ use Rattle.std.proofs.lemmas.List.{length-append, map-append, append-nil}
 use Rattle.patch_model.specs.Execution.{Execution}
 use Rattle.patch_cache.specs.Asks.{ask_of, answer_of, after_all, step_added, steps_added}
 use Rattle.patch_cache.specs.Running.{RunsOn, CountsFaults, CountFaults, IsCrashSafe, HaveWritten}
-use Rattle.patch_cache.proofs.Asking.{all_first, one_more_counted}
+use Rattle.patch_cache.proofs.Asking.{after_none, all_first, one_more_counted}
 use Rattle.patch_cache.proofs.Crashing.{unmoved, joined_ask}
-use Rattle.patch_cache.proofs.Runs.{begun, stepped, stepped_added, stepped_written, after_begun}
+use Rattle.patch_cache.proofs.Runs.{begun, stepped, stepped_added, stepped_written}
 use Rattle.patch_cache.proofs.caches.Cache.run.Goals as goal
 
 pub loop-ask-init : goal.loop-ask-init
@@ -21,7 +21,7 @@ loop-ask-init g c =
       trace = rw none (sym (append-nil c.args.self.now.trace ∙ refl));
       written = λ run on honest. rw none refl;
       crash = λ run on honest left.
-          rw none (subst (λ now. IsCrashSafe run now (device.had c.args.device.now) (device.had c.args.device.now) (device.contents c.args.device.now)) (sym (after_begun run asks)) (unmoved run _ _ left));
+          rw none (subst (λ now. IsCrashSafe run now (device.had c.args.device.now) (device.had c.args.device.now) (device.contents c.args.device.now)) (sym (after_none run asks)) (unmoved run _ _ left));
     }
 
 pub loop-ask-preserved : goal.loop-ask-preserved

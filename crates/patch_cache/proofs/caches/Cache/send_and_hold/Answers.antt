@@ -20,10 +20,10 @@ returns-clause-answer g c = λ run runs why.
     let numbers = c.in_ok-numbers.ensures.answer (entries_of run) before.graph in
     let sent = c.in_ok-flight.ensures.begun run (with_graph _ (λ _. []) run c.ready.new.self c.ready.ensures.same before) (why, numbers) in
     let held : c.push_reserved.new.self.items ≡ c.args.flights.now.held.items ++ flight ∷ [] = c.push_reserved.ensures.items ∙ ap (λ xs. xs ++ flight ∷ []) c.reserve.ensures.items in
-    let told : c.from_vec.result ≡ c.in_ok-numbers.numbers.items = c.from_vec.ensures ∙ c.in_ok-told.ensures.items ∙ c.as_slice.ensures.value in
+    let told : c.from_vec.result ≡ c.in_ok-numbers.numbers.items = c.from_vec.ensures ∙ c.in_ok-answered_numbers.ensures.items ∙ c.as_slice.ensures.value in
     let done : is_ok c.extend_from_slice.result ≡ true = ap is_ok c.unwrap.ensures in
     let shown : c.from_vec-2.result ≡ flight.image =
-    c.from_vec-2.ensures ∙ (rw done at c.extend_from_slice.ensures.items) ∙ ap (λ xs. xs ++ c.image.result.now) c.in_ok-shown.ensures.items ∙ c.image.ensures.bytes in
+    c.from_vec-2.ensures ∙ (rw done at c.extend_from_slice.ensures.items) ∙ ap (λ xs. xs ++ c.image.result.now) c.in_ok-answered_image.ensures.items ∙ c.image.ensures.bytes in
     let startable = (c.near_classes_merge.ensures.sent run block).0 why in
     sent_answered run block c.from_vec.result c.from_vec-2.result c.begin.new.self (record { held = c.push_reserved.new.self }) why (told ∙ numbers) (shown ∙ sent.0.image_is)
     (record {

@@ -46,8 +46,8 @@ returns-clause-cause g c = λ run at.
     let graph : IsGraphOf c.self.inside.graph (entries_of run) = subst (λ (v : Contents). IsGraphOf v.graph (entries_of run)) (sym c.self.view_is) at.graph in
     sym (something run c.args.block known flies ((c.any_ready.ensures.answer (entries_of run) graph).0 c.if-not-any_ready.false))
 
-pub returns-clause-grounded : goal.returns-clause-grounded
-returns-clause-grounded g c = λ t.
+pub returns-clause-not_under_way : goal.returns-clause-not_under_way
+returns-clause-not_under_way g c = λ t.
     let write : c.index.result.now ≡ write_at c.args.self.now c.args.block =
     get_or_read_under c.self.inside.writes.items c.block.inside.0 c.self.inside.writes.len c.index.result.now None c.index.ensures (omega arith) c.self.inside.writes.ok.0
     ∙ ap (λ (i : ℕ). get_or c.self.inside.writes.items i None) c.block.view_is ∙ ap (λ (v : Contents). get_or v.writes c.args.block None) c.self.view_is in

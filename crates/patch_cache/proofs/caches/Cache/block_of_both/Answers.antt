@@ -6,7 +6,7 @@ use Rattle.patch_cache.specs.Contents.{Contents}
 use Rattle.patch_cache.specs.Meaning.{Represents}
 use Rattle.patch_cache.specs.Merging.{why_apart}
 use Rattle.patch_cache.proofs.Mergers.{SpansAreWhole, shown_apart, known, only_second}
-use Rattle.patch_cache.proofs.caches.Cache.near.Goals as goal
+use Rattle.patch_cache.proofs.caches.Cache.block_of_both.Goals as goal
 
 pub returns-in_default-in_memory-clause-answer : goal.returns-in_default-in_memory-clause-answer
 returns-in_default-in_memory-clause-answer g c = λ run at.

@@ -1,0 +1,116 @@
+//! A look at a span of a block, without some of its patches and with all of them.
+ghost use Rattle.std.specs.Prelude.{◌≡◌, ◌+◌, ◌<◌, ◌≤◌, ◌⊎◌, ℕ, List, Some, Ok, Err, length, IfOk, IfErr};
+ghost use Rattle.patch_model.specs.declared.blocks.TheConstants.{BLOCK};
+ghost use Rattle.patch_model.specs.declared.refusals.RefusalKind.TheVariants as kind;
+ghost use Rattle.patch_model.specs.Execution.{Execution};
+ghost use Rattle.patch_model.specs.History.{history_of, without};
+ghost use Rattle.patch_model.specs.Refusing.{bare};
+ghost use Rattle.patch_cache.specs.Contents.{Contents};
+ghost use Rattle.patch_cache.specs.Meaning.{Represents, ShowsWithout};
+ghost use Rattle.patch_cache.specs.Refusals.{cause_of};
+ghost use Rattle.patch_cache.specs.Viewing.{with_move, with_moves, bytes_at, Stands, IsViewOf};
+ghost use Rattle.patch_cache.specs.Asks.{IsAnswer, IsGivenUp, View, answer_of};
+ghost use Rattle.patch_cache.specs.Looking.{HasLooked, HasMoved};
+
+use crate::asks::{Answer, Move};
+use crate::caches::Cache;
+use crate::refusals::Refusal;
+use patch_model::{BlockNo, Bytes, RefusalKind};
+use std::alloc::Allocator;
+
+impl<A: Allocator + Copy> Cache<A> {
+    /// Looks at a span of a block without the classes that the moves leave taken. All is put back after the look.
+    pub(crate) fn look(
+        &mut self,
+        block: BlockNo,
+        moves: &[Move],
+        start: usize,
+        len: usize,
+    ) -> Answer<A>
+        ensures answer { (run : Execution) → Represents self.old run
+            → IsAnswer run (View block moves.now start len) (answer_of result) ⊎ IsGivenUp run (View block moves.now start len) (answer_of result) }
+        ensures restored { (run : Execution) → Represents self.old run → Represents self.new run }
+        ensures same { (run : Execution) → Represents self.old run → self.new ≡ self.old }
+        ensures trace { self.new.trace ≡ self.old.trace }
+    {
+        if let Some(refusal) = self.why_not_shown(block, start, len) {
+            return Answer::Refused(Refusal::from(refusal));
+        }
+        let without = self.without(block, moves, start, len);
+        self.restore_of(block);
+        let without = match without {
+            Ok(without) => without,
+            Err(refusal) => return Answer::Refused(refusal),
+        };
+        match self.copied(block, start, len) {
+            Ok(cached) => Answer::Seen { without, cached },
+            Err(refusal) => Answer::Refused(refusal),
+        }
+    }
+
+    /// The span without the classes that the moves leave taken, which stay so; or the first refusal of a move.
+    fn without(
+        &mut self,
+        block: BlockNo,
+        moves: &[Move],
+        start: usize,
+        len: usize,
+    ) -> Result<Bytes<A>, Refusal>
+        requires known { block < length self.old.blocks }
+        requires fits { start + len ≤ BLOCK }
+        ensures answer { (run : Execution) → Represents self.old run → HasLooked run block moves.now start len result }
+        ensures stands { (run : Execution) → Represents self.old run → Stands run block self.new }
+        ensures view { (before : Contents) → IsViewOf before block self.old → IsViewOf before block self.new }
+        ensures count { length self.new.blocks ≡ length self.old.blocks }
+        ensures trace { self.new.trace ≡ self.old.trace }
+    {
+        self.take_moves(block, moves)?;
+        self.copied(block, start, len)
+    }
+
+    /// Makes the moves in their order, up to the first that is refused.
+    fn take_moves(&mut self, block: BlockNo, moves: &[Move]) -> Result<(), Refusal>
+        requires { block < length self.old.blocks }
+        ensures answer { (run : Execution) (names : List ℕ) → ShowsWithout self.old block names run
+            → HasMoved run block (with_moves run block names moves.now) result self.new }
+        ensures view { (before : Contents) → IsViewOf before block self.old → IsViewOf before block self.new }
+        ensures count { length self.new.blocks ≡ length self.old.blocks }
+        ensures trace { self.new.trace ≡ self.old.trace }
+    {
+        for step in moves {
+            self.take_move(block, *step)?;
+        }
+        Ok(())
+    }
+
+    /// Makes one move.
+    fn take_move(&mut self, block: BlockNo, step: Move) -> Result<(), Refusal>
+        requires { block < length self.old.blocks }
+        ensures answer { (run : Execution) (names : List ℕ) → ShowsWithout self.old block names run
+            → HasMoved run block (with_move run block names step) result self.new }
+        ensures view { (before : Contents) → IsViewOf before block self.old → IsViewOf before block self.new }
+        ensures count { length self.new.blocks ≡ length self.old.blocks }
+        ensures trace { self.new.trace ≡ self.old.trace }
+    {
+        match step {
+            Move::Take(no) => self.take_of(block, no)?,
+            Move::Back(no) => self.put_back_of(block, no)?,
+        }
+        Ok(())
+    }
+
+    /// A copy of the block's bytes in the span, without the classes that are taken of it.
+    fn copied(&self, block: BlockNo, start: usize, len: usize) -> Result<Bytes<A>, Refusal>
+        requires known { block < length self.now.blocks }
+        requires fits { start + len ≤ BLOCK }
+        ensures bytes { (run : Execution) (names : List ℕ) → ShowsWithout self.now block names run
+            → IfOk result (λ bytes. bytes ≡ bytes_at (without (history_of run block) names) start len) }
+        ensures refusal { IfErr result (λ refusal. cause_of refusal ≡ bare kind.OutOfMemory) }
+    {
+        let bytes = self.bytes_of(block);
+        match Vec::from_slice(self.alloc, &bytes[start..start + len]) {
+            Ok(copy) => Ok(Bytes::from_vec(copy)),
+            Err(_) => Err(Refusal::bare(RefusalKind::OutOfMemory)),
+        }
+    }
+}
