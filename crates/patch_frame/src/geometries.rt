@@ -1,6 +1,7 @@
 //! How a disk is divided into its superblock, its index, its pointer block and its extents.
 ghost use Rattle.std.specs.Prelude.{◌≡◌, ◌↔◌, ◌+◌, ◌<◌, ◌≤◌, ◌^◌, IsTrue};
-ghost use Rattle.patch_frame.specs.Geometry.{version_of, extent_blocks, largest_pointer, value_limit, longest_frame, slot_count, slot_block, slot_start, pointer_block, pointer_start, first_block, block_count, is_format, is_geometry, IsFormat, IsGeometry};
+ghost use Rattle.patch_frame.specs.Geometry.{version_of, extent_blocks, largest_pointer, value_limit, longest_frame, slot_count, slot_block, slot_start};
+ghost use Rattle.patch_frame.specs.Geometry.{pointer_block, pointer_start, first_block, block_count, is_format, is_geometry, IsFormat, IsGeometry};
 
 use crate::framing::MAX_VALUE;
 use crate::pointers::POINTER_BYTES;

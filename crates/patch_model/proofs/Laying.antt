@@ -144,9 +144,9 @@ Fit-exchange n (x ∷ xs) p q ys fit = (fit.0, Fit-exchange n xs p q ys fit.1)
 
 pub rearranged_alike : RearrangedAlike
 rearranged_alike b xs ys fit unchanged = refl
-rearranged_alike b xs ys fit (exchange before p q behind apart rest) =
-    neighbours_commute b before p q behind fit apart
-    ∙ rearranged_alike b (before ++ q ∷ p ∷ behind) ys (Fit-exchange (length b) before p q behind fit) rest
+rearranged_alike b xs ys fit (exchange before p q later apart rest) =
+    neighbours_commute b before p q later fit apart
+    ∙ rearranged_alike b (before ++ q ∷ p ∷ later) ys (Fit-exchange (length b) before p q later fit) rest
 
 -- two patches share a byte where some place is in both spans
 pub shared_place : (p q : Patch) → IsTrue (shares_byte p q) → (p.block ≡ q.block) × ((place : ℕ) × IsTrue (covers p place) × IsTrue (covers q place))

@@ -15,15 +15,15 @@ IsApart p q = (place : ℕ) → IsTrue (covers p place) → IsFalse (covers q pl
 -- lists of patches, of which one becomes the other as neighbours that share no byte change places
 pub data Rearranged : List Patch → List Patch → Type 0 where
   unchanged : {ps : List Patch} → Rearranged ps ps
-  exchange : {ps : List Patch} (before : List Patch) (p q : Patch) (behind : List Patch)
-      → IsApart p q → Rearranged (before ++ q ∷ p ∷ behind) ps → Rearranged (before ++ p ∷ q ∷ behind) ps
+  exchange : {ps : List Patch} (before : List Patch) (p q : Patch) (later : List Patch)
+      → IsApart p q → Rearranged (before ++ q ∷ p ∷ later) ps → Rearranged (before ++ p ∷ q ∷ later) ps
 
 -- two neighbours that share no byte may change places
 abbrev pub NeighboursCommute : Type 0
 NeighboursCommute =
-    (first : List ℕ) (before : List Patch) (p q : Patch) (behind : List Patch)
-    → Fit (length first) (before ++ p ∷ q ∷ behind) → IsApart p q
-    → pile first (before ++ p ∷ q ∷ behind) ≡ pile first (before ++ q ∷ p ∷ behind)
+    (first : List ℕ) (before : List Patch) (p q : Patch) (later : List Patch)
+    → Fit (length first) (before ++ p ∷ q ∷ later) → IsApart p q
+    → pile first (before ++ p ∷ q ∷ later) ≡ pile first (before ++ q ∷ p ∷ later)
 
 -- and so may any number of them, one pair after another
 abbrev pub RearrangedAlike : Type 0
@@ -34,9 +34,9 @@ RearrangedAlike =
 -- a patch that shares no byte with a later one may come last
 abbrev pub MayComeLast : Type 0
 MayComeLast =
-    (first : List ℕ) (before : List Patch) (p : Patch) (behind : List Patch)
-    → Fit (length first) (before ++ p ∷ behind) → AllByRecursion (IsApart p) behind
-    → pile first (before ++ p ∷ behind) ≡ pile first (before ++ behind ++ p ∷ [])
+    (first : List ℕ) (before : List Patch) (p : Patch) (later : List Patch)
+    → Fit (length first) (before ++ p ∷ later) → AllByRecursion (IsApart p) later
+    → pile first (before ++ p ∷ later) ≡ pile first (before ++ later ++ p ∷ [])
 
 -- a byte that no patch covers is that of the block beneath
 abbrev pub UncoveredByte : Type 0
@@ -48,10 +48,10 @@ UncoveredByte =
 -- any other byte is that of the last patch that covers it
 abbrev pub CoveredByte : Type 0
 CoveredByte =
-    (first : List ℕ) (before : List Patch) (p : Patch) (behind : List Patch) (place : ℕ)
-    → Fit (length first) (before ++ p ∷ behind)
-    → IsTrue (covers p place) → AllByRecursion (λ q. IsFalse (covers q place)) behind
-    → slice_index (pile first (before ++ p ∷ behind)) place ≡ slice_index p.bytes (place - p.start)
+    (first : List ℕ) (before : List Patch) (p : Patch) (later : List Patch) (place : ℕ)
+    → Fit (length first) (before ++ p ∷ later)
+    → IsTrue (covers p place) → AllByRecursion (λ q. IsFalse (covers q place)) later
+    → slice_index (pile first (before ++ p ∷ later)) place ≡ slice_index p.bytes (place - p.start)
 
 -- the bytes of a block in a patch's span
 abbrev pub under : List ℕ → Patch → List ℕ
@@ -60,6 +60,6 @@ under block p = take (length p.bytes) (drop p.start block)
 -- a patch that shares no byte with a later one is taken back by the bytes that it was laid over
 abbrev pub TakenBack : Type 0
 TakenBack =
-    (first : List ℕ) (before : List Patch) (p : Patch) (behind : List Patch)
-    → Fit (length first) (before ++ p ∷ behind) → AllByRecursion (IsApart p) behind
-    → lay (pile first (before ++ p ∷ behind)) (record p { bytes = under (pile first before) p }) ≡ pile first (before ++ behind)
+    (first : List ℕ) (before : List Patch) (p : Patch) (later : List Patch)
+    → Fit (length first) (before ++ p ∷ later) → AllByRecursion (IsApart p) later
+    → lay (pile first (before ++ p ∷ later)) (record p { bytes = under (pile first before) p }) ≡ pile first (before ++ later)

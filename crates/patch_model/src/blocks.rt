@@ -59,6 +59,7 @@ impl<A: Allocator> BlockBytes<A> {
         bytes
     }
 
+    /// The bytes, lent.
     pub fn as_slice(&self) -> &[u8]
         ensures bytes { result.now ≡ self.now }
         ensures length { length result.now ≡ BLOCK }

@@ -41,6 +41,7 @@ impl<T, A: Allocator> Items<T, A> {
         items
     }
 
+    /// The items, lent in order.
     pub fn as_slice(&self) -> &[T]
         ensures { result.now ≡ self.now }
     {

@@ -65,6 +65,7 @@ impl<A: Allocator> Steps<A> {
         steps
     }
 
+    /// The steps, lent in order.
     pub fn as_slice(&self) -> &[Step<A>]
         ensures { map step_of result.now ≡ self.now }
     {
