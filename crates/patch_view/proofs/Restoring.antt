@@ -10,17 +10,17 @@ use Rattle.patch_view.specs.declared.classes.Turn.{Turn}
 use Rattle.patch_view.specs.declared.classes.Turn.TheVariants.{PutBack}
 use Rattle.patch_view.proofs.Sets.{upper, none-held}
 use Rattle.patch_view.specs.History.{unpatched}
-use Rattle.patch_view.specs.State.{Class, Block, class_at, no_class, may_be_taken, follows, meets, names, hinders, exchanged_at, exchanged_with, restored_to, outline, bare}
+use Rattle.patch_view.specs.State.{Class, Block, class_at, no_class, may_be_taken, follows, meets, names, hinders, exchanged_at, exchanged_with, restored_to, outline, outline_of}
 use Rattle.patch_view.specs.Meaning.{Represents}
 use Rattle.patch_view.proofs.Chain.{undoable-not_durable}
 use Rattle.patch_view.proofs.Steps.{record_of, putting_back}
 use Rattle.patch_view.proofs.Exchange.{exchanged-represents, back-exchange}
 
-outline-set : (cs : List Class) (at : ℕ) (c : Class) → at < length cs → bare c ≡ bare (slice_index_or cs at no_class)
-    → map bare (slice_set cs at c) ≡ map bare cs
+outline-set : (cs : List Class) (at : ℕ) (c : Class) → at < length cs → outline_of c ≡ outline_of (slice_index_or cs at no_class)
+    → map outline_of (slice_set cs at c) ≡ map outline_of cs
 outline-set [] at c within e = refl
-outline-set (d ∷ ds) zero c within e = ap (λ z. z ∷ map bare ds) e
-outline-set (d ∷ ds) (suc at) c within e = ap (λ z. bare d ∷ z) (outline-set ds at c (omega arith) e)
+outline-set (d ∷ ds) zero c within e = ap (λ z. z ∷ map outline_of ds) e
+outline-set (d ∷ ds) (suc at) c within e = ap (λ z. outline_of d ∷ z) (outline-set ds at c (omega arith) e)
 
 pub outline-exchanged : (b : Block) (at : ℕ) (turn : Turn) → at < length b.classes → outline (exchanged_at b at turn) ≡ outline b
 outline-exchanged b at turn within = outline-set b.classes at (exchanged_with (class_at b at) b.bytes turn) within refl

@@ -9,7 +9,7 @@ use Rattle.patch_model.specs.Entry.{Entry, is_among, is_undoable, is_memory, mar
 use Rattle.patch_model.specs.Member.{In, In-filter, filter-In}
 use Rattle.patch_model.specs.History.{History, without}
 use Rattle.patch_view.specs.History.{IsCoherent, below, top, undoable_classes}
-use Rattle.patch_view.specs.State.{Class, Block, class_at, no_class, spans, may_be_taken, bare}
+use Rattle.patch_view.specs.State.{Class, Block, class_at, no_class, spans, may_be_taken, outline_of}
 use Rattle.patch_view.specs.Meaning.{IsClassOf}
 use Rattle.patch_view.specs.Laws.{NameTheSame, OneValue, ImageIsWithout}
 use Rattle.patch_view.proofs.Exchange.{spans-from}
@@ -27,7 +27,7 @@ same_names_same_bytes h names others same =
     ap (λ es. pile h.first (map (λ e. e.patch) es)) (filter-same (λ e. not (is_among names e.class)) (λ e. not (is_among others e.class)) h.entries (λ e i. ap not (same e.class)))
 
 -- records of classes that differ in nothing of their outlines
-same_class : (h : History) (names others : List ℕ) (c d : Class) → IsClassOf h names c → IsClassOf h others d → NameTheSame names others → bare c ≡ bare d → c ≡ d
+same_class : (h : History) (names others : List ℕ) (c d : Class) → IsClassOf h names c → IsClassOf h others d → NameTheSame names others → outline_of c ≡ outline_of d → c ≡ d
 same_class h names others c d r s same is =
     let name : c.name ≡ d.name = ap (λ k. k.name) is in
     let start : c.start ≡ d.start = ap (λ k. k.start) is in
@@ -60,7 +60,7 @@ length-map f [] (y ∷ ys) e = absurd (cc)
 length-map f (x ∷ xs) [] e = absurd (cc)
 length-map f (x ∷ xs) (y ∷ ys) e = ap suc (length-map f xs ys (cc))
 
-bare-at : (cs ds : List Class) (i : ℕ) → map bare cs ≡ map bare ds → i < length cs → bare (slice_index_or cs i no_class) ≡ bare (slice_index_or ds i no_class)
+bare-at : (cs ds : List Class) (i : ℕ) → map outline_of cs ≡ map outline_of ds → i < length cs → outline_of (slice_index_or cs i no_class) ≡ outline_of (slice_index_or ds i no_class)
 bare-at [] ds i e w = absurd (omega arith)
 bare-at (c ∷ cs) [] i e w = absurd (cc)
 bare-at (c ∷ cs) (d ∷ ds) zero e w = cc
@@ -68,7 +68,7 @@ bare-at (c ∷ cs) (d ∷ ds) (suc i) e w = bare-at cs ds i (cc) (omega arith)
 
 pub one_value : OneValue
 one_value h names others a b r s same is =
-    let long : length a.classes ≡ length b.classes = length-map bare a.classes b.classes is in
+    let long : length a.classes ≡ length b.classes = length-map outline_of a.classes b.classes is in
     let bytes : a.bytes ≡ b.bytes = r.bytes ∙ same_names_same_bytes h names others same ∙ sym s.bytes in
     let classes : a.classes ≡ b.classes = ext_get_or no_class a.classes b.classes long (λ i w.
     same_class h names others (class_at a i) (class_at b i) (r.classes i w) (s.classes i (omega arith)) same (bare-at a.classes b.classes i is w)) in

@@ -10,7 +10,7 @@ use Rattle.patch_model.specs.Member.{In, In-from_Contains, Contains-from_In, fil
 use Rattle.patch_model.specs.History.{History, HoldsDependents}
 use Rattle.patch_view.specs.declared.classes.Turn.TheVariants.{Take}
 use Rattle.patch_view.specs.History.{undoable_classes}
-use Rattle.patch_view.specs.State.{Block, class_at, no_class, may_be_taken, is_left, follows, meets, names, hinders, exchanged_at, exchanged_with, swept_to, outline}
+use Rattle.patch_view.specs.State.{Block, class_at, no_class, may_be_taken, is_takeable, follows, meets, names, hinders, exchanged_at, exchanged_with, swept_to, outline}
 use Rattle.patch_view.specs.Meaning.{Represents}
 use Rattle.patch_view.specs.Laws.{NameTheSame}
 use Rattle.patch_view.proofs.Chain.{undoable-not_durable}
@@ -78,7 +78,7 @@ highest-free n b h within holds s may k w_k = false_from_ne_true _ (λ t.
     ])
 
 sweep_step : (n : ℕ) (b : Block) (h : History) → n < length b.classes → HoldsDependents h (undoable_classes h) → IsSweptTo (suc n) b h
-    → is_left (class_at b n) ≡ true → IsSweptTo n (exchanged_at b n Take) h
+    → is_takeable (class_at b n) ≡ true → IsSweptTo n (exchanged_at b n Take) h
 sweep_step n b h within holds s left =
     let p = and_parts (may_be_taken (class_at b n)) (not (class_at b n).taken) left in
     let step = taking b s.taken h n s.represents within p.0 (not-true _ p.1) (highest-free n b h within holds s p.0) in
@@ -95,7 +95,7 @@ sweep_step n b h within holds s left =
       ];
     }
 
-skip_step : (n : ℕ) (b : Block) (h : History) → IsSweptTo (suc n) b h → is_left (class_at b n) ≡ false → IsSweptTo n b h
+skip_step : (n : ℕ) (b : Block) (h : History) → IsSweptTo (suc n) b h → is_takeable (class_at b n) ≡ false → IsSweptTo n b h
 skip_step n b h s off = record {
   taken = s.taken;
   represents = s.represents;
@@ -109,14 +109,14 @@ skip_step n b h s off = record {
 
 pub length-swept_to : (n : ℕ) (b : Block) → length (swept_to n b).classes ≡ length b.classes
 length-swept_to zero b = refl
-length-swept_to (suc n) b = elim (cases_Bool (is_left (class_at (swept_to n b) (length b.classes - suc n)))) [
+length-swept_to (suc n) b = elim (cases_Bool (is_takeable (class_at (swept_to n b) (length b.classes - suc n)))) [
   | inl on ↦ rw on (length-set (swept_to n b).classes (length b.classes - suc n) _ ∙ length-swept_to n b)
   | inr off ↦ rw off (length-swept_to n b)
 ]
 
 pub outline-swept_to : (n : ℕ) (b : Block) → n ≤ length b.classes → outline (swept_to n b) ≡ outline b
 outline-swept_to zero b fits = refl
-outline-swept_to (suc n) b fits = elim (cases_Bool (is_left (class_at (swept_to n b) (length b.classes - suc n)))) [
+outline-swept_to (suc n) b fits = elim (cases_Bool (is_takeable (class_at (swept_to n b) (length b.classes - suc n)))) [
   | inl on ↦ let l = length-swept_to n b in
       rw on (outline-exchanged (swept_to n b) (length b.classes - suc n) Take (omega arith) ∙ outline-swept_to n b (omega arith))
   | inr off ↦ rw off (outline-swept_to n b (omega arith))
@@ -131,7 +131,7 @@ swept-represents (suc n) b taken h r holds fits =
     let before : IsSweptTo (suc (length b.classes - suc n)) (swept_to n b) h =
     subst (λ k. IsSweptTo k (swept_to n b) h) next (swept-represents n b taken h r holds (omega arith)) in
     let l = length-swept_to n b in
-    elim (cases_Bool (is_left (class_at (swept_to n b) (length b.classes - suc n)))) [
+    elim (cases_Bool (is_takeable (class_at (swept_to n b) (length b.classes - suc n)))) [
       | inl on ↦ rw on (sweep_step (length b.classes - suc n) (swept_to n b) h (omega arith) holds before on)
       | inr off ↦ rw off (skip_step (length b.classes - suc n) (swept_to n b) h before off)
     ]

@@ -87,8 +87,8 @@ restored_to zero b = b
 restored_to (suc n) b = let r = restored_to n b in if (class_at r n).taken then exchanged_at r n PutBack else r
 
 -- the class may be taken and isn't
-abbrev pub is_left : Class → Bool
-is_left c = may_be_taken c && not c.taken
+abbrev pub is_takeable : Class → Bool
+is_takeable c = may_be_taken c && not c.taken
 
 -- with each of the last n classes taken that may be, the highest place first
 abbrev pub swept_to : ℕ → Block → Block
@@ -96,14 +96,14 @@ swept_to zero b = b
 swept_to (suc n) b =
     let r = swept_to n b in
     let at = length b.classes - suc n in
-    if is_left (class_at r at) then exchanged_at r at Take else r
+    if is_takeable (class_at r at) then exchanged_at r at Take else r
 
--- what a view leaves of the records: all but the saved bytes, and that a class is taken
-abbrev pub bare : Class → Class
-bare c = record c { saved = []; taken = false }
+-- what a view leaves of a record as it is: all but the saved bytes, and that the class is taken
+abbrev pub outline_of : Class → Class
+outline_of c = record c { saved = []; taken = false }
 
 abbrev pub outline : Block → List Class
-outline b = map bare b.classes
+outline b = map outline_of b.classes
 
 -- a new class that names these
 abbrev pub new_class : Block → ℕ → ℕ → List ℕ → List ℕ → Bool → Class

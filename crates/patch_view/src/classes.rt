@@ -3,7 +3,7 @@ ghost use Rattle.std.specs.Prelude.{◌≡◌, ◌||◌, ◌+◌, ◌≤◌, ◌
 ghost use Rattle.std.specs.List.{list_any};
 ghost use Rattle.std.specs.List.Sorted.{IsNonDecreasing};
 ghost use Rattle.patch_model.specs.Entry.{is_among};
-ghost use Rattle.patch_view.specs.State.{is_left, laid_on, exchanged_with, leaves_taken, meets, names, hardened, departed, departed_among, MayHaveDeparted, merged, IsMerged};
+ghost use Rattle.patch_view.specs.State.{is_takeable, laid_on, exchanged_with, leaves_taken, meets, names, hardened, departed, departed_among, MayHaveDeparted, merged, IsMerged};
 
 use crate::spans::swap_span;
 use patch_model::{BLOCK, OutOfMemory, PatchNo};
@@ -93,8 +93,8 @@ impl<A: Allocator> Class<A> {
     }
 
     /// It may be taken and isn't.
-    pub(crate) fn is_left(&self) -> bool
-        ensures { result ≡ is_left self.now }
+    pub(crate) fn is_takeable(&self) -> bool
+        ensures { result ≡ is_takeable self.now }
     {
         !self.flying && !self.hard && !self.taken
     }

@@ -1,7 +1,9 @@
 //! One block's bytes and the records of its live classes.
+//!
+//! Where a call has two layers, `x_exactly` does the work on the records, and `x` says what it means for the block's history.
 ghost use Rattle.std.specs.Prelude.{◌≡◌, ◌<◌, length, [], OnErr};
 ghost use Rattle.patch_model.specs.History.{History, cached as the_cached};
-ghost use Rattle.patch_view.specs.State.{Block, is_left, swept_to, class_at, exchanged_at, follows, hinders, place_of, restored_to, outline, IsLeast};
+ghost use Rattle.patch_view.specs.State.{Block, is_takeable, swept_to, class_at, exchanged_at, follows, hinders, place_of, restored_to, outline, IsLeast};
 ghost use Rattle.patch_view.specs.Meaning.{Represents};
 ghost use Rattle.patch_view.specs.Answers.{AnswersTake, AcceptsTake, AnswersPutBack, AcceptsPutBack, TakesAll, PutsAllBack, IsAsBefore, Shows};
 
@@ -200,18 +202,18 @@ impl<A: Allocator> BlockState<A> {
     {
         for passed in 0..self.len() {
             let at = self.len() - 1 - passed;
-            if self.is_left_at(at) {
+            if self.is_takeable_at(at) {
                 self.exchange_at(at, Turn::Take);
             }
         }
     }
 
-    fn is_left_at(&self, at: usize) -> bool
+    fn is_takeable_at(&self, at: usize) -> bool
         requires { at < length self.now.classes }
-        ensures { result ≡ is_left (class_at self.now at) }
+        ensures { result ≡ is_takeable (class_at self.now at) }
     {
         let class = &self.classes[at];
-        class.is_left()
+        class.is_takeable()
     }
 
     /// Puts every class back, in one pass upwards over the records: bytes and records are as before the first take. It is how
