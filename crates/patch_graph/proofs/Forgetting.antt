@@ -9,7 +9,7 @@ use Rattle.patch_model.specs.Member.{In-from_Contains, Contains-from_In}
 use Rattle.patch_graph.specs.State.{Class, Slots, Numbers, find, class_at}
 use Rattle.patch_graph.specs.MarkDurable.{lands, lands_at, AreForgotten, AreLanded}
 use Rattle.patch_graph.proofs.ReadySet.{is_among-In, In-is_among, class_same}
-use Rattle.patch_graph.proofs.Marks.{below-slots}
+use Rattle.patch_graph.proofs.Settling.{below-slots}
 use Rattle.patch_graph.proofs.MarkFlight.{cases_class}
 use Rattle.patch_graph.proofs.Places.{same_default}
 use Rattle.patch_graph.specs.BlockKeys.{HoldsKeys}

@@ -11,7 +11,7 @@ use Rattle.patch_graph.specs.BlockKeys.{LosesOf}
 use Rattle.patch_graph.proofs.MarkFlight.{cases_class}
 use Rattle.patch_graph.proofs.BlockKeys.{KeepsBlocks}
 use Rattle.patch_graph.proofs.ReadySet.{class_same}
-use Rattle.patch_graph.proofs.Marks.{below-slots}
+use Rattle.patch_graph.proofs.Settling.{below-slots}
 
 pub joins-at : (s0 : Slots) (s1 s2 : Slab Class) (n0 n1 : Numbers) (keep gone : ℕ) (c d other : Class) → keep ≢ gone → class_at s0 keep ≡ Some c → class_at s0 gone ≡ Some d
     → class_at s0 gone ≡ Some other → s1.slots ≡ absorbed_at s0 keep other → Updates s1 s2 gone None → AreRedirected other.members keep n0 n1 → IsJoined keep gone c d s0 s2.slots n0 n1

@@ -15,7 +15,7 @@ use Rattle.patch_graph.specs.Search.{IsReachable}
 use Rattle.patch_graph.specs.Between.{lies, lesser, name_if, IsLeastOf, AreWithout, HasNoRing, is_newest, IsLeastBetween}
 use Rattle.patch_graph.proofs.Facts.{known}
 use Rattle.patch_graph.proofs.Places.{place-of}
-use Rattle.patch_graph.proofs.Marks.{marked_below}
+use Rattle.patch_graph.proofs.Settling.{marked_below}
 use Rattle.patch_graph.proofs.ReadySet.{closed, placed, class_same}
 use Rattle.patch_graph.proofs.Reaching.{marked-step, marked-path, Leads-path, path-leads, from-depends, one-key}
 

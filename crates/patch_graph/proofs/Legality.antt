@@ -167,8 +167,8 @@ module _ (g : Graph) (all : List Entry) (r : Represents g all) where
           in_f = f.1;
           of_c = eqb-true e.0.class (class_of all a) e2.0 ∙ sym x.2;
           of_d = eqb-true f.0.class (class_of all b) f3.0 ∙ sym y.2;
-          near = leb-true e.0.patch.start (end f.0.patch) f3.1;
-          near_back = leb-true f.0.patch.start (end e.0.patch) f2.1;
+          e_begins = leb-true e.0.patch.start (end f.0.patch) f3.1;
+          f_begins = leb-true f.0.patch.start (end e.0.patch) f2.1;
         } in
         let lists : map (joined x.0.name y.0.name) all ≡ map (joined (class_of all a) (class_of all b)) all = ap (λ n. map (joined n y.0.name) all) x.2 ∙ ap (λ n. map (joined (class_of all a) n) all) y.2 in
         let m = merges g.made keep gone x.0 y.0 g.slots new.slots g.numbers new.numbers all r differ x.1 y.1 may is (subst IsOrderly (sym lists) o) in (

@@ -1,5 +1,5 @@
 pub mod Places
-pub mod Marks
+pub mod Settling
 pub mod Arranging
 pub mod ReadySet
 pub mod OneMore

@@ -166,9 +166,9 @@ module _ (made block : ℕ) (old new : Slots) (numbers rest : Numbers) (all : Li
       let same = class_same x c (sym at2 ∙ at) in
       let led = subst (λ z. leads numbers z j ≡ true) same t in
       let w = target g all r c j led in
-      let behind = chain-stays j l w.1 d onwards w.4 at3 off in
-      let first = stays-above k j c w.1 at w.4 led behind.0 in
-      (first, onward c (class-now k c at first) (leads-now k j c w.1 w.4 behind.0 led) behind.1)
+      let rest_stays = chain-stays j l w.1 d onwards w.4 at3 off in
+      let first = stays-above k j c w.1 at w.4 led rest_stays.0 in
+      (first, onward c (class-now k c at first) (leads-now k j c w.1 w.4 rest_stays.0 led) rest_stays.1)
 
   landed-depends : (x y : ℕ) → DependsOn all x y → DependsOn (map f all) x y
   landed-depends x y d = record {

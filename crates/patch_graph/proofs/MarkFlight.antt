@@ -23,7 +23,7 @@ use Rattle.patch_graph.specs.Ready.{picks, IsLargestMet}
 use Rattle.patch_graph.specs.MarkFlight.{flown, flown_at, AreFlown}
 use Rattle.patch_graph.proofs.Places.{place-of}
 use Rattle.patch_graph.proofs.ReadySet.{placed, chosen, chosen_set, chosen-ready, chosen-at, at-chosen, some_same, class_same}
-use Rattle.patch_graph.proofs.Marks.{below-slots}
+use Rattle.patch_graph.proofs.Settling.{below-slots}
 
 -- so far, of these keys
 pub record ArePartFlown (marks : List Bool) (keys : List ℕ) (old new : Slots) (upto : ℕ) : Type 0 where

@@ -89,8 +89,8 @@ pub record MayMerge (all : List Entry) (c d : Class) : Type 0 where
   pub in_f : In all f
   pub of_c : e.class ≡ c.name
   pub of_d : f.class ≡ d.name
-  pub near : e.patch.start ≤ end f.patch
-  pub near_back : f.patch.start ≤ end e.patch
+  pub e_begins : e.patch.start ≤ end f.patch
+  pub f_begins : f.patch.start ≤ end e.patch
 
 module _ (made keep gone : ℕ) (c d : Class) (old new : Slots) (numbers rest : Numbers) (all : List Entry)
     (r : Represents (record { made = made; slots = old; numbers = numbers }) all)
@@ -283,7 +283,7 @@ module _ (made keep gone : ℕ) (c d : Class) (old new : Slots) (numbers rest : 
   spans-meet =
       let p = inside keep c at_c may.e may.in_e may.of_c in
       let q = inside gone d at_d may.f may.in_f may.of_d in
-      let n1 = may.near in let n2 = may.near_back in
+      let n1 = may.e_begins in let n2 = may.f_begins in
       let p0 = p.0 in let p1 = p.1 in let q0 = q.0 in let q1 = q.1 in
       (omega arith, omega arith)
     where

@@ -14,7 +14,7 @@ use Rattle.patch_graph.specs.Between.{ReachesOther, LacksAnEnd, LacksAKey}
 use Rattle.patch_graph.specs.Search.{IsReachable}
 use Rattle.patch_graph.proofs.ReadySet.{placed, some_same, class_same, In-is_among}
 use Rattle.patch_graph.proofs.Searches.{found-lead}
-use Rattle.patch_graph.proofs.Marks.{below-slots}
+use Rattle.patch_graph.proofs.Settling.{below-slots}
 
 depends-from : (all : List Entry) (a b : ℕ) → a ≢ b → DependsOn all a b → class_depends all a b ≡ true
 depends-from all a b other d = and_from _ _ (ap not (ne_eqb a b other)) (list_any-from (λ e. e.class == a && list_any (λ f. f.class == b && depends_directly e.patch f.patch) all) all d.e d.in_e

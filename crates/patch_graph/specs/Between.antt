@@ -7,9 +7,9 @@ use Rattle.patch_graph.specs.State.{Class, Graph, Slots, Numbers, find, class_at
 use Rattle.patch_graph.specs.Marks.{is_marked}
 use Rattle.patch_graph.specs.Meaning.{Represents, IsLiveClass, IsNotLive}
 
--- reached, not left over, and neither end
+-- reached, no dead end, and neither end
 abbrev pub lies : List Bool → List Bool → ℕ → ℕ → ℕ → Bool
-lies marks rest from to key = is_marked marks key && not (is_marked rest key) && (not (key == from) && not (key == to))
+lies marks dead_ends from to key = is_marked marks key && not (is_marked dead_ends key) && (not (key == from) && not (key == to))
 
 abbrev pub lesser : Option ℕ → Option ℕ → Option ℕ
 lesser None o = o
@@ -28,7 +28,7 @@ IsLeastOf slots test keys upto (Some m) =
 
 -- the marks without one key
 abbrev pub AreWithout : ℕ → List Bool → List Bool → Type 0
-AreWithout to marks rest = (key : ℕ) → is_marked rest key ≡ (is_marked marks key && not (key == to))
+AreWithout to marks dead_ends = (key : ℕ) → is_marked dead_ends key ≡ (is_marked marks key && not (key == to))
 
 -- the class at the key has the last number that was made
 abbrev pub is_newest : Slots → ℕ → ℕ → Bool

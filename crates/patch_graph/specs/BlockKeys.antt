@@ -1,5 +1,5 @@
 -- Which keys are those of a block's classes.
-use Rattle.std.specs.Prelude.{ℕ, Bool, true, false, ◌≡◌, ◌≢◌, nat_eq, List, [], ◌∷◌, ◌++◌, is_some, Some, None}
+use Rattle.std.specs.Prelude.{ℕ, Bool, true, false, ◌≡◌, ◌≢◌, nat_eq, filter, List, [], ◌∷◌, ◌++◌, is_some, Some, None}
 use Rattle.std.specs.Option.{option_map_or}
 use Rattle.std.specs.Map.{lookup}
 use Rattle.patch_model.specs.Member.{In}
@@ -29,14 +29,26 @@ pub record IsRelisted (old new : Lists) (block : ℕ) (keys : List ℕ) : Type 0
   pub here : listed new block ≡ keys
   pub others : (other : ℕ) → other ≢ block → listed new other ≡ listed old other
 
+-- the key is listed for the block after those that were
+abbrev pub HasListed : Lists → Lists → ℕ → ℕ → Type 0
+HasListed old new block key = IsRelisted old new block (listed old block ++ key ∷ [])
+
+-- the same keys are listed
+abbrev pub KeepsListed : Lists → Lists → ℕ → Type 0
+KeepsListed old new block = IsRelisted old new block (listed old block)
+
 -- the key was put at the end of the block's list, or there was no list
 abbrev pub HasPushed : Lists → Lists → ℕ → ℕ → Bool → Type 0
-HasPushed old new block key true = IsRelisted old new block (listed old block ++ key ∷ [])
+HasPushed old new block key true = HasListed old new block key
 HasPushed old new block key false = (new ≡ old) × (lookup (nat_eq block) old ≡ None)
 
 -- there is a class at the key
 abbrev pub is_key : Slots → ℕ → Bool
 is_key slots key = is_some (class_at slots key)
+
+-- of the block's keys those are listed that have a class
+abbrev pub HasUnlisted : Slots → Lists → Lists → ℕ → Type 0
+HasUnlisted slots old new block = IsRelisted old new block (filter (is_key slots) (listed old block))
 
 -- each class that is gone was of the block
 abbrev pub LosesOf : ℕ → Slots → Slots → Type 0

@@ -85,7 +85,7 @@ abbrev pub gathered : Slots → List Bool → List ℕ → List ℕ
 gathered slots marks [] = []
 gathered slots marks (key ∷ keys) = members_at slots marks key ++ gathered slots marks keys
 
--- each number is below those behind it
+-- each number is below those after it
 abbrev pub AreRising : List ℕ → Type 0
 AreRising [] = Unit {0}
 AreRising (n ∷ ns) = AllByRecursion (λ m. n < m) ns × AreRising ns
@@ -95,3 +95,7 @@ pub record IsArranged (old new : List ℕ) : Type 0 where
   pub rising : AreRising new
   pub kept : (n : ℕ) → In old n → In new n
   pub no_more : (n : ℕ) → In new n → In old n
+
+-- the keys that are marked are those of what a send of the block takes
+abbrev pub MarksReady : Graph → ℕ → List Bool → Type 0
+MarksReady g block marks = IsLargestMet g.slots g.numbers (picks g.slots block) (is_marked marks)

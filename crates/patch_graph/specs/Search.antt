@@ -11,7 +11,7 @@ queued_at queue i = slice_index_or queue i 0
 abbrev pub Reaches : Slots → Numbers → ℕ → ℕ → Type 0
 Reaches slots numbers from key = (from ≡ key) ⊎ Leads slots numbers from key
 
--- what a search has found that doesn't look behind the key to, where it has looked behind so many of the queue
+-- what a search has found that doesn't follow the key to, where it has followed so many of the queue
 pub record IsSearch (slots : Slots) (numbers : Numbers) (from to : ℕ) (marks : List Bool) (queue : List ℕ) (head tail : ℕ) : Type 0 where
   pub first : is_marked marks from ≡ true
   pub queued : (i : ℕ) → i < tail → is_marked marks (queued_at queue i) ≡ true
@@ -71,7 +71,7 @@ HasFollowed g c head old new = (from to key : ℕ) → class_at g.slots key ≡ 
     → IsLook g.slots g.numbers from to key c.after old.marks old.queue head old.tail 0
     → IsLook g.slots g.numbers from to key c.after new.marks new.queue head new.tail (length c.after)
 
--- the search has looked behind one more of the queue
+-- the search has followed one more of the queue
 abbrev pub HasLooked : Graph → ℕ → ℕ → Walk → Walk → Type 0
 HasLooked g to head old new = (from : ℕ) → head < old.tail
     → IsSearch g.slots g.numbers from to old.marks old.queue head old.tail

@@ -34,6 +34,7 @@ fn make_room<A: Allocator + Copy>(
     scratch.grow(classes.capacity())
 }
 
+/// Adds the name of the class at the key, if it has a byte of the block between these.
 fn add_overlap<A: Allocator>(
     register: &Register<A>,
     block: BlockNo,
@@ -71,6 +72,7 @@ pub fn dependencies<A: Allocator>(
     Ok(all)
 }
 
+/// Whether the class at the key is a hard one of the block.
 fn is_hard_at<A: Allocator>(register: &Register<A>, block: BlockNo, key: usize) -> bool
     ensures { result ≡ option_map_or (λ c. c.hard && c.block == block) (class_at register.now.slots key) false }
 {
@@ -80,6 +82,8 @@ fn is_hard_at<A: Allocator>(register: &Register<A>, block: BlockNo, key: usize) 
     }
 }
 
+/// Whether a patch of the block that depends on this number may drop its undo bytes: the number isn't live, or that of a
+/// hard class of the block.
 fn lets_drop<A: Allocator>(register: &Register<A>, block: BlockNo, no: PatchNo) -> bool
     ensures { result ≡ lets_drop register.now.slots register.now.numbers block no }
 {
@@ -89,6 +93,7 @@ fn lets_drop<A: Allocator>(register: &Register<A>, block: BlockNo, no: PatchNo) 
     }
 }
 
+/// Whether all of these let it.
 fn let_drop<A: Allocator>(register: &Register<A>, block: BlockNo, deps: &[PatchNo]) -> bool
     ensures { result ≡ list_all (lets_drop register.now.slots register.now.numbers block) deps.now }
 {

@@ -1,6 +1,6 @@
 //! Which keys are those of a block's classes.
 ghost use Rattle.std.specs.Prelude.{◌≡◌, ◌∷◌, ◌++◌, [], filter, IfOk, OnOk, OnErr};
-ghost use Rattle.patch_graph.specs.BlockKeys.{listed, is_key, IsRelisted, HasPushed};
+ghost use Rattle.patch_graph.specs.BlockKeys.{listed, is_key, HasListed, HasPushed, HasUnlisted, KeepsListed};
 
 use crate::register::Register;
 use indexmap::IndexMap;
@@ -27,6 +27,7 @@ impl<A: Allocator> Model for KeyList<A> {
 pub type BlockKeys<A> = IndexMap<BlockNo, KeyList<A>, BuildHasherDefault<FoldHasher>, A>;
 
 impl<A: Allocator> KeyList<A> {
+    /// One key.
     fn of(alloc: A, key: usize) -> Result<KeyList<A>, AllocError>
         ensures { IfOk result (λ list. list ≡ key ∷ []) }
     {
@@ -34,6 +35,7 @@ impl<A: Allocator> KeyList<A> {
         Ok(KeyList { keys })
     }
 
+    /// Puts a key at the end.
     fn push(&mut self, key: usize) -> Result<(), AllocError>
         ensures added { OnOk result (self.new ≡ self.old ++ key ∷ []) }
         ensures refused { OnErr result (self.new ≡ self.old) }
@@ -42,6 +44,7 @@ impl<A: Allocator> KeyList<A> {
         Ok(())
     }
 
+    /// All keys.
     fn as_slice(&self) -> &[usize]
         ensures { result.now ≡ self.now }
     {
@@ -50,7 +53,7 @@ impl<A: Allocator> KeyList<A> {
 }
 
 impl<A: Allocator> KeyList<A> {
-    // Leaves out the keys that have no class.
+    /// Leaves out the keys that have no class.
     fn keep_live(&mut self, register: &Register<A>)
         ensures { self.new ≡ filter (is_key register.now.slots) self.old }
     {
@@ -68,13 +71,14 @@ pub fn listed<A: Allocator>(lists: &BlockKeys<A>, block: BlockNo) -> &[usize]
     }
 }
 
+/// Puts a key at the end of the block's list. Whether there is a list.
 fn push_to<A: Allocator>(
     lists: &mut BlockKeys<A>,
     block: BlockNo,
     key: usize,
 ) -> Result<bool, AllocError>
     ensures added { IfOk result (λ found. HasPushed lists.old.entries lists.new.entries block key found) }
-    ensures refused { OnErr result (IsRelisted lists.old.entries lists.new.entries block (listed lists.old.entries block)) }
+    ensures refused { OnErr result (KeepsListed lists.old.entries lists.new.entries block) }
 {
     match lists.get_mut(&block) {
         Some(list) => {
@@ -85,15 +89,15 @@ fn push_to<A: Allocator>(
     }
 }
 
-/// Lists a key for the block, behind those that are.
+/// Lists a key for the block, after those that are.
 pub fn list<A: Allocator + Copy>(
     alloc: A,
     lists: &mut BlockKeys<A>,
     block: BlockNo,
     key: usize,
 ) -> Result<(), AllocError>
-    ensures added { OnOk result (IsRelisted lists.old.entries lists.new.entries block (listed lists.old.entries block ++ key ∷ [])) }
-    ensures refused { OnErr result (IsRelisted lists.old.entries lists.new.entries block (listed lists.old.entries block)) }
+    ensures added { OnOk result (HasListed lists.old.entries lists.new.entries block key) }
+    ensures refused { OnErr result (KeepsListed lists.old.entries lists.new.entries block) }
 {
     if !push_to(lists, block, key)? {
         let list = KeyList::of(alloc, key)?;
@@ -104,7 +108,7 @@ pub fn list<A: Allocator + Copy>(
 
 /// Leaves out the block's keys that have no class.
 pub fn unlist<A: Allocator>(lists: &mut BlockKeys<A>, register: &Register<A>, block: BlockNo)
-    ensures { IsRelisted lists.old.entries lists.new.entries block (filter (is_key register.now.slots) (listed lists.old.entries block)) }
+    ensures { HasUnlisted register.now.slots lists.old.entries lists.new.entries block }
 {
     if let Some(list) = lists.get_mut(&block) {
         list.keep_live(register);

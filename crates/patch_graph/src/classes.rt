@@ -17,7 +17,7 @@ pub struct Class<A: Allocator = Global> {
     pub block: BlockNo,
     pub mark: Mark,
     pub hard: bool,
-    /// Its span, from the first byte to that behind the last one.
+    /// Its span, from the first byte to the one after the last.
     pub start: usize,
     pub stop: usize,
     /// Patches of the classes that it depends on directly, live or not; some of them may be its own by now.
@@ -49,7 +49,7 @@ pub struct LiveClass {
     pub block: BlockNo,
     pub mark: Mark,
     pub hard: bool,
-    /// Its span, from the first byte to that behind the last one.
+    /// Its span, from the first byte to the one after the last.
     pub start: usize,
     pub stop: usize,
 }

@@ -129,6 +129,7 @@ impl<A: Allocator + Copy> Graph<A> {
         Ok(Added { no, hard })
     }
 
+    /// `add`, by the class that it puts in. Whether the patch is hard.
     fn add_exactly(
         &mut self,
         block: BlockNo,

@@ -8,6 +8,7 @@ mod classes;
 mod graphs;
 mod mark_durable;
 mod mark_flight;
+mod marks;
 mod merging;
 mod queries;
 mod ready;

@@ -16,6 +16,7 @@ fn lands<A: Allocator>(class: &Class<A>, block: BlockNo) -> bool
     matches!(class.mark, Mark::Flight) && class.block == block
 }
 
+/// Whether there is such a class at the key.
 fn lands_at<A: Allocator>(register: &Register<A>, block: BlockNo, key: usize) -> bool
     ensures { result ≡ lands_at register.now.slots block key }
 {
@@ -25,6 +26,7 @@ fn lands_at<A: Allocator>(register: &Register<A>, block: BlockNo, key: usize) ->
     }
 }
 
+/// Takes the keys of these numbers away.
 fn forget<A: Allocator>(keys: &mut Keys<A>, members: &[PatchNo])
     ensures { AreForgotten members.now keys.old.entries keys.new.entries (length members.now) }
 {

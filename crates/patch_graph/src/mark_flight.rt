@@ -4,7 +4,8 @@ ghost use Rattle.patch_graph.specs.Marks.{is_marked, HoldsMarked};
 ghost use Rattle.patch_graph.specs.BlockKeys.{HoldsKeys};
 ghost use Rattle.patch_graph.specs.MarkFlight.{flown_at, AreFlown, PutsInFlight};
 
-use crate::ready::{clear, is_marked, mark_ready};
+use crate::marks::{clear, is_marked};
+use crate::ready::mark_ready;
 use crate::register::{Classes, Register};
 use crate::scratch::Scratch;
 use patch_model::{BlockNo, Mark, laws};
@@ -39,8 +40,8 @@ pub fn fly_ready<A: Allocator>(
     keys: &[usize],
     scratch: &mut Scratch<A>,
 )
-    requires short { length register.old.slots ≤ scratch.old }
-    requires all { HoldsKeys register.old.slots block keys.now }
+    requires fits { length register.old.slots ≤ scratch.old }
+    requires complete { HoldsKeys register.old.slots block keys.now }
     ensures answer { PutsInFlight register.old register.new block }
     ensures scratch { scratch.new ≡ scratch.old }
     ensures made { register.new.made ≡ register.old.made }

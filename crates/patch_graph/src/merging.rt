@@ -11,6 +11,7 @@ use crate::register::{Classes, Keys, Register};
 use patch_model::PatchNo;
 use std::alloc::{AllocError, Allocator};
 
+/// The same class again.
 fn copy<A: Allocator>(class: &Class<A>, alloc: A) -> Result<Class<A>, AllocError>
 where
     A: Copy,
@@ -28,6 +29,7 @@ where
     })
 }
 
+/// The class at a key again.
 fn copy_at<A: Allocator + Copy>(
     alloc: A,
     register: &Register<A>,
@@ -41,13 +43,14 @@ fn copy_at<A: Allocator + Copy>(
     }
 }
 
+/// The lesser number.
 fn lesser(a: PatchNo, b: PatchNo) -> PatchNo
     ensures { result ≡ min a b }
 {
     if a.0 < b.0 { a } else { b }
 }
 
-// Takes in the other class's patches.
+/// Takes in the other class's patches.
 fn absorb<A: Allocator>(class: &mut Class<A>, other: &Class<A>) -> Result<(), AllocError>
     ensures joined { OnOk result (class.new ≡ joined_class class.old other.now) }
     ensures refused { OnErr result (class.new ≡ class.old) }
@@ -68,6 +71,7 @@ fn absorb<A: Allocator>(class: &mut Class<A>, other: &Class<A>) -> Result<(), Al
     Ok(())
 }
 
+/// Takes another class's patches into the class at the key.
 fn absorb_at<A: Allocator>(
     classes: &mut Classes<A>,
     key: usize,
@@ -82,6 +86,7 @@ fn absorb_at<A: Allocator>(
     Ok(())
 }
 
+/// Has a number lead to another key, if it leads to one.
 fn redirect_one<A: Allocator>(keys: &mut Keys<A>, no: PatchNo, key: usize)
     ensures here { find keys.new.entries no ≡ option_map (λ k. key) (find keys.old.entries no) }
     ensures others { (n : ℕ) → n ≢ no → find keys.new.entries n ≡ find keys.old.entries n }
@@ -91,6 +96,7 @@ fn redirect_one<A: Allocator>(keys: &mut Keys<A>, no: PatchNo, key: usize)
     }
 }
 
+/// Has these numbers lead to another key.
 fn redirect<A: Allocator>(keys: &mut Keys<A>, members: &[PatchNo], key: usize)
     ensures { AreRedirected members.now key keys.old.entries keys.new.entries }
 {

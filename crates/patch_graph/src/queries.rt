@@ -6,7 +6,8 @@ ghost use Rattle.patch_graph.specs.BlockKeys.{HoldsKeys};
 ghost use Rattle.patch_graph.specs.Marks.{AreClear};
 
 use crate::between::{copy_without, least_name};
-use crate::ready::{any_marked, clear, is_marked, mark_ready, marked_numbers, settle};
+use crate::marks::{any_marked, clear, is_marked};
+use crate::ready::{mark_ready, marked_numbers, settle};
 use crate::register::Register;
 use crate::scratch::Scratch;
 use crate::searching::search;
@@ -21,8 +22,8 @@ pub fn numbers_ready<A: Allocator, B: Allocator>(
     keys: &[usize],
     scratch: &mut Scratch<A>,
 ) -> Result<Vec<PatchNo, B>, AllocError>
-    requires short { length register.now.slots ≤ scratch.old }
-    requires all { HoldsKeys register.now.slots block keys.now }
+    requires fits { length register.now.slots ≤ scratch.old }
+    requires complete { HoldsKeys register.now.slots block keys.now }
     ensures scratch { scratch.new ≡ scratch.old }
     ensures answer { IfOk result (λ numbers. AreReady register.now block numbers.items) }
 {
@@ -41,8 +42,8 @@ pub fn is_any_ready<A: Allocator>(
     keys: &[usize],
     scratch: &mut Scratch<A>,
 ) -> bool
-    requires short { length register.now.slots ≤ scratch.old }
-    requires all { HoldsKeys register.now.slots block keys.now }
+    requires fits { length register.now.slots ≤ scratch.old }
+    requires complete { HoldsKeys register.now.slots block keys.now }
     ensures scratch { scratch.new ≡ scratch.old }
     ensures answer { TellsReady register.now block result }
 {
@@ -54,6 +55,7 @@ pub fn is_any_ready<A: Allocator>(
     any
 }
 
+/// `reaches`, on marks and a queue.
 fn reaches_exactly<A: Allocator>(
     register: &Register<A>,
     a: PatchNo,
@@ -61,8 +63,8 @@ fn reaches_exactly<A: Allocator>(
     marks: &mut [bool],
     queue: &mut [usize],
 ) -> bool
-    requires short { length register.now.slots ≤ length marks.old }
-    requires long { length marks.old ≤ length queue.old }
+    requires fits { length register.now.slots ≤ length marks.old }
+    requires queue_fits { length marks.old ≤ length queue.old }
     requires clear { AreClear marks.old }
     ensures answer { TellsReach register.now a b result }
     ensures absent { LacksAKey register.now.numbers a b → result ≡ false }
@@ -78,6 +80,7 @@ fn reaches_exactly<A: Allocator>(
     if from == to {
         return false;
     }
+    // Not reached: there is a class at the key, and marks for all of them.
     if from >= marks.len() {
         return false;
     }
@@ -94,7 +97,7 @@ pub fn reaches<A: Allocator>(
     b: PatchNo,
     scratch: &mut Scratch<A>,
 ) -> bool
-    requires short { length register.now.slots ≤ scratch.old }
+    requires fits { length register.now.slots ≤ scratch.old }
     ensures answer { TellsReach register.now a b result }
     ensures absent { LacksAKey register.now.numbers a b → result ≡ false }
     ensures scratch { scratch.new ≡ scratch.old }
@@ -108,7 +111,7 @@ pub fn reaches<A: Allocator>(
     )
 }
 
-// Nothing depends on the class of the last patch that was made, where it is a class of its own.
+/// Whether the class at the key has the name of the last patch that was made: nothing depends on such a class.
 fn is_newest<A: Allocator>(register: &Register<A>, key: usize) -> bool
     ensures { result ≡ is_newest register.now.slots key register.now.made }
 {
@@ -118,23 +121,25 @@ fn is_newest<A: Allocator>(register: &Register<A>, key: usize) -> bool
     }
 }
 
+/// `between`, on two rows of marks and a queue. Of the classes that are found from the first one, those are dead ends
+/// that don't lead to the second: they are what is left when each that leads out of them is struck out.
 fn between_exactly<A: Allocator>(
     register: &Register<A>,
     a: PatchNo,
     b: PatchNo,
     marks: &mut [bool],
-    rest: &mut [bool],
+    dead_ends: &mut [bool],
     queue: &mut [usize],
 ) -> Option<PatchNo>
-    requires short { length register.now.slots ≤ length marks.old }
-    requires long { length marks.old ≤ length queue.old }
-    requires spare { length marks.old ≤ length rest.old }
+    requires fits { length register.now.slots ≤ length marks.old }
+    requires queue_fits { length marks.old ≤ length queue.old }
+    requires dead_ends_fit { length marks.old ≤ length dead_ends.old }
     requires clear { AreClear marks.old }
-    requires clear_rest { AreClear rest.old }
+    requires clear_ends { AreClear dead_ends.old }
     ensures answer { TellsLeastBetween register.now a b result }
     ensures absent { LacksAKey register.now.numbers a b → result ≡ None }
     ensures cleared { AreClear marks.new }
-    ensures cleared_rest { AreClear rest.new }
+    ensures cleared_ends { AreClear dead_ends.new }
 {
     let Some(from) = register.find(a) else {
         return None;
@@ -142,6 +147,7 @@ fn between_exactly<A: Allocator>(
     let Some(to) = register.find(b) else {
         return None;
     };
+    // Not reached: there is a class at the key, and marks for all of them.
     if from >= marks.len() {
         return None;
     }
@@ -151,10 +157,10 @@ fn between_exactly<A: Allocator>(
     let count = search(register, from, to, marks, queue);
     let found = &mut queue[..count];
     found.reverse();
-    copy_without(found, marks, rest, to);
-    settle(register, found, rest);
-    let least = least_name(register, found, marks, rest, from, to);
-    clear(found, rest);
+    copy_without(found, marks, dead_ends, to);
+    settle(register, found, dead_ends);
+    let least = least_name(register, found, marks, dead_ends, from, to);
+    clear(found, dead_ends);
     clear(found, marks);
     least
 }
@@ -166,7 +172,7 @@ pub fn between<A: Allocator>(
     b: PatchNo,
     scratch: &mut Scratch<A>,
 ) -> Option<PatchNo>
-    requires short { length register.now.slots ≤ scratch.old }
+    requires fits { length register.now.slots ≤ scratch.old }
     ensures answer { TellsLeastBetween register.now a b result }
     ensures absent { LacksAKey register.now.numbers a b → result ≡ None }
     ensures scratch { scratch.new ≡ scratch.old }
@@ -176,7 +182,7 @@ pub fn between<A: Allocator>(
         a,
         b,
         scratch.marks.as_mut_slice(),
-        scratch.rest.as_mut_slice(),
+        scratch.dead_ends.as_mut_slice(),
         scratch.queue.as_mut_slice(),
     )
 }

@@ -1,25 +1,18 @@
-//! Marks on classes, by their keys.
+//! What a send takes, by marks on the keys of classes.
 ghost use Rattle.std.specs.Prelude.{◌++◌, OnOk, IfOk, OnErr, ◌≡◌, ◌<◌, ◌≤◌, ◌==◌, ◌&&◌, ℕ, length, slice_set, true, false};
 ghost use Rattle.std.specs.List.{list_any};
 ghost use Rattle.patch_graph.specs.State.{find, class_at};
 ghost use Rattle.patch_graph.specs.BlockKeys.{HoldsKeys};
 ghost use Rattle.patch_graph.specs.Marks.{is_marked, AreClear, HoldsMarked};
-ghost use Rattle.patch_graph.specs.Ready.{is_met, is_met_at, is_unmet, picks, IsRound, IsLargestMet, members_at, gathered, IsArranged};
+ghost use Rattle.patch_graph.specs.Ready.{is_met, is_met_at, is_unmet, picks, IsRound, IsLargestMet, MarksReady, members_at, gathered, IsArranged};
 
 use crate::classes::Class;
+use crate::marks::{is_marked, put_mark, take_mark};
 use crate::register::Register;
 use patch_model::{BlockNo, PatchNo};
 use std::alloc::{AllocError, Allocator};
 
-pub fn is_marked(marks: &[bool], key: usize) -> bool
-    ensures { result ≡ is_marked marks.now key }
-{
-    match marks.get(key) {
-        Some(marked) => *marked,
-        None => false,
-    }
-}
-
+/// Whether a number isn't live, or its class is marked.
 fn is_met_at<A: Allocator>(register: &Register<A>, marks: &[bool], no: PatchNo) -> bool
     ensures { result ≡ is_met_at register.now.numbers (is_marked marks.now) no }
 {
@@ -29,36 +22,20 @@ fn is_met_at<A: Allocator>(register: &Register<A>, marks: &[bool], no: PatchNo) 
     }
 }
 
+/// Whether all that a class depends on is met.
 fn is_met<A: Allocator>(register: &Register<A>, class: &Class<A>, marks: &[bool]) -> bool
     ensures { result ≡ is_met register.now.numbers (is_marked marks.now) class.now }
 {
     class.after.iter().all(|no| is_met_at(register, marks, *no))
 }
 
+/// Whether the class at a key is in memory and of the block.
 fn picks<A: Allocator>(register: &Register<A>, block: BlockNo, key: usize) -> bool
     ensures { result ≡ picks register.now.slots block key }
 {
     match register.class_at(key) {
         Some(class) => class.is_candidate(block),
         None => false,
-    }
-}
-
-/// Marks a key.
-pub fn put_mark(marks: &mut [bool], key: usize)
-    ensures { marks.new ≡ slice_set marks.old key true }
-{
-    if key < marks.len() {
-        marks[key] = true;
-    }
-}
-
-/// Takes the mark off a key.
-pub fn take_mark(marks: &mut [bool], key: usize)
-    ensures { marks.new ≡ slice_set marks.old key false }
-{
-    if key < marks.len() {
-        marks[key] = false;
     }
 }
 
@@ -69,9 +46,9 @@ pub fn pick<A: Allocator>(
     keys: &[usize],
     marks: &mut [bool],
 )
-    requires short { length register.now.slots ≤ length marks.old }
+    requires fits { length register.now.slots ≤ length marks.old }
     requires clear { AreClear marks.old }
-    requires all { HoldsKeys register.now.slots block keys.now }
+    requires complete { HoldsKeys register.now.slots block keys.now }
     ensures picked { (key : ℕ) → is_marked marks.new key ≡ picks register.now.slots block key }
     ensures length { length marks.new ≡ length marks.old }
 {
@@ -82,17 +59,7 @@ pub fn pick<A: Allocator>(
     }
 }
 
-/// Takes the marks off these keys.
-pub fn clear(keys: &[usize], marks: &mut [bool])
-    requires { HoldsMarked marks.old keys.now }
-    ensures clear { AreClear marks.new }
-    ensures length { length marks.new ≡ length marks.old }
-{
-    for key in keys {
-        take_mark(marks, *key);
-    }
-}
-
+/// Whether the key is marked, and its class depends on something that isn't met.
 fn is_unmet<A: Allocator>(register: &Register<A>, marks: &[bool], key: usize) -> bool
     ensures { result ≡ is_unmet register.now.slots register.now.numbers (is_marked marks.now) key }
 {
@@ -139,10 +106,10 @@ pub fn mark_ready<A: Allocator>(
     keys: &[usize],
     marks: &mut [bool],
 )
-    requires short { length register.now.slots ≤ length marks.old }
+    requires fits { length register.now.slots ≤ length marks.old }
     requires clear { AreClear marks.old }
-    requires all { HoldsKeys register.now.slots block keys.now }
-    ensures largest { IsLargestMet register.now.slots register.now.numbers (picks register.now.slots block) (is_marked marks.new) }
+    requires complete { HoldsKeys register.now.slots block keys.now }
+    ensures largest { MarksReady register.now block marks.new }
     ensures held { HoldsMarked marks.new keys.now }
     ensures length { length marks.new ≡ length marks.old }
 {
@@ -150,6 +117,7 @@ pub fn mark_ready<A: Allocator>(
     settle(register, keys, marks);
 }
 
+/// Adds the numbers of the class at a key, if it is marked.
 fn add_members<A: Allocator, B: Allocator>(
     register: &Register<A>,
     marks: &[bool],
@@ -203,10 +171,4 @@ pub fn marked_numbers<A: Allocator, B: Allocator>(
     let mut all = gather(alloc, register, keys, marks)?;
     arrange(&mut all)?;
     Ok(all)
-}
-
-pub fn any_marked(keys: &[usize], marks: &[bool]) -> bool
-    ensures { result ≡ list_any (is_marked marks.now) keys.now }
-{
-    keys.iter().any(|key| is_marked(marks, *key))
 }

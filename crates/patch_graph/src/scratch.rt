@@ -1,17 +1,17 @@
-//! Scratch for searches, which `add` makes.
+//! Room for searches, which `add` makes.
 ghost use Rattle.std.specs.Prelude.{◌≡◌, ◌≤◌, length, max, OnOk, OnErr};
 ghost use Rattle.patch_graph.specs.Marks.{AreClear};
 
 use std::alloc::{AllocError, Allocator, Global};
 use std::marker::Model;
 
-/// Scratch for searches among as many classes: which of them were met, in what order, and which are left over. Between two
+/// Room for searches among as many classes: which of them were met, in what order, and which are dead ends. Between two
 /// searches nothing is marked.
 #[derive(Drop)]
 pub struct Scratch<A: Allocator = Global> {
     pub marks: Vec<bool, A>,
     pub queue: Vec<usize, A>,
-    pub rest: Vec<bool, A>,
+    pub dead_ends: Vec<bool, A>,
 }
 
 impl<A: Allocator> Model for Scratch<A> {
@@ -22,19 +22,19 @@ impl<A: Allocator> Model for Scratch<A> {
 
     ghost view = { λ r. length r.marks.items };
 
-    ghost invariant = { λ r. (length r.marks.items ≤ length r.queue.items) × (length r.marks.items ≤ length r.rest.items)
-        × AreClear r.marks.items × AreClear r.rest.items };
+    ghost invariant = { λ r. (length r.marks.items ≤ length r.queue.items) × (length r.marks.items ≤ length r.dead_ends.items)
+        × AreClear r.marks.items × AreClear r.dead_ends.items };
 }
 
 impl<A: Allocator + Copy> Scratch<A> {
-    /// Scratch for no class.
+    /// Room for no class.
     pub fn new(alloc: A) -> Scratch<A>
         ensures { result ≡ 0 }
     {
         Scratch {
             marks: Vec::new(alloc),
             queue: Vec::new(alloc),
-            rest: Vec::new(alloc),
+            dead_ends: Vec::new(alloc),
         }
     }
 }
@@ -46,12 +46,13 @@ impl<A: Allocator> Scratch<A> {
         ensures kept { self.old ≤ self.new }
     {
         lengthen_queue(&mut self.queue, count)?;
-        lengthen(&mut self.rest, count)?;
+        lengthen(&mut self.dead_ends, count)?;
         lengthen(&mut self.marks, count)?;
         Ok(())
     }
 }
 
+/// Makes a row of marks this long, if it is shorter.
 fn lengthen<A: Allocator>(marks: &mut Vec<bool, A>, count: usize) -> Result<(), AllocError>
     ensures enough { OnOk result (count ≤ length marks.new.items) }
     ensures kept { length marks.old.items ≤ length marks.new.items }
@@ -64,6 +65,7 @@ fn lengthen<A: Allocator>(marks: &mut Vec<bool, A>, count: usize) -> Result<(), 
     Ok(())
 }
 
+/// Makes a queue this long, if it is shorter.
 fn lengthen_queue<A: Allocator>(queue: &mut Vec<usize, A>, count: usize) -> Result<(), AllocError>
     ensures enough { OnOk result (count ≤ length queue.new.items) }
     ensures kept { length queue.old.items ≤ length queue.new.items }

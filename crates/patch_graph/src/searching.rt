@@ -5,12 +5,12 @@ ghost use Rattle.patch_graph.specs.Marks.{is_marked, AreClear, HoldsMarked};
 ghost use Rattle.patch_graph.specs.Search.{IsReachable, HasFollowed, HasLooked, Visited, walk};
 
 use crate::classes::Class;
-use crate::ready::is_marked;
+use crate::marks::is_marked;
 use crate::register::Register;
 use patch_model::PatchNo;
 use std::alloc::Allocator;
 
-// Marks the class of a number and puts it at the queue's end, unless it is marked. Returns the new end.
+/// Marks the class of a number and puts it at the queue's end, unless it is marked. The new end.
 fn visit<A: Allocator>(
     register: &Register<A>,
     no: PatchNo,
@@ -23,12 +23,14 @@ fn visit<A: Allocator>(
     let Some(key) = register.find(no) else {
         return tail;
     };
+    // Not reached in a search: there are marks for all classes.
     if key >= marks.len() {
         return tail;
     }
     if is_marked(marks, key) {
         return tail;
     }
+    // Not reached in a search: the queue holds each marked key once, and is as long as the marks.
     if tail >= queue.len() {
         return tail;
     }
@@ -37,7 +39,7 @@ fn visit<A: Allocator>(
     tail + 1
 }
 
-// Marks what the class depends on directly.
+/// Marks what the class depends on directly. The new end of the queue.
 fn visit_all<A: Allocator>(
     register: &Register<A>,
     class: &Class<A>,
@@ -56,7 +58,7 @@ fn visit_all<A: Allocator>(
     end
 }
 
-// Looks behind the next class of the queue, unless it is at the key `to`.
+/// Marks what the next class of the queue depends on directly, unless it is at the key `to`. The new end of the queue.
 fn look<A: Allocator>(
     register: &Register<A>,
     to: usize,
@@ -65,7 +67,7 @@ fn look<A: Allocator>(
     head: usize,
     tail: usize,
 ) -> usize
-    requires long { length marks.old ≤ length queue.old }
+    requires queue_fits { length marks.old ≤ length queue.old }
     requires inside { head < length queue.old }
     ensures { HasLooked register.now to head (walk marks.old queue.old tail) (walk marks.new queue.new result) }
 {
@@ -79,7 +81,7 @@ fn look<A: Allocator>(
     }
 }
 
-/// Marks what the class at `from` leads to, and itself, but doesn't look behind the key `to`. The marked ones are the
+/// Marks what the class at `from` leads to, and itself, but not what is reached through the key `to` alone. The marked ones are the
 /// first of the queue, as many as are returned.
 pub fn search<A: Allocator>(
     register: &Register<A>,
@@ -88,7 +90,7 @@ pub fn search<A: Allocator>(
     marks: &mut [bool],
     queue: &mut [usize],
 ) -> usize
-    requires long { length marks.old ≤ length queue.old }
+    requires queue_fits { length marks.old ≤ length queue.old }
     requires low { from < length marks.old }
     requires clear { AreClear marks.old }
     ensures found { IsReachable register.now.slots register.now.numbers from to marks.new }

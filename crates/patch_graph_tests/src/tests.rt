@@ -1,19 +1,19 @@
 //! Walks through the calls, and each allocation refused in turn.
 use linked_list_allocator::LocalHeap;
 use patch_graph::{Added, Graph, LiveClass};
-use patch_model::{BlockNo, MAX_PATCHES, Mark, OutOfMemory, PatchNo, Undo};
+use patch_model::{BLOCK, BlockNo, MAX_LIVE, MAX_PATCHES, Mark, OutOfMemory, PatchNo, Undo};
 use std::alloc::{Allocator, Global};
 use std::process::Abort;
 use std::test::Fail;
 
-// A patch to be made: its block, its span, what it names, and whether it may drop its undo bytes.
+// A patch to be made: its block, its span, what it names, and what becomes of its undo bytes.
 #[derive(Clone, Copy)]
 struct Ask {
     block: u32,
     start: usize,
     stop: usize,
     after: Option<u32>,
-    drops: bool,
+    undo: Undo,
 }
 
 fn ask_for(block: u32, start: usize, stop: usize, after: Option<u32>) -> Ask {
@@ -22,7 +22,7 @@ fn ask_for(block: u32, start: usize, stop: usize, after: Option<u32>) -> Ask {
         start,
         stop,
         after,
-        drops: false,
+        undo: Undo::Keep,
     }
 }
 
@@ -32,7 +32,7 @@ fn add<A: Allocator + Copy>(
     ask: &Ask,
 ) -> Result<Added, OutOfMemory> {
     assert!(rt; graph.made() < MAX_PATCHES && ask.start < ask.stop);
-    let undo = if ask.drops { Undo::MayDrop } else { Undo::Keep };
+    let undo = ask.undo;
     match ask.after {
         Some(no) => graph.add(
             BlockNo(ask.block),
@@ -45,13 +45,27 @@ fn add<A: Allocator + Copy>(
     }
 }
 
+// What is expected of a patch that may drop its undo bytes.
+#[derive(Clone, Copy, PartialEq, Eq)]
+enum Hardness {
+    Hard,
+    Soft,
+}
+
+// Whether a path is expected from one class to another.
+#[derive(Clone, Copy, PartialEq, Eq)]
+enum Path {
+    There,
+    Missing,
+}
+
 // A move of a walk, and what is expected of it.
 #[derive(Clone, Copy)]
 enum Move<'a> {
     // A patch on a span of a block, which names another one or none.
     Make(u32, usize, usize, Option<u32>),
     // A patch that may drop its undo bytes, on a block's first byte, and whether it is hard.
-    MakeLoose(u32, Option<u32>, bool),
+    MakeLoose(u32, Option<u32>, Hardness),
     // The classes of two patches become one of this name.
     Merge(u32, u32, u32),
     Send(u32),
@@ -59,7 +73,7 @@ enum Move<'a> {
     // What may be written of a block.
     Ready(u32, &'a [u32]),
     // Whether the first patch's class reaches the second's, and what lies between them.
-    Paths(u32, u32, bool, Option<PatchNo>),
+    Paths(u32, u32, Path, Option<PatchNo>),
     MarkOf(u32, Option<Mark>),
     ClassOf(u32, Option<PatchNo>),
     Live(u32, Option<LiveClass>),
@@ -81,11 +95,11 @@ fn make_loose(
     graph: &mut Graph,
     block: u32,
     after: Option<u32>,
-    hard: bool,
+    hardness: Hardness,
 ) -> Result<(), Fail> {
     let mut ask = ask_for(block, 0, 1, after);
-    ask.drops = true;
-    assert_eq!(rt; make(rt, graph, &ask)?.hard, hard);
+    ask.undo = Undo::MayDrop;
+    assert_eq!(rt; make(rt, graph, &ask)?.hard, hardness == Hardness::Hard);
     Ok(())
 }
 
@@ -113,10 +127,10 @@ fn expect_paths(
     graph: &mut Graph,
     a: u32,
     b: u32,
-    reaches: bool,
+    path: Path,
     between: Option<PatchNo>,
 ) {
-    assert_eq!(rt; graph.reaches(PatchNo(a), PatchNo(b)), reaches);
+    assert_eq!(rt; graph.reaches(PatchNo(a), PatchNo(b)), path == Path::There);
     assert_eq!(rt; graph.between(PatchNo(a), PatchNo(b)), between);
 }
 
@@ -137,12 +151,14 @@ fn step(rt: &impl Abort, alloc: Global, graph: &mut Graph, next: &Move) -> Resul
         Move::Make(block, start, stop, after) => {
             make(rt, graph, &ask_for(*block, *start, *stop, *after))?;
         }
-        Move::MakeLoose(block, after, hard) => make_loose(rt, graph, *block, *after, *hard)?,
+        Move::MakeLoose(block, after, hardness) => make_loose(
+            rt, graph, *block, *after, *hardness,
+        )?,
         Move::Merge(a, b, name) => merge(rt, graph, *a, *b, *name)?,
         Move::Ready(block, numbers) => expect_ready(rt, alloc, graph, *block, numbers)?,
         Move::Send(block) => graph.mark_flight(BlockNo(*block)),
         Move::Complete(block) => graph.mark_durable(BlockNo(*block)),
-        Move::Paths(a, b, reaches, between) => expect_paths(rt, graph, *a, *b, *reaches, *between),
+        Move::Paths(a, b, path, between) => expect_paths(rt, graph, *a, *b, *path, *between),
         Move::MarkOf(no, mark) => expect_mark(rt, graph, *no, *mark),
         Move::ClassOf(no, name) => expect_class(rt, graph, *no, *name),
         Move::Live(no, class) => expect_live(rt, graph, *no, *class),
@@ -222,7 +238,7 @@ const ACROSS_TWO_BLOCKS: [Move<'static>; 13] = [
 
 // To and fro across two blocks: what is in flight, on either block, is not met.
 #[test]
-fn across_two_blocks(rt: HostRuntime) -> Result<(), Fail> {
+fn what_is_in_flight_on_either_block_is_not_met(rt: HostRuntime) -> Result<(), Fail> {
     walk(&rt, rt.alloc(), &ACROSS_TWO_BLOCKS)
 }
 
@@ -232,7 +248,7 @@ const OVER_A_FLIGHT: [Move<'static>; 12] = [
     Move::MarkOf(0, Some(Mark::Flight)),
     Move::Make(0, 0, 1, None),
     Move::Ready(0, &[]),
-    Move::Paths(1, 0, true, None),
+    Move::Paths(1, 0, Path::There, None),
     Move::Complete(0),
     Move::MarkOf(0, Some(Mark::Durable)),
     Move::MarkOf(1, Some(Mark::Memory)),
@@ -243,7 +259,7 @@ const OVER_A_FLIGHT: [Move<'static>; 12] = [
 
 // A patch over one in flight waits for it, and isn't marked by its completion.
 #[test]
-fn over_a_flight(rt: HostRuntime) -> Result<(), Fail> {
+fn a_patch_over_a_flight_waits_for_it(rt: HostRuntime) -> Result<(), Fail> {
     walk(&rt, rt.alloc(), &OVER_A_FLIGHT)
 }
 
@@ -255,9 +271,9 @@ const MERGED_CLASSES: [Move<'static>; 16] = [
     Move::Merge(0, 2, 0),
     Move::ClassOf(2, Some(PatchNo(0))),
     Move::ClassOf(1, Some(PatchNo(1))),
-    Move::Paths(0, 1, true, None),
-    Move::Paths(1, 2, false, None),
-    Move::Paths(3, 1, true, Some(PatchNo(0))),
+    Move::Paths(0, 1, Path::There, None),
+    Move::Paths(1, 2, Path::Missing, None),
+    Move::Paths(3, 1, Path::There, Some(PatchNo(0))),
     Move::Merge(1, 2, 0),
     Move::ClassOf(1, Some(PatchNo(0))),
     Move::Ready(0, &[0, 1, 2]),
@@ -268,7 +284,7 @@ const MERGED_CLASSES: [Move<'static>; 16] = [
 
 // A class of two patches depends on one with a greater name, and then takes it in.
 #[test]
-fn merged_classes(rt: HostRuntime) -> Result<(), Fail> {
+fn a_class_takes_in_one_that_it_depends_on(rt: HostRuntime) -> Result<(), Fail> {
     walk(&rt, rt.alloc(), &MERGED_CLASSES)
 }
 
@@ -276,14 +292,14 @@ const RING_ON_A_BLOCK: [Move<'static>; 6] = [
     Move::Make(0, 0, 4, None),
     Move::Make(0, 2, 6, None),
     Move::Make(0, 4, 8, None),
-    Move::Paths(2, 0, true, Some(PatchNo(1))),
-    Move::Paths(0, 2, false, None),
-    Move::Paths(2, 1, true, None),
+    Move::Paths(2, 0, Path::There, Some(PatchNo(1))),
+    Move::Paths(0, 2, Path::Missing, None),
+    Move::Paths(2, 1, Path::There, None),
 ];
 
 // A third class on the way, on the same block.
 #[test]
-fn ring_on_a_block(rt: HostRuntime) -> Result<(), Fail> {
+fn a_third_class_lies_between_on_a_block(rt: HostRuntime) -> Result<(), Fail> {
     walk(&rt, rt.alloc(), &RING_ON_A_BLOCK)
 }
 
@@ -293,13 +309,13 @@ const RING_THROUGH_BLOCKS: [Move<'static>; 7] = [
     Move::Make(2, 0, 1, Some(1)),
     Move::Make(0, 1, 2, Some(2)),
     Move::Make(3, 0, 1, None),
-    Move::Paths(3, 0, true, Some(PatchNo(1))),
-    Move::Paths(0, 3, false, None),
+    Move::Paths(3, 0, Path::There, Some(PatchNo(1))),
+    Move::Paths(0, 3, Path::Missing, None),
 ];
 
 // And through other blocks.
 #[test]
-fn ring_through_blocks(rt: HostRuntime) -> Result<(), Fail> {
+fn a_third_class_lies_between_through_other_blocks(rt: HostRuntime) -> Result<(), Fail> {
     walk(&rt, rt.alloc(), &RING_THROUGH_BLOCKS)
 }
 
@@ -308,72 +324,78 @@ const ENDS_THAT_ARE_NOT_LIVE: [Move<'static>; 19] = [
     Move::Make(1, 0, 1, Some(0)),
     Move::Make(2, 0, 1, Some(1)),
     Move::Make(1, 1, 2, None),
-    Move::Paths(2, 0, true, Some(PatchNo(1))),
-    Move::Paths(1, 1, false, None),
-    Move::Paths(2, 4, false, None),
-    Move::Paths(4, 0, false, None),
-    Move::Paths(4, 4, false, None),
-    Move::Paths(2, 4294967295, false, None),
+    Move::Paths(2, 0, Path::There, Some(PatchNo(1))),
+    Move::Paths(1, 1, Path::Missing, None),
+    Move::Paths(2, 4, Path::Missing, None),
+    Move::Paths(4, 0, Path::Missing, None),
+    Move::Paths(4, 4, Path::Missing, None),
+    Move::Paths(2, u32::MAX, Path::Missing, None),
     Move::Merge(1, 3, 1),
-    Move::Paths(1, 3, false, None),
-    Move::Paths(3, 0, true, None),
+    Move::Paths(1, 3, Path::Missing, None),
+    Move::Paths(3, 0, Path::There, None),
     Move::Send(0),
-    Move::Paths(2, 0, true, Some(PatchNo(1))),
+    Move::Paths(2, 0, Path::There, Some(PatchNo(1))),
     Move::Complete(0),
-    Move::Paths(2, 0, false, None),
-    Move::Paths(0, 2, false, None),
-    Move::Paths(0, 0, false, None),
+    Move::Paths(2, 0, Path::Missing, None),
+    Move::Paths(0, 2, Path::Missing, None),
+    Move::Paths(0, 0, Path::Missing, None),
 ];
 
 // No class reaches itself, and a number that is durable or wasn't made reaches nothing and isn't reached.
 #[test]
-fn ends_that_are_not_live(rt: HostRuntime) -> Result<(), Fail> {
+fn numbers_that_are_not_live_reach_nothing(rt: HostRuntime) -> Result<(), Fail> {
     walk(&rt, rt.alloc(), &ENDS_THAT_ARE_NOT_LIVE)
 }
 
 const HARD_PATCHES: [Move<'static>; 8] = [
-    Move::MakeLoose(0, None, true),
-    Move::MakeLoose(0, None, true),
-    Move::MakeLoose(1, Some(1), false),
-    Move::MakeLoose(1, None, false),
+    Move::MakeLoose(0, None, Hardness::Hard),
+    Move::MakeLoose(0, None, Hardness::Hard),
+    Move::MakeLoose(1, Some(1), Hardness::Soft),
+    Move::MakeLoose(1, None, Hardness::Soft),
     Move::Send(0),
-    Move::MakeLoose(2, Some(1), false),
+    Move::MakeLoose(2, Some(1), Hardness::Soft),
     Move::Complete(0),
-    Move::MakeLoose(3, Some(1), true),
+    Move::MakeLoose(3, Some(1), Hardness::Hard),
 ];
 
 // A patch that may drop its undo bytes is hard above durable and hard ones of its block.
 #[test]
-fn hard_patches(rt: HostRuntime) -> Result<(), Fail> {
+fn patches_are_hard_above_durable_and_hard_ones(rt: HostRuntime) -> Result<(), Fail> {
     walk(&rt, rt.alloc(), &HARD_PATCHES)
 }
 
 // A patch on each byte of a block.
 fn fill(rt: &impl Abort, graph: &mut Graph, block: u32) -> Result<(), Fail> {
-    for byte in 0..4096usize {
+    for byte in 0..BLOCK {
         add(rt, graph, &ask_for(block, byte, byte + 1, None))?;
     }
     Ok(())
 }
 
+// How many blocks are filled where each byte of them is a live patch's.
+const FILLED: u32 = MAX_LIVE / BLOCK as u32;
+
+// The first patch of the last block that is filled.
+const LAST_FILLED: u32 = MAX_LIVE - BLOCK as u32;
+
 fn expect_one_more(rt: &impl Abort, graph: &mut Graph) -> Result<(), Fail> {
-    let last = add(rt, graph, &ask_for(15, 0, 4096, None))?;
-    assert_eq!(rt; last.no, PatchNo(65536));
-    expect_paths(rt, graph, 65536, 61440, true, None);
-    expect_paths(rt, graph, 65536, 61439, false, None);
+    let last = add(rt, graph, &ask_for(FILLED - 1, 0, BLOCK, None))?;
+    assert_eq!(rt; last.no, PatchNo(MAX_LIVE));
+    expect_paths(rt, graph, MAX_LIVE, LAST_FILLED, Path::There, None);
+    expect_paths(rt, graph, MAX_LIVE, LAST_FILLED - 1, Path::Missing, None);
     Ok(())
 }
 
 fn fill_and_add(rt: &impl Abort, graph: &mut Graph) -> Result<(), Fail> {
-    for block in 0..16u32 {
+    for block in 0..FILLED {
         fill(rt, graph, block)?;
     }
     expect_one_more(rt, graph)
 }
 
-// As many as may be live, one on each byte of sixteen blocks, and one more.
+// As many as may be live, one on each byte of some blocks, and one more.
 #[test]
-fn as_many_as_may_be(rt: HostRuntime) -> Result<(), Fail> {
+fn as_many_as_may_be_live_and_one_more(rt: HostRuntime) -> Result<(), Fail> {
     let mut graph = Graph::new(rt.alloc());
     fill_and_add(&rt, &mut graph)
 }
@@ -461,10 +483,16 @@ fn walk_beside(
     make_and_merge(rt, alloc, &mut graph, ballast)
 }
 
+// What fills a heap but for a little, until it is given back.
+const BALLAST: usize = 4096;
+
+// What each heap has more than the one before it.
+const HEAP_STEP: usize = 16;
+
 // In a heap of this size.
 fn walk_in(rt: &impl Abort, alloc: Global, size: usize) -> Result<bool, Fail> {
     let heap = LocalHeap::new(alloc, size)?;
-    let mut ballast = Vec::with_capacity(&heap, 4096)?;
+    let mut ballast = Vec::with_capacity(&heap, BALLAST)?;
     walk_beside(rt, alloc, &heap, &mut ballast)
 }
 
@@ -472,7 +500,7 @@ fn walk_in(rt: &impl Abort, alloc: Global, size: usize) -> Result<bool, Fail> {
 fn count_small(rt: &impl Abort, alloc: Global) -> Result<u32, Fail> {
     let mut refused = 0u32;
     for size in 0..400usize {
-        if !walk_in(rt, alloc, 4096 + 256 + size * 16)? {
+        if !walk_in(rt, alloc, BALLAST + 256 + size * HEAP_STEP)? {
             return Ok(refused);
         }
         refused = refused.saturating_add(1);
@@ -481,27 +509,33 @@ fn count_small(rt: &impl Abort, alloc: Global) -> Result<u32, Fail> {
 }
 
 #[test]
-fn each_refusal_in_turn(rt: HostRuntime) -> Result<(), Fail> {
+fn each_refused_call_changes_nothing(rt: HostRuntime) -> Result<(), Fail> {
     let refused = count_small(&rt, rt.alloc())?;
     assert!(rt; refused > 5, "refused {refused}");
     Ok(())
 }
 
+// How many patches an answer has.
+const ANSWERED: usize = 64;
+
+// How many heaps are tried for an answer.
+const HEAPS: u32 = 40;
+
 // Whether an answer in a heap of this size was refused.
 fn ready_in(rt: &impl Abort, graph: &mut Graph, heap: &LocalHeap) -> bool {
     match graph.ready(heap, BlockNo(0)) {
         Ok(numbers) => {
-            assert_eq!(rt; numbers.len(), 64);
+            assert_eq!(rt; numbers.len(), ANSWERED);
             false
         }
         Err(_) => true,
     }
 }
 
-// How many of forty heaps, each larger than the one before it, are too small for the answer.
+// How many heaps, each larger than the one before it, are too small for the answer.
 fn count_refused(rt: &impl Abort, alloc: Global, graph: &mut Graph) -> Result<u32, Fail> {
     let mut refused = 0u32;
-    for size in 0..40usize {
+    for size in 0..HEAPS as usize {
         let heap = LocalHeap::new(alloc, 256 + size * 32)?;
         if ready_in(rt, graph, &heap) {
             refused = refused.saturating_add(1);
@@ -511,17 +545,17 @@ fn count_refused(rt: &impl Abort, alloc: Global, graph: &mut Graph) -> Result<u3
 }
 
 fn expect_refused(rt: &impl Abort, alloc: Global, graph: &mut Graph) -> Result<(), Fail> {
-    for byte in 0..64usize {
+    for byte in 0..ANSWERED {
         add(rt, graph, &ask_for(0, byte, byte + 1, None))?;
     }
     let refused = count_refused(rt, alloc, graph)?;
-    assert!(rt; refused > 0 && refused < 40, "refused {refused}");
+    assert!(rt; refused > 0 && refused < HEAPS, "refused {refused}");
     Ok(())
 }
 
 // An answer that finds no memory changes nothing.
 #[test]
-fn refused_answers(rt: HostRuntime) -> Result<(), Fail> {
+fn a_refused_answer_changes_nothing(rt: HostRuntime) -> Result<(), Fail> {
     let mut graph = Graph::new(rt.alloc());
     expect_refused(&rt, rt.alloc(), &mut graph)
 }

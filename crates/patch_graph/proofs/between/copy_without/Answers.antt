@@ -9,9 +9,9 @@ loop-key-init c = without-none _ _ _ _ c.requires.clear
 
 pub loop-key-preserved : goal.loop-key-preserved
 loop-key-preserved c = elim c.if-is_marked.branch [
-  | then-is_marked+then-key-to w ↦ rw (w.rest-is, w.put_mark.ensures) (without-one _ _ _ _ _ _ _ c.requires.long refl
+  | then-is_marked+then-key-to w ↦ rw (w.dead_ends-is, w.put_mark.ensures) (without-one _ _ _ _ _ _ _ c.requires.fits refl
       (and_from _ _ (sym c.is_marked.ensures ∙ w.if-is_marked.true) (ap not (ne_eqb _ _ w.if-key-to.true))) c.loop-key.invariant)
-  | else-is_marked w ↦ rw w.rest-is (without-not _ _ _ _ _ _ _ refl (elim w.else-is_marked.branch [
+  | else-is_marked w ↦ rw w.dead_ends-is (without-not _ _ _ _ _ _ _ refl (elim w.else-is_marked.branch [
     | else-is_marked-via-then-is_marked+else-key-to v ↦ false_from_ne_true _ (λ t. both_ways _ (not-true _ (and_parts _ _ t).1) (eq-eqb _ _ v.if-key-to.false))
     | else-is_marked-via-else-is_marked v ↦ and_left _ _ (sym c.is_marked.ensures ∙ v.if-is_marked.false)
   ]) c.loop-key.invariant)

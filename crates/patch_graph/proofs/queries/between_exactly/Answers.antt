@@ -33,7 +33,7 @@ clear-requires-2 g c key t = turned-held _ _ key c.reverse.ensures.permutation (
 pub returns-clause-answer : goal.returns-clause-answer
 returns-clause-answer g c all x y r no_ring la lb =
     between_is c.args.register.now all c.args.a c.args.b x y c.in-Some.from c.in-Some-find.to c.reverse.new.self
-    c.search-count.new.marks c.copy_without.new.rest c.settle.new.marks c.least_name-least.result r no_ring (let l = c.search-count.ensures.length in omega arith) la lb (sym c.in-Some.ensures) (sym c.in-Some-find.ensures)
+    c.search-count.new.marks c.copy_without.new.dead_ends c.settle.new.marks c.least_name-least.result r no_ring (let l = c.search-count.ensures.length in omega arith) la lb (sym c.in-Some.ensures) (sym c.in-Some-find.ensures)
     (λ key t. turned-held _ _ key c.reverse.ensures.permutation (c.search-count.ensures.held key t)) c.search-count.ensures.found c.copy_without.ensures.copied c.settle.ensures.largest c.least_name-least.ensures
 
 pub returns-clause-absent : goal.returns-clause-absent

@@ -1,4 +1,4 @@
-use Rattle.patch_graph.proofs.Marks.{IsPartPicked}
+use Rattle.patch_graph.proofs.Settling.{IsPartPicked}
 use Rattle.patch_graph.proofs.ready.pick.Given as goal
 
 abbrev pub invariant-loop-key : goal.invariant-loop-key

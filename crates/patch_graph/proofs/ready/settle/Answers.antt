@@ -1,5 +1,5 @@
 use Rattle.std.proofs.Common.{subst}
-use Rattle.patch_graph.proofs.Marks.{settling-none, settling-more, settled, IsSettling}
+use Rattle.patch_graph.proofs.Settling.{settling-none, settling-more, settled, IsSettling}
 use Rattle.patch_graph.proofs.ready.settle.Goals as goal
 
 pub loop-changed-init : goal.loop-changed-init

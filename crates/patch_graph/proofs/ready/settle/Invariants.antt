@@ -1,6 +1,6 @@
 use Rattle.std.proofs.Common.{◌+◌, cond}
 use Rattle.patch_graph.specs.Marks.{marked_count}
-use Rattle.patch_graph.proofs.Marks.{IsSettling}
+use Rattle.patch_graph.proofs.Settling.{IsSettling}
 use Rattle.patch_graph.proofs.ready.settle.Given as goal
 
 abbrev pub invariant-loop-changed : goal.invariant-loop-changed

@@ -1,5 +1,5 @@
 use Rattle.std.proofs.Common.{arith, refl, sym, ◌∙◌}
-use Rattle.patch_graph.proofs.Marks.{part-none, part-struck, part-kept, round-at}
+use Rattle.patch_graph.proofs.Settling.{part-none, part-struck, part-kept, round-at}
 use Rattle.patch_graph.proofs.ready.strike.Goals.{then-is_unmet, else-is_unmet}
 use Rattle.patch_graph.proofs.ready.strike.Goals as goal
 

@@ -1,4 +1,4 @@
-use Rattle.patch_graph.proofs.Marks.{IsPartRound}
+use Rattle.patch_graph.proofs.Settling.{IsPartRound}
 use Rattle.patch_graph.proofs.ready.strike.Given as goal
 
 abbrev pub invariant-loop-key : goal.invariant-loop-key

@@ -8,5 +8,5 @@ pub returns-in-Some : goal.returns-in-Some
 returns-in-Some g c from h s =
     let key = queued_at c.args.queue.now c.args.head in
     let at : class_at c.args.register.now.slots key ≡ Some c.in-Some.class.now = sym c.in-Some.ensures in
-    let l = c.visit_all.ensures from c.args.to key at (look-none-yet _ _ from c.args.to c.in-Some.class.now.after c.args.marks.now c.args.queue.now c.args.head c.args.tail h c.requires.long s) in
+    let l = c.visit_all.ensures from c.args.to key at (look-none-yet _ _ from c.args.to c.in-Some.class.now.after c.args.marks.now c.args.queue.now c.args.head c.args.tail h c.requires.queue_fits s) in
     look-done _ _ from c.args.to key c.in-Some.class.now _ _ _ _ at l

@@ -13,5 +13,5 @@ returns-after-loop-head-clause-held g c =
     let marks = length-set c.args.marks.now c.args.from true in
     let queue_now = c.loop-head.auto.queue in
     let marks_now = c.loop-head.auto.marks in
-    let long = c.requires.long in
+    let long = c.requires.queue_fits in
     found-held _ _ _ _ _ _ _ _ c.loop-head.invariant (omega arith)

@@ -1,6 +1,6 @@
 use Rattle.std.proofs.Common.{arith, refl}
-use Rattle.patch_graph.proofs.Marks.{cleared-none, cleared-one, cleared-all}
-use Rattle.patch_graph.proofs.ready.clear.Goals as goal
+use Rattle.patch_graph.proofs.Settling.{cleared-none, cleared-one, cleared-all}
+use Rattle.patch_graph.proofs.marks.clear.Goals as goal
 
 pub loop-key-init : goal.loop-key-init
 loop-key-init c = cleared-none _ _
