@@ -2,6 +2,7 @@
 use Rattle.std.proofs.Common.{◌≡◌, ℕ, ◌∙◌, inl, inr, Bool, true, false, not, Option, Some, None, Result, Ok, List, [], ◌∷◌, map, fold, refl, sym, ap, subst, arith}
 use Rattle.std.specs.Prelude.{find, slice_get, cond, ◌==◌, ◌&&◌, if◌then◌else◌}
 use Rattle.std.proofs.lemmas.Bool.{cases_Bool, and_parts, both_ways, eqb-true, eq-eqb}
+use Rattle.patch_model.specs.declared.refusals.Refusal.{Refusal}
 use Rattle.patch_model.specs.declared.patches.Mark.{Mark}
 use Rattle.patch_model.specs.declared.patches.Mark.TheVariants.{Memory, Flight, Durable}
 use Rattle.patch_model.specs.declared.refusals.RefusalKind.TheVariants as kind
@@ -11,7 +12,7 @@ use Rattle.patch_model.specs.State.{entries_of}
 use Rattle.patch_model.specs.Orderly.{IsOrderly, IsNumbered, IsOrderlyBlock}
 use Rattle.patch_model.specs.Member.{In, In-from_Contains, Contains-from_In}
 use Rattle.patch_model.specs.History.{History, HoldsDependents, moved, IsPermitted, history_of, Back}
-use Rattle.patch_model.specs.Refusing.{Refusal as Cause, bare, why_not_taken, why_not_put_back, class_named}
+use Rattle.patch_model.specs.Refusing.{bare, why_not_taken, why_not_put_back, class_named}
 use Rattle.patch_view.specs.History.{IsCoherent}
 use Rattle.patch_view.specs.Answers.{IsPatch}
 use Rattle.patch_view.specs.Laws.{TakenWithoutCause, PutBackWithoutCause, NumberNamesClass}
@@ -39,11 +40,11 @@ find_not p (y ∷ ys) x e i = elim (cases_Bool (p y)) [
 
 -- Causes that don't hold.
 
-passed : (b : Bool) (cause : Cause) (rest : Option Cause) → cond b (Some cause) rest ≡ None → (b ≡ false) × (rest ≡ None)
+passed : (b : Bool) (cause : Refusal) (rest : Option Refusal) → cond b (Some cause) rest ≡ None → (b ≡ false) × (rest ≡ None)
 passed true cause rest e = absurd (cc)
 passed false cause rest e = (refl, e)
 
-of_block : (o : Option Entry) (w : Option Cause) → ◌≡◌ {A = Option Cause} (elim o [ None ↦ Some (bare kind.Unknown) | Some e ↦ if is_durable e then Some (bare kind.Durable) else w ]) None → w ≡ None
+of_block : (o : Option Entry) (w : Option Refusal) → ◌≡◌ {A = Option Refusal} (elim o [ None ↦ Some (bare kind.Unknown) | Some e ↦ if is_durable e then Some (bare kind.Durable) else w ]) None → w ≡ None
 of_block None w e = absurd (cc)
 of_block (Some x) w e = (passed (is_durable x) (bare kind.Durable) w e).1
 
@@ -73,7 +74,7 @@ module _ (run : Execution) (block : ℕ) (all : IsOrderly (entries_of run)) (num
       rw (named h number may.patch r may.named) (may.is_taken, may.holds)
 
   -- the rest of the moves is gone through where the first is accepted
-  went_on : (o : Option Cause) (now names : List ℕ) (f : List ℕ → Result (List ℕ) Cause) → go_on (names_unless o now) f ≡ Ok names → (o ≡ None) × (f now ≡ Ok names)
+  went_on : (o : Option Refusal) (now names : List ℕ) (f : List ℕ → Result (List ℕ) Refusal) → go_on (names_unless o now) f ≡ Ok names → (o ≡ None) × (f now ≡ Ok names)
   went_on None now names f e = (refl, e)
   went_on (Some cause) now names f e = absurd (cc)
 

@@ -3,13 +3,14 @@ use Rattle.std.proofs.Common.{◌≡◌, ℕ, ◌<◌, true, false, inl, inr, �
 use Rattle.std.specs.Prelude.{◌==◌, ◌&&◌, IsTrue, Contains, slice_get, slice_set, is_err}
 use Rattle.std.specs.List.{list_any, position}
 use Rattle.std.proofs.Math.ListN.{get_or}
+use Rattle.patch_model.specs.declared.refusals.Refusal.{Refusal}
 use Rattle.patch_model.specs.declared.refusals.RefusalKind.TheVariants as kind
 use Rattle.patch_model.specs.Step as the
 use Rattle.patch_model.specs.Entry.{Entry, is_flight}
 use Rattle.patch_model.specs.Execution.{Execution, extended}
 use Rattle.patch_model.specs.State.{state_of, entries_of, has_flight, flying_of, numbers_of}
 use Rattle.patch_model.specs.Legal.{IsLegal}
-use Rattle.patch_model.specs.Refusing.{Refusal as Cause, bare, why_not_sent}
+use Rattle.patch_model.specs.Refusing.{bare, why_not_sent}
 use Rattle.patch_model.specs.Ready.{ready}
 use Rattle.patch_model.specs.History.{history_of, image}
 use Rattle.patch_graph.specs.State.{Graph}
@@ -71,12 +72,12 @@ landed_right : (run : Execution) (block : ℕ) (numbers : List ℕ) → has_flig
 landed_right run block numbers flies same = rw flies (ap (Landed block) same)
 
 -- a completion of a block with no flight
-pub none_answered : {A : Type 0} (run : Execution) (block : ℕ) (cause : Cause) (cache : Contents) (flights : Flights A) → cause ≡ bare kind.Stranger → Runs cache flights run
+pub none_answered : {A : Type 0} (run : Execution) (block : ℕ) (cause : Refusal) (cache : Contents) (flights : Flights A) → cause ≡ bare kind.Stranger → Runs cache flights run
     → has_flight (state_of run) block ≡ false → IsAnswered run (Complete block) (Refused cause) cache flights
 none_answered run block cause cache flights is runs none = record { right = inl (rw none (ap Refused is)); runs = runs }
 
 -- a completion that the device refused
-pub fault_answered : {A : Type 0} (run : Execution) (block : ℕ) (cause : Cause) (cache : Contents) (flights : Flights A) → cause ≡ bare kind.Fault → Runs cache flights run
+pub fault_answered : {A : Type 0} (run : Execution) (block : ℕ) (cause : Refusal) (cache : Contents) (flights : Flights A) → cause ≡ bare kind.Fault → Runs cache flights run
     → has_flight (state_of run) block ≡ true → IsAnswered run (Complete block) (Refused cause) cache flights
 fault_answered run block cause cache flights is runs flies = record {
   right = inr (record {
@@ -100,7 +101,7 @@ pub written_for : {A : Type 0} (run : Execution) (block : ℕ) (flight : Flight 
 written_for run block flight old new at is same = same ∙ ap (slice_set old flight.block) is ∙ ap (λ b. slice_set old b (image (history_of run b))) at
 
 -- and one that the device refused
-pub written_or_not : {A : Type 0} (run : Execution) (block : ℕ) (flight : Flight A) (cause : Cause) (old new : List (List ℕ)) → cause ≡ bare kind.Fault → flight.block ≡ block
+pub written_or_not : {A : Type 0} (run : Execution) (block : ℕ) (flight : Flight A) (cause : Refusal) (old new : List (List ℕ)) → cause ≡ bare kind.Fault → flight.block ≡ block
     → flight.image ≡ image (history_of run flight.block) → IsOldOrNew old flight.block flight.image new → HasWritten run (Complete block) (Refused cause) old new
 written_or_not run block flight cause old new why at is (inl same) = inl same
 written_or_not run block flight cause old new why at is (inr done) = inr (ap Refused why, written_for run block flight old new at is done)
@@ -112,11 +113,11 @@ pub sent_answered : {A : Type 0} (run : Execution) (block : ℕ) (numbers bytes 
 sent_answered run block numbers bytes cache flights why same shown runs = record { right = inl (rw why (ap (λ ns. Sent block ns bytes) same ∙ ap (Sent block (numbers_of (ready (entries_of run) block))) shown)); runs = runs }
 
 -- a send that was refused, and one for which there was no memory
-pub send_refused : {A : Type 0} (run : Execution) (block : ℕ) (cause : Cause) (cache : Contents) (flights : Flights A) → why_not_sent run block ≡ Some cause → Runs cache flights run
+pub send_refused : {A : Type 0} (run : Execution) (block : ℕ) (cause : Refusal) (cache : Contents) (flights : Flights A) → why_not_sent run block ≡ Some cause → Runs cache flights run
     → IsAnswered run (Send block) (Refused cause) cache flights
 send_refused run block cause cache flights why runs = record { right = inl (rw why refl); runs = runs }
 
-pub send_given_up : {A : Type 0} (run : Execution) (block : ℕ) (cause : Cause) (cache : Contents) (flights : Flights A) → why_not_sent run block ≡ None → cause ≡ bare kind.OutOfMemory
+pub send_given_up : {A : Type 0} (run : Execution) (block : ℕ) (cause : Refusal) (cache : Contents) (flights : Flights A) → why_not_sent run block ≡ None → cause ≡ bare kind.OutOfMemory
     → Runs cache flights run → IsAnswered run (Send block) (Refused cause) cache flights
 send_given_up run block cause cache flights why is runs = record {
   right = inr (record {

@@ -1,24 +1,25 @@
 -- Only a completion meets a fault.
 use Rattle.std.proofs.Common.{◌≡◌, ◌≢◌, ℕ, ◌⊎◌, ◌∙◌, inl, inr, Bool, true, false, Option, Some, None, Result, Ok, Err, List, [], ◌∷◌, sym, ap}
 use Rattle.std.specs.Prelude.{find, slice_get, cond, ◌==◌, ◌&&◌, nat_le, nat_lt, length, ◌+◌, if◌then◌else◌}
+use Rattle.patch_model.specs.declared.refusals.Refusal.{Refusal}
 use Rattle.patch_model.specs.declared.refusals.RefusalKind.TheVariants as kind
 use Rattle.patch_model.specs.declared.blocks.TheConstants.{BLOCK}
 use Rattle.patch_model.specs.Entry.{Entry, is_live, is_flight, is_durable, is_among}
 use Rattle.patch_model.specs.Execution.{Execution}
 use Rattle.patch_model.specs.State.{entries_of}
 use Rattle.patch_model.specs.History.{History, history_of}
-use Rattle.patch_model.specs.Refusing.{Refusal as Cause, bare, least, applied_dependents, taken_dependencies, hindered_by, why_not_shown, why_class_not_taken, why_not_taken, why_not_put_back}
+use Rattle.patch_model.specs.Refusing.{bare, least, applied_dependents, taken_dependencies, hindered_by, why_not_shown, why_class_not_taken, why_not_taken, why_not_put_back}
 use Rattle.patch_cache.specs.Viewing.{why_not_taken_of, names_unless, with_move, with_moves, go_on}
 use Rattle.patch_cache.specs.Asks.{Answer, View, Refused, IsAnswer, IsGivenUp, seen, unless}
 use Rattle.patch_cache.specs.declared.asks.Move.{Move}
 use Rattle.patch_cache.specs.declared.asks.Move.TheVariants.{Take, Back}
 
 -- the cause isn't a fault
-abbrev IsOther : Option Cause → Type 0
+abbrev IsOther : Option Refusal → Type 0
 IsOther None = Unit {0}
 IsOther (Some cause) = cause.kind ≢ kind.Fault
 
-if_either : (b : Bool) (x y : Option Cause) → IsOther x → IsOther y → IsOther (cond b x y)
+if_either : (b : Bool) (x y : Option Refusal) → IsOther x → IsOther y → IsOther (cond b x y)
 if_either true x y p q = p
 if_either false x y p q = q
 
@@ -49,11 +50,11 @@ back_by h taken None = λ e. absurd (cc)
 back_by h taken (Some e) = (hindered (least (taken_dependencies h taken e.class))).1
 
 -- neither is a refusal of a move
-abbrev IsOtherOf : Result (List ℕ) Cause → Type 0
+abbrev IsOtherOf : Result (List ℕ) Refusal → Type 0
 IsOtherOf (Ok names) = Unit {0}
 IsOtherOf (Err cause) = cause.kind ≢ kind.Fault
 
-unless_other : (o : Option Cause) (names : List ℕ) → IsOther o → IsOtherOf (names_unless o names)
+unless_other : (o : Option Refusal) (names : List ℕ) → IsOther o → IsOtherOf (names_unless o names)
 unless_other None names p = tt
 unless_other (Some cause) names p = p
 
@@ -63,7 +64,7 @@ move_other run block names (Back number) =
     unless_other (why_not_put_back (history_of run block) names number) _
     (back_by (history_of run block) names (find (λ e. e.patch.no == number && is_among names e.class) (history_of run block).entries))
 
-go_other : (r : Result (List ℕ) Cause) (f : List ℕ → Result (List ℕ) Cause) → IsOtherOf r → ((names : List ℕ) → IsOtherOf (f names)) → IsOtherOf (go_on r f)
+go_other : (r : Result (List ℕ) Refusal) (f : List ℕ → Result (List ℕ) Refusal) → IsOtherOf r → ((names : List ℕ) → IsOtherOf (f names)) → IsOtherOf (go_on r f)
 go_other (Ok names) f p q = q names
 go_other (Err cause) f p q = p
 
@@ -71,13 +72,13 @@ moves_other : (run : Execution) (block : ℕ) (names : List ℕ) (moves : List M
 moves_other run block names [] = tt
 moves_other run block names (move ∷ moves) = go_other (with_move run block names move) _ (move_other run block names move) (λ now. moves_other run block now moves)
 
-seen_other : (run : Execution) (block start len : ℕ) (r : Result (List ℕ) Cause) → IsOtherOf r → Refused (bare kind.Fault) ≡ seen run block start len r → ⊥
+seen_other : (run : Execution) (block start len : ℕ) (r : Result (List ℕ) Refusal) → IsOtherOf r → Refused (bare kind.Fault) ≡ seen run block start len r → ⊥
 seen_other run block start len (Ok names) p e = absurd (cc)
-seen_other run block start len (Err cause) p e = p (let same : bare kind.Fault ≡ cause = cc in sym (ap (λ (c : Cause). c.kind) same))
+seen_other run block start len (Err cause) p e = p (let same : bare kind.Fault ≡ cause = cc in sym (ap (λ (c : Refusal). c.kind) same))
 
-unless_fault : (o : Option Cause) (done : Answer) → IsOther o → (Refused (bare kind.Fault) ≡ done → ⊥) → Refused (bare kind.Fault) ≡ unless o done → ⊥
+unless_fault : (o : Option Refusal) (done : Answer) → IsOther o → (Refused (bare kind.Fault) ≡ done → ⊥) → Refused (bare kind.Fault) ≡ unless o done → ⊥
 unless_fault None done p q e = q e
-unless_fault (Some cause) done p q e = p (let same : bare kind.Fault ≡ cause = cc in sym (ap (λ (c : Cause). c.kind) same))
+unless_fault (Some cause) done p q e = p (let same : bare kind.Fault ≡ cause = cc in sym (ap (λ (c : Refusal). c.kind) same))
 
 shown_other : (blocks block start len : ℕ) → IsOther (why_not_shown blocks block start len)
 shown_other blocks block start len = if_either (nat_le blocks block) _ _ (λ e. absurd (cc)) (if_either (nat_lt BLOCK (start + len)) _ _ (λ e. absurd (cc)) tt)
@@ -88,7 +89,7 @@ kinds e = absurd (cc)
 not_memory : Refused (bare kind.Fault) ≡ Refused (bare kind.OutOfMemory) → ⊥
 not_memory e =
     let causes : bare kind.Fault ≡ bare kind.OutOfMemory = cc in
-    kinds (ap (λ (c : Cause). c.kind) causes)
+    kinds (ap (λ (c : Refusal). c.kind) causes)
 
 not_both : false ≡ true → ⊥
 not_both e = absurd (cc)

@@ -5,6 +5,7 @@ use Rattle.std.specs.List.{list_any, AllByRecursion}
 use Rattle.std.proofs.lemmas.Bool.{cases_Bool, and_parts, and_from, both_ways, not-false}
 use Rattle.std.proofs.lemmas.Bool.Decides.{nat_tests}
 use Rattle.std.proofs.lemmas.Option.{slice_get-get_or}
+use Rattle.patch_model.specs.declared.refusals.Refusal.{Refusal}
 use Rattle.patch_model.specs.declared.patches.Mark.TheVariants.{Memory, Flight, Durable}
 use Rattle.patch_model.specs.declared.patches.Mark.{Mark}
 use Rattle.patch_model.specs.Entry.{Entry, marks_memory, marks_durable, is_memory, is_undoable}
@@ -14,7 +15,7 @@ use Rattle.patch_model.specs.Pile.{end, covers}
 use Rattle.patch_model.specs.Ready.{IsRising}
 use Rattle.patch_model.specs.Dependency.{Path, one, onward}
 use Rattle.patch_model.specs.Legal.{touch, block_at, is_undoable_at}
-use Rattle.patch_model.specs.Refusing.{Refusal, with_number, why_not_near, is_memory_at, is_hard_at, IsBetween, IsLeastThird}
+use Rattle.patch_model.specs.Refusing.{with_number, why_not_near, is_memory_at, is_hard_at, IsBetween, IsLeastThird}
 use Rattle.patch_model.specs.Orderly.{IsOrderly, IsNumbered}
 use Rattle.patch_model.specs.Member.{In, In-filter, Contains-from_In, list_any-at, list_any-from}
 use Rattle.patch_model.specs.Execution.{Execution}

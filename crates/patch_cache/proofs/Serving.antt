@@ -1,9 +1,10 @@
 -- Asks that are served.
 use Rattle.std.proofs.Common.{◌≡◌, ℕ, false, List, refl, ap, ◌∙◌, sym}
+use Rattle.patch_model.specs.declared.refusals.Refusal.{Refusal}
 use Rattle.patch_model.specs.declared.refusals.RefusalKind.TheVariants as kind
 use Rattle.patch_model.specs.Execution.{Execution}
 use Rattle.patch_model.specs.Legal.{IsLegal}
-use Rattle.patch_model.specs.Refusing.{Refusal as Cause, bare}
+use Rattle.patch_model.specs.Refusing.{bare}
 use Rattle.patch_device.specs.declared.devices.Device.{Ghosts}
 use Rattle.patch_cache.specs.Contents.{Contents}
 use Rattle.patch_cache.specs.Asks.{Ask, Create, Merge, Send, Complete, View, Answer, Refused, is_complete}
@@ -33,7 +34,7 @@ kinds : kind.Fault ≡ kind.Stranger → ⊥
 kinds e = absurd (cc)
 
 -- a stranger is no fault
-pub stranger_faultless : (cause : Cause) → cause ≡ bare kind.Stranger → Refused cause ≡ Refused (bare kind.Fault) → ⊥
+pub stranger_faultless : (cause : Refusal) → cause ≡ bare kind.Stranger → Refused cause ≡ Refused (bare kind.Fault) → ⊥
 stranger_faultless cause is e =
     let same : cause ≡ bare kind.Fault = cc in
-    kinds (ap (λ (c : Cause). c.kind) (sym same ∙ is))
+    kinds (ap (λ (c : Refusal). c.kind) (sym same ∙ is))

@@ -1,12 +1,13 @@
 -- An ask has one answer.
 use Rattle.std.proofs.Common.{◌≡◌, ℕ, ◌∙◌, ◌≤◌, None, List, sym, ap, arith}
 use Rattle.std.specs.Prelude.{◌↔◌}
+use Rattle.patch_model.specs.declared.refusals.Refusal.{Refusal}
 use Rattle.patch_model.specs.declared.refusals.RefusalKind.TheVariants as kind
 use Rattle.patch_model.specs.Entry.{Entry}
 use Rattle.patch_model.specs.Execution.{Execution}
 use Rattle.patch_model.specs.State.{entries_of}
 use Rattle.patch_model.specs.Legal.{IsLegalMerge}
-use Rattle.patch_model.specs.Refusing.{Refusal as Cause, with_number, why_not_near, IsBetween}
+use Rattle.patch_model.specs.Refusing.{with_number, why_not_near, IsBetween}
 use Rattle.patch_cache.specs.Refusals.{IsWhyNotMerged, sooner, between}
 use Rattle.patch_cache.specs.Asks.{Ask, Create, Merge, Send, Complete, View, Answer, Made, Merged, Sent, Landed, Seen, Refused, IsAnswer, IsMergeAnswer}
 
@@ -14,11 +15,11 @@ use Rattle.patch_cache.specs.Asks.{Ask, Create, Merge, Send, Complete, View, Ans
 abbrev pub Merging : Type 0
 Merging = (all : List Entry) (a b : ℕ) → ((why_not_near all a b ≡ None) × ((c : ℕ) → IsBetween all a b c → ⊥)) ↔ IsLegalMerge all a b
 
-never : Merging → (all : List Entry) (a b : ℕ) (cause : Cause) → IsLegalMerge all a b → IsWhyNotMerged all a b cause → ⊥
+never : Merging → (all : List Entry) (a b : ℕ) (cause : Refusal) → IsLegalMerge all a b → IsWhyNotMerged all a b cause → ⊥
 never law all a b cause legal (sooner some) = let none = ((law all a b).1 legal).0 in absurd (cc)
 never law all a b cause legal (between {n = n} none least) = ((law all a b).1 legal).1 n least.is
 
-one_cause : (all : List Entry) (a b : ℕ) (c d : Cause) → IsWhyNotMerged all a b c → IsWhyNotMerged all a b d → c ≡ d
+one_cause : (all : List Entry) (a b : ℕ) (c d : Refusal) → IsWhyNotMerged all a b c → IsWhyNotMerged all a b d → c ≡ d
 one_cause all a b c d (sooner p) (sooner q) = cc
 one_cause all a b c d (sooner p) (between none least) = absurd (cc)
 one_cause all a b c d (between none least) (sooner q) = absurd (cc)

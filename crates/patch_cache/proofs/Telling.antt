@@ -3,6 +3,7 @@ use Rattle.std.proofs.Common.{◌≡◌, ℕ, ◌<◌, ◌∙◌, inl, inr, not,
 use Rattle.std.specs.Prelude.{nat_le}
 use Rattle.std.proofs.lemmas.Bool.{cases_Bool}
 use Rattle.std.proofs.lemmas.Bool.Decides.{nat_tests}
+use Rattle.patch_model.specs.declared.refusals.Refusal.{Refusal}
 use Rattle.patch_model.specs.Step as step
 use Rattle.patch_model.specs.Pile.{pile}
 use Rattle.patch_model.specs.Entry.{Entry, is_among}
@@ -11,7 +12,7 @@ use Rattle.patch_model.specs.State.{entries_of, numbers_of}
 use Rattle.patch_model.specs.Ready.{ready}
 use Rattle.patch_model.specs.Orderly.{IsOrderly, IsNumbered, IsOrderlyBlock}
 use Rattle.patch_model.specs.History.{History, history_of, without, cached, image, IsPermitted}
-use Rattle.patch_model.specs.Refusing.{Refusal as Cause, why_not_shown, why_not_sent}
+use Rattle.patch_model.specs.Refusing.{why_not_shown, why_not_sent}
 use Rattle.patch_view.specs.History.{IsCoherent}
 use Rattle.patch_view.specs.Laws.{TakenWithoutCause, PutBackWithoutCause, NumberNamesClass}
 use Rattle.patch_cache.specs.Asks.{View, Sent, Seen, IsAnswer, seen, unless}
@@ -22,7 +23,7 @@ use Rattle.patch_cache.proofs.Accepting.{accepted}
 use Rattle.patch_cache.proofs.Permitting.{none_taken}
 
 -- an answer that isn't refused is what it would be
-shown : (run : Execution) (block start len : ℕ) (left right : List ℕ) (o : Option Cause) (r : Result (List ℕ) Cause)
+shown : (run : Execution) (block start len : ℕ) (left right : List ℕ) (o : Option Refusal) (r : Result (List ℕ) Refusal)
     → Seen left right ≡ unless o (seen run block start len r)
     → (names : List ℕ) × (o ≡ None) × (r ≡ Ok names) × (left ≡ bytes_at (without (history_of run block) names) start len)
     × (right ≡ bytes_at (cached (history_of run block)) start len)
@@ -60,7 +61,7 @@ looked run block start len moves left right numbered whole all coherent takes ba
       told.4 ∙ ap (λ es. bytes_at (pile h.first (map (λ e. e.patch) es)) start len) (all_stay h.entries),
     )
 
-sent : (bytes : List ℕ) (block of_block : ℕ) (numbers ready_ones : List ℕ) (the_image : List ℕ) (o : Option Cause)
+sent : (bytes : List ℕ) (block of_block : ℕ) (numbers ready_ones : List ℕ) (the_image : List ℕ) (o : Option Refusal)
     → Sent block numbers bytes ≡ unless o (Sent of_block ready_ones the_image) → bytes ≡ the_image
 sent bytes block of_block numbers ready_ones the_image None e = cc
 sent bytes block of_block numbers ready_ones the_image (Some cause) e = absurd (cc)

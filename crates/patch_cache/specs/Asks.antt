@@ -1,5 +1,6 @@
 -- What is asked of a cache, and what it answers.
 use Rattle.std.specs.Prelude.{ℕ, Bool, true, false, ◌≡◌, ◌⊎◌, min, List, [], ◌∷◌, ◌++◌, length, Option, Some, None, Result, Ok, Err, if◌then◌else◌}
+use Rattle.patch_model.specs.declared.refusals.Refusal.{Refusal}
 use Rattle.patch_model.specs.declared.patches.Undo.{Undo}
 use Rattle.patch_model.specs.declared.refusals.RefusalKind.TheVariants as kind
 use Rattle.patch_model.specs.Step.{Step}
@@ -9,8 +10,8 @@ use Rattle.patch_model.specs.Ready.{ready}
 use Rattle.patch_model.specs.State.{entries_of, state_of, class_of, has_flight, flying_of, numbers_of}
 use Rattle.patch_model.specs.History.{history_of, without, cached, image}
 use Rattle.patch_model.specs.Legal.{IsLegalMerge}
-use Rattle.patch_model.specs.Refusing.{Refusal as Cause, bare, why_not_made, why_not_sent, why_not_shown}
-use Rattle.patch_cache.specs.Refusals.{cause_of, IsWhyNotMerged}
+use Rattle.patch_model.specs.Refusing.{bare, why_not_made, why_not_sent, why_not_shown}
+use Rattle.patch_cache.specs.Refusals.{IsWhyNotMerged}
 use Rattle.patch_cache.specs.Viewing.{with_moves, bytes_at}
 use Rattle.patch_cache.specs.declared.asks.Move.{Move}
 use Rattle.patch_cache.specs.declared.asks.Ask.{Ask as CodeAsk}
@@ -32,7 +33,7 @@ pub data Answer : Type 0 where
   Sent : (block : ℕ) (numbers image : List ℕ) → Answer
   Landed : (block : ℕ) (numbers : List ℕ) → Answer
   Seen : (without cached : List ℕ) → Answer
-  Refused : Cause → Answer
+  Refused : Refusal → Answer
 
 -- the code's
 abbrev pub ask_of : {A : Type 0} → CodeAsk A → Ask
@@ -48,15 +49,15 @@ answer_of (answered.Merged name) = Merged name
 answer_of (answered.Sent block numbers image) = Sent block numbers image
 answer_of (answered.Landed block numbers) = Landed block numbers
 answer_of (answered.Seen without cached) = Seen without cached
-answer_of (answered.Refused refusal) = Refused (cause_of refusal)
+answer_of (answered.Refused refusal) = Refused refusal
 
 -- the answer, unless there is a cause to refuse it
-abbrev pub unless : Option Cause → Answer → Answer
+abbrev pub unless : Option Refusal → Answer → Answer
 unless None answer = answer
 unless (Some cause) answer = Refused cause
 
 -- what a view shows of a span, where the moves were taken so far as they go
-abbrev pub seen : Execution → ℕ → (start len : ℕ) → Result (List ℕ) Cause → Answer
+abbrev pub seen : Execution → ℕ → (start len : ℕ) → Result (List ℕ) Refusal → Answer
 seen run block start len (Ok names) = Seen (bytes_at (without (history_of run block) names) start len) (bytes_at (cached (history_of run block)) start len)
 seen run block start len (Err cause) = Refused cause
 

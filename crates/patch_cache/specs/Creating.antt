@@ -6,7 +6,8 @@ use Rattle.patch_model.specs.Execution.{Execution, extended}
 use Rattle.patch_model.specs.State.{entries_of}
 use Rattle.patch_model.specs.History.{history_of}
 use Rattle.patch_model.specs.Legal.{IsLegal, IsLegalCreate}
-use Rattle.patch_model.specs.Refusing.{Refusal as Cause, why_not_made}
+use Rattle.patch_model.specs.Refusing.{why_not_made}
+use Rattle.patch_model.specs.declared.refusals.Refusal.{Refusal}
 use Rattle.patch_view.specs.State.{Block}
 use Rattle.patch_view.specs.Meaning.{Represents as IsBlockOf}
 use Rattle.patch_graph.specs.State.{Graph}
@@ -15,7 +16,7 @@ use Rattle.patch_cache.specs.Contents.{Contents}
 use Rattle.patch_cache.specs.Meaning.{Represents}
 
 -- why a patch isn't made
-abbrev pub why_not_created : Execution → (block start : ℕ) (bytes after : List ℕ) → Option Cause
+abbrev pub why_not_created : Execution → (block start : ℕ) (bytes after : List ℕ) → Option Refusal
 why_not_created run block start bytes after = why_not_made (length run.first) (entries_of run) block start bytes after
 
 -- the patch that no cause stands against has the next number, and the cache holds it

@@ -1,23 +1,22 @@
 -- What a look at a block leaves, and shows.
 use Rattle.std.specs.Prelude.{ℕ, ◌≡◌, ◌⊎◌, List, [], Result, Ok, Err}
+use Rattle.patch_model.specs.declared.refusals.Refusal.{Refusal}
 use Rattle.patch_model.specs.declared.refusals.RefusalKind.TheVariants as kind
 use Rattle.patch_model.specs.Execution.{Execution}
 use Rattle.patch_model.specs.History.{history_of, without}
-use Rattle.patch_model.specs.Refusing.{Refusal as Cause, bare}
+use Rattle.patch_model.specs.Refusing.{bare}
 use Rattle.patch_cache.specs.Contents.{Contents}
 use Rattle.patch_cache.specs.Meaning.{ShowsWithout}
-use Rattle.patch_cache.specs.Refusals.{cause_of}
 use Rattle.patch_cache.specs.Viewing.{with_moves, bytes_at, Stands}
 use Rattle.patch_cache.specs.declared.asks.Move.{Move}
-use Rattle.patch_cache.specs.declared.refusals.Refusal.{Refusal}
 
 -- what the moves gave, or the refusal that they met; wherever they ended, the block stands there
-abbrev pub HasMoved : Execution → ℕ → Result (List ℕ) Cause → Result (Unit {0}) Refusal → Contents → Type 0
+abbrev pub HasMoved : Execution → ℕ → Result (List ℕ) Refusal → Result (Unit {0}) Refusal → Contents → Type 0
 HasMoved run block moved (Ok done) new = (names : List ℕ) × (moved ≡ Ok names) × ShowsWithout new block names run
-HasMoved run block moved (Err refusal) new = (moved ≡ Err (cause_of refusal)) × Stands run block new
+HasMoved run block moved (Err refusal) new = (moved ≡ Err refusal) × Stands run block new
 
 -- the bytes of the span without what the moves took; or the refusal that they met, or that there was no memory
 abbrev pub HasLooked : Execution → ℕ → List Move → (start len : ℕ) → Result (List ℕ) Refusal → Type 0
 HasLooked run block moves start len (Ok bytes) = (names : List ℕ) × (with_moves run block [] moves ≡ Ok names) × (bytes ≡ bytes_at (without (history_of run block) names) start len)
 HasLooked run block moves start len (Err refusal) =
-    (with_moves run block [] moves ≡ Err (cause_of refusal)) ⊎ ((names : List ℕ) × (with_moves run block [] moves ≡ Ok names) × (cause_of refusal ≡ bare kind.OutOfMemory))
+    (with_moves run block [] moves ≡ Err refusal) ⊎ ((names : List ℕ) × (with_moves run block [] moves ≡ Ok names) × (refusal ≡ bare kind.OutOfMemory))

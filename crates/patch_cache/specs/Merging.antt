@@ -1,5 +1,6 @@
 -- Two classes, as a cache makes one of them.
 use Rattle.std.specs.Prelude.{ℕ, Bool, ◌≡◌, ◌==◌, ◌&&◌, not, min, nat_le, if◌then◌else◌, List, [], Option, Some, None, MatchOption}
+use Rattle.patch_model.specs.declared.refusals.Refusal.{Refusal}
 use Rattle.patch_model.specs.declared.patches.Mark.TheVariants.{Memory}
 use Rattle.patch_model.specs.declared.refusals.RefusalKind.TheVariants as kind
 use Rattle.patch_model.specs.Step.{Merge}
@@ -7,7 +8,7 @@ use Rattle.patch_model.specs.Execution.{Execution, extended}
 use Rattle.patch_model.specs.Entry.{Entry}
 use Rattle.patch_model.specs.State.{entries_of, class_of}
 use Rattle.patch_model.specs.Legal.{IsLegal, IsLegalMerge, block_at}
-use Rattle.patch_model.specs.Refusing.{Refusal as Cause, bare, with_number, why_not_near, IsBetween, IsLeastThird}
+use Rattle.patch_model.specs.Refusing.{bare, with_number, why_not_near, IsBetween, IsLeastThird}
 use Rattle.patch_model.specs.History.{history_of}
 use Rattle.patch_view.specs.State.{Block}
 use Rattle.patch_view.specs.Meaning.{Represents as IsBlockOf}
@@ -28,7 +29,7 @@ abbrev pub spans_touch : LiveClass → LiveClass → Bool
 spans_touch c d = nat_le c.start d.stop && nat_le d.start c.stop
 
 -- what the classes of the patches a and b themselves show against a merge
-abbrev pub why_apart : ℕ → LiveClass → ℕ → LiveClass → Option Cause
+abbrev pub why_apart : ℕ → LiveClass → ℕ → LiveClass → Option Refusal
 why_apart a c b d =
     if c.name == d.name then Some (bare kind.Same)
     else if not (c.block == d.block) then Some (bare kind.OtherBlock)

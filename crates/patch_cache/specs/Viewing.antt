@@ -1,12 +1,13 @@
 -- What a view of one block of a cache answers.
 use Rattle.std.specs.Prelude.{ℕ, ◌≡◌, ◌+◌, ◌==◌, not, List, [], ◌∷◌, filter, slice_get, slice_range, Option, Some, None, Result, Ok, Err, MatchResult, length, if◌then◌else◌}
 use Rattle.std.specs.Borrow.{GName}
+use Rattle.patch_model.specs.declared.refusals.Refusal.{Refusal}
 use Rattle.patch_model.specs.declared.refusals.RefusalKind.TheVariants as kind
 use Rattle.patch_model.specs.Entry.{is_durable}
 use Rattle.patch_model.specs.Execution.{Execution}
 use Rattle.patch_model.specs.State.{entries_of}
 use Rattle.patch_model.specs.History.{history_of, cached}
-use Rattle.patch_model.specs.Refusing.{Refusal as Cause, bare, why_not_taken, why_not_put_back, why_not_shown, class_named}
+use Rattle.patch_model.specs.Refusing.{bare, why_not_taken, why_not_put_back, why_not_shown, class_named}
 use Rattle.patch_view.specs.State.{outline as the_outline}
 use Rattle.patch_cache.specs.Contents.{Contents, block_at, with_block}
 use Rattle.patch_cache.specs.Meaning.{ShowsWithout}
@@ -15,18 +16,18 @@ use Rattle.patch_cache.specs.declared.asks.Move.TheVariants.{Take, Back}
 use Rattle.patch_cache.specs.declared.views.CacheView.{CacheView}
 
 -- why the class of a patch isn't taken back of the block, where these are taken
-abbrev pub why_not_taken_of : Execution → ℕ → List ℕ → ℕ → Option Cause
+abbrev pub why_not_taken_of : Execution → ℕ → List ℕ → ℕ → Option Refusal
 why_not_taken_of run block names number = elim (slice_get (entries_of run) number) [
   | None ↦ Some (bare kind.Unknown)
   | Some e ↦ if is_durable e then Some (bare kind.Durable) else why_not_taken (history_of run block) names number
 ]
 
-abbrev pub names_unless : Option Cause → List ℕ → Result (List ℕ) Cause
+abbrev pub names_unless : Option Refusal → List ℕ → Result (List ℕ) Refusal
 names_unless None names = Ok names
 names_unless (Some cause) names = Err cause
 
 -- the names of the classes that are taken of the block after one more move
-abbrev pub with_move : Execution → ℕ → List ℕ → Move → Result (List ℕ) Cause
+abbrev pub with_move : Execution → ℕ → List ℕ → Move → Result (List ℕ) Refusal
 with_move run block names (Take number) = names_unless (why_not_taken_of run block names number) (class_named (history_of run block) number ∷ names)
 with_move run block names (Back number) =
     names_unless (why_not_put_back (history_of run block) names number) (filter (λ n. not (n == class_named (history_of run block) number)) names)
@@ -36,7 +37,7 @@ go_on (Ok x) f = f x
 go_on (Err e) f = Err e
 
 -- and after some moves, up to the first that is refused
-abbrev pub with_moves : Execution → ℕ → List ℕ → List Move → Result (List ℕ) Cause
+abbrev pub with_moves : Execution → ℕ → List ℕ → List Move → Result (List ℕ) Refusal
 with_moves run block names [] = Ok names
 with_moves run block names (move ∷ moves) = go_on (with_move run block names move) (λ now. with_moves run block now moves)
 
@@ -45,7 +46,7 @@ abbrev pub bytes_at : List ℕ → (start len : ℕ) → List ℕ
 bytes_at bytes start len = slice_range bytes start (start + len)
 
 -- why a span isn't shown
-abbrev pub why_not_read : Execution → (block start len : ℕ) → Option Cause
+abbrev pub why_not_read : Execution → (block start len : ℕ) → Option Refusal
 why_not_read run block start len = why_not_shown (length run.first) block start len
 
 -- the bytes of a span that no cause stands against showing, with all patches
@@ -57,7 +58,7 @@ abbrev pub Stands : Execution → ℕ → Contents → Type 0
 Stands run block c = (names : List ℕ) × ShowsWithout c block names run
 
 -- a move that was made, or why it wasn't
-abbrev pub IsMoved : {E : Type 0} → (E → Cause) → Execution → (block : ℕ) → List ℕ → Move → Result (Unit {0}) E → Contents → Type 0
+abbrev pub IsMoved : {E : Type 0} → (E → Refusal) → Execution → (block : ℕ) → List ℕ → Move → Result (Unit {0}) E → Contents → Type 0
 IsMoved cause run block names move result c =
     MatchResult result (λ done. (now : List ℕ) × (with_move run block names move ≡ Ok now) × ShowsWithout c block now run) (λ refusal. with_move run block names move ≡ Err (cause refusal))
 

@@ -1,6 +1,5 @@
 //! What is asked of a cache, and what it answers.
-use crate::refusals::Refusal;
-use patch_model::{BlockBytes, BlockNo, Bytes, Items, Numbers, PatchNo, Undo};
+use patch_model::{BlockBytes, BlockNo, Bytes, Items, Numbers, PatchNo, Refusal, Undo};
 use std::alloc::{Allocator, Global};
 
 /// A move of a view: the class of a patch is taken back, or put back.

@@ -29,7 +29,7 @@ pub use landing::TRIES;
 pub use patch_view::PutBackRefusal;
 pub use refusals::{
     CreateRefusal, DeviceGaveUp, Fault, FlushRefusal, MergeRefusal, NoSuchBlock, ReadRefusal,
-    Refusal, SendRefusal, TakeRefusal,
+    SendRefusal, TakeRefusal,
 };
 pub use views::CacheView;
 pub use writes::{Done, write_out};

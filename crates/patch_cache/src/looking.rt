@@ -7,15 +7,13 @@ ghost use Rattle.patch_model.specs.History.{history_of, without};
 ghost use Rattle.patch_model.specs.Refusing.{bare};
 ghost use Rattle.patch_cache.specs.Contents.{Contents};
 ghost use Rattle.patch_cache.specs.Meaning.{Represents, ShowsWithout};
-ghost use Rattle.patch_cache.specs.Refusals.{cause_of};
 ghost use Rattle.patch_cache.specs.Viewing.{with_move, with_moves, bytes_at, Stands, IsViewOf};
 ghost use Rattle.patch_cache.specs.Asks.{IsAnswer, IsGivenUp, View, answer_of};
 ghost use Rattle.patch_cache.specs.Looking.{HasLooked, HasMoved};
 
 use crate::asks::{Answer, Move};
 use crate::caches::Cache;
-use crate::refusals::Refusal;
-use patch_model::{BlockNo, Bytes, RefusalKind};
+use patch_model::{BlockNo, Bytes, Refusal, RefusalKind, Refuses};
 use std::alloc::Allocator;
 
 impl<A: Allocator + Copy> Cache<A> {
@@ -34,7 +32,7 @@ impl<A: Allocator + Copy> Cache<A> {
         ensures trace { self.new.trace ≡ self.old.trace }
     {
         if let Some(refusal) = self.why_not_shown(block, start, len) {
-            return Answer::Refused(Refusal::from(refusal));
+            return Answer::Refused(refusal.refusal());
         }
         let without = self.without(block, moves, start, len);
         self.restore_of(block);
@@ -93,10 +91,9 @@ impl<A: Allocator + Copy> Cache<A> {
         ensures trace { self.new.trace ≡ self.old.trace }
     {
         match step {
-            Move::Take(no) => self.take_of(block, no)?,
-            Move::Back(no) => self.put_back_of(block, no)?,
+            Move::Take(no) => self.take_of(block, no).map_err(Refuses::refusal),
+            Move::Back(no) => self.put_back_of(block, no).map_err(Refuses::refusal),
         }
-        Ok(())
     }
 
     /// A copy of the block's bytes in the span, without the classes that are taken of it.
@@ -105,12 +102,12 @@ impl<A: Allocator + Copy> Cache<A> {
         requires fits { start + len ≤ BLOCK }
         ensures bytes { (run : Execution) (names : List ℕ) → ShowsWithout self.now block names run
             → IfOk result (λ bytes. bytes ≡ bytes_at (without (history_of run block) names) start len) }
-        ensures refusal { IfErr result (λ refusal. cause_of refusal ≡ bare kind.OutOfMemory) }
+        ensures refusal { IfErr result (λ refusal. refusal ≡ bare kind.OutOfMemory) }
     {
         let bytes = self.bytes_of(block);
         match Vec::from_slice(self.alloc, &bytes[start..start + len]) {
             Ok(copy) => Ok(Bytes::from_vec(copy)),
-            Err(_) => Err(Refusal::bare(RefusalKind::OutOfMemory)),
+            Err(_) => Err(RefusalKind::OutOfMemory.bare()),
         }
     }
 }

@@ -1,21 +1,12 @@
 //! What a cache refuses.
 ghost use Rattle.std.specs.Prelude.{◌≡◌};
-ghost use Rattle.patch_model.specs.Refusal.{code_of, name_of};
 ghost use Rattle.patch_model.specs.declared.refusals.RefusalKind.TheVariants as kind;
 ghost use Rattle.patch_model.specs.Refusing.{bare};
-ghost use Rattle.patch_cache.specs.Refusals.{cause_of, read_cause, create_cause, merge_cause, send_cause, take_cause, flush_cause};
-ghost use Rattle.patch_view.specs.Refusal.{take_cause as view_take_cause, put_back_cause};
+ghost use Rattle.patch_cache.specs.Refusals.{read_cause, create_cause, merge_cause, send_cause, take_cause, flush_cause, gave_up_cause};
+ghost use Rattle.patch_view.specs.Refusal.{take_cause as view_take_cause};
 
-use patch_model::{BlockNo, OutOfMemory, PatchNo, RefusalKind};
-use patch_view::PutBackRefusal;
+use patch_model::{BlockNo, OutOfMemory, PatchNo, Refusal, RefusalKind, Refuses};
 use thiserror::Error;
-
-/// What an ask is refused: the kind of the refusal, and the number that it carries.
-#[derive(Clone, Copy, Debug, PartialEq, Eq)]
-pub struct Refusal {
-    pub kind: RefusalKind,
-    pub number: Option<u32>,
-}
 
 /// There is no block of this number.
 #[derive(Clone, Copy, Debug, PartialEq, Eq, Error)]
@@ -137,270 +128,110 @@ pub enum TakeRefusal {
     DependentApplied(PatchNo),
 }
 
-impl NoSuchBlock {
-    pub fn kind(self) -> RefusalKind
-        ensures { result ≡ kind.NoSuchBlock }
-    {
-        RefusalKind::NoSuchBlock
-    }
+impl Refuses for NoSuchBlock {
+    ghost cause = { λ _. bare kind.NoSuchBlock };
 
-    pub fn code(self) -> u8
-        ensures { result ≡ code_of kind.NoSuchBlock }
-    {
-        self.kind().code()
-    }
-
-    pub fn name(self) -> &'static str
-        ensures { result.now ≡ name_of kind.NoSuchBlock }
-    {
-        self.kind().name()
+    fn refusal(self) -> Refusal {
+        RefusalKind::NoSuchBlock.bare()
     }
 }
 
-impl Fault {
-    pub fn kind(self) -> RefusalKind
-        ensures { result ≡ kind.Fault }
-    {
-        RefusalKind::Fault
-    }
+impl Refuses for Fault {
+    ghost cause = { λ _. bare kind.Fault };
 
-    pub fn code(self) -> u8
-        ensures { result ≡ code_of kind.Fault }
-    {
-        self.kind().code()
-    }
-
-    pub fn name(self) -> &'static str
-        ensures { result.now ≡ name_of kind.Fault }
-    {
-        self.kind().name()
+    fn refusal(self) -> Refusal {
+        RefusalKind::Fault.bare()
     }
 }
 
-impl ReadRefusal {
-    pub fn kind(self) -> RefusalKind
-        ensures { result ≡ (read_cause self).kind }
-    {
+impl Refuses for ReadRefusal {
+    ghost cause = { read_cause };
+
+    fn refusal(self) -> Refusal {
         match self {
-            ReadRefusal::NoSuchBlock => RefusalKind::NoSuchBlock,
-            ReadRefusal::OutOfBlock => RefusalKind::OutOfBlock,
+            ReadRefusal::NoSuchBlock => RefusalKind::NoSuchBlock.bare(),
+            ReadRefusal::OutOfBlock => RefusalKind::OutOfBlock.bare(),
         }
-    }
-
-    /// The number that it carries.
-    pub fn number(&self) -> Option<u32>
-        ensures { result ≡ (read_cause self.now).number }
-    {
-        None
-    }
-
-    pub fn code(self) -> u8
-        ensures { result ≡ code_of (read_cause self).kind }
-    {
-        self.kind().code()
-    }
-
-    pub fn name(self) -> &'static str
-        ensures { result.now ≡ name_of (read_cause self).kind }
-    {
-        self.kind().name()
     }
 }
 
-impl CreateRefusal {
-    pub fn kind(self) -> RefusalKind
-        ensures { result ≡ (create_cause self).kind }
-    {
+impl Refuses for CreateRefusal {
+    ghost cause = { create_cause };
+
+    fn refusal(self) -> Refusal {
         match self {
-            CreateRefusal::NoSuchBlock => RefusalKind::NoSuchBlock,
-            CreateRefusal::EmptyPatch => RefusalKind::EmptyPatch,
-            CreateRefusal::OutOfBlock => RefusalKind::OutOfBlock,
-            CreateRefusal::UnknownDependency => RefusalKind::UnknownDependency,
-            CreateRefusal::NumbersSpent => RefusalKind::NumbersSpent,
-            CreateRefusal::TooManyLive => RefusalKind::TooManyLive,
-            CreateRefusal::OutOfMemory => RefusalKind::OutOfMemory,
+            CreateRefusal::NoSuchBlock => RefusalKind::NoSuchBlock.bare(),
+            CreateRefusal::EmptyPatch => RefusalKind::EmptyPatch.bare(),
+            CreateRefusal::OutOfBlock => RefusalKind::OutOfBlock.bare(),
+            CreateRefusal::UnknownDependency => RefusalKind::UnknownDependency.bare(),
+            CreateRefusal::NumbersSpent => RefusalKind::NumbersSpent.bare(),
+            CreateRefusal::TooManyLive => RefusalKind::TooManyLive.bare(),
+            CreateRefusal::OutOfMemory => RefusalKind::OutOfMemory.bare(),
         }
-    }
-
-    /// The number that it carries.
-    pub fn number(&self) -> Option<u32>
-        ensures { result ≡ (create_cause self.now).number }
-    {
-        None
-    }
-
-    pub fn code(self) -> u8
-        ensures { result ≡ code_of (create_cause self).kind }
-    {
-        self.kind().code()
-    }
-
-    pub fn name(self) -> &'static str
-        ensures { result.now ≡ name_of (create_cause self).kind }
-    {
-        self.kind().name()
     }
 }
 
-impl MergeRefusal {
-    pub fn kind(self) -> RefusalKind
-        ensures { result ≡ (merge_cause self).kind }
-    {
+impl Refuses for MergeRefusal {
+    ghost cause = { merge_cause };
+
+    fn refusal(self) -> Refusal {
         match self {
-            MergeRefusal::Unknown => RefusalKind::Unknown,
-            MergeRefusal::NotInMemory(_) => RefusalKind::NotInMemory,
-            MergeRefusal::Same => RefusalKind::Same,
-            MergeRefusal::OtherBlock => RefusalKind::OtherBlock,
-            MergeRefusal::Hard(_) => RefusalKind::Hard,
-            MergeRefusal::Apart => RefusalKind::Apart,
-            MergeRefusal::WouldCycle(_) => RefusalKind::WouldCycle,
-            MergeRefusal::OutOfMemory => RefusalKind::OutOfMemory,
+            MergeRefusal::Unknown => RefusalKind::Unknown.bare(),
+            MergeRefusal::NotInMemory(no) => RefusalKind::NotInMemory.with_number(no.0),
+            MergeRefusal::Same => RefusalKind::Same.bare(),
+            MergeRefusal::OtherBlock => RefusalKind::OtherBlock.bare(),
+            MergeRefusal::Hard(no) => RefusalKind::Hard.with_number(no.0),
+            MergeRefusal::Apart => RefusalKind::Apart.bare(),
+            MergeRefusal::WouldCycle(no) => RefusalKind::WouldCycle.with_number(no.0),
+            MergeRefusal::OutOfMemory => RefusalKind::OutOfMemory.bare(),
         }
-    }
-
-    /// The number that it carries.
-    pub fn number(&self) -> Option<u32>
-        ensures { result ≡ (merge_cause self.now).number }
-    {
-        match *self {
-            MergeRefusal::NotInMemory(no) | MergeRefusal::Hard(no) | MergeRefusal::WouldCycle(no) =>
-                Some(no.0),
-            _ => None,
-        }
-    }
-
-    pub fn code(self) -> u8
-        ensures { result ≡ code_of (merge_cause self).kind }
-    {
-        RefusalKind::code(self.kind())
-    }
-
-    pub fn name(self) -> &'static str
-        ensures { result.now ≡ name_of (merge_cause self).kind }
-    {
-        RefusalKind::name(self.kind())
     }
 }
 
-impl SendRefusal {
-    pub fn kind(self) -> RefusalKind
-        ensures { result ≡ (send_cause self).kind }
-    {
+impl Refuses for SendRefusal {
+    ghost cause = { send_cause };
+
+    fn refusal(self) -> Refusal {
         match self {
-            SendRefusal::NoSuchBlock => RefusalKind::NoSuchBlock,
-            SendRefusal::AlreadyInFlight => RefusalKind::AlreadyInFlight,
-            SendRefusal::NothingReady => RefusalKind::NothingReady,
-            SendRefusal::OutOfMemory => RefusalKind::OutOfMemory,
+            SendRefusal::NoSuchBlock => RefusalKind::NoSuchBlock.bare(),
+            SendRefusal::AlreadyInFlight => RefusalKind::AlreadyInFlight.bare(),
+            SendRefusal::NothingReady => RefusalKind::NothingReady.bare(),
+            SendRefusal::OutOfMemory => RefusalKind::OutOfMemory.bare(),
         }
-    }
-
-    /// The number that it carries.
-    pub fn number(&self) -> Option<u32>
-        ensures { result ≡ (send_cause self.now).number }
-    {
-        None
-    }
-
-    pub fn code(self) -> u8
-        ensures { result ≡ code_of (send_cause self).kind }
-    {
-        self.kind().code()
-    }
-
-    pub fn name(self) -> &'static str
-        ensures { result.now ≡ name_of (send_cause self).kind }
-    {
-        self.kind().name()
     }
 }
 
-impl TakeRefusal {
-    pub fn kind(self) -> RefusalKind
-        ensures { result ≡ (take_cause self).kind }
-    {
+impl Refuses for TakeRefusal {
+    ghost cause = { take_cause };
+
+    fn refusal(self) -> Refusal {
         match self {
-            TakeRefusal::Unknown => RefusalKind::Unknown,
-            TakeRefusal::Durable => RefusalKind::Durable,
-            TakeRefusal::InFlight => RefusalKind::InFlight,
-            TakeRefusal::Hard => RefusalKind::Hard,
-            TakeRefusal::AlreadyTaken => RefusalKind::AlreadyTaken,
-            TakeRefusal::DependentApplied(_) => RefusalKind::DependentApplied,
+            TakeRefusal::Unknown => RefusalKind::Unknown.bare(),
+            TakeRefusal::Durable => RefusalKind::Durable.bare(),
+            TakeRefusal::InFlight => RefusalKind::InFlight.bare(),
+            TakeRefusal::Hard => RefusalKind::Hard.bare(),
+            TakeRefusal::AlreadyTaken => RefusalKind::AlreadyTaken.bare(),
+            TakeRefusal::DependentApplied(no) => RefusalKind::DependentApplied.with_number(no.0),
         }
-    }
-
-    /// The number that it carries.
-    pub fn number(&self) -> Option<u32>
-        ensures { result ≡ (take_cause self.now).number }
-    {
-        match *self {
-            TakeRefusal::DependentApplied(no) => Some(no.0),
-            _ => None,
-        }
-    }
-
-    pub fn code(self) -> u8
-        ensures { result ≡ code_of (take_cause self).kind }
-    {
-        self.kind().code()
-    }
-
-    pub fn name(self) -> &'static str
-        ensures { result.now ≡ name_of (take_cause self).kind }
-    {
-        self.kind().name()
     }
 }
 
-impl DeviceGaveUp {
-    pub fn kind(self) -> RefusalKind
-        ensures { result ≡ kind.DeviceGaveUp }
-    {
-        RefusalKind::DeviceGaveUp
-    }
+impl Refuses for DeviceGaveUp {
+    ghost cause = { gave_up_cause };
 
-    pub fn code(self) -> u8
-        ensures { result ≡ code_of kind.DeviceGaveUp }
-    {
-        self.kind().code()
-    }
-
-    pub fn name(self) -> &'static str
-        ensures { result.now ≡ name_of kind.DeviceGaveUp }
-    {
-        self.kind().name()
+    fn refusal(self) -> Refusal {
+        RefusalKind::DeviceGaveUp.with_number(self.0.0)
     }
 }
 
-impl FlushRefusal {
-    pub fn kind(self) -> RefusalKind
-        ensures { result ≡ (flush_cause self).kind }
-    {
+impl Refuses for FlushRefusal {
+    ghost cause = { flush_cause };
+
+    fn refusal(self) -> Refusal {
         match self {
-            FlushRefusal::DeviceGaveUp(_) => RefusalKind::DeviceGaveUp,
-            FlushRefusal::OutOfMemory => RefusalKind::OutOfMemory,
+            FlushRefusal::DeviceGaveUp(block) => RefusalKind::DeviceGaveUp.with_number(block.0),
+            FlushRefusal::OutOfMemory => RefusalKind::OutOfMemory.bare(),
         }
-    }
-
-    /// The number that it carries.
-    pub fn number(&self) -> Option<u32>
-        ensures { result ≡ (flush_cause self.now).number }
-    {
-        match *self {
-            FlushRefusal::DeviceGaveUp(block) => Some(block.0),
-            FlushRefusal::OutOfMemory => None,
-        }
-    }
-
-    pub fn code(self) -> u8
-        ensures { result ≡ code_of (flush_cause self).kind }
-    {
-        self.kind().code()
-    }
-
-    pub fn name(self) -> &'static str
-        ensures { result.now ≡ name_of (flush_cause self).kind }
-    {
-        self.kind().name()
     }
 }
 
@@ -445,111 +276,6 @@ impl From<patch_view::TakeRefusal> for TakeRefusal {
             patch_view::TakeRefusal::AlreadyTaken => TakeRefusal::AlreadyTaken,
             patch_view::TakeRefusal::DependentApplied(no) => TakeRefusal::DependentApplied(no),
         }
-    }
-}
-
-impl From<CreateRefusal> for Refusal {
-    ghost from_gives = { λ r e. cause_of e ≡ create_cause r };
-
-    fn from(refusal: CreateRefusal) -> Refusal {
-        Refusal {
-            kind: refusal.kind(),
-            number: refusal.number(),
-        }
-    }
-}
-
-impl From<MergeRefusal> for Refusal {
-    ghost from_gives = { λ r e. cause_of e ≡ merge_cause r };
-
-    fn from(refusal: MergeRefusal) -> Refusal {
-        let number = refusal.number();
-        Refusal {
-            kind: refusal.kind(),
-            number,
-        }
-    }
-}
-
-impl From<SendRefusal> for Refusal {
-    ghost from_gives = { λ r e. cause_of e ≡ send_cause r };
-
-    fn from(refusal: SendRefusal) -> Refusal {
-        Refusal {
-            kind: refusal.kind(),
-            number: refusal.number(),
-        }
-    }
-}
-
-impl From<TakeRefusal> for Refusal {
-    ghost from_gives = { λ r e. cause_of e ≡ take_cause r };
-
-    fn from(refusal: TakeRefusal) -> Refusal {
-        let number = refusal.number();
-        Refusal {
-            kind: refusal.kind(),
-            number,
-        }
-    }
-}
-
-impl From<FlushRefusal> for Refusal {
-    ghost from_gives = { λ r e. cause_of e ≡ flush_cause r };
-
-    fn from(refusal: FlushRefusal) -> Refusal {
-        let number = refusal.number();
-        Refusal {
-            kind: refusal.kind(),
-            number,
-        }
-    }
-}
-
-impl From<ReadRefusal> for Refusal {
-    ghost from_gives = { λ r e. cause_of e ≡ read_cause r };
-
-    fn from(refusal: ReadRefusal) -> Refusal {
-        Refusal {
-            kind: refusal.kind(),
-            number: refusal.number(),
-        }
-    }
-}
-
-impl From<PutBackRefusal> for Refusal {
-    ghost from_gives = { λ r e. cause_of e ≡ put_back_cause r };
-
-    fn from(refusal: PutBackRefusal) -> Refusal {
-        let number = match refusal {
-            PutBackRefusal::DependencyTaken(no) => Some(no.0),
-            PutBackRefusal::NotTaken => None,
-        };
-        Refusal {
-            kind: refusal.kind(),
-            number,
-        }
-    }
-}
-
-impl Refusal {
-    pub fn code(self) -> u8
-        ensures { result ≡ code_of self.kind }
-    {
-        self.kind.code()
-    }
-
-    pub fn name(self) -> &'static str
-        ensures { result.now ≡ name_of self.kind }
-    {
-        self.kind.name()
-    }
-
-    /// A refusal that carries no number.
-    pub(crate) fn bare(kind: RefusalKind) -> Refusal
-        ensures { cause_of result ≡ bare kind }
-    {
-        Refusal { kind, number: None }
     }
 }
 

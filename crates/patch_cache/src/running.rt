@@ -14,11 +14,10 @@ use crate::asks::{Answer, Ask};
 use crate::caches::Cache;
 use crate::flights::Flights;
 use crate::laws;
-use crate::refusals::Refusal;
 use crate::writes::write_image;
 use patch_device::Device;
 use patch_model::{
-    BLOCK, BlockBytes, BlockNo, Numbers, OutOfMemory, PatchNo, RefusalKind, Undo,
+    BLOCK, BlockBytes, BlockNo, Numbers, OutOfMemory, PatchNo, RefusalKind, Refuses, Undo,
     laws as model_laws,
 };
 use std::alloc::Allocator;
@@ -127,7 +126,7 @@ impl<A: Allocator + Copy> Cache<A> {
     {
         match self.create(block, start, bytes, after, undo) {
             Ok(no) => Answer::Made(no),
-            Err(refusal) => Answer::Refused(Refusal::from(refusal)),
+            Err(refusal) => Answer::Refused(refusal.refusal()),
         }
     }
 
@@ -139,7 +138,7 @@ impl<A: Allocator + Copy> Cache<A> {
     {
         match self.merge(a, b) {
             Ok(name) => Answer::Merged(name),
-            Err(refusal) => Answer::Refused(Refusal::from(refusal)),
+            Err(refusal) => Answer::Refused(refusal.refusal()),
         }
     }
 
@@ -150,11 +149,11 @@ impl<A: Allocator + Copy> Cache<A> {
         ensures no_fault { answer_of result ≢ Refused (bare kind.Fault) }
     {
         if let Some(refusal) = self.why_not_sent(block) {
-            return Answer::Refused(Refusal::from(refusal));
+            return Answer::Refused(refusal.refusal());
         }
         match self.send_and_hold(flights, block) {
             Ok(answer) => answer,
-            Err(OutOfMemory) => Answer::Refused(Refusal::bare(RefusalKind::OutOfMemory)),
+            Err(OutOfMemory) => Answer::Refused(RefusalKind::OutOfMemory.bare()),
         }
     }
 
@@ -212,10 +211,10 @@ impl<A: Allocator + Copy> Cache<A> {
         model_laws::images_land();
         model_laws::writes_end();
         let Some(at) = flights.place_of(block) else {
-            return Answer::Refused(Refusal::bare(RefusalKind::Stranger));
+            return Answer::Refused(RefusalKind::Stranger.bare());
         };
         if write_image(device, &flights.held[at]).is_err() {
-            return Answer::Refused(Refusal::bare(RefusalKind::Fault));
+            return Answer::Refused(RefusalKind::Fault.bare());
         }
         let landed = flights.held.swap_remove(at).landed();
         match self.complete(landed) {
@@ -226,7 +225,7 @@ impl<A: Allocator + Copy> Cache<A> {
             // Never so: a held flight is one of the cache's.
             Err(stranger) => {
                 stranger.abandon();
-                Answer::Refused(Refusal::bare(RefusalKind::Stranger))
+                Answer::Refused(RefusalKind::Stranger.bare())
             }
         }
     }

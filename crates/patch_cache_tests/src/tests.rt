@@ -1,6 +1,6 @@
 //! Worked scripts, the calls one by one, writes in waves, want of memory, and the texts of refusals.
 use patch_cache::*;
-use patch_model::{BlockBytes, BlockNo, MAX_BLOCKS, OutOfMemory, PatchNo, Undo};
+use patch_model::{BlockBytes, BlockNo, MAX_BLOCKS, OutOfMemory, PatchNo, Refusal, Refuses, Undo};
 use std::alloc::Allocator;
 use std::fmt::Debug;
 use std::process::Abort;

@@ -1,6 +1,7 @@
--- What the refusals of devices are.
-use Rattle.patch_model.specs.declared.refusals.RefusalKind.{RefusalKind}
+-- What the refusals of devices come to.
+use Rattle.patch_model.specs.declared.refusals.Refusal.{Refusal}
 use Rattle.patch_model.specs.declared.refusals.RefusalKind.TheVariants as kind
+use Rattle.patch_model.specs.Refusing.{bare}
 use Rattle.patch_device.specs.declared.refusals.DeviceRefusal.{DeviceRefusal}
 use Rattle.patch_device.specs.declared.refusals.DeviceRefusal.TheVariants as device
 use Rattle.patch_device.specs.declared.refusals.FileRefusal.{FileRefusal}
@@ -8,17 +9,17 @@ use Rattle.patch_device.specs.declared.refusals.FileRefusal.TheVariants as file
 use Rattle.patch_device.specs.declared.refusals.LoadFault.{LoadFault}
 use Rattle.patch_device.specs.declared.refusals.LoadFault.TheVariants as load
 
--- the kind of what a call of a device refuses
-abbrev pub device_kind : DeviceRefusal → RefusalKind
-device_kind device.NoSuchBlock = kind.NoSuchBlock
-device_kind device.Fault = kind.Fault
+-- why a call of a device is refused
+abbrev pub device_cause : DeviceRefusal → Refusal
+device_cause device.NoSuchBlock = bare kind.NoSuchBlock
+device_cause device.Fault = bare kind.Fault
 
--- the kind of why a file isn't taken as a device
-abbrev pub file_kind : FileRefusal → RefusalKind
-file_kind file.FileSize = kind.FileSize
-file_kind file.Disk = kind.Disk
+-- why a file isn't taken as a device
+abbrev pub file_cause : FileRefusal → Refusal
+file_cause file.FileSize = bare kind.FileSize
+file_cause file.Disk = bare kind.Disk
 
--- the kind of why the blocks weren't loaded
-abbrev pub load_kind : LoadFault → RefusalKind
-load_kind load.Fault = kind.Fault
-load_kind load.OutOfMemory = kind.OutOfMemory
+-- why the blocks weren't loaded
+abbrev pub load_cause : LoadFault → Refusal
+load_cause load.Fault = bare kind.Fault
+load_cause load.OutOfMemory = bare kind.OutOfMemory

@@ -1,9 +1,8 @@
 //! What devices refuse.
 ghost use Rattle.std.specs.Prelude.{◌≡◌};
-ghost use Rattle.patch_model.specs.Refusal.{code_of, name_of};
-ghost use Rattle.patch_device.specs.Refusals.{device_kind, file_kind, load_kind};
+ghost use Rattle.patch_device.specs.Refusals.{device_cause, file_cause, load_cause};
 
-use patch_model::RefusalKind;
+use patch_model::{Refusal, RefusalKind, Refuses};
 use std::alloc::{AllocError, AllocFailed};
 use thiserror::Error;
 
@@ -36,72 +35,36 @@ pub enum LoadFault {
     OutOfMemory,
 }
 
-impl DeviceRefusal {
-    pub fn kind(self) -> RefusalKind
-        ensures { result ≡ device_kind self }
-    {
+impl Refuses for DeviceRefusal {
+    ghost cause = { device_cause };
+
+    fn refusal(self) -> Refusal {
         match self {
-            DeviceRefusal::NoSuchBlock => RefusalKind::NoSuchBlock,
-            DeviceRefusal::Fault => RefusalKind::Fault,
+            DeviceRefusal::NoSuchBlock => RefusalKind::NoSuchBlock.bare(),
+            DeviceRefusal::Fault => RefusalKind::Fault.bare(),
         }
-    }
-
-    pub fn code(self) -> u8
-        ensures { result ≡ code_of (device_kind self) }
-    {
-        self.kind().code()
-    }
-
-    pub fn name(self) -> &'static str
-        ensures { result.now ≡ name_of (device_kind self) }
-    {
-        self.kind().name()
     }
 }
 
-impl FileRefusal {
-    pub fn kind(self) -> RefusalKind
-        ensures { result ≡ file_kind self }
-    {
+impl Refuses for FileRefusal {
+    ghost cause = { file_cause };
+
+    fn refusal(self) -> Refusal {
         match self {
-            FileRefusal::FileSize => RefusalKind::FileSize,
-            FileRefusal::Disk => RefusalKind::Disk,
+            FileRefusal::FileSize => RefusalKind::FileSize.bare(),
+            FileRefusal::Disk => RefusalKind::Disk.bare(),
         }
-    }
-
-    pub fn code(self) -> u8
-        ensures { result ≡ code_of (file_kind self) }
-    {
-        self.kind().code()
-    }
-
-    pub fn name(self) -> &'static str
-        ensures { result.now ≡ name_of (file_kind self) }
-    {
-        self.kind().name()
     }
 }
 
-impl LoadFault {
-    pub fn kind(self) -> RefusalKind
-        ensures { result ≡ load_kind self }
-    {
+impl Refuses for LoadFault {
+    ghost cause = { load_cause };
+
+    fn refusal(self) -> Refusal {
         match self {
-            LoadFault::Fault => RefusalKind::Fault,
-            LoadFault::OutOfMemory => RefusalKind::OutOfMemory,
+            LoadFault::Fault => RefusalKind::Fault.bare(),
+            LoadFault::OutOfMemory => RefusalKind::OutOfMemory.bare(),
         }
-    }
-
-    pub fn code(self) -> u8
-        ensures { result ≡ code_of (load_kind self) }
-    {
-        self.kind().code()
-    }
-
-    pub fn name(self) -> &'static str
-        ensures { result.now ≡ name_of (load_kind self) }
-    {
-        self.kind().name()
     }
 }
 

@@ -1,7 +1,7 @@
 //! Devices in memory, with a failing call and over a file, and each refusal in its turn.
 use linked_list_allocator::LocalHeap;
 use patch_device::*;
-use patch_model::{BLOCK, RefusalKind};
+use patch_model::{BLOCK, RefusalKind, Refuses};
 use std::alloc::{AllocError, Allocator, Global};
 use std::fs;
 use std::fs::File;

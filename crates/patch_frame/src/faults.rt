@@ -1,9 +1,7 @@
 //! Why bytes are in no format.
-ghost use Rattle.std.specs.Prelude.{◌≡◌};
-ghost use Rattle.patch_model.specs.Refusal.{code_of, name_of};
-ghost use Rattle.patch_frame.specs.Refusal.{kind_of};
+ghost use Rattle.patch_frame.specs.Refusal.{fault_cause};
 
-use patch_model::RefusalKind;
+use patch_model::{Refusal, RefusalKind, Refuses};
 use thiserror::Error;
 
 /// The first test of a reader that fails.
@@ -26,28 +24,16 @@ pub enum FrameFault {
     NotZero,
 }
 
-impl FrameFault {
-    pub fn kind(self) -> RefusalKind
-        ensures { result ≡ kind_of self }
-    {
+impl Refuses for FrameFault {
+    ghost cause = { fault_cause };
+
+    fn refusal(self) -> Refusal {
         match self {
-            FrameFault::BadMagic => RefusalKind::BadMagic,
-            FrameFault::BadKey => RefusalKind::BadKey,
-            FrameFault::BadValue => RefusalKind::BadValue,
-            FrameFault::Short => RefusalKind::Short,
-            FrameFault::NotZero => RefusalKind::NotZero,
+            FrameFault::BadMagic => RefusalKind::BadMagic.bare(),
+            FrameFault::BadKey => RefusalKind::BadKey.bare(),
+            FrameFault::BadValue => RefusalKind::BadValue.bare(),
+            FrameFault::Short => RefusalKind::Short.bare(),
+            FrameFault::NotZero => RefusalKind::NotZero.bare(),
         }
-    }
-
-    pub fn code(self) -> u8
-        ensures { result ≡ code_of (kind_of self) }
-    {
-        self.kind().code()
-    }
-
-    pub fn name(self) -> &'static str
-        ensures { result.now ≡ name_of (kind_of self) }
-    {
-        self.kind().name()
     }
 }

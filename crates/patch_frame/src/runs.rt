@@ -2,16 +2,15 @@
 ghost use Rattle.std.specs.Prelude.{◌≡◌, List, [], IfOk, IfErr, All, map};
 ghost use Rattle.patch_frame.specs.declared.geometries.Format.TheVariants.{One};
 ghost use Rattle.patch_frame.specs.Frame.{Content, content, length_of};
-ghost use Rattle.patch_model.specs.Refusal.{code_of, name_of};
 ghost use Rattle.patch_frame.specs.declared.runs.FramesRefusal.TheVariants as refusal;
-ghost use Rattle.patch_frame.specs.Refusal.{kind_of_run};
+ghost use Rattle.patch_frame.specs.Refusal.{run_cause};
 ghost use Rattle.patch_frame.specs.Run.{run, AllFit, IsRead, StopsSo, GivesRun};
 ghost use Rattle.patch_frame.specs.Geometry.{value_limit};
 
 use crate::faults::FrameFault;
 use crate::framing::{Frame, decode_within};
 use crate::geometries::Format;
-use patch_model::RefusalKind;
+use patch_model::{Refusal, RefusalKind, Refuses};
 use std::alloc::{AllocFailed, Allocator};
 use thiserror::Error;
 
@@ -26,26 +25,14 @@ pub enum FramesRefusal {
     OutOfMemory,
 }
 
-impl FramesRefusal {
-    pub fn kind(self) -> RefusalKind
-        ensures { result ≡ kind_of_run self }
-    {
+impl Refuses for FramesRefusal {
+    ghost cause = { run_cause };
+
+    fn refusal(self) -> Refusal {
         match self {
-            FramesRefusal::Fault(fault) => fault.kind(),
-            FramesRefusal::OutOfMemory => RefusalKind::OutOfMemory,
+            FramesRefusal::Fault(fault) => fault.refusal(),
+            FramesRefusal::OutOfMemory => RefusalKind::OutOfMemory.bare(),
         }
-    }
-
-    pub fn code(self) -> u8
-        ensures { result ≡ code_of (kind_of_run self) }
-    {
-        self.kind().code()
-    }
-
-    pub fn name(self) -> &'static str
-        ensures { result.now ≡ name_of (kind_of_run self) }
-    {
-        self.kind().name()
     }
 }
 

@@ -1,7 +1,7 @@
 //! What no contract says: the bytes of worked examples, each refusal, and refused memory.
 use linked_list_allocator::LocalHeap;
 use patch_frame::*;
-use patch_model::{BlockBytes, OutOfMemory, RefusalKind};
+use patch_model::{BlockBytes, OutOfMemory, RefusalKind, Refuses};
 use std::alloc::Global;
 use std::process::Abort;
 use std::test::Fail;

@@ -3,6 +3,7 @@ use Rattle.std.specs.Prelude.{ℕ, Bool, false, ◌+◌, ◌≤◌, ◌⊎◌, �
 use Rattle.std.specs.List.{list_any}
 use Rattle.patch_model.specs.declared.blocks.TheConstants.{BLOCK}
 use Rattle.patch_model.specs.declared.limits.TheConstants.{MAX_PATCHES, MAX_LIVE}
+use Rattle.patch_model.specs.declared.refusals.Refusal.{Refusal}
 use Rattle.patch_model.specs.declared.refusals.RefusalKind.{RefusalKind}
 use Rattle.patch_model.specs.declared.refusals.RefusalKind.TheVariants as kind
 use Rattle.patch_model.specs.Execution.{Execution}
@@ -12,10 +13,6 @@ use Rattle.patch_model.specs.Ready.{ready}
 use Rattle.patch_model.specs.State.{class_of, has_flight, state_of, entries_of}
 use Rattle.patch_model.specs.Legal.{touch, block_at}
 use Rattle.patch_model.specs.History.{History}
-
-pub record Refusal : Type 0 where
-  pub kind : RefusalKind
-  pub number : Option ℕ
 
 -- a refusal that carries no number
 abbrev pub bare : RefusalKind → Refusal

@@ -10,16 +10,18 @@ mod numbers;
 mod patches;
 mod piling;
 mod refusals;
+mod refuses;
 mod steps;
 
 pub use blocks::{BLOCK, BlockBytes};
 pub use ending::Ending;
-pub use limits::{MAX_BLOCKS, MAX_LIVE, MAX_PATCHES};
+pub use limits::{MAX_BLOCKS, MAX_LIVE, MAX_PATCHES, MAX_WRITER};
 pub use lists::{Bytes, Items, Numbers};
 pub use numbers::{BlockNo, PatchNo, WriterNo};
 pub use patches::{Mark, Patch, Undo};
 pub use piling::pile;
-pub use refusals::{OutOfMemory, RefusalKind};
+pub use refusals::{OutOfMemory, Refusal, RefusalKind};
+pub use refuses::Refuses;
 pub use steps::{Step, Steps};
 
 #[cfg(test)]

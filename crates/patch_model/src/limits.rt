@@ -3,6 +3,9 @@
 /// The most blocks of one cache.
 pub const MAX_BLOCKS: usize = 4096;
 
+/// The greatest number of a writer: there are at most eight.
+pub const MAX_WRITER: u8 = 7;
+
 /// The most patches ever made in one cache: each number is below it.
 pub const MAX_PATCHES: u32 = 16_777_216;
 

@@ -49,18 +49,19 @@ impl fmt::Display for BlockNo {
     }
 }
 
-/// A writer, 0 to 7: there are at most eight.
+/// A writer, from 0 to [`MAX_WRITER`](crate::MAX_WRITER).
 #[derive(Clone, Copy, Debug, PartialEq, Eq, PartialOrd, Ord, Hash)]
 pub struct WriterNo(pub u8);
 
 impl Model for WriterNo {
     ghost use Rattle.std.specs.Prelude.{ℕ, ◌≤◌};
+    ghost use Rattle.patch_model.specs.declared.limits.TheConstants.{MAX_WRITER};
 
     ghost Value = { ℕ };
 
     ghost view = { λ n. n.0 };
 
-    ghost invariant = { λ n. n.0 ≤ 7 };
+    ghost invariant = { λ n. n.0 ≤ MAX_WRITER };
 
     ghost inverse = { λ n. record { 0 = n } };
 }

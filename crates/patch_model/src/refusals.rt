@@ -2,12 +2,14 @@
 ghost use Rattle.std.specs.Prelude.{◌≡◌, Some};
 ghost use Rattle.patch_model.specs.declared.refusals.RefusalKind.TheVariants as kind;
 ghost use Rattle.patch_model.specs.Refusal.{code_of, name_of};
+ghost use Rattle.patch_model.specs.Refusing.{bare, with_number};
 
+use crate::refuses::Refuses;
 use std::alloc::{AllocError, AllocFailed};
 use std::fmt;
 use thiserror::Error;
 
-/// What a refusal is. Each crate's refusals have one of these kinds, and some of them carry a number beside it.
+/// Of what kind a refusal is. Each refusal of any crate has one of these.
 #[derive(Clone, Copy, Debug, PartialEq, Eq)]
 pub enum RefusalKind {
     OutOfMemory = 1,
@@ -73,7 +75,34 @@ pub enum RefusalKind {
     AlreadyVersion2 = 61,
 }
 
+/// What any refusal comes to: its kind, and the number that goes with it.
+#[derive(Clone, Copy, Debug, PartialEq, Eq)]
+pub struct Refusal {
+    pub kind: RefusalKind,
+    pub number: Option<u32>,
+}
+
 impl RefusalKind {
+    /// A refusal of this kind that carries no number.
+    pub fn bare(self) -> Refusal
+        ensures { result ≡ bare self }
+    {
+        Refusal {
+            kind: self,
+            number: None,
+        }
+    }
+
+    /// A refusal of this kind that carries this number.
+    pub fn with_number(self, number: u32) -> Refusal
+        ensures { result ≡ with_number self number }
+    {
+        Refusal {
+            kind: self,
+            number: Some(number),
+        }
+    }
+
     /// The number of the refusal, from 1.
     pub fn code(self) -> u8
         ensures { result ≡ code_of self }
@@ -164,23 +193,19 @@ impl fmt::Display for RefusalKind {
 #[error("OutOfMemory")]
 pub struct OutOfMemory;
 
-impl OutOfMemory {
-    pub fn kind(self) -> RefusalKind
-        ensures { result ≡ kind.OutOfMemory }
-    {
-        RefusalKind::OutOfMemory
-    }
+impl Refuses for OutOfMemory {
+    ghost cause = { λ _. bare kind.OutOfMemory };
 
-    pub fn code(self) -> u8
-        ensures { result ≡ code_of kind.OutOfMemory }
-    {
-        self.kind().code()
+    fn refusal(self) -> Refusal {
+        RefusalKind::OutOfMemory.bare()
     }
+}
 
-    pub fn name(self) -> &'static str
-        ensures { result.now ≡ name_of kind.OutOfMemory }
-    {
-        self.kind().name()
+impl Refuses for Refusal {
+    ghost cause = { λ refusal. refusal };
+
+    fn refusal(self) -> Refusal {
+        self
     }
 }
 

@@ -14,8 +14,9 @@ use Rattle.patch_cache.specs.Asks as given
 use Rattle.patch_cache.specs.Running.{Runs, HasRun, HasWritten, HaveWritten}
 use Rattle.patch_script.specs.declared.answers.Answer.{Answer}
 use Rattle.patch_model.specs.declared.refusals.OutOfMemory.{OutOfMemory}
-use Rattle.patch_replay.specs.Answering.{World, IsTold, told, is_refused, disk_behind, behind}
-use Rattle.patch_replay.specs.Core.{IsAt}
+use Rattle.patch_replay.specs.Answering.{IsTold, told}
+use Rattle.patch_replay.specs.World.{World, is_refused, disk_behind, behind}
+use Rattle.patch_replay.specs.CachedDisk.{IsAt}
 use Rattle.patch_replay.specs.declared.cached_disk.CachedDisk.{CachedDisk}
 
 -- the list of one

@@ -7,10 +7,11 @@ use Rattle.patch_script.specs.declared.forms.Line.{Line}
 use Rattle.patch_script.specs.declared.answers.Answer.{Answer}
 use Rattle.patch_script.specs.Answer.{answer_line}
 use Rattle.patch_script.specs.Script.{script_of}
-use Rattle.patch_replay.specs.Answering.{World, IsAnswerTo, AreAnswers, after, after_all}
+use Rattle.patch_replay.specs.Answering.{IsAnswerTo, AreAnswers}
+use Rattle.patch_replay.specs.World.{World, after, after_all}
 use Rattle.patch_replay.specs.Replay.{answers_text, IsLineTold, HasBegun, HasAnswered, Stopped, lines_in, memory_text, Starved}
-use Rattle.patch_replay.specs.declared.replaying.Fault.{Fault}
-use Rattle.patch_replay.specs.declared.replaying.Fault.TheVariants as fault
+use Rattle.patch_replay.specs.declared.endings.Fault.{Fault}
+use Rattle.patch_replay.specs.declared.endings.Fault.TheVariants as fault
 
 -- known bytes that grow twice
 pub twice : (old mid new : Option (List ℕ)) (a b : List ℕ) → Appends old mid a → Appends mid new b → Appends old new (a ++ b)

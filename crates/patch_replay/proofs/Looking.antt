@@ -10,17 +10,9 @@ use Rattle.patch_model.specs.Refusing.{bare, why_not_shown}
 use Rattle.patch_device.specs.declared.refusals.DeviceRefusal.{DeviceRefusal}
 use Rattle.patch_device.specs.declared.refusals.DeviceRefusal.TheVariants.{NoSuchBlock}
 use Rattle.patch_device.specs.MemDevice.{contents_of, blocks_whole_law}
-use Rattle.patch_replay.specs.Answering.{World}
-use Rattle.patch_replay.specs.Core.{IsAt}
+use Rattle.patch_replay.specs.World.{World}
+use Rattle.patch_replay.specs.CachedDisk.{IsAt}
 use Rattle.patch_replay.specs.declared.cached_disk.CachedDisk.{CachedDisk}
-use Rattle.patch_cache.specs.Refusals.{read_cause}
-use Rattle.patch_cache.specs.declared.refusals.ReadRefusal.{ReadRefusal}
-use Rattle.patch_cache.specs.declared.refusals.ReadRefusal.TheVariants as read
-
--- what is refused a look carries no number
-pub causes_are_bare : (r : ReadRefusal) → bare (read_cause r).kind ≡ read_cause r
-causes_are_bare read.NoSuchBlock = refl
-causes_are_bare read.OutOfBlock = refl
 
 -- a device in memory refuses a block that there isn't, and nothing else
 pub missing : {T : Type 0} (r : Result T DeviceRefusal) (count n : ℕ) → is_err r ≡ true → IfErr r (λ e. e ≡ NoSuchBlock) → (IsErrOf r NoSuchBlock ↔ (count ≤ n)) → count ≤ n

@@ -6,8 +6,8 @@ use Rattle.std.proofs.lemmas.List.{append-nil}
 use Rattle.patch_script.specs.declared.scripts.TheConstants.{MAX_BYTES}
 use Rattle.patch_replay.specs.Replay.{HasRead}
 use Rattle.patch_replay.specs.Streams.{Takes, IsToldLast}
-use Rattle.patch_replay.specs.declared.replaying.Status.{Status}
-use Rattle.patch_replay.specs.declared.replaying.Status.TheVariants.{OutOfMemory}
+use Rattle.patch_replay.specs.declared.endings.Status.{Status}
+use Rattle.patch_replay.specs.declared.endings.Status.TheVariants.{OutOfMemory}
 use Rattle.patch_replay.specs.declared.streams.Sink.{Sink}
 
 -- nothing was left where a read gives nothing

@@ -1,4 +1,5 @@
+pub mod World
 pub mod Answering
 pub mod Replay
-pub mod Core
+pub mod CachedDisk
 pub mod Streams

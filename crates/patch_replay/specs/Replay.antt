@@ -1,5 +1,5 @@
 -- The text of a replay.
-use Rattle.std.specs.Prelude.{◌≡◌, ℕ, ◌+◌, ◌++◌, ◌∷◌, [], List, Option, Some, None, Result, Ok, Err, codes, decimal, Bool, true, false, length, ◌<◌, Vec}
+use Rattle.std.specs.Prelude.{◌≡◌, ℕ, ◌+◌, ◌++◌, ◌∷◌, [], List, Option, Some, None, Result, Ok, Err, codes, decimal, Bool, true, false, length, ◌<◌, Vec, IfSome}
 use Rattle.std.specs.Io.KnownBytes.{Appends}
 use Rattle.std.specs.declared.alloc.Global.{Global}
 use Rattle.patch_script.specs.declared.answers.Answer.{Answer}
@@ -7,12 +7,13 @@ use Rattle.patch_script.specs.declared.forms.Line.{Line}
 use Rattle.patch_script.specs.declared.scripts.TheConstants.{MAX_BYTES}
 use Rattle.patch_script.specs.Answer.{answer_line}
 use Rattle.patch_script.specs.Script.{script_of, is_too_long}
-use Rattle.patch_replay.specs.Answering.{World, IsAnswerTo, AreAnswers, after}
-use Rattle.patch_replay.specs.declared.replaying.BadScript.TheVariants.{TooLong, BadLine}
-use Rattle.patch_replay.specs.declared.replaying.Fault.{Fault}
-use Rattle.patch_replay.specs.declared.replaying.Fault.TheVariants as fault
-use Rattle.patch_replay.specs.declared.replaying.Status.{Status}
-use Rattle.patch_replay.specs.declared.replaying.Status.TheVariants.{Done, Unreadable, Failed, OutOfMemory}
+use Rattle.patch_replay.specs.Answering.{IsAnswerTo, AreAnswers}
+use Rattle.patch_replay.specs.World.{World, after}
+use Rattle.patch_replay.specs.declared.endings.BadScript.TheVariants.{TooLong, BadLine}
+use Rattle.patch_replay.specs.declared.endings.Fault.{Fault}
+use Rattle.patch_replay.specs.declared.endings.Fault.TheVariants as fault
+use Rattle.patch_replay.specs.declared.endings.Status.{Status}
+use Rattle.patch_replay.specs.declared.endings.Status.TheVariants.{Done, Unreadable, Failed, OutOfMemory}
 
 -- a line of text for each answer
 abbrev pub answers_text : List Answer → List ℕ
@@ -82,6 +83,10 @@ pub record Replayed (w : World) (script : List ℕ) (status : Status) (old new :
   pub is : IsReplayText w script text
   pub written : Appends old new text
 
+-- the same of what a reader has, where that is known
+abbrev pub HasReplayed : World → Option (List ℕ) → Status → (old new : Option (List ℕ)) → Type 0
+HasReplayed w input status old new = IfSome input (λ script. Replayed w script status old new)
+
 -- the whole script was answered, or refused
 abbrev pub IsEnd : Status → Type 0
 IsEnd Done = Unit {0}
@@ -125,6 +130,9 @@ lines_in (Err number) = []
 abbrev pub Stopped : Fault → World → List ℕ → Option (List ℕ) → Option (List ℕ) → Type 0
 Stopped fault w script old new = HasAnswered fault w (lines_in (script_of script)) old new
 
+abbrev pub HasStopped : Fault → World → Option (List ℕ) → (old new : Option (List ℕ)) → Type 0
+HasStopped fault w input old new = IfSome input (λ script. Stopped fault w script old new)
+
 abbrev pub unread_text : List ℕ
 unread_text = codes "fault Read" ++ 10 ∷ []
 
@@ -134,3 +142,6 @@ memory_text = codes "fault OutOfMemory" ++ 10 ∷ []
 -- memory ran out: the answers of some first lines, and a last line that tells it
 abbrev pub Starved : World → List ℕ → Option (List ℕ) → Option (List ℕ) → Type 0
 Starved w script old new = HasBegun w (lines_in (script_of script)) memory_text old new
+
+abbrev pub HasStarved : World → Option (List ℕ) → (old new : Option (List ℕ)) → Type 0
+HasStarved w input old new = IfSome input (λ script. Starved w script old new)

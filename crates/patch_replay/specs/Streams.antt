@@ -4,10 +4,10 @@ use Rattle.std.specs.Io.KnownBytes.{Keeps, Consumes, IsAtEnd}
 use Rattle.std.specs.IoError.{error_kind}
 use Rattle.std.specs.declared.io.Error.{Error}
 use Rattle.std.specs.declared.io.ErrorKind.TheVariants.{Interrupted}
-use Rattle.patch_replay.specs.declared.replaying.Fault.{Fault}
-use Rattle.patch_replay.specs.declared.replaying.Fault.TheVariants as fault
-use Rattle.patch_replay.specs.declared.replaying.Status.{Status}
-use Rattle.patch_replay.specs.declared.replaying.Status.TheVariants.{Failed}
+use Rattle.patch_replay.specs.declared.endings.Fault.{Fault}
+use Rattle.patch_replay.specs.declared.endings.Fault.TheVariants as fault
+use Rattle.patch_replay.specs.declared.endings.Status.{Status}
+use Rattle.patch_replay.specs.declared.endings.Status.TheVariants.{Failed}
 use Rattle.patch_replay.specs.declared.streams.Source.{Source}
 use Rattle.patch_replay.specs.declared.streams.Sink.{Sink}
 use Rattle.patch_replay.specs.declared.streams.TheConstants.{MAX_READS}

@@ -3,19 +3,20 @@ ghost use Rattle.std.specs.Prelude.{◌≡◌, ◌≢◌, ◌<◌, ◌≤◌, �
 ghost use Rattle.patch_model.specs.declared.refusals.RefusalKind.TheVariants as kind;
 ghost use Rattle.patch_model.specs.Refusing.{bare};
 ghost use Rattle.patch_cache.specs.Asks.{ask_of, answer_of, Refused};
-ghost use Rattle.patch_cache.specs.Refusals.{cause_of};
 ghost use Rattle.patch_script.specs.declared.answers.Answer.TheVariants as answer;
 ghost use Rattle.patch_script.specs.declared.forms.Line.TheVariants.{Show, Disk};
-ghost use Rattle.patch_replay.specs.Answering.{World, start as at_start, IsTold, IsAnswerTo, moves_of as the_moves, told as as_told, refusal_of, is_refused, behind};
-ghost use Rattle.patch_replay.specs.Core.{IsAt};
+ghost use Rattle.patch_replay.specs.Answering.{IsTold, IsAnswerTo, told as as_told};
+ghost use Rattle.patch_replay.specs.CachedDisk.{IsAt};
+ghost use Rattle.patch_replay.specs.World.{World, start as at_start, moves_of as the_moves, is_refused, behind};
 
-use crate::answering::Core;
+use crate::cores::Core;
 use patch_cache::{Ask, Cache, Flights, Move};
 use patch_device::{Device, MemDevice, load};
 use patch_model::{
-    BLOCK, BlockNo, Bytes, Ending, Items, MAX_BLOCKS, OutOfMemory, PatchNo, RefusalKind,
+    BLOCK, BlockNo, Bytes, Ending, Items, MAX_BLOCKS, OutOfMemory, PatchNo, Refusal, RefusalKind,
+    Refuses,
 };
-use patch_script::{Answer, Line, Refusal, Span};
+use patch_script::{Answer, Line, Span};
 use std::alloc::{AllocError, Global};
 
 /// A disk in memory, its cache, and the writes that were begun and not completed. It can't be let go: it is closed.
@@ -76,7 +77,7 @@ impl CachedDisk {
         let start = span.start as usize;
         match self.cache.read(span.block, start, span.len as usize) {
             Ok(bytes) => Ok(Answer::Shown(copied(alloc, bytes)?)),
-            Err(refusal) => Ok(refused(refusal.kind())),
+            Err(refusal) => Ok(Answer::Refused(refusal.refusal())),
         }
     }
 
@@ -86,11 +87,11 @@ impl CachedDisk {
     {
         let mut block = [0; BLOCK];
         if self.device.read(number_of(span.block), &mut block).is_err() {
-            return Ok(refused(RefusalKind::NoSuchBlock));
+            return Ok(Answer::Refused(RefusalKind::NoSuchBlock.bare()));
         }
         match part(&block, span.start, span.len) {
             Some(bytes) => Ok(Answer::OnDisk(copied(alloc, bytes)?)),
-            None => Ok(refused(RefusalKind::OutOfBlock)),
+            None => Ok(Answer::Refused(RefusalKind::OutOfBlock.bare())),
         }
     }
 }
@@ -172,17 +173,14 @@ fn told(answer: patch_cache::Answer) -> Result<Answer, OutOfMemory>
     }
 }
 
-fn told_refusal(refusal: patch_cache::Refusal) -> Result<Answer, OutOfMemory>
-    ensures told { IfOk result (λ line. line ≡ answer.Refused (refusal_of (cause_of refusal))) }
+fn told_refusal(refusal: Refusal) -> Result<Answer, OutOfMemory>
+    ensures told { IfOk result (λ line. line ≡ answer.Refused refusal) }
     ensures memory { IfOk result (λ _. refusal.kind ≢ kind.OutOfMemory) }
     ensures fault { IfOk result (λ _. refusal.kind ≢ kind.Fault) }
 {
     match refusal.kind {
         RefusalKind::OutOfMemory | RefusalKind::Fault => Err(OutOfMemory),
-        kind => Ok(Answer::Refused(Refusal {
-            kind,
-            number: refusal.number,
-        })),
+        _ => Ok(Answer::Refused(refusal)),
     }
 }
 
@@ -199,12 +197,6 @@ fn part(bytes: &[u8], start: u32, len: u32) -> Option<&[u8]>
 {
     let start = start as usize;
     bytes.get(start..start + len as usize)
-}
-
-fn refused(kind: RefusalKind) -> Answer
-    ensures { result ≡ answer.Refused (refusal_of (bare kind)) }
-{
-    Answer::Refused(Refusal { kind, number: None })
 }
 
 fn copied(alloc: Global, bytes: &[u8]) -> Result<Bytes, OutOfMemory>

@@ -1,62 +1,24 @@
 //! Replays a script: all is read, then its limits are tested, then it is parsed, and then it is answered.
 ghost use Rattle.std.specs.Prelude.{ℕ, true, false, ◌≡◌, ◌≢◌, ◌⊎◌, ◌+◌, ◌<◌, ◌≤◌, ◌++◌, ◌∷◌, [], List, length, nat_lt, if◌then◌else◌, IfOk, IfErr, OnOk, IfSome, Some, None, codes, decimal, string_bytes};
 ghost use Rattle.std.specs.Io.KnownBytes.{Appends};
-ghost use Rattle.patch_replay.specs.Answering.{World, start};
-ghost use Rattle.patch_replay.specs.Replay.{IsLineTold, HasWrittenAll, HasAnswered, Stopped, Starved, bad_line, IsInput, IsEnd, Replayed, too_long_text, unread_text};
+ghost use Rattle.patch_replay.specs.World.{World, start};
+ghost use Rattle.patch_replay.specs.Replay.{IsLineTold, HasWrittenAll, HasAnswered, Stopped, HasStopped, HasStarved, bad_line, IsInput, IsEnd, Replayed, HasReplayed, too_long_text, unread_text};
 ghost use Rattle.patch_replay.specs.Streams.{IsGivenUp, NoneFailed, ReadingIsNoted, WritingIsNoted, RunningIsNoted, IsToldLast, IsFlushed};
-ghost use Rattle.patch_replay.specs.declared.replaying.BadScript.TheVariants.{TooLong};
-ghost use Rattle.patch_replay.specs.declared.replaying.Status.TheVariants.{Unreadable, Failed, OutOfMemory as NoMemory};
-ghost use Rattle.patch_replay.specs.declared.replaying.Fault.TheVariants.{Write as WriteFault, OutOfMemory as MemoryFault};
+ghost use Rattle.patch_replay.specs.declared.endings.BadScript.TheVariants.{TooLong};
+ghost use Rattle.patch_replay.specs.declared.endings.Status.TheVariants.{Unreadable, Failed, OutOfMemory as NoMemory};
+ghost use Rattle.patch_replay.specs.declared.endings.Fault.TheVariants.{Write as WriteFault};
 
-use crate::answering::Core;
 use crate::cached_disk::CachedDisk;
+use crate::cores::Core;
+use crate::endings::{BadScript, Fault, Status};
 use crate::streams::{MAX_READS, Output, Sink, Source};
 use patch_model::{MAX_BLOCKS, OutOfMemory};
-use patch_script::{
-    Defect, Line, MAX_BYTES, MAX_LINES, ScriptError, answer_line, passes_limit, read_script,
-};
+use patch_script::{Line, MAX_BYTES, ScriptError, answer_line, passes_limit, read_script};
 use std::alloc::{AllocError, Global};
 use std::io::Read;
-use thiserror::Error;
 
 // How many bytes are asked for at a time.
 const CHUNK: usize = 65_536;
-
-/// Why no line of a script is answered.
-#[derive(Clone, Copy, Debug, PartialEq, Eq, Error)]
-pub enum BadScript {
-    #[error("the script has more than {bytes} bytes or {lines} lines", bytes = MAX_BYTES, lines = MAX_LINES)]
-    TooLong,
-    /// The first line that is unreadable, counted from 1, and what is wrong with it.
-    #[error("line {line}: {defect}")]
-    BadLine { line: usize, defect: Defect },
-}
-
-/// How a replay ended.
-#[derive(Clone, Copy, Debug, PartialEq, Eq)]
-pub enum Status {
-    Done,
-    Unreadable(BadScript),
-    /// The reader or the writer failed.
-    Failed,
-    OutOfMemory,
-}
-
-/// Why a replay stopped.
-#[derive(Clone, Copy, Debug, PartialEq, Eq)]
-pub enum Fault {
-    Read,
-    Write,
-    OutOfMemory,
-}
-
-impl From<OutOfMemory> for Fault {
-    ghost from_gives = { λ _ fault. fault ≡ MemoryFault };
-
-    fn from(_: OutOfMemory) -> Fault {
-        Fault::OutOfMemory
-    }
-}
 
 /// All that the reader has, or `None` where it is more than a script may have.
 fn read_input<R: Read>(alloc: Global, reader: &mut Source<R>) -> Result<Option<Vec<u8>>, Fault>
@@ -197,10 +159,10 @@ pub fn replay<R: Read, W: Output>(
 ) -> Status
     requires some { 0 < blocks }
     requires few { blocks ≤ MAX_BLOCKS }
-    ensures done { IsEnd result → IfSome (R.remaining reader.old.inner) (λ text.
-        Replayed (start blocks) text result (W.contents writer.old.inner) (W.contents writer.new.inner)) }
-    ensures starved { result ≡ NoMemory → IfSome (R.remaining reader.old.inner) (λ text.
-        Starved (start blocks) text (W.contents writer.old.inner) (W.contents writer.new.inner)) }
+    ensures done { IsEnd result →
+        HasReplayed (start blocks) (R.remaining reader.old.inner) result (W.contents writer.old.inner) (W.contents writer.new.inner) }
+    ensures starved { result ≡ NoMemory →
+        HasStarved (start blocks) (R.remaining reader.old.inner) (W.contents writer.old.inner) (W.contents writer.new.inner) }
     ensures failed { result ≡ Failed → IsGivenUp reader.new ⊎ (writer.new.failed ≡ true) }
     ensures unread { result ≡ Failed → writer.new.failed ≡ false →
         Appends (W.contents writer.old.inner) (W.contents writer.new.inner) unread_text }
@@ -225,10 +187,10 @@ pub fn replay_over<R: Read, W: Output, C: Core>(
     writer: &mut Sink<W>,
     core: &mut C,
 ) -> Status
-    ensures done { (w : World) → C.IsAt core.old w → IsEnd result → IfSome (R.remaining reader.old.inner) (λ text.
-        Replayed w text result (W.contents writer.old.inner) (W.contents writer.new.inner)) }
-    ensures starved { (w : World) → C.IsAt core.old w → result ≡ NoMemory → IfSome (R.remaining reader.old.inner) (λ text.
-        Starved w text (W.contents writer.old.inner) (W.contents writer.new.inner)) }
+    ensures done { (w : World) → C.IsAt core.old w → IsEnd result →
+        HasReplayed w (R.remaining reader.old.inner) result (W.contents writer.old.inner) (W.contents writer.new.inner) }
+    ensures starved { (w : World) → C.IsAt core.old w → result ≡ NoMemory →
+        HasStarved w (R.remaining reader.old.inner) (W.contents writer.old.inner) (W.contents writer.new.inner) }
     ensures failed { result ≡ Failed → IsGivenUp reader.new ⊎ (writer.new.failed ≡ true) }
     ensures unread { result ≡ Failed → writer.new.failed ≡ false →
         Appends (W.contents writer.old.inner) (W.contents writer.new.inner) unread_text }
@@ -250,11 +212,11 @@ fn read_and_run<R: Read, W: Output, C: Core>(
     writer: &mut Sink<W>,
     core: &mut C,
 ) -> Result<Status, Fault>
-    ensures done { (w : World) → C.IsAt core.old w → IfOk result (λ status. IfSome (R.remaining reader.old.inner) (λ text.
-        Replayed w text status (W.contents writer.old.inner) (W.contents writer.new.inner))) }
+    ensures done { (w : World) → C.IsAt core.old w → IfOk result (λ status.
+        HasReplayed w (R.remaining reader.old.inner) status (W.contents writer.old.inner) (W.contents writer.new.inner)) }
     ensures ended { IfOk result IsEnd }
-    ensures stopped { (w : World) → C.IsAt core.old w → IfErr result (λ fault. IfSome (R.remaining reader.old.inner) (λ text.
-        Stopped fault w text (W.contents writer.old.inner) (W.contents writer.new.inner))) }
+    ensures stopped { (w : World) → C.IsAt core.old w → IfErr result (λ fault.
+        HasStopped fault w (R.remaining reader.old.inner) (W.contents writer.old.inner) (W.contents writer.new.inner)) }
     ensures noted { RunningIsNoted reader.old reader.new writer.old writer.new result }
     ensures flushed { OnOk result (IsFlushed W.KeepsNothing writer.new) }
     ensures reads { reader.new.reads ≤ reader.old.reads + MAX_READS }
@@ -274,20 +236,4 @@ fn tell<W: Output>(writer: &mut Sink<W>, text: &[u8], status: Status) -> Status
         return Status::Failed;
     }
     status
-}
-
-impl Status {
-    ghost use Rattle.patch_replay.specs.Replay.{exit_of};
-
-    /// The exit status of the program.
-    pub fn code(self) -> u8
-        ensures { result ≡ exit_of self }
-    {
-        match self {
-            Status::Done => 0,
-            Status::Unreadable(_) => 3,
-            Status::Failed => 4,
-            Status::OutOfMemory => 5,
-        }
-    }
 }

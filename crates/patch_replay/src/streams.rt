@@ -4,9 +4,9 @@ ghost use Rattle.std.specs.Option.{option_copied};
 ghost use Rattle.std.specs.Io.KnownBytes.{Keeps, Appends};
 ghost use Rattle.std.specs.Io.Buffered.{writer_buffer};
 ghost use Rattle.patch_replay.specs.Streams.{GivesBytes, IsFlushed, IsReadNoted, noted};
-ghost use Rattle.patch_replay.specs.declared.replaying.Fault.TheVariants.{Read as ReadFault, Write as WriteFault};
+ghost use Rattle.patch_replay.specs.declared.endings.Fault.TheVariants.{Read as ReadFault, Write as WriteFault};
 
-use crate::replaying::Fault;
+use crate::endings::Fault;
 use std::io;
 use std::io::{BufWriter, Error, ErrorKind, Read, Write};
 

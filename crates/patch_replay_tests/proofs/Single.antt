@@ -7,7 +7,8 @@ use Rattle.patch_script.specs.declared.answers.Answer.{Answer}
 use Rattle.patch_script.specs.declared.forms.Line.{Line}
 use Rattle.patch_script.specs.declared.forms.Line.TheVariants.{Patch, Merge, Send, Complete, View, Show, Disk}
 use Rattle.patch_script.specs.Script.{script_of, is_too_long}
-use Rattle.patch_replay.specs.Answering.{World, IsTold, IsAnswerTo, AreAnswers, told, after}
+use Rattle.patch_replay.specs.Answering.{IsTold, IsAnswerTo, AreAnswers, told}
+use Rattle.patch_replay.specs.World.{World, after}
 use Rattle.patch_replay.specs.Replay.{answers_text, IsScriptText, IsReplayText, too_long_text}
 
 -- an ask has one answer

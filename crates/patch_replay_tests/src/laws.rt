@@ -1,6 +1,6 @@
 //! What the definitions say of a replay: a fact that the prover shows, as the contract of a function that does nothing.
 ghost use Rattle.std.specs.Prelude.{◌≡◌, ℕ, List};
-ghost use Rattle.patch_replay.specs.Answering.{World};
+ghost use Rattle.patch_replay.specs.World.{World};
 ghost use Rattle.patch_replay.specs.Replay.{IsReplayText};
 
 /// A script has one text.

@@ -1,8 +1,8 @@
 -- The text of an answer.
 use Rattle.std.specs.Prelude.{ℕ, ◌++◌, ◌∷◌, [], List, Option, Some, None, codes, decimal}
 use Rattle.hex.specs.Hex.{encode_lower}
+use Rattle.patch_model.specs.declared.refusals.Refusal.{Refusal}
 use Rattle.patch_model.specs.Refusal.{name_of}
-use Rattle.patch_script.specs.declared.answers.Refusal.{Refusal}
 use Rattle.patch_script.specs.declared.answers.Answer.{Answer}
 use Rattle.patch_script.specs.declared.answers.Answer.TheVariants.{Made, Merged, Sent, Landed, Seen, Shown, OnDisk, Refused}
 

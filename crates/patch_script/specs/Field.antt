@@ -1,6 +1,7 @@
 -- The fields of a line's object: what each kind of value is, and where a name may be missing.
 use Rattle.std.specs.Prelude.{ℕ, ◌^◌, ◌∷◌, ◌++◌, [], List, Option, Some, None, nat_lt, nat_le, if◌then◌else◌}
 use Rattle.std.specs.Result.{result_ok}
+use Rattle.patch_model.specs.declared.limits.TheConstants.{MAX_WRITER}
 use Rattle.serde_json.specs.Data.{Data, Items, no_items, item}
 use Rattle.serde_json.specs.Find.{get, as_number, as_u64, as_str, as_array}
 use Rattle.hex.specs.Hex.{decode_of}
@@ -48,7 +49,7 @@ optional kind default name line = given kind default (get name line)
 
 -- what a writer's number may be
 abbrev pub writer_number : Data → Option ℕ
-writer_number d = whole d >>= λ n. if nat_le n 7 then Some n else None
+writer_number d = whole d >>= λ n. if nat_le n MAX_WRITER then Some n else None
 
 -- a length that is not 0
 abbrev pub positive : Data → Option ℕ

@@ -3,15 +3,8 @@ ghost use Rattle.std.specs.Prelude.{◌≡◌, ◌++◌, ◌∷◌, [], List, On
 ghost use Rattle.hex.specs.Hex.{encode_lower};
 ghost use Rattle.patch_script.specs.Answer.{answer_text, answer_line as the_line, refusal_text, seen_text, numbers_text, flight_text};
 
-use patch_model::{BlockNo, Bytes, Numbers, PatchNo, RefusalKind};
+use patch_model::{BlockNo, Bytes, Numbers, PatchNo, Refusal, Refuses};
 use std::alloc::{AllocError, Global};
-
-/// Why a line did nothing, and the number that goes with it.
-#[derive(Clone, Copy, Debug, PartialEq, Eq)]
-pub struct Refusal {
-    pub kind: RefusalKind,
-    pub number: Option<u32>,
-}
 
 /// What a line is answered.
 #[derive(Debug, Drop)]
@@ -29,6 +22,7 @@ pub enum Answer {
     Shown(Bytes),
     /// The bytes on the device.
     OnDisk(Bytes),
+    /// The line did nothing, and this is why.
     Refused(Refusal),
 }
 
@@ -44,7 +38,7 @@ fn push_hex(alloc: Global, out: &mut String, word: &str, bytes: &[u8]) -> Result
 fn push_refusal(out: &mut String, refusal: Refusal) -> Result<(), AllocError>
     ensures { OnOk result (string_bytes out.new ≡ string_bytes out.old ++ refusal_text refusal) }
 {
-    let name = refusal.kind.name();
+    let name = refusal.name();
     match refusal.number {
         Some(number) => write!(out, "refused {name} {number}"),
         None => write!(out, "refused {name}"),

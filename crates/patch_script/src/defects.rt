@@ -24,6 +24,7 @@ pub enum Name {
 }
 
 impl Name {
+    /// The name, as it stands in a line.
     pub fn as_str(self) -> &'static str
         ensures { result.now ≡ name_of self }
     {

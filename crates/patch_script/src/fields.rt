@@ -1,5 +1,5 @@
 //! The fields of a line's object, each by its name and kind.
-ghost use Rattle.std.specs.Prelude.{IfOk, IfErr, Some, ◌≡◌, ◌<◌, ◌≤◌, []};
+ghost use Rattle.std.specs.Prelude.{IfOk, IfErr, Some, false, ◌≡◌, ◌<◌, ◌≤◌, []};
 ghost use Rattle.patch_script.specs.Gives.{Gives, Fails};
 ghost use Rattle.patch_script.specs.Field.{whole, wholes, wholes_of, positive, writer_number, hex_bytes, needed, optional, given};
 ghost use Rattle.patch_script.specs.declared.defects.Defect.TheVariants.{Missing, Wrong};
@@ -10,7 +10,7 @@ ghost use Rattle.serde_json.specs.Find.{as_bool, as_str, get};
 ghost use Rattle.serde_json.specs.View.{view, items_view};
 
 use crate::defects::{Defect, Name};
-use patch_model::{Bytes, Items, Numbers, PatchNo, WriterNo};
+use patch_model::{Bytes, Items, MAX_WRITER, Numbers, PatchNo, WriterNo};
 use serde_json::Value;
 use std::alloc::{AllocError, AllocFailed, Global};
 
@@ -132,20 +132,22 @@ pub fn writer(line: &Value) -> Result<WriterNo, LineError>
         return Ok(WriterNo(0));
     };
     match as_whole(value, Name::Writer)? {
-        number @ 0..=7 => Ok(WriterNo(number as u8)),
+        number if number <= MAX_WRITER as u32 => Ok(WriterNo(number as u8)),
         _ => Err(wrong(Name::Writer)),
     }
 }
 
-pub fn flag_or(line: &Value, name: Name, default: bool) -> Result<bool, LineError>
-    ensures { Gives result (optional as_bool default (name_of name) (view line.now)) }
+/// A flag, which isn't set where it is missing.
+pub fn flag(line: &Value, name: Name) -> Result<bool, LineError>
+    ensures { Gives result (optional as_bool false (name_of name) (view line.now)) }
 {
     match line.get(name.as_str()) {
         Some(value) => as_flag(value, name),
-        None => Ok(default),
+        None => Ok(false),
     }
 }
 
+/// Bytes that have to be there.
 pub fn bytes(alloc: Global, line: &Value, name: Name) -> Result<Bytes, LineError>
     ensures { Gives result (needed hex_bytes (name_of name) (view line.now)) }
 {
@@ -155,6 +157,7 @@ pub fn bytes(alloc: Global, line: &Value, name: Name) -> Result<Bytes, LineError
     }
 }
 
+/// Numbers that have to be there.
 pub fn numbers(alloc: Global, line: &Value, name: Name) -> Result<Numbers, LineError>
     ensures { Gives result (needed wholes (name_of name) (view line.now)) }
 {

@@ -9,7 +9,7 @@ mod lines;
 mod reading;
 mod scripts;
 
-pub use answers::{Answer, Refusal, answer_line};
+pub use answers::{Answer, answer_line};
 pub use defects::{Defect, Name};
 pub use forms::{Line, Span};
 pub use scripts::{MAX_BYTES, MAX_LINES, ScriptError, passes_limit, read_script};

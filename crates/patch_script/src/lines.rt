@@ -8,6 +8,7 @@ ghost use Rattle.patch_script.specs.Script.{lines_of};
 pub struct Lines<'a>(&'a [u8]);
 
 impl<'a> Lines<'a> {
+    /// All lines of the text.
     pub fn of(text: &'a [u8]) -> Lines<'a>
         ensures { result.0 ≡ text.entry }
     {

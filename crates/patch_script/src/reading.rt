@@ -6,7 +6,7 @@ ghost use Rattle.serde_json.specs.View.{view};
 
 use crate::defects::{Defect, Name};
 use crate::fields::{
-    LineError, bytes, flag_or, number, numbers, numbers_or_none, op, positive_number, writer, wrong,
+    LineError, bytes, flag, number, numbers, numbers_or_none, op, positive_number, writer, wrong,
 };
 use crate::forms::{Line, Span};
 use patch_model::{BlockNo, PatchNo, Undo};
@@ -21,7 +21,7 @@ fn read_patch(alloc: Global, line: &Value) -> Result<Line, LineError>
     let start = number(line, Name::Start)?;
     let bytes = bytes(alloc, line, Name::Hex)?;
     let after = numbers_or_none(alloc, line, Name::After)?;
-    let may_drop = flag_or(line, Name::Drop, false)?;
+    let may_drop = flag(line, Name::Drop)?;
     let undo = if may_drop { Undo::MayDrop } else { Undo::Keep };
     let writer = writer(line)?;
     Ok(Line::Patch {

@@ -1,5 +1,5 @@
 //! Scripts of every kind, and the texts of answers.
-use patch_model::{BlockNo, Bytes, Items, Numbers, PatchNo, RefusalKind};
+use patch_model::{BlockNo, Bytes, Items, Numbers, PatchNo, Refusal, RefusalKind};
 use patch_script::*;
 use std::alloc::{AllocError, Global};
 use std::process::Abort;

@@ -2,8 +2,8 @@
 use Rattle.std.specs.Prelude.{◌≡◌, ℕ, List, Option, ◌⊎◌}
 use Rattle.std.specs.Io.KnownBytes.{Appends}
 use Rattle.patch_replay.specs.Replay.{exit_of, memory_text, IsEnd, IsReplayStatus}
-use Rattle.patch_replay.specs.declared.replaying.Status.{Status}
-use Rattle.patch_replay.specs.declared.replaying.Status.TheVariants.{Failed, OutOfMemory}
+use Rattle.patch_replay.specs.declared.endings.Status.{Status}
+use Rattle.patch_replay.specs.declared.endings.Status.TheVariants.{Failed, OutOfMemory}
 
 -- memory ran out before the work began: a line tells it, or the output failed
 abbrev pub HasStarved : {W : Type 0} → (W → Option (List ℕ)) → W → W → ℕ → Type 0

@@ -7,7 +7,7 @@ use patch_model::MAX_BLOCKS;
 use std::alloc::Global;
 
 /// How many blocks there are where the command line doesn't say.
-const DEFAULT_BLOCKS: u32 = 8;
+const DEFAULT_BLOCKS: &str = "8";
 
 // What stands below the options.
 const AFTER_HELP: &str =
@@ -25,8 +25,8 @@ fn command<'a>(alloc: Global) -> Result<Command<'a>, Error> {
         .long("blocks")
         .value_name("N")
         .help("How many blocks of zeros there are, 1 to 4096")
-        .value_parser(value_parser!(u32).range(1..=4096))
-        .default_value("8");
+        .value_parser(value_parser!(u32).range(1..=MAX_BLOCKS as i64))
+        .default_value(DEFAULT_BLOCKS);
     let replay = Command::new(alloc, "replay")
         .about(
             "Replays a script of patches, sends and views from standard input, on blocks of zeros",
@@ -54,7 +54,7 @@ pub fn read(alloc: Global, words: &[String]) -> Result<Request, Error>
         Some((_, replay)) => replay.get_one::<u32>("blocks"),
         None => None,
     };
-    // The parser of the words refuses every other number.
-    let blocks = blocks.unwrap_or(DEFAULT_BLOCKS).clamp(1, MAX_BLOCKS as u32);
+    // There is a number, since there is a default, and the parser of the words refuses every other one.
+    let blocks = blocks.unwrap_or(1).clamp(1, MAX_BLOCKS as u32);
     Ok(Request::Replay { blocks })
 }

@@ -4,6 +4,7 @@ use Rattle.std.specs.Prelude.{find, cond, ◌==◌, ◌&&◌}
 use Rattle.std.proofs.lemmas.Bool.{cases_Bool, cases_eq, and_parts, and_from, eqb-true, eq-eqb, not_from_false}
 use Rattle.std.proofs.lemmas.Option.{none-some}
 use Rattle.patch_model.specs.Link.{Link-from}
+use Rattle.patch_model.specs.declared.refusals.Refusal.{Refusal}
 use Rattle.patch_model.specs.declared.patches.Mark.{Mark}
 use Rattle.patch_model.specs.declared.patches.Mark.TheVariants.{Memory, Flight, Durable}
 use Rattle.patch_model.specs.declared.refusals.RefusalKind.TheVariants as kind
@@ -11,7 +12,7 @@ use Rattle.patch_model.specs.Entry.{Entry, is_live, is_flight, is_among, is_undo
 use Rattle.patch_model.specs.Dependency.{class_depends}
 use Rattle.patch_model.specs.Member.{In, In-from_Contains, list_any-from}
 use Rattle.patch_model.specs.History.{History, HoldsDependents, Back, moved}
-use Rattle.patch_model.specs.Refusing.{Refusal as Cause, bare, least, applied_dependents, taken_dependencies, hindered_by, why_class_not_taken}
+use Rattle.patch_model.specs.Refusing.{bare, least, applied_dependents, taken_dependencies, hindered_by, why_class_not_taken}
 use Rattle.patch_view.specs.declared.refusals.TakeRefusal.{TakeRefusal}
 use Rattle.patch_view.specs.declared.refusals.PutBackRefusal.{PutBackRefusal}
 use Rattle.patch_view.specs.State.{Block}
@@ -26,7 +27,7 @@ use Rattle.patch_view.proofs.Lawful.{uppermost_may_be_taken}
 
 -- Causes that don't hold.
 
-passed : (b : Bool) (cause : Cause) (rest : Option Cause) → cond b (Some cause) rest ≡ None → (b ≡ false) × (rest ≡ None)
+passed : (b : Bool) (cause : Refusal) (rest : Option Refusal) → cond b (Some cause) rest ≡ None → (b ≡ false) × (rest ≡ None)
 passed true cause rest e = absurd (cc)
 passed false cause rest e = (refl, e)
 
@@ -73,7 +74,7 @@ may_be_taken h names number e r holds is live why =
     }
 
 take_found : (h : History) (names : List ℕ) (number : ℕ) (o : Option Entry) → find (λ e. e.patch.no == number && is_live e) h.entries ≡ o → IsCoherent h
-    → HoldsDependents h names → ◌≡◌ {A = Option Cause} (elim o [ None ↦ Some (bare kind.Unknown) | Some e ↦ why_class_not_taken h names e ]) None
+    → HoldsDependents h names → ◌≡◌ {A = Option Refusal} (elim o [ None ↦ Some (bare kind.Unknown) | Some e ↦ why_class_not_taken h names e ]) None
     → MayTake h names number
 take_found h names number None at r holds why = absurd (cc)
 take_found h names number (Some e) at r holds why =
@@ -112,7 +113,7 @@ left_holds h names c holds none = record {
 
 back_found : (h : History) (names : List ℕ) (number : ℕ) (o : Option Entry) → find (λ e. e.patch.no == number && is_among names e.class) h.entries ≡ o
     → HoldsDependents h names
-    → ◌≡◌ {A = Option Cause} (elim o [ None ↦ Some (bare kind.NotTaken) | Some e ↦ hindered_by kind.DependencyTaken (least (taken_dependencies h names e.class)) ]) None
+    → ◌≡◌ {A = Option Refusal} (elim o [ None ↦ Some (bare kind.NotTaken) | Some e ↦ hindered_by kind.DependencyTaken (least (taken_dependencies h names e.class)) ]) None
     → MayPutBack h names number
 back_found h names number None at holds why = absurd (cc)
 back_found h names number (Some e) at holds why =

@@ -1,9 +1,7 @@
 //! Why a class isn't taken back, or put back.
-ghost use Rattle.std.specs.Prelude.{◌≡◌};
-ghost use Rattle.patch_model.specs.Refusal.{code_of, name_of};
-ghost use Rattle.patch_view.specs.Refusal.{take_kind, put_back_kind};
+ghost use Rattle.patch_view.specs.Refusal.{take_cause, put_back_cause};
 
-use patch_model::{PatchNo, RefusalKind};
+use patch_model::{PatchNo, Refusal, RefusalKind, Refuses};
 use thiserror::Error;
 
 /// Why a class isn't taken back. The causes are tested in this order.
@@ -25,29 +23,17 @@ pub enum TakeRefusal {
     DependentApplied(PatchNo),
 }
 
-impl TakeRefusal {
-    pub fn kind(self) -> RefusalKind
-        ensures { result ≡ take_kind self }
-    {
+impl Refuses for TakeRefusal {
+    ghost cause = { take_cause };
+
+    fn refusal(self) -> Refusal {
         match self {
-            TakeRefusal::Unknown => RefusalKind::Unknown,
-            TakeRefusal::InFlight => RefusalKind::InFlight,
-            TakeRefusal::Hard => RefusalKind::Hard,
-            TakeRefusal::AlreadyTaken => RefusalKind::AlreadyTaken,
-            TakeRefusal::DependentApplied(_) => RefusalKind::DependentApplied,
+            TakeRefusal::Unknown => RefusalKind::Unknown.bare(),
+            TakeRefusal::InFlight => RefusalKind::InFlight.bare(),
+            TakeRefusal::Hard => RefusalKind::Hard.bare(),
+            TakeRefusal::AlreadyTaken => RefusalKind::AlreadyTaken.bare(),
+            TakeRefusal::DependentApplied(no) => RefusalKind::DependentApplied.with_number(no.0),
         }
-    }
-
-    pub fn code(self) -> u8
-        ensures { result ≡ code_of (take_kind self) }
-    {
-        self.kind().code()
-    }
-
-    pub fn name(self) -> &'static str
-        ensures { result.now ≡ name_of (take_kind self) }
-    {
-        self.kind().name()
     }
 }
 
@@ -62,25 +48,13 @@ pub enum PutBackRefusal {
     DependencyTaken(PatchNo),
 }
 
-impl PutBackRefusal {
-    pub fn kind(self) -> RefusalKind
-        ensures { result ≡ put_back_kind self }
-    {
+impl Refuses for PutBackRefusal {
+    ghost cause = { put_back_cause };
+
+    fn refusal(self) -> Refusal {
         match self {
-            PutBackRefusal::NotTaken => RefusalKind::NotTaken,
-            PutBackRefusal::DependencyTaken(_) => RefusalKind::DependencyTaken,
+            PutBackRefusal::NotTaken => RefusalKind::NotTaken.bare(),
+            PutBackRefusal::DependencyTaken(no) => RefusalKind::DependencyTaken.with_number(no.0),
         }
-    }
-
-    pub fn code(self) -> u8
-        ensures { result ≡ code_of (put_back_kind self) }
-    {
-        RefusalKind::code(self.kind())
-    }
-
-    pub fn name(self) -> &'static str
-        ensures { result.now ≡ name_of (put_back_kind self) }
-    {
-        RefusalKind::name(self.kind())
     }
 }

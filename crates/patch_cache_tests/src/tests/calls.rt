@@ -41,8 +41,13 @@ fn expect_unpatched(rt: &impl Abort, cache: &mut Cache) -> Result<(), Fail> {
 }
 
 // Makes a patch that names none.
-fn make(cache: &mut Cache, block: u32, start: usize, bytes: &[u8]) -> Result<PatchNo, Refusal> {
-    Ok(cache.create(BlockNo(block), start, bytes, &[], Undo::Keep)?)
+fn make(
+    cache: &mut Cache,
+    block: u32,
+    start: usize,
+    bytes: &[u8],
+) -> Result<PatchNo, CreateRefusal> {
+    cache.create(BlockNo(block), start, bytes, &[], Undo::Keep)
 }
 
 // Makes the first patch of an unpatched cache, of one byte on the second block.
@@ -201,11 +206,11 @@ fn patch_to_disk(
 }
 
 fn take(view: &mut CacheView, no: PatchNo) -> Result<(), Refusal> {
-    Ok(view.take(no)?)
+    view.take(no).map_err(Refuses::refusal)
 }
 
 fn put_back(view: &mut CacheView, no: PatchNo) -> Result<(), Refusal> {
-    Ok(view.put_back(no)?)
+    view.put_back(no).map_err(Refuses::refusal)
 }
 
 fn expect_move(rt: &impl Abort, view: &mut CacheView, next: Move, want: Result<(), Refusal>) {
@@ -223,7 +228,7 @@ fn expect_in_view(rt: &impl Abort, view: &CacheView, bytes: &[u8]) {
 }
 
 fn expect_taken(rt: &impl Abort, view: &mut CacheView) {
-    let early = Refusal::from(TakeRefusal::DependentApplied(PatchNo(1)));
+    let early = TakeRefusal::DependentApplied(PatchNo(1)).refusal();
     expect_move(rt, view, Move::Take(PatchNo(0)), Err(early));
     expect_move(rt, view, Move::Take(PatchNo(1)), Ok(()));
     expect_move(rt, view, Move::Take(PatchNo(0)), Ok(()));
@@ -231,8 +236,8 @@ fn expect_taken(rt: &impl Abort, view: &mut CacheView) {
 }
 
 fn expect_put_back(rt: &impl Abort, view: &mut CacheView) {
-    let early = Refusal::from(PutBackRefusal::DependencyTaken(PatchNo(0)));
-    let late = Refusal::from(PutBackRefusal::NotTaken);
+    let early = PutBackRefusal::DependencyTaken(PatchNo(0)).refusal();
+    let late = PutBackRefusal::NotTaken.refusal();
     expect_move(rt, view, Move::Back(PatchNo(1)), Err(early));
     expect_move(rt, view, Move::Back(PatchNo(0)), Ok(()));
     expect_move(rt, view, Move::Back(PatchNo(0)), Err(late));
@@ -273,7 +278,7 @@ fn second_landed(
     rt: &impl Abort,
     cache: &mut Cache,
     device: &mut FaultyDevice<MemDevice>,
-) -> Result<Landed, Refusal> {
+) -> Result<Landed, Fail> {
     make(cache, 0, 0, &[0xbb])?;
     send_in_vain(cache, 0)?;
     Ok(written(rt, device, sent(rt, cache)).0)
@@ -285,7 +290,7 @@ fn expect_strangers(
     cache: &mut Cache,
     other: &mut Cache,
     device: &mut FaultyDevice<MemDevice>,
-) -> Result<(), Refusal> {
+) -> Result<(), Fail> {
     let theirs = second_landed(rt, other, device)?;
     expect_stranger(rt, cache, theirs, 1);
     let (own, _) = written(rt, device, sent(rt, cache));

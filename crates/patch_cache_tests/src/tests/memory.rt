@@ -119,17 +119,19 @@ fn create(
     after: &[PatchNo],
     undo: Undo,
 ) -> Result<(), Refusal> {
-    cache.create(block, start, bytes, after, undo)?;
+    cache
+        .create(block, start, bytes, after, undo)
+        .map_err(Refuses::refusal)?;
     Ok(())
 }
 
 fn merge(cache: &mut Cache<&LocalHeap>, a: PatchNo, b: PatchNo) -> Result<(), Refusal> {
-    cache.merge(a, b)?;
+    cache.merge(a, b).map_err(Refuses::refusal)?;
     Ok(())
 }
 
 fn send(cache: &mut Cache<&LocalHeap>, block: BlockNo) -> Result<(), Refusal> {
-    cache.send(block)?.abandon();
+    cache.send(block).map_err(Refuses::refusal)?.abandon();
     Ok(())
 }
 
@@ -549,8 +551,8 @@ fn begin<'a>(
     cache: &mut Cache<&'a LocalHeap>,
     block: BlockNo,
 ) -> Result<Flight<&'a LocalHeap>, Refusal> {
-    cache.create(block, 0, &[0xaa], &[], Undo::Keep)?;
-    Ok(cache.send(block)?)
+    create(cache, block, 0, &[0xaa], &[], Undo::Keep)?;
+    cache.send(block).map_err(Refuses::refusal)
 }
 
 // Drains the trace. How many steps it had.

@@ -7,18 +7,16 @@ use std::fmt;
 // Writes a line: the text of a refusal, and the code, the name and the number of what is answered in its place.
 fn tell<R>(told: &mut String, refusal: R) -> Result<(), AllocError>
 where
-    R: Copy + fmt::Display,
-    Refusal: From<R>,
+    R: Refuses + Copy + fmt::Display,
 {
-    let Refusal { kind, number } = Refusal::from(refusal);
+    let Refusal { kind, number } = refusal.refusal();
     let number = number.unwrap_or(0);
     writeln!(told, "{refusal}: {} {kind} {number}", kind.code())
 }
 
 fn tell_each<R>(told: &mut String, refusals: &[R]) -> Result<(), AllocError>
 where
-    R: Copy + fmt::Display,
-    Refusal: From<R>,
+    R: Refuses + Copy + fmt::Display,
 {
     for refusal in refusals {
         tell(told, *refusal)?;

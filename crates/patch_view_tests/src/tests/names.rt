@@ -1,5 +1,5 @@
 //! The names of refusals, and spans exchanged.
-use patch_model::{PatchNo, RefusalKind};
+use patch_model::{PatchNo, RefusalKind, Refuses};
 use patch_view::{PutBackRefusal, TakeRefusal, swap_span};
 use std::alloc::{AllocError, Global};
 use std::process::Abort;
@@ -7,11 +7,7 @@ use std::test::Fail;
 
 type Names<'a> = (RefusalKind, u8, &'a str);
 
-fn take_names(refusal: &TakeRefusal) -> Names<'static> {
-    (refusal.kind(), refusal.code(), refusal.name())
-}
-
-fn put_back_names(refusal: &PutBackRefusal) -> Names<'static> {
+fn names_of<R: Refuses + Copy>(refusal: R) -> Names<'static> {
     (refusal.kind(), refusal.code(), refusal.name())
 }
 
@@ -59,7 +55,7 @@ fn refusals_of_takes_have_their_names(rt: HostRuntime) {
         ),
         (named, RefusalKind::DependentApplied, 11, "DependentApplied"),
     ] {
-        expect_names(&rt, take_names(&refusal), kind, code, name);
+        expect_names(&rt, names_of(refusal), kind, code, name);
     }
 }
 
@@ -75,7 +71,7 @@ fn refusals_of_put_backs_have_their_names(rt: HostRuntime) {
         ),
         (named, RefusalKind::DependencyTaken, 13, "DependencyTaken"),
     ] {
-        expect_names(&rt, put_back_names(&refusal), kind, code, name);
+        expect_names(&rt, names_of(refusal), kind, code, name);
     }
 }
 

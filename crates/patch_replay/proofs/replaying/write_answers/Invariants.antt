@@ -1,6 +1,6 @@
 use Rattle.std.proofs.Common.{◌≡◌, ◌++◌, List}
 use Rattle.patch_script.specs.declared.forms.Line.{Line}
-use Rattle.patch_replay.specs.Answering.{World}
+use Rattle.patch_replay.specs.World.{World}
 use Rattle.patch_replay.proofs.Leading.{HasCome}
 use Rattle.patch_replay.proofs.replaying.write_answers.Given as goal
 

@@ -8,7 +8,6 @@ use Rattle.patch_device.specs.Device.{HasRisen, IsOldOrNew}
 use Rattle.patch_cache.specs.Running.{IsCrashSafe}
 use Rattle.patch_cache.proofs.caches.Cache.answer_complete.Goals as goal
 use Rattle.std.proofs.Common.{inl, refl, sym, subst, ◌∙◌}
-use Rattle.patch_cache.specs.Refusals.{cause_of}
 use Rattle.patch_cache.proofs.Answering.{found, no_stranger, on_err, on_ok, none_answered, fault_answered, landed_answered, written_or_not, written_for}
 use Rattle.patch_cache.proofs.Crashing.{unmoved, write_refused, write_completed}
 use Rattle.patch_cache.proofs.Serving.{stranger_faultless}
@@ -17,9 +16,9 @@ use Rattle.patch_cache.proofs.Holding.{held_complete, none_stands, stands_at}
 -- the block has no flight
 pub returns-in_default-clause-served : goal.returns-in_default-clause-served
 returns-in_default-clause-served g c = λ run on. record {
-  answered = none_answered run c.args.block (cause_of c.bare.result) c.args.self.now c.args.flights.now c.bare.ensures on.runs
+  answered = none_answered run c.args.block c.bare.result c.args.self.now c.args.flights.now c.bare.ensures on.runs
       (none_stands run c.args.flights.now.held.items c.args.block on.runs.flights_are (sym c.place_of.ensures ∙ c.in_default.is));
-  fault = λ is. absurd (stranger_faultless (cause_of c.bare.result) c.bare.ensures is);
+  fault = λ is. absurd (stranger_faultless c.bare.result c.bare.ensures is);
   written = λ honest. inl refl;
   crash = λ honest left. unmoved run _ _ left;
 }
@@ -37,12 +36,12 @@ returns-then-is_err-clause-served g c = λ run on.
     let failed = sym c.is_err.ensures.value ∙ c.if-is_err.true in
     let either = λ (honest : device.is_honest old).
     on_err c.write_image.result (IsOldOrNew (device.contents old) flight.block flight.image (device.contents new)) failed (c.write_image.ensures.refused honest) in record {
-      answered = fault_answered run c.args.block (cause_of c.bare-then-is_err.result) c.args.self.now c.args.flights.now c.bare-then-is_err.ensures on.runs s.block_flies;
+      answered = fault_answered run c.args.block c.bare-then-is_err.result c.args.self.now c.args.flights.now c.bare-then-is_err.ensures on.runs s.block_flies;
       fault = λ is.
           on_err c.write_image.result (HasRisen (device.fault_count old) (device.fault_count new)) failed
           (c.write_image.ensures.cause (subst (λ n. flight.block < n) (sym on.blocks) s.known));
       written = λ honest.
-          written_or_not run c.args.block flight (cause_of c.bare-then-is_err.result) (device.contents old) (device.contents new) c.bare-then-is_err.ensures s.block_is s.is.image_is (either honest);
+          written_or_not run c.args.block flight c.bare-then-is_err.result (device.contents old) (device.contents new) c.bare-then-is_err.ensures s.block_is s.is.image_is (either honest);
       crash = λ honest left.
           write_refused c.images_land.ensures run flight.block flight.image (device.had old) (device.had new) (device.contents old) (device.contents new) s.known s.is.image_is (either honest)
           (c.write_image.ensures.had honest) left;

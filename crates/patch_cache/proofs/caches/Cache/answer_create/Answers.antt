@@ -21,7 +21,7 @@ returns-in-Err-clause-answer g c run r =
     let a = c.args in
     let why = why_not_made (length run.first) (entries_of run) a.block a.start a.bytes.now a.after.now in
     let same : Represents c.create.new.self run = subst (λ (x : Contents). Represents x run) (sym c.in-Err.ensures.refused) r in
-    elim (refused why _ _ (Made (length (entries_of run))) c.from.ensures (c.in-Err.ensures.cause run r)) [
+    elim (refused why _ _ (Made (length (entries_of run))) c.refusal.ensures (c.in-Err.ensures.cause run r)) [
       | inl is ↦ record { right = inl is; cache_is = same }
       | inr none ↦ record {
         right = inr (record { done = Made (length (entries_of run)); right = sym (ap (λ w. unless w (Made (length (entries_of run)))) none.0); not_refused = refl; gives_up = inl (none.1, refl) });

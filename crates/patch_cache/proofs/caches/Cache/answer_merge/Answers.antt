@@ -11,6 +11,6 @@ returns-in-Ok-clause-answer g c run r = let m = c.in-Ok.ensures.merged run r in 
 
 pub returns-in-Err-clause-answer : goal.returns-in-Err-clause-answer
 returns-in-Err-clause-answer g c run r = record {
-  right = merge_refused run c.args.a c.args.b _ (subst (IsMergeCause (entries_of run) c.args.a c.args.b) (sym c.from.ensures) (c.in-Err.ensures.cause run r));
+  right = merge_refused run c.args.a c.args.b _ (subst (IsMergeCause (entries_of run) c.args.a c.args.b) (sym c.refusal.ensures) (c.in-Err.ensures.cause run r));
   cache_is = subst (λ (x : Contents). Represents x run) (sym c.in-Err.ensures.refused) r;
 }

@@ -1,21 +1,19 @@
 use Rattle.std.proofs.Common.{◌≡◌, ◌∙◌, ℕ, List, Result, Ok, Err, sym, ap}
 use Rattle.std.specs.Result.{IsErrAnd}
+use Rattle.patch_model.specs.declared.refusals.Refusal.{Refusal}
 use Rattle.patch_model.specs.Execution.{Execution}
-use Rattle.patch_model.specs.Refusing.{Refusal as Cause}
 use Rattle.patch_cache.specs.Contents.{Contents}
-use Rattle.patch_cache.specs.Refusals.{cause_of}
 use Rattle.patch_cache.specs.Viewing.{with_moves, Stands}
 use Rattle.patch_cache.specs.Looking.{HasMoved}
-use Rattle.patch_cache.specs.declared.refusals.Refusal.{Refusal}
 use Rattle.std.proofs.lemmas.List.{drop_all}
 use Rattle.patch_cache.proofs.Moving.{goes_on}
 use Rattle.patch_cache.proofs.caches.Cache.take_moves.Goals as goal
 
 -- the refusal of a move, as it is handed on
-stopped : (run : Execution) (block : ℕ) (moved : Result (List ℕ) Cause) (r : Result (Unit {0}) Refusal) (e : Refusal) (new : Contents) → IsErrAnd r (λ f. f ≡ e) → moved ≡ Err (cause_of e)
+stopped : (run : Execution) (block : ℕ) (moved : Result (List ℕ) Refusal) (r : Result (Unit {0}) Refusal) (e : Refusal) (new : Contents) → IsErrAnd r (λ f. f ≡ e) → moved ≡ Err e
     → Stands run block new → HasMoved run block moved r new
 stopped run block moved (Ok x) e new is gives stands = absurd is
-stopped run block moved (Err f) e new is gives stands = (gives ∙ ap (λ x. Err (cause_of x)) (sym is), stands)
+stopped run block moved (Err f) e new is gives stands = (gives ∙ ap Err (sym is), stands)
 
 pub returns-in_err-take_move-clause-answer : goal.returns-in_err-take_move-clause-answer
 returns-in_err-take_move-clause-answer g c = λ run names at.

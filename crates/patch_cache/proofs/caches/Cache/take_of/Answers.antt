@@ -1,13 +1,13 @@
 use Rattle.std.proofs.Common.{◌≡◌, ◌∙◌, refl, ℕ, List, true, false, Result, Ok, Err, sym, ap, subst}
 use Rattle.std.specs.Result.{IsErr, IsErrAnd, IsOk, MatchResult, OnErr}
 use denote.Enum.Bare.{sameb}
+use Rattle.patch_model.specs.declared.refusals.Refusal.{Refusal}
 use Rattle.patch_model.specs.declared.patches.Mark.{Mark}
 use Rattle.patch_model.specs.declared.patches.Mark.TheVariants.{Memory, Flight, Durable}
 use Rattle.patch_model.specs.contracts.patches.Mark.{the_type}
 use Rattle.patch_model.specs.Entry.{marks_durable}
 use Rattle.patch_model.specs.State.{entries_of}
 use Rattle.patch_model.specs.History.{history_of}
-use Rattle.patch_model.specs.Refusing.{Refusal as Cause}
 use Rattle.patch_graph.specs.Meaning.{HasMark}
 use Rattle.patch_cache.specs.Contents.{Contents}
 use Rattle.patch_cache.specs.Meaning.{ShowsWithout}
@@ -30,7 +30,7 @@ not_durable Flight e = refl
 not_durable Durable e = absurd (cc)
 
 -- the refusal of the block's own take, as the cache gives it
-told : {X : Type 0} → (r : Result X TakeRefusal) (P : X → Type 0) (answer : Result (List ℕ) Cause) (cause : Cause) → IsErrAnd r (λ e. take_cause e ≡ cause) → answer ≡ Err cause
+told : {X : Type 0} → (r : Result X TakeRefusal) (P : X → Type 0) (answer : Result (List ℕ) Refusal) (cause : Refusal) → IsErrAnd r (λ e. take_cause e ≡ cause) → answer ≡ Err cause
     → MatchResult r P (λ refusal. answer ≡ Err (take_cause refusal))
 told (Ok x) P answer cause is gives = absurd is
 told (Err e) P answer cause is gives = gives ∙ ap Err (sym is)

@@ -1,28 +1,27 @@
 use Rattle.std.proofs.Common.{◌≡◌, ◌∙◌, ℕ, List, [], Result, Ok, Err, inl, inr, sym, ap}
 use Rattle.std.specs.Result.{IfOk, IfErr, IsErrAnd}
+use Rattle.patch_model.specs.declared.refusals.Refusal.{Refusal}
 use Rattle.patch_model.specs.declared.refusals.RefusalKind.TheVariants as kind
 use Rattle.patch_model.specs.Execution.{Execution}
 use Rattle.patch_model.specs.History.{history_of, without}
 use Rattle.patch_model.specs.Refusing.{bare}
-use Rattle.patch_cache.specs.Refusals.{cause_of}
 use Rattle.patch_cache.specs.Viewing.{with_moves, bytes_at}
 use Rattle.patch_cache.specs.Looking.{HasLooked}
 use Rattle.patch_cache.specs.declared.asks.Move.{Move}
-use Rattle.patch_cache.specs.declared.refusals.Refusal.{Refusal}
 use Rattle.patch_cache.proofs.Showing.{none_yet}
 use Rattle.patch_cache.proofs.caches.Cache.without.Goals as goal
 
 looked : (run : Execution) (block : ℕ) (moves : List Move) (start len : ℕ) (names : List ℕ) (r : Result (List ℕ) Refusal) → with_moves run block [] moves ≡ Ok names
-    → IfOk r (λ bytes. bytes ≡ bytes_at (without (history_of run block) names) start len) → IfErr r (λ refusal. cause_of refusal ≡ bare kind.OutOfMemory)
+    → IfOk r (λ bytes. bytes ≡ bytes_at (without (history_of run block) names) start len) → IfErr r (λ refusal. refusal ≡ bare kind.OutOfMemory)
     → HasLooked run block moves start len r
 looked run block moves start len names (Ok bytes) moved right why = (names, moved, right)
 looked run block moves start len names (Err refusal) moved right why = inr (names, moved, why)
 
 -- the refusal of a move, as it is handed on
-refused : (run : Execution) (block : ℕ) (moves : List Move) (start len : ℕ) (r : Result (List ℕ) Refusal) (e : Refusal) → IsErrAnd r (λ f. f ≡ e) → with_moves run block [] moves ≡ Err (cause_of e)
+refused : (run : Execution) (block : ℕ) (moves : List Move) (start len : ℕ) (r : Result (List ℕ) Refusal) (e : Refusal) → IsErrAnd r (λ f. f ≡ e) → with_moves run block [] moves ≡ Err e
     → HasLooked run block moves start len r
 refused run block moves start len (Ok bytes) e is gives = absurd is
-refused run block moves start len (Err f) e is gives = inl (gives ∙ ap (λ x. Err (cause_of x)) (sym is))
+refused run block moves start len (Err f) e is gives = inl (gives ∙ ap Err (sym is))
 
 pub returns-in_err-take_moves-clause-answer : goal.returns-in_err-take_moves-clause-answer
 returns-in_err-take_moves-clause-answer g c = λ run at.

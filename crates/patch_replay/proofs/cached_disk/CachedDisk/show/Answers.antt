@@ -1,8 +1,6 @@
 use Rattle.std.proofs.Common.{◌∙◌, ap}
-use Rattle.patch_model.specs.Refusing.{bare}
 use Rattle.patch_script.specs.declared.answers.Answer.TheVariants.{Shown, Refused}
-use Rattle.patch_replay.specs.Answering.{IsAnswerTo, refusal_of}
-use Rattle.patch_replay.proofs.Looking.{causes_are_bare}
+use Rattle.patch_replay.specs.Answering.{IsAnswerTo}
 use Rattle.patch_replay.proofs.cached_disk.CachedDisk.show.Goals as goal
 
 pub returns-in_ok-copied-in-Ok : goal.returns-in_ok-copied-in-Ok
@@ -12,5 +10,4 @@ returns-in_ok-copied-in-Ok c = λ w at. let r = c.in-Ok.ensures w.run at.runs.ca
 pub returns-in-Err : goal.returns-in-Err
 unfolding IsAnswerTo
 returns-in-Err c = λ w at.
-    rw (c.in-Err.ensures w.run at.runs.cache_is) (c.refused.ensures ∙ ap (λ k. Refused (refusal_of (bare k))) c.kind.ensures
-    ∙ ap (λ cause. Refused (refusal_of cause)) (causes_are_bare c.in-Err.refusal))
+    rw (c.in-Err.ensures w.run at.runs.cache_is) (ap Refused c.refusal.ensures)

@@ -1,6 +1,6 @@
 use Rattle.std.proofs.Common.{◌<◌, ◌≤◌, ◌+◌, ◌∙◌, length, sym, ap, arith}
 use Rattle.patch_model.specs.declared.blocks.TheConstants.{BLOCK}
-use Rattle.patch_script.specs.declared.answers.Answer.TheVariants.{OnDisk}
+use Rattle.patch_script.specs.declared.answers.Answer.TheVariants.{OnDisk, Refused}
 use Rattle.patch_replay.specs.Answering.{IsAnswerTo, bytes_in}
 use Rattle.patch_replay.proofs.Asking.{counted}
 use Rattle.patch_replay.proofs.Looking.{missing, no_block, no_bytes, shown, on_ok, on_disk}
@@ -11,7 +11,7 @@ unfolding IsAnswerTo
 returns-then-is_err-clause-answer c = λ w at.
     let none = missing c.read.result _ _ (sym c.is_err.ensures.value ∙ c.if-is_err.true) c.read.ensures.no_fault c.read.ensures.no_such_block in
     let past : length w.run.first ≤ c.args.span.block = omega (arith, none, c.number_of.ensures, counted c.args.self.now w at) in
-    rw (no_block (length w.run.first) c.args.span.block c.args.span.start c.args.span.len past) c.refused.ensures
+    rw (no_block (length w.run.first) c.args.span.block c.args.span.start c.args.span.len past) (ap Refused c.bare.ensures)
 
 pub returns-in_ok-copied-in-Some-clause-answer : goal.returns-in_ok-copied-in-Some-clause-answer
 unfolding IsAnswerTo
@@ -33,4 +33,4 @@ returns-in-None-clause-answer c = λ w at.
     let whole = found.whole in
     let short = c.in-None.ensures in
     let over : BLOCK < c.args.span.start + c.args.span.len = omega (arith, short, whole) in
-    rw (no_bytes (length w.run.first) c.args.span.block c.args.span.start c.args.span.len found.known over) c.refused-in-None.ensures
+    rw (no_bytes (length w.run.first) c.args.span.block c.args.span.start c.args.span.len found.known over) (ap Refused c.bare-in-None.ensures)

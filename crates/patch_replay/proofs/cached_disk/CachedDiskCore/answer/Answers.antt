@@ -1,4 +1,5 @@
-use Rattle.patch_replay.specs.Answering.{IsAnswerTo, after}
+use Rattle.patch_replay.specs.Answering.{IsAnswerTo}
+use Rattle.patch_replay.specs.World.{after}
 use Rattle.patch_replay.proofs.Asking.{stays}
 use Rattle.std.proofs.lemmas.Result.{IfOk-weaker}
 use Rattle.patch_replay.proofs.cached_disk.CachedDiskCore.answer.Goals as goal

@@ -2,7 +2,7 @@
 use Rattle.std.specs.Prelude.{◌≡◌, length}
 use Rattle.patch_device.specs.MemDevice.{contents_of}
 use Rattle.patch_cache.specs.Running.{Runs}
-use Rattle.patch_replay.specs.Answering.{World}
+use Rattle.patch_replay.specs.World.{World}
 use Rattle.patch_replay.specs.declared.cached_disk.CachedDisk.{CachedDisk}
 
 -- the cache and the flights that are held stand where the execution has come, and the device holds the disk

@@ -1,6 +1,7 @@
 //! What answers lines.
 ghost use Rattle.std.specs.Prelude.{IfOk};
-ghost use Rattle.patch_replay.specs.Answering.{World, IsAnswerTo, after};
+ghost use Rattle.patch_replay.specs.Answering.{IsAnswerTo};
+ghost use Rattle.patch_replay.specs.World.{World, after};
 
 use patch_model::OutOfMemory;
 use patch_script::{Answer, Line};
