@@ -355,10 +355,10 @@ first_same [] a b some p q = absurd (omega (arith, some))
 first_same (x ∷ xs) a b some p q = p ∙ sym q
 
 -- what is left of a flight is of its write
-pub its_flight : {A : Type 0} (run : Execution) (flight : Flight A) (landed : Landed) → landed.block ≡ flight.block → landed.number ≡ flight.number → Contains (state_of run).flights (flight.block, flight.number)
-    → Contains (state_of run).flights (landed.block, landed.number)
-its_flight run flight landed block number known =
-    let pair : ◌≡◌ {A = ℕ × ℕ} (flight.block, flight.number) (landed.block, landed.number) = cc in subst (λ (p : ℕ × ℕ). Contains (state_of run).flights p) pair known
+pub its_flight : {A : Type 0} (run : Execution) (flight : Flight A) (landed : Landed) → landed.block ≡ flight.block → landed.sequence ≡ flight.sequence → Contains (state_of run).flights (flight.block, flight.sequence)
+    → Contains (state_of run).flights (landed.block, landed.sequence)
+its_flight run flight landed block sequence known =
+    let pair : ◌≡◌ {A = ℕ × ℕ} (flight.block, flight.sequence) (landed.block, landed.sequence) = cc in subst (λ (p : ℕ × ℕ). Contains (state_of run).flights p) pair known
 
 -- a write that was done after some tries, and completed
 pub completed : TrailsJoin → WritesEnd → (run : Execution) (block : ℕ) (had had_now : List (List (List ℕ))) (contents now : List (List ℕ)) → IsLegal run → block < length run.first

@@ -2,7 +2,8 @@
 ghost use Rattle.std.specs.Prelude.{◌≡◌, ◌≤◌, ◌↔◌, ◌++◌, ℕ, List, [], false, None, length, IfOk, OnOk, OnErr, MatchResult};
 ghost use Rattle.patch_model.specs.Execution.{Execution, followed_by};
 ghost use Rattle.patch_model.specs.Refusing.{why_not_sent};
-ghost use Rattle.patch_cache.specs.Running.{Runs, held_by};
+ghost use Rattle.patch_device.specs.SameDevice.{IsSameDevice};
+ghost use Rattle.patch_cache.specs.Running.{Runs, RunsOn, held_by};
 ghost use Rattle.patch_cache.specs.Waves.{steps_since, Continues, HasGoneOn, HasKept, KeepsDisk, RisesIfGivenUp, IsHeldIfGivenUp, begun, IsSentOr, IsPass, IsFlushed, HasWrittenOne};
 
 use crate::caches::Cache;
@@ -85,13 +86,11 @@ impl<A: Allocator + Copy> Cache<A> {
             → KeepsDisk self.old self.new flights.old (D.had device.old) (D.had device.new) (D.contents device.old) (D.contents device.new) }
         ensures wrote { (run : Execution) → Runs self.old flights.old run → held_by flights.old ≡ []
             → IfOk result (λ wrote. HasWrittenOne run wrote (steps_since self.old self.new)) }
-        ensures gave_up { (run : Execution) → Runs self.old flights.old run → D.block_count device.old ≡ length run.first
+        ensures gave_up { (run : Execution) → RunsOn D.Device self.old flights.old device.old run
             → RisesIfGivenUp result (D.fault_count device.old) (D.fault_count device.new) }
         ensures held { IsHeldIfGivenUp result flights.new }
         ensures landed { OnOk result (held_by flights.old ≡ [] → held_by flights.new ≡ []) }
-        ensures honesty { D.is_honest device.old ↔ D.is_honest device.new }
-        ensures count { D.block_count device.new ≡ D.block_count device.old }
-        ensures faults { D.fault_count device.old ≤ D.fault_count device.new }
+        ensures device { IsSameDevice D.Device device.old device.new }
     {
         model_laws::steps_extend();
         model_laws::near_classes_merge();
@@ -127,13 +126,11 @@ impl<A: Allocator + Copy> Cache<A> {
             → KeepsDisk self.old self.new flights.old (D.had device.old) (D.had device.new) (D.contents device.old) (D.contents device.new) }
         ensures flushed { (run : Execution) → Runs self.old flights.old run
             → OnOk result (IsFlushed (followed_by run (steps_since self.old self.new))) }
-        ensures gave_up { (run : Execution) → Runs self.old flights.old run → D.block_count device.old ≡ length run.first
+        ensures gave_up { (run : Execution) → RunsOn D.Device self.old flights.old device.old run
             → RisesIfGivenUp result (D.fault_count device.old) (D.fault_count device.new) }
         ensures held { IsHeldIfGivenUp result flights.new }
         ensures landed { OnOk result (held_by flights.new ≡ []) }
-        ensures honesty { D.is_honest device.old ↔ D.is_honest device.new }
-        ensures count { D.block_count device.new ≡ D.block_count device.old }
-        ensures faults { D.fault_count device.old ≤ D.fault_count device.new }
+        ensures device { IsSameDevice D.Device device.old device.new }
     {
         model_laws::trails_join();
         model_laws::some_is_ready();

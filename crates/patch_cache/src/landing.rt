@@ -1,8 +1,9 @@
 //! How the flights that are held are written out and completed.
 ghost use Rattle.std.specs.Prelude.{◌≡◌, ◌+◌, ◌<◌, ◌≤◌, ◌↔◌, [], length, count_by, slice_set, IfErr, OnOk, OnErr};
 ghost use Rattle.patch_model.specs.Execution.{Execution};
+ghost use Rattle.patch_device.specs.SameDevice.{IsSameDevice};
 ghost use Rattle.patch_device.specs.Device.{IsOldOrNew};
-ghost use Rattle.patch_cache.specs.Running.{Runs, held_by};
+ghost use Rattle.patch_cache.specs.Running.{Runs, RunsOn, held_by};
 ghost use Rattle.patch_cache.specs.Waves.{is_send, steps_since, Continues, HasRisenBy, HasGivenUp, HasGoneOn, KeepsDisk, IsHeldFirst, IsTriedSafely};
 
 use crate::caches::Cache;
@@ -19,9 +20,7 @@ pub const TRIES: u32 = 8;
 /// Writes the image of a flight that stays as it is, and again each time that the device refuses it, at most [`TRIES`]
 /// times in all.
 fn write_tried<A: Allocator, D: Device>(device: &mut D, flight: &Flight<A>) -> Result<(), Fault>
-    ensures honesty { D.is_honest device.old ↔ D.is_honest device.new }
-    ensures count { D.block_count device.new ≡ D.block_count device.old }
-    ensures faults { D.fault_count device.old ≤ D.fault_count device.new }
+    ensures device { IsSameDevice D.Device device.old device.new }
     ensures cause { flight.now.block < D.block_count device.old
         → OnErr result (HasRisenBy TRIES (D.fault_count device.old) (D.fault_count device.new)) }
     ensures tries { D.is_honest device.old → length (D.had device.new) ≤ length (D.had device.old) + TRIES }
@@ -56,10 +55,8 @@ impl<A: Allocator + Copy> Cache<A> {
         ensures ends { count_by is_send (steps_since self.old self.new) ≡ 0 }
         ensures disk { D.is_honest device.old
             → KeepsDisk self.old self.new flights.old (D.had device.old) (D.had device.new) (D.contents device.old) (D.contents device.new) }
-        ensures honesty { D.is_honest device.old ↔ D.is_honest device.new }
-        ensures count { D.block_count device.new ≡ D.block_count device.old }
-        ensures faults { D.fault_count device.old ≤ D.fault_count device.new }
-        ensures cause { (run : Execution) → Runs self.old flights.old run → D.block_count device.old ≡ length run.first
+        ensures device { IsSameDevice D.Device device.old device.new }
+        ensures cause { (run : Execution) → RunsOn D.Device self.old flights.old device.old run
             → OnErr result (HasGivenUp (D.fault_count device.old) (D.fault_count device.new)) }
         ensures tries { D.is_honest device.old → length (D.had device.new) ≤ length (D.had device.old) + TRIES }
         ensures landed { OnOk result (length (held_by flights.new) + 1 ≡ length (held_by flights.old)) }
@@ -101,10 +98,8 @@ impl<A: Allocator + Copy> Cache<A> {
         ensures ends { count_by is_send (steps_since self.old self.new) ≡ 0 }
         ensures disk { D.is_honest device.old
             → KeepsDisk self.old self.new flights.old (D.had device.old) (D.had device.new) (D.contents device.old) (D.contents device.new) }
-        ensures honesty { D.is_honest device.old ↔ D.is_honest device.new }
-        ensures count { D.block_count device.new ≡ D.block_count device.old }
-        ensures faults { D.fault_count device.old ≤ D.fault_count device.new }
-        ensures cause { (run : Execution) → Runs self.old flights.old run → D.block_count device.old ≡ length run.first
+        ensures device { IsSameDevice D.Device device.old device.new }
+        ensures cause { (run : Execution) → RunsOn D.Device self.old flights.old device.old run
             → OnErr result (HasGivenUp (D.fault_count device.old) (D.fault_count device.new)) }
         ensures landed { OnOk result (held_by flights.new ≡ []) }
         ensures block { IfErr result (λ refusal. IsHeldFirst refusal.0 flights.new) }

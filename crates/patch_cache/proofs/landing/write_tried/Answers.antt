@@ -1,14 +1,13 @@
 use Rattle.std.proofs.Common.{inl, inr, refl, sym, subst, ◌∙◌, ◌<◌, arith}
 use Rattle.patch_device.specs.Device.{IsOldOrNew}
+use Rattle.patch_device.specs.SameDevice.{same_still, same_both}
 use Rattle.patch_cache.proofs.Crashing.{unmoved}
 use Rattle.patch_cache.proofs.Waving.{written_again, either_again, outcome_longer, risen_again, tried, is_ok_on, is_ok_off}
 use Rattle.patch_cache.proofs.landing.write_tried.Goals as goal
 
 pub loop-init : goal.loop-init
 loop-init g c = record {
-  honesty = (λ h. h, λ h. h);
-  count = refl;
-  faults = omega arith;
+  same = same_still g.D.Device c.args.device.now;
   cause = λ known. inl (omega arith);
   either = λ honest. inl refl;
   tries = λ honest. omega arith;
@@ -21,7 +20,7 @@ returns-then-is_ok-clause-written g c honest =
     let before = c.loop.invariant in
     let flight = c.args.flight.now in
     written_again (device.contents c.args.device.now) (device.contents c.loop.device) (device.contents c.write_image.new.device) flight.block flight.image (before.either honest)
-    (is_ok_on c.write_image.result _ (sym c.is_ok.ensures.value ∙ c.if-is_ok.true) (c.write_image.ensures.written (before.honesty.0 honest)))
+    (is_ok_on c.write_image.result _ (sym c.is_ok.ensures.value ∙ c.if-is_ok.true) (c.write_image.ensures.written (before.same.honesty.0 honest)))
 
 pub returns-then-is_ok-clause-either : goal.returns-then-is_ok-clause-either
 returns-then-is_ok-clause-either g c honest =
@@ -29,7 +28,7 @@ returns-then-is_ok-clause-either g c honest =
     let before = c.loop.invariant in
     let flight = c.args.flight.now in
     inr (written_again (device.contents c.args.device.now) (device.contents c.loop.device) (device.contents c.write_image.new.device) flight.block flight.image (before.either honest)
-    (is_ok_on c.write_image.result _ (sym c.is_ok.ensures.value ∙ c.if-is_ok.true) (c.write_image.ensures.written (before.honesty.0 honest))))
+    (is_ok_on c.write_image.result _ (sym c.is_ok.ensures.value ∙ c.if-is_ok.true) (c.write_image.ensures.written (before.same.honesty.0 honest))))
 
 pub returns-then-is_ok-clause-crash : goal.returns-then-is_ok-clause-crash
 returns-then-is_ok-clause-crash g c honest run known is left =
@@ -38,13 +37,13 @@ returns-then-is_ok-clause-crash g c honest run known is left =
     let flight = c.args.flight.now in
     tried c.trails_join.ensures c.images_land.ensures run flight.block flight.image (device.had c.args.device.now) (device.had c.loop.device) (device.had c.write_image.new.device)
     (device.contents c.loop.device) (device.contents c.write_image.new.device) known is
-    (inr (is_ok_on c.write_image.result _ (sym c.is_ok.ensures.value ∙ c.if-is_ok.true) (c.write_image.ensures.written (before.honesty.0 honest))))
-    (c.write_image.ensures.had (before.honesty.0 honest)) (before.crash honest run known is left)
+    (inr (is_ok_on c.write_image.result _ (sym c.is_ok.ensures.value ∙ c.if-is_ok.true) (c.write_image.ensures.written (before.same.honesty.0 honest))))
+    (c.write_image.ensures.had (before.same.honesty.0 honest)) (before.crash honest run known is left)
 
 pub returns-then-is_ok-clause-tries : goal.returns-then-is_ok-clause-tries
 returns-then-is_ok-clause-tries g c honest =
     let before = c.loop.invariant in
-    let one = outcome_longer _ _ _ _ (c.write_image.ensures.had (before.honesty.0 honest)) in
+    let one = outcome_longer _ _ _ _ (c.write_image.ensures.had (before.same.honesty.0 honest)) in
     let so_far = before.tries honest in
     let within = c.loop-test.true in omega (arith, one, so_far, within)
 
@@ -56,17 +55,15 @@ loop-preserved g c =
     let flight = c.args.flight.now in
     let next = c.write_image.new.device in
     let again : device.is_honest c.args.device.now → IsOldOrNew (device.contents c.loop.device) flight.block flight.image (device.contents next) =
-    λ honest. is_ok_off c.write_image.result _ (sym c.is_ok.ensures.value ∙ c.if-is_ok.false) (told.refused (before.honesty.0 honest)) in
+    λ honest. is_ok_off c.write_image.result _ (sym c.is_ok.ensures.value ∙ c.if-is_ok.false) (told.refused (before.same.honesty.0 honest)) in
     record {
-      honesty = (λ h. told.honesty.0 (before.honesty.0 h), λ h. before.honesty.1 (told.honesty.1 h));
-      count = told.count ∙ before.count;
-      faults = let a = before.faults in let b = told.faults in omega (arith, a, b);
+      same = same_both g.D.Device c.args.device.now c.loop.device next before.same told.device;
       cause = λ known.
           risen_again c.loop.counter (device.fault_count c.args.device.now) (device.fault_count c.loop.device) (device.fault_count next) (before.cause known)
-          (is_ok_off c.write_image.result _ (sym c.is_ok.ensures.value ∙ c.if-is_ok.false) (told.cause (subst (λ n. flight.block < n) (sym before.count) known))) (g.met.D.Device.faults_fit next);
+          (is_ok_off c.write_image.result _ (sym c.is_ok.ensures.value ∙ c.if-is_ok.false) (told.cause (subst (λ n. flight.block < n) (sym before.same.count) known))) (g.met.D.Device.faults_fit next);
       either = λ honest. either_again (device.contents c.args.device.now) (device.contents c.loop.device) (device.contents next) flight.block flight.image (before.either honest) (again honest);
-      tries = λ honest. let one = outcome_longer _ _ _ _ (told.had (before.honesty.0 honest)) in let so_far = before.tries honest in omega (arith, one, so_far);
+      tries = λ honest. let one = outcome_longer _ _ _ _ (told.had (before.same.honesty.0 honest)) in let so_far = before.tries honest in omega (arith, one, so_far);
       crash = λ honest run known is left.
           tried c.trails_join.ensures c.images_land.ensures run flight.block flight.image (device.had c.args.device.now) (device.had c.loop.device) (device.had next)
-          (device.contents c.loop.device) (device.contents next) known is (again honest) (told.had (before.honesty.0 honest)) (before.crash honest run known is left);
+          (device.contents c.loop.device) (device.contents next) known is (again honest) (told.had (before.same.honesty.0 honest)) (before.crash honest run known is left);
     }

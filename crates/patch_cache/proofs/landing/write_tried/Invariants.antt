@@ -1,5 +1,6 @@
-use Rattle.std.proofs.Common.{◌≡◌, ◌+◌, ◌<◌, ◌≤◌, ◌↔◌, length}
+use Rattle.std.proofs.Common.{◌≡◌, ◌+◌, ◌<◌, ◌≤◌, length}
 use Rattle.patch_device.specs.Device.{IsOldOrNew}
+use Rattle.patch_device.specs.SameDevice.{IsSameDevice}
 use Rattle.patch_cache.specs.Waves.{HasRisenBy, IsTriedSafely}
 use Rattle.patch_cache.proofs.landing.write_tried.Given as goal
 
@@ -9,9 +10,7 @@ invariant-loop g l =
     let device = g.D.Device in
     let old = l.fn.device in
     record {
-      honesty : device.is_honest old ↔ device.is_honest l.device;
-      count : device.block_count l.device ≡ device.block_count old;
-      faults : device.fault_count old ≤ device.fault_count l.device;
+      same : IsSameDevice device old l.device;
       cause : l.flight.block < device.block_count old → HasRisenBy l.counter (device.fault_count old) (device.fault_count l.device);
       either : device.is_honest old → IsOldOrNew (device.contents old) l.flight.block l.flight.image (device.contents l.device);
       tries : device.is_honest old → length (device.had l.device) ≤ length (device.had old) + l.counter;

@@ -1,6 +1,7 @@
 use Rattle.std.proofs.Common.{◌∙◌, sym, subst, arith}
 use Rattle.patch_model.specs.Execution.{Execution, followed_by}
 use Rattle.patch_model.specs.State.{entries_of}
+use Rattle.patch_device.specs.SameDevice.{same_both}
 use Rattle.patch_cache.specs.Running.{Runs}
 use Rattle.patch_cache.specs.Waves.{steps_since, HasGoneOn, IsFlushed}
 use Rattle.patch_cache.proofs.Waving.{continues_both, since_both, went_both, keeps_both, sends_since}
@@ -65,7 +66,7 @@ returns-in_err-land-2-clause-disk g c honest =
     keeps_both c.trails_join.ensures old sent c.land-in-loop.new.self c.args.flights.now c.send_all.new.flights _ _ _ _ _ _ (continues_both old mid sent before.trace told.trace) c.land-in-loop.ensures.trace ran
     (keeps_both c.trails_join.ensures old mid sent c.args.flights.now c.loop.flights _ _ _ _ _ _ before.trace told.trace before.ran (before.disk honest)
     (told.disk (device.had c.loop.device) (device.contents c.loop.device)))
-    (c.land-in-loop.ensures.disk (before.honesty.0 honest))
+    (c.land-in-loop.ensures.disk (before.same.honesty.0 honest))
 
 pub loop-preserved : goal.loop-preserved
 loop-preserved g c =
@@ -93,11 +94,9 @@ loop-preserved g c =
           keeps_both c.trails_join.ensures old sent now c.args.flights.now c.send_all.new.flights _ _ _ _ _ _ trace told.trace ran
           (keeps_both c.trails_join.ensures old mid sent c.args.flights.now c.loop.flights _ _ _ _ _ _ before.trace wave.trace before.ran (before.disk honest)
           (wave.disk (device.had c.loop.device) (device.contents c.loop.device)))
-          (told.disk (before.honesty.0 honest));
+          (told.disk (before.same.honesty.0 honest));
       landed = c.in_ok-land-2.ensures.landed;
-      honesty = (λ h. told.honesty.0 (before.honesty.0 h), λ h. before.honesty.1 (told.honesty.1 h));
-      count = told.count ∙ before.count;
-      faults = let a = before.faults in let b = told.faults in omega (arith, a, b);
+      same = same_both g.D.Device c.args.device.now c.loop.device c.land-in-loop.new.device before.same told.device;
     }
 
 -- there are no more waves than classes in memory at first

@@ -1,6 +1,7 @@
-use Rattle.std.proofs.Common.{◌≡◌, ◌≤◌, ◌↔◌, []}
+use Rattle.std.proofs.Common.{◌≡◌, ◌≤◌, []}
 use Rattle.std.specs.Prelude.{count_by}
 use Rattle.patch_model.specs.Execution.{Execution}
+use Rattle.patch_device.specs.SameDevice.{IsSameDevice}
 use Rattle.patch_cache.specs.Running.{Runs, held_by}
 use Rattle.patch_cache.specs.Waves.{is_send, steps_since, Continues, HasGoneOn, KeepsDisk}
 use Rattle.patch_cache.proofs.caches.Cache.flush.Given as goal
@@ -16,7 +17,5 @@ invariant-loop g l =
       trace : Continues l.fn.self l.self;
       disk : device.is_honest old → KeepsDisk l.fn.self l.self l.fn.flights (device.had old) (device.had l.device) (device.contents old) (device.contents l.device);
       landed : held_by l.flights ≡ [];
-      honesty : device.is_honest old ↔ device.is_honest l.device;
-      count : device.block_count l.device ≡ device.block_count old;
-      faults : device.fault_count old ≤ device.fault_count l.device;
+      same : IsSameDevice device old l.device;
     }

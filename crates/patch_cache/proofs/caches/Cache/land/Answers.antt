@@ -1,4 +1,5 @@
 use Rattle.std.proofs.Common.{[], refl, ◌∙◌, arith}
+use Rattle.patch_device.specs.SameDevice.{same_still, same_both}
 use Rattle.patch_cache.proofs.Waving.{none_added, no_sends, continues, continues_both, gone_still, kept_unmoved, went_by, went_both, keeps_by, keeps_both, sends_since}
 use Rattle.patch_cache.proofs.caches.Cache.land.Goals as goal
 
@@ -11,9 +12,7 @@ loop-self-init g c =
       trace = continues old old [] none;
       ends = no_sends old old [] none refl;
       disk = λ honest run runs. keeps_by run old old [] _ _ _ _ none (kept_unmoved run _ _);
-      honesty = (λ h. h, λ h. h);
-      count = refl;
-      faults = omega arith;
+      same = same_still g.D.Device c.args.device.now;
     }
 
 pub loop-self-preserved : goal.loop-self-preserved
@@ -27,10 +26,8 @@ loop-self-preserved g c =
       ran = λ run runs. let first = before.ran run runs in went_both run old mid next _ _ before.trace told.trace first (told.ran _ first.runs);
       trace = continues_both old mid next before.trace told.trace;
       ends = let both = sends_since old mid next before.trace told.trace in let a = before.ends in let b = told.ends in omega (arith, both, a, b);
-      disk = λ honest. keeps_both c.trails_join.ensures old mid next c.args.flights.now c.loop-self.flights _ _ _ _ _ _ before.trace told.trace before.ran (before.disk honest) (told.disk (before.honesty.0 honest));
-      honesty = (λ h. told.honesty.0 (before.honesty.0 h), λ h. before.honesty.1 (told.honesty.1 h));
-      count = told.count ∙ before.count;
-      faults = let a = before.faults in let b = told.faults in omega (arith, a, b);
+      disk = λ honest. keeps_both c.trails_join.ensures old mid next c.args.flights.now c.loop-self.flights _ _ _ _ _ _ before.trace told.trace before.ran (before.disk honest) (told.disk (before.same.honesty.0 honest));
+      same = same_both g.D.Device c.args.device.now c.loop-self.device c.land_first.new.device before.same told.device;
     }
 
 pub returns-in_err-land_first-clause-ran : goal.returns-in_err-land_first-clause-ran
@@ -55,4 +52,4 @@ returns-in_err-land_first-clause-disk g c honest =
     let before = c.loop-self.invariant in
     let told = c.land_first.ensures in
     keeps_both c.trails_join.ensures c.args.self.now c.loop-self.self c.land_first.new.self c.args.flights.now c.loop-self.flights _ _ _ _ _ _ before.trace told.trace before.ran (before.disk honest)
-    (told.disk (before.honesty.0 honest))
+    (told.disk (before.same.honesty.0 honest))

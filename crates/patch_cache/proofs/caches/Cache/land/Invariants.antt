@@ -1,6 +1,7 @@
-use Rattle.std.proofs.Common.{◌≡◌, ◌≤◌, ◌↔◌, length}
+use Rattle.std.proofs.Common.{◌≡◌, ◌≤◌, length}
 use Rattle.std.specs.Prelude.{count_by}
 use Rattle.patch_model.specs.Execution.{Execution}
+use Rattle.patch_device.specs.SameDevice.{IsSameDevice}
 use Rattle.patch_cache.specs.Running.{Runs}
 use Rattle.patch_cache.specs.Waves.{is_send, steps_since, Continues, HasGoneOn, KeepsDisk}
 use Rattle.patch_cache.proofs.caches.Cache.land.Given as goal
@@ -15,9 +16,7 @@ invariant-loop-self g l =
       trace : Continues l.fn.self l.self;
       ends : count_by is_send (steps_since l.fn.self l.self) ≡ 0;
       disk : device.is_honest old → KeepsDisk l.fn.self l.self l.fn.flights (device.had old) (device.had l.device) (device.contents old) (device.contents l.device);
-      honesty : device.is_honest old ↔ device.is_honest l.device;
-      count : device.block_count l.device ≡ device.block_count old;
-      faults : device.fault_count old ≤ device.fault_count l.device;
+      same : IsSameDevice device old l.device;
     }
 
 abbrev pub decreases-loop-self : goal.decreases-loop-self

@@ -28,9 +28,9 @@ returns-then-is_err-clause-disk g c honest run runs =
     (kept_still run _ _ _ _ (λ left. c.write_tried.ensures.crash honest run s.known s.is.image_is left) (λ held. images_either run _ _ _ _ s.flies (c.write_tried.ensures.either honest) held))
 
 pub returns-then-is_err-clause-cause : goal.returns-then-is_err-clause-cause
-returns-then-is_err-clause-cause g c run runs count =
-    let s = first_stands c.flights_are_single.ensures.holds c.patches_are_placed.ensures.known run c.args.flights.now.held.items c.index.result.now runs.cache_is.legal runs.flights_are c.requires.some c.index.ensures in
-    on_err c.write_tried.result _ (sym c.is_err.ensures.value ∙ c.if-is_err.true) (c.write_tried.ensures.cause (subst (λ n. c.index.result.now.block < n) (sym count) s.known))
+returns-then-is_err-clause-cause g c run on =
+    let s = first_stands c.flights_are_single.ensures.holds c.patches_are_placed.ensures.known run c.args.flights.now.held.items c.index.result.now on.runs.cache_is.legal on.runs.flights_are c.requires.some c.index.ensures in
+    on_err c.write_tried.result _ (sym c.is_err.ensures.value ∙ c.if-is_err.true) (c.write_tried.ensures.cause (subst (λ n. c.index.result.now.block < n) (sym on.blocks) s.known))
 
 -- the write is completed
 pub returns-in-Ok-clause-trace : goal.returns-in-Ok-clause-trace
@@ -81,10 +81,10 @@ pub returns-clause-ran : goal.returns-clause-ran
 returns-clause-ran g c run runs =
     let flight = c.swap_remove.result in
     let s = first_stands c.flights_are_single.ensures.holds c.patches_are_placed.ensures.known run c.args.flights.now.held.items flight runs.cache_is.legal runs.flights_are c.requires.some c.swap_remove.ensures.value in
-    absurd (c.in-Err.ensures.stranger run runs.cache_is (its_flight run flight c.landed-landed.result c.landed-landed.ensures.block c.landed-landed.ensures.number s.is.known))
+    absurd (c.in-Err.ensures.stranger run runs.cache_is (its_flight run flight c.landed-landed.result c.landed-landed.ensures.block c.landed-landed.ensures.sequence s.is.known))
 
 pub returns-clause-disk : goal.returns-clause-disk
 returns-clause-disk g c honest run runs =
     let flight = c.swap_remove.result in
     let s = first_stands c.flights_are_single.ensures.holds c.patches_are_placed.ensures.known run c.args.flights.now.held.items flight runs.cache_is.legal runs.flights_are c.requires.some c.swap_remove.ensures.value in
-    absurd (c.in-Err.ensures.stranger run runs.cache_is (its_flight run flight c.landed-landed.result c.landed-landed.ensures.block c.landed-landed.ensures.number s.is.known))
+    absurd (c.in-Err.ensures.stranger run runs.cache_is (its_flight run flight c.landed-landed.result c.landed-landed.ensures.block c.landed-landed.ensures.sequence s.is.known))
