@@ -1,4 +1,5 @@
 use Rattle.std.proofs.Common.{◌≡◌, ◌||◌, ◌+◌, [], false, refl, sym, subst, ◌∙◌, arith}
+use Rattle.patch_model.specs.State.{entries_of}
 use Rattle.patch_cache.specs.Contents.{Contents}
 use Rattle.patch_cache.specs.Waves.{steps_since, Continues, HasKept, begun}
 use Rattle.patch_cache.proofs.Waving.{none_added, since_is, since_more, continues, continues_both, gone_same}
@@ -33,7 +34,7 @@ loop-at-preserved g c =
           let first = before.so_far run runs in
           subst (λ b. Passed run (c.loop-at.at + 1) b (steps_since old next) next c.send_if_ready.new.flights) (sym is)
           (subst (λ s. Passed run (c.loop-at.at + 1) (c.loop-at.sent || c.in_ok-more.more) s next c.send_if_ready.new.flights) (sym (since_more old mid next more before.trace told.trace))
-          (pass_more c.trails_join.ensures c.steps_extend.ensures.state c.images_stay.ensures c.disks_stay.ensures c.executions_are_orderly.ensures.patches c.ready_is_largest.ensures.largest
+          (pass_more c.trails_join.ensures c.steps_extend.ensures.state c.images_stay.ensures c.disks_stay.ensures c.executions_are_orderly.ensures.patches (λ run block. c.ready_is_largest.ensures.largest (entries_of run) block (c.ready_is_largest.ensures.made run))
           c.near_classes_merge.ensures.sent run c.loop-at.at c.loop-at.sent c.in_ok-more.more (steps_since old mid) mid next c.loop-at.flights c.send_if_ready.new.flights first (told.sent _ first.gone.runs)));
       trace = continues_both old mid next before.trace (continues mid next more told.trace);
       kept = λ e.

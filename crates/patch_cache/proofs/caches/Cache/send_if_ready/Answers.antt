@@ -17,9 +17,9 @@ returns-in-Ok-clause-sent g c = λ run runs.
     let startable = (c.near_classes_merge.ensures.sent run block).0 done.0 in (
       done.0,
       record {
-        cache_is = done.2;
+        cache_is = done.1.1;
         flights_are = subst (AreFlightsOf (extended run (the.Send block))) (sym held)
             (held_send c.steps_extend.ensures.state c.images_stay.ensures c.flights_are_ready.ensures.sent c.flights_are_ready.ensures.sent_elsewhere run block c.args.flights.now.held.items flight
-            runs.cache_is.legal startable.1.0 done.1 runs.flights_are);
+            runs.cache_is.legal startable.1.0 done.1.0 runs.flights_are);
       },
     )

@@ -1,4 +1,5 @@
 use Rattle.std.proofs.Common.{◌≡◌, ◌∷◌, [], sym, subst, ◌∙◌}
+use Rattle.patch_model.specs.State.{entries_of}
 use Rattle.patch_model.specs.Execution.{followed_by}
 use Rattle.patch_model.specs.Step.{Send}
 use Rattle.patch_cache.specs.Contents.{Contents}
@@ -47,7 +48,7 @@ returns-in_err-land-clause-ran g c run runs =
     let mid = c.send_if_ready.new.self in
     let block = c.in-Some.block in
     let sent = c.in_ok-send_if_ready in
-    let one = begun_gone c.steps_extend.ensures.state c.executions_are_orderly.ensures.patches c.ready_is_largest.ensures.largest c.near_classes_merge.ensures.sent run block old still mid sent.field-0
+    let one = begun_gone c.steps_extend.ensures.state c.executions_are_orderly.ensures.patches (λ run block. c.ready_is_largest.ensures.largest (entries_of run) block (c.ready_is_largest.ensures.made run)) c.near_classes_merge.ensures.sent run block old still mid sent.field-0
     c.args.flights.now c.send_if_ready.new.flights c.next_ready.ensures.same c.if-not-branch.false sent.ensures.trace (sent.ensures.sent run) runs in
     went_both run old mid c.land.new.self _ _ (continues old mid (Send block ∷ []) (begun_by old still mid block sent.field-0 c.next_ready.ensures.same c.if-not-branch.false sent.ensures.trace))
     c.land.ensures.trace one (c.land.ensures.ran _ one.runs)
@@ -64,7 +65,7 @@ returns-in_err-land-clause-disk g c honest =
     keeps_both c.trails_join.ensures old mid c.land.new.self c.args.flights.now c.send_if_ready.new.flights (device.had at) (device.had at) (device.had c.land.new.device) (device.contents at) (device.contents at) (device.contents c.land.new.device)
     (continues old mid (Send block ∷ []) (begun_by old still mid block sent.field-0 c.next_ready.ensures.same c.if-not-branch.false sent.ensures.trace)) c.land.ensures.trace
     (λ run runs.
-    begun_gone c.steps_extend.ensures.state c.executions_are_orderly.ensures.patches c.ready_is_largest.ensures.largest c.near_classes_merge.ensures.sent run block old still mid sent.field-0
+    begun_gone c.steps_extend.ensures.state c.executions_are_orderly.ensures.patches (λ run block. c.ready_is_largest.ensures.largest (entries_of run) block (c.ready_is_largest.ensures.made run)) c.near_classes_merge.ensures.sent run block old still mid sent.field-0
     c.args.flights.now c.send_if_ready.new.flights c.next_ready.ensures.same c.if-not-branch.false sent.ensures.trace (sent.ensures.sent run) runs)
     (λ run runs.
     begun_kept c.steps_extend.ensures.state c.images_stay.ensures c.disks_stay.ensures run block old still mid sent.field-0
@@ -79,7 +80,7 @@ returns-clause-ran g c run runs =
     let mid = c.send_if_ready.new.self in
     let block = c.in-Some.block in
     let sent = c.in_ok-send_if_ready in
-    let one = begun_gone c.steps_extend.ensures.state c.executions_are_orderly.ensures.patches c.ready_is_largest.ensures.largest c.near_classes_merge.ensures.sent run block old still mid sent.field-0
+    let one = begun_gone c.steps_extend.ensures.state c.executions_are_orderly.ensures.patches (λ run block. c.ready_is_largest.ensures.largest (entries_of run) block (c.ready_is_largest.ensures.made run)) c.near_classes_merge.ensures.sent run block old still mid sent.field-0
     c.args.flights.now c.send_if_ready.new.flights c.next_ready.ensures.same c.if-not-branch.false sent.ensures.trace (sent.ensures.sent run) runs in
     went_both run old mid c.land.new.self _ _ (continues old mid (Send block ∷ []) (begun_by old still mid block sent.field-0 c.next_ready.ensures.same c.if-not-branch.false sent.ensures.trace))
     c.land.ensures.trace one (c.land.ensures.ran _ one.runs)
@@ -96,7 +97,7 @@ returns-clause-disk g c honest =
     keeps_both c.trails_join.ensures old mid c.land.new.self c.args.flights.now c.send_if_ready.new.flights (device.had at) (device.had at) (device.had c.land.new.device) (device.contents at) (device.contents at) (device.contents c.land.new.device)
     (continues old mid (Send block ∷ []) (begun_by old still mid block sent.field-0 c.next_ready.ensures.same c.if-not-branch.false sent.ensures.trace)) c.land.ensures.trace
     (λ run runs.
-    begun_gone c.steps_extend.ensures.state c.executions_are_orderly.ensures.patches c.ready_is_largest.ensures.largest c.near_classes_merge.ensures.sent run block old still mid sent.field-0
+    begun_gone c.steps_extend.ensures.state c.executions_are_orderly.ensures.patches (λ run block. c.ready_is_largest.ensures.largest (entries_of run) block (c.ready_is_largest.ensures.made run)) c.near_classes_merge.ensures.sent run block old still mid sent.field-0
     c.args.flights.now c.send_if_ready.new.flights c.next_ready.ensures.same c.if-not-branch.false sent.ensures.trace (sent.ensures.sent run) runs)
     (λ run runs.
     begun_kept c.steps_extend.ensures.state c.images_stay.ensures c.disks_stay.ensures run block old still mid sent.field-0
