@@ -21,13 +21,13 @@ use Rattle.patch_model.specs.History.{history_of, image, cached}
 use Rattle.patch_cache.specs.Contents.{Contents}
 use Rattle.patch_cache.specs.Running.{Runs, held_by}
 use Rattle.patch_cache.specs.Flights.{AreFlightsOf}
-use Rattle.patch_cache.specs.Waves.{is_send, steps_since, classes_in_memory, live_classes, HasGoneOn, HasKept, begun, IsPass, IsFlushed, IsSentOr}
+use Rattle.patch_cache.specs.Waves.{is_send, steps_since, classes_in_memory, live_classes, HasGoneOn, HasKept, Continues, EndsOne, HoldsBegun, begun, IsPass, IsFlushed, IsSentOr}
 use Rattle.patch_cache.specs.declared.flights.Flights.{Flights}
 use Rattle.patch_cache.specs.declared.flights.Flight.{Flight as Held}
 use Rattle.patch_cache.proofs.Crashing.{DisksStay, TrailsJoin, unwritten_step}
 use Rattle.patch_cache.proofs.Holding.{StatesExtend, ImagesStay}
 use Rattle.patch_cache.proofs.Counting.{count_le, count-append}
-use Rattle.patch_cache.proofs.Waving.{gone_still, gone_send, gone_both, kept_unmoved, kept_both, went_by, keeps_by, fewer_sent, images_sent}
+use Rattle.patch_cache.proofs.Waving.{since_is, since_both, continues, gone_still, gone_send, gone_both, kept_unmoved, kept_both, went_by, keeps_by, fewer_sent, images_sent}
 
 -- the law of what a write of a block needs
 abbrev pub SentLaw : Type 0
@@ -87,7 +87,7 @@ sent_true run block false cache flights e h = absurd (cc)
 pub begun_by : (old still now : Contents) (block : ℕ) (sent : Bool) → still ≡ old → sent ≡ true → now.trace ≡ still.trace ++ begun block sent → now.trace ≡ old.trace ++ Send block ∷ []
 begun_by old still now block sent same is added = added ∙ ap (λ b. still.trace ++ begun block b) is ∙ ap (λ (x : Contents). x.trace ++ Send block ∷ []) same
 
-sent_still : {A : Type 0} (run : Execution) (block : ℕ) (old still now : Contents) (sent : Bool) (flights held : Flights A) → still ≡ old → sent ≡ true → (Runs still flights run → IsSentOr run block sent now held) → Runs old flights run
+pub sent_still : {A : Type 0} (run : Execution) (block : ℕ) (old still now : Contents) (sent : Bool) (flights held : Flights A) → still ≡ old → sent ≡ true → (Runs still flights run → IsSentOr run block sent now held) → Runs old flights run
     → (why_not_sent run block ≡ None) × Runs now held (extended run (Send block))
 sent_still run block old still now sent flights held same is one runs = sent_true run block sent now held is (one (subst (λ (x : Contents). Runs x flights run) (sym same) runs))
 
@@ -102,6 +102,15 @@ pub begun_kept : {A : Type 0} → StatesExtend → ImagesStay → DisksStay → 
 begun_kept extend stay disks run block old still now sent flights held had contents same is added one runs =
     let told = sent_still run block old still now sent flights held same is one runs in
     keeps_by run old now (Send block ∷ []) had had contents contents (begun_by old still now block sent same is added) (one_kept extend stay disks run block had contents runs.cache_is.legal told.1.cache_is.legal)
+
+-- where none was held, and the one that was begun is completed
+pub one_written : {A : Type 0} (block : ℕ) (sent : Bool) (old still mid now : Contents) (flights held : Flights A) → still ≡ old → sent ≡ true → mid.trace ≡ still.trace ++ begun block sent → held_by flights ≡ []
+    → HoldsBegun block sent flights held → Continues mid now → EndsOne held mid now → steps_since old now ≡ Send block ∷ Complete block ∷ []
+one_written block false old still mid now flights held same is trace empty more so_far ends = absurd (cc)
+one_written block true old still mid now flights held same is trace empty more so_far ends =
+    let added = begun_by old still mid block true same is trace in
+    since_both old mid now (continues old mid (Send block ∷ []) added) so_far ∙ ap (λ s. s ++ steps_since mid now) (since_is old mid (Send block ∷ []) added)
+    ∙ ap (λ s. Send block ∷ s) (ends more.0 (more.2 ∙ ap (λ xs. xs ++ more.0 ∷ []) empty)) ∙ ap (λ b. Send block ∷ Complete b ∷ []) more.1
 
 -- one block more of a pass
 one_passed : {A : Type 0} (run : Execution) (at : ℕ) (before more : Bool) (steps : List Step) (now : Contents) (held : Flights A) → IsPassTo run at before steps → IsSentOr (followed_by run steps) at more now held

@@ -1,9 +1,9 @@
 -- Stretches of writes, one after another.
 use Rattle.std.proofs.Common.{◌≡◌, ◌≢◌, ℕ, zero, suc, Bool, true, false, ◌+◌, ◌<◌, ◌≤◌, inl, inr, Result, Ok, Err, OnOk, OnErr, ◌∙◌, Some, List, [], ◌∷◌, ◌++◌, length, map, filter, drop, refl, sym, ap, subst, arith, append_assoc, length-append, get_or, set, slice_set}
-use Rattle.std.specs.Prelude.{◌==◌, ◌&&◌, ◌||◌, not, is_ok, count_by, slice_index_or, IsTrue, Contains}
+use Rattle.std.specs.Prelude.{◌==◌, ◌&&◌, ◌||◌, ◌⊎◌, not, is_ok, count_by, slice_index_or, slice_get, IsTrue, Contains}
 use Rattle.std.specs.List.{list_any}
 use Rattle.std.proofs.Math.Seq.{drop-append_seam}
-use Rattle.std.proofs.lemmas.List.{append-nil, get_or-set_same, get_or-set_other, length-set}
+use Rattle.std.proofs.lemmas.List.{append-nil, nil_from_length, get_or-set_same, get_or-set_other, length-set}
 use Rattle.std.proofs.lemmas.List.Folds.{list_all-append, list_any-append}
 use Rattle.std.proofs.lemmas.Bool.{cases_Bool, cases_eq, and_parts, and_from}
 use Rattle.std.proofs.lemmas.Bool.Decides.{nat_tests}
@@ -20,7 +20,7 @@ use Rattle.patch_device.specs.Device.{HasRisen, IsOldOrNew, AddsOutcome, most_fa
 use Rattle.patch_cache.specs.Contents.{Contents}
 use Rattle.patch_cache.specs.Meaning.{Represents}
 use Rattle.patch_cache.specs.Running.{Runs, IsCrashSafe, held_by}
-use Rattle.patch_cache.specs.Waves.{is_send, is_write, steps_since, Continues, classes_in_memory, HasRisenBy, HoldImages, HasGoneOn, HasKept, KeepsDisk}
+use Rattle.patch_cache.specs.Waves.{is_send, is_write, steps_since, Continues, classes_in_memory, HasRisenBy, HoldImages, HasGoneOn, HasKept, KeepsDisk, EndsFirst, EndsOne}
 use Rattle.patch_cache.specs.declared.flights.Flights.{Flights}
 use Rattle.patch_cache.proofs.Crashing.{TrailsJoin, ImagesLand, WritesEnd, joined, longer, unmoved, write_refused}
 use Rattle.patch_cache.proofs.Holding.{StatesExtend, ImagesStay, held_flies, flying_known}
@@ -235,7 +235,7 @@ first_of (x ∷ xs) some = (x, inl refl)
 same_number : (a b : ℕ) → a ≡ b → (a == b) ≡ true
 same_number a b e = grind (arith, nat_tests)
 
-is_same : (a b : ℕ) → (a == b) ≡ true → a ≡ b
+pub is_same : (a b : ℕ) → (a == b) ≡ true → a ≡ b
 is_same a b e = grind (arith, nat_tests)
 
 is_other : (a b : ℕ) → (a == b) ≡ false → a ≢ b
@@ -353,6 +353,37 @@ is_ok_off (Err x) P e h = h
 pub first_same : {X : Type 0} (xs : List X) (a b : X) → 0 < length xs → a ≡ get_or xs 0 a → b ≡ get_or xs 0 b → a ≡ b
 first_same [] a b some p q = absurd (omega (arith, some))
 first_same (x ∷ xs) a b some p q = p ∙ sym q
+
+some_same : {X : Type 0} (a b : X) → Some a ≡ Some b → a ≡ b
+some_same a b e = cc
+
+pub first_held : {X : Type 0} (xs : List X) (a b : X) → a ≡ get_or xs 0 a → slice_get xs 0 ≡ Some b → a ≡ b
+first_held [] a b p q = absurd (cc)
+first_held (x ∷ xs) a b p q = p ∙ some_same x b q
+
+-- Where just one flight is held: it is held still and nothing was done, or it is completed and nothing else was done.
+abbrev pub IsOneSoFar : {A : Type 0} → (flights flights_now : Flights A) → (old now : Contents) → Type 0
+IsOneSoFar {A = A} flights flights_now old now =
+    (flight : Flight A) → held_by flights ≡ flight ∷ []
+    → ((held_by flights_now ≡ flight ∷ []) × (steps_since old now ≡ [])) ⊎ ((held_by flights_now ≡ []) × (steps_since old now ≡ Complete flight.block ∷ []))
+
+pub one_ended : {A : Type 0} (flights before after : Flights A) (old mid now : Contents) → Continues old mid → length (held_by after) + 1 ≡ length (held_by before)
+    → IsOneSoFar flights before old mid → EndsFirst before mid now → IsOneSoFar flights after old now
+one_ended flights before after old mid now so_far fewer first ends flight one = elim (first flight one) [
+  | inl still ↦
+      let step = ends flight (ap (λ fs. slice_get fs 0) still.0) in
+      inr (
+        nil_from_length (held_by after) (let one_less = fewer ∙ ap length still.0 in omega (arith, one_less)),
+        since_more old mid now (Complete flight.block ∷ []) so_far step ∙ ap (λ s. s ++ Complete flight.block ∷ []) still.1,
+      )
+  | inr done ↦ let none : length (held_by before) ≡ 0 = ap length done.0 in absurd (omega (arith, none, fewer))
+]
+
+pub one_at_last : {A : Type 0} (flights after : Flights A) (old now : Contents) → held_by after ≡ [] → IsOneSoFar flights after old now → EndsOne flights old now
+one_at_last flights after old now empty so_far flight one = elim (so_far flight one) [
+  | inl still ↦ let no : 1 ≡ 0 = ap length (sym still.0 ∙ empty) in absurd (omega (arith, no))
+  | inr done ↦ done.1
+]
 
 -- what is left of a flight is of its write
 pub its_flight : {A : Type 0} (run : Execution) (flight : Flight A) (landed : Landed) → landed.block ≡ flight.block → landed.sequence ≡ flight.sequence → Contains (state_of run).flights (flight.block, flight.sequence)

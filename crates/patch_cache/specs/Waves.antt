@@ -11,6 +11,7 @@ use Rattle.patch_model.specs.Crash.{MayLeave}
 use Rattle.patch_device.specs.Device.{most_faults}
 use Rattle.patch_cache.specs.Contents.{Contents}
 use Rattle.patch_cache.specs.Running.{Runs, IsCrashSafe, held_by}
+use Rattle.patch_cache.specs.Flights.{IsLeastReady}
 use Rattle.patch_cache.specs.declared.flights.Flights.{Flights}
 use Rattle.patch_cache.specs.declared.flights.Flight.{Flight}
 use Rattle.patch_cache.specs.declared.landing.TheConstants.{TRIES}
@@ -99,6 +100,14 @@ IsHeldIfGivenUp (Ok done) flights = Unit {0}
 IsHeldIfGivenUp (Err (flush.DeviceGaveUp block)) flights = IsHeldFirst block flights
 IsHeldIfGivenUp (Err flush.OutOfMemory) flights = Unit {0}
 
+-- the flight that was held first is completed, and nothing else is done
+abbrev pub EndsFirst : {A : Type 0} → Flights A → Contents → Contents → Type 0
+EndsFirst {A = A} flights old now = (flight : Flight A) → slice_get (held_by flights) 0 ≡ Some flight → now.trace ≡ old.trace ++ Complete flight.block ∷ []
+
+-- where just one was held, it is completed, and nothing else is done
+abbrev pub EndsOne : {A : Type 0} → Flights A → Contents → Contents → Type 0
+EndsOne {A = A} flights old now = (flight : Flight A) → held_by flights ≡ flight ∷ [] → steps_since old now ≡ Complete flight.block ∷ []
+
 -- the step that begins a write of the block, if it was begun
 abbrev pub begun : ℕ → Bool → List Step
 begun block true = Send block ∷ []
@@ -108,6 +117,11 @@ begun block false = []
 abbrev pub IsSentOr : {A : Type 0} → Execution → ℕ → Bool → Contents → Flights A → Type 0
 IsSentOr run block true cache flights = (why_not_sent run block ≡ None) × Runs cache flights (extended run (Send block))
 IsSentOr run block false cache flights = (why_not_sent run block ≢ None) × Runs cache flights run
+
+-- and where it was begun its flight is held behind those that were, or they are as before
+abbrev pub HoldsBegun : {A : Type 0} → ℕ → Bool → (old now : Flights A) → Type 0
+HoldsBegun {A = A} block true old now = (flight : Flight A) × (flight.block ≡ block) × (held_by now ≡ held_by old ++ flight ∷ [])
+HoldsBegun block false old now = held_by now ≡ held_by old
 
 -- a write of some block was begun, or none could be
 abbrev pub IsPass : Execution → Bool → List Step → Type 0
@@ -119,7 +133,8 @@ pub record IsFlushed (run : Execution) : Type 0 where
   pub none : (e : Entry) → Contains (entries_of run) e → is_live e ≡ false
   pub grounded : (b : ℕ) → IsFalse (has_flight (state_of run) b)
 
--- one write was begun, or there was none to begin and nothing is left
+-- one write was begun, of the least block of which one could begin, and was completed; or there was none to begin and
+-- nothing is left
 abbrev pub HasWrittenOne : Execution → Bool → List Step → Type 0
-HasWrittenOne run true steps = count_by is_send steps ≡ 1
+HasWrittenOne run true steps = (block : ℕ) × IsLeastReady run (Some block) × (steps ≡ Send block ∷ Complete block ∷ [])
 HasWrittenOne run false steps = (steps ≡ []) × IsFlushed (followed_by run steps)

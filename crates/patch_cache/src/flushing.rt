@@ -4,7 +4,7 @@ ghost use Rattle.patch_model.specs.Execution.{Execution, followed_by};
 ghost use Rattle.patch_model.specs.Refusing.{why_not_sent};
 ghost use Rattle.patch_device.specs.SameDevice.{IsSameDevice};
 ghost use Rattle.patch_cache.specs.Running.{Runs, RunsOn, held_by};
-ghost use Rattle.patch_cache.specs.Waves.{steps_since, Continues, HasGoneOn, HasKept, KeepsDisk, RisesIfGivenUp, IsHeldIfGivenUp, begun, IsSentOr, IsPass, IsFlushed, HasWrittenOne};
+ghost use Rattle.patch_cache.specs.Waves.{steps_since, Continues, HasGoneOn, HasKept, KeepsDisk, RisesIfGivenUp, IsHeldIfGivenUp, begun, IsSentOr, HoldsBegun, IsPass, IsFlushed, HasWrittenOne};
 
 use crate::caches::Cache;
 use crate::flights::Flights;
@@ -25,6 +25,8 @@ impl<A: Allocator + Copy> Cache<A> {
         ensures cause { (run : Execution) → Runs self.old flights.old run → OnErr result (why_not_sent run block ≡ None) }
         ensures trace { IfOk result (λ sent. self.new.trace ≡ self.old.trace ++ begun block sent) }
         ensures refused { OnErr result (self.new ≡ self.old) }
+        ensures more { (run : Execution) → Runs self.old flights.old run
+            → IfOk result (λ sent. HoldsBegun block sent flights.old flights.new) }
         ensures kept { IfOk result (λ sent. sent ≡ false → held_by flights.new ≡ held_by flights.old) }
         ensures held { OnErr result (held_by flights.new ≡ held_by flights.old) }
     {

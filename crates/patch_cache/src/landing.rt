@@ -4,7 +4,7 @@ ghost use Rattle.patch_model.specs.Execution.{Execution};
 ghost use Rattle.patch_device.specs.SameDevice.{IsSameDevice};
 ghost use Rattle.patch_device.specs.Device.{IsOldOrNew};
 ghost use Rattle.patch_cache.specs.Running.{Runs, RunsOn, held_by};
-ghost use Rattle.patch_cache.specs.Waves.{is_send, steps_since, Continues, HasRisenBy, HasGivenUp, HasGoneOn, KeepsDisk, IsHeldFirst, IsTriedSafely};
+ghost use Rattle.patch_cache.specs.Waves.{is_send, steps_since, Continues, HasRisenBy, HasGivenUp, HasGoneOn, KeepsDisk, EndsFirst, EndsOne, IsHeldFirst, IsTriedSafely};
 
 use crate::caches::Cache;
 use crate::flights::{Flight, Flights};
@@ -59,6 +59,7 @@ impl<A: Allocator + Copy> Cache<A> {
         ensures cause { (run : Execution) → RunsOn D.Device self.old flights.old device.old run
             → OnErr result (HasGivenUp (D.fault_count device.old) (D.fault_count device.new)) }
         ensures tries { D.is_honest device.old → length (D.had device.new) ≤ length (D.had device.old) + TRIES }
+        ensures first { (run : Execution) → Runs self.old flights.old run → OnOk result (EndsFirst flights.old self.old self.new) }
         ensures landed { OnOk result (length (held_by flights.new) + 1 ≡ length (held_by flights.old)) }
         ensures refused { OnErr result (self.new ≡ self.old) }
         ensures held { OnErr result (held_by flights.new ≡ held_by flights.old) }
@@ -101,6 +102,7 @@ impl<A: Allocator + Copy> Cache<A> {
         ensures device { IsSameDevice D.Device device.old device.new }
         ensures cause { (run : Execution) → RunsOn D.Device self.old flights.old device.old run
             → OnErr result (HasGivenUp (D.fault_count device.old) (D.fault_count device.new)) }
+        ensures one { (run : Execution) → Runs self.old flights.old run → OnOk result (EndsOne flights.old self.old self.new) }
         ensures landed { OnOk result (held_by flights.new ≡ []) }
         ensures block { IfErr result (λ refusal. IsHeldFirst refusal.0 flights.new) }
     {

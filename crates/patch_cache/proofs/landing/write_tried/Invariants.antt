@@ -1,4 +1,4 @@
-use Rattle.std.proofs.Common.{◌≡◌, ◌+◌, ◌<◌, ◌≤◌, length}
+use Rattle.std.proofs.Common.{◌+◌, ◌<◌, ◌≤◌, length}
 use Rattle.patch_device.specs.Device.{IsOldOrNew}
 use Rattle.patch_device.specs.SameDevice.{IsSameDevice}
 use Rattle.patch_cache.specs.Waves.{HasRisenBy, IsTriedSafely}

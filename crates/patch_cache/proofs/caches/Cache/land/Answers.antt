@@ -1,6 +1,7 @@
-use Rattle.std.proofs.Common.{[], refl, ◌∙◌, arith}
+use Rattle.std.proofs.Common.{[], inl, refl, sym, ◌∙◌, arith}
+use Rattle.std.proofs.lemmas.List.{nil_from_length}
 use Rattle.patch_device.specs.SameDevice.{same_still, same_both}
-use Rattle.patch_cache.proofs.Waving.{none_added, no_sends, continues, continues_both, gone_still, kept_unmoved, went_by, went_both, keeps_by, keeps_both, sends_since}
+use Rattle.patch_cache.proofs.Waving.{none_added, since_is, no_sends, continues, continues_both, gone_still, kept_unmoved, went_by, went_both, keeps_by, keeps_both, sends_since, one_ended, one_at_last, is_same}
 use Rattle.patch_cache.proofs.caches.Cache.land.Goals as goal
 
 pub loop-self-init : goal.loop-self-init
@@ -11,6 +12,7 @@ loop-self-init g c =
       ran = λ run runs. went_by run old old [] c.args.flights.now none (gone_still run old c.args.flights.now runs);
       trace = continues old old [] none;
       ends = no_sends old old [] none refl;
+      one = λ run runs flight one. inl (one, since_is old old [] none);
       disk = λ honest run runs. keeps_by run old old [] _ _ _ _ none (kept_unmoved run _ _);
       same = same_still g.D.Device c.args.device.now;
     }
@@ -26,6 +28,9 @@ loop-self-preserved g c =
       ran = λ run runs. let first = before.ran run runs in went_both run old mid next _ _ before.trace told.trace first (told.ran _ first.runs);
       trace = continues_both old mid next before.trace told.trace;
       ends = let both = sends_since old mid next before.trace told.trace in let a = before.ends in let b = told.ends in omega (arith, both, a, b);
+      one = λ run runs.
+          let first = before.ran run runs in
+          one_ended c.args.flights.now c.loop-self.flights c.land_first.new.flights old mid next before.trace c.in_ok-land_first.ensures.landed (before.one run runs) (c.in_ok-land_first.ensures.first _ first.runs);
       disk = λ honest. keeps_both c.trails_join.ensures old mid next c.args.flights.now c.loop-self.flights _ _ _ _ _ _ before.trace told.trace before.ran (before.disk honest) (told.disk (before.same.honesty.0 honest));
       same = same_both g.D.Device c.args.device.now c.loop-self.device c.land_first.new.device before.same told.device;
     }
@@ -53,3 +58,11 @@ returns-in_err-land_first-clause-disk g c honest =
     let told = c.land_first.ensures in
     keeps_both c.trails_join.ensures c.args.self.now c.loop-self.self c.land_first.new.self c.args.flights.now c.loop-self.flights _ _ _ _ _ _ before.trace told.trace before.ran (before.disk honest)
     (told.disk (before.same.honesty.0 honest))
+
+-- all are completed
+pub returns-clause-one : goal.returns-clause-one
+returns-clause-one g c run runs =
+    let held = c.loop-self.flights.held in
+    let none = is_same _ 0 (sym c.is_empty.ensures ∙ c.loop-self-test.false) in
+    let long = held.ok.0 in
+    one_at_last c.args.flights.now c.loop-self.flights c.args.self.now c.loop-self.self (nil_from_length held.items (omega (arith, none, long))) (c.loop-self.invariant.one run runs)

@@ -6,7 +6,7 @@ use Rattle.patch_cache.specs.Meaning.{Represents}
 use Rattle.patch_cache.specs.Flights.{AreFlightsOf}
 use Rattle.patch_cache.proofs.Answering.{on_err, on_ok}
 use Rattle.patch_cache.proofs.Holding.{held_complete}
-use Rattle.patch_cache.proofs.Waving.{none_added, no_sends, continues, went_by, keeps_by, first_stands, first_same, its_flight, gone_still, gone_complete, kept_still, completed, fewer_landed, images_either, images_landed}
+use Rattle.patch_cache.proofs.Waving.{none_added, no_sends, continues, went_by, keeps_by, first_stands, first_same, first_held, its_flight, gone_still, gone_complete, kept_still, completed, fewer_landed, images_either, images_landed}
 use Rattle.patch_cache.proofs.caches.Cache.land_first.Goals as goal
 
 -- the device refused the write
@@ -76,7 +76,18 @@ returns-in-Ok-clause-disk g c honest run runs =
       images = λ images. images_landed c.steps_extend.ensures.state c.images_stay.ensures run block (device.contents c.args.device.now) (device.contents c.write_tried.new.device) written images;
     })
 
+pub returns-in-Ok-clause-first : goal.returns-in-Ok-clause-first
+returns-in-Ok-clause-first g c run runs flight stands =
+    c.in-Ok.ensures.trace ∙ ap (λ b. c.args.self.now.trace ++ the.Complete b ∷ [])
+    (c.landed-landed.ensures.block ∙ ap (λ f. f.block) (first_held c.args.flights.now.held.items c.swap_remove.result flight c.swap_remove.ensures.value stands))
+
 -- the write isn't a stranger's
+pub returns-clause-first : goal.returns-clause-first
+returns-clause-first g c run runs flight stands =
+    let held = c.swap_remove.result in
+    let s = first_stands c.flights_are_single.ensures.holds c.patches_are_placed.ensures.known run c.args.flights.now.held.items held runs.cache_is.legal runs.flights_are c.requires.some c.swap_remove.ensures.value in
+    absurd (c.in-Err.ensures.stranger run runs.cache_is (its_flight run held c.landed-landed.result c.landed-landed.ensures.block c.landed-landed.ensures.sequence s.is.known))
+
 pub returns-clause-ran : goal.returns-clause-ran
 returns-clause-ran g c run runs =
     let flight = c.swap_remove.result in

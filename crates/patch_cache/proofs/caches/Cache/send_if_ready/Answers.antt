@@ -23,3 +23,11 @@ returns-in-Ok-clause-sent g c = λ run runs.
             runs.cache_is.legal startable.1.0 done.1.0 runs.flights_are);
       },
     )
+
+pub returns-in-Ok-clause-more : goal.returns-in-Ok-clause-more
+returns-in-Ok-clause-more g c = λ run runs.
+    let flight = c.in-Ok.flight in
+    let before : Represents c.why_not_sent.new.self run = subst (λ (x : Contents). Represents x run) (sym c.why_not_sent.ensures.same) runs.cache_is in
+    let begun = (c.in-Ok.ensures.sent run before).1.0 in
+    let held : c.push_reserved.new.self.items ≡ c.args.flights.now.held.items ++ flight ∷ [] = c.push_reserved.ensures.items ∙ ap (λ xs. xs ++ flight ∷ []) c.reserve.ensures.items in
+    (flight, begun.block_is, held)

@@ -6,7 +6,7 @@ use Rattle.patch_cache.specs.Contents.{Contents}
 use Rattle.patch_cache.specs.Running.{Runs}
 use Rattle.patch_cache.specs.Waves.{IsFlushed}
 use Rattle.patch_cache.proofs.Waving.{none_added, since_is, continues, runs_same, gone_still, kept_unmoved, went_by, went_both, keeps_by, keeps_both}
-use Rattle.patch_cache.proofs.Passing.{begun_by, begun_gone, begun_kept, flushed, flushed_still}
+use Rattle.patch_cache.proofs.Passing.{sent_still, one_written, begun_by, begun_gone, begun_kept, flushed, flushed_still}
 use Rattle.patch_cache.proofs.caches.Cache.write_next.Goals as goal
 
 -- no write can begin
@@ -103,3 +103,18 @@ returns-clause-disk g c honest =
     begun_kept c.steps_extend.ensures.state c.images_stay.ensures c.disks_stay.ensures run block old still mid sent.field-0
     c.args.flights.now c.send_if_ready.new.flights (device.had at) (device.contents at) c.next_ready.ensures.same c.if-not-branch.false sent.ensures.trace (sent.ensures.sent run) runs)
     (c.land.ensures.disk honest)
+
+pub returns-clause-wrote : goal.returns-clause-wrote
+returns-clause-wrote g c run runs empty =
+    let old = c.args.self.now in
+    let still = c.next_ready.new.self in
+    let mid = c.send_if_ready.new.self in
+    let block = c.in-Some.block in
+    let sent = c.in_ok-send_if_ready in
+    let begun = sent_still run block old still mid sent.field-0 c.args.flights.now c.send_if_ready.new.flights c.next_ready.ensures.same c.if-not-branch.false (sent.ensures.sent run) runs in
+    let more = sent.ensures.more run (subst (λ (x : Contents). Runs x c.args.flights.now run) (sym c.next_ready.ensures.same) runs) in (
+      block,
+      c.in-Some.ensures.answer run runs.cache_is,
+      one_written block sent.field-0 old still mid c.land.new.self c.args.flights.now c.send_if_ready.new.flights c.next_ready.ensures.same c.if-not-branch.false sent.ensures.trace empty more
+          c.land.ensures.trace (c.in_ok-land.ensures.one _ begun.1),
+    )
