@@ -103,6 +103,10 @@ begun_kept extend stay disks run block old still now sent flights held had conte
     let told = sent_still run block old still now sent flights held same is one runs in
     keeps_by run old now (Send block ∷ []) had had contents contents (begun_by old still now block sent same is added) (one_kept extend stay disks run block had contents runs.cache_is.legal told.1.cache_is.legal)
 
+pub begun_few : (block : ℕ) (sent : Bool) → count_by is_send (begun block sent) ≤ 1
+begun_few block true = omega arith
+begun_few block false = omega arith
+
 -- where none was held, and the one that was begun is completed
 pub one_written : {A : Type 0} (block : ℕ) (sent : Bool) (old still mid now : Contents) (flights held : Flights A) → still ≡ old → sent ≡ true → mid.trace ≡ still.trace ++ begun block sent → held_by flights ≡ []
     → HoldsBegun block sent flights held → Continues mid now → EndsOne held mid now → steps_since old now ≡ Send block ∷ Complete block ∷ []

@@ -1,5 +1,5 @@
 -- Stretches of writes, one after another.
-use Rattle.std.proofs.Common.{◌≡◌, ◌≢◌, ℕ, zero, suc, Bool, true, false, ◌+◌, ◌<◌, ◌≤◌, inl, inr, Result, Ok, Err, OnOk, OnErr, ◌∙◌, Some, List, [], ◌∷◌, ◌++◌, length, map, filter, drop, refl, sym, ap, subst, arith, append_assoc, length-append, get_or, set, slice_set}
+use Rattle.std.proofs.Common.{◌≡◌, ◌≢◌, ℕ, zero, suc, Bool, true, false, ◌+◌, ◌*◌, ◌<◌, ◌≤◌, inl, inr, Result, Ok, Err, OnOk, OnErr, ◌∙◌, Some, List, [], ◌∷◌, ◌++◌, length, map, filter, drop, refl, sym, ap, subst, arith, append_assoc, length-append, get_or, set, slice_set}
 use Rattle.std.specs.Prelude.{◌==◌, ◌&&◌, ◌||◌, ◌⊎◌, not, is_ok, count_by, slice_index_or, slice_get, IsTrue, Contains}
 use Rattle.std.specs.List.{list_any}
 use Rattle.std.proofs.Math.Seq.{drop-append_seam}
@@ -21,6 +21,7 @@ use Rattle.patch_cache.specs.Contents.{Contents}
 use Rattle.patch_cache.specs.Meaning.{Represents}
 use Rattle.patch_cache.specs.Running.{Runs, IsCrashSafe, held_by}
 use Rattle.patch_cache.specs.Waves.{is_send, is_write, steps_since, Continues, classes_in_memory, HasRisenBy, HoldImages, HasGoneOn, HasKept, KeepsDisk, EndsFirst, EndsOne}
+use Rattle.patch_cache.specs.declared.landing.TheConstants.{TRIES}
 use Rattle.patch_cache.specs.declared.flights.Flights.{Flights}
 use Rattle.patch_cache.proofs.Crashing.{TrailsJoin, ImagesLand, WritesEnd, joined, longer, unmoved, write_refused}
 use Rattle.patch_cache.proofs.Holding.{StatesExtend, ImagesStay, held_flies, flying_known}
@@ -384,6 +385,23 @@ one_at_last flights after old now empty so_far flight one = elim (so_far flight 
   | inl still ↦ let no : 1 ≡ 0 = ap length (sym still.0 ∙ empty) in absurd (omega (arith, no))
   | inr done ↦ done.1
 ]
+
+-- How often they were tried.
+
+pub some_held : (n : ℕ) → (n == 0) ≡ false → 0 < n
+some_held n e = grind (arith, nat_tests)
+
+-- one flight less that is held
+pub tries_landed : (bound had had_now held held_now : ℕ) → had + TRIES * held ≤ bound → had_now ≤ had + TRIES → held_now + 1 ≡ held → had_now + TRIES * held_now ≤ bound
+tries_landed bound had had_now held held_now so_far one fewer = omega (arith, so_far, one, fewer)
+
+-- or it is given up
+pub tries_refused : (bound had had_now held : ℕ) → had + TRIES * held ≤ bound → had_now ≤ had + TRIES → 0 < held → had_now ≤ bound
+tries_refused bound had had_now held so_far one some = omega (arith, so_far, one, some)
+
+-- those of one write that was begun, behind those that were held
+pub tries_begun : (had had_now held held_now begun : ℕ) → had_now ≤ had + TRIES * held_now → held_now ≡ held + begun → begun ≤ 1 → had_now ≤ had + TRIES * (held + 1)
+tries_begun had had_now held held_now begun told count few = omega (arith, told, count, few)
 
 -- what is left of a flight is of its write
 pub its_flight : {A : Type 0} (run : Execution) (flight : Flight A) (landed : Landed) → landed.block ≡ flight.block → landed.sequence ≡ flight.sequence → Contains (state_of run).flights (flight.block, flight.sequence)

@@ -1,10 +1,11 @@
 //! How all that is ready is written: each write is begun, written out and completed.
-ghost use Rattle.std.specs.Prelude.{◌≡◌, ◌≤◌, ◌↔◌, ◌++◌, ℕ, List, [], false, None, length, IfOk, OnOk, OnErr, MatchResult};
+ghost use Rattle.std.specs.Prelude.{◌≡◌, ◌+◌, ◌*◌, ◌≤◌, ◌↔◌, ◌++◌, ℕ, List, [], false, None, length, count_by, IfOk, OnOk, OnErr, MatchResult};
 ghost use Rattle.patch_model.specs.Execution.{Execution, followed_by};
 ghost use Rattle.patch_model.specs.Refusing.{why_not_sent};
 ghost use Rattle.patch_device.specs.SameDevice.{IsSameDevice};
+ghost use Rattle.patch_cache.specs.declared.landing.TheConstants.{TRIES};
 ghost use Rattle.patch_cache.specs.Running.{Runs, RunsOn, held_by};
-ghost use Rattle.patch_cache.specs.Waves.{steps_since, Continues, HasGoneOn, HasKept, KeepsDisk, RisesIfGivenUp, IsHeldIfGivenUp, begun, IsSentOr, HoldsBegun, IsPass, IsFlushed, HasWrittenOne};
+ghost use Rattle.patch_cache.specs.Waves.{is_send, steps_since, Continues, HasGoneOn, HasKept, KeepsDisk, RisesIfGivenUp, IsHeldIfGivenUp, begun, IsSentOr, HoldsBegun, IsPass, IsFlushed, HasWrittenOne};
 
 use crate::caches::Cache;
 use crate::flights::Flights;
@@ -27,6 +28,7 @@ impl<A: Allocator + Copy> Cache<A> {
         ensures refused { OnErr result (self.new ≡ self.old) }
         ensures more { (run : Execution) → Runs self.old flights.old run
             → IfOk result (λ sent. HoldsBegun block sent flights.old flights.new) }
+        ensures count { IfOk result (λ sent. length (held_by flights.new) ≡ length (held_by flights.old) + count_by is_send (begun block sent)) }
         ensures kept { IfOk result (λ sent. sent ≡ false → held_by flights.new ≡ held_by flights.old) }
         ensures held { OnErr result (held_by flights.new ≡ held_by flights.old) }
     {
@@ -56,6 +58,7 @@ impl<A: Allocator + Copy> Cache<A> {
             → KeepsDisk self.old self.new flights.old had had contents contents }
         ensures pass { (run : Execution) → Runs self.old flights.old run
             → IfOk result (λ sent. IsPass run sent (steps_since self.old self.new)) }
+        ensures count { OnOk result (length (held_by flights.new) ≡ length (held_by flights.old) + count_by is_send (steps_since self.old self.new)) }
         ensures kept { IfOk result (λ sent. sent ≡ false → held_by flights.new ≡ held_by flights.old) }
     {
         model_laws::steps_extend();
@@ -88,6 +91,8 @@ impl<A: Allocator + Copy> Cache<A> {
             → KeepsDisk self.old self.new flights.old (D.had device.old) (D.had device.new) (D.contents device.old) (D.contents device.new) }
         ensures wrote { (run : Execution) → Runs self.old flights.old run → held_by flights.old ≡ []
             → IfOk result (λ wrote. HasWrittenOne run wrote (steps_since self.old self.new)) }
+        ensures tries { D.is_honest device.old
+            → length (D.had device.new) ≤ length (D.had device.old) + TRIES * (length (held_by flights.old) + 1) }
         ensures gave_up { (run : Execution) → RunsOn D.Device self.old flights.old device.old run
             → RisesIfGivenUp result (D.fault_count device.old) (D.fault_count device.new) }
         ensures held { IsHeldIfGivenUp result flights.new }
@@ -128,6 +133,8 @@ impl<A: Allocator + Copy> Cache<A> {
             → KeepsDisk self.old self.new flights.old (D.had device.old) (D.had device.new) (D.contents device.old) (D.contents device.new) }
         ensures flushed { (run : Execution) → Runs self.old flights.old run
             → OnOk result (IsFlushed (followed_by run (steps_since self.old self.new))) }
+        ensures tries { D.is_honest device.old
+            → length (D.had device.new) ≤ length (D.had device.old) + TRIES * (length (held_by flights.old) + count_by is_send (steps_since self.old self.new)) }
         ensures gave_up { (run : Execution) → RunsOn D.Device self.old flights.old device.old run
             → RisesIfGivenUp result (D.fault_count device.old) (D.fault_count device.new) }
         ensures held { IsHeldIfGivenUp result flights.new }

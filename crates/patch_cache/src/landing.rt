@@ -1,5 +1,5 @@
 //! How the flights that are held are written out and completed.
-ghost use Rattle.std.specs.Prelude.{◌≡◌, ◌+◌, ◌<◌, ◌≤◌, ◌↔◌, [], length, count_by, slice_set, IfErr, OnOk, OnErr};
+ghost use Rattle.std.specs.Prelude.{◌≡◌, ◌+◌, ◌*◌, ◌<◌, ◌≤◌, ◌↔◌, [], length, count_by, slice_set, IfErr, OnOk, OnErr};
 ghost use Rattle.patch_model.specs.Execution.{Execution};
 ghost use Rattle.patch_device.specs.SameDevice.{IsSameDevice};
 ghost use Rattle.patch_device.specs.Device.{IsOldOrNew};
@@ -102,6 +102,8 @@ impl<A: Allocator + Copy> Cache<A> {
         ensures device { IsSameDevice D.Device device.old device.new }
         ensures cause { (run : Execution) → RunsOn D.Device self.old flights.old device.old run
             → OnErr result (HasGivenUp (D.fault_count device.old) (D.fault_count device.new)) }
+        ensures tries { D.is_honest device.old
+            → length (D.had device.new) ≤ length (D.had device.old) + TRIES * length (held_by flights.old) }
         ensures one { (run : Execution) → Runs self.old flights.old run → OnOk result (EndsOne flights.old self.old self.new) }
         ensures landed { OnOk result (held_by flights.new ≡ []) }
         ensures block { IfErr result (λ refusal. IsHeldFirst refusal.0 flights.new) }

@@ -1,4 +1,4 @@
-use Rattle.std.proofs.Common.{◌∙◌, sym, subst, arith}
+use Rattle.std.proofs.Common.{◌∙◌, length, sym, ap, subst, arith}
 use Rattle.patch_model.specs.Execution.{Execution, followed_by}
 use Rattle.patch_model.specs.State.{entries_of}
 use Rattle.patch_device.specs.SameDevice.{same_both}
@@ -7,6 +7,19 @@ use Rattle.patch_cache.specs.Waves.{steps_since, HasGoneOn, IsFlushed}
 use Rattle.patch_cache.proofs.Waving.{continues_both, since_both, went_both, keeps_both, sends_since}
 use Rattle.patch_cache.proofs.Passing.{passed_none, passed_some, flushed_after, few_classes}
 use Rattle.patch_cache.proofs.caches.Cache.flush.Goals as goal
+
+pub loop-init : goal.loop-init
+loop-init g c =
+    let told = c.land.ensures in
+    record {
+      ran = told.ran;
+      waves = λ run runs. omega arith;
+      trace = told.trace;
+      disk = told.disk;
+      tries = λ honest. let tried = told.tries honest in let ends = told.ends in omega (arith, tried, ends);
+      landed = c.in_ok-land.ensures.landed;
+      same = told.device;
+    }
 
 -- a wave can't begin
 pub returns-in_err-send_all-clause-ran : goal.returns-in_err-send_all-clause-ran
@@ -95,6 +108,14 @@ loop-preserved g c =
           (keeps_both c.trails_join.ensures old mid sent c.args.flights.now c.loop.flights _ _ _ _ _ _ before.trace wave.trace before.ran (before.disk honest)
           (wave.disk (device.had c.loop.device) (device.contents c.loop.device)))
           (told.disk (before.same.honesty.0 honest));
+      tries = λ honest.
+          let so_far = before.tries honest in
+          let wave_tried = told.tries (before.same.honesty.0 honest) in
+          let held = wave.count in
+          let none = ap length before.landed in
+          let sends = sends_since old mid sent before.trace wave.trace in
+          let lands = sends_since old sent now trace told.trace in
+          let ends = told.ends in omega (arith, so_far, wave_tried, held, none, sends, lands, ends);
       landed = c.in_ok-land-2.ensures.landed;
       same = same_both g.D.Device c.args.device.now c.loop.device c.land-in-loop.new.device before.same told.device;
     }
@@ -109,3 +130,35 @@ returns-clause-flushed g c run runs =
     let turns = c.loop.invariant.waves run runs in
     let past = c.loop-test.false in
     let wide = c.from-turns.ensures in absurd (omega (arith, live, some, sends, turns, past, wide))
+
+-- how often
+pub returns-in_err-land-clause-tries : goal.returns-in_err-land-clause-tries
+returns-in_err-land-clause-tries g c honest = let told = c.land.ensures.tries honest in omega (arith, told)
+
+pub returns-in_err-send_all-clause-tries : goal.returns-in_err-send_all-clause-tries
+returns-in_err-send_all-clause-tries g c honest =
+    let before = c.loop.invariant in
+    let so_far = before.tries honest in
+    let sends = sends_since c.args.self.now c.loop.self c.send_all.new.self before.trace c.send_all.ensures.trace in omega (arith, so_far, sends)
+
+pub returns-then-not-branch-clause-tries : goal.returns-then-not-branch-clause-tries
+returns-then-not-branch-clause-tries g c honest =
+    let before = c.loop.invariant in
+    let so_far = before.tries honest in
+    let sends = sends_since c.args.self.now c.loop.self c.send_all.new.self before.trace c.send_all.ensures.trace in omega (arith, so_far, sends)
+
+pub returns-in_err-land-2-clause-tries : goal.returns-in_err-land-2-clause-tries
+returns-in_err-land-2-clause-tries g c honest =
+    let old = c.args.self.now in
+    let mid = c.loop.self in
+    let sent = c.send_all.new.self in
+    let before = c.loop.invariant in
+    let wave = c.in_ok-send_all.ensures in
+    let told = c.land-in-loop.ensures in
+    let so_far = before.tries honest in
+    let wave_tried = told.tries (before.same.honesty.0 honest) in
+    let held = wave.count in
+    let none = ap length before.landed in
+    let sends = sends_since old mid sent before.trace wave.trace in
+    let lands = sends_since old sent c.land-in-loop.new.self (continues_both old mid sent before.trace wave.trace) told.trace in
+    let ends = told.ends in omega (arith, so_far, wave_tried, held, none, sends, lands, ends)

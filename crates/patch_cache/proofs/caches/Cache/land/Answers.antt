@@ -1,7 +1,7 @@
 use Rattle.std.proofs.Common.{[], inl, refl, sym, ◌∙◌, arith}
 use Rattle.std.proofs.lemmas.List.{nil_from_length}
 use Rattle.patch_device.specs.SameDevice.{same_still, same_both}
-use Rattle.patch_cache.proofs.Waving.{none_added, since_is, no_sends, continues, continues_both, gone_still, kept_unmoved, went_by, went_both, keeps_by, keeps_both, sends_since, one_ended, one_at_last, is_same}
+use Rattle.patch_cache.proofs.Waving.{none_added, since_is, no_sends, continues, continues_both, gone_still, kept_unmoved, went_by, went_both, keeps_by, keeps_both, sends_since, one_ended, one_at_last, is_same, some_held, tries_landed, tries_refused}
 use Rattle.patch_cache.proofs.caches.Cache.land.Goals as goal
 
 pub loop-self-init : goal.loop-self-init
@@ -13,6 +13,7 @@ loop-self-init g c =
       trace = continues old old [] none;
       ends = no_sends old old [] none refl;
       one = λ run runs flight one. inl (one, since_is old old [] none);
+      tries = λ honest. omega arith;
       disk = λ honest run runs. keeps_by run old old [] _ _ _ _ none (kept_unmoved run _ _);
       same = same_still g.D.Device c.args.device.now;
     }
@@ -31,6 +32,7 @@ loop-self-preserved g c =
       one = λ run runs.
           let first = before.ran run runs in
           one_ended c.args.flights.now c.loop-self.flights c.land_first.new.flights old mid next before.trace c.in_ok-land_first.ensures.landed (before.one run runs) (c.in_ok-land_first.ensures.first _ first.runs);
+      tries = λ honest. tries_landed _ _ _ _ _ (before.tries honest) (told.tries (before.same.honesty.0 honest)) c.in_ok-land_first.ensures.landed;
       disk = λ honest. keeps_both c.trails_join.ensures old mid next c.args.flights.now c.loop-self.flights _ _ _ _ _ _ before.trace told.trace before.ran (before.disk honest) (told.disk (before.same.honesty.0 honest));
       same = same_both g.D.Device c.args.device.now c.loop-self.device c.land_first.new.device before.same told.device;
     }
@@ -59,7 +61,17 @@ returns-in_err-land_first-clause-disk g c honest =
     keeps_both c.trails_join.ensures c.args.self.now c.loop-self.self c.land_first.new.self c.args.flights.now c.loop-self.flights _ _ _ _ _ _ before.trace told.trace before.ran (before.disk honest)
     (told.disk (before.same.honesty.0 honest))
 
+pub returns-in_err-land_first-clause-tries : goal.returns-in_err-land_first-clause-tries
+returns-in_err-land_first-clause-tries g c honest =
+    let before = c.loop-self.invariant in
+    let some = some_held _ (sym c.is_empty.ensures ∙ c.loop-self-test.true) in
+    let long = c.loop-self.flights.held.ok.0 in
+    tries_refused _ _ _ _ (before.tries honest) (c.land_first.ensures.tries (before.same.honesty.0 honest)) (omega (arith, some, long))
+
 -- all are completed
+pub returns-clause-tries : goal.returns-clause-tries
+returns-clause-tries g c honest = let so_far = c.loop-self.invariant.tries honest in omega (arith, so_far)
+
 pub returns-clause-one : goal.returns-clause-one
 returns-clause-one g c run runs =
     let held = c.loop-self.flights.held in

@@ -1,8 +1,10 @@
-use Rattle.std.proofs.Common.{◌≡◌, ◌||◌, ◌+◌, [], false, refl, sym, subst, ◌∙◌, arith}
+use Rattle.std.proofs.Common.{◌≡◌, ◌||◌, ◌+◌, [], false, refl, sym, ap, subst, ◌∙◌, arith}
+use Rattle.std.specs.Prelude.{count_by}
 use Rattle.patch_model.specs.State.{entries_of}
 use Rattle.patch_cache.specs.Contents.{Contents}
-use Rattle.patch_cache.specs.Waves.{steps_since, Continues, HasKept, begun}
-use Rattle.patch_cache.proofs.Waving.{none_added, since_is, since_more, continues, continues_both, gone_same}
+use Rattle.patch_cache.specs.Waves.{is_send, steps_since, Continues, HasKept, begun}
+use Rattle.patch_cache.proofs.Waving.{none_added, no_sends, since_is, since_more, continues, continues_both, gone_same}
+use Rattle.patch_cache.proofs.Counting.{count-append}
 use Rattle.patch_cache.proofs.Passing.{Passed, pass_begun, pass_more, pass_ended, neither}
 use Rattle.patch_cache.proofs.caches.Cache.send_all.Goals.{then-sent, else-sent}
 use Rattle.patch_cache.proofs.caches.Cache.send_all.Goals as goal
@@ -14,6 +16,7 @@ loop-at-init g c =
     record {
       so_far = λ run runs. subst (λ s. Passed run 0 false s old c.args.flights.now) (sym (since_is old old [] none)) (pass_begun run old c.args.flights.now runs);
       trace = continues old old [] none;
+      count = let nothing = no_sends old old [] none refl in omega (arith, nothing);
       kept = λ e. refl;
     }
 
@@ -37,6 +40,10 @@ loop-at-preserved g c =
           (pass_more c.trails_join.ensures c.steps_extend.ensures.state c.images_stay.ensures c.disks_stay.ensures c.executions_are_orderly.ensures.patches (λ run block. c.ready_is_largest.ensures.largest (entries_of run) block (c.ready_is_largest.ensures.made run))
           c.near_classes_merge.ensures.sent run c.loop-at.at c.loop-at.sent c.in_ok-more.more (steps_since old mid) mid next c.loop-at.flights c.send_if_ready.new.flights first (told.sent _ first.gone.runs)));
       trace = continues_both old mid next before.trace (continues mid next more told.trace);
+      count =
+          let so_far = before.count in
+          let one = told.count in
+          let both = ap (λ s. count_by is_send s) (since_more old mid next more before.trace told.trace) ∙ count-append is_send (steps_since old mid) more in omega (arith, so_far, one, both);
       kept = λ e.
           let none = neither c.loop-at.sent c.in_ok-more.more (sym is ∙ e) in
           told.kept none.1 ∙ before.kept none.0;

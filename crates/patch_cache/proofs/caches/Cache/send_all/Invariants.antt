@@ -1,7 +1,8 @@
-use Rattle.std.proofs.Common.{◌≡◌, false}
+use Rattle.std.proofs.Common.{◌≡◌, ◌+◌, false, length}
+use Rattle.std.specs.Prelude.{count_by}
 use Rattle.patch_model.specs.Execution.{Execution}
 use Rattle.patch_cache.specs.Running.{Runs, held_by}
-use Rattle.patch_cache.specs.Waves.{steps_since, Continues}
+use Rattle.patch_cache.specs.Waves.{is_send, steps_since, Continues}
 use Rattle.patch_cache.proofs.Passing.{Passed}
 use Rattle.patch_cache.proofs.caches.Cache.send_all.Given as goal
 
@@ -10,5 +11,6 @@ abbrev pub invariant-loop-at : goal.invariant-loop-at
 invariant-loop-at g l = record {
   so_far : (run : Execution) → Runs l.fn.self l.fn.flights run → Passed run l.at l.sent (steps_since l.fn.self l.self) l.self l.flights;
   trace : Continues l.fn.self l.self;
+  count : length (held_by l.flights) ≡ length (held_by l.fn.flights) + count_by is_send (steps_since l.fn.self l.self);
   kept : l.sent ≡ false → held_by l.flights ≡ held_by l.fn.flights;
 }

@@ -1,12 +1,12 @@
-use Rattle.std.proofs.Common.{◌≡◌, ◌∷◌, [], sym, subst, ◌∙◌}
+use Rattle.std.proofs.Common.{◌≡◌, ◌∷◌, [], sym, subst, ◌∙◌, arith}
 use Rattle.patch_model.specs.State.{entries_of}
 use Rattle.patch_model.specs.Execution.{followed_by}
 use Rattle.patch_model.specs.Step.{Send}
 use Rattle.patch_cache.specs.Contents.{Contents}
 use Rattle.patch_cache.specs.Running.{Runs}
 use Rattle.patch_cache.specs.Waves.{IsFlushed}
-use Rattle.patch_cache.proofs.Waving.{none_added, since_is, continues, runs_same, gone_still, kept_unmoved, went_by, went_both, keeps_by, keeps_both}
-use Rattle.patch_cache.proofs.Passing.{sent_still, one_written, begun_by, begun_gone, begun_kept, flushed, flushed_still}
+use Rattle.patch_cache.proofs.Waving.{none_added, since_is, continues, runs_same, gone_still, kept_unmoved, went_by, went_both, keeps_by, keeps_both, tries_begun}
+use Rattle.patch_cache.proofs.Passing.{sent_still, one_written, begun_by, begun_few, begun_gone, begun_kept, flushed, flushed_still}
 use Rattle.patch_cache.proofs.caches.Cache.write_next.Goals as goal
 
 -- no write can begin
@@ -118,3 +118,18 @@ returns-clause-wrote g c run runs empty =
       one_written block sent.field-0 old still mid c.land.new.self c.args.flights.now c.send_if_ready.new.flights c.next_ready.ensures.same c.if-not-branch.false sent.ensures.trace empty more
           c.land.ensures.trace (c.in_ok-land.ensures.one _ begun.1),
     )
+
+-- how often
+pub returns-in_default-clause-tries : goal.returns-in_default-clause-tries
+returns-in_default-clause-tries g c honest = omega arith
+
+pub returns-in_err-send_if_ready-clause-tries : goal.returns-in_err-send_if_ready-clause-tries
+returns-in_err-send_if_ready-clause-tries g c honest = omega arith
+
+pub returns-in_err-land-clause-tries : goal.returns-in_err-land-clause-tries
+returns-in_err-land-clause-tries g c honest =
+    let sent = c.in_ok-send_if_ready in tries_begun _ _ _ _ _ (c.land.ensures.tries honest) sent.ensures.count (begun_few c.in-Some.block sent.field-0)
+
+pub returns-clause-tries : goal.returns-clause-tries
+returns-clause-tries g c honest =
+    let sent = c.in_ok-send_if_ready in tries_begun _ _ _ _ _ (c.land.ensures.tries honest) sent.ensures.count (begun_few c.in-Some.block sent.field-0)
