@@ -1,0 +1,13 @@
+pub mod Members
+pub mod Keeping
+pub mod Standing
+pub mod Asking
+pub mod Chains
+pub mod Promising
+pub mod Ranges
+pub mod Arranging
+pub mod Entering
+pub mod Pending
+pub mod Passing
+pub mod Patching
+pub mod Writing

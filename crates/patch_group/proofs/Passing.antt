@@ -1,0 +1,193 @@
+-- What the cache does, one part after another.
+use Rattle.std.proofs.Common.{◌≡◌, ℕ, ◌<◌, ◌⊎◌, ◌∙◌, inl, inr, Option, Some, None, List, [], ◌∷◌, ◌++◌, length, map, get_or, refl, sym, ap, subst, arith, append_assoc}
+use Rattle.std.proofs.lemmas.Bool.{cases_Bool}
+use Rattle.std.proofs.lemmas.List.{map-append, length-map, append-nil}
+use Rattle.patch_model.specs.Step.{Step}
+use Rattle.patch_model.specs.Execution.{Execution, followed_by}
+use Rattle.patch_model.specs.Crash.{HasTrail, MayLeave}
+use Rattle.patch_device.specs.declared.devices.Device.{Ghosts}
+use Rattle.patch_cache.specs.Contents.{Contents}
+use Rattle.patch_cache.specs.Asks.{Ask as CacheAsk, Answer as CacheAnswer, after, extended_by, step_for, step_added, steps_added, listed}
+use Rattle.patch_cache.specs.Asks as cache
+use Rattle.patch_cache.specs.Running.{IsCrashSafe, CountFaults, HaveWritten}
+use Rattle.patch_cache.specs.declared.flights.Flights.{Flights}
+use Rattle.patch_group.specs.Groups.{Groups}
+use Rattle.patch_group.specs.Asks.{Ask, Answer, Part, asked, told, after_parts, steps_of, part_of, parts, run_after, run_after_all, groups_after, groups_after_all, IsGroupAnswer, IsGroupGivenUp, AreGroupAnswers}
+use Rattle.patch_group.specs.Runs.{asks_of, group_ask_of, group_answer_of, RunsWith, HasPassed, IsGroupAnswered, HasGroupRun}
+use Rattle.patch_group.specs.declared.asks.GroupAsk.{GroupAsk as CodeAsk}
+use Rattle.patch_group.specs.declared.asks.GroupAnswer.{GroupAnswer as CodeAnswer}
+use Rattle.patch_group.proofs.Asking.{after_append}
+use Rattle.patch_group.proofs.Keeping.{get_or-map}
+
+abbrev pub TrailsJoin : Type 0
+TrailsJoin = (run : Execution) (more : List Step) (from : ℕ) (disks later : List (List (List ℕ))) (counts next : List ℕ)
+    → HasTrail run from disks counts → HasTrail (followed_by run more) (length run.steps) later next
+    → HasTrail (followed_by run more) from (disks ++ later) (counts ++ next)
+
+-- on a device that is as before, with an execution that is
+pub unmoved : (run : Execution) (had : List (List (List ℕ))) (contents : List (List ℕ)) → MayLeave run contents → IsCrashSafe run run had had contents
+unmoved run had contents left = record { disks = []; counts = []; added = sym (append-nil had); trail = omega arith; left = left }
+
+-- one call after another
+joined : TrailsJoin → (a b c : Execution) (more : List Step) (had had_between had_now : List (List (List ℕ))) (contents contents_now : List (List ℕ)) → c ≡ followed_by b more
+    → IsCrashSafe a b had had_between contents → IsCrashSafe b c had_between had_now contents_now → IsCrashSafe a c had had_now contents_now
+joined join a b c more had had_between had_now contents contents_now follows first second = record {
+  disks = first.disks ++ second.disks;
+  counts = first.counts ++ second.counts;
+  added = second.added ∙ ap (λ h. h ++ second.disks) first.added ∙ append_assoc had first.disks second.disks;
+  trail =
+      let later : HasTrail (followed_by b more) (length b.steps) second.disks second.counts = subst (λ r. HasTrail r (length b.steps) second.disks second.counts) follows second.trail in
+      subst (λ r. HasTrail r (length a.steps) (first.disks ++ second.disks) (first.counts ++ second.counts)) (sym follows)
+      (join b more (length a.steps) first.disks second.disks first.counts second.counts first.trail later);
+  left = second.left;
+}
+
+-- Steps of parts.
+
+abbrev with_steps : Execution → List Step → Execution
+with_steps run steps = record { first = run.first; steps = steps }
+
+after_is : (run : Execution) (ask : CacheAsk) (answer : CacheAnswer) → after run ask answer ≡ followed_by run (step_added ask answer)
+after_is run ask answer = elim (cases_Bool (cache.is_refused answer)) [
+  | inl t ↦ rw t (ap (λ s. with_steps run s) (sym (append-nil run.steps)))
+  | inr f ↦ rw f (stepped (step_for ask))
+]
+  where
+    stepped : (step : Option Step) → extended_by run step ≡ followed_by run (listed step)
+    stepped None = ap (λ s. with_steps run s) (sym (append-nil run.steps))
+    stepped (Some step) = refl
+
+pub parts_follow : (run : Execution) (ps : List Part) → after_parts run ps ≡ followed_by run (steps_of ps)
+parts_follow run [] = ap (λ s. with_steps run s) (sym (append-nil run.steps))
+parts_follow run (p ∷ ps) =
+    parts_follow (after run p.0 p.1) ps ∙ ap (λ r. followed_by r (steps_of ps)) (after_is run p.0 p.1)
+    ∙ ap (λ s. with_steps run s) (append_assoc run.steps (step_added p.0 p.1) (steps_of ps))
+
+pub steps_append : (ps qs : List Part) → steps_of (ps ++ qs) ≡ steps_of ps ++ steps_of qs
+steps_append [] qs = refl
+steps_append (p ∷ ps) qs = ap (λ s. step_added p.0 p.1 ++ s) (steps_append ps qs) ∙ sym (append_assoc (step_added p.0 p.1) (steps_of ps) (steps_of qs))
+
+-- Faults and writes of parts.
+
+faults_append : (ps qs : List Part) (old between new : ℕ) → CountFaults (told ps) old between → CountFaults (told qs) between new → CountFaults (told (ps ++ qs)) old new
+faults_append [] qs old between new first second = subst (λ n. CountFaults (told qs) n new) (sym first) second
+faults_append (p ∷ ps) qs old between new first second = (first.0, first.1, faults_append ps qs first.0 between new first.2 second)
+
+written_append : (run : Execution) (ps qs : List Part) (old between new : List (List ℕ)) → HaveWritten run (asked ps) (told ps) old between
+    → HaveWritten (after_parts run ps) (asked qs) (told qs) between new → HaveWritten run (asked (ps ++ qs)) (told (ps ++ qs)) old new
+written_append run [] qs old between new first second = subst (λ c. HaveWritten run (asked qs) (told qs) c new) first second
+written_append run (p ∷ ps) qs old between new first second = (first.0, first.1, written_append (after run p.0 p.1) ps qs first.0 between new first.2 second)
+
+-- Nothing, and one thing after another.
+
+pub idle : {A D : Type 0} (g : Ghosts D) (run : Execution) (contents : Contents) (flights : Flights A) (groups : Groups) (device : D) → RunsWith g contents flights groups device run
+    → HasPassed g run [] contents flights groups device device
+idle g run contents flights groups device stands = record {
+  stands = stands;
+  faults = refl;
+  written = λ honest. refl;
+  crash = λ honest left. unmoved run (g.had device) (g.contents device) left;
+}
+
+pub both : TrailsJoin → {A D : Type 0} (g : Ghosts D) (run : Execution) (ps qs : List Part) (contents next : Contents) (flights more : Flights A) (groups now : Groups) (device between after : D)
+    → (g.is_honest device → g.is_honest between)
+    → HasPassed g run ps contents flights groups device between → HasPassed g (after_parts run ps) qs next more now between after → HasPassed g run (ps ++ qs) next more now device after
+both join g run ps qs contents next flights more groups now device between after honesty first second =
+    let flat : after_parts run (ps ++ qs) ≡ after_parts (after_parts run ps) qs = after_append run ps qs in
+    record {
+      stands = subst (RunsWith g next more now after) (sym flat) second.stands;
+      faults = faults_append ps qs _ _ _ first.faults second.faults;
+      written = λ honest. written_append run ps qs _ _ _ (first.written honest) (second.written (honesty honest));
+      crash = λ honest left.
+          let one = first.crash honest left in
+          subst (λ r. IsCrashSafe run r (g.had device) (g.had after) (g.contents after)) (sym flat)
+          (joined join run (after_parts run ps) (after_parts (after_parts run ps) qs) (steps_of qs) _ _ _ _ _ (parts_follow (after_parts run ps) qs) one (second.crash (honesty honest) one.left));
+    }
+
+-- Lists of asks.
+
+pub parts_none : (gs : Groups) (asks : List Ask) → parts gs asks [] ≡ []
+parts_none gs [] = refl
+parts_none gs (a ∷ asks) = refl
+
+pub groups_none : (gs : Groups) (asks : List Ask) → groups_after_all gs asks [] ≡ gs
+groups_none gs [] = refl
+groups_none gs (a ∷ asks) = refl
+
+-- what one more answer makes
+pub record IsNext (gs : Groups) (asks : List Ask) (answers : List Answer) (ask : Ask) (answer : Answer) : Type 0 where
+  pub parts_are : parts gs asks (answers ++ answer ∷ []) ≡ parts gs asks answers ++ part_of (groups_after_all gs asks answers) ask answer
+  pub groups_are : groups_after_all gs asks (answers ++ answer ∷ []) ≡ groups_after (groups_after_all gs asks answers) ask answer
+
+next : (gs : Groups) (asks : List Ask) (answers : List Answer) (ask : Ask) (answer : Answer) → length answers < length asks → get_or asks (length answers) ask ≡ ask → IsNext gs asks answers ask answer
+next gs [] answers ask answer within at = absurd (omega (arith, within))
+next gs (a ∷ asks) [] ask answer within at = record {
+  parts_are = ap (λ ps. part_of gs a answer ++ ps) (parts_none (groups_after gs a answer) asks) ∙ append-nil (part_of gs a answer) ∙ ap (λ x. part_of gs x answer) at;
+  groups_are = groups_none (groups_after gs a answer) asks ∙ ap (λ x. groups_after gs x answer) at;
+}
+next gs (a ∷ asks) (b ∷ answers) ask answer within at =
+    let now = groups_after gs a b in
+    let rest = next now asks answers ask answer (omega (arith, within)) at in
+    record {
+      parts_are = ap (λ ps. part_of gs a b ++ ps) rest.parts_are ∙ sym (append_assoc (part_of gs a b) (parts now asks answers) (part_of (groups_after_all now asks answers) ask answer));
+      groups_are = rest.groups_are;
+    }
+
+-- the answer is right after those before it
+abbrev IsRightAfter : Execution → Groups → Ask → Answer → Type 0
+IsRightAfter run gs ask answer = IsGroupAnswer run gs ask answer ⊎ IsGroupGivenUp run gs ask answer
+
+one_right : (run : Execution) (gs : Groups) (asks : List Ask) (answers : List Answer) (ask : Ask) (answer : Answer) → length answers < length asks → get_or asks (length answers) ask ≡ ask
+    → AreGroupAnswers run gs asks answers → IsRightAfter (run_after_all run gs asks answers) (groups_after_all gs asks answers) ask answer → AreGroupAnswers run gs asks (answers ++ answer ∷ [])
+one_right run gs [] answers ask answer within at so_far right = absurd (omega (arith, within))
+one_right run gs (a ∷ asks) [] ask answer within at so_far right = (subst (λ x. IsRightAfter run gs x answer) (sym at) right, tt)
+one_right run gs (a ∷ asks) (b ∷ answers) ask answer within at so_far right =
+    let now = groups_after gs a b in (
+      so_far.0,
+      one_right (run_after run gs a b) now asks answers ask answer (omega (arith, within)) at so_far.1
+          (subst (λ r. IsRightAfter r (groups_after_all now asks answers) ask answer) (after_append run (part_of gs a b) (parts now asks answers)) right),
+    )
+
+there : {A : Type 0} (asks : List (CodeAsk A)) (answers : List (CodeAnswer A)) (ask : CodeAsk A) → length answers < length asks → get_or asks (length answers) ask ≡ ask
+    → get_or (asks_of asks) (length (map group_answer_of answers)) (group_ask_of ask) ≡ group_ask_of ask
+there asks answers ask within at =
+    ap (λ n. get_or (asks_of asks) n (group_ask_of ask)) (length-map answers group_answer_of) ∙ get_or-map group_ask_of asks (length answers) ask (group_ask_of ask) within ∙ ap group_ask_of at
+
+-- the same of the code's
+pub next_code : {A : Type 0} (gs : Groups) (asks : List (CodeAsk A)) (answers : List (CodeAnswer A)) (ask : CodeAsk A) (answer : CodeAnswer A) → length answers < length asks → get_or asks (length answers) ask ≡ ask
+    → IsNext gs (asks_of asks) (map group_answer_of answers) (group_ask_of ask) (group_answer_of answer)
+next_code gs asks answers ask answer within at =
+    let long : length (map group_answer_of answers) ≡ length answers = length-map answers group_answer_of in
+    let many : length (asks_of asks) ≡ length asks = length-map asks group_ask_of in
+    next gs (asks_of asks) (map group_answer_of answers) (group_ask_of ask) (group_answer_of answer) (omega (arith, within, long, many)) (there asks answers ask within at)
+
+pub begun_run : {A D : Type 0} (g : Ghosts D) (run : Execution) (gs : Groups) (asks : List Ask) (contents : Contents) (flights : Flights A) (device : D) → RunsWith g contents flights gs device run
+    → HasGroupRun g run gs asks [] contents flights gs device device
+begun_run g run gs asks contents flights device stands = record {
+  right = tt;
+  passed = subst (λ ps. HasPassed g run ps contents flights gs device device) (sym (parts_none gs asks)) (idle g run contents flights gs device stands);
+}
+
+pub stepped_run : TrailsJoin → {A D : Type 0} (g : Ghosts D) (run : Execution) (gs : Groups) (asks : List (CodeAsk A)) (answers : List (CodeAnswer A)) (ask : CodeAsk A) (answer : CodeAnswer A)
+    (contents next : Contents) (flights more : Flights A) (mid now : Groups) (device between after : D) → length answers < length asks → get_or asks (length answers) ask ≡ ask
+    → mid ≡ groups_after_all gs (asks_of asks) (map group_answer_of answers) → (g.is_honest device → g.is_honest between)
+    → HasGroupRun g run gs (asks_of asks) (map group_answer_of answers) contents flights mid device between
+    → IsGroupAnswered g (run_after_all run gs (asks_of asks) (map group_answer_of answers)) mid (group_ask_of ask) (group_answer_of answer) next more now between after
+    → HasGroupRun g run gs (asks_of asks) (map group_answer_of (answers ++ answer ∷ [])) next more now device after
+stepped_run join g run gs asks answers ask answer contents next flights more mid now device between after within at are honesty so_far one =
+    let given : List Answer = map group_answer_of answers in
+    let wanted : List Ask = asks_of asks in
+    let long : length given ≡ length answers = length-map answers group_answer_of in
+    let many : length wanted ≡ length asks = length-map asks group_ask_of in
+    let last : Execution = run_after_all run gs wanted given in
+    let is : map group_answer_of (answers ++ answer ∷ []) ≡ given ++ group_answer_of answer ∷ [] = map-append group_answer_of answers (answer ∷ []) in
+    let turns = next_code gs asks answers ask answer within at in
+    let done = both join g run (parts gs wanted given) (part_of mid (group_ask_of ask) (group_answer_of answer)) contents next flights more mid now device between after honesty so_far.passed one.passed in
+    let is_parts : parts gs wanted (map group_answer_of (answers ++ answer ∷ [])) ≡ parts gs wanted given ++ part_of mid (group_ask_of ask) (group_answer_of answer) =
+    ap (λ xs. parts gs wanted xs) is ∙ turns.parts_are ∙ ap (λ s. parts gs wanted given ++ part_of s (group_ask_of ask) (group_answer_of answer)) (sym are) in
+    record {
+      right = subst (AreGroupAnswers run gs wanted) (sym is)
+          (one_right run gs wanted given (group_ask_of ask) (group_answer_of answer) (omega (arith, within, long, many)) (there asks answers ask within at) so_far.right
+          (subst (λ s. IsRightAfter last s (group_ask_of ask) (group_answer_of answer)) are one.right));
+      passed = subst (λ ps. HasPassed g run ps next more now device after) (sym is_parts) done;
+    }

@@ -1,0 +1,183 @@
+-- What one ask leaves: a patch of a writer, an ask of the cache, and a call of groups.
+use Rattle.std.proofs.Common.{◌≡◌, ◌≢◌, ℕ, ◌+◌, ◌≤◌, ◌⊎◌, ◌∙◌, inl, inr, Bool, true, false, Some, List, [], ◌∷◌, ◌++◌, length, refl, sym, ap, subst, arith, length-append}
+use Rattle.std.specs.Prelude.{IsTrue, Contains, if◌then◌else◌}
+use Rattle.std.proofs.lemmas.List.{append-nil}
+use Rattle.patch_model.specs.declared.patches.Undo.{Undo}
+use Rattle.patch_model.specs.declared.refusals.RefusalKind.TheVariants as kind
+use Rattle.patch_model.specs.Execution.{Execution, extended}
+use Rattle.patch_model.specs.Step.{Step}
+use Rattle.patch_model.specs.Step as the
+use Rattle.patch_model.specs.State.{State, state_of, after_step, after_steps, at_first, entries_of, has_flight, flying_of, numbers_of}
+use Rattle.patch_model.specs.Orderly.{IsNumbered}
+use Rattle.patch_model.specs.Legal.{IsLegal, IsLegalStep, AreLegal}
+use Rattle.patch_model.specs.History.{history_of, image}
+use Rattle.patch_model.specs.Refusing.{bare}
+use Rattle.patch_model.specs.Crash.{MayLeave}
+use Rattle.patch_device.specs.declared.devices.Device.{Ghosts}
+use Rattle.patch_device.specs.Device.{HasRisen}
+use Rattle.patch_cache.specs.Contents.{Contents}
+use Rattle.patch_cache.specs.Asks.{Ask as CacheAsk, Answer as CacheAnswer, after}
+use Rattle.patch_cache.specs.Asks as cache
+use Rattle.patch_cache.specs.Flights.{AreFlightsOf}
+use Rattle.patch_cache.specs.Running.{Runs, IsAnswered, IsCrashSafe, HasWritten, held_by}
+use Rattle.patch_cache.specs.declared.flights.Flight.{Flight}
+use Rattle.patch_cache.specs.declared.flights.Flights.{Flights}
+use Rattle.patch_group.specs.Groups.{Groups, named}
+use Rattle.patch_group.specs.Asks.{Ask, Answer, Part, Plain, Patch, GroupMade, Done, Count, Refused, IsGroupAnswer, IsGroupGivenUp, after_parts, part_of, run_after, groups_after}
+use Rattle.patch_group.specs.Order.{AreGroupsOf}
+use Rattle.patch_group.specs.Runs.{RunsWith, IsGroupAnswered, IsPatched}
+use Rattle.patch_group.proofs.Asking.{ask_keeps, groups_plain}
+use Rattle.patch_group.proofs.Passing.{unmoved, parts_follow}
+
+abbrev pub StatesExtend : Type 0
+StatesExtend = (run : Execution) (step : Step) → state_of (extended run step) ≡ after_step (state_of run) step
+
+abbrev pub AreNumbered : Type 0
+AreNumbered = (run : Execution) → IsNumbered (entries_of run)
+
+abbrev pub DisksStay : Type 0
+DisksStay = (run : Execution) (step : Step) (disk : List (List ℕ)) → IsLegal run → IsLegalStep (length run.first) (state_of run) step → ((block : ℕ) → step ≢ the.Complete block)
+    → MayLeave run disk → MayLeave (extended run step) disk
+
+abbrev pub FlyingStays : Type 0
+FlyingStays = (run : Execution) (at start : ℕ) (bytes after : List ℕ) (undo : Undo) (block : ℕ)
+    → numbers_of (flying_of (entries_of (extended run (the.Create at start bytes after undo))) block) ≡ numbers_of (flying_of (entries_of run) block)
+
+abbrev pub ImagesStay : Type 0
+ImagesStay = (run : Execution) (step : Step) (block : ℕ) → step ≢ the.Send block → image (history_of (extended run step) block) ≡ image (history_of run block)
+
+-- the first bytes stay
+pub first_stay : (run : Execution) (ps : List Part) → (after_parts run ps).first ≡ run.first
+first_stay run ps = ap (λ r. r.first) (parts_follow run ps)
+
+-- A patch that is made.
+
+legal_last : (blocks : ℕ) (st : State) (steps : List Step) (step : Step) → AreLegal blocks st (steps ++ step ∷ []) → IsLegalStep blocks (after_steps st steps) step
+legal_last blocks st [] step h = h.0
+legal_last blocks st (s ∷ ss) step h = legal_last blocks (after_step st s) ss step h.1
+
+longer : (run : Execution) (step : Step) → length run.steps ≤ length (extended run step).steps
+longer run step = let e : length (run.steps ++ step ∷ []) ≡ length run.steps + 1 = length-append run.steps (step ∷ []) in omega (arith, e)
+
+-- the disk may be left as it is with a patch more
+made_unless : DisksStay → (run : Execution) (refused : Bool) (step : Step) (had : List (List (List ℕ))) (contents : List (List ℕ)) → ((block : ℕ) → step ≢ the.Complete block)
+    → IsLegal run → IsLegal (if refused then run else extended run step) → MayLeave run contents → IsCrashSafe run (if refused then run else extended run step) had had contents
+made_unless stay run true step had contents other legal longer_legal left = unmoved run had contents left
+made_unless stay run false step had contents other legal longer_legal left = record {
+  disks = [];
+  counts = [];
+  added = sym (append-nil had);
+  trail = longer run step;
+  left = stay run step contents legal (legal_last (length run.first) at_first run.steps step longer_legal.steps) other left;
+}
+
+-- and the held flights stay
+flights_beside : StatesExtend → FlyingStays → ImagesStay → {A : Type 0} (run : Execution) (held : List (Flight A)) (at start : ℕ) (bytes names : List ℕ) (undo : Undo) → AreFlightsOf run held
+    → AreFlightsOf (extended run (the.Create at start bytes names undo)) held
+flights_beside ext flying images run held at start bytes names undo f =
+    let step : Step = the.Create at start bytes names undo in
+    let same : (state_of (extended run step)).flights ≡ (state_of run).flights = ap (λ st. st.flights) (ext run step) in
+    record {
+      each = λ flight i. let one = f.each flight i in record {
+        known = subst (λ fs. Contains fs (flight.block, flight.sequence)) (sym same) one.known;
+        numbers_are = one.numbers_are ∙ sym (flying run at start bytes names undo flight.block);
+        image_is = one.image_is ∙ sym (images run step flight.block (λ e. absurd (cc e)));
+      };
+      all = λ block t. f.all block (subst IsTrue (ap (λ st. has_flight st block) (ext run step)) t);
+      once = f.once;
+    }
+
+-- an answer of a patch is the cache's
+pub patch_told : (run : Execution) (gs : Groups) (writer block start : ℕ) (bytes names : List ℕ) (undo : Undo) (answer : Answer)
+    → IsGroupAnswer run gs (Patch writer block start bytes names undo) answer ⊎ IsGroupGivenUp run gs (Patch writer block start bytes names undo) answer → (one : CacheAnswer) × (answer ≡ Plain one)
+patch_told run gs writer block start bytes names undo (Plain one) h = (one, refl)
+patch_told run gs writer block start bytes names undo (GroupMade group) (inl h) = absurd h
+patch_told run gs writer block start bytes names undo Done (inl h) = absurd h
+patch_told run gs writer block start bytes names undo (Count count) (inl h) = absurd h
+patch_told run gs writer block start bytes names undo (Refused cause) (inl h) = absurd h
+patch_told run gs writer block start bytes names undo (GroupMade group) (inr h) = absurd (cc h)
+patch_told run gs writer block start bytes names undo Done (inr h) = absurd (cc h)
+patch_told run gs writer block start bytes names undo (Count count) (inr h) = absurd (cc h)
+patch_told run gs writer block start bytes names undo (Refused cause) (inr h) = absurd (cc h)
+
+flights_unless : StatesExtend → FlyingStays → ImagesStay → {A : Type 0} (run : Execution) (held : List (Flight A)) (at start : ℕ) (bytes names : List ℕ) (undo : Undo) (refused : Bool) → AreFlightsOf run held
+    → AreFlightsOf (if refused then run else extended run (the.Create at start bytes names undo)) held
+flights_unless ext flying images run held at start bytes names undo true f = f
+flights_unless ext flying images run held at start bytes names undo false f = flights_beside ext flying images run held at start bytes names undo f
+
+module _ (ext : StatesExtend) (numbered : AreNumbered) where
+  -- an ask of the cache
+  pub plain : {A D : Type 0} (g : Ghosts D) (run : Execution) (gs : Groups) (ask : CacheAsk) (answer : CacheAnswer) (contents now : Contents) (flights held : Flights A) (device device_now : D)
+      → RunsWith g contents flights gs device run → IsAnswered run ask answer now held → g.block_count device_now ≡ g.block_count device → g.fault_count device ≤ g.fault_count device_now
+      → (answer ≡ cache.Refused (bare kind.Fault) → HasRisen (g.fault_count device) (g.fault_count device_now))
+      → (g.is_honest device → HasWritten run ask answer (g.contents device) (g.contents device_now))
+      → (g.is_honest device → MayLeave run (g.contents device) → IsCrashSafe run (after run ask answer) (g.had device) (g.had device_now) (g.contents device_now))
+      → IsGroupAnswered g run gs (Plain ask) (Plain answer) now held gs device device_now
+  plain g run gs ask answer contents now flights held device device_now r one count kept met written crash =
+      let right : IsGroupAnswer run gs (Plain ask) (Plain answer) ⊎ IsGroupGivenUp run gs (Plain ask) (Plain answer) = elim one.right [ inl x ↦ inl x | inr x ↦ inr x ] in
+      record {
+        right = right;
+        passed = record {
+          stands = record {
+            on = record { runs = one.runs; blocks = count ∙ r.on.blocks ∙ ap length (sym (first_stay run ((ask, answer) ∷ []))) };
+            groups_are = subst (AreGroupsOf (after run ask answer)) (groups_plain gs ask answer) (ask_keeps ext numbered run gs (Plain ask) (Plain answer) r.groups_are right);
+          };
+          faults = (g.fault_count device_now, record { kept = kept; met = met }, refl);
+          written = λ honest. (g.contents device_now, written honest, refl);
+          crash = crash;
+        };
+      }
+
+  -- a call of groups
+  pub called : {A D : Type 0} (g : Ghosts D) (run : Execution) (gs now : Groups) (ask : Ask) (answer : Answer) (contents : Contents) (flights : Flights A) (device : D)
+      → RunsWith g contents flights gs device run → IsGroupAnswer run gs ask answer ⊎ IsGroupGivenUp run gs ask answer → now ≡ groups_after gs ask answer → part_of gs ask answer ≡ []
+      → IsGroupAnswered g run gs ask answer contents flights now device device
+  called g run gs now ask answer contents flights device r right same none =
+      let still : run_after run gs ask answer ≡ run = ap (after_parts run) none in
+      record {
+        right = right;
+        passed = record {
+          stands = record {
+            on = record { runs = subst (Runs contents flights) (sym still) r.on.runs; blocks = r.on.blocks ∙ ap (λ s. length s.first) (sym still) };
+            groups_are = subst (AreGroupsOf (run_after run gs ask answer)) (sym same) (ask_keeps ext numbered run gs ask answer r.groups_are right);
+          };
+          faults = rw none refl;
+          written = λ honest. rw none refl;
+          crash = λ honest left. subst (λ s. IsCrashSafe run s (g.had device) (g.had device) (g.contents device)) (sym still) (unmoved run (g.had device) (g.contents device) left);
+        };
+      }
+
+  -- a patch of a writer
+  pub patched : FlyingStays → ImagesStay → DisksStay → {A D : Type 0} (g : Ghosts D) (run : Execution) (gs now : Groups) (writer block start : ℕ) (bytes names : List ℕ) (undo : Undo) (answer : Answer)
+      (contents next : Contents) (flights : Flights A) (device : D) → RunsWith g contents flights gs device run → IsPatched run gs (Patch writer block start bytes names undo) answer next
+      → now ≡ groups_after gs (Patch writer block start bytes names undo) answer → answer ≢ Plain (cache.Refused (bare kind.Fault))
+      → IsGroupAnswered g run gs (Patch writer block start bytes names undo) answer next flights now device device
+  patched flying images stay g run gs now writer block start bytes names undo answer contents next flights device r one same other =
+      let is = patch_told run gs writer block start bytes names undo answer one.right in
+      subst (λ a. IsGroupAnswered g run gs (Patch writer block start bytes names undo) a next flights now device device) (sym is.1)
+      (of_cache is.0 (subst (λ a. IsPatched run gs (Patch writer block start bytes names undo) a next) is.1 one)
+      (subst (λ a. now ≡ groups_after gs (Patch writer block start bytes names undo) a) is.1 same) (λ e. other (is.1 ∙ ap Plain e)))
+    where
+      of_cache : (a : CacheAnswer) → IsPatched run gs (Patch writer block start bytes names undo) (Plain a) next → now ≡ groups_after gs (Patch writer block start bytes names undo) (Plain a)
+          → a ≢ cache.Refused (bare kind.Fault) → IsGroupAnswered g run gs (Patch writer block start bytes names undo) (Plain a) next flights now device device
+      of_cache a whole are faultless =
+          let ask : Ask = Patch writer block start bytes names undo in
+          record {
+            right = whole.right;
+            passed = record {
+              stands = record {
+                on = record {
+                  runs = record {
+                    cache_is = whole.cache_is;
+                    flights_are = flights_unless ext flying images run (held_by flights) block start bytes (named gs (Some writer) names) undo (cache.is_refused a) r.on.runs.flights_are;
+                  };
+                  blocks = r.on.blocks ∙ ap length (sym (first_stay run (part_of gs ask (Plain a))));
+                };
+                groups_are = subst (AreGroupsOf (run_after run gs ask (Plain a))) (sym are) (ask_keeps ext numbered run gs ask (Plain a) r.groups_are whole.right);
+              };
+              faults = (g.fault_count device, record { kept = omega arith; met = λ e. absurd (faultless e) }, refl);
+              written = λ honest. (g.contents device, refl, refl);
+              crash = λ honest left. made_unless stay run (cache.is_refused a) (the.Create block start bytes (named gs (Some writer) names) undo) (g.had device) (g.contents device) (λ b e. absurd (cc e))
+                  r.on.runs.cache_is.legal whole.cache_is.legal left;
+            };
+          }

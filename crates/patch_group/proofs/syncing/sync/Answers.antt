@@ -1,0 +1,79 @@
+use Rattle.std.proofs.Common.{◌≡◌, ◌∙◌, subst}
+use Rattle.std.specs.Prelude.{count_by}
+use Rattle.patch_model.specs.Execution.{followed_by}
+use Rattle.patch_model.specs.State.{entries_of}
+use Rattle.patch_cache.specs.Waves.{steps_since}
+use Rattle.patch_group.specs.Groups.{is_pending, patches_of}
+use Rattle.patch_group.proofs.Pending.{none_left}
+use Rattle.patch_group.proofs.Writing.{went_both, keeps_both, since_both, stays_past, groups_stay}
+use Rattle.patch_group.proofs.syncing.sync.Goals as goal
+
+pub returns-in_err-land-clause-stands : goal.returns-in_err-land-clause-stands
+returns-in_err-land-clause-stands g c run r = record {
+  on = record { runs = (c.land.ensures.ran run r.on.runs).runs; blocks = c.land.ensures.device.count ∙ r.on.blocks };
+  groups_are = groups_stay c.order_is_kept.ensures.steps run c.args.groups.now (steps_since c.args.cache.now c.land.new.self) r.groups_are;
+}
+
+pub returns-in_err-waiting-clause-stands : goal.returns-in_err-waiting-clause-stands
+returns-in_err-waiting-clause-stands g c run r = record {
+  on = record { runs = (c.land.ensures.ran run r.on.runs).runs; blocks = c.land.ensures.device.count ∙ r.on.blocks };
+  groups_are = groups_stay c.order_is_kept.ensures.steps run c.args.groups.now (steps_since c.args.cache.now c.land.new.self) r.groups_are;
+}
+
+pub returns-in_err-write_all_of-clause-ran : goal.returns-in_err-write_all_of-clause-ran
+returns-in_err-write_all_of-clause-ran g c run r =
+    let first = c.land.ensures.ran run r in
+    went_both c.traces_join.ensures.joined c.stretches_join.ensures.joined run c.args.cache.now c.land.new.self c.write_all_of.new.cache _ _ c.land.ensures.trace c.write_all_of.ensures.trace first (c.write_all_of.ensures.ran _ first.runs)
+
+pub returns-in_err-write_all_of-clause-stands : goal.returns-in_err-write_all_of-clause-stands
+returns-in_err-write_all_of-clause-stands g c run r =
+    let first = c.land.ensures.ran run r.on.runs in
+    let whole = went_both c.traces_join.ensures.joined c.stretches_join.ensures.joined run c.args.cache.now c.land.new.self c.write_all_of.new.cache _ _ c.land.ensures.trace c.write_all_of.ensures.trace first (c.write_all_of.ensures.ran _ first.runs) in
+    record {
+      on = record { runs = whole.runs; blocks = c.write_all_of.ensures.device.count ∙ c.land.ensures.device.count ∙ r.on.blocks };
+      groups_are = groups_stay c.order_is_kept.ensures.steps run c.args.groups.now (steps_since c.args.cache.now c.write_all_of.new.cache) r.groups_are;
+    }
+
+pub returns-in_err-write_all_of-clause-disk : goal.returns-in_err-write_all_of-clause-disk
+returns-in_err-write_all_of-clause-disk g c honest =
+    let first = c.land.ensures in
+    let told = c.write_all_of.ensures in
+    keeps_both c.traces_join.ensures.joined c.stretches_join.ensures.kept c.args.cache.now c.land.new.self c.write_all_of.new.cache c.args.flights.now c.land.new.flights _ _ _ _ _ _ first.trace told.trace first.ran
+    (first.disk honest) (told.disk (first.device.honesty.0 honest))
+
+pub returns-clause-ran : goal.returns-clause-ran
+returns-clause-ran g c run r =
+    let first = c.land.ensures.ran run r in
+    went_both c.traces_join.ensures.joined c.stretches_join.ensures.joined run c.args.cache.now c.land.new.self c.write_all_of.new.cache _ _ c.land.ensures.trace c.write_all_of.ensures.trace first (c.write_all_of.ensures.ran _ first.runs)
+
+pub returns-clause-stands : goal.returns-clause-stands
+returns-clause-stands g c run r =
+    let first = c.land.ensures.ran run r.on.runs in
+    let whole = went_both c.traces_join.ensures.joined c.stretches_join.ensures.joined run c.args.cache.now c.land.new.self c.write_all_of.new.cache _ _ c.land.ensures.trace c.write_all_of.ensures.trace first (c.write_all_of.ensures.ran _ first.runs) in
+    record {
+      on = record { runs = whole.runs; blocks = c.write_all_of.ensures.device.count ∙ c.land.ensures.device.count ∙ r.on.blocks };
+      groups_are = groups_stay c.order_is_kept.ensures.steps run c.args.groups.now (steps_since c.args.cache.now c.write_all_of.new.cache) r.groups_are;
+    }
+
+pub returns-clause-disk : goal.returns-clause-disk
+returns-clause-disk g c honest =
+    let first = c.land.ensures in
+    let told = c.write_all_of.ensures in
+    keeps_both c.traces_join.ensures.joined c.stretches_join.ensures.kept c.args.cache.now c.land.new.self c.write_all_of.new.cache c.args.flights.now c.land.new.flights _ _ _ _ _ _ first.trace told.trace first.ran
+    (first.disk honest) (told.disk (first.device.honesty.0 honest))
+
+pub returns-clause-synced : goal.returns-clause-synced
+returns-clause-synced g c run r =
+    let old = c.args.cache.now in
+    let mid = c.land.new.self in
+    let now = c.write_all_of.new.cache in
+    let patches = patches_of c.args.groups.now c.args.group in
+    let first = c.land.ensures.ran run r in
+    let told = c.in_ok-write_all_of.ensures in
+    let so_far = followed_by run (steps_since old mid) in
+    let later = followed_by so_far (steps_since mid now) in
+    let waited = c.as_slice.ensures.value ∙ c.in_ok-waiting.ensures so_far first.runs.cache_is in
+    subst (λ s. count_by (is_pending (entries_of s)) patches ≡ 0) (since_both c.traces_join.ensures.joined run old mid now c.land.ensures.trace c.write_all_of.ensures.trace)
+    (none_left (is_pending (entries_of so_far)) (is_pending (entries_of later)) patches
+    (stays_past c.steps_extend.ensures.state (λ run block. c.ready_is_largest.ensures.largest (entries_of run) block (c.ready_is_largest.ensures.made run)) so_far (steps_since mid now) (c.write_all_of.ensures.ran so_far first.runs).writes)
+    (subst (λ ns. count_by (is_pending (entries_of later)) ns ≡ 0) waited (told.done so_far first.runs c.in_ok-land.ensures.landed)))

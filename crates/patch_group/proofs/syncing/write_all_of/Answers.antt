@@ -1,0 +1,98 @@
+use Rattle.std.proofs.Common.{◌≡◌, take, length, subst, arith}
+use Rattle.std.proofs.lemmas.List.{take_all}
+use Rattle.std.specs.Prelude.{count_by}
+use Rattle.patch_model.specs.Execution.{followed_by}
+use Rattle.patch_model.specs.State.{entries_of}
+use Rattle.patch_device.specs.SameDevice.{same_both}
+use Rattle.patch_cache.specs.Waves.{steps_since}
+use Rattle.patch_group.specs.Groups.{is_pending}
+use Rattle.patch_group.proofs.Pending.{none_still, none_pending_of}
+use Rattle.patch_group.proofs.Writing.{continues_both, went_both, keeps_both, since_both, sends_both, stays_past, wrote_none, wrote_some}
+use Rattle.patch_group.proofs.syncing.write_all_of.Goals as goal
+
+-- all of them are on the disk
+pub returns-then-at-waiting-clause-done : goal.returns-then-at-waiting-clause-done
+returns-then-at-waiting-clause-done g c run r none =
+    let before = c.loop.invariant in
+    let now = followed_by run (steps_since c.args.cache.now c.loop.cache) in
+    let waiting = c.args.waiting.now in
+    let at = c.first_pending-at.result in
+    let whole : at ≡ length waiting = omega (arith, c.if-at-waiting.true) in
+    subst (λ ns. count_by (is_pending (entries_of now)) ns ≡ 0) (take_all at waiting (omega (arith, whole)))
+    (c.first_pending-at.ensures.past now (before.ran run r).runs.cache_is (before.past run r))
+
+-- a write was given up
+pub returns-in_err-write_next-clause-ran : goal.returns-in_err-write_next-clause-ran
+returns-in_err-write_next-clause-ran g c run r =
+    let before = c.loop.invariant in
+    let told = c.write_next.ensures in
+    let first = before.ran run r in
+    went_both c.traces_join.ensures.joined c.stretches_join.ensures.joined run c.args.cache.now c.loop.cache c.write_next.new.self _ _ before.trace told.trace first (told.ran _ first.runs)
+
+pub returns-in_err-write_next-clause-disk : goal.returns-in_err-write_next-clause-disk
+returns-in_err-write_next-clause-disk g c honest =
+    let before = c.loop.invariant in
+    let told = c.write_next.ensures in
+    keeps_both c.traces_join.ensures.joined c.stretches_join.ensures.kept c.args.cache.now c.loop.cache c.write_next.new.self c.args.flights.now c.loop.flights _ _ _ _ _ _ before.trace told.trace before.ran
+    (before.disk honest) (told.disk (before.same.honesty.0 honest))
+
+-- there was none to begin
+pub returns-then-not-branch-clause-ran : goal.returns-then-not-branch-clause-ran
+returns-then-not-branch-clause-ran g c run r =
+    let before = c.loop.invariant in
+    let told = c.write_next.ensures in
+    let first = before.ran run r in
+    went_both c.traces_join.ensures.joined c.stretches_join.ensures.joined run c.args.cache.now c.loop.cache c.write_next.new.self _ _ before.trace told.trace first (told.ran _ first.runs)
+
+pub returns-then-not-branch-clause-disk : goal.returns-then-not-branch-clause-disk
+returns-then-not-branch-clause-disk g c honest =
+    let before = c.loop.invariant in
+    let told = c.write_next.ensures in
+    keeps_both c.traces_join.ensures.joined c.stretches_join.ensures.kept c.args.cache.now c.loop.cache c.write_next.new.self c.args.flights.now c.loop.flights _ _ _ _ _ _ before.trace told.trace before.ran
+    (before.disk honest) (told.disk (before.same.honesty.0 honest))
+
+pub returns-then-not-branch-clause-done : goal.returns-then-not-branch-clause-done
+returns-then-not-branch-clause-done g c run r none =
+    let before = c.loop.invariant in
+    let told = c.in_ok-write_next.ensures in
+    let first = before.ran run r in
+    let old = c.args.cache.now in
+    let mid = c.loop.cache in
+    let now = c.write_next.new.self in
+    let so_far = followed_by run (steps_since old mid) in
+    let flushed = wrote_none so_far c.in_ok-write_next.field-0 (steps_since mid now) c.if-not-branch.true (told.wrote so_far first.runs (before.landed none)) in
+    subst (λ s. count_by (is_pending (entries_of s)) c.args.waiting.now ≡ 0) (since_both c.traces_join.ensures.joined run old mid now before.trace told.trace)
+    (none_pending_of (entries_of (followed_by so_far (steps_since mid now))) c.args.waiting.now flushed.none)
+
+pub loop-preserved : goal.loop-preserved
+loop-preserved g c =
+    let before = c.loop.invariant in
+    let told = c.in_ok-write_next.ensures in
+    let joins = c.traces_join.ensures.joined in
+    let old = c.args.cache.now in
+    let mid = c.loop.cache in
+    let now = c.write_next.new.self in
+    let waiting = c.args.waiting.now in
+    record {
+      ran = λ run r. let first = before.ran run r in went_both joins c.stretches_join.ensures.joined run old mid now _ _ before.trace told.trace first (told.ran _ first.runs);
+      turns = λ run r none.
+          let first = before.ran run r in
+          let so_far = before.turns run r none in
+          let some = wrote_some (followed_by run (steps_since old mid)) c.in_ok-write_next.field-0 (steps_since mid now) c.if-not-branch.false (told.wrote _ first.runs (before.landed none)) in
+          let both = sends_both joins old mid now before.trace told.trace in omega (arith, some, both, so_far);
+      past = λ run r.
+          let first = before.ran run r in
+          let so_far = followed_by run (steps_since old mid) in
+          let later = followed_by so_far (steps_since mid now) in
+          let writes = (told.ran so_far first.runs).writes in
+          subst (λ s. count_by (is_pending (entries_of s)) (take c.first_pending-at.result waiting) ≡ 0) (since_both joins run old mid now before.trace told.trace)
+          (none_still (is_pending (entries_of so_far)) (is_pending (entries_of later)) (take c.first_pending-at.result waiting)
+          (stays_past c.steps_extend.ensures.state (λ run block. c.ready_is_largest.ensures.largest (entries_of run) block (c.ready_is_largest.ensures.made run)) so_far (steps_since mid now) writes)
+          (c.first_pending-at.ensures.past so_far first.runs.cache_is (before.past run r)));
+      within = c.first_pending-at.ensures.within;
+      trace = continues_both joins old mid now before.trace told.trace;
+      disk = λ honest.
+          keeps_both joins c.stretches_join.ensures.kept old mid now c.args.flights.now c.loop.flights _ _ _ _ _ _ before.trace told.trace before.ran (before.disk honest) (told.disk (before.same.honesty.0 honest));
+      landed = λ none. told.landed (before.landed none);
+      same = same_both g.D.Device _ _ _ before.same told.device;
+    }

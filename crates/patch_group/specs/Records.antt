@@ -1,0 +1,27 @@
+-- Groups as the code keeps them.
+use Rattle.std.specs.Prelude.{ℕ, ◌-◌, ◌++◌, ◌<◌, ◌==◌, List, [], ◌∷◌, map, filter, length, slice_index_or, vec_len, vec_capacity, Contains}
+use Rattle.std.specs.List.{flat_map, range_with_len}
+use Rattle.patch_group.specs.Groups.{Group}
+use Rattle.patch_group.specs.declared.records.Run.{Run}
+use Rattle.patch_group.specs.declared.records.Record.{Record}
+
+-- the numbers of a run
+abbrev pub numbers_of : Run → List ℕ
+numbers_of r = range_with_len r.first (r.last - r.first) ++ r.last ∷ []
+
+abbrev pub patches_in : List Run → List ℕ
+patches_in runs = flat_map numbers_of runs
+
+abbrev pub group_of : {A : Type 0} → Record A → Group
+group_of g = record { started = g.started; sealed = g.sealed; closed = g.closed; before = g.before.items; patches = patches_in g.runs.items }
+
+-- the groups of the writer's engagements
+abbrev pub names_of : List (ℕ × ℕ) → ℕ → List ℕ
+names_of es writer = map (λ e. e.1) (filter (λ e. e.0 == writer) es)
+
+-- the group, if it is there, has room for one run more
+abbrev pub HasRoomAt : {A : Type 0} → List (Record A) → ℕ → Type 0
+HasRoomAt {A} records k = (r : Record A) → k < length records → vec_len (slice_index_or records k r).runs < vec_capacity (slice_index_or records k r).runs
+
+abbrev pub HaveRoom : {A : Type 0} → List (Record A) → List ℕ → Type 0
+HaveRoom records names = (k : ℕ) → Contains names k → HasRoomAt records k

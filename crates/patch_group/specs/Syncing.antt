@@ -1,0 +1,35 @@
+-- How a group is brought to the disk.
+use Rattle.std.specs.Prelude.{ℕ, ◌≡◌, List, count_by, Result, Ok, Err}
+use Rattle.patch_model.specs.Execution.{Execution, followed_by}
+use Rattle.patch_model.specs.State.{entries_of}
+use Rattle.patch_device.specs.declared.devices.Device.{Ghosts}
+use Rattle.patch_cache.specs.Contents.{Contents}
+use Rattle.patch_cache.specs.Waves.{steps_since, HasGivenUp, IsHeldFirst}
+use Rattle.patch_cache.specs.declared.flights.Flights.{Flights}
+use Rattle.patch_group.specs.Groups.{Groups, is_pending}
+use Rattle.patch_group.specs.Runs.{RunsWith}
+use Rattle.patch_group.specs.declared.refusals.SyncRefusal.{SyncRefusal}
+use Rattle.patch_group.specs.declared.refusals.SyncRefusal.TheVariants as sync
+
+-- none of these patches is in memory or in flight
+abbrev pub NonePending : Execution → List ℕ → Type 0
+NonePending run numbers = count_by (is_pending (entries_of run)) numbers ≡ 0
+
+-- all stands behind the steps that the cache has added, for each execution that it stood behind; the groups stay as they are
+abbrev pub StandsAfter : {A D : Type 0} → Ghosts D → Groups → Contents → Flights A → D → Contents → Flights A → D → Type 0
+StandsAfter g groups cache flights device cache_now flights_now device_now =
+    (run : Execution) → RunsWith g cache flights groups device run → RunsWith g cache_now flights_now groups device_now (followed_by run (steps_since cache cache_now))
+
+-- an answer that the device gave up rests on as many faults as a write is tried
+abbrev pub RisesIfSyncStops : {T : Type 0} → Result T SyncRefusal → ℕ → ℕ → Type 0
+RisesIfSyncStops (Ok done) before now = Unit {0}
+RisesIfSyncStops (Err sync.NoSuchGroup) before now = Unit {0}
+RisesIfSyncStops (Err (sync.DeviceGaveUp block)) before now = HasGivenUp before now
+RisesIfSyncStops (Err sync.OutOfMemory) before now = Unit {0}
+
+-- the flight of a block that the device gave up is held
+abbrev pub IsHeldIfSyncStops : {A T : Type 0} → Result T SyncRefusal → Flights A → Type 0
+IsHeldIfSyncStops (Ok done) flights = Unit {0}
+IsHeldIfSyncStops (Err sync.NoSuchGroup) flights = Unit {0}
+IsHeldIfSyncStops (Err (sync.DeviceGaveUp block)) flights = IsHeldFirst block flights
+IsHeldIfSyncStops (Err sync.OutOfMemory) flights = Unit {0}

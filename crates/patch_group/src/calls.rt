@@ -1,0 +1,165 @@
+//! Groups, and the calls that begin, engage, order and close them.
+ghost use Rattle.std.specs.Prelude.{◌≡◌, ◌≢◌, ◌<◌, ◌++◌, ◌∷◌, [], Some, None, true, false, length, option_map, IfOk, IfErr, OnOk, OnErr, IsNone};
+ghost use Rattle.patch_cache.specs.Refusals.{IsCause};
+ghost use Rattle.patch_group.specs.Rising.{rising as in_order};
+ghost use Rattle.patch_group.specs.Groups.{no_groups, group_at, before, is_open, is_engaged_by, is_engaged, why_not_begun as why_none_begun, why_not_engaged as the_cause_to_engage, why_not_disengaged, why_not_ordered as the_cause_to_order, why_not_closed, begun, engaged as then_engaged, disengaged, ordered, closed as then_closed};
+ghost use Rattle.patch_group.specs.Refusals.{group_cause};
+
+use crate::limits::MAX_GROUPS;
+use crate::numbers::GroupNo;
+use crate::records::Record;
+use crate::refusals::GroupRefusal;
+use patch_model::{OutOfMemory, WriterNo};
+use std::alloc::{Allocator, Global};
+use std::marker::Model;
+
+/// The groups of the patches of one cache.
+///
+/// A patch that a writer makes belongs to each group that the writer has engaged, and it depends on all patches of all groups
+/// before these. A group depends on another by `depend`, before it is engaged for the first time; from then on the other
+/// is sealed: it is never engaged again and depends on no further group. So what is before a group is all there when its first
+/// patch is made.
+#[derive(Drop)]
+pub struct Groups<A: Allocator + Copy = Global> {
+    pub(crate) alloc: A,
+    pub(crate) groups: Vec<Record<A>, A>,
+    pub(crate) engaged: Vec<(WriterNo, GroupNo), A>,
+}
+
+impl<A: Allocator + Copy> Model for Groups<A> {
+    ghost use Rattle.std.specs.Prelude.{◌≤◌, length, map};
+    ghost use Rattle.patch_group.specs.Groups.{Groups as State, AreApart};
+    ghost use Rattle.patch_group.specs.Records.{group_of};
+
+    ghost Value = { State };
+
+    ghost view = { λ c. record { groups = map group_of c.groups.items; engaged = c.engaged.items } };
+
+    ghost invariant = { λ c. (length c.groups.items ≤ 1024) × AreApart c.engaged.items };
+}
+
+impl<A: Allocator + Copy> Groups<A> {
+    /// No groups. It takes no memory.
+    pub fn new(alloc: A) -> Groups<A>
+        ensures { result ≡ no_groups }
+    {
+        Groups {
+            alloc,
+            groups: Vec::new(alloc),
+            engaged: Vec::new(alloc),
+        }
+    }
+
+    /// Makes a group. Its number is the next one; numbers aren't used again.
+    pub fn create(&mut self) -> Result<GroupNo, GroupRefusal>
+        ensures made { IfOk result (λ group. (why_none_begun self.old ≡ None) × (group ≡ length self.old.groups) × (self.new ≡ begun self.old)) }
+        ensures cause { IfErr result (λ refusal. IsCause (why_none_begun self.old) (group_cause refusal)) }
+        ensures refused { OnErr result (self.new ≡ self.old) }
+    {
+        let made = self.groups.len();
+        if made >= MAX_GROUPS {
+            return Err(GroupRefusal::TooManyGroups);
+        }
+        self.groups.reserve(1)?;
+        self.groups.push_reserved(Record {
+            started: false,
+            sealed: false,
+            closed: false,
+            before: Vec::new(self.alloc),
+            runs: Vec::new(self.alloc),
+        });
+        Ok(GroupNo(made as u32))
+    }
+
+    /// Lets the writer's patches belong to the group from now on.
+    pub fn engage(&mut self, writer: WriterNo, group: GroupNo) -> Result<(), GroupRefusal>
+        ensures done { OnOk result ((the_cause_to_engage self.old writer group ≡ None) × (self.new ≡ then_engaged self.old writer group)) }
+        ensures cause { IfErr result (λ refusal. IsCause (the_cause_to_engage self.old writer group) (group_cause refusal)) }
+        ensures refused { OnErr result (self.new ≡ self.old) }
+    {
+        if let Some(refusal) = self.why_not_engaged(writer, group) {
+            return Err(refusal);
+        }
+        self.engaged.reserve(1)?;
+        let record = &mut self.groups[group.0 as usize];
+        record.started = true;
+        self.engaged.push_reserved((writer, group));
+        Ok(())
+    }
+
+    /// The first cause against the writer's engaging the group.
+    fn why_not_engaged(&self, writer: WriterNo, group: GroupNo) -> Option<GroupRefusal>
+        ensures cause { option_map group_cause result ≡ the_cause_to_engage self.now writer group }
+        ensures known { IsNone result → group < length self.now.groups }
+        ensures new { IsNone result → is_engaged_by self.now writer group ≡ false }
+    {
+        if !self.is_open(group) {
+            return Some(GroupRefusal::NoSuchGroup);
+        }
+        if self.groups[group.0 as usize].sealed {
+            return Some(GroupRefusal::Sealed);
+        }
+        if self.is_engaged_by(writer, group) {
+            return Some(GroupRefusal::Engaged);
+        }
+        None
+    }
+
+    /// Ends what `engage` began.
+    pub fn disengage(&mut self, writer: WriterNo, group: GroupNo) -> Result<(), GroupRefusal>
+        ensures done { OnOk result ((why_not_disengaged self.old writer group ≡ None) × (self.new ≡ disengaged self.old writer group)) }
+        ensures cause { IfErr result (λ refusal. why_not_disengaged self.old writer group ≡ Some (group_cause refusal)) }
+        ensures refused { OnErr result (self.new ≡ self.old) }
+    {
+        if !self.is_open(group) {
+            return Err(GroupRefusal::NoSuchGroup);
+        }
+        if !self.is_engaged_by(writer, group) {
+            return Err(GroupRefusal::NotEngaged);
+        }
+        self.engaged.retain(|engagement| !(engagement.0 == writer && engagement.1 == group));
+        Ok(())
+    }
+
+    /// Closes the group: to all later calls it is none. Its patches and its place in the order stay.
+    pub fn close(&mut self, group: GroupNo) -> Result<(), GroupRefusal>
+        ensures done { OnOk result ((why_not_closed self.old group ≡ None) × (self.new ≡ then_closed self.old group)) }
+        ensures cause { IfErr result (λ refusal. why_not_closed self.old group ≡ Some (group_cause refusal)) }
+        ensures refused { OnErr result (self.new ≡ self.old) }
+    {
+        if !self.is_open(group) {
+            return Err(GroupRefusal::NoSuchGroup);
+        }
+        if self.is_engaged(group) {
+            return Err(GroupRefusal::Engaged);
+        }
+        let record = &mut self.groups[group.0 as usize];
+        record.closed = true;
+        Ok(())
+    }
+
+    /// Whether there is a group of this number that wasn't closed.
+    pub(crate) fn is_open(&self, group: GroupNo) -> bool
+        ensures answer { result ≡ is_open self.now group }
+        ensures known { result ≡ true → group < length self.now.groups }
+    {
+        match self.groups.get(group.0 as usize) {
+            Some(record) => !record.closed,
+            None => false,
+        }
+    }
+
+    /// Whether this writer has engaged the group.
+    fn is_engaged_by(&self, writer: WriterNo, group: GroupNo) -> bool
+        ensures { result ≡ is_engaged_by self.now writer group }
+    {
+        self.engaged.iter().any(|engagement| engagement.0 == writer && engagement.1 == group)
+    }
+
+    /// Whether some writer has engaged the group.
+    pub(crate) fn is_engaged(&self, group: GroupNo) -> bool
+        ensures { result ≡ is_engaged self.now group }
+    {
+        self.engaged.iter().any(|engagement| engagement.1 == group)
+    }
+}

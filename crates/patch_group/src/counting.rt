@@ -1,0 +1,94 @@
+//! How many patches of a group are not on the disk yet.
+ghost use Rattle.std.specs.Prelude.{◌≡◌, ◌+◌, Some, None, min, count_by, if◌then◌else◌, not, IfOk, IfErr, OnOk};
+ghost use Rattle.patch_model.specs.Execution.{Execution};
+ghost use Rattle.patch_model.specs.Entry.{marks_durable};
+ghost use Rattle.patch_model.specs.State.{entries_of};
+ghost use Rattle.patch_cache.specs.Meaning.{Represents};
+ghost use Rattle.patch_group.specs.Groups.{why_not_counted, pending, is_pending as the_patch_is_pending};
+ghost use Rattle.patch_group.specs.Order.{AreGroupsOf};
+ghost use Rattle.patch_group.specs.Records.{numbers_of, patches_in};
+ghost use Rattle.patch_group.specs.Refusals.{group_cause};
+
+use crate::calls::Groups;
+use crate::laws;
+use crate::numbers::GroupNo;
+use crate::records::Run;
+use crate::refusals::GroupRefusal;
+use patch_cache::Cache;
+use patch_model::{Mark, PatchNo, laws as model_laws};
+use std::alloc::Allocator;
+
+impl<A: Allocator + Copy> Groups<A> {
+    /// How many patches of the group aren't on the disk yet. It takes no memory.
+    pub fn pending(&self, group: GroupNo, cache: &Cache<A>) -> Result<u32, GroupRefusal>
+        ensures count { (run : Execution) → Represents cache.now run → AreGroupsOf run self.now
+            → IfOk result (λ count. count ≡ pending (entries_of run) self.now group) }
+        ensures known { OnOk result (why_not_counted self.now group ≡ None) }
+        ensures cause { IfErr result (λ refusal. why_not_counted self.now group ≡ Some (group_cause refusal)) }
+    {
+        laws::groups_are_small();
+        model_laws::executions_are_limited();
+        if !self.is_open(group) {
+            return Err(GroupRefusal::NoSuchGroup);
+        }
+        let record = &self.groups[group.0 as usize];
+        Ok(count_pending(cache, record.runs.as_slice()))
+    }
+}
+
+/// How many patches of these runs are pending, up to the greatest count.
+fn count_pending<A: Allocator + Copy>(cache: &Cache<A>, runs: &[Run]) -> u32
+    ensures { (run : Execution) → Represents cache.now run
+        → result ≡ min (count_by (the_patch_is_pending (entries_of run)) (patches_in runs.now)) 4294967295 }
+{
+    let mut count = 0;
+    for run in runs {
+        count = count_run(cache, run, count);
+    }
+    count
+}
+
+/// The count with those of one run.
+fn count_run<A: Allocator + Copy>(cache: &Cache<A>, numbers: &Run, before: u32) -> u32
+    ensures { (run : Execution) → Represents cache.now run
+        → result ≡ min (before + count_by (the_patch_is_pending (entries_of run)) (numbers_of numbers.now)) 4294967295 }
+{
+    let mut count = before;
+    for no in numbers.first..numbers.last {
+        count = one_more(count, is_pending(cache, PatchNo(no)));
+    }
+    one_more(count, is_pending(cache, PatchNo(numbers.last)))
+}
+
+/// The count with one more, if it counts.
+fn one_more(count: u32, counts: bool) -> u32
+    ensures { result ≡ min (count + (if counts then 1 else 0)) 4294967295 }
+{
+    if counts {
+        count.saturating_add(1)
+    } else {
+        count
+    }
+}
+
+/// Whether a patch was made and isn't on the disk yet.
+pub(crate) fn is_pending<A: Allocator + Copy>(cache: &Cache<A>, no: PatchNo) -> bool
+    ensures { (run : Execution) → Represents cache.now run → result ≡ the_patch_is_pending (entries_of run) no }
+{
+    model_laws::executions_are_orderly();
+    match cache.mark_of(no) {
+        Some(mark) => lives(mark),
+        None => false,
+    }
+}
+
+/// Whether a patch of this mark isn't on the disk yet.
+fn lives(mark: Mark) -> bool
+    ensures { result ≡ not (marks_durable mark) }
+{
+    match mark {
+        Mark::Memory => true,
+        Mark::Flight => true,
+        Mark::Durable => false,
+    }
+}

@@ -1,0 +1,151 @@
+//! How patches are made, and join groups.
+ghost use Rattle.std.specs.Prelude.{◌≡◌, ◌≢◌, ◌<◌, ◌++◌, ◌∷◌, ℕ, [], Some, None, length, map, IfOk, IfErr, OnOk, OnErr};
+ghost use Rattle.patch_model.specs.Execution.{Execution, extended};
+ghost use Rattle.patch_model.specs.State.{entries_of};
+ghost use Rattle.patch_cache.specs.Meaning.{Represents};
+ghost use Rattle.patch_cache.specs.Refusals.{create_cause};
+ghost use Rattle.patch_group.specs.Groups.{AreApart, with_patch, after_of, entered, patch_of, why_not_patched, IsCauseOf};
+ghost use Rattle.patch_group.specs.Records.{group_of, HasRoomAt, HaveRoom, names_of as engaged_by_writer};
+
+use crate::calls::Groups;
+use crate::numbers::GroupNo;
+use crate::records::Record;
+use crate::runs::add;
+use patch_cache::{Cache, CreateRefusal};
+use patch_model::{BlockNo, OutOfMemory, PatchNo, Undo, WriterNo};
+use std::alloc::Allocator;
+
+impl<A: Allocator + Copy> Groups<A> {
+    /// Makes a patch of a writer, or of none. Beside what it names itself it names all patches of all groups before those that
+    /// the writer has engaged, and it joins each of these. Its room in the groups is taken first. After a refusal cache and
+    /// groups are as before.
+    pub fn create_patch(
+        &mut self,
+        cache: &mut Cache<A>,
+        writer: Option<WriterNo>,
+        block: BlockNo,
+        start: usize,
+        bytes: &[u8],
+        after: &[PatchNo],
+        undo: Undo,
+    ) -> Result<PatchNo, CreateRefusal>
+        ensures made { (run : Execution) → Represents cache.old run → OnOk result
+            (Represents cache.new (extended run (patch_of self.old writer block start bytes.now after.now undo))) }
+        ensures number { (run : Execution) → Represents cache.old run → IfOk result (λ no. no ≡ length (entries_of run)) }
+        ensures allowed { (run : Execution) → Represents cache.old run
+            → OnOk result (why_not_patched run self.old writer block start bytes.now after.now ≡ None) }
+        ensures joined { IfOk result (λ no. self.new ≡ with_patch self.old writer no) }
+        ensures cause { (run : Execution) → Represents cache.old run → IfErr result (λ refusal.
+            IsCauseOf (why_not_patched run self.old writer block start bytes.now after.now) (create_cause refusal)) }
+        ensures trace { OnOk result (cache.new.trace ≡ cache.old.trace ++ patch_of self.old writer block start bytes.now after.now undo ∷ []) }
+        ensures refused { OnErr result (self.new ≡ self.old) }
+        ensures refused_cache { OnErr result (cache.new ≡ cache.old) }
+    {
+        match writer {
+            Some(writer) => self.create_of(cache, writer, block, start, bytes, after, undo),
+            None => cache.create(block, start, bytes, after, undo),
+        }
+    }
+
+    /// Makes a patch of this writer.
+    fn create_of(
+        &mut self,
+        cache: &mut Cache<A>,
+        writer: WriterNo,
+        block: BlockNo,
+        start: usize,
+        bytes: &[u8],
+        after: &[PatchNo],
+        undo: Undo,
+    ) -> Result<PatchNo, CreateRefusal>
+        ensures made { (run : Execution) → Represents cache.old run → OnOk result
+            (Represents cache.new (extended run (patch_of self.old (Some writer) block start bytes.now after.now undo))) }
+        ensures number { (run : Execution) → Represents cache.old run → IfOk result (λ no. no ≡ length (entries_of run)) }
+        ensures allowed { (run : Execution) → Represents cache.old run
+            → OnOk result (why_not_patched run self.old (Some writer) block start bytes.now after.now ≡ None) }
+        ensures joined { IfOk result (λ no. self.new ≡ with_patch self.old (Some writer) no) }
+        ensures cause { (run : Execution) → Represents cache.old run → IfErr result (λ refusal.
+            IsCauseOf (why_not_patched run self.old (Some writer) block start bytes.now after.now) (create_cause refusal)) }
+        ensures trace { OnOk result (cache.new.trace ≡ cache.old.trace ++ patch_of self.old (Some writer) block start bytes.now after.now undo ∷ []) }
+        ensures refused { OnErr result (self.new ≡ self.old) }
+        ensures refused_cache { OnErr result (cache.new ≡ cache.old) }
+    {
+        let names = self.names_of(writer, after)?;
+        make_room(&mut self.groups, self.engaged.as_slice(), writer)?;
+        let no = cache.create(block, start, bytes, names.as_slice(), undo)?;
+        enter(&mut self.groups, self.engaged.as_slice(), writer, no);
+        Ok(no)
+    }
+
+    /// What a patch of the writer names.
+    fn names_of(&self, writer: WriterNo, after: &[PatchNo]) -> Result<Vec<PatchNo, A>, OutOfMemory>
+        ensures { IfOk result (λ names. names.items ≡ after.now ++ after_of self.now writer) }
+    {
+        let before = self.after_of(writer)?;
+        let mut names = Vec::with_capacity(self.alloc, after.len())?;
+        names.extend_from_slice(after)?;
+        names.extend_from_slice(before.as_slice())?;
+        Ok(names)
+    }
+}
+
+/// Takes room for one number more in each group that the writer has engaged.
+fn make_room<A: Allocator>(
+    groups: &mut Vec<Record<A>, A>,
+    engaged: &[(WriterNo, GroupNo)],
+    writer: WriterNo,
+) -> Result<(), OutOfMemory>
+    ensures same { map group_of groups.new.items ≡ map group_of groups.old.items }
+    ensures room { OnOk result (HaveRoom groups.new.items (engaged_by_writer engaged.now writer)) }
+{
+    for engagement in engaged {
+        if engagement.0 == writer {
+            make_room_in(groups, engagement.1)?;
+        }
+    }
+    Ok(())
+}
+
+/// Takes room for one number more in this group.
+fn make_room_in<A: Allocator>(
+    groups: &mut Vec<Record<A>, A>,
+    group: GroupNo,
+) -> Result<(), OutOfMemory>
+    ensures same { map group_of groups.new.items ≡ map group_of groups.old.items }
+    ensures here { OnOk result (HasRoomAt groups.new.items group) }
+    ensures others { (k : ℕ) → HasRoomAt groups.old.items k → HasRoomAt groups.new.items k }
+{
+    if let Some(record) = groups.get_mut(group.0 as usize) {
+        record.runs.reserve(1)?;
+    }
+    Ok(())
+}
+
+/// Puts a number into each group that the writer has engaged.
+fn enter<A: Allocator>(
+    groups: &mut Vec<Record<A>, A>,
+    engaged: &[(WriterNo, GroupNo)],
+    writer: WriterNo,
+    no: PatchNo,
+)
+    requires room { HaveRoom groups.old.items (engaged_by_writer engaged.now writer) }
+    requires apart { AreApart engaged.now }
+    ensures { map group_of groups.new.items ≡ entered (map group_of groups.old.items) (engaged_by_writer engaged.now writer) no }
+{
+    for engagement in engaged {
+        if engagement.0 == writer {
+            enter_into(groups, engagement.1, no);
+        }
+    }
+}
+
+/// Puts a number into this group.
+fn enter_into<A: Allocator>(groups: &mut Vec<Record<A>, A>, group: GroupNo, no: PatchNo)
+    requires room { HasRoomAt groups.old.items group }
+    ensures entered { map group_of groups.new.items ≡ entered (map group_of groups.old.items) (group ∷ []) no }
+    ensures others { (k : ℕ) → k ≢ group → HasRoomAt groups.old.items k → HasRoomAt groups.new.items k }
+{
+    if let Some(record) = groups.get_mut(group.0 as usize) {
+        add(&mut record.runs, no);
+    }
+}
