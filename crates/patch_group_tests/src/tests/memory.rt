@@ -1,0 +1,341 @@
+//! Each allocation refused in turn.
+use super::lines::{asks_in, group_in};
+use super::*;
+use linked_list_allocator::LocalHeap;
+use patch_device::MemDevice;
+use patch_model::{RefusalKind, Refuses};
+use std::alloc::Global;
+
+// Calls of each kind, in the words of the scripts.
+const LINES: [&str; 10] = [
+    "group",
+    "group",
+    "engage 0 0",
+    "by 0 0 ab",
+    "disengage 0 0",
+    "depend 1 0",
+    "engage 0 1",
+    "after 0",
+    "by 0 1 c",
+    "sync 1",
+];
+
+// How the calls are made: each by its name, or in a list of one ask.
+#[derive(Clone, Copy)]
+enum How {
+    Named,
+    Listed,
+}
+
+// A cache of two blocks in a heap, with its groups, its flights and its device, which has memory of its own.
+struct Bench<'a> {
+    alloc: Global,
+    heap: &'a LocalHeap,
+    groups: Groups<&'a LocalHeap>,
+    cache: Cache<&'a LocalHeap>,
+    flights: Flights<&'a LocalHeap>,
+    device: MemDevice,
+}
+
+// How many patches of each group are pending, and how many patches were made and are live.
+type Shown = (Option<u32>, Option<u32>, u32, u32);
+
+fn shown(bench: &Bench) -> Shown {
+    let first = bench.groups.pending(GroupNo(0), &bench.cache).ok();
+    let second = bench.groups.pending(GroupNo(1), &bench.cache).ok();
+    (first, second, bench.cache.made(), bench.cache.live())
+}
+
+// Pieces of a heap.
+type Ballast<'a> = Vec<Vec<u8, &'a LocalHeap>>;
+
+// Takes up to 64 pieces of this size.
+fn take_pieces<'a>(
+    heap: &'a LocalHeap,
+    ballast: &mut Ballast<'a>,
+    size: usize,
+) -> Result<(), OutOfMemory> {
+    for _ in 0..64 {
+        let Ok(piece) = Vec::with_capacity(heap, size) else {
+            break;
+        };
+        ballast.push(piece)?;
+    }
+    Ok(())
+}
+
+fn take_all<'a>(heap: &'a LocalHeap, ballast: &mut Ballast<'a>) -> Result<(), OutOfMemory> {
+    for size in [16384usize, 4096, 1024, 256, 64, 16] {
+        take_pieces(heap, ballast, size)?;
+    }
+    Ok(())
+}
+
+// All of a heap's memory.
+fn all_of<'a>(alloc: Global, heap: &'a LocalHeap) -> Result<Ballast<'a>, OutOfMemory> {
+    let mut ballast = Vec::new(alloc);
+    take_all(heap, &mut ballast)?;
+    Ok(ballast)
+}
+
+// Takes all of a heap's memory but one hole of this size.
+fn fill<'a>(alloc: Global, heap: &'a LocalHeap, hole: usize) -> Result<Ballast<'a>, OutOfMemory> {
+    let kept: Vec<u8, &'a LocalHeap> = Vec::with_capacity(heap, hole)?;
+    let ballast = all_of(alloc, heap);
+    drop(kept);
+    ballast
+}
+
+// A hole larger than that of the size before it.
+fn hole_of(size: usize) -> usize {
+    let small = size.min(64);
+    let large = size.saturating_sub(small).min(1000);
+    small * 16 + large * 64
+}
+
+fn kind_of(refusal: GroupRefusal) -> RefusalKind {
+    refusal.kind()
+}
+
+fn call_named<'a>(bench: &mut Bench<'a>, ask: &GroupAsk<&'a LocalHeap>) -> Result<(), RefusalKind> {
+    let Bench { groups, cache, .. } = bench;
+    match ask {
+        GroupAsk::Group => groups.create().map(|_| ()).map_err(kind_of),
+        GroupAsk::Engage { writer, group } => groups.engage(*writer, *group).map_err(kind_of),
+        GroupAsk::Depend { group, on } => groups.depend(*group, *on).map_err(kind_of),
+        GroupAsk::Disengage { writer, group } => {
+            groups.disengage(*writer, *group).map_err(kind_of)
+        }
+        GroupAsk::Patch {
+            writer,
+            block,
+            start,
+            bytes,
+            after,
+            undo,
+        } => {
+            let (bytes, after) = (bytes.as_slice(), after.as_slice());
+            match groups.create_patch(cache, Some(*writer), *block, *start, bytes, after, *undo) {
+                Ok(_) => Ok(()),
+                Err(refusal) => Err(refusal.kind()),
+            }
+        }
+        GroupAsk::Plain(_) | GroupAsk::Close { .. } | GroupAsk::Pending { .. } => Ok(()),
+    }
+}
+
+fn list_after(bench: &Bench, word: &str) -> Result<(), RefusalKind> {
+    let writer = WriterNo(if word == "0" { 0 } else { 1 });
+    match bench.groups.after_of(writer) {
+        Ok(_) => Ok(()),
+        Err(OutOfMemory) => Err(RefusalKind::OutOfMemory),
+    }
+}
+
+fn sync_group(bench: &mut Bench, word: &str) -> Result<(), RefusalKind> {
+    let Bench {
+        groups,
+        cache,
+        flights,
+        device,
+        ..
+    } = bench;
+    match sync(groups, cache, flights, device, group_in(word)) {
+        Ok(()) => Ok(()),
+        Err(refusal) => Err(refusal.kind()),
+    }
+}
+
+fn plain_refusal(answer: &Answer<&LocalHeap>) -> Result<(), RefusalKind> {
+    match answer {
+        Answer::Refused(refusal) => Err(refusal.kind),
+        _ => Ok(()),
+    }
+}
+
+fn refusal_of(answer: &GroupAnswer<&LocalHeap>) -> Result<(), RefusalKind> {
+    match answer {
+        GroupAnswer::Plain(answer) => plain_refusal(answer),
+        GroupAnswer::Refused(refusal) => Err(refusal.kind()),
+        _ => Ok(()),
+    }
+}
+
+// The refusal that the one ask was answered, or that there was no room for an answer.
+fn refusal_in(answers: &[GroupAnswer<&LocalHeap>]) -> Result<(), RefusalKind> {
+    match answers.first() {
+        Some(answer) => refusal_of(answer),
+        None => Err(RefusalKind::OutOfMemory),
+    }
+}
+
+fn call_listed<'a>(
+    bench: &mut Bench<'a>,
+    asks: &[GroupAsk<&'a LocalHeap>],
+) -> Result<(), RefusalKind> {
+    let Bench {
+        groups,
+        cache,
+        flights,
+        device,
+        ..
+    } = bench;
+    match groups.run(cache, flights, device, asks) {
+        Ok(answers) => refusal_in(&answers),
+        Err((answers, OutOfMemory)) => refusal_in(&answers),
+    }
+}
+
+// What is called, with its ask made beforehand where it is one.
+#[derive(Drop)]
+struct Line<'a> {
+    line: &'static str,
+    asks: Vec<GroupAsk<&'a LocalHeap>, &'a LocalHeap>,
+}
+
+fn call<'a>(bench: &mut Bench<'a>, one: &Line<'a>, how: How) -> Result<(), RefusalKind> {
+    if let Some(word) = one.line.strip_prefix("after ") {
+        return list_after(bench, word);
+    }
+    if let Some(word) = one.line.strip_prefix("sync ") {
+        return sync_group(bench, word);
+    }
+    match (how, one.asks.as_slice()) {
+        (How::Named, [ask]) => call_named(bench, ask),
+        (_, asks) => call_listed(bench, asks),
+    }
+}
+
+fn prepare<'a>(heap: &'a LocalHeap, line: &'static str) -> Result<Line<'a>, Fail> {
+    let is_aside = line.starts_with("after") || line.starts_with("sync");
+    let asks = if is_aside {
+        Vec::new(heap)
+    } else {
+        asks_in(heap, &[line])?
+    };
+    Ok(Line { line, asks })
+}
+
+// Calls where only a hole of this size is left.
+fn call_in_hole<'a>(
+    bench: &mut Bench<'a>,
+    one: &Line<'a>,
+    how: How,
+    hole: usize,
+) -> Result<Result<(), RefusalKind>, OutOfMemory> {
+    let ballast = fill(bench.alloc, bench.heap, hole)?;
+    let answer = call(bench, one, how);
+    drop(ballast);
+    Ok(answer)
+}
+
+fn expect_answer(rt: &impl Abort, answer: Result<(), RefusalKind>, want: Result<(), RefusalKind>) {
+    expect_equal(rt, "answer", answer, want);
+}
+
+// Calls where only a hole of this size is left, and again with memory where that is refused. Whether it was. What was refused
+// changed nothing; but of a sync, what it had written stays.
+fn call_twice(
+    rt: &impl Abort,
+    bench: &mut Bench,
+    line: &'static str,
+    how: How,
+    hole: usize,
+) -> Result<bool, Fail> {
+    let one = prepare(bench.heap, line)?;
+    let before = shown(bench);
+    let first = call_in_hole(bench, &one, how, hole)?;
+    if first.is_ok() {
+        return Ok(false);
+    }
+    expect_answer(rt, first, Err(RefusalKind::OutOfMemory));
+    if !line.starts_with("sync") {
+        expect_equal(rt, "shown", shown(bench), before);
+    }
+    expect_answer(rt, call(bench, &one, how), Ok(()));
+    Ok(true)
+}
+
+// Calls each in turn, twice, and counts those that were refused at first.
+fn call_each(
+    rt: &impl Abort,
+    bench: &mut Bench,
+    how: How,
+    hole: usize,
+    refused: &mut [u32],
+) -> Result<(), Fail> {
+    for (line, count) in LINES.iter().zip(refused.iter_mut()) {
+        if call_twice(rt, bench, line, how, hole)? {
+            *count = count.saturating_add(1);
+        }
+    }
+    expect_equal(rt, "shown", shown(bench), (Some(0), Some(0), 2, 0));
+    Ok(())
+}
+
+fn close(bench: Bench) {
+    let Bench {
+        alloc: _,
+        heap: _,
+        groups: _,
+        cache: _,
+        flights,
+        device: _,
+    } = bench;
+    flights.abandon();
+}
+
+fn call_anew(
+    rt: &impl Abort,
+    alloc: Global,
+    heap: &LocalHeap,
+    how: How,
+    hole: usize,
+    refused: &mut [u32],
+) -> Result<(), Fail> {
+    let device = MemDevice::new(alloc, 2)?;
+    let mut bench = Bench {
+        alloc,
+        heap,
+        groups: Groups::new(heap),
+        cache: open_zeros(rt, heap, 2)?,
+        flights: Flights::new(heap),
+        device,
+    };
+    let called = call_each(rt, &mut bench, how, hole, refused);
+    close(bench);
+    called
+}
+
+// Each hole is larger than the one before it, so that one allocation more succeeds now and then, until all do. How many of
+// the lines were refused.
+fn refuse_each(rt: &impl Abort, alloc: Global, heap: &LocalHeap, how: How) -> Result<usize, Fail> {
+    let mut refused = [0u32; 10];
+    for size in 0..400usize {
+        let before = refused;
+        call_anew(rt, alloc, heap, how, hole_of(size), &mut refused)?;
+        expect_equal(rt, "used", heap.used(), 0);
+        if refused == before {
+            return Ok(refused.iter().filter(|count| **count > 0).count());
+        }
+    }
+    Err(Fail::from("refused in the largest hole"))
+}
+
+// All but the second group, which has room beside the first, the end of an engagement, and the second engagement.
+#[test]
+fn of_calls(rt: HostRuntime) -> Result<(), Fail> {
+    let heap = LocalHeap::new(rt.alloc(), 65536)?;
+    let refused = refuse_each(&rt, rt.alloc(), &heap, How::Named)?;
+    expect_equal(&rt, "refused", refused, 7);
+    Ok(())
+}
+
+// All of them, since an answer takes room.
+#[test]
+fn of_lists_of_one_ask(rt: HostRuntime) -> Result<(), Fail> {
+    let heap = LocalHeap::new(rt.alloc(), 65536)?;
+    let refused = refuse_each(&rt, rt.alloc(), &heap, How::Listed)?;
+    expect_equal(&rt, "refused", refused, 10);
+    Ok(())
+}

@@ -1,0 +1,405 @@
+//! Worked scripts: what is asked of a cache with groups, and what is answered.
+use super::lines::{asks_in, group_in, number, writer_in};
+use super::*;
+use patch_device::{Device, MemDevice};
+use patch_model::BLOCK;
+use std::alloc::{AllocError, Global};
+
+// A line is an ask, and behind the sign what is answered. `by WRITER BLOCK LETTERS` makes a patch of a writer at the block's
+// first byte, `patch BLOCK LETTERS` one of none; it names those that the line names further.
+//
+// `after WRITER`, `sync GROUP` and `disk BLOCK` are no asks. The asks between them are a list.
+const SCRIPTS: [&str; 9] = [
+    // The second group depends on the first: what waits, and what is sealed.
+    "\
+group = group 0
+group = group 1
+engage 0 0 = ok
+by 0 0 a = patch 0
+disengage 0 0 = ok
+depend 1 0 = ok
+engage 0 1 = ok
+by 0 1 b = patch 1
+disengage 0 1 = ok
+send 1 = refused NothingReady
+engage 0 0 = refused Sealed
+depend 0 1 = refused Sealed
+pending 1 = count 1
+sync 1 = synced
+pending 1 = count 0
+disk 1 = b
+",
+    // What can't be in order.
+    "\
+group = group 0
+depend 0 0 = refused SameGroup
+depend 0 1 = refused NoSuchGroup
+disengage 0 0 = refused NotEngaged
+sync 1 = refused NoSuchGroup
+",
+    // A closed group is none to all calls.
+    "\
+group = group 0
+engage 0 0 = ok
+engage 0 0 = refused Engaged
+engage 7 0 = ok
+close 0 = refused Engaged
+disengage 0 0 = ok
+close 0 = refused Engaged
+disengage 7 0 = ok
+close 0 = ok
+engage 0 0 = refused NoSuchGroup
+disengage 0 0 = refused NoSuchGroup
+close 0 = refused NoSuchGroup
+pending 0 = refused NoSuchGroup
+sync 0 = refused NoSuchGroup
+group = group 1
+depend 1 0 = refused NoSuchGroup
+",
+    // All patches of the first group go first, durable ones too, and not the newest alone.
+    "\
+group = group 0
+group = group 1
+engage 0 0 = ok
+by 0 0 a = patch 0
+by 0 2 e = patch 1
+disengage 0 0 = ok
+depend 1 0 = ok
+engage 0 1 = ok
+after 0 = 0 1
+by 0 1 b = patch 2
+send 2 = sent 2
+complete 2 = durable 2
+after 0 = 0 1
+send 1 = refused NothingReady
+pending 0 = count 1
+",
+    // An empty group between two orders them all the same, and a closed one.
+    "\
+group = group 0
+group = group 1
+group = group 2
+engage 0 0 = ok
+by 0 0 a = patch 0
+disengage 0 0 = ok
+depend 1 0 = ok
+depend 2 1 = ok
+close 1 = ok
+close 0 = ok
+engage 0 2 = ok
+by 0 1 b = patch 1
+disengage 0 2 = ok
+send 1 = refused NothingReady
+send 0 = sent 0
+send 1 = refused NothingReady
+complete 0 = durable 0
+send 1 = sent 1
+",
+    // A group that was engaged takes no order, and one that is engaged is no group to wait for.
+    "\
+group = group 0
+group = group 1
+engage 0 0 = ok
+depend 1 0 = refused Engaged
+disengage 0 0 = ok
+depend 0 1 = refused Started
+depend 1 0 = ok
+depend 1 0 = ok
+",
+    // A patch joins all groups of its writer, and those of none join none.
+    "\
+group = group 0
+group = group 1
+group = group 2
+engage 0 0 = ok
+engage 0 1 = ok
+engage 1 1 = ok
+by 0 0 a = patch 0
+by 1 1 b = patch 1
+by 2 2 c = patch 2
+patch 3 d = patch 3
+disengage 0 0 = ok
+disengage 0 1 = ok
+disengage 1 1 = ok
+depend 2 1 = ok
+depend 2 0 = ok
+engage 2 2 = ok
+after 2 = 0 1
+after 0 =
+pending 0 = count 1
+pending 1 = count 2
+by 2 3 e 3 = patch 4
+patch 4 f = patch 5
+send 3 = sent 3
+send 4 = sent 4
+sync 2 = synced
+disk 3 = e
+disk 4 = f
+pending 1 = count 0
+",
+    // What the cache refuses is in no group.
+    "\
+group = group 0
+engage 0 0 = ok
+by 0 9 a = refused NoSuchBlock
+by 0 0 a 0 = refused UnknownDependency
+pending 0 = count 0
+by 0 0 a = patch 0
+pending 0 = count 1
+",
+    // A sync completes what is held first, and leaves what its group doesn't need.
+    "\
+group = group 0
+engage 0 0 = ok
+patch 1 p = patch 0
+send 1 = sent 1
+by 0 0 a 0 = patch 1
+patch 2 z = patch 2
+sync 0 = synced
+disk 0 = a
+disk 1 = p
+disk 2 = -
+sync 0 = synced
+",
+];
+
+// A cache with its groups, the flights that it waits for, and its device.
+struct Bench {
+    alloc: Global,
+    groups: Groups,
+    cache: Cache,
+    flights: Flights,
+    device: MemDevice,
+}
+
+fn tell_numbers(told: &mut String, numbers: &[PatchNo]) -> Result<(), AllocError> {
+    for no in numbers {
+        write!(told, " {no}")?;
+    }
+    Ok(())
+}
+
+fn tell_plain(told: &mut String, answer: &Answer) -> Result<(), AllocError> {
+    match answer {
+        Answer::Made(no) => write!(told, " patch {no}"),
+        Answer::Merged(no) => write!(told, " merged {no}"),
+        Answer::Sent { block, .. } => write!(told, " sent {block}"),
+        Answer::Landed { block, .. } => write!(told, " durable {block}"),
+        Answer::Seen { .. } => told.push_str(" seen"),
+        Answer::Refused(refusal) => write!(told, " refused {}", refusal.kind),
+    }
+}
+
+fn tell(told: &mut String, answer: &GroupAnswer) -> Result<(), AllocError> {
+    match answer {
+        GroupAnswer::Plain(answer) => tell_plain(told, answer),
+        GroupAnswer::GroupMade(group) => write!(told, " group {group}"),
+        GroupAnswer::Done => told.push_str(" ok"),
+        GroupAnswer::Count(count) => write!(told, " count {count}"),
+        GroupAnswer::Refused(refusal) => write!(told, " refused {refusal}"),
+    }
+}
+
+fn run(bench: &mut Bench, asks: &[GroupAsk]) -> Result<Vec<GroupAnswer>, Fail> {
+    let Bench {
+        groups,
+        cache,
+        flights,
+        device,
+        ..
+    } = bench;
+    match groups.run(cache, flights, device, asks) {
+        Ok(answers) => Ok(answers),
+        Err(_) => Err(Fail::from("no memory")),
+    }
+}
+
+fn answers_of(bench: &mut Bench, lines: &[&str]) -> Result<Vec<GroupAnswer>, Fail> {
+    let asks = asks_in(bench.alloc, lines)?;
+    run(bench, &asks)
+}
+
+// Writes a line down with its answer.
+fn tell_line(told: &mut String, line: &str, answer: &GroupAnswer) -> Result<(), AllocError> {
+    write!(told, "{line} =")?;
+    tell(told, answer)?;
+    told.push('\n')
+}
+
+fn tell_all(told: &mut String, lines: &[&str], answers: &[GroupAnswer]) -> Result<(), AllocError> {
+    for (line, answer) in lines.iter().zip(answers.iter()) {
+        tell_line(told, line, answer)?;
+    }
+    Ok(())
+}
+
+// Asks the lines in one list, and writes each down with its answer.
+fn ask_all(told: &mut String, bench: &mut Bench, lines: &[&str]) -> Result<(), Fail> {
+    let answers = answers_of(bench, lines)?;
+    tell_all(told, lines, &answers)?;
+    Ok(())
+}
+
+fn tell_after(told: &mut String, bench: &mut Bench, word: &str) -> Result<(), Fail> {
+    let writer = writer_in(word)?;
+    let numbers = bench.groups.after_of(writer)?;
+    tell_numbers(told, &numbers)?;
+    Ok(())
+}
+
+fn tell_synced(told: &mut String, bench: &mut Bench, word: &str) -> Result<(), Fail> {
+    let Bench {
+        groups,
+        cache,
+        flights,
+        device,
+        ..
+    } = bench;
+    match sync(groups, cache, flights, device, group_in(word)) {
+        Ok(()) => told.push_str(" synced")?,
+        Err(refusal) => write!(told, " refused {refusal}")?,
+    }
+    Ok(())
+}
+
+// The first byte that the device has of the block.
+fn tell_disk(told: &mut String, bench: &mut Bench, word: &str) -> Result<(), Fail> {
+    let mut bytes = [0xee; BLOCK];
+    bench.device.read(number(word), &mut bytes)?;
+    let first = bytes[0];
+    let letter = if first == 0 { '-' } else { char::from(first) };
+    write!(told, " {letter}")?;
+    Ok(())
+}
+
+// Writes down what is no ask.
+fn look_aside(told: &mut String, bench: &mut Bench, kind: &str, word: &str) -> Result<(), Fail> {
+    write!(told, "{kind} {word} =")?;
+    match kind {
+        "after" => tell_after(told, bench, word)?,
+        "sync" => tell_synced(told, bench, word)?,
+        _ => tell_disk(told, bench, word)?,
+    }
+    told.push('\n')?;
+    Ok(())
+}
+
+// What a line is that is no ask.
+fn aside_in(line: &str) -> Option<(&str, &str)> {
+    match line.split_once(' ') {
+        Some((kind, word)) if kind == "after" || kind == "sync" || kind == "disk" => {
+            Some((kind, word))
+        }
+        _ => None,
+    }
+}
+
+// What a line has before the sign.
+fn left_of(line: &str) -> &str {
+    match line.split_once(" =") {
+        Some((left, _)) => left,
+        None => line,
+    }
+}
+
+// Notes an ask; where the line is none, what was noted is asked first.
+fn follow<'a>(
+    told: &mut String,
+    bench: &mut Bench,
+    asked: &mut Vec<&'a str>,
+    line: &'a str,
+) -> Result<(), Fail> {
+    match aside_in(line) {
+        Some((kind, word)) => {
+            ask_all(told, bench, asked.as_slice())?;
+            asked.clear();
+            look_aside(told, bench, kind, word)?;
+        }
+        None => asked.push(line)?,
+    }
+    Ok(())
+}
+
+fn follow_each<'a>(
+    told: &mut String,
+    bench: &mut Bench,
+    asked: &mut Vec<&'a str>,
+    script: &'a str,
+) -> Result<(), Fail> {
+    for line in script.lines() {
+        follow(told, bench, asked, left_of(line))?;
+    }
+    ask_all(told, bench, asked.as_slice())
+}
+
+fn tell_script(told: &mut String, bench: &mut Bench, script: &str) -> Result<(), Fail> {
+    let mut asked = Vec::new(bench.alloc);
+    follow_each(told, bench, &mut asked, script)
+}
+
+// Walks through a script, and what is answered is the same.
+fn follow_script(rt: &impl Abort, bench: &mut Bench, script: &str) -> Result<(), Fail> {
+    let mut told = String::new(bench.alloc);
+    tell_script(&mut told, bench, script)?;
+    expect_equal(rt, "script", told.as_str(), script);
+    Ok(())
+}
+
+fn close(bench: Bench) {
+    let Bench {
+        alloc: _,
+        groups: _,
+        cache: _,
+        flights,
+        device: _,
+    } = bench;
+    flights.abandon();
+}
+
+fn open_bench(rt: &impl Abort, alloc: Global) -> Result<Bench, OutOfMemory> {
+    let device = MemDevice::new(alloc, 8)?;
+    Ok(Bench {
+        alloc,
+        groups: Groups::new(alloc),
+        cache: open_zeros(rt, alloc, 8)?,
+        flights: Flights::new(alloc),
+        device,
+    })
+}
+
+fn walk(rt: &impl Abort, alloc: Global, script: &str) -> Result<(), Fail> {
+    let mut bench = open_bench(rt, alloc)?;
+    let walked = follow_script(rt, &mut bench, script);
+    close(bench);
+    walked
+}
+
+#[test]
+fn answers_are_as_worked(rt: HostRuntime) -> Result<(), Fail> {
+    for script in SCRIPTS {
+        walk(&rt, rt.alloc(), script)?;
+    }
+    Ok(())
+}
+
+// As many groups as there may be, and one more.
+fn begin_all(rt: &impl Abort, groups: &mut Groups) -> Result<(), Fail> {
+    for number in 0..MAX_GROUPS {
+        let group = groups.create()?;
+        expect_equal(rt, "group", group, GroupNo(number as u32));
+    }
+    Ok(())
+}
+
+#[test]
+fn groups_are_limited(rt: HostRuntime) -> Result<(), Fail> {
+    let mut groups = Groups::new(rt.alloc());
+    begin_all(&rt, &mut groups)?;
+    expect_equal(
+        &rt,
+        "one more",
+        groups.create(),
+        Err(GroupRefusal::TooManyGroups),
+    );
+    Ok(())
+}
