@@ -126,5 +126,5 @@ wrote_none run true steps e w = absurd (both_ways _ e refl)
 wrote_none run false steps e w = w.1
 
 pub wrote_some : (run : Execution) (b : Bool) (steps : List Step) → b ≡ true → HasWrittenOne run b steps → count_by is_send steps ≡ 1
-wrote_some run true steps e w = w
+wrote_some run true steps e w = subst (λ s. count_by is_send s ≡ 1) (sym w.2) refl
 wrote_some run false steps e w = absurd (both_ways _ refl e)
