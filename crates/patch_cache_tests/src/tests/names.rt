@@ -189,11 +189,18 @@ fn expect_looks_named(rt: &impl Abort) {
 }
 
 fn expect_flushes_named(rt: &impl Abort) {
-    let refusal = FlushRefusal::DeviceGaveUp(BlockNo(1));
-    expect_named(rt, refusal.code(), refusal.name(), (57, "DeviceGaveUp"));
-    let refusal = DeviceGaveUp(BlockNo(1));
-    expect_named(rt, refusal.code(), refusal.name(), (57, "DeviceGaveUp"));
-    expect_equal(rt, "kind", refusal.kind(), RefusalKind::DeviceGaveUp);
+    expect_named(
+        rt,
+        FlushRefusal::OutOfMemory.code(),
+        FlushRefusal::OutOfMemory.name(),
+        (1, "OutOfMemory"),
+    );
+    expect_named(
+        rt,
+        DeviceGaveUp(BlockNo(1)).code(),
+        DeviceGaveUp(BlockNo(1)).name(),
+        (57, "DeviceGaveUp"),
+    );
 }
 
 #[test]
