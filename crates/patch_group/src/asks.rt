@@ -1,8 +1,7 @@
 //! What is asked of a cache with groups, and what it answers.
-use crate::numbers::GroupNo;
 use crate::refusals::GroupRefusal;
 use patch_cache::{Answer, Ask};
-use patch_model::{BlockNo, Bytes, Numbers, Undo, WriterNo};
+use patch_model::{BlockNo, Bytes, GroupNo, Numbers, Undo, WriterNo};
 use std::alloc::{Allocator, Global};
 
 /// An ask of a list that [`run`](crate::Groups::run) goes through.

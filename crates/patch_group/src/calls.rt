@@ -6,10 +6,9 @@ ghost use Rattle.patch_group.specs.Groups.{no_groups, group_at, before, is_open,
 ghost use Rattle.patch_group.specs.Refusals.{group_cause};
 
 use crate::limits::MAX_GROUPS;
-use crate::numbers::GroupNo;
 use crate::records::Record;
 use crate::refusals::GroupRefusal;
-use patch_model::{OutOfMemory, WriterNo};
+use patch_model::{GroupNo, OutOfMemory, WriterNo};
 use std::alloc::{Allocator, Global};
 use std::marker::Model;
 

@@ -11,11 +11,10 @@ ghost use Rattle.patch_group.specs.Refusals.{group_cause};
 
 use crate::calls::Groups;
 use crate::laws;
-use crate::numbers::GroupNo;
 use crate::records::Run;
 use crate::refusals::GroupRefusal;
 use patch_cache::Cache;
-use patch_model::{Mark, PatchNo, laws as model_laws};
+use patch_model::{GroupNo, Mark, PatchNo, laws as model_laws};
 use std::alloc::Allocator;
 
 impl<A: Allocator + Copy> Groups<A> {

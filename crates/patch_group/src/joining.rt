@@ -8,11 +8,10 @@ ghost use Rattle.patch_group.specs.Groups.{AreApart, with_patch, after_of, enter
 ghost use Rattle.patch_group.specs.Records.{group_of, HasRoomAt, HaveRoom, names_of as engaged_by_writer};
 
 use crate::calls::Groups;
-use crate::numbers::GroupNo;
 use crate::records::Record;
 use crate::runs::add;
 use patch_cache::{Cache, CreateRefusal};
-use patch_model::{BlockNo, OutOfMemory, PatchNo, Undo, WriterNo};
+use patch_model::{BlockNo, GroupNo, OutOfMemory, PatchNo, Undo, WriterNo};
 use std::alloc::Allocator;
 
 impl<A: Allocator + Copy> Groups<A> {

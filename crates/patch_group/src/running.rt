@@ -11,10 +11,11 @@ ghost use Rattle.patch_group.specs.Runs.{asks_of, group_ask_of, group_answer_of,
 use crate::asks::{GroupAnswer, GroupAsk};
 use crate::calls::Groups;
 use crate::laws;
-use crate::numbers::GroupNo;
 use patch_cache::{Answer, Cache, Flights};
 use patch_device::Device;
-use patch_model::{BlockNo, OutOfMemory, PatchNo, Refuses, Undo, WriterNo, laws as model_laws};
+use patch_model::{
+    BlockNo, GroupNo, OutOfMemory, PatchNo, Refuses, Undo, WriterNo, laws as model_laws,
+};
 use std::alloc::Allocator;
 
 impl<A: Allocator + Copy> Groups<A> {

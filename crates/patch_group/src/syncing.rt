@@ -15,11 +15,10 @@ ghost use Rattle.patch_group.specs.declared.refusals.SyncRefusal.TheVariants as 
 use crate::calls::Groups;
 use crate::counting::is_pending;
 use crate::laws;
-use crate::numbers::GroupNo;
 use crate::refusals::SyncRefusal;
 use patch_cache::{Cache, Flights, FlushRefusal, laws as cache_laws};
 use patch_device::Device;
-use patch_model::{PatchNo, laws as model_laws};
+use patch_model::{GroupNo, PatchNo, laws as model_laws};
 use std::alloc::Allocator;
 
 /// Brings all patches of the group to the disk: completes all held flights, and then begins a write of the least block of

@@ -8,10 +8,9 @@ ghost use Rattle.patch_group.specs.Records.{numbers_of, patches_in};
 
 use crate::calls::Groups;
 use crate::counting::is_pending;
-use crate::numbers::GroupNo;
 use crate::records::Run;
 use patch_cache::Cache;
-use patch_model::{OutOfMemory, PatchNo};
+use patch_model::{GroupNo, OutOfMemory, PatchNo};
 use std::alloc::Allocator;
 
 impl<A: Allocator + Copy> Groups<A> {

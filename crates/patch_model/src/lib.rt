@@ -17,7 +17,7 @@ pub use blocks::{BLOCK, BlockBytes};
 pub use ending::Ending;
 pub use limits::{MAX_BLOCKS, MAX_LIVE, MAX_PATCHES, MAX_WRITER};
 pub use lists::{Bytes, Items, Numbers};
-pub use numbers::{BlockNo, PatchNo, WriterNo};
+pub use numbers::{BlockNo, GroupNo, PatchNo, WriterNo};
 pub use patches::{Mark, Patch, Undo};
 pub use piling::pile;
 pub use refusals::{OutOfMemory, Refusal, RefusalKind};

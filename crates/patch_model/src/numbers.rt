@@ -1,4 +1,4 @@
-//! Numbers of patches, blocks and writers, which contracts see as numbers.
+//! Numbers of patches, blocks, writers and groups, which contracts see as numbers.
 ghost use Rattle.std.specs.Prelude.{Some};
 ghost use Rattle.std.specs.Fmt.{decimal};
 
@@ -64,4 +64,26 @@ impl Model for WriterNo {
     ghost invariant = { λ n. n.0 ≤ MAX_WRITER };
 
     ghost inverse = { λ n. record { 0 = n } };
+}
+
+/// A group, by its place in the order of making: the first one made is 0.
+#[derive(Clone, Copy, Debug, PartialEq, Eq, PartialOrd, Ord, Hash)]
+pub struct GroupNo(pub u32);
+
+impl Model for GroupNo {
+    ghost use Rattle.std.specs.Prelude.{ℕ};
+
+    ghost Value = { ℕ };
+
+    ghost view = { λ n. n.0 };
+
+    ghost inverse = { λ n. record { 0 = n } };
+}
+
+impl fmt::Display for GroupNo {
+    ghost output = { λ n. Some (decimal n) };
+
+    fn fmt<W: fmt::Write>(&self, f: &mut fmt::Formatter<W>) -> fmt::Result {
+        write!(f, "{}", self.0)
+    }
 }
