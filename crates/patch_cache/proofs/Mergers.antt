@@ -14,8 +14,8 @@ use Rattle.patch_model.specs.declared.refusals.RefusalKind.TheVariants as kind
 use Rattle.patch_model.specs.Pile.{end, covers}
 use Rattle.patch_model.specs.Ready.{IsRising}
 use Rattle.patch_model.specs.Dependency.{Path, one, onward}
-use Rattle.patch_model.specs.Legal.{touch, block_at, is_undoable_at}
-use Rattle.patch_model.specs.Refusing.{with_number, why_not_near, is_memory_at, is_hard_at, IsBetween, IsLeastThird}
+use Rattle.patch_model.specs.Legal.{touch, block_of_patch, is_undoable_at}
+use Rattle.patch_model.specs.Refusing.{with_number, why_no_pair, is_memory_at, is_hard_at, IsBetween, IsLeastThird}
 use Rattle.patch_model.specs.Orderly.{IsOrderly, IsNumbered}
 use Rattle.patch_model.specs.Member.{In, In-filter, Contains-from_In, list_any-at, list_any-from}
 use Rattle.patch_model.specs.Execution.{Execution}
@@ -94,7 +94,7 @@ hard_at all n e at = ap (λ o. elim o [ Some x ↦ x.hard | None ↦ false ]) at
 pub name_at : (all : List Entry) (n : ℕ) (e : Entry) → slice_get all n ≡ Some e → class_of all n ≡ e.class
 name_at all n e at = ap (λ o. elim o [ Some x ↦ x.class | None ↦ n ]) at
 
-pub place_at : (all : List Entry) (n : ℕ) (e : Entry) → slice_get all n ≡ Some e → block_at all n ≡ e.patch.block
+pub place_at : (all : List Entry) (n : ℕ) (e : Entry) → slice_get all n ≡ Some e → block_of_patch all n ≡ e.patch.block
 place_at all n e at = ap (λ o. elim o [ Some x ↦ x.patch.block | None ↦ 0 ]) at
 
 marks_apart : (m : Mark) → marks_durable m ≡ true → marks_memory m ≡ false
@@ -136,7 +136,7 @@ undoable_at all n o u h = by (slice_get all n) refl
     by (Some e) at = (e, of_place all n e o u at)
 
 -- it is a patch of its block
-pub on_its_block : (run : Execution) (block n : ℕ) (e : Entry) → StandsAt (entries_of run) n e → block_at (entries_of run) n ≡ block → IsPatch (history_of run block) n e
+pub on_its_block : (run : Execution) (block n : ℕ) (e : Entry) → StandsAt (entries_of run) n e → block_of_patch (entries_of run) n ≡ block → IsPatch (history_of run block) n e
 on_its_block run block n e s there =
     let here : e.patch.block ≡ block = sym (place_at (entries_of run) n e s.at) ∙ there in
     record { is_in = In-filter (λ x. x.patch.block == block) (entries_of run) e s.is_in (let t : (e.patch.block == block) ≡ true = grind (arith, nat_tests) in t); number = s.number }
@@ -151,7 +151,7 @@ pub record IsKnown (all : List Entry) (n : ℕ) (c : LiveClass) : Type 0 where
   pub made : n < length all
   pub memory : is_memory_at all n ≡ true
   pub name : class_of all n ≡ c.name
-  pub block : block_at all n ≡ c.block
+  pub block : block_of_patch all n ≡ c.block
   pub hard : is_hard_at all n ≡ c.hard
 
 pub known : (all : List Entry) (n : ℕ) (c : LiveClass) → IsOrderly all → IsNumbered all → IsInMemory all n c → IsKnown all n c
@@ -256,7 +256,7 @@ made_both m a b h k = let u : nat_le m a ≡ false = grind (arith, nat_tests) in
 
 -- the first cause, as the two classes show it
 pub shown_apart : (all : List Entry) (a b : ℕ) (c d : LiveClass) → SpansAreWhole all → IsOrderly all → IsNumbered all → IsInMemory all a c → IsInMemory all b d
-    → why_not_near all a b ≡ why_apart a c b d
+    → why_no_pair all a b ≡ why_apart a c b d
 shown_apart all a b c d whole o u m n =
     let k = known all a c o u m in
     let l = known all b d o u n in
@@ -279,7 +279,7 @@ pub record AreTwo (all : List Entry) (a b : ℕ) : Type 0 where
   pub memory_b : is_memory_at all b ≡ true
   pub two : class_of all a ≢ class_of all b
 
-pub two_from : (all : List Entry) (a b : ℕ) → why_not_near all a b ≡ None → AreTwo all a b
+pub two_from : (all : List Entry) (a b : ℕ) → why_no_pair all a b ≡ None → AreTwo all a b
 two_from all a b h =
     let made = passed (nat_le (length all) a || nat_le (length all) b) _ _ h in
     let memory_a = passed (not (is_memory_at all a)) _ _ made.1 in
@@ -309,7 +309,7 @@ either_way all a b (Some n) none h = other_way all a b n none h
 
 -- the first patch is in memory, and the second isn't
 pub only_second : (all : List Entry) (a b : ℕ) (c : LiveClass) → IsOrderly all → IsNumbered all → IsInMemory all a c → b < length all → is_memory_at all b ≡ false
-    → why_not_near all a b ≡ Some (with_number kind.NotInMemory b)
+    → why_no_pair all a b ≡ Some (with_number kind.NotInMemory b)
 only_second all a b c o u m made off =
     let k = known all a c o u m in
     rw (made_both (length all) a b k.made made, k.memory, off) refl

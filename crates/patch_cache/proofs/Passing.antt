@@ -181,12 +181,12 @@ PlacedLaw = (run : Execution) (e : Entry) → IsLegal run → Contains (entries_
 
 pub flushed : {A : Type 0} → SomeLaw → PlacedLaw → SentLaw → (run : Execution) (cache : Contents) (flights : Flights A) → Runs cache flights run → held_by flights ≡ [] → ((b : ℕ) → why_not_sent run b ≡ None → ⊥) → IsFlushed run
 flushed some placed law run cache flights runs empty none =
-    let grounded = none_held run (held_by flights) runs.flights_are empty in
+    let no_flight = none_held run (held_by flights) runs.flights_are empty in
     record {
       none = λ e inside. by_mark e.mark
-          (λ t. let r = some run e runs.cache_is.legal (none_flying (state_of run).flights grounded) inside t in none r.0 ((law run r.0).1 (r.1, (grounded r.0, r.2))))
-          (λ t. let flies : has_flight (state_of run) e.patch.block ≡ true = placed run e runs.cache_is.legal inside t in let no = grounded e.patch.block in absurd (cc));
-      grounded = grounded;
+          (λ t. let r = some run e runs.cache_is.legal (none_flying (state_of run).flights no_flight) inside t in none r.0 ((law run r.0).1 (r.1, (no_flight r.0, r.2))))
+          (λ t. let flies : has_flight (state_of run) e.patch.block ≡ true = placed run e runs.cache_is.legal inside t in let no = no_flight e.patch.block in absurd (cc));
+      no_flight = no_flight;
     }
 
 -- How many.

@@ -7,13 +7,13 @@ use Rattle.patch_model.specs.Entry.{Entry}
 use Rattle.patch_model.specs.Execution.{Execution}
 use Rattle.patch_model.specs.State.{entries_of}
 use Rattle.patch_model.specs.Legal.{IsLegalMerge}
-use Rattle.patch_model.specs.Refusing.{with_number, why_not_near, IsBetween}
+use Rattle.patch_model.specs.Refusing.{with_number, why_no_pair, IsBetween}
 use Rattle.patch_cache.specs.Refusals.{IsWhyNotMerged, sooner, between}
 use Rattle.patch_cache.specs.Asks.{Ask, Create, Merge, Send, Complete, View, Answer, Made, Merged, Sent, Landed, Seen, Refused, IsAnswer, IsMergeAnswer}
 
 -- two classes merge just where no cause stands against it
 abbrev pub Merging : Type 0
-Merging = (all : List Entry) (a b : ℕ) → ((why_not_near all a b ≡ None) × ((c : ℕ) → IsBetween all a b c → ⊥)) ↔ IsLegalMerge all a b
+Merging = (all : List Entry) (a b : ℕ) → ((why_no_pair all a b ≡ None) × ((c : ℕ) → IsBetween all a b c → ⊥)) ↔ IsLegalMerge all a b
 
 never : Merging → (all : List Entry) (a b : ℕ) (cause : Refusal) → IsLegalMerge all a b → IsWhyNotMerged all a b cause → ⊥
 never law all a b cause legal (sooner some) = let none = ((law all a b).1 legal).0 in absurd (cc)

@@ -281,9 +281,9 @@ images_sent extend stay run block contents held = record {
       sym (list_any-append (λ (f : ℕ × ℕ). f.0 == b) (state_of run).flights ((block, (state_of run).sends) ∷ [])) ∙ sym (ap (λ (fs : List (ℕ × ℕ)). list_any (λ f. f.0 == b) fs) now) ∙ none in
       elim (cases_Bool (has_flight (state_of run) b)) [
         | inl flies ↦ (let no : true ≡ false = rw flies at parts in absurd (cc))
-        | inr grounded ↦ elim (cases_Bool (block == b)) [
-          | inl same ↦ (let no : true ≡ false = rw (grounded, same) at parts in absurd (cc))
-          | inr other ↦ held.images b known grounded ∙ sym (stay run (Send block) b (λ e. let same : block ≡ b = cc in is_other block b other same))
+        | inr no_flight ↦ elim (cases_Bool (block == b)) [
+          | inl same ↦ (let no : true ≡ false = rw (no_flight, same) at parts in absurd (cc))
+          | inr other ↦ held.images b known no_flight ∙ sym (stay run (Send block) b (λ e. let same : block ≡ b = cc in is_other block b other same))
         ]
       ];
 }
@@ -312,7 +312,7 @@ images_landed extend stay run block contents now done held =
             subst (λ n. slice_index_or now n [] ≡ image (history_of next n)) (sym same) (here ∙ sym (stay run (Complete block) block (λ e. absurd (cc))))
         | inr other ↦
             let flights : (state_of next).flights ≡ filter (λ (f : ℕ × ℕ). not (f.0 == block)) (state_of run).flights = ap (λ st. st.flights) (extend run (Complete block)) in
-            let grounded : has_flight (state_of run) b ≡ false = elim (cases_Bool (has_flight (state_of run) b)) [
+            let no_flight : has_flight (state_of run) b ≡ false = elim (cases_Bool (has_flight (state_of run) b)) [
               | inl flies ↦
                   let r = list_any-at (λ (f : ℕ × ℕ). f.0 == b) (state_of run).flights flies in
                   let kept = In-filter (λ (f : ℕ × ℕ). not (f.0 == block)) (state_of run).flights r.0 r.1 (other_number r.0.0 block (λ e. other (sym (is_same r.0.0 b r.2) ∙ e))) in
@@ -321,7 +321,7 @@ images_landed extend stay run block contents now done held =
                   absurd (cc)
               | inr g ↦ g
             ] in
-            ap (λ d. slice_index_or d b []) done ∙ get_or-set_other contents block b (image (history_of run block)) [] other ∙ held.images b known grounded ∙ sym (stay run (Complete block) b (λ e. absurd (cc)))
+            ap (λ d. slice_index_or d b []) done ∙ get_or-set_other contents block b (image (history_of run block)) [] other ∙ held.images b known no_flight ∙ sym (stay run (Complete block) b (λ e. absurd (cc)))
       ];
     }
 

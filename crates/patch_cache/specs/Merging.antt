@@ -7,8 +7,8 @@ use Rattle.patch_model.specs.Step.{Merge}
 use Rattle.patch_model.specs.Execution.{Execution, extended}
 use Rattle.patch_model.specs.Entry.{Entry}
 use Rattle.patch_model.specs.State.{entries_of, class_of}
-use Rattle.patch_model.specs.Legal.{IsLegal, IsLegalMerge, block_at}
-use Rattle.patch_model.specs.Refusing.{bare, with_number, why_not_near, IsBetween, IsLeastThird}
+use Rattle.patch_model.specs.Legal.{IsLegal, IsLegalMerge, block_of_patch}
+use Rattle.patch_model.specs.Refusing.{bare, with_number, why_no_pair, IsBetween, IsLeastThird}
 use Rattle.patch_model.specs.History.{history_of}
 use Rattle.patch_view.specs.State.{Block}
 use Rattle.patch_view.specs.Meaning.{Represents as IsBlockOf}
@@ -39,8 +39,8 @@ why_apart a c b d =
     else None
 
 -- no cause but a third class between them stands against a merge of the classes, which are of this block
-abbrev pub IsNear : Execution → (a b block : ℕ) → Type 0
-IsNear run a b block = (why_not_near (entries_of run) a b ≡ None) × (block ≡ block_at (entries_of run) a)
+abbrev pub ArePaired : Execution → (a b block : ℕ) → Type 0
+ArePaired run a b block = (why_no_pair (entries_of run) a b ≡ None) × (block ≡ block_of_patch (entries_of run) a)
 
 -- the least name of a class between them, if there is one
 abbrev pub IsThird : Execution → (a b : ℕ) → Option ℕ → Type 0
@@ -48,7 +48,7 @@ IsThird run a b third = MatchOption third ((c : ℕ) → IsBetween (entries_of r
 
 -- the classes may be merged, and are of this block
 abbrev pub MayMerge : Execution → (a b block : ℕ) → Type 0
-MayMerge run a b block = IsLegalMerge (entries_of run) a b × (block ≡ block_at (entries_of run) a)
+MayMerge run a b block = IsLegalMerge (entries_of run) a b × (block ≡ block_of_patch (entries_of run) a)
 
 -- the class of the merge has the lesser name, and the cache holds it
 abbrev pub IsMerged : Execution → (a b name : ℕ) → Contents → Type 0
@@ -59,11 +59,11 @@ IsMerged run a b name c =
 pub record MayMergeOn (run : Execution) (a b : ℕ) (state : Block) (graph : Graph) : Type 0 where
   pub run_legal : IsLegal run
   pub legal : IsLegalMerge (entries_of run) a b
-  pub on_block : IsBlockOf state [] (history_of run (block_at (entries_of run) a))
+  pub on_block : IsBlockOf state [] (history_of run (block_of_patch (entries_of run) a))
   pub in_graph : IsGraphOf graph (entries_of run)
 
 -- the class has this name, and its block and the graph hold it
 pub record IsMergedOn (run : Execution) (a b name : ℕ) (state : Block) (graph : Graph) : Type 0 where
   pub name_is : name ≡ min (class_of (entries_of run) a) (class_of (entries_of run) b)
-  pub on_block : IsBlockOf state [] (history_of (extended run (Merge a b)) (block_at (entries_of run) a))
+  pub on_block : IsBlockOf state [] (history_of (extended run (Merge a b)) (block_of_patch (entries_of run) a))
   pub in_graph : IsGraphOf graph (entries_of (extended run (Merge a b)))

@@ -4,7 +4,7 @@ use Rattle.patch_model.specs.declared.refusals.Refusal.{Refusal}
 use Rattle.patch_model.specs.declared.refusals.RefusalKind.TheVariants as kind
 use Rattle.patch_model.specs.Entry.{Entry}
 use Rattle.patch_model.specs.Legal.{IsLegalMerge}
-use Rattle.patch_model.specs.Refusing.{bare, with_number, why_not_near, IsLeastThird}
+use Rattle.patch_model.specs.Refusing.{bare, with_number, why_no_pair, IsLeastThird}
 use Rattle.patch_cache.specs.declared.refusals.ReadRefusal.{ReadRefusal}
 use Rattle.patch_cache.specs.declared.refusals.ReadRefusal.TheVariants as read
 use Rattle.patch_cache.specs.declared.refusals.CreateRefusal.{CreateRefusal}
@@ -70,8 +70,8 @@ IsCause (Some cause) refusal = refusal ≡ cause
 
 -- why two classes aren't merged
 pub data IsWhyNotMerged (all : List Entry) (a b : ℕ) : Refusal → Type 0 where
-  sooner : {cause : Refusal} → why_not_near all a b ≡ Some cause → IsWhyNotMerged all a b cause
-  between : {n : ℕ} → why_not_near all a b ≡ None → IsLeastThird all a b n → IsWhyNotMerged all a b (with_number kind.WouldCycle n)
+  sooner : {cause : Refusal} → why_no_pair all a b ≡ Some cause → IsWhyNotMerged all a b cause
+  between : {n : ℕ} → why_no_pair all a b ≡ None → IsLeastThird all a b n → IsWhyNotMerged all a b (with_number kind.WouldCycle n)
 
 -- the refusal of a merge has such a cause; where the merge is legal there was no memory
 pub data IsMergeCause (all : List Entry) (a b : ℕ) : Refusal → Type 0 where

@@ -131,7 +131,7 @@ IsPass run false steps = (steps ≡ []) × ((b : ℕ) → why_not_sent run b ≡
 -- no patch is in memory or in flight
 pub record IsFlushed (run : Execution) : Type 0 where
   pub none : (e : Entry) → Contains (entries_of run) e → is_live e ≡ false
-  pub grounded : (b : ℕ) → IsFalse (has_flight (state_of run) b)
+  pub no_flight : (b : ℕ) → IsFalse (has_flight (state_of run) b)
 
 -- one write was begun, of the least block of which one could begin, and was completed; or there was none to begin and
 -- nothing is left

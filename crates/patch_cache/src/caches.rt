@@ -121,7 +121,7 @@ impl<A: Allocator + Copy> Cache<A> {
         ensures same { self.new ≡ self.old }
     {
         model_laws::some_is_ready();
-        model_laws::near_classes_merge();
+        model_laws::pairs_merge();
         for at in 0..self.blocks() {
             let block = BlockNo(at);
             if self.why_not_sent(block).is_none() {

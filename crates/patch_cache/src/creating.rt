@@ -3,7 +3,7 @@ ghost use Rattle.std.specs.Prelude.{◌≡◌, ◌+◌, ◌<◌, ◌≤◌, ◌+
 ghost use Rattle.std.specs.List.{list_any};
 ghost use Rattle.patch_model.specs.Execution.{Execution};
 ghost use Rattle.patch_model.specs.Step.{Create};
-ghost use Rattle.patch_cache.specs.Creating.{why_not_created as the_cause, IsMade, MayLay, IsLaid};
+ghost use Rattle.patch_cache.specs.Creating.{why_not_created, IsMade, MayLay, IsLaid};
 ghost use Rattle.patch_cache.specs.Meaning.{Represents};
 ghost use Rattle.patch_cache.specs.Refusals.{create_cause, IsCause};
 
@@ -33,7 +33,7 @@ impl<A: Allocator + Copy> Cache<A> {
         ensures made { (run : Execution) → Represents self.old run → IfOk result (λ no.
             IsMade run block start bytes.now after.now undo no self.new) }
         ensures cause { (run : Execution) → Represents self.old run → IfErr result (λ refusal.
-            IsCause (the_cause run block start bytes.now after.now) (create_cause refusal)) }
+            IsCause (why_not_created run block start bytes.now after.now) (create_cause refusal)) }
         ensures trace { OnOk result (self.new.trace ≡ self.old.trace ++ Create block start bytes.now after.now undo ∷ []) }
         ensures refused { OnErr result (self.new ≡ self.old) }
     {
@@ -52,7 +52,7 @@ impl<A: Allocator + Copy> Cache<A> {
         after: &[PatchNo],
     ) -> Option<CreateRefusal>
         ensures cause { (run : Execution) → Represents self.now run
-            → option_map create_cause result ≡ the_cause run block start bytes.now after.now }
+            → option_map create_cause result ≡ why_not_created run block start bytes.now after.now }
         ensures known { IsNone result → block < length self.now.blocks }
         ensures some { IsNone result → 0 < length bytes.now }
         ensures fits { IsNone result → start + length bytes.now ≤ BLOCK }
@@ -92,7 +92,7 @@ impl<A: Allocator + Copy> Cache<A> {
         requires numbers_left { self.old.graph.made < MAX_PATCHES }
         requires live_left { self.old.live < MAX_LIVE }
         ensures made { (run : Execution) → Represents self.old run
-            → the_cause run block start bytes.now after.now ≡ None
+            → why_not_created run block start bytes.now after.now ≡ None
             → IfOk result (λ no. IsMade run block start bytes.now after.now undo no self.new) }
         ensures trace { OnOk result (self.new.trace ≡ self.old.trace ++ Create block start bytes.now after.now undo ∷ []) }
         ensures refused { OnErr result (self.new ≡ self.old) }

@@ -33,7 +33,7 @@ impl<A: Allocator + Copy> Cache<A> {
         ensures held { OnErr result (held_by flights.new ≡ held_by flights.old) }
     {
         model_laws::steps_extend();
-        model_laws::near_classes_merge();
+        model_laws::pairs_merge();
         model_laws::flights_are_ready();
         model_laws::images_stay();
         if self.why_not_sent(block).is_some() {
@@ -62,7 +62,7 @@ impl<A: Allocator + Copy> Cache<A> {
         ensures kept { IfOk result (λ sent. sent ≡ false → held_by flights.new ≡ held_by flights.old) }
     {
         model_laws::steps_extend();
-        model_laws::near_classes_merge();
+        model_laws::pairs_merge();
         model_laws::executions_are_orderly();
         model_laws::ready_is_largest();
         model_laws::images_stay();
@@ -100,7 +100,7 @@ impl<A: Allocator + Copy> Cache<A> {
         ensures device { IsSameDevice D.Device device.old device.new }
     {
         model_laws::steps_extend();
-        model_laws::near_classes_merge();
+        model_laws::pairs_merge();
         model_laws::executions_are_orderly();
         model_laws::ready_is_largest();
         model_laws::images_stay();
@@ -143,7 +143,7 @@ impl<A: Allocator + Copy> Cache<A> {
     {
         model_laws::trails_join();
         model_laws::some_is_ready();
-        model_laws::near_classes_merge();
+        model_laws::pairs_merge();
         model_laws::patches_are_placed();
         let turns = u64::from(self.live()) + 1;
         self.land(flights, device)?;

@@ -35,7 +35,7 @@ pub fn promise()
 pub fn answers_are_single()
     ensures { (run : Execution) (ask : Ask) (a b : Answer) → IsAnswer run ask a → IsAnswer run ask b → a ≡ b }
 {
-    patch_model::laws::near_classes_merge();
+    patch_model::laws::pairs_merge();
 }
 
 /// What is left of an honest device is what a crash may leave: where nothing changes, over a step that ends no write, and over

@@ -2,12 +2,12 @@
 ghost use Rattle.std.specs.Prelude.{◌≡◌, ◌<◌, ◌++◌, ◌∷◌, false, List, [], None, Some, length, option_map, MatchResult, MatchOption, IfOk, IfErr, OnOk, OnErr};
 ghost use Rattle.patch_model.specs.Entry.{Entry};
 ghost use Rattle.patch_model.specs.Execution.{Execution};
-ghost use Rattle.patch_model.specs.Refusing.{why_not_near, is_memory_at};
+ghost use Rattle.patch_model.specs.Refusing.{why_no_pair, is_memory_at};
 ghost use Rattle.patch_model.specs.Step.{Merge};
 ghost use Rattle.patch_model.specs.State.{entries_of};
 ghost use Rattle.patch_graph.specs.Meaning.{Represents as IsGraphOf};
 ghost use Rattle.patch_cache.specs.Meaning.{Represents};
-ghost use Rattle.patch_cache.specs.Merging.{IsInMemory, IsNear, IsThird, MayMerge, IsMerged, MayMergeOn, IsMergedOn, why_apart as as_apart};
+ghost use Rattle.patch_cache.specs.Merging.{IsInMemory, ArePaired, IsThird, MayMerge, IsMerged, MayMergeOn, IsMergedOn, why_apart};
 ghost use Rattle.patch_cache.specs.Refusals.{merge_cause, IsMergeCause};
 
 use crate::caches::Cache;
@@ -26,7 +26,7 @@ impl<A: Allocator + Copy> Cache<A> {
         ensures trace { OnOk result (self.new.trace ≡ self.old.trace ++ Merge a b ∷ []) }
         ensures refused { OnErr result (self.new ≡ self.old) }
     {
-        model_laws::near_classes_merge();
+        model_laws::pairs_merge();
         let block = self.block_of_both(a, b)?;
         if let Some(third) = self.third(a, b) {
             return Err(MergeRefusal::WouldCycle(third));
@@ -37,8 +37,8 @@ impl<A: Allocator + Copy> Cache<A> {
     /// The block of both classes, or the first cause against the merge, but for a third class between them.
     fn block_of_both(&self, a: PatchNo, b: PatchNo) -> Result<BlockNo, MergeRefusal>
         ensures answer { (run : Execution) → Represents self.now run → MatchResult result
-            (IsNear run a b)
-            (λ refusal. why_not_near (entries_of run) a b ≡ Some (merge_cause refusal)) }
+            (ArePaired run a b)
+            (λ refusal. why_no_pair (entries_of run) a b ≡ Some (merge_cause refusal)) }
         ensures known { IfOk result (λ block. block < length self.now.blocks) }
     {
         model_laws::spans_are_whole();
@@ -53,7 +53,7 @@ impl<A: Allocator + Copy> Cache<A> {
         let Some(second) = self.in_memory(b) else {
             return Err(MergeRefusal::NotInMemory(b));
         };
-        if let Some(refusal) = why_apart(a, &first, b, &second) {
+        if let Some(refusal) = pair_refusal(a, &first, b, &second) {
             return Err(refusal);
         }
         // Never so: each patch is of a block of the cache.
@@ -78,7 +78,7 @@ impl<A: Allocator + Copy> Cache<A> {
 
     /// The least name of a third class between those of two live patches, one way or the other.
     fn third(&mut self, a: PatchNo, b: PatchNo) -> Option<PatchNo>
-        ensures answer { (run : Execution) → Represents self.old run → why_not_near (entries_of run) a b ≡ None
+        ensures answer { (run : Execution) → Represents self.old run → why_no_pair (entries_of run) a b ≡ None
             → IsThird run a b result }
         ensures same { self.new ≡ self.old }
     {
@@ -132,8 +132,8 @@ fn join_on<A: Allocator + Copy>(
 }
 
 /// The first cause against a merge of two classes in memory that the classes themselves show.
-fn why_apart(a: PatchNo, first: &LiveClass, b: PatchNo, second: &LiveClass) -> Option<MergeRefusal>
-    ensures { option_map merge_cause result ≡ as_apart a first.now b second.now }
+fn pair_refusal(a: PatchNo, first: &LiveClass, b: PatchNo, second: &LiveClass) -> Option<MergeRefusal>
+    ensures { option_map merge_cause result ≡ why_apart a first.now b second.now }
 {
     if first.name == second.name {
         Some(MergeRefusal::Same)

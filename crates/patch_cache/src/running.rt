@@ -174,7 +174,7 @@ impl<A: Allocator + Copy> Cache<A> {
         ensures held { OnErr result (flights.new.held.items ≡ flights.old.held.items) }
     {
         model_laws::steps_extend();
-        model_laws::near_classes_merge();
+        model_laws::pairs_merge();
         model_laws::flights_are_ready();
         model_laws::images_stay();
         let numbers = self.graph.ready(self.alloc, block)?;

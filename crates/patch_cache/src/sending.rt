@@ -82,7 +82,7 @@ impl<A: Allocator + Copy> Cache<A> {
         model_laws::live_are_counted();
         model_laws::flights_are_ready();
         model_laws::classes_have_names();
-        model_laws::near_classes_merge();
+        model_laws::pairs_merge();
         model_laws::ready_is_largest();
         model_laws::sends_leave();
         view_laws::blocks_are_coherent();

@@ -1,5 +1,6 @@
 //! Laws of the formats. Each is the contract of a function that does nothing: who calls it may rest on the law.
 ghost use Rattle.std.specs.Prelude.{◌≡◌, ◌<◌, ◌≤◌, ◌^◌, ◌+◌, ◌++◌, ℕ, List, [], Option, Ok, length};
+ghost use Rattle.patch_model.specs.declared.blocks.TheConstants.{BLOCK};
 ghost use Rattle.patch_frame.specs.declared.geometries.Format.{Format as FormatFields};
 ghost use Rattle.patch_frame.specs.declared.geometries.Format.TheVariants.{Two};
 ghost use Rattle.patch_frame.specs.declared.pointers.TheConstants.{MAX_POINTER};
@@ -65,7 +66,7 @@ pub fn pointers_are_read_again()
 /// What is spelled is read, so different divisions of a disk have different superblocks.
 pub fn superblocks_are_read_again()
     ensures read { (g : GeometryFields) → IsGeometry g → superblock.superblock_at (superblock.spelling g) ≡ Ok g }
-    ensures length { (g : GeometryFields) → length (superblock.spelling g) ≡ 4096 }
+    ensures length { (g : GeometryFields) → length (superblock.spelling g) ≡ BLOCK }
 {}
 
 /// The superblocks of version 1 and of version 2 with extents of 16 blocks differ in bytes 8 to 23 alone, and the disks

@@ -10,7 +10,7 @@ use Rattle.patch_model.specs.Entry.{Entry, marks_memory, is_memory, is_durable, 
 use Rattle.patch_model.specs.State.{class_of, joined}
 use Rattle.patch_model.specs.Pile.{end}
 use Rattle.patch_model.specs.Ready.{IsRising}
-use Rattle.patch_model.specs.Legal.{IsLegalMerge, touch, is_undoable_at, block_at}
+use Rattle.patch_model.specs.Legal.{IsLegalMerge, touch, is_undoable_at, block_of_patch}
 use Rattle.patch_model.specs.Orderly.{IsOrderly}
 use Rattle.patch_model.specs.Member.{In, list_any-at, list_any-from}
 use Rattle.patch_graph.specs.State.{Class, Graph, Slots, Numbers, find, class_at}
@@ -101,10 +101,10 @@ map-swap x y (e ∷ es) = let h = joined-swap x y e in let t = map-swap x y es i
 module _ (g : Graph) (all : List Entry) (r : Represents g all) where
   -- the class of an undoable patch
   undoable : (n key : ℕ) → is_undoable_at all n ≡ true → find g.numbers n ≡ Some key
-      → (c : Class) × (class_at g.slots key ≡ Some c) × (c.name ≡ class_of all n) × (c.mark ≡ Memory) × (c.hard ≡ false) × (c.block ≡ block_at all n)
+      → (c : Class) × (class_at g.slots key ≡ Some c) × (c.name ≡ class_of all n) × (c.mark ≡ Memory) × (c.hard ≡ false) × (c.block ≡ block_of_patch all n)
   undoable n key t there = by (slice_get all n) refl
     where
-      by : (o : Option Entry) → slice_get all n ≡ o → (c : Class) × (class_at g.slots key ≡ Some c) × (c.name ≡ class_of all n) × (c.mark ≡ Memory) × (c.hard ≡ false) × (c.block ≡ block_at all n)
+      by : (o : Option Entry) → slice_get all n ≡ o → (c : Class) × (class_at g.slots key ≡ Some c) × (c.name ≡ class_of all n) × (c.mark ≡ Memory) × (c.hard ≡ false) × (c.block ≡ block_of_patch all n)
       by None at = let u : is_undoable_at all n ≡ false = ap (λ o. elim o [ Some e ↦ is_undoable e | None ↦ false ]) at in absurd (both_ways _ u t)
       by (Some e) at =
           let u : is_undoable e ≡ true = sym (ap (λ o. elim o [ Some e ↦ is_undoable e | None ↦ false ]) at) ∙ t in

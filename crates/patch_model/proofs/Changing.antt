@@ -10,7 +10,7 @@ use Rattle.patch_model.specs.Entry.{Entry, is_flight}
 use Rattle.patch_model.specs.Ready.{has, ready}
 use Rattle.patch_model.specs.State.{fresh, joined, sent, landed, class_of, entries_of, next_patch}
 use Rattle.patch_model.specs.History.{of_block, history_of, History}
-use Rattle.patch_model.specs.Legal.{IsLegal, IsLegalMerge, block_at}
+use Rattle.patch_model.specs.Legal.{IsLegal, IsLegalMerge, block_of_patch}
 use Rattle.patch_model.specs.Member.{In, Contains-from_In}
 use Rattle.patch_model.specs.Kept.{patch-joined, patch-landed, patch-sent}
 use Rattle.patch_model.proofs.Numbering.{state_of-extended, AreApart-run}
@@ -104,7 +104,7 @@ landed_elsewhere run block other ne = unchanged run other _ (landed_blocks run b
       | inr u ↦ rw u refl
     ]))
 
-pub merged_elsewhere : (run : Execution) (a b other : ℕ) → IsLegal run → IsLegalMerge (entries_of run) a b → other ≢ block_at (entries_of run) a
+pub merged_elsewhere : (run : Execution) (a b other : ℕ) → IsLegal run → IsLegalMerge (entries_of run) a b → other ≢ block_of_patch (entries_of run) a
     → history_of (extended run (Merge a b)) other ≡ history_of run other
 merged_elsewhere run a b other legal m ne = unchanged run other _ (merged_blocks run a b other ∙ map-still (joined (class_of (entries_of run) a) (class_of (entries_of run) b)) (history_of run other).entries (λ e i.
     let r = of_block-In other (entries_of run) e (Contains-from_In _ e i) in

@@ -10,7 +10,7 @@ use Rattle.patch_model.specs.Execution.{Execution}
 use Rattle.patch_model.specs.Entry.{Entry, marks_flight, marks_durable, is_memory, is_flight, is_among, is_undoable}
 use Rattle.patch_model.specs.Ready.{has, ready}
 use Rattle.patch_model.specs.State.{State, fresh, joined, sent, landed, class_of, after_step, after_steps, at_first, entries_of}
-use Rattle.patch_model.specs.Legal.{IsLegal, IsLegalStep, AreLegal, block_at}
+use Rattle.patch_model.specs.Legal.{IsLegal, IsLegalStep, AreLegal, block_of_patch}
 use Rattle.patch_model.specs.Crash.{AreWhole, crash_set}
 use Rattle.patch_model.specs.Member.{In, In-from_Contains, Contains-from_In, map-In}
 use Rattle.patch_model.specs.Kept.{class-landed, class-sent, patch-landed, patch-sent}
@@ -150,8 +150,8 @@ AreClasses-after_step blocks st (Merge a b) n legal o =
     let q = and_parts (is_memory y.0) (not y.0.hard) y.3 in
     let name_a : class_of st.entries a ≡ x.0.class = rw (x.2, class_of) refl in
     let name_b : class_of st.entries b ≡ y.0.class = rw (y.2, class_of) refl in
-    let block_a : block_at st.entries a ≡ x.0.patch.block = rw (x.2, block_at) refl in
-    let block_b : block_at st.entries b ≡ y.0.patch.block = rw (y.2, block_at) refl in
+    let block_a : block_of_patch st.entries a ≡ x.0.patch.block = rw (x.2, block_of_patch) refl in
+    let block_b : block_of_patch st.entries b ≡ y.0.patch.block = rw (y.2, block_of_patch) refl in
     let pair : AreAlike x.0 y.0 = record {
       mark = only_memory x.0.mark p.0 ∙ sym (only_memory y.0.mark q.0);
       block = sym block_a ∙ legal.one_block ∙ block_b;

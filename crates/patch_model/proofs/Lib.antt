@@ -20,7 +20,7 @@ pub mod Flights
 pub mod Taken
 pub mod Making
 pub mod Staying
-pub mod Nearing
+pub mod Pairing
 pub mod Counting
 pub mod Sending
 pub mod Flying

@@ -13,7 +13,7 @@ use Rattle.patch_model.specs.Execution.{Execution}
 use Rattle.patch_model.specs.Entry.{Entry, is_memory, is_live, is_undoable}
 use Rattle.patch_model.specs.Dependency.{class_depends, Path, LiesBetween, has_live}
 use Rattle.patch_model.specs.State.{class_of, entries_of}
-use Rattle.patch_model.specs.Legal.{IsLegal, IsLegalMerge, is_undoable_at, block_at}
+use Rattle.patch_model.specs.Legal.{IsLegal, IsLegalMerge, is_undoable_at, block_of_patch}
 use Rattle.patch_model.specs.History.{of_block, history_of}
 use Rattle.patch_model.specs.Orderly.{IsOrderly, IsNumbered, IsOrderlyBlock, MayJoin}
 use Rattle.patch_model.specs.Member.{In, In-from_Contains, Contains-from_In, In-filter, filter-In, list_any-from}
@@ -93,24 +93,24 @@ orderly_block run block legal there = record {
 module _ (run : Execution) (a b : ℕ) (legal : IsLegal run) (m : IsLegalMerge (entries_of run) a b) where
   -- a member of the class of a patch that may be taken back
   pub member : (n : ℕ) → IsTrue (is_undoable_at (entries_of run) n) → (e : Entry) → In (entries_of run) e → e.class ≡ class_of (entries_of run) n
-      → (is_undoable e ≡ true) × (e.patch.block ≡ block_at (entries_of run) n)
+      → (is_undoable e ≡ true) × (e.patch.block ≡ block_of_patch (entries_of run) n)
   member n h e i same =
       let x = at_number 0 (entries_of run) n is_undoable h in
       let name : class_of (entries_of run) n ≡ x.0.class = rw (x.2, class_of) refl in
-      let block : block_at (entries_of run) n ≡ x.0.patch.block = rw (x.2, block_at) refl in
+      let block : block_of_patch (entries_of run) n ≡ x.0.patch.block = rw (x.2, block_of_patch) refl in
       let p = and_parts (is_memory x.0) (not x.0.hard) x.3 in
       let like = (IsSettled-run run legal).classes.alike e x.0 i x.1 (same ∙ name) in
       let memory : is_memory e ≡ true = rw like.mark p.0 in
       let soft : not e.hard ≡ true = rw like.hard p.1 in (and_from (is_memory e) (not e.hard) memory soft, like.block ∙ sym block)
 
   abbrev here : List Entry
-  here = of_block (block_at (entries_of run) a) (entries_of run)
+  here = of_block (block_of_patch (entries_of run) a) (entries_of run)
 
   links : (c d : ℕ) → class_depends here c d ≡ true → class_depends (entries_of run) c d ≡ true
   links c d h =
       let l = Link-at here c d h in
-      let i = of_block-In (block_at (entries_of run) a) (entries_of run) l.from (Contains-from_In _ l.from l.in_from) in
-      let j = of_block-In (block_at (entries_of run) a) (entries_of run) l.to (Contains-from_In _ l.to l.in_to) in
+      let i = of_block-In (block_of_patch (entries_of run) a) (entries_of run) l.from (Contains-from_In _ l.from l.in_from) in
+      let j = of_block-In (block_of_patch (entries_of run) a) (entries_of run) l.to (Contains-from_In _ l.to l.in_to) in
       subst (λ n. class_depends (entries_of run) n d ≡ true) l.name_from (subst (λ n. class_depends (entries_of run) l.from.class n ≡ true) l.name_to
       (Link-from (entries_of run) l.from l.to i.0 j.0 (apart_in h l) l.depends))
 
@@ -139,15 +139,15 @@ module _ (run : Execution) (a b : ℕ) (legal : IsLegal run) (m : IsLegalMerge (
   pub may_join : MayJoin here (class_of (entries_of run) a) (class_of (entries_of run) b)
   may_join = record {
     two = m.two;
-    undoable = λ e i k. let j = of_block-In (block_at (entries_of run) a) (entries_of run) e i in elim k [
+    undoable = λ e i k. let j = of_block-In (block_of_patch (entries_of run) a) (entries_of run) e i in elim k [
       | inl same ↦ (member a m.undoable_a e j.0 same).0
       | inr same ↦ (member b m.undoable_b e j.0 same).0
     ];
     near = (let t = touch-at (entries_of run) (class_of (entries_of run) a) (class_of (entries_of run) b) m.near in
-        let x : t.0.patch.block ≡ block_at (entries_of run) a = (member a m.undoable_a t.0 t.2 t.4).1 in
-        let y : t.1.patch.block ≡ block_at (entries_of run) b = (member b m.undoable_b t.1 t.3 t.5).1 in
-        let in_x = In-from_Contains _ t.0 (In-of_block (block_at (entries_of run) a) (entries_of run) t.0 t.2 x) in
-        let in_y = In-from_Contains _ t.1 (In-of_block (block_at (entries_of run) a) (entries_of run) t.1 t.3 (y ∙ sym m.one_block)) in
+        let x : t.0.patch.block ≡ block_of_patch (entries_of run) a = (member a m.undoable_a t.0 t.2 t.4).1 in
+        let y : t.1.patch.block ≡ block_of_patch (entries_of run) b = (member b m.undoable_b t.1 t.3 t.5).1 in
+        let in_x = In-from_Contains _ t.0 (In-of_block (block_of_patch (entries_of run) a) (entries_of run) t.0 t.2 x) in
+        let in_y = In-from_Contains _ t.1 (In-of_block (block_of_patch (entries_of run) a) (entries_of run) t.1 t.3 (y ∙ sym m.one_block)) in
         touch-from here (class_of (entries_of run) a) (class_of (entries_of run) b) t.0 t.1 in_x in_y t.4 t.5 t.6 t.7);
     none_between = λ c ne ne2 k. elim k [
       | inl p ↦ m.none_between c (inl (between a b c m.undoable_b ne ne2 p.0 p.1))

@@ -1,5 +1,7 @@
 -- Laws of executions that take several lines.
 use Rattle.std.specs.Prelude.{ℕ, ◌≡◌, ◌≢◌, ◌+◌, ◌<◌, ◌≤◌, ◌++◌, ◌∷◌, IsTrue, List, [], All, count_by, length}
+use Rattle.patch_model.specs.declared.blocks.TheConstants.{BLOCK}
+use Rattle.patch_model.specs.declared.limits.TheConstants.{MAX_PATCHES, MAX_LIVE}
 use Rattle.patch_model.specs.declared.patches.Undo.{Undo}
 use Rattle.patch_model.specs.Step.{Step, Create}
 use Rattle.patch_model.specs.Pile.{end}
@@ -28,8 +30,8 @@ MadeHereAlone =
 -- what a patch has to keep to be made, in numbers
 abbrev pub KeepsLimits : (blocks : ℕ) (all : List Entry) (block start : ℕ) (bytes after : List ℕ) → Type 0
 KeepsLimits blocks all block start bytes after =
-    (block < blocks) × (0 < length bytes) × (start + length bytes ≤ 4096) × All (λ n. n < length all) after
-    × (length all < 16777216) × (count_by is_live all < 65536)
+    (block < blocks) × (0 < length bytes) × (start + length bytes ≤ BLOCK) × All (λ n. n < length all) after
+    × (length all < MAX_PATCHES) × (count_by is_live all < MAX_LIVE)
 
 -- between two patches of a class that change a byte, none of another class changes it
 abbrev pub NoneComesBetween : Type 0

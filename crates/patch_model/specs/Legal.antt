@@ -29,14 +29,14 @@ abbrev pub is_undoable_at : List Entry → ℕ → Bool
 is_undoable_at all n = elim (slice_get all n) [ Some e ↦ is_undoable e | None ↦ false ]
 
 -- the block of the patch of this number
-abbrev pub block_at : List Entry → ℕ → ℕ
-block_at all n = elim (slice_get all n) [ Some e ↦ e.patch.block | None ↦ 0 ]
+abbrev pub block_of_patch : List Entry → ℕ → ℕ
+block_of_patch all n = elim (slice_get all n) [ Some e ↦ e.patch.block | None ↦ 0 ]
 
 pub record IsLegalMerge (all : List Entry) (a b : ℕ) : Type 0 where
   pub undoable_a : IsTrue (is_undoable_at all a)
   pub undoable_b : IsTrue (is_undoable_at all b)
   pub two : class_of all a ≢ class_of all b
-  pub one_block : block_at all a ≡ block_at all b
+  pub one_block : block_of_patch all a ≡ block_of_patch all b
   pub near : IsTrue (touch all (class_of all a) (class_of all b))
   pub none_between : (c : ℕ) → LiesBetween all (class_of all a) (class_of all b) c ⊎ LiesBetween all (class_of all b) (class_of all a) c → ⊥
 

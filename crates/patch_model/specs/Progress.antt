@@ -5,7 +5,7 @@ use Rattle.patch_model.specs.Execution.{Execution, extended}
 use Rattle.patch_model.specs.Entry.{Entry, is_live}
 use Rattle.patch_model.specs.Ready.{ready}
 use Rattle.patch_model.specs.State.{class_of, has_flight, state_of, entries_of, flying_of, numbers_of}
-use Rattle.patch_model.specs.Legal.{IsLegalStep, block_at}
+use Rattle.patch_model.specs.Legal.{IsLegalStep, block_of_patch}
 use Rattle.patch_model.specs.History.{History, history_of}
 
 -- the patch is one of the execution's
@@ -29,7 +29,7 @@ abbrev pub class_in : Execution → ℕ → ℕ
 class_in run number = class_of (entries_of run) number
 
 abbrev pub block_in : Execution → ℕ → ℕ
-block_in run number = block_at (entries_of run) number
+block_in run number = block_of_patch (entries_of run) number
 
 -- how many patches are live
 abbrev pub live_count : Execution → ℕ

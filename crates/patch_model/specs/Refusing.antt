@@ -11,7 +11,7 @@ use Rattle.patch_model.specs.Entry.{Entry, is_memory, is_live, is_flight, is_amo
 use Rattle.patch_model.specs.Dependency.{class_depends, LiesBetween}
 use Rattle.patch_model.specs.Ready.{ready}
 use Rattle.patch_model.specs.State.{class_of, has_flight, state_of, entries_of}
-use Rattle.patch_model.specs.Legal.{touch, block_at}
+use Rattle.patch_model.specs.Legal.{touch, block_of_patch}
 use Rattle.patch_model.specs.History.{History}
 
 -- a refusal that carries no number
@@ -46,13 +46,13 @@ abbrev pub is_hard_at : List Entry → ℕ → Bool
 is_hard_at all n = elim (slice_get all n) [ Some e ↦ e.hard | None ↦ false ]
 
 -- why the classes of two patches aren't merged, but for a third class between them
-abbrev pub why_not_near : List Entry → (a b : ℕ) → Option Refusal
-why_not_near all a b =
+abbrev pub why_no_pair : List Entry → (a b : ℕ) → Option Refusal
+why_no_pair all a b =
     if nat_le (length all) a || nat_le (length all) b then Some (bare kind.Unknown)
     else if not (is_memory_at all a) then Some (with_number kind.NotInMemory a)
     else if not (is_memory_at all b) then Some (with_number kind.NotInMemory b)
     else if class_of all a == class_of all b then Some (bare kind.Same)
-    else if not (block_at all a == block_at all b) then Some (bare kind.OtherBlock)
+    else if not (block_of_patch all a == block_of_patch all b) then Some (bare kind.OtherBlock)
     else if is_hard_at all a then Some (with_number kind.Hard a)
     else if is_hard_at all b then Some (with_number kind.Hard b)
     else if not (touch all (class_of all a) (class_of all b)) then Some (bare kind.Apart)

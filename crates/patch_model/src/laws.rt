@@ -2,6 +2,8 @@
 ghost use Rattle.std.specs.Prelude.{ℕ, ◌≡◌, ◌≢◌, ◌<◌, ◌≤◌, ◌+◌, ◌==◌, ◌&&◌, ◌↔◌, [], IsTrue, None, List, Contains, All, length, map};
 ghost use Rattle.std.specs.List.{list_any};
 ghost use Rattle.std.specs.List.Sorted.{IsNonDecreasing};
+ghost use Rattle.patch_model.specs.declared.blocks.TheConstants.{BLOCK};
+ghost use Rattle.patch_model.specs.declared.limits.TheConstants.{MAX_BLOCKS, MAX_PATCHES, MAX_LIVE};
 ghost use Rattle.patch_model.specs.declared.patches.Undo.{Undo};
 ghost use Rattle.patch_model.specs.Patch.{Patch};
 ghost use Rattle.patch_model.specs.Step.{Step, Create, Merge, Send, Complete};
@@ -12,7 +14,7 @@ ghost use Rattle.patch_model.specs.Dependency.{shares_byte, depends_directly, Pa
 ghost use Rattle.patch_model.specs.Ready.{IsLargestWritable, IsRising, has, ready, ReadyIsOnly};
 ghost use Rattle.patch_model.specs.State.{joined, sent, landed, has_flight, after_step, state_of, entries_of};
 ghost use Rattle.patch_model.specs.Legal.{IsLegal, IsLegalCreate, IsLegalMerge, touch};
-ghost use Rattle.patch_model.specs.Refusing.{IsBetween, why_not_made, why_not_near, why_not_sent};
+ghost use Rattle.patch_model.specs.Refusing.{IsBetween, why_not_made, why_no_pair, why_not_sent};
 ghost use Rattle.patch_model.specs.History.{History, of_block, history_of, without, image, HoldsDependents, holds_dependents};
 ghost use Rattle.patch_model.specs.Orderly.{IsUnder, IsOrderly, IsNumbered, IsOrderlyBlock, MayJoin, MeetAt, IsClassUnder, left_behind};
 ghost use Rattle.patch_model.specs.Crash.{AreWhole, IsClosed, MayLeave, crash_set, with_image};
@@ -94,11 +96,11 @@ pub fn executions_are_orderly()
 
 /// How many blocks, patches, live patches and sends an execution has at most; and that it may begin with so many blocks.
 pub fn executions_are_limited()
-    ensures blocks { (run : Execution) → IsLegal run → length run.first ≤ 4096 }
-    ensures patches { (run : Execution) → IsLegal run → length (entries_of run) ≤ 16777216 }
-    ensures live { (run : Execution) → IsLegal run → live_count run ≤ 65536 }
-    ensures sends { (run : Execution) → IsLegal run → (state_of run).sends ≤ 16777216 }
-    ensures opened { (first : List (List ℕ)) → 0 < length first → length first ≤ 4096 → All (λ block. length block ≡ 4096) first
+    ensures blocks { (run : Execution) → IsLegal run → length run.first ≤ MAX_BLOCKS }
+    ensures patches { (run : Execution) → IsLegal run → length (entries_of run) ≤ MAX_PATCHES }
+    ensures live { (run : Execution) → IsLegal run → live_count run ≤ MAX_LIVE }
+    ensures sends { (run : Execution) → IsLegal run → (state_of run).sends ≤ MAX_PATCHES }
+    ensures opened { (first : List (List ℕ)) → 0 < length first → length first ≤ MAX_BLOCKS → All (λ block. length block ≡ BLOCK) first
         → IsLegal (record { first = first; steps = [] }) }
 {}
 
@@ -196,9 +198,9 @@ pub fn spans_are_whole()
 
 /// Two classes merge just where no cause of a refusal holds and no third class lies between them, and a write of a block
 /// begins just where none holds.
-pub fn near_classes_merge()
+pub fn pairs_merge()
     ensures legal { (all : List Entry) (a b : ℕ)
-        → ((why_not_near all a b ≡ None) × ((c : ℕ) → IsBetween all a b c → ⊥)) ↔ IsLegalMerge all a b }
+        → ((why_no_pair all a b ≡ None) × ((c : ℕ) → IsBetween all a b c → ⊥)) ↔ IsLegalMerge all a b }
     ensures sent { (run : Execution) (block : ℕ) → (why_not_sent run block ≡ None)
         ↔ ((block < length run.first) × MayFollow run (Send block)) }
 {}

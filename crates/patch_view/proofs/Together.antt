@@ -191,8 +191,8 @@ only-memory Memory d f = refl
 only-memory Flight d f = absurd (cc)
 only-memory Durable d f = absurd (cc)
 
-grounded-class : (h : History) (block : ℕ) (c : Class) → not c.flying ≡ true → IsClassOf h [] c → IsClassOf (changed (landed block) h) [] c
-grounded-class h block c on r = re-class (landed block) h c c.flying c.saved (landed-marking block) r
+unflown-class : (h : History) (block : ℕ) (c : Class) → not c.flying ≡ true → IsClassOf h [] c → IsClassOf (changed (landed block) h) [] c
+unflown-class h block c on r = re-class (landed block) h c c.flying c.saved (landed-marking block) r
     (λ e i is. let old = r.marked e i is in
     let out = landed-out block e (memory-not_flight e.mark (old.1 ∙ on)) in (ap is_durable out ∙ old.0, ap is_memory out ∙ old.1))
     ((λ t. (refl, refl)), r.no_saved)
@@ -215,7 +215,7 @@ lands_together b h block r o =
       coherent = orderly-changed (landed block) h m (landed-marks h block r.coherent o) r.coherent;
       holds = none-held H;
       bytes = r.bytes ∙ sym (without-changed (landed block) h m);
-      classes = λ i w. grounded-class h block (class_at (with_landed b) i) (filter_passes stays b.classes i no_class w)
+      classes = λ i w. unflown-class h block (class_at (with_landed b) i) (filter_passes stays b.classes i no_class w)
           (All-filter stays (IsClassOf h []) b.classes each i no_class w);
       complete = λ y i low. let q = map-In (landed block) h.entries y i in
           let out : is_flight q.0 ≡ false = elim (cases_Bool (is_flight q.0)) [

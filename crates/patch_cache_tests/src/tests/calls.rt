@@ -422,9 +422,9 @@ fn expect_unread(
 
 fn expect_all_unread(rt: &impl Abort, cache: &mut Cache) -> Result<(), Fail> {
     make_first(rt, cache)?;
-    expect_unread(rt, cache, 2, 0, 4097, ReadRefusal::NoSuchBlock);
-    expect_unread(rt, cache, 1, 0, 4097, ReadRefusal::OutOfBlock);
-    expect_unread(rt, cache, 1, 4096, 1, ReadRefusal::OutOfBlock);
+    expect_unread(rt, cache, 2, 0, BLOCK + 1, ReadRefusal::NoSuchBlock);
+    expect_unread(rt, cache, 1, 0, BLOCK + 1, ReadRefusal::OutOfBlock);
+    expect_unread(rt, cache, 1, BLOCK, 1, ReadRefusal::OutOfBlock);
     expect_unread(rt, cache, 1, usize::MAX, 2, ReadRefusal::OutOfBlock);
     Ok(())
 }
@@ -446,18 +446,18 @@ fn make_on_all(cache: &mut Cache) -> Result<(), CreateRefusal> {
 
 // A patch that names an unmade one.
 fn make_after_unmade(cache: &mut Cache) -> Result<PatchNo, CreateRefusal> {
-    cache.create(BlockNo(0), 0, &[0xbb], &[PatchNo(65536)], Undo::Keep)
+    cache.create(BlockNo(0), 0, &[0xbb], &[PatchNo(MAX_LIVE)], Undo::Keep)
 }
 
 // No patch more is made, and one that names an unmade patch is refused for that.
 fn expect_full(rt: &impl Abort, cache: &mut Cache) -> Result<(), Fail> {
     make_on_all(cache)?;
-    expect_counts(rt, cache, 65536, MAX_LIVE);
+    expect_counts(rt, cache, MAX_LIVE, MAX_LIVE);
     let more = make_many(cache, 0);
     expect_equal(rt, "more", more, Err(CreateRefusal::TooManyLive));
     let unnamed = Err(CreateRefusal::UnknownDependency);
     expect_equal(rt, "named", make_after_unmade(cache), unnamed);
-    expect_counts(rt, cache, 65536, MAX_LIVE);
+    expect_counts(rt, cache, MAX_LIVE, MAX_LIVE);
     Ok(())
 }
 

@@ -19,6 +19,9 @@ const LINES: [&str; 9] = [
     "complete 0",
 ];
 
+/// How many bytes the heap of a test has.
+pub const HEAP: usize = 65_536;
+
 // What an ask is refused for want of memory.
 const NO_MEMORY: Refusal = Refusal {
     kind: RefusalKind::OutOfMemory,
@@ -376,13 +379,13 @@ fn expect_refused(
 // All but the view and the completion.
 #[test]
 fn of_calls(rt: HostRuntime) -> Result<(), Fail> {
-    let heap = LocalHeap::new(rt.alloc(), 65536)?;
+    let heap = LocalHeap::new(rt.alloc(), HEAP)?;
     expect_refused(&rt, rt.alloc(), &heap, false, 7)
 }
 
 #[test]
 fn of_lists_of_one_ask(rt: HostRuntime) -> Result<(), Fail> {
-    let heap = LocalHeap::new(rt.alloc(), 65536)?;
+    let heap = LocalHeap::new(rt.alloc(), HEAP)?;
     expect_refused(&rt, rt.alloc(), &heap, true, 9)
 }
 
@@ -489,7 +492,7 @@ fn refuse_lists(rt: &impl Abort, alloc: Global, heap: &LocalHeap) -> Result<(), 
 
 #[test]
 fn of_a_list_of_each_kind_of_ask(rt: HostRuntime) -> Result<(), Fail> {
-    let heap = LocalHeap::new(rt.alloc(), 65536)?;
+    let heap = LocalHeap::new(rt.alloc(), HEAP)?;
     refuse_lists(&rt, rt.alloc(), &heap)
 }
 
@@ -542,7 +545,7 @@ fn refuse_to_open(rt: &impl Abort, alloc: Global, heap: &LocalHeap) -> Result<()
 
 #[test]
 fn of_opening(rt: HostRuntime) -> Result<(), Fail> {
-    let heap = LocalHeap::new(rt.alloc(), 65536)?;
+    let heap = LocalHeap::new(rt.alloc(), HEAP)?;
     refuse_to_open(&rt, rt.alloc(), &heap)
 }
 
@@ -742,7 +745,7 @@ fn attempt_in(rt: &impl Abort, alloc: Global, heap: &LocalHeap, trial: &Trial) -
 }
 
 fn try_out(rt: &impl Abort, alloc: Global, trial: &Trial) -> Result<(), Fail> {
-    let heap = LocalHeap::new(alloc, 65536)?;
+    let heap = LocalHeap::new(alloc, HEAP)?;
     attempt_in(rt, alloc, &heap, trial)
 }
 

@@ -1,5 +1,5 @@
 //! Writes in waves: flushes, flights that are landed, and writes one at a time.
-use super::memory::{expect_empty, fill, hole_of};
+use super::memory::{HEAP, expect_empty, fill, hole_of};
 use super::*;
 use linked_list_allocator::LocalHeap;
 use patch_device::{Device, FaultyDevice, MemDevice};
@@ -365,7 +365,7 @@ fn refuse_each(rt: &impl Abort, alloc: Global, heap: &LocalHeap) -> Result<usize
 
 #[test]
 fn flushes_go_on_after_want_of_memory(rt: HostRuntime) -> Result<(), Fail> {
-    let heap = LocalHeap::new(rt.alloc(), 65536)?;
+    let heap = LocalHeap::new(rt.alloc(), HEAP)?;
     let refused = refuse_each(&rt, rt.alloc(), &heap)?;
     assert!(rt; refused > 0);
     Ok(())

@@ -4,7 +4,7 @@ use Rattle.patch_model.specs.Execution.{extended}
 use Rattle.patch_model.specs.Entry.{Entry}
 use Rattle.patch_model.specs.State.{entries_of, class_of, joined}
 use Rattle.patch_model.specs.History.{History, history_of}
-use Rattle.patch_model.specs.Legal.{IsLegal, block_at}
+use Rattle.patch_model.specs.Legal.{IsLegal, block_of_patch}
 use Rattle.patch_model.specs.Orderly.{IsOrderly, MayJoin}
 use Rattle.patch_view.specs.History.{with_joined}
 use Rattle.patch_view.specs.Meaning.{Represents as IsBlockOf}
@@ -22,7 +22,7 @@ returns-clause-merged g c = λ run may_merge.
     let b : ℕ = c.args.b in
     let all : List Entry = entries_of run in
     let step : Step = Merge a b in
-    let block : ℕ = block_at all a in
+    let block : ℕ = block_of_patch all a in
     let legal : IsLegal (extended run step) = c.steps_extend.ensures.legal run step before lawful in
     let entries : entries_of (extended run step) ≡ map (joined (class_of all a) (class_of all b)) all = ap (λ st. st.entries) (c.steps_extend.ensures.state run step) in
     let orderly : IsOrderly (map (joined (class_of all a) (class_of all b)) all) = subst IsOrderly entries (c.executions_are_orderly.ensures.patches (extended run step) legal) in

@@ -18,13 +18,13 @@ returns-in_default-in_memory-clause-answer g c = λ run at.
     let less : c.b.inside.0 < c.made-made.result = c.if-b-made.false in
     only_second all c.args.a c.args.b c.in-Some.first holds.orderly holds.numbered (c.in-Some.ensures all holds) (omega (arith, made, is_b, less)) (c.in_default-in_memory.ensures all holds)
 
-pub returns-in-Some-why_apart-clause-answer : goal.returns-in-Some-why_apart-clause-answer
-returns-in-Some-why_apart-clause-answer g c = λ run at.
+pub returns-in-Some-pair_refusal-clause-answer : goal.returns-in-Some-pair_refusal-clause-answer
+returns-in-Some-pair_refusal-clause-answer g c = λ run at.
     let all : List Entry = entries_of run in
     let holds = at.graph in
     let whole : SpansAreWhole all = λ e e2 h h2. c.spans_are_whole.ensures.near run e e2 h h2 at.legal in
     shown_apart all c.args.a c.args.b c.in-Some.first c.in-Some-in_memory.second whole holds.orderly holds.numbered (c.in-Some.ensures all holds) (c.in-Some-in_memory.ensures all holds)
-    ∙ sym {b = why_apart c.args.a c.in-Some.first c.args.b c.in-Some-in_memory.second} c.in-Some-why_apart.ensures
+    ∙ sym {b = why_apart c.args.a c.in-Some.first c.args.b c.in-Some-in_memory.second} c.in-Some-pair_refusal.ensures
 
 pub returns-then-first-len-clause-answer : goal.returns-then-first-len-clause-answer
 returns-then-first-len-clause-answer g c = λ run at.
@@ -47,5 +47,5 @@ returns-clause-answer g c = λ run at.
     let whole : SpansAreWhole all = λ e e2 h h2. c.spans_are_whole.ensures.near run e e2 h h2 at.legal in
     let none =
     shown_apart all c.args.a c.args.b c.in-Some.first c.in-Some-in_memory.second whole holds.orderly holds.numbered (c.in-Some.ensures all holds) (c.in-Some-in_memory.ensures all holds)
-    ∙ sym {b = why_apart c.args.a c.in-Some.first c.args.b c.in-Some-in_memory.second} c.in_default-why_apart.ensures in
+    ∙ sym {b = why_apart c.args.a c.in-Some.first c.args.b c.in-Some-in_memory.second} c.in_default-pair_refusal.ensures in
     (none, sym (known all c.args.a c.in-Some.first holds.orderly holds.numbered (c.in-Some.ensures all holds)).block)

@@ -51,7 +51,7 @@ returns-then-not-branch-clause-flushed g c run runs =
     let pass = passed_none (followed_by run (steps_since old mid)) c.in_ok-send_all.field-0 (steps_since mid now) c.if-not-branch.true (told.pass _ first.runs) in
     let both = went_both run old mid now _ _ before.trace told.trace first (told.ran _ first.runs) in
     subst (λ s. IsFlushed (followed_by run s)) (sym parts)
-    (flushed_after c.some_is_ready.ensures c.patches_are_placed.ensures.flying c.near_classes_merge.ensures.sent run (steps_since old mid) (steps_since mid now) now _
+    (flushed_after c.some_is_ready.ensures c.patches_are_placed.ensures.flying c.pairs_merge.ensures.sent run (steps_since old mid) (steps_since mid now) now _
     (subst (λ s. Runs now c.send_all.new.flights (followed_by run s)) parts both.runs) (told.kept c.if-not-branch.true ∙ before.landed) pass.0 pass.1)
 
 -- a flight of the wave was given up

@@ -3,7 +3,7 @@ use Rattle.patch_model.specs.Step.{Step, Merge}
 use Rattle.patch_model.specs.StepOf.{step_of}
 use Rattle.patch_model.specs.Entry.{Entry}
 use Rattle.patch_model.specs.State.{entries_of}
-use Rattle.patch_model.specs.Legal.{block_at}
+use Rattle.patch_model.specs.Legal.{block_of_patch}
 use Rattle.patch_cache.specs.Contents.{Contents}
 use Rattle.patch_cache.specs.Meaning.{Represents}
 use Rattle.patch_cache.proofs.Stepping.{StepsOn, stepped, lent, put_back, unchanged, on_err}
@@ -22,7 +22,7 @@ returns-clause-merged g c = λ run at may.
     let b : ℕ = c.args.b in
     let all : List Entry = entries_of run in
     let step : Step = Merge a b in
-    let block : ℕ = block_at all a in
+    let block : ℕ = block_of_patch all a in
     let on : StepsOn run step block = record {
       legal = c.steps_extend.ensures.legal run step at.legal lawful;
       flights = ap (λ st. st.flights) (c.steps_extend.ensures.state run step);

@@ -23,7 +23,7 @@ pub returns-in_err-make_one-clause-cause : goal.returns-in_err-make_one-clause-c
 returns-in_err-make_one-clause-cause g c = λ run at.
     let all : List Entry = entries_of run in
     let near = (c.in_ok-block.ensures.answer run at).0 in
-    let lawful : IsLegalMerge all c.args.a c.args.b = (c.near_classes_merge.ensures.legal all c.args.a c.args.b).0 (near, c.in_default.ensures.answer run at near) in
+    let lawful : IsLegalMerge all c.args.a c.args.b = (c.pairs_merge.ensures.legal all c.args.a c.args.b).0 (near, c.in_default.ensures.answer run at near) in
     let why : IsMergeCause all c.args.a c.args.b (bare kind.OutOfMemory) = no_memory lawful in
     search rules
 
@@ -31,6 +31,6 @@ pub returns-clause-merged : goal.returns-clause-merged
 returns-clause-merged g c = λ run at.
     let all : List Entry = entries_of run in
     let here = c.in_ok-block.ensures.answer run at in
-    let lawful : IsLegalMerge all c.args.a c.args.b = (c.near_classes_merge.ensures.legal all c.args.a c.args.b).0 (here.0, c.in_default.ensures.answer run at here.0) in
+    let lawful : IsLegalMerge all c.args.a c.args.b = (c.pairs_merge.ensures.legal all c.args.a c.args.b).0 (here.0, c.in_default.ensures.answer run at here.0) in
     let still = subst (λ (s : Contents). Represents s run) (sym c.in_default.ensures.same) at in
     c.in_ok-make_one.ensures.merged run still (lawful, here.1)

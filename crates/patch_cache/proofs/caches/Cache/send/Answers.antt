@@ -1,6 +1,6 @@
 use Rattle.std.proofs.Common.{◌≡◌, ◌∙◌, None, map, sym, subst}
 use Rattle.patch_model.specs.Ready.{ready}
-use Rattle.patch_model.specs.Refusing.{why_not_sent as the_cause}
+use Rattle.patch_model.specs.Refusing.{why_not_sent}
 use Rattle.patch_model.specs.State.{entries_of, numbers_of}
 use Rattle.patch_model.specs.StepOf.{step_of}
 use Rattle.patch_graph.specs.State.{Graph}
@@ -10,7 +10,7 @@ use Rattle.patch_cache.proofs.caches.Cache.send.Goals as goal
 
 pub returns-in_ok-begin-in-None-clause-sent : goal.returns-in_ok-begin-in-None-clause-sent
 returns-in_ok-begin-in-None-clause-sent g c = λ run at.
-    let none : the_cause run c.args.block ≡ None = sym (c.in-None.ensures.cause run at) in
+    let none : why_not_sent run c.args.block ≡ None = sym (c.in-None.ensures.cause run at) in
     let with_graph : Graph → Contents = λ graph. record {
       blocks = c.self.inside.blocks.items;
       writes = c.self.inside.writes.items;

@@ -38,7 +38,7 @@ loop-at-preserved g c =
           subst (λ b. Passed run (c.loop-at.at + 1) b (steps_since old next) next c.send_if_ready.new.flights) (sym is)
           (subst (λ s. Passed run (c.loop-at.at + 1) (c.loop-at.sent || c.in_ok-more.more) s next c.send_if_ready.new.flights) (sym (since_more old mid next more before.trace told.trace))
           (pass_more c.trails_join.ensures c.steps_extend.ensures.state c.images_stay.ensures c.disks_stay.ensures c.executions_are_orderly.ensures.patches (λ run block. c.ready_is_largest.ensures.largest (entries_of run) block (c.ready_is_largest.ensures.made run))
-          c.near_classes_merge.ensures.sent run c.loop-at.at c.loop-at.sent c.in_ok-more.more (steps_since old mid) mid next c.loop-at.flights c.send_if_ready.new.flights first (told.sent _ first.gone.runs)));
+          c.pairs_merge.ensures.sent run c.loop-at.at c.loop-at.sent c.in_ok-more.more (steps_since old mid) mid next c.loop-at.flights c.send_if_ready.new.flights first (told.sent _ first.gone.runs)));
       trace = continues_both old mid next before.trace (continues mid next more told.trace);
       count =
           let so_far = before.count in
@@ -73,4 +73,4 @@ pub returns-clause-pass : goal.returns-clause-pass
 returns-clause-pass g c run runs =
     let first = c.loop-at.invariant.so_far run runs in
     let all = c.blocks-at-end.ensures.answer run runs.cache_is in
-    pass_ended c.near_classes_merge.ensures.sent run c.loop-at.at c.loop-at.sent (steps_since c.args.self.now c.loop-at.self) (let past = c.loop-at-test.false in omega (arith, all, past)) first.pass
+    pass_ended c.pairs_merge.ensures.sent run c.loop-at.at c.loop-at.sent (steps_since c.args.self.now c.loop-at.self) (let past = c.loop-at-test.false in omega (arith, all, past)) first.pass

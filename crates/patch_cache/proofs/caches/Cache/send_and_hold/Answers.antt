@@ -24,7 +24,7 @@ returns-clause-answer g c = λ run runs why.
     let done : is_ok c.extend_from_slice.result ≡ true = ap is_ok c.unwrap.ensures in
     let shown : c.from_vec-2.result ≡ flight.image =
     c.from_vec-2.ensures ∙ (rw done at c.extend_from_slice.ensures.items) ∙ ap (λ xs. xs ++ c.image.result.now) c.in_ok-answered_image.ensures.items ∙ c.image.ensures.bytes in
-    let startable = (c.near_classes_merge.ensures.sent run block).0 why in
+    let startable = (c.pairs_merge.ensures.sent run block).0 why in
     sent_answered run block c.from_vec.result c.from_vec-2.result c.begin.new.self (record { held = c.push_reserved.new.self }) why (told ∙ numbers) (shown ∙ sent.0.image_is)
     (record {
       cache_is = sent.1;

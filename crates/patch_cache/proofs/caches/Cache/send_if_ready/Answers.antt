@@ -14,7 +14,7 @@ returns-in-Ok-clause-sent g c = λ run runs.
     let before : Represents c.why_not_sent.new.self run = subst (λ (x : Contents). Represents x run) (sym c.why_not_sent.ensures.same) runs.cache_is in
     let done = c.in-Ok.ensures.sent run before in
     let held : c.push_reserved.new.self.items ≡ c.args.flights.now.held.items ++ flight ∷ [] = c.push_reserved.ensures.items ∙ ap (λ xs. xs ++ flight ∷ []) c.reserve.ensures.items in
-    let startable = (c.near_classes_merge.ensures.sent run block).0 done.0 in (
+    let startable = (c.pairs_merge.ensures.sent run block).0 done.0 in (
       done.0,
       record {
         cache_is = done.1.1;

@@ -23,7 +23,7 @@ returns-in_default-clause-wrote g c run runs empty =
     let still = subst (λ (x : Contents). Runs x c.args.flights.now run) (sym c.next_ready.ensures.same) runs in (
       none,
       subst (λ s. IsFlushed (followed_by run s)) (sym none)
-          (flushed_still run (flushed c.some_is_ready.ensures c.patches_are_placed.ensures.flying c.near_classes_merge.ensures.sent run now c.args.flights.now still empty (c.in_default.ensures.answer run runs.cache_is))),
+          (flushed_still run (flushed c.some_is_ready.ensures c.patches_are_placed.ensures.flying c.pairs_merge.ensures.sent run now c.args.flights.now still empty (c.in_default.ensures.answer run runs.cache_is))),
     )
 
 -- it was given up
@@ -48,7 +48,7 @@ returns-in_err-land-clause-ran g c run runs =
     let mid = c.send_if_ready.new.self in
     let block = c.in-Some.block in
     let sent = c.in_ok-send_if_ready in
-    let one = begun_gone c.steps_extend.ensures.state c.executions_are_orderly.ensures.patches (λ run block. c.ready_is_largest.ensures.largest (entries_of run) block (c.ready_is_largest.ensures.made run)) c.near_classes_merge.ensures.sent run block old still mid sent.field-0
+    let one = begun_gone c.steps_extend.ensures.state c.executions_are_orderly.ensures.patches (λ run block. c.ready_is_largest.ensures.largest (entries_of run) block (c.ready_is_largest.ensures.made run)) c.pairs_merge.ensures.sent run block old still mid sent.field-0
     c.args.flights.now c.send_if_ready.new.flights c.next_ready.ensures.same c.if-not-branch.false sent.ensures.trace (sent.ensures.sent run) runs in
     went_both run old mid c.land.new.self _ _ (continues old mid (Send block ∷ []) (begun_by old still mid block sent.field-0 c.next_ready.ensures.same c.if-not-branch.false sent.ensures.trace))
     c.land.ensures.trace one (c.land.ensures.ran _ one.runs)
@@ -65,7 +65,7 @@ returns-in_err-land-clause-disk g c honest =
     keeps_both c.trails_join.ensures old mid c.land.new.self c.args.flights.now c.send_if_ready.new.flights (device.had at) (device.had at) (device.had c.land.new.device) (device.contents at) (device.contents at) (device.contents c.land.new.device)
     (continues old mid (Send block ∷ []) (begun_by old still mid block sent.field-0 c.next_ready.ensures.same c.if-not-branch.false sent.ensures.trace)) c.land.ensures.trace
     (λ run runs.
-    begun_gone c.steps_extend.ensures.state c.executions_are_orderly.ensures.patches (λ run block. c.ready_is_largest.ensures.largest (entries_of run) block (c.ready_is_largest.ensures.made run)) c.near_classes_merge.ensures.sent run block old still mid sent.field-0
+    begun_gone c.steps_extend.ensures.state c.executions_are_orderly.ensures.patches (λ run block. c.ready_is_largest.ensures.largest (entries_of run) block (c.ready_is_largest.ensures.made run)) c.pairs_merge.ensures.sent run block old still mid sent.field-0
     c.args.flights.now c.send_if_ready.new.flights c.next_ready.ensures.same c.if-not-branch.false sent.ensures.trace (sent.ensures.sent run) runs)
     (λ run runs.
     begun_kept c.steps_extend.ensures.state c.images_stay.ensures c.disks_stay.ensures run block old still mid sent.field-0
@@ -80,7 +80,7 @@ returns-clause-ran g c run runs =
     let mid = c.send_if_ready.new.self in
     let block = c.in-Some.block in
     let sent = c.in_ok-send_if_ready in
-    let one = begun_gone c.steps_extend.ensures.state c.executions_are_orderly.ensures.patches (λ run block. c.ready_is_largest.ensures.largest (entries_of run) block (c.ready_is_largest.ensures.made run)) c.near_classes_merge.ensures.sent run block old still mid sent.field-0
+    let one = begun_gone c.steps_extend.ensures.state c.executions_are_orderly.ensures.patches (λ run block. c.ready_is_largest.ensures.largest (entries_of run) block (c.ready_is_largest.ensures.made run)) c.pairs_merge.ensures.sent run block old still mid sent.field-0
     c.args.flights.now c.send_if_ready.new.flights c.next_ready.ensures.same c.if-not-branch.false sent.ensures.trace (sent.ensures.sent run) runs in
     went_both run old mid c.land.new.self _ _ (continues old mid (Send block ∷ []) (begun_by old still mid block sent.field-0 c.next_ready.ensures.same c.if-not-branch.false sent.ensures.trace))
     c.land.ensures.trace one (c.land.ensures.ran _ one.runs)
@@ -97,7 +97,7 @@ returns-clause-disk g c honest =
     keeps_both c.trails_join.ensures old mid c.land.new.self c.args.flights.now c.send_if_ready.new.flights (device.had at) (device.had at) (device.had c.land.new.device) (device.contents at) (device.contents at) (device.contents c.land.new.device)
     (continues old mid (Send block ∷ []) (begun_by old still mid block sent.field-0 c.next_ready.ensures.same c.if-not-branch.false sent.ensures.trace)) c.land.ensures.trace
     (λ run runs.
-    begun_gone c.steps_extend.ensures.state c.executions_are_orderly.ensures.patches (λ run block. c.ready_is_largest.ensures.largest (entries_of run) block (c.ready_is_largest.ensures.made run)) c.near_classes_merge.ensures.sent run block old still mid sent.field-0
+    begun_gone c.steps_extend.ensures.state c.executions_are_orderly.ensures.patches (λ run block. c.ready_is_largest.ensures.largest (entries_of run) block (c.ready_is_largest.ensures.made run)) c.pairs_merge.ensures.sent run block old still mid sent.field-0
     c.args.flights.now c.send_if_ready.new.flights c.next_ready.ensures.same c.if-not-branch.false sent.ensures.trace (sent.ensures.sent run) runs)
     (λ run runs.
     begun_kept c.steps_extend.ensures.state c.images_stay.ensures c.disks_stay.ensures run block old still mid sent.field-0

@@ -1,5 +1,5 @@
-use Rattle.patch_model.proofs.Nearing as nearing
-use Rattle.patch_model.proofs.laws.near_classes_merge.Goals as goal
+use Rattle.patch_model.proofs.Pairing as nearing
+use Rattle.patch_model.proofs.laws.pairs_merge.Goals as goal
 
 pub returns-clause-legal : goal.returns-clause-legal
 returns-clause-legal c = nearing.near_or_legal
