@@ -143,7 +143,7 @@ fn lay_on<A: Allocator + Copy>(
     // That the block is whole, on which taking the patch off rests.
     let _whole = state.cached();
     let no = PatchNo(graph.made());
-    state.lay(no, start, bytes, after, false)?;
+    state.lay(no, start, bytes, after)?;
     let stop = start + bytes.len();
     match graph.add(block, start, stop, after, undo) {
         Ok(added) => {

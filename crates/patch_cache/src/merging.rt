@@ -132,7 +132,12 @@ fn join_on<A: Allocator + Copy>(
 }
 
 /// The first cause against a merge of two classes in memory that the classes themselves show.
-fn pair_refusal(a: PatchNo, first: &LiveClass, b: PatchNo, second: &LiveClass) -> Option<MergeRefusal>
+fn pair_refusal(
+    a: PatchNo,
+    first: &LiveClass,
+    b: PatchNo,
+    second: &LiveClass,
+) -> Option<MergeRefusal>
     ensures { option_map merge_cause result ≡ why_apart a first.now b second.now }
 {
     if first.name == second.name {

@@ -1,6 +1,7 @@
 //! Worked scripts, the calls one by one, writes in waves, want of memory, and the texts of refusals.
 use patch_cache::*;
 use patch_model::{BlockBytes, BlockNo, MAX_BLOCKS, OutOfMemory, PatchNo, Refusal, Refuses, Undo};
+use patch_testing::zeros;
 use std::alloc::Allocator;
 use std::fmt::Debug;
 use std::process::Abort;
@@ -16,27 +17,6 @@ mod waves;
 // Asserts of what is named.
 fn expect_equal<T: Copy + Debug + PartialEq>(rt: &impl Abort, what: &str, got: T, want: T) {
     assert_eq!(rt; got, want, "{what}");
-}
-
-fn push_zeros<A: Allocator + Copy>(
-    alloc: A,
-    blocks: &mut Vec<BlockBytes<A>, A>,
-    count: usize,
-) -> Result<(), OutOfMemory> {
-    for _ in 0..count {
-        blocks.push(BlockBytes::zeros(alloc)?)?;
-    }
-    Ok(())
-}
-
-// So many blocks of zeros.
-fn zeros<A: Allocator + Copy>(
-    alloc: A,
-    count: usize,
-) -> Result<Vec<BlockBytes<A>, A>, OutOfMemory> {
-    let mut blocks = Vec::new(alloc);
-    push_zeros(alloc, &mut blocks, count)?;
-    Ok(blocks)
 }
 
 fn open<A: Allocator + Copy>(

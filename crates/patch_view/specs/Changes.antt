@@ -13,10 +13,10 @@ use Rattle.patch_view.specs.Meaning.{Represents}
 use Rattle.patch_view.specs.Answers.{IsPatch}
 
 -- the patch is laid on any block's history where it may come next
-abbrev pub Lays : {X E : Type 0} → Block → (number start : ℕ) (bytes after : List ℕ) (hard : Bool) → Result X E → Block → Type 0
-Lays old number start bytes after hard result new =
-    (h : History) (block : ℕ) (undo : Undo) → Represents old [] h → IsNext h (made number block start bytes after undo hard)
-    → OnOk result (Represents new [] (laid h (made number block start bytes after undo hard)))
+abbrev pub Lays : {X E : Type 0} → Block → (number start : ℕ) (bytes after : List ℕ) → Result X E → Block → Type 0
+Lays old number start bytes after result new =
+    (h : History) (block : ℕ) (undo : Undo) → Represents old [] h → IsNext h (made number block start bytes after undo false)
+    → OnOk result (Represents new [] (laid h (made number block start bytes after undo false)))
 
 -- a block on which a patch was laid last is as before that
 abbrev pub Unlays : Block → Block → Type 0

@@ -47,25 +47,24 @@ impl<A: Allocator> BlockState<A> {
         }
     }
 
-    /// Lays a patch on the block, in memory and a class of its own. Its number is above those of the block's other patches,
-    /// its bytes are at least one, and what it names was made before it. Of a hard patch, which is never taken back, no bytes
-    /// are kept. Without memory nothing is changed.
+    /// Lays a patch on the block, in memory and a class of its own, with the bytes that are kept of it. Its number is above
+    /// those of the block's other patches, its bytes are at least one, and what it names was made before it. Without memory
+    /// nothing is changed.
     pub fn lay(
         &mut self,
         no: PatchNo,
         start: usize,
         bytes: &[u8],
         after: &[PatchNo],
-        hard: bool,
     ) -> Result<(), OutOfMemory>
     where
         A: Clone,
         requires { start + length bytes.now ≤ BLOCK }
-        ensures answer { Lays self.old no start bytes.now after.now hard result self.new }
-        ensures laid { OnOk result (IsLaid self.old no start bytes.now after.now hard self.new) }
+        ensures answer { Lays self.old no start bytes.now after.now result self.new }
+        ensures laid { OnOk result (IsLaid self.old no start bytes.now after.now false self.new) }
         ensures refused { OnErr result (self.new ≡ self.old) }
     {
-        self.lay_exactly(no, start, bytes, after, hard)?;
+        self.lay_exactly(no, start, bytes, after)?;
         Ok(())
     }
 
@@ -75,17 +74,16 @@ impl<A: Allocator> BlockState<A> {
         start: usize,
         bytes: &[u8],
         after: &[PatchNo],
-        hard: bool,
     ) -> Result<(), OutOfMemory>
     where
         A: Clone,
         requires { start + length bytes.now ≤ BLOCK }
-        ensures done { OnOk result (IsLaid self.old no start bytes.now after.now hard self.new) }
+        ensures done { OnOk result (IsLaid self.old no start bytes.now after.now false self.new) }
         ensures refused { OnErr result (self.new ≡ self.old) }
     {
         let mut all = Vec::from_slice(self.bytes.allocator().clone()?, after)?;
         sort(all.as_mut_slice());
-        self.lay_with(no, start, bytes, all, hard)
+        self.lay_with(no, start, bytes, all)
     }
 
     /// Lays a patch that names these.
@@ -95,26 +93,20 @@ impl<A: Allocator> BlockState<A> {
         start: usize,
         bytes: &[u8],
         all: Vec<PatchNo, A>,
-        hard: bool,
     ) -> Result<(), OutOfMemory>
     where
         A: Clone,
         requires fits { start + length bytes.now ≤ BLOCK }
         requires rising { IsNonDecreasing all.items }
-        ensures done { OnOk result (self.new ≡ with_laid self.old no start bytes.now all.items hard) }
+        ensures done { OnOk result (self.new ≡ with_laid self.old no start bytes.now all.items false) }
         ensures refused { OnErr result (self.new ≡ self.old) }
     {
         self.classes.reserve(1)?;
         let stop = start + bytes.len();
         let members = Vec::from_slice(self.bytes.allocator().clone()?, &[no])?;
-        let kept = if hard { &bytes[..0] } else { bytes };
-        let mut saved = Vec::from_slice(self.bytes.allocator().clone()?, kept)?;
-        if hard {
-            self.bytes[start..stop].copy_from_slice(bytes);
-        } else {
-            swap_span(self.bytes.as_mut_slice(), start, saved.as_mut_slice());
-        }
-        let class = Class::new(no, members, start, stop, saved, all, hard);
+        let mut saved = Vec::from_slice(self.bytes.allocator().clone()?, bytes)?;
+        swap_span(self.bytes.as_mut_slice(), start, saved.as_mut_slice());
+        let class = Class::new(no, members, start, stop, saved, all);
         // Never refused: the room for it was made above.
         self.classes.push(class).unwrap();
         Ok(())

@@ -147,7 +147,7 @@ impl<A: Allocator> Class<A> {
         }
     }
 
-    /// The record of a class of one patch, in memory and applied.
+    /// The record of a class of one undoable patch, in memory and applied.
     pub(crate) fn new(
         no: PatchNo,
         members: Vec<PatchNo, A>,
@@ -155,7 +155,6 @@ impl<A: Allocator> Class<A> {
         stop: usize,
         saved: Vec<u8, A>,
         after: Vec<PatchNo, A>,
-        hard: bool,
     ) -> Class<A>
         requires long { start + length saved.items ≤ stop }
         requires fits { stop ≤ BLOCK }
@@ -169,7 +168,7 @@ impl<A: Allocator> Class<A> {
           saved = saved.items;
           after = after.items;
           flying = false;
-          hard = hard;
+          hard = false;
           taken = false;
         } }
     {
@@ -181,7 +180,7 @@ impl<A: Allocator> Class<A> {
             saved,
             after,
             flying: false,
-            hard,
+            hard: false,
             taken: false,
         }
     }

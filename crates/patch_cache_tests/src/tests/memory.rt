@@ -4,6 +4,7 @@ use super::*;
 use linked_list_allocator::LocalHeap;
 use patch_device::MemDevice;
 use patch_model::{Mark, RefusalKind};
+use patch_testing::{HEAP, fill, hole_of};
 use std::alloc::Global;
 
 // Asks of each kind, in the words of the scripts.
@@ -18,9 +19,6 @@ const LINES: [&str; 9] = [
     "send 1",
     "complete 0",
 ];
-
-/// How many bytes the heap of a test has.
-pub const HEAP: usize = 65_536;
 
 // What an ask is refused for want of memory.
 const NO_MEMORY: Refusal = Refusal {
@@ -48,57 +46,6 @@ fn shown(cache: &mut Cache<&LocalHeap>) -> Shown {
 
 fn expect_shown(rt: &impl Abort, cache: &mut Cache<&LocalHeap>, want: Shown) {
     expect_equal(rt, "shown", shown(cache), want);
-}
-
-// Pieces of a heap.
-pub(super) type Ballast<'a> = Vec<Vec<u8, &'a LocalHeap>>;
-
-// Takes up to 64 pieces of this size.
-fn take_pieces<'a>(
-    heap: &'a LocalHeap,
-    ballast: &mut Ballast<'a>,
-    size: usize,
-) -> Result<(), OutOfMemory> {
-    for _ in 0..64 {
-        let Ok(piece) = Vec::with_capacity(heap, size) else {
-            break;
-        };
-        ballast.push(piece)?;
-    }
-    Ok(())
-}
-
-fn take_all<'a>(heap: &'a LocalHeap, ballast: &mut Ballast<'a>) -> Result<(), OutOfMemory> {
-    for size in [16384usize, 4096, 1024, 256, 64, 16] {
-        take_pieces(heap, ballast, size)?;
-    }
-    Ok(())
-}
-
-// All of a heap's memory.
-fn all_of<'a>(alloc: Global, heap: &'a LocalHeap) -> Result<Ballast<'a>, OutOfMemory> {
-    let mut ballast = Vec::new(alloc);
-    take_all(heap, &mut ballast)?;
-    Ok(ballast)
-}
-
-// Takes all of a heap's memory but one hole of this size.
-pub(super) fn fill<'a>(
-    alloc: Global,
-    heap: &'a LocalHeap,
-    hole: usize,
-) -> Result<Ballast<'a>, OutOfMemory> {
-    let kept: Vec<u8, &'a LocalHeap> = Vec::with_capacity(heap, hole)?;
-    let ballast = all_of(alloc, heap);
-    drop(kept);
-    ballast
-}
-
-// A hole larger than that of the size before it.
-pub(super) fn hole_of(size: usize) -> usize {
-    let small = size.min(64);
-    let large = size.saturating_sub(small).min(1000);
-    small * 16 + large * 64
 }
 
 fn push_asks<'a>(heap: &'a LocalHeap, asks: &mut Vec<Ask<&'a LocalHeap>>) -> Result<(), Fail> {

@@ -1,9 +1,10 @@
 //! Writes in waves: flushes, flights that are landed, and writes one at a time.
-use super::memory::{HEAP, expect_empty, fill, hole_of};
+use super::memory::expect_empty;
 use super::*;
 use linked_list_allocator::LocalHeap;
 use patch_device::{Device, FaultyDevice, MemDevice};
 use patch_model::{BLOCK, Mark};
+use patch_testing::{HEAP, fill, hole_of};
 use std::alloc::Global;
 
 // A cache of two blocks with its flights.

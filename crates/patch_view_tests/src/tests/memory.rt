@@ -8,12 +8,12 @@ use std::process::Abort;
 use std::test::Fail;
 
 fn lay_one_over_another(block: &mut BlockState<&LocalHeap>) -> Result<(), OutOfMemory> {
-    block.lay(PatchNo(0), 0, &[1; 500], &[], false)?;
-    block.lay(PatchNo(1), 0, &[2; 500], &[PatchNo(0)], false)
+    block.lay(PatchNo(0), 0, &[1; 500], &[])?;
+    block.lay(PatchNo(1), 0, &[2; 500], &[PatchNo(0)])
 }
 
 fn lay_and_unlay(block: &mut BlockState<&LocalHeap>) -> Result<(), OutOfMemory> {
-    block.lay(PatchNo(2), 0, &[3; 500], &[], false)?;
+    block.lay(PatchNo(2), 0, &[3; 500], &[])?;
     block.unlay();
     Ok(())
 }
@@ -46,8 +46,8 @@ fn memory_is_given_back(rt: HostRuntime) -> Result<(), Fail> {
 }
 
 fn lay_two_that_touch(block: &mut BlockState<&LocalHeap>) -> Result<(), OutOfMemory> {
-    block.lay(PatchNo(0), 0, &[1; 500], &[], false)?;
-    block.lay(PatchNo(1), 400, &[2; 500], &[], false)
+    block.lay(PatchNo(0), 0, &[1; 500], &[])?;
+    block.lay(PatchNo(1), 400, &[2; 500], &[])
 }
 
 // A joint that is let go keeps no memory.
@@ -138,12 +138,12 @@ fn expect_merged(rt: &impl Abort, block: &mut BlockState<&LocalHeap>) {
 // Lays two patches and makes them one, and tells whether all was done: after a refusal the block shows what it showed
 // before.
 fn grow(rt: &impl Abort, block: &mut BlockState<&LocalHeap>, at_once: bool) -> bool {
-    let first = block.lay(PatchNo(0), 0, &[1, 2, 3], &[], false);
+    let first = block.lay(PatchNo(0), 0, &[1, 2, 3], &[]);
     if first.is_err() {
         expect_nothing_laid(rt, block);
         return false;
     }
-    let second = block.lay(PatchNo(1), 2, &[4, 5], &[PatchNo(0)], false);
+    let second = block.lay(PatchNo(1), 2, &[4, 5], &[PatchNo(0)]);
     if second.is_err() {
         expect_one_laid(rt, block);
         return false;

@@ -15,8 +15,8 @@ use std::test::Fail;
 
 #[derive(Clone, Copy)]
 enum Deed<'a> {
-    // Lays a patch of this number at this place: at most four bytes, the patch that it names, and whether it is hard.
-    Lay(u32, usize, &'a [u8], Option<u32>, bool),
+    // Lays a patch of this number at this place: at most four bytes, and the patch that it names.
+    Lay(u32, usize, &'a [u8], Option<u32>),
     Unlay,
     Harden,
     Join(u32, u32),
@@ -72,7 +72,7 @@ fn piled(
 ) -> Result<BlockBytes, OutOfMemory> {
     let mut patches = Vec::new(alloc);
     for line in lines {
-        if let Deed::Lay(no, start, bytes, _, _) = &line.0 {
+        if let Deed::Lay(no, start, bytes, _) = &line.0 {
             if !out.contains(no) {
                 patches.push(patch_of(rt, alloc, *no, *start, bytes)?)?;
             }
@@ -89,12 +89,11 @@ fn lay(
     start: usize,
     bytes: &[u8],
     after: Option<u32>,
-    hard: bool,
 ) -> Result<(), OutOfMemory> {
     assert!(rt; start <= 100 && bytes.len() <= 4);
     match after {
-        Some(named) => block.lay(PatchNo(no), start, bytes, &[PatchNo(named)], hard),
-        None => block.lay(PatchNo(no), start, bytes, &[], hard),
+        Some(named) => block.lay(PatchNo(no), start, bytes, &[PatchNo(named)]),
+        None => block.lay(PatchNo(no), start, bytes, &[]),
     }
 }
 
@@ -115,9 +114,7 @@ fn expect_back(
 
 fn act(rt: &impl Abort, block: &mut BlockState, deed: &Deed) -> Result<(), OutOfMemory> {
     match deed {
-        Deed::Lay(no, start, bytes, after, hard) => {
-            return lay(rt, block, *no, *start, bytes, *after, *hard);
-        }
+        Deed::Lay(no, start, bytes, after) => return lay(rt, block, *no, *start, bytes, *after),
         Deed::Join(a, b) => return block.join(PatchNo(*a), PatchNo(*b)),
         Deed::Draw(a, b, drawn) => assert_eq!(rt; has_joint(block, *a, *b)?, *drawn),
         Deed::JoinBy(a, b) => return join_by(block, *a, *b),
@@ -180,8 +177,8 @@ fn walk(rt: &impl Abort, alloc: Global, lines: &[Line]) -> Result<(), Fail> {
 }
 
 const ONE_OVER_ANOTHER: [Line<'static>; 12] = [
-    Line(Deed::Lay(0, 0, &[0xa1, 0xa2, 0xa3, 0xa4], None, false), &[]),
-    Line(Deed::Lay(1, 2, &[0xb1, 0xb2, 0xb3, 0xb4], None, false), &[]),
+    Line(Deed::Lay(0, 0, &[0xa1, 0xa2, 0xa3, 0xa4], None), &[]),
+    Line(Deed::Lay(1, 2, &[0xb1, 0xb2, 0xb3, 0xb4], None), &[]),
     Line(Deed::Take(0, Err(DependentApplied(PatchNo(1)))), &[]),
     Line(Deed::Take(1, Ok(())), &[1]),
     Line(Deed::Take(0, Ok(())), &[0, 1]),
@@ -200,9 +197,9 @@ fn the_upper_of_two_is_taken_first(rt: HostRuntime) -> Result<(), Fail> {
 }
 
 const THREE_APART: [Line<'static>; 12] = [
-    Line(Deed::Lay(0, 0, &[0xaa], None, false), &[]),
-    Line(Deed::Lay(1, 4, &[0xbb], None, false), &[]),
-    Line(Deed::Lay(2, 8, &[0xcc], None, false), &[]),
+    Line(Deed::Lay(0, 0, &[0xaa], None), &[]),
+    Line(Deed::Lay(1, 4, &[0xbb], None), &[]),
+    Line(Deed::Lay(2, 8, &[0xcc], None), &[]),
     Line(Deed::Take(0, Ok(())), &[0]),
     Line(Deed::Back(2, Err(NotTaken)), &[0]),
     Line(Deed::Take(2, Ok(())), &[0, 2]),
@@ -219,16 +216,17 @@ fn patches_apart_are_taken_in_any_order(rt: HostRuntime) -> Result<(), Fail> {
     walk(&rt, rt.alloc(), &THREE_APART)
 }
 
-const NAMED_AND_HARD: [Line<'static>; 11] = [
-    Line(Deed::Lay(0, 0, &[0xaa], None, false), &[]),
-    Line(Deed::Lay(1, 4, &[0xbb], Some(0), false), &[]),
+const NAMED_AND_HARD: [Line<'static>; 12] = [
+    Line(Deed::Lay(0, 0, &[0xaa], None), &[]),
+    Line(Deed::Lay(1, 4, &[0xbb], Some(0)), &[]),
     Line(Deed::Take(0, Err(DependentApplied(PatchNo(1)))), &[]),
     Line(Deed::Take(1, Ok(())), &[1]),
     Line(Deed::Take(1, Err(AlreadyTaken)), &[1]),
     Line(Deed::Restore, &[]),
-    Line(Deed::Lay(2, 8, &[0x11, 0x12], None, true), &[]),
+    Line(Deed::Lay(2, 8, &[0x11, 0x12], None), &[]),
+    Line(Deed::Harden, &[]),
     Line(Deed::Take(2, Err(Hard)), &[]),
-    Line(Deed::Lay(3, 9, &[0x22, 0x23], None, false), &[]),
+    Line(Deed::Lay(3, 9, &[0x22, 0x23], None), &[]),
     Line(Deed::Take(3, Ok(())), &[3]),
     Line(Deed::Restore, &[]),
 ];
@@ -242,9 +240,9 @@ fn named_ones_wait_and_hard_ones_stay(rt: HostRuntime) -> Result<(), Fail> {
 const MERGE: usize = 6;
 
 const MERGED_OVER_A_GAP: [Line<'static>; 21] = [
-    Line(Deed::Lay(0, 0, &[0xaa, 0xaa], None, false), &[]),
-    Line(Deed::Lay(1, 4, &[0xbb, 0xbb], None, false), &[]),
-    Line(Deed::Lay(2, 2, &[0xcc, 0xcc, 0xcc], None, false), &[]),
+    Line(Deed::Lay(0, 0, &[0xaa, 0xaa], None), &[]),
+    Line(Deed::Lay(1, 4, &[0xbb, 0xbb], None), &[]),
+    Line(Deed::Lay(2, 2, &[0xcc, 0xcc, 0xcc], None), &[]),
     Line(Deed::Draw(0, 2, true), &[]),
     Line(Deed::Take(0, Ok(())), &[0]),
     Line(Deed::Restore, &[]),
@@ -280,9 +278,9 @@ fn a_merge_over_a_gap_is_taken_as_one(rt: HostRuntime) -> Result<(), Fail> {
 }
 
 const TWO_OF_THREE_TOGETHER: [Line<'static>; 11] = [
-    Line(Deed::Lay(0, 0, &[0xaa], None, false), &[]),
-    Line(Deed::Lay(1, 4, &[0xbb], None, false), &[]),
-    Line(Deed::Lay(2, 8, &[0xcc], None, false), &[]),
+    Line(Deed::Lay(0, 0, &[0xaa], None), &[]),
+    Line(Deed::Lay(1, 4, &[0xbb], None), &[]),
+    Line(Deed::Lay(2, 8, &[0xcc], None), &[]),
     Line(Deed::DepartEach(0, 2), &[]),
     Line(Deed::Take(0, Err(InFlight)), &[]),
     Line(Deed::Take(2, Err(InFlight)), &[]),
@@ -299,9 +297,9 @@ fn two_of_three_depart_and_land_together(rt: HostRuntime) -> Result<(), Fail> {
 }
 
 const OVER_ONE_IN_FLIGHT: [Line<'static>; 10] = [
-    Line(Deed::Lay(0, 0, &[0x11], None, false), &[]),
+    Line(Deed::Lay(0, 0, &[0x11], None), &[]),
     Line(Deed::Depart(0), &[]),
-    Line(Deed::Lay(1, 0, &[0x22], None, false), &[]),
+    Line(Deed::Lay(1, 0, &[0x22], None), &[]),
     Line(Deed::Take(1, Ok(())), &[1]),
     Line(Deed::Take(0, Err(InFlight)), &[1]),
     Line(Deed::Restore, &[]),
@@ -317,8 +315,8 @@ fn one_over_a_flight_is_taken_alone(rt: HostRuntime) -> Result<(), Fail> {
 }
 
 const UNDER_A_LATER_DURABLE_ONE: [Line<'static>; 6] = [
-    Line(Deed::Lay(1, 0, &[0xaa], Some(0), false), &[]),
-    Line(Deed::Lay(2, 4, &[0xbb], None, false), &[]),
+    Line(Deed::Lay(1, 0, &[0xaa], Some(0)), &[]),
+    Line(Deed::Lay(2, 4, &[0xbb], None), &[]),
     Line(Deed::Depart(2), &[]),
     Line(Deed::Land(2), &[]),
     Line(Deed::Take(1, Ok(())), &[1]),
@@ -330,12 +328,14 @@ fn one_under_a_later_durable_one_is_taken(rt: HostRuntime) -> Result<(), Fail> {
     walk(&rt, rt.alloc(), &UNDER_A_LATER_DURABLE_ONE)
 }
 
-const HARD_OVER_HARD: [Line<'static>; 6] = [
-    Line(Deed::Lay(0, 0, &[0x11], None, true), &[]),
-    Line(Deed::Lay(1, 0, &[0x22], None, true), &[]),
+const HARD_OVER_HARD: [Line<'static>; 8] = [
+    Line(Deed::Lay(0, 0, &[0x11], None), &[]),
+    Line(Deed::Harden, &[]),
+    Line(Deed::Lay(1, 0, &[0x22], None), &[]),
+    Line(Deed::Harden, &[]),
     Line(Deed::Take(1, Err(Hard)), &[]),
     Line(Deed::Back(1, Err(NotTaken)), &[]),
-    Line(Deed::Lay(2, 0, &[0x33], None, false), &[]),
+    Line(Deed::Lay(2, 0, &[0x33], None), &[]),
     Line(Deed::TakeAll, &[2]),
 ];
 
@@ -345,11 +345,11 @@ fn hard_ones_are_never_taken(rt: HostRuntime) -> Result<(), Fail> {
 }
 
 const TAKEN_OFF_AND_LAID_AGAIN: [Line<'static>; 13] = [
-    Line(Deed::Lay(0, 0, &[0xa1, 0xa2, 0xa3, 0xa4], None, false), &[]),
-    Line(Deed::Lay(1, 2, &[0xb1, 0xb2, 0xb3, 0xb4], None, false), &[]),
+    Line(Deed::Lay(0, 0, &[0xa1, 0xa2, 0xa3, 0xa4], None), &[]),
+    Line(Deed::Lay(1, 2, &[0xb1, 0xb2, 0xb3, 0xb4], None), &[]),
     Line(Deed::Unlay, &[1]),
     Line(Deed::Take(1, Err(Unknown)), &[1]),
-    Line(Deed::Lay(1, 2, &[0xb1, 0xb2, 0xb3, 0xb4], None, false), &[]),
+    Line(Deed::Lay(1, 2, &[0xb1, 0xb2, 0xb3, 0xb4], None), &[]),
     Line(Deed::Take(0, Err(DependentApplied(PatchNo(1)))), &[]),
     Line(Deed::Take(1, Ok(())), &[1]),
     Line(Deed::Restore, &[]),
@@ -366,12 +366,12 @@ fn the_newest_is_taken_off_and_laid_again(rt: HostRuntime) -> Result<(), Fail> {
 }
 
 const MADE_HARD_ONCE_LAID: [Line<'static>; 8] = [
-    Line(Deed::Lay(0, 0, &[0xa1, 0xa2, 0xa3, 0xa4], None, false), &[]),
-    Line(Deed::Lay(1, 2, &[0xb1, 0xb2, 0xb3, 0xb4], None, false), &[]),
+    Line(Deed::Lay(0, 0, &[0xa1, 0xa2, 0xa3, 0xa4], None), &[]),
+    Line(Deed::Lay(1, 2, &[0xb1, 0xb2, 0xb3, 0xb4], None), &[]),
     Line(Deed::Harden, &[]),
     Line(Deed::Take(1, Err(Hard)), &[]),
     Line(Deed::Take(0, Err(DependentApplied(PatchNo(1)))), &[]),
-    Line(Deed::Lay(2, 3, &[0xcc], None, false), &[]),
+    Line(Deed::Lay(2, 3, &[0xcc], None), &[]),
     Line(Deed::Take(2, Ok(())), &[2]),
     Line(Deed::Restore, &[]),
 ];
@@ -382,8 +382,8 @@ fn the_newest_is_made_hard(rt: HostRuntime) -> Result<(), Fail> {
 }
 
 const NO_JOINT: [Line<'static>; 9] = [
-    Line(Deed::Lay(0, 0, &[1, 2], None, false), &[]),
-    Line(Deed::Lay(1, 2, &[3], None, false), &[]),
+    Line(Deed::Lay(0, 0, &[1, 2], None), &[]),
+    Line(Deed::Lay(1, 2, &[3], None), &[]),
     Line(Deed::Draw(0, 0, false), &[]),
     Line(Deed::Draw(0, 7, false), &[]),
     Line(Deed::Draw(7, 0, false), &[]),
