@@ -19,10 +19,14 @@ use Rattle.patch_cache.specs.Meaning.{Represents}
 abbrev pub why_not_created : Execution → (block start : ℕ) (bytes after : List ℕ) → Option Refusal
 why_not_created run block start bytes after = why_not_made (length run.first) (entries_of run) block start bytes after
 
+-- no cause stands against the patch
+abbrev pub MayBeMade : Execution → (block start : ℕ) (bytes after : List ℕ) → Type 0
+MayBeMade run block start bytes after = why_not_created run block start bytes after ≡ None
+
 -- the patch that no cause stands against has the next number, and the cache holds it
 abbrev pub IsMade : Execution → (block start : ℕ) (bytes after : List ℕ) → Undo → (number : ℕ) → Contents → Type 0
 IsMade run block start bytes after undo number c =
-    (why_not_created run block start bytes after ≡ None) × (number ≡ length (entries_of run)) × Represents c (extended run (Create block start bytes after undo))
+    MayBeMade run block start bytes after × (number ≡ length (entries_of run)) × Represents c (extended run (Create block start bytes after undo))
 
 -- the patch may be laid on its block, whose state this is, and added to the graph
 pub record MayLay (run : Execution) (block start : ℕ) (bytes after : List ℕ) (state : Block) (graph : Graph) : Type 0 where

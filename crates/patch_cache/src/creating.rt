@@ -3,7 +3,7 @@ ghost use Rattle.std.specs.Prelude.{◌≡◌, ◌+◌, ◌<◌, ◌≤◌, ◌+
 ghost use Rattle.std.specs.List.{list_any};
 ghost use Rattle.patch_model.specs.Execution.{Execution};
 ghost use Rattle.patch_model.specs.Step.{Create};
-ghost use Rattle.patch_cache.specs.Creating.{why_not_created, IsMade, MayLay, IsLaid};
+ghost use Rattle.patch_cache.specs.Creating.{why_not_created, MayBeMade, IsMade, MayLay, IsLaid};
 ghost use Rattle.patch_cache.specs.Meaning.{Represents};
 ghost use Rattle.patch_cache.specs.Refusals.{create_cause, IsCause};
 
@@ -92,7 +92,7 @@ impl<A: Allocator + Copy> Cache<A> {
         requires numbers_left { self.old.graph.made < MAX_PATCHES }
         requires live_left { self.old.live < MAX_LIVE }
         ensures made { (run : Execution) → Represents self.old run
-            → why_not_created run block start bytes.now after.now ≡ None
+            → MayBeMade run block start bytes.now after.now
             → IfOk result (λ no. IsMade run block start bytes.now after.now undo no self.new) }
         ensures trace { OnOk result (self.new.trace ≡ self.old.trace ++ Create block start bytes.now after.now undo ∷ []) }
         ensures refused { OnErr result (self.new ≡ self.old) }

@@ -1,3 +1,4 @@
+use Rattle.std.specs.Prelude.{false}
 use Rattle.patch_view.proofs.Newest.{laid_represents}
 use Rattle.patch_view.proofs.states.BlockState.lay.Goals as goal
 
