@@ -11,3 +11,4 @@ pub mod Pending
 pub mod Passing
 pub mod Patching
 pub mod Writing
+pub mod Steps

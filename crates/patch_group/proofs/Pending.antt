@@ -64,7 +64,7 @@ filter_both p (m ∷ ms) ns = elim (cases_Bool (p m)) [
   | inr f ↦ rw f (filter_both p ms ns)
 ]
 
-one_first : (p : ℕ → Bool) (n : ℕ) (ns : List ℕ) → count_by p (n ∷ ns) ≡ cond (p n) 1 0 + count_by p ns
+pub one_first : (p : ℕ → Bool) (n : ℕ) (ns : List ℕ) → count_by p (n ∷ ns) ≡ cond (p n) 1 0 + count_by p ns
 one_first p n ns = sum_by-cons (λ y. cond (p y) 1 0) n ns
 
 none_first : (p : ℕ → Bool) (n : ℕ) (ns : List ℕ) → count_by p (n ∷ ns) ≡ 0 → (p n ≡ false) × (count_by p ns ≡ 0)

@@ -97,7 +97,7 @@ landed_none all block n none = mapped_none all (landed block) n (λ e i. elim (c
 abbrev pub StatesExtend : Type 0
 StatesExtend = (run : Execution) (step : Step) → state_of (extended run step) ≡ after_step (state_of run) step
 
-step_none : StatesExtend → LargestLaw → (run : Execution) (step : Step) (n : ℕ) → is_write step ≡ true → is_pending (entries_of run) n ≡ false → is_pending (entries_of (extended run step)) n ≡ false
+pub step_none : StatesExtend → LargestLaw → (run : Execution) (step : Step) (n : ℕ) → is_write step ≡ true → is_pending (entries_of run) n ≡ false → is_pending (entries_of (extended run step)) n ≡ false
 step_none ext largest run (Send block) n write none = subst (λ es. is_pending es n ≡ false) (sym (ap (λ st. st.entries) (ext run (Send block)))) (sent_none largest run block n none)
 step_none ext largest run (Complete block) n write none = subst (λ es. is_pending es n ≡ false) (sym (ap (λ st. st.entries) (ext run (Complete block)))) (landed_none (entries_of run) block n none)
 step_none ext largest run (Create block start bytes after undo) n write none = absurd (both_ways _ refl write)

@@ -1,9 +1,11 @@
 -- How a group is brought to the disk.
-use Rattle.std.specs.Prelude.{ℕ, ◌≡◌, List, count_by, Result, Ok, Err}
-use Rattle.patch_model.specs.Execution.{Execution, followed_by}
-use Rattle.patch_model.specs.State.{entries_of}
+use Rattle.std.specs.Prelude.{ℕ, ◌≡◌, ◌<◌, List, [], ◌∷◌, IsTrue, IsFalse, Some, count_by, Result, Ok, Err}
+use Rattle.patch_model.specs.Step.{Step, Send, Complete}
+use Rattle.patch_model.specs.Execution.{Execution, extended, followed_by}
+use Rattle.patch_model.specs.State.{entries_of, state_of, has_flight}
 use Rattle.patch_device.specs.declared.devices.Device.{Ghosts}
 use Rattle.patch_cache.specs.Contents.{Contents}
+use Rattle.patch_cache.specs.Flights.{IsLeastReady}
 use Rattle.patch_cache.specs.Waves.{steps_since, HasGivenUp, IsHeldFirst}
 use Rattle.patch_cache.specs.declared.flights.Flights.{Flights}
 use Rattle.patch_group.specs.Groups.{Groups, is_pending}
@@ -14,6 +16,26 @@ use Rattle.patch_group.specs.declared.refusals.SyncRefusal.TheVariants as sync
 -- none of these patches is in memory or in flight
 abbrev pub NonePending : Execution → List ℕ → Type 0
 NonePending run numbers = count_by (is_pending (entries_of run)) numbers ≡ 0
+
+-- some of them is
+abbrev pub SomePending : Execution → List ℕ → Type 0
+SomePending run numbers = 0 < count_by (is_pending (entries_of run)) numbers
+
+-- no block has a write under way
+abbrev pub NoneFly : Execution → Type 0
+NoneFly run = (block : ℕ) → IsFalse (has_flight (state_of run) block)
+
+-- The steps that bring these patches to the disk, and no step more: each write that is under way is ended, and then, as long as
+-- some of the patches is pending, the least block of which a write can begin is written.
+pub data IsSynced (numbers : List ℕ) : Execution → List Step → Type 0 where
+  settled : {run : Execution} → NoneFly run → NonePending run numbers → IsSynced numbers run []
+  ended : {run : Execution} {block : ℕ} {steps : List Step}
+      → IsTrue (has_flight (state_of run) block) → IsSynced numbers (extended run (Complete block)) steps
+      → IsSynced numbers run (Complete block ∷ steps)
+  written : {run : Execution} {block : ℕ} {steps : List Step}
+      → NoneFly run → SomePending run numbers → IsLeastReady run (Some block)
+      → IsSynced numbers (followed_by run (Send block ∷ Complete block ∷ [])) steps
+      → IsSynced numbers run (Send block ∷ Complete block ∷ steps)
 
 -- all stands behind the steps that the cache has added, for each execution that it stood behind; the groups stay as they are
 abbrev pub StandsAfter : {A D : Type 0} → Ghosts D → Groups → Contents → Flights A → D → Contents → Flights A → D → Type 0

@@ -1,5 +1,5 @@
 //! How the patches of a group are brought to the disk.
-ghost use Rattle.std.specs.Prelude.{◌≡◌, ◌≤◌, ◌↔◌, [], Some, Err, OnOk, IfOk, length, take};
+ghost use Rattle.std.specs.Prelude.{◌≡◌, ◌<◌, ◌≤◌, ◌↔◌, [], Some, Err, OnOk, IfOk, length, take};
 ghost use Rattle.patch_model.specs.declared.refusals.RefusalKind.TheVariants as kind;
 ghost use Rattle.patch_model.specs.Execution.{Execution, followed_by};
 ghost use Rattle.patch_model.specs.State.{entries_of};
@@ -8,8 +8,8 @@ ghost use Rattle.patch_device.specs.SameDevice.{IsSameDevice};
 ghost use Rattle.patch_cache.specs.Meaning.{Represents};
 ghost use Rattle.patch_cache.specs.Running.{Runs, RunsOn, held_by};
 ghost use Rattle.patch_cache.specs.Waves.{steps_since, Continues, HasGoneOn, KeepsDisk, RisesIfGivenUp, IsHeldIfGivenUp};
-ghost use Rattle.patch_group.specs.Groups.{pending, why_not_counted};
-ghost use Rattle.patch_group.specs.Syncing.{NonePending, StandsAfter, RisesIfSyncStops, IsHeldIfSyncStops};
+ghost use Rattle.patch_group.specs.Groups.{patches_of, pending, why_not_counted};
+ghost use Rattle.patch_group.specs.Syncing.{NonePending, SomePending, IsSynced, StandsAfter, RisesIfSyncStops, IsHeldIfSyncStops};
 ghost use Rattle.patch_group.specs.declared.refusals.SyncRefusal.TheVariants as refusal;
 
 use crate::calls::Groups;
@@ -37,6 +37,8 @@ pub fn sync<A: Allocator + Copy, D: Device>(
     ensures trace { Continues cache.old cache.new }
     ensures disk { D.is_honest device.old
         → KeepsDisk cache.old cache.new flights.old (D.had device.old) (D.had device.new) (D.contents device.old) (D.contents device.new) }
+    ensures steps { (run : Execution) → Runs cache.old flights.old run
+        → OnOk result (IsSynced (patches_of groups.now group) run (steps_since cache.old cache.new)) }
     ensures synced { (run : Execution) → Runs cache.old flights.old run
         → OnOk result (pending (entries_of (followed_by run (steps_since cache.old cache.new))) groups.now group ≡ 0) }
     ensures known { OnOk result (why_not_counted groups.now group ≡ None) }
@@ -76,6 +78,8 @@ fn write_all_of<A: Allocator + Copy, D: Device>(
     ensures trace { Continues cache.old cache.new }
     ensures disk { D.is_honest device.old
         → KeepsDisk cache.old cache.new flights.old (D.had device.old) (D.had device.new) (D.contents device.old) (D.contents device.new) }
+    ensures steps { (run : Execution) → Runs cache.old flights.old run → held_by flights.old ≡ []
+        → OnOk result (IsSynced waiting.now run (steps_since cache.old cache.new)) }
     ensures done { (run : Execution) → Runs cache.old flights.old run → held_by flights.old ≡ []
         → OnOk result (NonePending (followed_by run (steps_since cache.old cache.new)) waiting.now) }
     ensures gave_up { (run : Execution) → RunsOn D.Device cache.old flights.old device.old run
@@ -109,6 +113,8 @@ fn first_pending<A: Allocator + Copy>(cache: &Cache<A>, numbers: &[PatchNo], fro
     ensures within { result ≤ length numbers.now }
     ensures past { (run : Execution) → Represents cache.now run
         → NonePending run (take from numbers.now) → NonePending run (take result numbers.now) }
+    ensures found { (run : Execution) → Represents cache.now run
+        → result < length numbers.now → SomePending run numbers.now }
 {
     for at in from..numbers.len() {
         if is_pending(cache, numbers[at]) {

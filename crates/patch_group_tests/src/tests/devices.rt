@@ -1,4 +1,5 @@
 //! Syncs over devices that fail.
+use super::lines::asks_in;
 use super::*;
 use patch_device::{Device, FaultyDevice, MemDevice};
 use patch_model::Mark;
@@ -17,21 +18,22 @@ type FourTimes<D> = Twice<Twice<D>>;
 
 type EightTimes<D> = FourTimes<FourTimes<D>>;
 
-// A device that refuses its first write, which doesn't land.
-fn failing<D: Device>(inner: D) -> FaultyDevice<D> {
-    FaultyDevice::new(inner, 0, false)
+// A device that refuses one write, the first of them as number 0, which doesn't land.
+fn failing<D: Device>(inner: D, at: u64) -> FaultyDevice<D> {
+    FaultyDevice::new(inner, at, false)
 }
 
-fn failing_twice<D: Device>(inner: D) -> Twice<D> {
-    failing(failing(inner))
+// Where it is tried again, a device of these refuses it.
+fn failing_twice<D: Device>(inner: D, at: u64) -> Twice<D> {
+    failing(failing(inner, at), at)
 }
 
-fn failing_four_times<D: Device>(inner: D) -> FourTimes<D> {
-    failing_twice(failing_twice(inner))
+fn failing_four_times<D: Device>(inner: D, at: u64) -> FourTimes<D> {
+    failing_twice(failing_twice(inner, at), at)
 }
 
-fn failing_eight_times<D: Device>(inner: D) -> EightTimes<D> {
-    failing_four_times(failing_four_times(inner))
+fn failing_eight_times<D: Device>(inner: D, at: u64) -> EightTimes<D> {
+    failing_four_times(failing_four_times(inner, at), at)
 }
 
 fn make_patch(bench: &mut Bench) -> Result<(), Fail> {
@@ -113,14 +115,92 @@ fn walk<D: Device>(
 // The flight is held as before, so the next sync completes it.
 #[test]
 fn eight_faults_give_a_flight_up(rt: HostRuntime) -> Result<(), Fail> {
-    let mut device = failing_eight_times(MemDevice::new(rt.alloc(), 1)?);
+    let mut device = failing_eight_times(MemDevice::new(rt.alloc(), 1)?, 0);
     let gave_up = Err(SyncRefusal::DeviceGaveUp(BlockNo(0)));
     walk(&rt, rt.alloc(), &mut device, gave_up, Mark::Flight, 1)
 }
 
 #[test]
 fn seven_faults_do_not(rt: HostRuntime) -> Result<(), Fail> {
-    let inner = failing_four_times(MemDevice::new(rt.alloc(), 1)?);
-    let mut device = failing(failing_twice(inner));
+    let inner = failing_four_times(MemDevice::new(rt.alloc(), 1)?, 0);
+    let mut device = failing(failing_twice(inner, 0), 0);
     walk(&rt, rt.alloc(), &mut device, Ok(()), Mark::Durable, 0)
+}
+
+// Two groups in order, with what is held, and what belongs to none before and behind them.
+const ORDER: [&str; 13] = [
+    "group",
+    "group",
+    "engage 0 0",
+    "by 0 3 a",
+    "disengage 0 0",
+    "depend 1 0",
+    "engage 0 1",
+    "by 0 1 b",
+    "disengage 0 1",
+    "patch 0 z",
+    "patch 5 y",
+    "patch 4 p",
+    "send 4",
+];
+
+// The blocks that a sync of the second group writes: what is held, and then the least one of which a write can begin, until
+// nothing of the group is pending.
+const WRITTEN: [u32; 4] = [4, 0, 3, 1];
+
+fn ask_all<D: Device>(
+    alloc: Global,
+    bench: &mut Bench,
+    device: &mut D,
+    lines: &[&str],
+) -> Result<(), Fail> {
+    let Bench {
+        groups,
+        cache,
+        flights,
+    } = bench;
+    match groups.run(cache, flights, device, &asks_in(alloc, lines)?) {
+        Ok(_) => Ok(()),
+        Err(_) => Err(Fail::from("no memory")),
+    }
+}
+
+// Asks for all of it, and what a sync of the second group answers then over this device.
+fn sync_second<D: Device>(
+    rt: &impl Abort,
+    alloc: Global,
+    device: &mut D,
+    want: Result<(), SyncRefusal>,
+    live: u32,
+) -> Result<(), Fail> {
+    let mut bench = Bench {
+        groups: Groups::new(alloc),
+        cache: open_zeros(rt, alloc, 6)?,
+        flights: Flights::new(alloc),
+    };
+    let asked = ask_all(alloc, &mut bench, device, &ORDER);
+    let Bench {
+        groups,
+        cache,
+        flights,
+    } = &mut bench;
+    let answer = sync(groups, cache, flights, device, GroupNo(1));
+    expect_equal(rt, "sync", answer, want);
+    expect_equal(rt, "live", cache.live(), live);
+    close(bench);
+    asked
+}
+
+// The device that refuses one write eight times names the block of it: so each write of the sync is known, and that there is none
+// behind the last one.
+#[test]
+fn writes_go_in_order(rt: HostRuntime) -> Result<(), Fail> {
+    for at in 0..4u32 {
+        let mut device = failing_eight_times(MemDevice::new(rt.alloc(), 6)?, u64::from(at));
+        let block = BlockNo(WRITTEN[at as usize]);
+        let gave_up = Err(SyncRefusal::DeviceGaveUp(block));
+        sync_second(&rt, rt.alloc(), &mut device, gave_up, 5 - at)?;
+    }
+    let mut device = failing_eight_times(MemDevice::new(rt.alloc(), 6)?, 4);
+    sync_second(&rt, rt.alloc(), &mut device, Ok(()), 1)
 }

@@ -1,10 +1,12 @@
-use Rattle.std.proofs.Common.{◌≡◌, ◌∙◌, subst}
+use Rattle.std.proofs.Common.{◌≡◌, ◌∙◌, subst, sym, length}
 use Rattle.std.specs.Prelude.{count_by}
 use Rattle.patch_model.specs.Execution.{followed_by}
 use Rattle.patch_model.specs.State.{entries_of}
 use Rattle.patch_cache.specs.Waves.{steps_since}
 use Rattle.patch_group.specs.Groups.{is_pending, patches_of}
+use Rattle.patch_group.specs.Syncing.{IsSynced}
 use Rattle.patch_group.proofs.Pending.{none_left}
+use Rattle.patch_group.proofs.Steps.{for_all, landed_first}
 use Rattle.patch_group.proofs.Writing.{went_both, keeps_both, since_both, stays_past, groups_stay}
 use Rattle.patch_group.proofs.syncing.sync.Goals as goal
 
@@ -61,6 +63,23 @@ returns-clause-disk g c honest =
     let told = c.write_all_of.ensures in
     keeps_both c.traces_join.ensures.joined c.stretches_join.ensures.kept c.args.cache.now c.land.new.self c.write_all_of.new.cache c.args.flights.now c.land.new.flights _ _ _ _ _ _ first.trace told.trace first.ran
     (first.disk honest) (told.disk (first.device.honesty.0 honest))
+
+pub returns-clause-steps : goal.returns-clause-steps
+returns-clause-steps g c run r =
+    let old = c.args.cache.now in
+    let mid = c.land.new.self in
+    let now = c.write_all_of.new.cache in
+    let patches = patches_of c.args.groups.now c.args.group in
+    let first = c.land.ensures.ran run r in
+    let told = c.in_ok-write_all_of.ensures in
+    let so_far = followed_by run (steps_since old mid) in
+    let ext = c.steps_extend.ensures.state in
+    let waited = c.as_slice.ensures.value ∙ c.in_ok-waiting.ensures so_far first.runs.cache_is in
+    let needed = subst (λ ns. IsSynced ns so_far (steps_since mid now)) waited (told.steps so_far first.runs c.in_ok-land.ensures.landed) in
+    subst (λ s. IsSynced patches run s) (sym (c.traces_join.ensures.joined old mid now c.land.ensures.trace c.write_all_of.ensures.trace).1)
+    (landed_first ext (length run.first) patches run (steps_since old mid) (steps_since mid now) first.writes c.land.ensures.ends first.runs.cache_is.legal.steps
+    (for_all ext (λ run block. c.ready_is_largest.ensures.largest (entries_of run) block (c.ready_is_largest.ensures.made run))
+    (is_pending (entries_of so_far)) patches so_far (steps_since mid now) (λ n f. f) needed))
 
 pub returns-clause-synced : goal.returns-clause-synced
 returns-clause-synced g c run r =

@@ -1,4 +1,4 @@
-use Rattle.std.proofs.Common.{◌≡◌, take, length, subst, arith}
+use Rattle.std.proofs.Common.{◌≡◌, ◌<◌, ◌∙◌, ◌++◌, take, length, subst, sym, ap, arith, append-nil}
 use Rattle.std.proofs.lemmas.List.{take_all}
 use Rattle.std.specs.Prelude.{count_by}
 use Rattle.patch_model.specs.Execution.{followed_by}
@@ -6,8 +6,10 @@ use Rattle.patch_model.specs.State.{entries_of}
 use Rattle.patch_device.specs.SameDevice.{same_both}
 use Rattle.patch_cache.specs.Waves.{steps_since}
 use Rattle.patch_group.specs.Groups.{is_pending}
+use Rattle.patch_group.specs.Syncing.{IsSynced}
 use Rattle.patch_group.proofs.Pending.{none_still, none_pending_of}
-use Rattle.patch_group.proofs.Writing.{continues_both, went_both, keeps_both, since_both, sends_both, stays_past, wrote_none, wrote_some}
+use Rattle.patch_group.proofs.Writing.{continues_both, went_both, keeps_both, since_both, sends_both, stays_past, wrote_none, wrote_some, same_run}
+use Rattle.patch_group.proofs.Steps.{none_fly, leads_on, leads_here, wrote_nothing}
 use Rattle.patch_group.proofs.syncing.write_all_of.Goals as goal
 
 -- all of them are on the disk
@@ -20,6 +22,19 @@ returns-then-at-waiting-clause-done g c run r none =
     let whole : at ≡ length waiting = omega (arith, c.if-at-waiting.true) in
     subst (λ ns. count_by (is_pending (entries_of now)) ns ≡ 0) (take_all at waiting (omega (arith, whole)))
     (c.first_pending-at.ensures.past now (before.ran run r).runs.cache_is (before.past run r))
+
+pub returns-then-at-waiting-clause-steps : goal.returns-then-at-waiting-clause-steps
+returns-then-at-waiting-clause-steps g c run r none =
+    let before = c.loop.invariant in
+    let so_far = steps_since c.args.cache.now c.loop.cache in
+    let now = followed_by run so_far in
+    let waiting = c.args.waiting.now in
+    let at = c.first_pending-at.result in
+    let whole : at ≡ length waiting = omega (arith, c.if-at-waiting.true) in
+    let stands = (before.ran run r).runs in
+    leads_here waiting run so_far (before.so_far run r none) (none_fly now _ stands.flights_are (before.landed none))
+    (subst (λ ns. count_by (is_pending (entries_of now)) ns ≡ 0) (take_all at waiting (omega (arith, whole)))
+    (c.first_pending-at.ensures.past now stands.cache_is (before.past run r)))
 
 -- a write was given up
 pub returns-in_err-write_next-clause-ran : goal.returns-in_err-write_next-clause-ran
@@ -64,6 +79,26 @@ returns-then-not-branch-clause-done g c run r none =
     subst (λ s. count_by (is_pending (entries_of s)) c.args.waiting.now ≡ 0) (since_both c.traces_join.ensures.joined run old mid now before.trace told.trace)
     (none_pending_of (entries_of (followed_by so_far (steps_since mid now))) c.args.waiting.now flushed.none)
 
+pub returns-then-not-branch-clause-steps : goal.returns-then-not-branch-clause-steps
+returns-then-not-branch-clause-steps g c run r none =
+    let before = c.loop.invariant in
+    let told = c.in_ok-write_next.ensures in
+    let old = c.args.cache.now in
+    let mid = c.loop.cache in
+    let now = c.write_next.new.self in
+    let waiting = c.args.waiting.now in
+    let so_far = followed_by run (steps_since old mid) in
+    let stands = (before.ran run r).runs in
+    let wrote = told.wrote so_far stands (before.landed none) in
+    let nothing = wrote_nothing so_far c.in_ok-write_next.field-0 (steps_since mid now) c.if-not-branch.true wrote in
+    let flushed = wrote_none so_far c.in_ok-write_next.field-0 (steps_since mid now) c.if-not-branch.true wrote in
+    let later = ap (followed_by so_far) nothing ∙ same_run so_far in
+    let joined = c.traces_join.ensures.joined old mid now before.trace told.trace in
+    let same = joined.1 ∙ ap (λ s. steps_since old mid ++ s) nothing ∙ append-nil (steps_since old mid) in
+    subst (λ s. IsSynced waiting run s) (sym same)
+    (leads_here waiting run (steps_since old mid) (before.so_far run r none) (none_fly so_far _ stands.flights_are (before.landed none))
+    (subst (λ r. count_by (is_pending (entries_of r)) waiting ≡ 0) later (none_pending_of (entries_of (followed_by so_far (steps_since mid now))) waiting flushed.none)))
+
 pub loop-preserved : goal.loop-preserved
 loop-preserved g c =
     let before = c.loop.invariant in
@@ -80,6 +115,13 @@ loop-preserved g c =
           let so_far = before.turns run r none in
           let some = wrote_some (followed_by run (steps_since old mid)) c.in_ok-write_next.field-0 (steps_since mid now) c.if-not-branch.false (told.wrote _ first.runs (before.landed none)) in
           let both = sends_both joins old mid now before.trace told.trace in omega (arith, some, both, so_far);
+      so_far = λ run r none.
+          let stands = (before.ran run r).runs in
+          let so_far = followed_by run (steps_since old mid) in
+          let wrote = told.wrote so_far stands (before.landed none) in
+          let inside : c.first_pending-at.result < length waiting = omega (arith, c.first_pending-at.ensures.within, c.if-at-waiting.false) in
+          leads_on joins waiting run c.in_ok-write_next.field-0 old mid now before.trace told.trace c.if-not-branch.false (before.so_far run r none) wrote
+          (none_fly so_far _ stands.flights_are (before.landed none)) (c.first_pending-at.ensures.found so_far stands.cache_is inside);
       past = λ run r.
           let first = before.ran run r in
           let so_far = followed_by run (steps_since old mid) in

@@ -6,9 +6,10 @@ use Rattle.patch_device.specs.SameDevice.{IsSameDevice}
 use Rattle.patch_cache.specs.Running.{Runs, held_by}
 use Rattle.patch_cache.specs.Waves.{is_send, steps_since, Continues, HasGoneOn, KeepsDisk}
 use Rattle.patch_group.specs.Groups.{is_pending}
+use Rattle.patch_group.proofs.Steps.{LeadsOn}
 use Rattle.patch_group.proofs.syncing.write_all_of.Given as goal
 
--- each turn so far began a write, and those passed over are on the disk
+-- each turn so far began a write that was needed, and those passed over are on the disk
 abbrev pub invariant-loop : goal.invariant-loop
 invariant-loop g l =
     let device = g.D.Device in
@@ -16,6 +17,7 @@ invariant-loop g l =
     record {
       ran : (run : Execution) → Runs l.fn.cache l.fn.flights run → HasGoneOn run (steps_since l.fn.cache l.cache) l.cache l.flights;
       turns : (run : Execution) → Runs l.fn.cache l.fn.flights run → held_by l.fn.flights ≡ [] → l.counter ≤ count_by is_send (steps_since l.fn.cache l.cache);
+      so_far : (run : Execution) → Runs l.fn.cache l.fn.flights run → held_by l.fn.flights ≡ [] → LeadsOn l.waiting run (steps_since l.fn.cache l.cache);
       past : (run : Execution) → Runs l.fn.cache l.fn.flights run → count_by (is_pending (entries_of (followed_by run (steps_since l.fn.cache l.cache)))) (take l.at l.waiting) ≡ 0;
       within : l.at ≤ length l.waiting;
       trace : Continues l.fn.cache l.cache;
