@@ -1,5 +1,5 @@
 -- Groups as the code keeps them.
-use Rattle.std.specs.Prelude.{ℕ, ◌-◌, ◌++◌, ◌<◌, ◌==◌, List, [], ◌∷◌, map, filter, length, slice_index_or, vec_len, vec_capacity, Contains}
+use Rattle.std.specs.Prelude.{ℕ, ◌+◌, ◌-◌, ◌++◌, ◌<◌, ◌==◌, min, max, List, [], ◌∷◌, map, filter, length, slice_index_or, vec_len, vec_capacity, Contains}
 use Rattle.std.specs.List.{flat_map, range_with_len}
 use Rattle.patch_group.specs.Groups.{Group}
 use Rattle.patch_group.specs.declared.records.Run.{Run}
@@ -8,6 +8,14 @@ use Rattle.patch_group.specs.declared.records.Record.{Record}
 -- the numbers of a run
 abbrev pub numbers_of : Run → List ℕ
 numbers_of r = range_with_len r.first (r.last - r.first) ++ r.last ∷ []
+
+-- the least of them
+abbrev pub first_of : Run → ℕ
+first_of r = min r.first r.last
+
+-- those that are not below this one
+abbrev pub numbers_from : ℕ → Run → List ℕ
+numbers_from next r = range_with_len (max (first_of r) next) (r.last + 1 - max (first_of r) next)
 
 abbrev pub patches_in : List Run → List ℕ
 patches_in runs = flat_map numbers_of runs

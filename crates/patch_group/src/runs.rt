@@ -1,6 +1,7 @@
 //! Runs of patch numbers.
-ghost use Rattle.std.specs.Prelude.{◌≡◌, ◌<◌, ◌++◌, ◌∷◌, [], true, false, vec_len, vec_capacity, OnOk};
-ghost use Rattle.patch_group.specs.Records.{numbers_of, patches_in};
+ghost use Rattle.std.specs.Prelude.{◌≡◌, ◌<◌, ◌++◌, ◌∷◌, [], true, false, vec_len, vec_capacity, IfOk, OnOk};
+ghost use Rattle.patch_group.specs.Rising.{rising};
+ghost use Rattle.patch_group.specs.Records.{numbers_of, numbers_from, patches_in};
 
 use crate::records::Run;
 use patch_model::{OutOfMemory, PatchNo};
@@ -35,26 +36,34 @@ fn grow(run: &mut Run, no: PatchNo) -> bool
     true
 }
 
-/// Puts all numbers of the runs behind those that are listed.
-pub(crate) fn list<A: Allocator>(
-    runs: &[Run],
-    listed: &mut Vec<PatchNo, A>,
-) -> Result<(), OutOfMemory>
-    ensures { OnOk result (listed.new.items ≡ listed.old.items ++ patches_in runs.now) }
+/// The numbers of these runs, rising, each once. The runs are put in order, and each adds what those before it left out.
+pub(crate) fn rising_numbers<A: Allocator>(
+    alloc: A,
+    runs: &mut Vec<Run, A>,
+) -> Result<Vec<PatchNo, A>, OutOfMemory>
+    ensures { IfOk result (λ numbers. numbers.items ≡ rising (patches_in runs.old.items)) }
 {
-    for run in runs {
-        list_run(run, listed)?;
+    runs.sort_unstable_by_key(|run| run.first.min(run.last));
+    let mut numbers = Vec::new(alloc);
+    let mut next = 0;
+    for run in runs.as_slice() {
+        list_from(run, next, &mut numbers)?;
+        next = next.max(u64::from(run.last) + 1);
     }
-    Ok(())
+    Ok(numbers)
 }
 
-/// Puts the numbers of one run behind those that are listed.
-fn list_run<A: Allocator>(run: &Run, listed: &mut Vec<PatchNo, A>) -> Result<(), OutOfMemory>
-    ensures { OnOk result (listed.new.items ≡ listed.old.items ++ numbers_of run.now) }
+/// Puts the numbers of the run, from this one on, behind those that are listed.
+fn list_from<A: Allocator>(
+    run: &Run,
+    next: u64,
+    listed: &mut Vec<PatchNo, A>,
+) -> Result<(), OutOfMemory>
+    ensures { OnOk result (listed.new.items ≡ listed.old.items ++ numbers_from next run.now) }
 {
-    for no in run.first..run.last {
-        listed.push(PatchNo(no))?;
+    let first = u64::from(run.first.min(run.last)).max(next);
+    for no in first..u64::from(run.last) + 1 {
+        listed.push(PatchNo(no as u32))?;
     }
-    listed.push(PatchNo(run.last))?;
     Ok(())
 }

@@ -9,7 +9,7 @@ use std::alloc::{AllocError, Global};
 // first byte, `patch BLOCK LETTERS` one of none; it names those that the line names further.
 //
 // `after WRITER`, `sync GROUP` and `disk BLOCK` are no asks. The asks between them are a list.
-const SCRIPTS: [&str; 9] = [
+const SCRIPTS: [&str; 10] = [
     // The second group depends on the first: what waits, and what is sealed.
     "\
 group = group 0
@@ -160,6 +160,35 @@ disk 0 = a
 disk 1 = p
 disk 2 = -
 sync 0 = synced
+",
+    // What comes after three groups that have patches in turns, and one patch of two of them: rising, each once.
+    "\
+group = group 0
+group = group 1
+group = group 2
+group = group 3
+engage 0 0 = ok
+engage 1 1 = ok
+by 1 0 a = patch 0
+by 0 1 b = patch 1
+by 0 2 c = patch 2
+by 1 3 d = patch 3
+patch 4 e = patch 4
+engage 0 1 = ok
+by 0 5 f = patch 5
+engage 2 2 = ok
+by 2 6 g = patch 6
+by 1 7 h = patch 7
+disengage 0 0 = ok
+disengage 0 1 = ok
+disengage 1 1 = ok
+disengage 2 2 = ok
+depend 3 2 = ok
+depend 3 1 = ok
+depend 3 0 = ok
+engage 0 3 = ok
+after 0 = 0 1 2 3 5 6 7
+after 1 =
 ",
 ];
 
