@@ -1,8 +1,7 @@
 //! Groups, and the calls that begin, engage, order and close them.
 ghost use Rattle.std.specs.Prelude.{◌≡◌, ◌≢◌, ◌<◌, ◌++◌, ◌∷◌, [], Some, None, true, false, length, option_map, IfOk, IfErr, OnOk, OnErr, IsNone};
 ghost use Rattle.patch_cache.specs.Refusals.{IsCause};
-ghost use Rattle.patch_group.specs.Rising.{rising as in_order};
-ghost use Rattle.patch_group.specs.Groups.{no_groups, group_at, before, is_open, is_engaged_by, is_engaged, why_not_begun as why_none_begun, why_not_engaged as the_cause_to_engage, why_not_disengaged, why_not_ordered as the_cause_to_order, why_not_closed, begun, engaged as then_engaged, disengaged, ordered, closed as then_closed};
+ghost use Rattle.patch_group.specs.Groups.{no_groups, is_open, is_engaged_by, is_engaged, why_not_begun, why_not_engaged, why_not_disengaged, why_not_closed, begun, engaged, disengaged, closed};
 ghost use Rattle.patch_group.specs.Refusals.{group_cause};
 
 use crate::limits::MAX_GROUPS;
@@ -51,8 +50,8 @@ impl<A: Allocator + Copy> Groups<A> {
 
     /// Makes a group. Its number is the next one; numbers aren't used again.
     pub fn create(&mut self) -> Result<GroupNo, GroupRefusal>
-        ensures made { IfOk result (λ group. (why_none_begun self.old ≡ None) × (group ≡ length self.old.groups) × (self.new ≡ begun self.old)) }
-        ensures cause { IfErr result (λ refusal. IsCause (why_none_begun self.old) (group_cause refusal)) }
+        ensures made { IfOk result (λ group. (why_not_begun self.old ≡ None) × (group ≡ length self.old.groups) × (self.new ≡ begun self.old)) }
+        ensures cause { IfErr result (λ refusal. IsCause (why_not_begun self.old) (group_cause refusal)) }
         ensures refused { OnErr result (self.new ≡ self.old) }
     {
         let made = self.groups.len();
@@ -72,8 +71,8 @@ impl<A: Allocator + Copy> Groups<A> {
 
     /// Lets the writer's patches belong to the group from now on.
     pub fn engage(&mut self, writer: WriterNo, group: GroupNo) -> Result<(), GroupRefusal>
-        ensures done { OnOk result ((the_cause_to_engage self.old writer group ≡ None) × (self.new ≡ then_engaged self.old writer group)) }
-        ensures cause { IfErr result (λ refusal. IsCause (the_cause_to_engage self.old writer group) (group_cause refusal)) }
+        ensures done { OnOk result ((why_not_engaged self.old writer group ≡ None) × (self.new ≡ engaged self.old writer group)) }
+        ensures cause { IfErr result (λ refusal. IsCause (why_not_engaged self.old writer group) (group_cause refusal)) }
         ensures refused { OnErr result (self.new ≡ self.old) }
     {
         if let Some(refusal) = self.why_not_engaged(writer, group) {
@@ -88,7 +87,7 @@ impl<A: Allocator + Copy> Groups<A> {
 
     /// The first cause against the writer's engaging the group.
     fn why_not_engaged(&self, writer: WriterNo, group: GroupNo) -> Option<GroupRefusal>
-        ensures cause { option_map group_cause result ≡ the_cause_to_engage self.now writer group }
+        ensures cause { option_map group_cause result ≡ why_not_engaged self.now writer group }
         ensures known { IsNone result → group < length self.now.groups }
         ensures new { IsNone result → is_engaged_by self.now writer group ≡ false }
     {
@@ -122,7 +121,7 @@ impl<A: Allocator + Copy> Groups<A> {
 
     /// Closes the group: to all later calls it is none. Its patches and its place in the order stay.
     pub fn close(&mut self, group: GroupNo) -> Result<(), GroupRefusal>
-        ensures done { OnOk result ((why_not_closed self.old group ≡ None) × (self.new ≡ then_closed self.old group)) }
+        ensures done { OnOk result ((why_not_closed self.old group ≡ None) × (self.new ≡ closed self.old group)) }
         ensures cause { IfErr result (λ refusal. why_not_closed self.old group ≡ Some (group_cause refusal)) }
         ensures refused { OnErr result (self.new ≡ self.old) }
     {

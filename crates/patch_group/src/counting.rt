@@ -1,10 +1,11 @@
 //! How many patches of a group are not on the disk yet.
-ghost use Rattle.std.specs.Prelude.{◌≡◌, ◌+◌, Some, None, min, count_by, if◌then◌else◌, not, IfOk, IfErr, OnOk};
+ghost use Rattle.std.specs.Prelude.{◌≡◌, ◌+◌, ◌∷◌, [], Some, None, min, count_by, not, IfOk, IfErr, OnOk};
 ghost use Rattle.patch_model.specs.Execution.{Execution};
 ghost use Rattle.patch_model.specs.Entry.{marks_durable};
 ghost use Rattle.patch_model.specs.State.{entries_of};
 ghost use Rattle.patch_cache.specs.Meaning.{Represents};
-ghost use Rattle.patch_group.specs.Groups.{why_not_counted, pending, is_pending as the_patch_is_pending};
+ghost use Rattle.patch_group.specs.Groups.{why_not_counted, pending};
+ghost use Rattle.patch_group.specs.Groups as groups;
 ghost use Rattle.patch_group.specs.Order.{AreGroupsOf};
 ghost use Rattle.patch_group.specs.Records.{numbers_of, patches_in};
 ghost use Rattle.patch_group.specs.Refusals.{group_cause};
@@ -38,7 +39,7 @@ impl<A: Allocator + Copy> Groups<A> {
 /// How many patches of these runs are pending, up to the greatest count.
 fn count_pending<A: Allocator + Copy>(cache: &Cache<A>, runs: &[Run]) -> u32
     ensures { (run : Execution) → Represents cache.now run
-        → result ≡ min (count_by (the_patch_is_pending (entries_of run)) (patches_in runs.now)) 4294967295 }
+        → result ≡ min (count_by (groups.is_pending (entries_of run)) (patches_in runs.now)) 4294967295 }
 {
     let mut count = 0;
     for run in runs {
@@ -50,29 +51,30 @@ fn count_pending<A: Allocator + Copy>(cache: &Cache<A>, runs: &[Run]) -> u32
 /// The count with those of one run.
 fn count_run<A: Allocator + Copy>(cache: &Cache<A>, numbers: &Run, before: u32) -> u32
     ensures { (run : Execution) → Represents cache.now run
-        → result ≡ min (before + count_by (the_patch_is_pending (entries_of run)) (numbers_of numbers.now)) 4294967295 }
+        → result ≡ min (before + count_by (groups.is_pending (entries_of run)) (numbers_of numbers.now)) 4294967295 }
 {
     let mut count = before;
     for no in numbers.first..numbers.last {
-        count = one_more(count, is_pending(cache, PatchNo(no)));
+        count = count_if_pending(cache, PatchNo(no), count);
     }
-    one_more(count, is_pending(cache, PatchNo(numbers.last)))
+    count_if_pending(cache, PatchNo(numbers.last), count)
 }
 
-/// The count with one more, if it counts.
-fn one_more(count: u32, counts: bool) -> u32
-    ensures { result ≡ min (count + (if counts then 1 else 0)) 4294967295 }
+/// The count with this patch, if it is pending.
+fn count_if_pending<A: Allocator + Copy>(cache: &Cache<A>, no: PatchNo, before: u32) -> u32
+    ensures { (run : Execution) → Represents cache.now run
+        → result ≡ min (before + count_by (groups.is_pending (entries_of run)) (no ∷ [])) 4294967295 }
 {
-    if counts {
-        count.saturating_add(1)
+    if is_pending(cache, no) {
+        before.saturating_add(1)
     } else {
-        count
+        before
     }
 }
 
 /// Whether a patch was made and isn't on the disk yet.
 pub(crate) fn is_pending<A: Allocator + Copy>(cache: &Cache<A>, no: PatchNo) -> bool
-    ensures { (run : Execution) → Represents cache.now run → result ≡ the_patch_is_pending (entries_of run) no }
+    ensures { (run : Execution) → Represents cache.now run → result ≡ groups.is_pending (entries_of run) no }
 {
     model_laws::executions_are_orderly();
     match cache.mark_of(no) {

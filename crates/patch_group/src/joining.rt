@@ -5,7 +5,7 @@ ghost use Rattle.patch_model.specs.State.{entries_of};
 ghost use Rattle.patch_cache.specs.Meaning.{Represents};
 ghost use Rattle.patch_cache.specs.Refusals.{create_cause};
 ghost use Rattle.patch_group.specs.Groups.{AreApart, with_patch, after_of, entered, patch_of, why_not_patched, IsCauseOf};
-ghost use Rattle.patch_group.specs.Records.{group_of, HasRoomAt, HaveRoom, names_of as engaged_by_writer};
+ghost use Rattle.patch_group.specs.Records.{group_of, HasRoomAt, HaveRoom, names_of};
 
 use crate::calls::Groups;
 use crate::records::Record;
@@ -95,7 +95,7 @@ fn make_room<A: Allocator>(
     writer: WriterNo,
 ) -> Result<(), OutOfMemory>
     ensures same { map group_of groups.new.items ≡ map group_of groups.old.items }
-    ensures room { OnOk result (HaveRoom groups.new.items (engaged_by_writer engaged.now writer)) }
+    ensures room { OnOk result (HaveRoom groups.new.items (names_of engaged.now writer)) }
 {
     for engagement in engaged {
         if engagement.0 == writer {
@@ -127,9 +127,9 @@ fn enter<A: Allocator>(
     writer: WriterNo,
     no: PatchNo,
 )
-    requires room { HaveRoom groups.old.items (engaged_by_writer engaged.now writer) }
+    requires room { HaveRoom groups.old.items (names_of engaged.now writer) }
     requires apart { AreApart engaged.now }
-    ensures { map group_of groups.new.items ≡ entered (map group_of groups.old.items) (engaged_by_writer engaged.now writer) no }
+    ensures { map group_of groups.new.items ≡ entered (map group_of groups.old.items) (names_of engaged.now writer) no }
 {
     for engagement in engaged {
         if engagement.0 == writer {

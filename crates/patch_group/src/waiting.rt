@@ -3,7 +3,8 @@ ghost use Rattle.std.specs.Prelude.{◌≡◌, ◌++◌, ◌∷◌, [], filter, 
 ghost use Rattle.patch_model.specs.Execution.{Execution};
 ghost use Rattle.patch_model.specs.State.{entries_of};
 ghost use Rattle.patch_cache.specs.Meaning.{Represents};
-ghost use Rattle.patch_group.specs.Groups.{patches_of, is_pending as the_patch_is_pending};
+ghost use Rattle.patch_group.specs.Groups.{patches_of};
+ghost use Rattle.patch_group.specs.Groups as groups;
 ghost use Rattle.patch_group.specs.Records.{numbers_of, patches_in};
 
 use crate::calls::Groups;
@@ -21,7 +22,7 @@ impl<A: Allocator + Copy> Groups<A> {
         cache: &Cache<A>,
     ) -> Result<Vec<PatchNo, A>, OutOfMemory>
         ensures { (run : Execution) → Represents cache.now run
-            → IfOk result (λ waiting. waiting.items ≡ filter (the_patch_is_pending (entries_of run)) (patches_of self.now group)) }
+            → IfOk result (λ waiting. waiting.items ≡ filter (groups.is_pending (entries_of run)) (patches_of self.now group)) }
     {
         let mut waiting = Vec::new(self.alloc);
         if let Some(record) = self.groups.get(group.0 as usize) {
@@ -38,7 +39,7 @@ fn wait_for_each<A: Allocator + Copy>(
     waiting: &mut Vec<PatchNo, A>,
 ) -> Result<(), OutOfMemory>
     ensures { (run : Execution) → Represents cache.now run
-        → OnOk result (waiting.new.items ≡ waiting.old.items ++ filter (the_patch_is_pending (entries_of run)) (patches_in runs.now)) }
+        → OnOk result (waiting.new.items ≡ waiting.old.items ++ filter (groups.is_pending (entries_of run)) (patches_in runs.now)) }
 {
     for run in runs {
         wait_for_run(cache, run, waiting)?;
@@ -53,7 +54,7 @@ fn wait_for_run<A: Allocator + Copy>(
     waiting: &mut Vec<PatchNo, A>,
 ) -> Result<(), OutOfMemory>
     ensures { (run : Execution) → Represents cache.now run
-        → OnOk result (waiting.new.items ≡ waiting.old.items ++ filter (the_patch_is_pending (entries_of run)) (numbers_of numbers.now)) }
+        → OnOk result (waiting.new.items ≡ waiting.old.items ++ filter (groups.is_pending (entries_of run)) (numbers_of numbers.now)) }
 {
     for no in numbers.first..numbers.last {
         wait_if_pending(cache, PatchNo(no), waiting)?;
@@ -68,7 +69,7 @@ fn wait_if_pending<A: Allocator + Copy>(
     waiting: &mut Vec<PatchNo, A>,
 ) -> Result<(), OutOfMemory>
     ensures { (run : Execution) → Represents cache.now run
-        → OnOk result (waiting.new.items ≡ waiting.old.items ++ filter (the_patch_is_pending (entries_of run)) (no ∷ [])) }
+        → OnOk result (waiting.new.items ≡ waiting.old.items ++ filter (groups.is_pending (entries_of run)) (no ∷ [])) }
 {
     if is_pending(cache, no) {
         waiting.push(no)?;
