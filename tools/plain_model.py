@@ -5,8 +5,8 @@ from that. There are no saved bytes, no forgotten patches and no counters: a blo
 pile of the others over its first bytes, and what may be sent is found by striking out what may not. It is there to be
 compared with the cache, and shares nothing with it.
 
-`Model(blocks).answer(line)` answers a line that `json.loads` has read: `patch`, `merge`, `send`, `complete`, `view`,
-`show` or `disk`. The line is well formed; the reader of scripts isn't modelled.
+`Model(blocks).answer(line)` answers a line that `json.loads` has read, of any op. The line is well formed; the reader
+of scripts isn't modelled.
 """
 
 from dataclasses import dataclass, replace
@@ -15,6 +15,7 @@ from enum import Enum
 BLOCK = 4096
 MAX_PATCHES = 16_777_216
 MAX_LIVE = 65_536
+MAX_GROUPS = 1_024
 
 
 class Refused(Exception):
@@ -35,7 +36,7 @@ class Patch:
     block: int
     start: int
     content: bytes
-    after: tuple
+    after: frozenset
     may_drop: bool
 
     @property
@@ -214,7 +215,7 @@ class Create:
     block: int
     start: int
     content: bytes
-    after: tuple
+    after: frozenset
     may_drop: bool
 
     def follow(self, first, state):
@@ -272,6 +273,75 @@ def flying(entries, block):
 def is_full(entries):
     """As many patches are live as may be, for which as many have to be there."""
     return len(entries) >= MAX_LIVE and sum(entry.is_live for entry in entries) >= MAX_LIVE
+
+
+def next_ready(blocks, state):
+    """The least block that has no flight and something ready."""
+    return next(n for n in range(blocks) if n not in state.flights and ready(state.entries, n))
+
+
+# Groups.
+
+
+@dataclass(frozen=True)
+class Groups:
+    """What was accepted of groups, and nothing that follows from it. They are numbered from 0.
+
+    `engaged` has a pair (writer, group) for what each writer has engaged now, and `started` the groups that ever were
+    engaged. `orders` has a pair (group, on) for each group that was made to depend on another, and `joined` a pair
+    (patch, group) for each patch of a group.
+    """
+
+    count: int = 0
+    engaged: frozenset = frozenset()
+    started: frozenset = frozenset()
+    closed: frozenset = frozenset()
+    orders: frozenset = frozenset()
+    joined: tuple = ()
+
+
+def is_open(groups, group):
+    """The group was made, and wasn't closed."""
+    return group < groups.count and group not in groups.closed
+
+
+def is_engaged(groups, group):
+    """Some writer has the group engaged."""
+    return any(engaged == group for _, engaged in groups.engaged)
+
+
+def is_sealed(groups, group):
+    """Another group depends on it."""
+    return any(on == group for _, on in groups.orders)
+
+
+def engaged_by(groups, writer):
+    return {group for other, group in groups.engaged if other == writer}
+
+
+def groups_before(groups, group):
+    """The groups to which a chain of orders leads from this one, found by walking on from each in turn."""
+    reached, ends = set(), {group}
+    while ends:
+        ends = {on for later, on in groups.orders if later in ends} - reached
+        reached |= ends
+    return reached
+
+
+def patches_of(groups, group):
+    return {number for number, joined in groups.joined if joined == group}
+
+
+def after_of(groups, writer):
+    """The patches of all groups before those that the writer has engaged, durable ones too."""
+    before = {other for group in engaged_by(groups, writer) for other in groups_before(groups, group)}
+    return {number for group in before for number in patches_of(groups, group)}
+
+
+def pending(entries, groups, group):
+    """The patches of the group that aren't durable."""
+    numbers = patches_of(groups, group)
+    return [entry for entry in entries if entry.is_live and entry.patch.number in numbers]
 
 
 # Refusals: each list in the order of its tests, so that the first cause is told.
@@ -362,6 +432,48 @@ def check_back(entries, taken, number):
         raise Refused("DependencyTaken", min(needed))
 
 
+def check_group(groups):
+    if groups.count >= MAX_GROUPS:
+        raise Refused("TooManyGroups")
+
+
+def check_open(groups, *numbers):
+    if not all(is_open(groups, number) for number in numbers):
+        raise Refused("NoSuchGroup")
+
+
+def check_engage(groups, writer, group):
+    check_open(groups, group)
+    if is_sealed(groups, group):
+        raise Refused("Sealed")
+    if (writer, group) in groups.engaged:
+        raise Refused("Engaged")
+
+
+def check_disengage(groups, writer, group):
+    check_open(groups, group)
+    if (writer, group) not in groups.engaged:
+        raise Refused("NotEngaged")
+
+
+def check_depend(groups, group, on):
+    check_open(groups, group, on)
+    if group == on:
+        raise Refused("SameGroup")
+    if is_sealed(groups, group):
+        raise Refused("Sealed")
+    if group in groups.started:
+        raise Refused("Started")
+    if is_engaged(groups, on):
+        raise Refused("Engaged")
+
+
+def check_close(groups, group):
+    check_open(groups, group)
+    if is_engaged(groups, group):
+        raise Refused("Engaged")
+
+
 def take(entries, block, taken, number):
     """The names that are taken of the block once the class of this number is taken too."""
     check_take(entries, block, taken, number)
@@ -381,12 +493,17 @@ def listed(numbers):
     return ",".join(str(number) for number in numbers)
 
 
+def writer_of(line):
+    return line.get("writer", 0)
+
+
 class Model:
-    """Blocks of zeros with their patches, over a disk that is a plain list of blocks."""
+    """Blocks of zeros with their patches, and groups of these, over a disk that is a plain list of blocks."""
 
     def __init__(self, blocks):
         self.first = (bytes(BLOCK),) * blocks
         self.state = State((), {}, self.first)
+        self.groups = Groups()
 
     @property
     def blocks(self):
@@ -406,6 +523,13 @@ class Model:
             "view": self.view,
             "show": self.show,
             "disk": self.disk,
+            "group": self.group,
+            "engage": self.engage,
+            "disengage": self.disengage,
+            "depend": self.depend,
+            "close": self.close,
+            "pending": self.pending,
+            "sync": self.sync,
         }
         try:
             return by_op[line["op"]](line)
@@ -416,11 +540,15 @@ class Model:
         self.state = step.follow(self.first, self.state)
 
     def patch(self, line):
-        content, after = bytes.fromhex(line["hex"]), tuple(line.get("after", ()))
-        step = Create(line["block"], line["start"], content, after, line.get("drop", False))
+        """Beside what the line names, the patch names all that its writer's groups come after."""
+        after = frozenset(line.get("after", ())) | after_of(self.groups, writer_of(line))
+        step = Create(line["block"], line["start"], bytes.fromhex(line["hex"]), after, line.get("drop", False))
         check_create(self.blocks, self.entries, step)
+        number = len(self.entries)
         self.accept(step)
-        return f"patch {len(self.entries) - 1}"
+        joined = tuple((number, group) for group in engaged_by(self.groups, writer_of(line)))
+        self.regroup(joined=self.groups.joined + joined)
+        return f"patch {number}"
 
     def merge(self, line):
         check_merge(self.entries, line["a"], line["b"])
@@ -457,6 +585,57 @@ class Model:
     def disk(self, line):
         span = self.span(line)
         return f"disk {self.state.disk[line['block']][span].hex()}"
+
+    # Lines of groups.
+
+    def regroup(self, **changed):
+        self.groups = replace(self.groups, **changed)
+
+    def group(self, line):
+        check_group(self.groups)
+        number = self.groups.count
+        self.regroup(count=number + 1)
+        return f"group {number}"
+
+    def engage(self, line):
+        writer, group = writer_of(line), line["group"]
+        check_engage(self.groups, writer, group)
+        self.regroup(engaged=self.groups.engaged | {(writer, group)}, started=self.groups.started | {group})
+        return "ok"
+
+    def disengage(self, line):
+        writer, group = writer_of(line), line["group"]
+        check_disengage(self.groups, writer, group)
+        self.regroup(engaged=self.groups.engaged - {(writer, group)})
+        return "ok"
+
+    def depend(self, line):
+        group, on = line["group"], line["on"]
+        check_depend(self.groups, group, on)
+        self.regroup(orders=self.groups.orders | {(group, on)})
+        return "ok"
+
+    def close(self, line):
+        check_close(self.groups, line["group"])
+        self.regroup(closed=self.groups.closed | {line["group"]})
+        return "ok"
+
+    def pending(self, line):
+        check_open(self.groups, line["group"])
+        return f"pending {len(pending(self.entries, self.groups, line['group']))}"
+
+    def sync(self, line):
+        """Every write that was begun ends; then the least block that can be written is, until the group is on the disk."""
+        check_open(self.groups, line["group"])
+        for block in self.state.flights:
+            self.accept(Complete(block))
+        while pending(self.entries, self.groups, line["group"]):
+            block = next_ready(self.blocks, self.state)
+            self.accept(Send(block))
+            self.accept(Complete(block))
+        return "synced"
+
+    # Parts of lines.
 
     def span(self, line):
         """The places of a line's bytes in its block."""
