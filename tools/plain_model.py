@@ -9,7 +9,7 @@ compared with the cache, and shares nothing with it.
 of scripts isn't modelled.
 """
 
-from dataclasses import dataclass, replace
+from dataclasses import dataclass, field, replace
 from enum import Enum
 
 BLOCK = 4096
@@ -285,11 +285,11 @@ def next_ready(blocks, state):
 
 @dataclass(frozen=True)
 class Groups:
-    """What was accepted of groups, and nothing that follows from it. They are numbered from 0.
+    """What was accepted of groups, which are numbered from 0, and nothing that follows from it.
 
-    `engaged` has a pair (writer, group) for what each writer has engaged now, and `started` the groups that ever were
-    engaged. `orders` has a pair (group, on) for each group that was made to depend on another, and `joined` a pair
-    (patch, group) for each patch of a group.
+    `engaged` has a pair (writer, group) for each group that a writer has engaged now, and `started` all groups that
+    were ever engaged. `orders` has a pair (group, on) for each group that was made to depend on another. `patches` has
+    the numbers of each group's patches, in order of making, where it has any.
     """
 
     count: int = 0
@@ -297,7 +297,7 @@ class Groups:
     started: frozenset = frozenset()
     closed: frozenset = frozenset()
     orders: frozenset = frozenset()
-    joined: tuple = ()
+    patches: dict = field(default_factory=dict)
 
 
 def is_open(groups, group):
@@ -329,7 +329,7 @@ def groups_before(groups, group):
 
 
 def patches_of(groups, group):
-    return {number for number, joined in groups.joined if joined == group}
+    return groups.patches.get(group, ())
 
 
 def after_of(groups, writer):
@@ -340,7 +340,7 @@ def after_of(groups, writer):
 
 def pending(entries, groups, group):
     """The patches of the group that aren't durable."""
-    numbers = patches_of(groups, group)
+    numbers = set(patches_of(groups, group))
     return [entry for entry in entries if entry.is_live and entry.patch.number in numbers]
 
 
@@ -546,8 +546,8 @@ class Model:
         check_create(self.blocks, self.entries, step)
         number = len(self.entries)
         self.accept(step)
-        joined = tuple((number, group) for group in engaged_by(self.groups, writer_of(line)))
-        self.regroup(joined=self.groups.joined + joined)
+        joined = {g: patches_of(self.groups, g) + (number,) for g in engaged_by(self.groups, writer_of(line))}
+        self.regroup(patches={**self.groups.patches, **joined})
         return f"patch {number}"
 
     def merge(self, line):
@@ -625,7 +625,7 @@ class Model:
         return f"pending {len(pending(self.entries, self.groups, line['group']))}"
 
     def sync(self, line):
-        """Every write that was begun ends; then the least block that can be written is, until the group is on the disk."""
+        """Every write that was begun ends; then the least block that can be is written, until the group is on the disk."""
         check_open(self.groups, line["group"])
         for block in self.state.flights:
             self.accept(Complete(block))

@@ -1,11 +1,11 @@
 #!/usr/bin/env python3
 """Compares `fstch replay` with the plain model on random scripts.
 
-Each script has some 5 to 60 lines on 1 to 4 blocks. Its patches lie in a small window, so that they overlap, and name
-each other across blocks; its views, merges, sends and completions are asked for with an eye on the model, so that many
-are accepted and some are refused. The first script is a long one, with as many live patches as there may be. A script is
-run through PROGRAM and through the model, and the two texts and the exit status are compared. Scripts are the same for
-the same seed.
+Each script has some 5 to 80 lines on 1 to 4 blocks. Its patches lie in a small window, so that they overlap, and name
+each other across blocks; half of the scripts have groups. What is asked for is chosen with an eye on the model, so that
+much is accepted and some is refused. The first two scripts are long: one has as many live patches as there may be, one
+as many groups. A script is run through PROGRAM and through the model, and the two texts and the exit status are
+compared. Scripts are the same for the same seed.
 
 One that was never reached of the answers that a script can reach is a failure. NumbersSpent isn't among them: it takes
 16,777,216 patches, and a script has 100,000 lines at most.
@@ -27,12 +27,17 @@ from dataclasses import dataclass
 sys.dont_write_bytecode = True
 
 import plain_model
-from plain_model import BLOCK, Mark, Model, Refused
+from plain_model import BLOCK, MAX_GROUPS, Mark, Model, Refused, writer_of
 
 SECONDS = 60
 DIFFERENCES_SHOWN = 5
 LONG = 1000  # lines of a script that isn't made shorter
 MOST = 2**32 - 1  # that a number of a line may be
+WRITERS = 8
+
+# How often each op is asked for, one beside the other: in every script, and beside these in one with groups.
+USUAL = {"patch": 42, "merge": 12, "send": 8, "complete": 7, "view": 20, "show": 3, "disk": 3}
+USUAL_OF_GROUPS = {"group": 7, "engage": 12, "disengage": 8, "depend": 9, "close": 2, "pending": 4, "sync": 2}
 
 # The answers of each op that scripts must have reached, the accepted one first.
 REACHED = {
@@ -44,7 +49,17 @@ REACHED = {
     " DependencyTaken",
     "show": "shown NoSuchBlock OutOfBlock",
     "disk": "disk NoSuchBlock OutOfBlock",
+    "group": "group TooManyGroups",
+    "engage": "ok NoSuchGroup Sealed Engaged",
+    "disengage": "ok NoSuchGroup NotEngaged",
+    "depend": "ok NoSuchGroup SameGroup Sealed Started Engaged",
+    "close": "ok NoSuchGroup Engaged",
+    "pending": "pending NoSuchGroup",
+    "sync": "synced NoSuchGroup",
 }
+
+# The names of a line whose values are numbers of what such an answer numbers.
+NUMBERED = {"patch": ("after", "take", "back", "a", "b"), "group": ("group", "on")}
 
 
 @dataclass(frozen=True)
@@ -63,19 +78,23 @@ class Script:
         return [model.answer(line) for line in self.lines]
 
     def dropping(self, index):
-        """The script without this line. Where it made a patch, the patches behind it have one number less."""
+        """The script without this line. Where it made a patch or a group, those behind it have one number less."""
         answer, rest = self.answers()[index], self.lines[index + 1 :]
-        if kind(answer) == "patch":
-            rest = tuple(renumbered(line, int(answer.split()[1])) for line in rest)
+        if kind(answer) in NUMBERED:
+            names, gone = NUMBERED[kind(answer)], int(answer.split()[1])
+            rest = tuple(renumbered(line, names, gone) for line in rest)
         return Script(self.blocks, self.lines[:index] + rest)
 
 
-def renumbered(line, gone):
-    """The line as it reads where the patch of this number isn't made."""
-    lists = {name: line[name] for name in ("after", "take", "back") if name in line}
-    names = {name: line[name] for name in ("a", "b") if name in line}
-    fewer = {name: [n - (n > gone) for n in numbers if n != gone] for name, numbers in lists.items()}
-    return {**line, **fewer, **{name: n - (n > gone) for name, n in names.items()}}
+def renumbered(line, names, gone):
+    """The line as it reads where what has this number under these names isn't made."""
+    return {name: without_number(value, gone) if name in names else value for name, value in line.items()}
+
+
+def without_number(value, gone):
+    if isinstance(value, list):
+        return [without_number(number, gone) for number in value if number != gone]
+    return value - (value > gone)
 
 
 # Writing scripts.
@@ -84,46 +103,92 @@ def renumbered(line, gone):
 class Author:
     """Writes one script, line by line, and looks at the model before each line."""
 
+    groups_share = 0.5  # how many of its scripts have groups
+
     def __init__(self, seed):
         self.random = random.Random(seed)
         self.model = Model(self.random.randint(1, 4))
         self.window = self.random.choice((0, 0, 17, 2000, BLOCK - 12))
         self.drop_share = self.random.choice((0, 0.3, 0.8))
         self.named_share = self.random.choice((0.1, 0.4, 0.7))
+        self.has_groups = self.chance(self.groups_share)
+        self.writers = self.random.choice((1, 1, 2, WRITERS))
         self.weights = self.some_weights()
         self.lines, self.answers = [], []
 
     def some_weights(self):
         """How often each op is asked for: other scripts, other habits."""
-        usual = {"patch": 42, "merge": 12, "send": 8, "complete": 7, "view": 20, "show": 3, "disk": 3}
+        usual = {**USUAL, **USUAL_OF_GROUPS} if self.has_groups else USUAL
         return {op: weight * self.random.choice((0.2, 1, 1, 2)) for op, weight in usual.items()}
 
     def write(self):
-        for _ in range(self.random.randint(5, 52)):
-            self.ask(self.line())
+        self.ask_some(self.random.randint(5, 52))
+        if self.chance(0.5):
+            self.send_all()
         if self.chance(0.5):
             self.look_at_all()
+        return self.script()
+
+    def script(self):
+        """What was written, and what the model has answered."""
         return Script(self.model.blocks, tuple(self.lines)), self.answers
 
+    def ask_some(self, count):
+        for _ in range(count):
+            if self.has_groups and self.chance(0.1):
+                self.ask_order(self.group_with_patches())
+            self.ask(self.line())
+
     def line(self):
-        """A line of some op: first a few patches, and few completions where nothing is in flight."""
+        """A line of some op: first a few patches and groups, and few completions where nothing is in flight."""
         weights = dict(self.weights)
         if len(self.model.entries) < 4:
             weights["patch"] *= 6
         if not self.model.state.flights:
             weights["complete"] /= 6
+        if self.has_groups:
+            self.weigh_groups(weights)
         op = self.random.choices(list(weights), list(weights.values()))[0]
         return {"op": op, **getattr(self, op)()}
+
+    def weigh_groups(self, weights):
+        """First two groups, and mostly engagements where there is none."""
+        if self.model.groups.count < 2:
+            weights["group"] *= 6
+        elif not self.model.groups.engaged:
+            weights["engage"] *= 6
+            weights["disengage"] /= 6
 
     def ask(self, line):
         self.lines.append(line)
         self.answers.append(self.model.answer(line))
 
+    def ask_order(self, on):
+        """New groups in a chain behind this one, the last one engaged: its patches are after those of all before it."""
+        for writer in self.engagers(on):
+            self.ask({"op": "disengage", "group": on, "writer": writer})
+        for _ in range(self.random.choice((1, 1, 2))):
+            group = self.model.groups.count
+            self.ask({"op": "group"})
+            self.ask({"op": "depend", "group": group, "on": on})
+            on = group
+        self.ask({"op": "engage", "group": on, **self.writer()})
+
+    def engagers(self, group):
+        return sorted(writer for writer, engaged in self.model.groups.engaged if engaged == group)
+
+    def send_all(self):
+        """A write of each block, so that what has to wait shows."""
+        for block in self.shuffled(range(self.model.blocks)):
+            self.ask({"op": "send", "block": block})
+
     def look_at_all(self):
-        """The whole of each block, in the cache and on the disk."""
+        """The whole of each block, in the cache and on the disk, and what each group waits for."""
         for block in range(self.model.blocks):
             for op in ("show", "disk"):
                 self.ask({"op": op, "block": block, "start": 0, "len": BLOCK})
+        for group in range(self.model.groups.count):
+            self.ask({"op": "pending", "group": group})
 
     # Parts of lines.
 
@@ -152,6 +217,33 @@ class Author:
         numbers = list(numbers)
         return self.random.sample(numbers, len(numbers))
 
+    def writer(self):
+        """A writer under its name, which may be missing for the first one."""
+        writer = self.random.randrange(WRITERS if self.chance(0.05) else self.writers)
+        return {"writer": writer} if writer or self.chance(0.3) else {}
+
+    def some_groups(self):
+        """A few of the groups that were made, mostly late ones."""
+        made = self.model.groups.count
+        late = range(max(0, made - 8) if self.chance(0.7) else 0, made)
+        return self.random.sample(late, min(len(late), 8))
+
+    def group_for(self, check, *arguments):
+        """Mostly a group against which the check finds no cause, behind these arguments; now and then one not made."""
+        made, some = self.model.groups.count, self.some_groups()
+        if not some or self.chance(0.03):
+            return self.random.choice((made, made + 1, MOST))
+        if self.chance(0.15):
+            return some[0]
+        return next((g for g in some if is_accepted(check, self.model.groups, *arguments, g)), some[0])
+
+    def group_with_patches(self):
+        """Mostly a group that has patches, where there is one."""
+        groups = sorted(self.model.groups.patches)
+        if groups and self.chance(0.7):
+            return self.random.choice(groups)
+        return self.group_for(plain_model.check_open)
+
     def span(self):
         """Some bytes to be shown, around the window or of the whole block, now and then past the block's end."""
         if self.chance(0.04):
@@ -170,8 +262,8 @@ class Author:
             line["after"] = [self.number_made() for _ in range(self.random.choice((0, 1, 1, 2)))]
         if self.drop_share:
             line["drop"] = self.chance(self.drop_share)
-        if self.chance(0.05):
-            line["writer"] = self.random.randrange(8)
+        if self.has_groups or self.chance(0.05):
+            line.update(self.writer())
         return self.spoiled(line) if self.chance(0.08) else line
 
     def patch_place(self):
@@ -289,34 +381,76 @@ class Author:
         return next(n for n in members if is_accepted(plain_model.check_back, entries, taken, n))
 
 
+    # Lines of groups.
+
+    def group(self):
+        return {}
+
+    def engage(self):
+        writer = self.writer()
+        return {"group": self.group_for(plain_model.check_engage, writer_of(writer)), **writer}
+
+    def disengage(self):
+        engaged = sorted(self.model.groups.engaged)
+        if engaged and self.chance(0.8):
+            writer, group = self.random.choice(engaged)
+            return {"group": group, "writer": writer}
+        return {"group": self.group_for(plain_model.check_open), **self.writer()}
+
+    def depend(self):
+        on = self.group_with_patches()
+        return {"group": self.group_for(functools.partial(plain_model.check_depend, on=on)), "on": on}
+
+    def close(self):
+        return {"group": self.group_for(plain_model.check_close)}
+
+    def pending(self):
+        return {"group": self.group_with_patches()}
+
+    def sync(self):
+        return {"group": self.group_with_patches()}
+
+
 class CrowdAuthor(Author):
     """Writes a script with as many live patches as there may be, all but a few of them on blocks that are never sent.
 
     The last block has the few. Every line before and behind the crowd asks for that block, so the model, which goes
-    through all patches of a block and of its classes, has little to go through.
+    through all patches of a block and of its classes, has little to go through. Nothing is synced, which would write
+    the other blocks too.
     """
+
+    groups_share = 1
 
     def __init__(self, seed):
         super().__init__(seed)
         self.model = Model(self.random.randint(8, 24))
-        self.weights["merge"] = self.drop_share = 0
+        self.weights["merge"] = self.weights["sync"] = self.drop_share = 0
+        self.writers = 2
 
     def write(self):
         self.ask_some(8)
+        group = self.model.groups.count
+        self.ask({"op": "group"})
+        self.ask({"op": "engage", "group": group, **self.writer()})
         while not plain_model.is_full(self.model.entries):
             self.ask({"op": "patch", **self.crowded_patch()})
+        self.ask_order(group)
+        self.ask_behind_crowd()
         self.ask_some(60)
         self.look_at_all()
-        return Script(self.model.blocks, tuple(self.lines)), self.answers
+        return self.script()
 
-    def ask_some(self, count):
-        for _ in range(count):
-            self.ask(self.line())
+    def ask_behind_crowd(self):
+        """Some patches more, once a write of the last block has made room for as many as it had."""
+        for op in ("send", "complete"):
+            self.ask({"op": op, "block": self.last})
+        for _ in range(6):
+            self.ask({"op": "patch", **self.patch()})
 
     def crowded_patch(self):
         block, size = self.random.randrange(self.model.blocks - 1), self.random.randint(1, 5)
         start = self.random.randrange(BLOCK - size + 1)
-        return {"block": block, "start": start, "hex": self.random.randbytes(size).hex()}
+        return {"block": block, "start": start, "hex": self.random.randbytes(size).hex(), **self.writer()}
 
     def block(self):
         block = super().block()
@@ -331,6 +465,38 @@ class CrowdAuthor(Author):
 
     def send(self):
         return {"block": self.block()}
+
+
+class ManyGroupsAuthor(Author):
+    """Writes a script with as many groups as there may be, in one chain, a few of them with patches."""
+
+    groups_share = 1
+
+    def write(self):
+        while self.model.groups.count < MAX_GROUPS:
+            self.ask_next_group()
+        self.ask({"op": "group"})
+        self.ask({"op": "engage", "group": MAX_GROUPS - 1, **self.writer()})
+        self.ask_some(60)
+        self.look_at_all()
+        return self.script()
+
+    def ask_next_group(self):
+        """One more group behind the last one, now and then with patches."""
+        group = self.model.groups.count
+        self.ask({"op": "group"})
+        if group:
+            self.ask({"op": "depend", "group": group, "on": group - 1})
+        if self.chance(0.03):
+            writer = self.writer()
+            self.ask({"op": "engage", "group": group, **writer})
+            for _ in range(self.random.randint(1, 2)):
+                self.ask({"op": "patch", **self.patch(), **writer})
+            self.ask({"op": "disengage", "group": group, **writer})
+
+
+# The authors of the first scripts, which are long.
+FIRST_AUTHORS = (CrowdAuthor, ManyGroupsAuthor)
 
 
 def is_accepted(check, *arguments):
@@ -410,7 +576,7 @@ def kind(answer):
 
 def try_script(program, seed, number):
     """Writes and compares one script: how often each kind of answer was reached, and the script if the two differ."""
-    author = CrowdAuthor if number == 0 else Author
+    author = FIRST_AUTHORS[number] if number < len(FIRST_AUTHORS) else Author
     script, answers = author(f"{seed} {number}").write()
     kinds = collections.Counter((line["op"], kind(answer)) for line, answer in zip(script.lines, answers))
     return kinds, script if program and differs(program, script, answers) else None
