@@ -1,7 +1,7 @@
 #!/usr/bin/env python3
 """Compares `fstch replay` with the plain model on random scripts.
 
-Each script has some 5 to 80 lines on 1 to 4 blocks. Its patches lie in a small window, so that they overlap, and name
+Each script has some 5 to 100 lines on 1 to 4 blocks. Its patches lie in a small window, so that they overlap, and name
 each other across blocks; half of the scripts have groups. What is asked for is chosen with an eye on the model, so that
 much is accepted and some is refused. The first two scripts are long: one has as many live patches as there may be, one
 as many groups. A script is run through PROGRAM and through the model, and the two texts and the exit status are
@@ -34,6 +34,7 @@ DIFFERENCES_SHOWN = 5
 LONG = 1000  # lines of a script that isn't made shorter
 MOST = 2**32 - 1  # that a number of a line may be
 WRITERS = 8
+LATE = 8  # so many of the last numbers are late ones
 
 # How often each op is asked for, one beside the other: in every script, and beside these in one with groups.
 USUAL = {"patch": 42, "merge": 12, "send": 8, "complete": 7, "view": 20, "show": 3, "disk": 3}
@@ -195,18 +196,24 @@ class Author:
     def chance(self, share):
         return self.random.random() < share
 
+    def no_number(self, count):
+        """One that nothing has, where so many things are numbered from 0."""
+        return self.random.choice((count, count + 1, MOST))
+
+    def numbers(self, count):
+        """Those of so many things, mostly of the late ones alone."""
+        return range(max(0, count - LATE) if self.chance(0.7) else 0, count)
+
     def block(self):
-        if self.chance(0.03):
-            return self.random.choice((self.model.blocks, self.model.blocks + 1, MOST))
-        return self.random.randrange(self.model.blocks)
+        blocks = self.model.blocks
+        return self.no_number(blocks) if self.chance(0.03) else self.random.randrange(blocks)
 
     def number(self):
         """A number of a patch, mostly a late one, now and then one that wasn't made."""
         made = len(self.model.entries)
         if made == 0 or self.chance(0.03):
-            return self.random.choice((made, made + 1, MOST))
-        late = max(0, made - 8) if self.chance(0.7) else 0
-        return self.random.randrange(late, made)
+            return self.no_number(made)
+        return self.random.choice(self.numbers(made))
 
     def remembered(self, entries):
         """The number of one of these patches that is in memory, if one is."""
@@ -222,17 +229,13 @@ class Author:
         writer = self.random.randrange(WRITERS if self.chance(0.05) else self.writers)
         return {"writer": writer} if writer or self.chance(0.3) else {}
 
-    def some_groups(self):
-        """A few of the groups that were made, mostly late ones."""
-        made = self.model.groups.count
-        late = range(max(0, made - 8) if self.chance(0.7) else 0, made)
-        return self.random.sample(late, min(len(late), 8))
-
     def group_for(self, check, *arguments):
         """Mostly a group against which the check finds no cause, behind these arguments; now and then one not made."""
-        made, some = self.model.groups.count, self.some_groups()
-        if not some or self.chance(0.03):
-            return self.random.choice((made, made + 1, MOST))
+        made = self.model.groups.count
+        if made == 0 or self.chance(0.03):
+            return self.no_number(made)
+        numbers = self.numbers(made)
+        some = self.random.sample(numbers, min(len(numbers), LATE))
         if self.chance(0.15):
             return some[0]
         return next((g for g in some if is_accepted(check, self.model.groups, *arguments, g)), some[0])
@@ -387,8 +390,8 @@ class Author:
         return {}
 
     def engage(self):
-        writer = self.writer()
-        return {"group": self.group_for(plain_model.check_engage, writer_of(writer)), **writer}
+        by = self.writer()
+        return {"group": self.group_for(plain_model.check_engage, writer_of(by)), **by}
 
     def disengage(self):
         engaged = sorted(self.model.groups.engaged)
@@ -425,7 +428,7 @@ class CrowdAuthor(Author):
         super().__init__(seed)
         self.model = Model(self.random.randint(8, 24))
         self.weights["merge"] = self.weights["sync"] = self.drop_share = 0
-        self.writers = 2
+        self.writers = WRITERS
 
     def write(self):
         self.ask_some(8)
@@ -434,18 +437,19 @@ class CrowdAuthor(Author):
         self.ask({"op": "engage", "group": group, **self.writer()})
         while not plain_model.is_full(self.model.entries):
             self.ask({"op": "patch", **self.crowded_patch()})
-        self.ask_order(group)
-        self.ask_behind_crowd()
+        self.ask_behind(group)
         self.ask_some(60)
         self.look_at_all()
         return self.script()
 
-    def ask_behind_crowd(self):
-        """Some patches more, once a write of the last block has made room for as many as it had."""
+    def ask_behind(self, group):
+        """Some patches after all of this group's, once a write of the last block has made room."""
+        self.ask_order(group)
         for op in ("send", "complete"):
             self.ask({"op": op, "block": self.last})
-        for _ in range(6):
-            self.ask({"op": "patch", **self.patch()})
+        for writer in self.engagers(self.model.groups.count - 1):
+            for _ in range(4):
+                self.ask({"op": "patch", **self.patch(), "writer": writer})
 
     def crowded_patch(self):
         block, size = self.random.randrange(self.model.blocks - 1), self.random.randint(1, 5)
@@ -488,11 +492,11 @@ class ManyGroupsAuthor(Author):
         if group:
             self.ask({"op": "depend", "group": group, "on": group - 1})
         if self.chance(0.03):
-            writer = self.writer()
-            self.ask({"op": "engage", "group": group, **writer})
+            by = {"writer": self.random.randrange(self.writers)}
+            self.ask({"op": "engage", "group": group, **by})
             for _ in range(self.random.randint(1, 2)):
-                self.ask({"op": "patch", **self.patch(), **writer})
-            self.ask({"op": "disengage", "group": group, **writer})
+                self.ask({"op": "patch", **self.patch(), **by})
+            self.ask({"op": "disengage", "group": group, **by})
 
 
 # The authors of the first scripts, which are long.
