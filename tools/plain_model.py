@@ -625,7 +625,7 @@ class Model:
         return f"pending {len(pending(self.entries, self.groups, line['group']))}"
 
     def sync(self, line):
-        """Each write that was begun ends; then the least block that can be is written, until all of the group is durable."""
+        """Each write that was begun ends; then least blocks are written, until all of the group is durable."""
         check_open(self.groups, line["group"])
         for block in self.state.flights:
             self.accept(Complete(block))
