@@ -28,12 +28,13 @@ impl<A: Allocator + Copy> Model for Groups<A> {
     ghost use Rattle.std.specs.Prelude.{◌≤◌, length, map};
     ghost use Rattle.patch_group.specs.Groups.{Groups as State, AreApart};
     ghost use Rattle.patch_group.specs.Records.{group_of};
+    ghost use Rattle.patch_group.specs.declared.limits.TheConstants.{MAX_GROUPS};
 
     ghost Value = { State };
 
     ghost view = { λ c. record { groups = map group_of c.groups.items; engaged = c.engaged.items } };
 
-    ghost invariant = { λ c. (length c.groups.items ≤ 1024) × AreApart c.engaged.items };
+    ghost invariant = { λ c. (length c.groups.items ≤ MAX_GROUPS) × AreApart c.engaged.items };
 }
 
 impl<A: Allocator + Copy> Groups<A> {

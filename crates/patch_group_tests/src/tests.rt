@@ -1,7 +1,8 @@
 //! Worked scripts, syncs over devices that fail, want of memory, and the texts of refusals.
 use patch_cache::*;
 use patch_group::*;
-use patch_model::{BlockBytes, BlockNo, MAX_BLOCKS, OutOfMemory, PatchNo, Undo, WriterNo};
+use patch_model::{BlockNo, MAX_BLOCKS, OutOfMemory, PatchNo, Undo, WriterNo};
+use patch_testing::zeros;
 use std::alloc::Allocator;
 use std::fmt::Debug;
 use std::process::Abort;
@@ -16,27 +17,6 @@ mod scripts;
 // Asserts of what is named.
 fn expect_equal<T: Copy + Debug + PartialEq>(rt: &impl Abort, what: &str, got: T, want: T) {
     assert_eq!(rt; got, want, "{what}");
-}
-
-fn push_zeros<A: Allocator + Copy>(
-    alloc: A,
-    blocks: &mut Vec<BlockBytes<A>, A>,
-    count: usize,
-) -> Result<(), OutOfMemory> {
-    for _ in 0..count {
-        blocks.push(BlockBytes::zeros(alloc)?)?;
-    }
-    Ok(())
-}
-
-// So many blocks of zeros.
-fn zeros<A: Allocator + Copy>(
-    alloc: A,
-    count: usize,
-) -> Result<Vec<BlockBytes<A>, A>, OutOfMemory> {
-    let mut blocks = Vec::new(alloc);
-    push_zeros(alloc, &mut blocks, count)?;
-    Ok(blocks)
 }
 
 // A cache of so many blocks of zeros.

@@ -4,6 +4,7 @@ use super::*;
 use linked_list_allocator::LocalHeap;
 use patch_device::MemDevice;
 use patch_model::{RefusalKind, Refuses};
+use patch_testing::{HEAP, fill, hole_of};
 use std::alloc::Global;
 
 // Calls of each kind, in the words of the scripts.
@@ -44,53 +45,6 @@ fn shown(bench: &Bench) -> Shown {
     let first = bench.groups.pending(GroupNo(0), &bench.cache).ok();
     let second = bench.groups.pending(GroupNo(1), &bench.cache).ok();
     (first, second, bench.cache.made(), bench.cache.live())
-}
-
-// Pieces of a heap.
-type Ballast<'a> = Vec<Vec<u8, &'a LocalHeap>>;
-
-// Takes up to 64 pieces of this size.
-fn take_pieces<'a>(
-    heap: &'a LocalHeap,
-    ballast: &mut Ballast<'a>,
-    size: usize,
-) -> Result<(), OutOfMemory> {
-    for _ in 0..64 {
-        let Ok(piece) = Vec::with_capacity(heap, size) else {
-            break;
-        };
-        ballast.push(piece)?;
-    }
-    Ok(())
-}
-
-fn take_all<'a>(heap: &'a LocalHeap, ballast: &mut Ballast<'a>) -> Result<(), OutOfMemory> {
-    for size in [16384usize, 4096, 1024, 256, 64, 16] {
-        take_pieces(heap, ballast, size)?;
-    }
-    Ok(())
-}
-
-// All of a heap's memory.
-fn all_of<'a>(alloc: Global, heap: &'a LocalHeap) -> Result<Ballast<'a>, OutOfMemory> {
-    let mut ballast = Vec::new(alloc);
-    take_all(heap, &mut ballast)?;
-    Ok(ballast)
-}
-
-// Takes all of a heap's memory but one hole of this size.
-fn fill<'a>(alloc: Global, heap: &'a LocalHeap, hole: usize) -> Result<Ballast<'a>, OutOfMemory> {
-    let kept: Vec<u8, &'a LocalHeap> = Vec::with_capacity(heap, hole)?;
-    let ballast = all_of(alloc, heap);
-    drop(kept);
-    ballast
-}
-
-// A hole larger than that of the size before it.
-fn hole_of(size: usize) -> usize {
-    let small = size.min(64);
-    let large = size.saturating_sub(small).min(1000);
-    small * 16 + large * 64
 }
 
 fn kind_of(refusal: GroupRefusal) -> RefusalKind {
@@ -325,7 +279,7 @@ fn refuse_each(rt: &impl Abort, alloc: Global, heap: &LocalHeap, how: How) -> Re
 // All but the second group, which has room beside the first, the end of an engagement, and the second engagement.
 #[test]
 fn of_calls(rt: HostRuntime) -> Result<(), Fail> {
-    let heap = LocalHeap::new(rt.alloc(), 65536)?;
+    let heap = LocalHeap::new(rt.alloc(), HEAP)?;
     let refused = refuse_each(&rt, rt.alloc(), &heap, How::Named)?;
     expect_equal(&rt, "refused", refused, 7);
     Ok(())
@@ -334,7 +288,7 @@ fn of_calls(rt: HostRuntime) -> Result<(), Fail> {
 // All of them, since an answer takes room.
 #[test]
 fn of_lists_of_one_ask(rt: HostRuntime) -> Result<(), Fail> {
-    let heap = LocalHeap::new(rt.alloc(), 65536)?;
+    let heap = LocalHeap::new(rt.alloc(), HEAP)?;
     let refused = refuse_each(&rt, rt.alloc(), &heap, How::Listed)?;
     expect_equal(&rt, "refused", refused, 10);
     Ok(())

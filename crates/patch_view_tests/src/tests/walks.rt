@@ -409,8 +409,8 @@ fn change_view(rt: &impl Abort, view: &mut BlockView) {
 }
 
 fn put_view_right(rt: &impl Abort, block: &mut BlockState) -> Result<(), Fail> {
-    lay(rt, block, 0, 0, &[1, 2, 3], None, false)?;
-    lay(rt, block, 1, 1, &[7], None, false)?;
+    lay(rt, block, 0, 0, &[1, 2, 3], None)?;
+    lay(rt, block, 1, 1, &[7], None)?;
     let mut view = block.view();
     change_view(rt, &mut view);
     view.restore();
