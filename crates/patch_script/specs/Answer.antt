@@ -4,7 +4,7 @@ use Rattle.hex.specs.Hex.{encode_lower}
 use Rattle.patch_model.specs.declared.refusals.Refusal.{Refusal}
 use Rattle.patch_model.specs.Refusal.{name_of}
 use Rattle.patch_script.specs.declared.answers.Answer.{Answer}
-use Rattle.patch_script.specs.declared.answers.Answer.TheVariants.{Made, Merged, Sent, Landed, Seen, Shown, OnDisk, Refused}
+use Rattle.patch_script.specs.declared.answers.Answer.TheVariants.{Made, Merged, Sent, Landed, Seen, Shown, OnDisk, GroupMade, Done, Count, Synced, Refused}
 
 -- a number behind a space, where there is one
 abbrev pub behind_space : Option ℕ → List ℕ
@@ -39,6 +39,10 @@ answer_text (Landed block numbers) = codes "durable " ++ flight_text block numbe
 answer_text (Seen without cached) = seen_text without cached
 answer_text (Shown bytes) = codes "shown " ++ encode_lower bytes
 answer_text (OnDisk bytes) = codes "disk " ++ encode_lower bytes
+answer_text (GroupMade group) = codes "group " ++ decimal group
+answer_text Done = codes "ok"
+answer_text (Count count) = codes "pending " ++ decimal count
+answer_text Synced = codes "synced"
 answer_text (Refused refusal) = refusal_text refusal
 
 abbrev pub answer_line : Answer → List ℕ

@@ -8,7 +8,7 @@ use Rattle.serde_json.specs.Read.{read}
 use Rattle.patch_model.specs.declared.patches.Undo.{Undo}
 use Rattle.patch_model.specs.declared.patches.Undo.TheVariants.{Keep, MayDrop}
 use Rattle.patch_script.specs.declared.forms.Line.{Line}
-use Rattle.patch_script.specs.declared.forms.Line.TheVariants.{Patch, Merge, Send, Complete, View, Show, Disk}
+use Rattle.patch_script.specs.declared.forms.Line.TheVariants.{Patch, Merge, Send, Complete, View, Show, Disk, Group, Engage, Disengage, Depend, Close, Pending, Sync}
 use Rattle.patch_script.specs.declared.forms.Span.{Span}
 use Rattle.patch_script.specs.Field.{◌>>=◌, whole, wholes, positive, writer_number, hex_bytes, needed, optional}
 
@@ -46,6 +46,36 @@ view_line line = do
   span ← span_of line
   Some (View take back span)
 
+unfoldable pub engage_line : Data → Option Line
+engage_line line = do
+  writer ← optional writer_number 0 (codes "writer") line
+  group ← needed whole (codes "group") line
+  Some (Engage writer group)
+
+unfoldable pub disengage_line : Data → Option Line
+disengage_line line = do
+  writer ← optional writer_number 0 (codes "writer") line
+  group ← needed whole (codes "group") line
+  Some (Disengage writer group)
+
+unfoldable pub depend_line : Data → Option Line
+depend_line line = do
+  group ← needed whole (codes "group") line
+  on ← needed whole (codes "on") line
+  Some (Depend group on)
+
+-- the ops of groups by their names
+unfoldable pub group_op_line : List ℕ → Data → Option Line
+group_op_line op line =
+    if bytes_eq op (codes "group") then Some Group
+    else if bytes_eq op (codes "engage") then engage_line line
+    else if bytes_eq op (codes "disengage") then disengage_line line
+    else if bytes_eq op (codes "depend") then depend_line line
+    else if bytes_eq op (codes "close") then option_map Close (needed whole (codes "group") line)
+    else if bytes_eq op (codes "pending") then option_map Pending (needed whole (codes "group") line)
+    else if bytes_eq op (codes "sync") then option_map Sync (needed whole (codes "group") line)
+    else None
+
 -- each op by its name
 unfoldable pub op_line : List ℕ → Data → Option Line
 op_line op line =
@@ -56,7 +86,7 @@ op_line op line =
     else if bytes_eq op (codes "view") then view_line line
     else if bytes_eq op (codes "show") then option_map Show (span_of line)
     else if bytes_eq op (codes "disk") then option_map Disk (span_of line)
-    else None
+    else group_op_line op line
 
 abbrev pub object_line : Data → Option Line
 object_line line = needed as_str (codes "op") line >>= λ op. op_line op line

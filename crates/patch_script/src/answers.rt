@@ -3,7 +3,7 @@ ghost use Rattle.std.specs.Prelude.{◌≡◌, ◌++◌, ◌∷◌, [], List, On
 ghost use Rattle.hex.specs.Hex.{encode_lower};
 ghost use Rattle.patch_script.specs.Answer.{answer_text, answer_line as the_line, refusal_text, seen_text, numbers_text, flight_text};
 
-use patch_model::{BlockNo, Bytes, Numbers, PatchNo, Refusal, Refuses};
+use patch_model::{BlockNo, Bytes, GroupNo, Numbers, PatchNo, Refusal, Refuses};
 use std::alloc::{AllocError, Global};
 
 /// What a line is answered.
@@ -22,6 +22,14 @@ pub enum Answer {
     Shown(Bytes),
     /// The bytes on the device.
     OnDisk(Bytes),
+    /// A group was made, of this number.
+    GroupMade(GroupNo),
+    /// The group was engaged, disengaged, ordered or closed.
+    Done,
+    /// How many patches of the group aren't on the disk yet.
+    Count(u32),
+    /// All patches of the group are on the disk.
+    Synced,
     /// The line did nothing, and this is why.
     Refused(Refusal),
 }
@@ -101,6 +109,10 @@ fn push_answer(alloc: Global, out: &mut String, answer: &Answer) -> Result<(), A
         }
         Answer::Shown(bytes) => push_hex(alloc, out, "shown ", bytes.as_slice()),
         Answer::OnDisk(bytes) => push_hex(alloc, out, "disk ", bytes.as_slice()),
+        Answer::GroupMade(group) => write!(out, "group {group}"),
+        Answer::Done => out.push_str("ok"),
+        Answer::Count(count) => write!(out, "pending {count}"),
+        Answer::Synced => out.push_str("synced"),
         Answer::Refused(refusal) => push_refusal(out, *refusal),
     }
 }

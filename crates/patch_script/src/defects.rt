@@ -21,6 +21,8 @@ pub enum Name {
     B,
     Take,
     Back,
+    Group,
+    On,
 }
 
 impl Name {
@@ -41,14 +43,20 @@ impl Name {
             Name::B => "b",
             Name::Take => "take",
             Name::Back => "back",
+            Name::Group => "group",
+            Name::On => "on",
         }
     }
 
     /// What the value has to be.
     fn wanted(self) -> &'static str {
         match self {
-            Name::Op => "one of patch, merge, send, complete, view, show and disk",
-            Name::Block | Name::Start | Name::A | Name::B => "a whole number from 0 to 4294967295",
+            Name::Op => {
+                "one of patch, merge, send, complete, view, show, disk, group, engage, disengage, depend, close, pending and sync"
+            }
+            Name::Block | Name::Start | Name::A | Name::B | Name::Group | Name::On => {
+                "a whole number from 0 to 4294967295"
+            }
             Name::Len => "a whole number from 1 to 4294967295",
             Name::Writer => "a whole number from 0 to 7",
             Name::Hex => "a text of hexadecimal digits, two for each byte",

@@ -1,5 +1,5 @@
 //! The forms of lines.
-use patch_model::{BlockNo, Bytes, Numbers, PatchNo, Undo, WriterNo};
+use patch_model::{BlockNo, Bytes, GroupNo, Numbers, PatchNo, Undo, WriterNo};
 
 /// Some bytes of a block: `len` of them from `start` on, at least one.
 #[derive(Clone, Copy, Debug, PartialEq, Eq)]
@@ -40,4 +40,27 @@ pub enum Line {
     Show(Span),
     /// Show the bytes of the span that are on the device.
     Disk(Span),
+    /// Make a group.
+    Group,
+    /// Let the writer's patches belong to the group from now on.
+    Engage {
+        writer: WriterNo,
+        group: GroupNo,
+    },
+    /// End that.
+    Disengage {
+        writer: WriterNo,
+        group: GroupNo,
+    },
+    /// Let the group depend on the other.
+    Depend {
+        group: GroupNo,
+        on: GroupNo,
+    },
+    /// Let the group be none from now on.
+    Close(GroupNo),
+    /// Count the patches of the group that aren't on the disk yet.
+    Pending(GroupNo),
+    /// Bring all patches of the group to the disk.
+    Sync(GroupNo),
 }

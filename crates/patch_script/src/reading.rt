@@ -1,7 +1,7 @@
 //! The reading of a line.
 ghost use Rattle.std.specs.Prelude.{◌≡◌, IfOk, IfErr, Some};
 ghost use Rattle.patch_script.specs.Gives.{Gives, Fails};
-ghost use Rattle.patch_script.specs.Form.{patch_line, merge_line, view_line, span_of, op_line, object_line, json_of, is_blank, line_of};
+ghost use Rattle.patch_script.specs.Form.{patch_line, merge_line, view_line, engage_line, disengage_line, depend_line, span_of, group_op_line, op_line, object_line, json_of, is_blank, line_of};
 ghost use Rattle.serde_json.specs.View.{view};
 
 use crate::defects::{Defect, Name};
@@ -9,7 +9,7 @@ use crate::fields::{
     LineError, bytes, flag, number, numbers, numbers_or_none, op, positive_number, writer, wrong,
 };
 use crate::forms::{Line, Span};
-use patch_model::{BlockNo, PatchNo, Undo};
+use patch_model::{BlockNo, GroupNo, PatchNo, Undo};
 use serde_json::Value;
 use std::alloc::Global;
 
@@ -62,6 +62,49 @@ fn read_view(alloc: Global, line: &Value) -> Result<Line, LineError>
     Ok(Line::View { take, back, span })
 }
 
+#[tactic(auto, unfolding(crate::specs::Form::engage_line))]
+fn read_engage(line: &Value) -> Result<Line, LineError>
+    ensures { Gives result (engage_line (view line.now)) }
+{
+    let writer = writer(line)?;
+    let group = GroupNo(number(line, Name::Group)?);
+    Ok(Line::Engage { writer, group })
+}
+
+#[tactic(auto, unfolding(crate::specs::Form::disengage_line))]
+fn read_disengage(line: &Value) -> Result<Line, LineError>
+    ensures { Gives result (disengage_line (view line.now)) }
+{
+    let writer = writer(line)?;
+    let group = GroupNo(number(line, Name::Group)?);
+    Ok(Line::Disengage { writer, group })
+}
+
+#[tactic(auto, unfolding(crate::specs::Form::depend_line))]
+fn read_depend(line: &Value) -> Result<Line, LineError>
+    ensures { Gives result (depend_line (view line.now)) }
+{
+    let group = GroupNo(number(line, Name::Group)?);
+    let on = GroupNo(number(line, Name::On)?);
+    Ok(Line::Depend { group, on })
+}
+
+#[tactic(auto, unfolding(crate::specs::Form::group_op_line))]
+fn read_group_op(op: &str, line: &Value) -> Result<Line, LineError>
+    ensures { Gives result (group_op_line op.now (view line.now)) }
+{
+    match op {
+        "group" => Ok(Line::Group),
+        "engage" => read_engage(line),
+        "disengage" => read_disengage(line),
+        "depend" => read_depend(line),
+        "close" => Ok(Line::Close(GroupNo(number(line, Name::Group)?))),
+        "pending" => Ok(Line::Pending(GroupNo(number(line, Name::Group)?))),
+        "sync" => Ok(Line::Sync(GroupNo(number(line, Name::Group)?))),
+        _ => Err(wrong(Name::Op)),
+    }
+}
+
 #[tactic(auto, unfolding(crate::specs::Form::op_line))]
 fn read_op(alloc: Global, op: &str, line: &Value) -> Result<Line, LineError>
     ensures { Gives result (op_line op.now (view line.now)) }
@@ -74,7 +117,7 @@ fn read_op(alloc: Global, op: &str, line: &Value) -> Result<Line, LineError>
         "view" => read_view(alloc, line),
         "show" => Ok(Line::Show(read_span(line)?)),
         "disk" => Ok(Line::Disk(read_span(line)?)),
-        _ => Err(wrong(Name::Op)),
+        _ => read_group_op(op, line),
     }
 }
 

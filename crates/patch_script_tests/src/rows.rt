@@ -2,7 +2,7 @@
 //! nothing.
 ghost use Rattle.std.specs.Prelude.{◌≡◌, ◌∷◌, [], Some, None, codes};
 ghost use Rattle.patch_model.specs.declared.patches.Undo.TheVariants.{Keep, MayDrop};
-ghost use Rattle.patch_script.specs.declared.forms.Line.TheVariants.{Patch, Merge, Send, Complete, View, Show, Disk};
+ghost use Rattle.patch_script.specs.declared.forms.Line.TheVariants.{Patch, Merge, Send, Complete, View, Show, Disk, Group, Engage, Disengage, Depend, Close, Pending, Sync};
 ghost use Rattle.patch_script.specs.Form.{line_of};
 
 /// Lines of each form, and some that aren't readable.
@@ -38,7 +38,26 @@ fn worked_lines()
     ensures unknown { line_of (codes "{\"op\":\"fly\"}") ≡ None }
 {}
 
+/// Lines of groups, each form readable and not.
+fn worked_lines_of_groups()
+    ensures group { line_of (codes "{\"op\":\"group\"}") ≡ Some (Some Group) }
+    ensures engage { line_of (codes "{\"op\":\"engage\",\"group\":4,\"writer\":7}") ≡ Some (Some (Engage 7 4)) }
+    ensures engage_of_no_writer { line_of (codes "{\"op\":\"engage\",\"group\":4}") ≡ Some (Some (Engage 0 4)) }
+    ensures disengage { line_of (codes "{\"op\":\"disengage\",\"group\":5,\"writer\":1}") ≡ Some (Some (Disengage 1 5)) }
+    ensures depend { line_of (codes "{\"op\":\"depend\",\"group\":6,\"on\":2}") ≡ Some (Some (Depend 6 2)) }
+    ensures close { line_of (codes "{\"op\":\"close\",\"group\":8}") ≡ Some (Some (Close 8)) }
+    ensures pending { line_of (codes "{\"op\":\"pending\",\"group\":9}") ≡ Some (Some (Pending 9)) }
+    ensures sync { line_of (codes "{\"op\":\"sync\",\"group\":4294967295}") ≡ Some (Some (Sync 4294967295)) }
+    ensures engage_of_no_group { line_of (codes "{\"op\":\"engage\",\"writer\":7}") ≡ None }
+    ensures ninth_writer { line_of (codes "{\"op\":\"disengage\",\"group\":5,\"writer\":8}") ≡ None }
+    ensures depend_on_none { line_of (codes "{\"op\":\"depend\",\"group\":6}") ≡ None }
+    ensures close_of_text { line_of (codes "{\"op\":\"close\",\"group\":\"8\"}") ≡ None }
+    ensures pending_fraction { line_of (codes "{\"op\":\"pending\",\"group\":9.0}") ≡ None }
+    ensures sync_of_a_large_group { line_of (codes "{\"op\":\"sync\",\"group\":4294967296}") ≡ None }
+{}
+
 #[test]
 fn lines_read_as_worked_out() {
     worked_lines();
+    worked_lines_of_groups();
 }

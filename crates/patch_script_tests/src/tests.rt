@@ -1,5 +1,5 @@
 //! Scripts of every kind, and the texts of answers.
-use patch_model::{BlockNo, Bytes, Items, Numbers, PatchNo, Refusal, RefusalKind};
+use patch_model::{BlockNo, Bytes, GroupNo, Items, Numbers, PatchNo, Refusal, RefusalKind};
 use patch_script::*;
 use std::alloc::{AllocError, Global};
 use std::process::Abort;
@@ -46,7 +46,21 @@ const READABLE: &str = r#"{"op":"show","block":0,"start":0,"len":1}
 {"op":"merge","a":9,"b":1,"a":0,"block":"x"}
 {"op":"send","block":9,"block":0,"colour":"red"}
 {"op":"complete","block":"x","more":{},"block":0}
-{"op":"disk","block":0,"start":0,"len":0,"len":1,"take":7}"#;
+{"op":"disk","block":0,"start":0,"len":0,"len":1,"take":7}
+{"op":"group"}
+{"op":"group","group":"x","writer":8}
+{"op":"engage","group":4294967295}
+{"op":"engage","group":"x","writer":7,"group":0,"on":-1}
+{"op":"disengage","group":0,"writer":0}
+{"op":"disengage","writer":8,"group":4294967295,"writer":7}
+{"op":"depend","group":0,"on":4294967295}
+{"op":"depend","on":0,"group":4294967295,"writer":8}
+{"op":"close","group":0}
+{"op":"close","group":1,"group":4294967295,"on":"x"}
+{"op":"pending","group":0}
+{"op":"pending","group":4294967295,"block":-1}
+{"op":"sync","group":0,"writer":8}
+{"op":"sync","more":{},"group":4294967295}"#;
 
 #[test]
 fn reads_lines(rt: HostRuntime) {
@@ -154,6 +168,117 @@ const UNREADABLE_DISKS: &str = r#"{"op":"disk","start":0,"len":1}
 {"op":"disk","block":0,"start":0,"len":1.0}
 {"op":"disk","block":0,"start":0,"len":4294967296}"#;
 
+const UNREADABLE_ENGAGEMENTS: &str = r#"{"op":"engage"}
+{"op":"engage","writer":0}
+{"op":"engage","group":"0"}
+{"op":"engage","group":-1}
+{"op":"engage","group":-0}
+{"op":"engage","group":+1}
+{"op":"engage","group":1.0}
+{"op":"engage","group":1e0}
+{"op":"engage","group":01}
+{"op":"engage","group":4294967296}
+{"op":"engage","group":null}
+{"op":"engage","group":[0]}
+{"op":"engage","group":0,"writer":8}
+{"op":"engage","group":0,"writer":"0"}
+{"op":"engage","group":0,"writer":-1}
+{"op":"engage","group":0,"writer":-0}
+{"op":"engage","group":0,"writer":+1}
+{"op":"engage","group":0,"writer":1.0}
+{"op":"engage","group":0,"writer":1e0}
+{"op":"engage","group":0,"writer":01}
+{"op":"engage","group":0,"writer":4294967296}
+{"op":"engage","group":0,"writer":null}
+{"op":"engage","group":0,"writer":[0]}"#;
+
+const UNREADABLE_DISENGAGEMENTS: &str = r#"{"op":"disengage"}
+{"op":"disengage","writer":0}
+{"op":"disengage","group":"0"}
+{"op":"disengage","group":-1}
+{"op":"disengage","group":-0}
+{"op":"disengage","group":+1}
+{"op":"disengage","group":1.0}
+{"op":"disengage","group":1e0}
+{"op":"disengage","group":01}
+{"op":"disengage","group":4294967296}
+{"op":"disengage","group":null}
+{"op":"disengage","group":[0]}
+{"op":"disengage","group":0,"writer":8}
+{"op":"disengage","group":0,"writer":"0"}
+{"op":"disengage","group":0,"writer":-1}
+{"op":"disengage","group":0,"writer":-0}
+{"op":"disengage","group":0,"writer":+1}
+{"op":"disengage","group":0,"writer":1.0}
+{"op":"disengage","group":0,"writer":1e0}
+{"op":"disengage","group":0,"writer":01}
+{"op":"disengage","group":0,"writer":4294967296}
+{"op":"disengage","group":0,"writer":null}
+{"op":"disengage","group":0,"writer":[0]}"#;
+
+const UNREADABLE_ORDERS: &str = r#"{"op":"depend"}
+{"op":"depend","group":0}
+{"op":"depend","on":0}
+{"op":"depend","group":"0","on":0}
+{"op":"depend","group":-1,"on":0}
+{"op":"depend","group":-0,"on":0}
+{"op":"depend","group":+1,"on":0}
+{"op":"depend","group":1.0,"on":0}
+{"op":"depend","group":1e0,"on":0}
+{"op":"depend","group":01,"on":0}
+{"op":"depend","group":4294967296,"on":0}
+{"op":"depend","group":null,"on":0}
+{"op":"depend","group":[0],"on":0}
+{"op":"depend","group":0,"on":"0"}
+{"op":"depend","group":0,"on":-1}
+{"op":"depend","group":0,"on":-0}
+{"op":"depend","group":0,"on":+1}
+{"op":"depend","group":0,"on":1.0}
+{"op":"depend","group":0,"on":1e0}
+{"op":"depend","group":0,"on":01}
+{"op":"depend","group":0,"on":4294967296}
+{"op":"depend","group":0,"on":null}
+{"op":"depend","group":0,"on":[0]}"#;
+
+const UNREADABLE_CLOSINGS: &str = r#"{"op":"close"}
+{"op":"close","block":0}
+{"op":"close","group":"0"}
+{"op":"close","group":-1}
+{"op":"close","group":-0}
+{"op":"close","group":+1}
+{"op":"close","group":1.0}
+{"op":"close","group":1e0}
+{"op":"close","group":01}
+{"op":"close","group":4294967296}
+{"op":"close","group":null}
+{"op":"close","group":[0]}"#;
+
+const UNREADABLE_COUNTS: &str = r#"{"op":"pending"}
+{"op":"pending","block":0}
+{"op":"pending","group":"0"}
+{"op":"pending","group":-1}
+{"op":"pending","group":-0}
+{"op":"pending","group":+1}
+{"op":"pending","group":1.0}
+{"op":"pending","group":1e0}
+{"op":"pending","group":01}
+{"op":"pending","group":4294967296}
+{"op":"pending","group":null}
+{"op":"pending","group":[0]}"#;
+
+const UNREADABLE_SYNCS: &str = r#"{"op":"sync"}
+{"op":"sync","block":0}
+{"op":"sync","group":"0"}
+{"op":"sync","group":-1}
+{"op":"sync","group":-0}
+{"op":"sync","group":+1}
+{"op":"sync","group":1.0}
+{"op":"sync","group":1e0}
+{"op":"sync","group":01}
+{"op":"sync","group":4294967296}
+{"op":"sync","group":null}
+{"op":"sync","group":[0]}"#;
+
 #[test]
 fn refuses_unreadable_lines(rt: HostRuntime) {
     for lines in [
@@ -162,6 +287,12 @@ fn refuses_unreadable_lines(rt: HostRuntime) {
         UNREADABLE_SENDS,
         UNREADABLE_COMPLETIONS,
         UNREADABLE_DISKS,
+        UNREADABLE_ENGAGEMENTS,
+        UNREADABLE_DISENGAGEMENTS,
+        UNREADABLE_ORDERS,
+        UNREADABLE_CLOSINGS,
+        UNREADABLE_COUNTS,
+        UNREADABLE_SYNCS,
     ] {
         expect_each(&rt, rt.alloc(), lines, Reading::BadLine(1));
     }
@@ -171,12 +302,13 @@ const WHOLE: &str = "a whole number from 0 to 4294967295";
 
 const LIST: &str = "a list of whole numbers from 0 to 4294967295";
 
-const OPS: &str = "one of patch, merge, send, complete, view, show and disk";
+const OPS: &str =
+    "one of patch, merge, send, complete, view, show, disk, group, engage, disengage, depend, close, pending and sync";
 
 const DIGITS: &str = "a text of hexadecimal digits, two for each byte";
 
 // What is said of an unreadable line: its words, and what the value has to be.
-const WORDS: [(&str, &str, &str); 20] = [
+const WORDS: [(&str, &str, &str); 25] = [
     (
         r#"{"op":"#,
         "not JSON, or nested deeper than 127 levels",
@@ -240,6 +372,19 @@ const WORDS: [(&str, &str, &str); 20] = [
         r#"{"op":"view","take":[],"back":[[]]}"#,
         "\"back\" is not ",
         LIST,
+    ),
+    (r#"{"op":"sync"}"#, "\"group\" is missing", ""),
+    (r#"{"op":"depend","group":0}"#, "\"on\" is missing", ""),
+    (r#"{"op":"close","group":-1}"#, "\"group\" is not ", WHOLE),
+    (
+        r#"{"op":"depend","group":0,"on":"0"}"#,
+        "\"on\" is not ",
+        WHOLE,
+    ),
+    (
+        r#"{"op":"engage","writer":8}"#,
+        "\"writer\" is not ",
+        "a whole number from 0 to 7",
     ),
 ];
 
@@ -312,7 +457,15 @@ const LINES: &str =
 {"op":"merge","a":5,"b":3}
 {"op":"send","block":9,"block":2}
 {"op":"complete","block":7}
-{"op":"disk","block":1,"start":4094,"len":2}"#;
+{"op":"disk","block":1,"start":4094,"len":2}
+{"op":"group"}
+{"op":"engage","group":4,"writer":7}
+{"op":"engage","group":3}
+{"op":"disengage","group":5,"writer":1}
+{"op":"depend","group":6,"on":2}
+{"op":"close","group":8}
+{"op":"pending","group":9}
+{"op":"sync","group":10}"#;
 
 const FORMS: &str = "\
 Patch { block: BlockNo(3), start: 4094, bytes: Items { items: [10, 255] }, \
@@ -324,6 +477,14 @@ Merge { a: PatchNo(5), b: PatchNo(3) }
 Send(BlockNo(2))
 Complete(BlockNo(7))
 Disk(Span { block: BlockNo(1), start: 4094, len: 2 })
+Group
+Engage { writer: WriterNo(7), group: GroupNo(4) }
+Engage { writer: WriterNo(0), group: GroupNo(3) }
+Disengage { writer: WriterNo(1), group: GroupNo(5) }
+Depend { group: GroupNo(6), on: GroupNo(2) }
+Close(GroupNo(8))
+Pending(GroupNo(9))
+Sync(GroupNo(10))
 ";
 
 fn push_forms(forms: &mut String, lines: &[Line]) -> Result<(), AllocError> {
@@ -446,10 +607,14 @@ enum Told {
     Seen(&'static [u8], &'static [u8]),
     Shown(&'static [u8]),
     OnDisk(&'static [u8]),
+    GroupMade(u32),
+    Done,
+    Count(u32),
+    Synced,
     Refused(RefusalKind, Option<u32>),
 }
 
-const TOLD: [(Told, &str); 10] = [
+const TOLD: [(Told, &str); 16] = [
     (Told::Made(12), "patch 12\n"),
     (
         Told::Seen(&[0, 0xab], &[0x0f, 0x10]),
@@ -469,6 +634,12 @@ const TOLD: [(Told, &str); 10] = [
     ),
     (Told::Landed(0, &[0, 2, 10]), "durable 0 0,2,10\n"),
     (Told::OnDisk(&[0, 0xab, 0xff]), "disk 00abff\n"),
+    (Told::GroupMade(0), "group 0\n"),
+    (Told::GroupMade(1023), "group 1023\n"),
+    (Told::Done, "ok\n"),
+    (Told::Count(0), "pending 0\n"),
+    (Told::Count(4_294_967_295), "pending 4294967295\n"),
+    (Told::Synced, "synced\n"),
 ];
 
 fn bytes_of(alloc: Global, bytes: &[u8]) -> Result<Bytes, AllocError> {
@@ -501,6 +672,10 @@ fn answer_of(alloc: Global, told: Told) -> Result<Answer, AllocError> {
         Told::Seen(without, cached) => seen(alloc, without, cached),
         Told::Shown(bytes) => Ok(Answer::Shown(bytes_of(alloc, bytes)?)),
         Told::OnDisk(bytes) => Ok(Answer::OnDisk(bytes_of(alloc, bytes)?)),
+        Told::GroupMade(group) => Ok(Answer::GroupMade(GroupNo(group))),
+        Told::Done => Ok(Answer::Done),
+        Told::Count(count) => Ok(Answer::Count(count)),
+        Told::Synced => Ok(Answer::Synced),
         Told::Refused(kind, number) => Ok(Answer::Refused(Refusal { kind, number })),
     }
 }

@@ -2,7 +2,7 @@ use Rattle.std.proofs.Common.{refl}
 use Rattle.std.specs.Str.{is_utf8, chars}
 use Rattle.serde_json.proofs.OnLiterals.{serde_json_on_literals}
 use Rattle.hex.proofs.OnLiterals.{hex_on_literals}
-use Rattle.patch_script.specs.Form.{line_of, op_line, patch_line, merge_line, view_line}
+use Rattle.patch_script.specs.Form.{line_of, op_line, group_op_line, patch_line, merge_line, view_line}
 use Rattle.patch_script_tests.proofs.rows.worked_lines.Goals as goal
 
 pub returns-clause-show : goal.returns-clause-show
@@ -86,5 +86,5 @@ unfolding serde_json_on_literals hex_on_literals is_utf8 chars line_of op_line p
 returns-clause-no_byte_on_disk c = refl
 
 pub returns-clause-unknown : goal.returns-clause-unknown
-unfolding serde_json_on_literals hex_on_literals is_utf8 chars line_of op_line patch_line view_line
+unfolding serde_json_on_literals hex_on_literals is_utf8 chars line_of op_line group_op_line patch_line view_line
 returns-clause-unknown c = refl
