@@ -1,23 +1,29 @@
--- One ask of a line, and where it leaves the cache and its disk.
-use Rattle.std.proofs.Common.{◌≡◌, ◌≢◌, ℕ, ◌+◌, ◌∙◌, ◌⊎◌, inl, inr, Bool, true, false, Some, Result, Ok, Err, List, [], ◌∷◌, ◌++◌, suc, length, map, slice_set, refl, sym, ap, subst, arith}
+-- One ask of a line, and where it leaves the cache, its groups and their disk.
+use Rattle.std.proofs.Common.{◌≡◌, ◌≢◌, ℕ, ◌+◌, ◌∙◌, ◌⊎◌, inl, inr, Bool, true, false, Option, Some, None, Result, Ok, Err, List, [], ◌∷◌, ◌++◌, suc, length, map, slice_set, refl, sym, ap, subst, arith}
 use Rattle.std.specs.Prelude.{IfOk, if◌then◌else◌}
-use Rattle.std.proofs.lemmas.List.{length-append, length-set}
+use Rattle.std.proofs.lemmas.List.{length-append, append-nil}
+use Rattle.patch_model.specs.declared.refusals.OutOfMemory.{OutOfMemory}
 use Rattle.patch_model.specs.declared.refusals.RefusalKind.TheVariants as kind
 use Rattle.patch_model.specs.Execution.{Execution}
 use Rattle.patch_model.specs.History.{history_of, image}
 use Rattle.patch_model.specs.Refusing.{bare}
 use Rattle.patch_device.specs.MemDevice.{contents_of, block_count_of, blocks_counted_law}
-use Rattle.patch_cache.specs.Asks.{Ask, Create, Merge, Send, Complete, View, IsAnswer, IsGivenUp, extended_by, step_for, ask_of, answer_of}
-use Rattle.patch_cache.specs.declared.asks.Ask.{Ask as CodeAsk}
-use Rattle.patch_cache.specs.declared.asks.Answer.{Answer as CodeAnswer}
-use Rattle.patch_cache.specs.Asks as given
-use Rattle.patch_cache.specs.Running.{Runs, HasRun, HasWritten, HaveWritten}
-use Rattle.patch_script.specs.declared.answers.Answer.{Answer}
-use Rattle.patch_model.specs.declared.refusals.OutOfMemory.{OutOfMemory}
-use Rattle.patch_replay.specs.Answering.{IsTold, told}
-use Rattle.patch_replay.specs.World.{World, is_refused, disk_behind, behind}
-use Rattle.patch_replay.specs.CachedDisk.{IsAt}
+use Rattle.patch_cache.specs.Asks.{Ask as CacheAsk, Answer as CacheAnswer, Create, Merge, Send, Complete, View, IsAnswer, IsGivenUp}
+use Rattle.patch_cache.specs.Asks as cache
+use Rattle.patch_cache.specs.Running.{Runs, HasWritten, HaveWritten}
+use Rattle.patch_cache.specs.Waves.{HoldImages}
+use Rattle.patch_group.specs.Groups.{Groups}
+use Rattle.patch_group.specs.Asks.{Ask, Answer, Part, Plain, Patch, Group, Engage, Disengage, Depend, Close, Pending, GroupMade, Done, Count, Refused, IsPlain, IsGroupAnswer, IsGroupGivenUp, AreGroupAnswers, is_refused, plain_of, answered_by, part_of, parts, asked, told, after_parts, run_after, groups_after}
+use Rattle.patch_group.specs.Asks as group
+use Rattle.patch_group.specs.Order.{AreGroupsOf}
+use Rattle.patch_group.specs.Runs.{group_answer_of}
+use Rattle.patch_group.specs.declared.asks.GroupAnswer.{GroupAnswer as CodeAnswer}
+use Rattle.patch_script.specs.declared.answers.Answer.{Answer as LineAnswer}
+use Rattle.patch_replay.specs.Answering.{IsAskAnswered, HasComeTo, line_answer}
+use Rattle.patch_replay.specs.World.{World, written, after}
+use Rattle.patch_replay.specs.CachedDisk.{IsAt, IsServed}
 use Rattle.patch_replay.specs.declared.cached_disk.CachedDisk.{CachedDisk}
+use Rattle.patch_replay.proofs.Imaging.{StatesExtend, ImagesStay, images_after}
 
 -- the list of one
 lone : {A : Type 0} (xs rest : List A) (x : A) → xs ≡ rest ++ x ∷ [] → length xs ≡ 1 → xs ≡ x ∷ []
@@ -28,90 +34,134 @@ lone xs (y ∷ ys) x is one =
 
 -- the device has the cache's blocks
 pub counted : (core : CachedDisk) (w : World) → IsAt core w → block_count_of core.device ≡ length w.run.first
-counted core w at = sym (blocks_counted_law core.device tt) ∙ ap length at.disk ∙ at.count
+counted core w at = sym (blocks_counted_law core.device tt) ∙ ap length at.disk ∙ at.images.count
 
-refused_alike : (a : given.Answer) → is_refused (told a) ≡ given.is_refused a
-refused_alike (given.Made number) = refl
-refused_alike (given.Merged name) = refl
-refused_alike (given.Sent block numbers image) = refl
-refused_alike (given.Landed block numbers) = refl
-refused_alike (given.Seen without cached) = refl
-refused_alike (given.Refused cause) = refl
+abbrev plain : CacheAnswer → Answer
+plain a = Plain a
 
--- what an ask that gives nothing up was answered
-answered_right : (run : Execution) (ask : Ask) (a : given.Answer) → a ≢ given.Refused (bare kind.OutOfMemory) → a ≢ given.Refused (bare kind.Fault) → IsAnswer run ask a ⊎ IsGivenUp run ask a
-    → IsAnswer run ask a
-answered_right run ask a memory fault (inl right) = right
-answered_right run ask a memory fault (inr up) = elim up.gives_up [ inl e ↦ absurd (memory e.0) | inr e ↦ absurd (fault e.0) ]
+-- the groups are those of the execution's patches
+pub grouped : (core : CachedDisk) (w : World) → IsAt core w → AreGroupsOf w.run core.groups
+grouped core w at = subst (AreGroupsOf w.run) (sym at.groups) at.groups_are
+
+-- the answer of an ask that was served is right
+served_right : (run : Execution) (gs : Groups) (ask : Ask) (a : Answer) → IsServed a → IsGroupAnswer run gs ask a ⊎ IsGroupGivenUp run gs ask a → IsGroupAnswer run gs ask a
+served_right run gs ask a served (inl right) = right
+served_right run gs (Plain ask) (Plain a) served (inr up) = elim up.gives_up [ inl e ↦ absurd (served.cache_memory (ap plain e.0)) | inr e ↦ absurd (served.fault (ap plain e.0)) ]
+served_right run gs (Plain ask) (GroupMade group) served (inr up) = absurd up
+served_right run gs (Plain ask) Done served (inr up) = absurd up
+served_right run gs (Plain ask) (Count count) served (inr up) = absurd up
+served_right run gs (Plain ask) (Refused cause) served (inr up) = absurd up
+served_right run gs (Patch writer block start bytes after undo) a served (inr up) = absurd (served.cache_memory up)
+served_right run gs Group a served (inr up) = absurd (served.memory up.0)
+served_right run gs (Engage writer group) a served (inr up) = absurd (served.memory up.0)
+served_right run gs (Disengage writer group) a served (inr up) = absurd up
+served_right run gs (Depend group on) a served (inr up) = absurd (served.memory up.0)
+served_right run gs (Close group) a served (inr up) = absurd up
+served_right run gs (Pending group) a served (inr up) = absurd up
 
 either : {A : Type 0} (b : Bool) (x : A) → (if b then x else x) ≡ x
 either true x = refl
 either false x = refl
 
--- what it has made of the disk
-disk_is : (w : World) (ask : Ask) (a : given.Answer) (old new : List (List ℕ)) → old ≡ w.disk → a ≢ given.Refused (bare kind.Fault) → HasWritten w.run ask a old new
-    → new ≡ (if given.is_refused a then w.disk else disk_behind w ask)
-disk_is w (Create block start bytes after undo) a old new is fault wrote = wrote ∙ is ∙ sym (either (given.is_refused a) w.disk)
-disk_is w (Merge x y) a old new is fault wrote = wrote ∙ is ∙ sym (either (given.is_refused a) w.disk)
-disk_is w (Send block) a old new is fault wrote = wrote ∙ is ∙ sym (either (given.is_refused a) w.disk)
-disk_is w (View block moves start len) a old new is fault wrote = wrote ∙ is ∙ sym (either (given.is_refused a) w.disk)
-disk_is w (Complete block) a old new is fault wrote = by (given.is_refused a) wrote
+-- what an ask of the cache has made of the disk
+disk_is : (run : Execution) (disk : List (List ℕ)) (ask : CacheAsk) (a : CacheAnswer) (old new : List (List ℕ)) → old ≡ disk → a ≢ cache.Refused (bare kind.Fault) → HasWritten run ask a old new
+    → new ≡ (if cache.is_refused a then disk else written run disk ask)
+disk_is run disk (Create block start bytes after undo) a old new is fault wrote = wrote ∙ is ∙ sym (either (cache.is_refused a) disk)
+disk_is run disk (Merge x y) a old new is fault wrote = wrote ∙ is ∙ sym (either (cache.is_refused a) disk)
+disk_is run disk (Send block) a old new is fault wrote = wrote ∙ is ∙ sym (either (cache.is_refused a) disk)
+disk_is run disk (View block moves start len) a old new is fault wrote = wrote ∙ is ∙ sym (either (cache.is_refused a) disk)
+disk_is run disk (Complete block) a old new is fault wrote = by (cache.is_refused a) wrote
   where
     by : (b : Bool) → (elim b as (λ _. Type 0) [
-      | true ↦ (new ≡ old) ⊎ ((a ≡ given.Refused (bare kind.Fault)) × (new ≡ slice_set old block (image (history_of w.run block))))
-      | false ↦ new ≡ slice_set old block (image (history_of w.run block))
-    ]) → new ≡ (if b then w.disk else slice_set w.disk block (image (history_of w.run block)))
+      | true ↦ (new ≡ old) ⊎ ((a ≡ cache.Refused (bare kind.Fault)) × (new ≡ slice_set old block (image (history_of run block))))
+      | false ↦ new ≡ slice_set old block (image (history_of run block))
+    ]) → new ≡ (if b then disk else slice_set disk block (image (history_of run block)))
     by true (inl same) = same ∙ is
     by true (inr e) = absurd (fault e.0)
-    by false put = put ∙ ap (λ d. slice_set d block (image (history_of w.run block))) is
+    by false put = put ∙ ap (λ d. slice_set d block (image (history_of run block))) is
 
-as_many : (w : World) (ask : Ask) → length w.disk ≡ length w.run.first → length (disk_behind w ask) ≡ length (extended_by w.run (step_for ask)).first
-as_many w (Create block start bytes after undo) same = same
-as_many w (Merge x y) same = same
-as_many w (Send block) same = same
-as_many w (Complete block) same = length-set w.disk block (image (history_of w.run block)) ∙ same
-as_many w (View block moves start len) same = same
+-- What the cache did of an ask, with what it wrote.
 
--- what the line is told, and where the cache and its disk stand behind it
-stands : (w : World) (core now : CachedDisk) (ask : Ask) (a : given.Answer) (line : Answer) → IsAt core w → line ≡ told a
-    → a ≢ given.Refused (bare kind.OutOfMemory) → a ≢ given.Refused (bare kind.Fault)
-    → HasRun w.run (ask ∷ []) (a ∷ []) now.cache now.flights
-    → HaveWritten w.run (ask ∷ []) (a ∷ []) (contents_of core.device) (contents_of now.device)
-    → IsTold w.run ask line × IsAt now (if is_refused line then w else behind w (Some ask))
-stands w core now ask a line at is memory fault ran wrote =
-    let right = answered_right w.run ask a memory fault ran.right.0 in
-    let disk : contents_of now.device ≡ (if given.is_refused a then w.disk else disk_behind w ask) =
-    wrote.2 ∙ disk_is w ask a (contents_of core.device) wrote.0 at.disk fault wrote.1 in
-    let same : is_refused line ≡ given.is_refused a = ap is_refused is ∙ refused_alike a in
-    (record { answered = a; right = right; is = is }, rw same (by (given.is_refused a) disk ran.runs))
-  where
-    by : (b : Bool) → contents_of now.device ≡ (if b then w.disk else disk_behind w ask) → Runs now.cache now.flights (if b then w.run else extended_by w.run (step_for ask))
-        → IsAt now (if b then w else behind w (Some ask))
-    by true disk runs = record { runs = runs; disk = disk; count = at.count }
-    by false disk runs = record { runs = runs; disk = disk; count = as_many w ask at.count }
+abbrev parts_by : Option CacheAsk → Answer → List Part
+parts_by p a = elim p as (λ _. List Part) [ Some ask ↦ answered_by ask a | None ↦ [] ]
 
-told_right : (w : World) (core now : CachedDisk) (ask : Ask) (a : given.Answer) (line : Result Answer OutOfMemory) → IsAt core w → IfOk line (λ l. l ≡ told a)
-    → IfOk line (λ _. a ≢ given.Refused (bare kind.OutOfMemory)) → IfOk line (λ _. a ≢ given.Refused (bare kind.Fault))
-    → HasRun w.run (ask ∷ []) (a ∷ []) now.cache now.flights
-    → HaveWritten w.run (ask ∷ []) (a ∷ []) (contents_of core.device) (contents_of now.device)
-    → IfOk line (λ l. IsTold w.run ask l × IsAt now (if is_refused l then w else behind w (Some ask)))
-told_right w core now ask a (Ok line) at is memory fault ran wrote = stands w core now ask a line at is memory fault ran wrote
-told_right w core now ask a (Err e) at is memory fault ran wrote = tt
+abbrev IsRightFor : Execution → Option CacheAsk → Answer → Type 0 → Type 0
+IsRightFor run p a call = elim p as (λ _. Type 0) [ Some ask ↦ IsPlain (IsAnswer run ask) a | None ↦ call ]
 
--- the one ask of a list, and what the line is told, unless there is no memory
-pub asked_one : {A : Type 0} (w : World) (core now : CachedDisk) (ask : CodeAsk A) (answers rest : List (CodeAnswer A)) (a : CodeAnswer A) (line : Result Answer OutOfMemory)
-    → IsAt core w → answers ≡ rest ++ a ∷ [] → length answers ≡ 1 → IfOk line (λ l. l ≡ told (answer_of a))
-    → IfOk line (λ _. answer_of a ≢ given.Refused (bare kind.OutOfMemory)) → IfOk line (λ _. answer_of a ≢ given.Refused (bare kind.Fault))
-    → HasRun w.run (ask_of ask ∷ []) (map answer_of answers) now.cache now.flights
-    → HaveWritten w.run (ask_of ask ∷ []) (map answer_of answers) (contents_of core.device) (contents_of now.device)
-    → IfOk line (λ l. IsTold w.run (ask_of ask) l × IsAt now (if is_refused l then w else behind w (Some (ask_of ask))))
-asked_one w core now ask answers rest a line at is one told_is memory fault ran wrote =
-    let only : map answer_of answers ≡ answer_of a ∷ [] = ap (map answer_of) (lone answers rest a is one) in
-    told_right w core now (ask_of ask) (answer_of a) line at told_is memory fault
-    (subst (λ all. HasRun w.run (ask_of ask ∷ []) all now.cache now.flights) only ran)
-    (subst (λ all. HaveWritten w.run (ask_of ask ∷ []) all (contents_of core.device) (contents_of now.device)) only wrote)
+abbrev disk_by : Execution → List (List ℕ) → Option CacheAsk → Answer → List (List ℕ)
+disk_by run disk p a = if is_refused a then disk else elim p as (λ _. List (List ℕ)) [ Some ask ↦ written run disk ask | None ↦ disk ]
 
--- a look leaves all as it is
-pub stays : (b : Bool) (core : CachedDisk) (w : World) → IsAt core w → IsAt core (if b then w else w)
-stays true core w at = at
-stays false core w at = at
+disk_of_parts : (run : Execution) (disk : List (List ℕ)) (p : Option CacheAsk) (a : Answer) (call : Type 0) (old new : List (List ℕ)) → old ≡ disk → IsServed a → IsRightFor run p a call
+    → HaveWritten run (asked (parts_by p a)) (told (parts_by p a)) old new → new ≡ disk_by run disk p a
+disk_of_parts run disk None a call old new is served right wrote = wrote ∙ is ∙ sym (either (is_refused a) disk)
+disk_of_parts run disk (Some ask) (Plain a) call old new is served right wrote =
+    wrote.2 ∙ disk_is run disk ask a old wrote.0 is (λ e. served.fault (ap plain e)) wrote.1
+disk_of_parts run disk (Some ask) (GroupMade group) call old new is served right wrote = absurd right
+disk_of_parts run disk (Some ask) Done call old new is served right wrote = absurd right
+disk_of_parts run disk (Some ask) (Count count) call old new is served right wrote = absurd right
+disk_of_parts run disk (Some ask) (Refused cause) call old new is served right wrote = absurd right
+
+images_of_parts : StatesExtend → ImagesStay → (run : Execution) (disk : List (List ℕ)) (p : Option CacheAsk) (a : Answer) (call : Type 0) → IsRightFor run p a call → HoldImages run disk
+    → HoldImages (after_parts run (parts_by p a)) (disk_by run disk p a)
+images_of_parts extend stay run disk None a call right held = subst (HoldImages run) (sym (either (is_refused a) disk)) held
+images_of_parts extend stay run disk (Some ask) (Plain a) call right held = images_after extend stay run disk ask a held
+images_of_parts extend stay run disk (Some ask) (GroupMade group) call right held = absurd right
+images_of_parts extend stay run disk (Some ask) Done call right held = absurd right
+images_of_parts extend stay run disk (Some ask) (Count count) call right held = absurd right
+images_of_parts extend stay run disk (Some ask) (Refused cause) call right held = absurd right
+
+-- what one ask was answered, and where it left the cache, its groups and their disk
+pub record HasServed (w : World) (core now : CachedDisk) (ask : Ask) (a : Answer) : Type 0 where
+  pub right : IsGroupAnswer w.run w.groups ask a ⊎ IsGroupGivenUp w.run w.groups ask a
+  pub runs : Runs now.cache now.flights (run_after w.run w.groups ask a)
+  pub groups : now.groups ≡ groups_after w.groups ask a
+  pub groups_are : AreGroupsOf (run_after w.run w.groups ask a) now.groups
+  pub wrote : HaveWritten w.run (asked (part_of w.groups ask a)) (told (part_of w.groups ask a)) (contents_of core.device) (contents_of now.device)
+
+comes : StatesExtend → ImagesStay → (w : World) (core now : CachedDisk) (ask : Ask) (a : Answer) (line : LineAnswer) → IsAt core w → line ≡ line_answer a → IsServed a
+    → HasServed w core now ask a → HasComeTo (IsAskAnswered w ask line) (IsAt now)
+comes extend stay w core now ask a line at is served ran =
+    let right = served_right w.run w.groups ask a served ran.right in (
+      after w ask a,
+      record { answered = a; right = right; is = is; next_is = refl },
+      record {
+        runs = ran.runs;
+        groups = ran.groups;
+        groups_are = subst (AreGroupsOf (run_after w.run w.groups ask a)) ran.groups ran.groups_are;
+        disk = disk_of_parts w.run w.disk (plain_of w.groups ask) a _ (contents_of core.device) (contents_of now.device) at.disk served right ran.wrote;
+        images = images_of_parts extend stay w.run w.disk (plain_of w.groups ask) a _ right at.images;
+      },
+    )
+
+comes_if_served : StatesExtend → ImagesStay → (w : World) (core now : CachedDisk) (ask : Ask) (a : Answer) (line : Result LineAnswer OutOfMemory) → IsAt core w
+    → IfOk line (λ l. l ≡ line_answer a) → IfOk line (λ _. IsServed a)
+    → HasServed w core now ask a → IfOk line (λ l. HasComeTo (IsAskAnswered w ask l) (IsAt now))
+comes_if_served extend stay w core now ask a (Ok line) at is served ran = comes extend stay w core now ask a line at is served ran
+comes_if_served extend stay w core now ask a (Err e) at is served ran = tt
+
+-- a list of one ask, and its answers
+pub record HasServedAll (w : World) (core now : CachedDisk) (ask : Ask) (answers : List Answer) : Type 0 where
+  pub right : AreGroupAnswers w.run core.groups (ask ∷ []) answers
+  pub runs : Runs now.cache now.flights (after_parts w.run (parts core.groups (ask ∷ []) answers))
+  pub groups : now.groups ≡ group.groups_after_all core.groups (ask ∷ []) answers
+  pub groups_are : AreGroupsOf (after_parts w.run (parts core.groups (ask ∷ []) answers)) now.groups
+  pub wrote : HaveWritten w.run (asked (parts core.groups (ask ∷ []) answers)) (told (parts core.groups (ask ∷ []) answers)) (contents_of core.device) (contents_of now.device)
+
+served_one : (w : World) (core now : CachedDisk) (ask : Ask) (a : Answer) → IsAt core w → HasServedAll w core now ask (a ∷ []) → HasServed w core now ask a
+served_one w core now ask a at ran =
+    let same : parts core.groups (ask ∷ []) (a ∷ []) ≡ part_of w.groups ask a = append-nil (part_of core.groups ask a) ∙ ap (λ gs. part_of gs ask a) at.groups in record {
+      right = subst (λ gs. IsGroupAnswer w.run gs ask a ⊎ IsGroupGivenUp w.run gs ask a) at.groups ran.right.0;
+      runs = subst (λ ps. Runs now.cache now.flights (after_parts w.run ps)) same ran.runs;
+      groups = ran.groups ∙ ap (λ gs. groups_after gs ask a) at.groups;
+      groups_are = subst (λ ps. AreGroupsOf (after_parts w.run ps) now.groups) same ran.groups_are;
+      wrote = subst (λ ps. HaveWritten w.run (asked ps) (told ps) (contents_of core.device) (contents_of now.device)) same ran.wrote;
+    }
+
+-- the one ask of a list, and what the line is answered, unless there is no memory
+pub asked_one : {A : Type 0} → StatesExtend → ImagesStay → (w : World) (core now : CachedDisk) (ask : Ask) (answers rest : List (CodeAnswer A)) (a : CodeAnswer A) (line : Result LineAnswer OutOfMemory)
+    → IsAt core w → answers ≡ rest ++ a ∷ [] → length answers ≡ 1 → IfOk line (λ l. l ≡ line_answer (group_answer_of a)) → IfOk line (λ _. IsServed (group_answer_of a))
+    → HasServedAll w core now ask (map group_answer_of answers) → IfOk line (λ l. HasComeTo (IsAskAnswered w ask l) (IsAt now))
+asked_one extend stay w core now ask answers rest a line at is one line_is served ran =
+    let only : map group_answer_of answers ≡ group_answer_of a ∷ [] = ap (map group_answer_of) (lone answers rest a is one) in
+    comes_if_served extend stay w core now ask (group_answer_of a) line at line_is served
+    (served_one w core now ask (group_answer_of a) at (subst (HasServedAll w core now ask) only ran))

@@ -7,8 +7,8 @@ use Rattle.patch_script.specs.declared.forms.Line.{Line}
 use Rattle.patch_script.specs.declared.answers.Answer.{Answer}
 use Rattle.patch_script.specs.Answer.{answer_line}
 use Rattle.patch_script.specs.Script.{script_of}
-use Rattle.patch_replay.specs.Answering.{IsAnswerTo, AreAnswers}
-use Rattle.patch_replay.specs.World.{World, after, after_all}
+use Rattle.patch_replay.specs.Answering.{IsAnswered, AreAnswers}
+use Rattle.patch_replay.specs.World.{World}
 use Rattle.patch_replay.specs.Replay.{answers_text, IsLineTold, HasBegun, HasAnswered, Stopped, lines_in, memory_text, Starved}
 use Rattle.patch_replay.specs.declared.endings.Fault.{Fault}
 use Rattle.patch_replay.specs.declared.endings.Fault.TheVariants as fault
@@ -27,42 +27,38 @@ same (Some old) = sym (append-nil old)
 
 -- One more line, and its answer.
 
-pushed_right : (w : World) (lines : List Line) (answers : List Answer) (line : Line) (answer : Answer) → AreAnswers w lines answers → IsAnswerTo (after_all w lines answers) line answer
-    → AreAnswers w (lines ++ line ∷ []) (answers ++ answer ∷ [])
-pushed_right w [] [] line answer so_far right = (right, tt)
-pushed_right w [] (a ∷ more) line answer so_far right = absurd so_far
-pushed_right w (l ∷ lines) [] line answer so_far right = absurd so_far
-pushed_right w (l ∷ lines) (a ∷ more) line answer so_far right = (so_far.0, pushed_right (after w l a) lines more line answer so_far.1 right)
-
-pushed_world : (w : World) (lines : List Line) (answers : List Answer) (line : Line) (answer : Answer) → AreAnswers w lines answers
-    → after_all w (lines ++ line ∷ []) (answers ++ answer ∷ []) ≡ after (after_all w lines answers) line answer
-pushed_world w [] [] line answer so_far = refl
-pushed_world w [] (a ∷ more) line answer so_far = absurd so_far
-pushed_world w (l ∷ lines) [] line answer so_far = absurd so_far
-pushed_world w (l ∷ lines) (a ∷ more) line answer so_far = pushed_world (after w l a) lines more line answer so_far.1
+pushed_right : (w mid next : World) (lines : List Line) (answers : List Answer) (line : Line) (answer : Answer) → AreAnswers w lines answers mid → IsAnswered mid line answer next
+    → AreAnswers w (lines ++ line ∷ []) (answers ++ answer ∷ []) next
+pushed_right w mid next [] [] line answer so_far right = (next, subst (λ v. IsAnswered v line answer next) so_far right, refl)
+pushed_right w mid next [] (a ∷ more) line answer so_far right = absurd so_far
+pushed_right w mid next (l ∷ lines) [] line answer so_far right = absurd so_far
+pushed_right w mid next (l ∷ lines) (a ∷ more) line answer so_far right =
+    (so_far.0, so_far.1, pushed_right so_far.0 mid next lines more line answer so_far.2 right)
 
 pushed_text : (answers : List Answer) (answer : Answer) → answers_text (answers ++ answer ∷ []) ≡ answers_text answers ++ answer_line answer
 pushed_text [] answer = append-nil (answer_line answer)
 pushed_text (a ∷ answers) answer = ap (λ (t : List ℕ). answer_line a ++ t) (pushed_text answers answer) ∙ sym (append_assoc (answer_line a) _ _)
 
--- the answers to the lines so far are right and written, and the core stands behind them
+-- the answers to the lines so far are right and written, and the core has come to the world after them
 pub record HasCome (w : World) (lines : List Line) (IsAt : World → Type 0) (old new : Option (List ℕ)) : Type 0 where
   pub answers : List Answer
-  pub right : AreAnswers w lines answers
-  pub at : IsAt (after_all w lines answers)
+  pub last : World
+  pub right : AreAnswers w lines answers last
+  pub at : IsAt last
   pub written : Appends old new (answers_text answers)
 
 pub at_first : (w : World) (IsAt : World → Type 0) (old : Option (List ℕ)) → IsAt w → HasCome w [] IsAt old old
-at_first w IsAt old at = record { answers = []; right = tt; at = at; written = same old }
+at_first w IsAt old at = record { answers = []; last = w; right = refl; at = at; written = same old }
 
 -- one more line of text
 pub one_more_line : (w : World) (first : List Line) (line : Line) (IsAt IsNow : World → Type 0) (old mid new : Option (List ℕ)) (bytes text : List ℕ)
-    → bytes ≡ text → (so_far : HasCome w first IsAt old mid) → IsLineTold (after_all w first so_far.answers) line text IsNow
+    → bytes ≡ text → (so_far : HasCome w first IsAt old mid) → IsLineTold so_far.last line text IsNow
     → Appends mid new bytes → HasCome w (first ++ line ∷ []) IsNow old new
 one_more_line w first line IsAt IsNow old mid new bytes text said so_far one appends = record {
   answers = so_far.answers ++ one.answer ∷ [];
-  right = pushed_right w first so_far.answers line one.answer so_far.right one.right;
-  at = subst IsNow (sym (pushed_world w first so_far.answers line one.answer so_far.right)) one.at;
+  last = one.comes.0;
+  right = pushed_right w so_far.last one.comes.0 first so_far.answers line one.answer so_far.right one.comes.1;
+  at = one.comes.2;
   written = subst (Appends old new) (ap (λ (t : List ℕ). answers_text so_far.answers ++ t) (said ∙ one.is) ∙ sym (pushed_text so_far.answers one.answer))
       (twice old mid new _ bytes so_far.written appends);
 }
@@ -75,14 +71,14 @@ begun w first rest lines IsAt old new split come = record {
   rest = rest;
   split = split;
   text = answers_text come.answers;
-  is = record { answers = come.answers; right = come.right; is = refl };
+  is = record { answers = come.answers; last = come.last; right = come.right; is = refl };
   written = subst (Appends old new) (sym (append-nil (answers_text come.answers))) come.written;
 }
 
 -- nothing is answered, and a last text is written
 pub none_begun : (w : World) (lines : List Line) (last : List ℕ) (old new : Option (List ℕ)) → Appends old new last → HasBegun w lines last old new
 none_begun w lines last old new appends =
-    record { first = []; rest = lines; split = refl; text = []; is = record { answers = []; right = tt; is = refl }; written = appends }
+    record { first = []; rest = lines; split = refl; text = []; is = record { answers = []; last = w; right = refl; is = refl }; written = appends }
 
 -- where the answers stop, those of some first lines are written
 answered_first : (fault : Fault) (w : World) (lines : List Line) (old new : Option (List ℕ)) → HasBegun w lines [] old new → HasAnswered fault w lines old new

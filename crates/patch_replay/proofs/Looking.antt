@@ -48,7 +48,7 @@ pub on_disk : (core : CachedDisk) (w : World) → IsAt core w → (n block : ℕ
 on_disk core w at n block bytes same read =
     let here : slice_get w.disk block ≡ Some bytes = subst (λ k. slice_get w.disk k ≡ Some bytes) same (subst (λ d. slice_get d n ≡ Some bytes) at.disk read) in
     let within : n < length (contents_of core.device) = slice_get_within (contents_of core.device) n bytes read in
-    let as_many : length (contents_of core.device) ≡ length w.run.first = ap length at.disk ∙ at.count in record {
+    let as_many : length (contents_of core.device) ≡ length w.run.first = ap length at.disk ∙ at.images.count in record {
       known = omega (arith, within, same, as_many);
       is = get_or_from_slice_get w.disk block bytes [] here;
       whole = subst (λ (x : List ℕ). length x ≡ BLOCK) (get_or_from_slice_get (contents_of core.device) n bytes [] read)

@@ -7,8 +7,8 @@ use Rattle.patch_script.specs.declared.forms.Line.{Line}
 use Rattle.patch_script.specs.declared.scripts.TheConstants.{MAX_BYTES}
 use Rattle.patch_script.specs.Answer.{answer_line}
 use Rattle.patch_script.specs.Script.{script_of, is_too_long}
-use Rattle.patch_replay.specs.Answering.{IsAnswerTo, AreAnswers}
-use Rattle.patch_replay.specs.World.{World, after}
+use Rattle.patch_replay.specs.Answering.{IsAnswered, AreAnswers, HasComeTo}
+use Rattle.patch_replay.specs.World.{World}
 use Rattle.patch_replay.specs.declared.endings.BadScript.TheVariants.{TooLong, BadLine}
 use Rattle.patch_replay.specs.declared.endings.Fault.{Fault}
 use Rattle.patch_replay.specs.declared.endings.Fault.TheVariants as fault
@@ -20,17 +20,17 @@ abbrev pub answers_text : List Answer → List ℕ
 answers_text [] = []
 answers_text (answer ∷ answers) = answer_line answer ++ answers_text answers
 
--- the text tells the right answer to the line, and the core stands behind it
+-- the text tells the right answer to the line, and the core has come to the world after it
 pub record IsLineTold (w : World) (line : Line) (text : List ℕ) (IsAt : World → Type 0) : Type 0 where
   pub answer : Answer
-  pub right : IsAnswerTo w line answer
   pub is : text ≡ answer_line answer
-  pub at : IsAt (after w line answer)
+  pub comes : HasComeTo (IsAnswered w line answer) IsAt
 
 -- the text tells the answers of these lines, each of them right
 pub record IsTextOf (w : World) (lines : List Line) (text : List ℕ) : Type 0 where
   pub answers : List Answer
-  pub right : AreAnswers w lines answers
+  pub last : World
+  pub right : AreAnswers w lines answers last
   pub is : text ≡ answers_text answers
 
 abbrev pub bad_line : ℕ → List ℕ

@@ -1,40 +1,44 @@
-//! A disk in memory under a cache.
-ghost use Rattle.std.specs.Prelude.{◌≡◌, ◌≢◌, ◌<◌, ◌≤◌, ◌+◌, Some, IfOk, MatchOption, length, slice_range, if◌then◌else◌};
-ghost use Rattle.patch_model.specs.declared.refusals.RefusalKind.TheVariants as kind;
-ghost use Rattle.patch_model.specs.Refusing.{bare};
-ghost use Rattle.patch_cache.specs.Asks.{ask_of, answer_of, Refused};
-ghost use Rattle.patch_script.specs.declared.answers.Answer.TheVariants as answer;
-ghost use Rattle.patch_script.specs.declared.forms.Line.TheVariants.{Show, Disk};
-ghost use Rattle.patch_replay.specs.Answering.{IsTold, IsAnswerTo, told as as_told};
+//! A disk in memory under a cache with groups.
+ghost use Rattle.std.specs.Prelude.{◌≡◌, ◌<◌, ◌≤◌, ◌+◌, Some, IfOk, MatchOption, length, slice_range};
+ghost use Rattle.patch_cache.specs.Asks.{ask_of, View};
+ghost use Rattle.patch_group.specs.Asks.{Plain};
+ghost use Rattle.patch_group.specs.Runs.{group_ask_of};
+ghost use Rattle.patch_script.specs.declared.forms.Line.TheVariants.{Show, Disk, Sync};
+ghost use Rattle.patch_replay.specs.Answering.{IsAskAnswered, IsAnswered, HasComeTo};
 ghost use Rattle.patch_replay.specs.CachedDisk.{IsAt};
-ghost use Rattle.patch_replay.specs.World.{World, start as at_start, moves_of as the_moves, is_refused, behind};
+ghost use Rattle.patch_replay.specs.World.{World, start, moves_of};
 
 use crate::cores::Core;
+use crate::line_answers::{answer_of_ask, answer_of_sync_refusal};
 use patch_cache::{Ask, Cache, Flights, Move};
 use patch_device::{Device, MemDevice, load};
+use patch_group::{GroupAsk, Groups, laws as group_laws, sync};
 use patch_model::{
-    BLOCK, BlockNo, Bytes, Ending, Items, MAX_BLOCKS, OutOfMemory, PatchNo, Refusal, RefusalKind,
-    Refuses,
+    BLOCK, BlockNo, Bytes, Ending, GroupNo, Items, MAX_BLOCKS, Numbers, OutOfMemory, PatchNo,
+    RefusalKind, Refuses, laws as model_laws,
 };
 use patch_script::{Answer, Line, Span};
 use std::alloc::{AllocError, Global};
 
-/// A disk in memory, its cache, and the writes that were begun and not completed. It can't be let go: it is closed.
+/// A disk in memory, its cache, the groups of its patches, and the writes that were begun and not completed. It can't be let
+/// go: it is closed.
 pub struct CachedDisk {
     cache: Cache,
     flights: Flights,
+    groups: Groups,
     device: MemDevice,
 }
 
 impl Ending for CachedDisk {}
 
 impl CachedDisk {
-    /// So many blocks of zeros, 1 to 4,096, with no patch.
+    /// So many blocks of zeros, 1 to 4,096, with no patch and no group.
     pub fn new(alloc: Global, blocks: u32) -> Result<CachedDisk, OutOfMemory>
         requires some { 0 < blocks }
         requires few { blocks ≤ MAX_BLOCKS }
-        ensures { IfOk result (λ disk. IsAt disk (at_start blocks)) }
+        ensures { IfOk result (λ disk. IsAt disk (start blocks)) }
     {
+        group_laws::order_is_kept();
         let mut device = MemDevice::new(alloc, blocks)?;
         let Ok(zeros) = load(alloc, &mut device) else {
             return Err(OutOfMemory);
@@ -43,6 +47,7 @@ impl CachedDisk {
         Ok(CachedDisk {
             cache,
             flights: Flights::new(alloc),
+            groups: Groups::new(alloc),
             device,
         })
     }
@@ -52,37 +57,69 @@ impl CachedDisk {
         let CachedDisk {
             cache: _,
             flights,
+            groups: _,
             device: _,
         } = self;
         flights.abandon();
     }
 
-    fn ask(&mut self, ask: Ask) -> Result<Answer, OutOfMemory>
-        ensures { (w : World) → IsAt self.old w → IfOk result (λ answer. IsTold w.run (ask_of ask) answer
-            × IsAt self.new (if is_refused answer then w else behind w (Some (ask_of ask)))) }
+    /// Answers an ask.
+    fn ask(&mut self, ask: GroupAsk) -> Result<Answer, OutOfMemory>
+        ensures { (w : World) → IsAt self.old w → IfOk result (λ answer.
+            HasComeTo (IsAskAnswered w (group_ask_of ask) answer) (IsAt self.new)) }
     {
-        let answers = self.cache.run(&mut self.flights, &mut self.device, &[ask]);
+        model_laws::steps_extend();
+        model_laws::images_stay();
+        let answers = self.groups.run(&mut self.cache, &mut self.flights, &mut self.device, &[ask]);
         let Ok(mut answers) = answers else {
             return Err(OutOfMemory);
         };
         match answers.pop() {
-            Some(answer) => told(answer),
+            Some(answer) => answer_of_ask(answer),
             None => Err(OutOfMemory),
         }
     }
 
-    fn show(&self, alloc: Global, span: Span) -> Result<Answer, OutOfMemory>
-        ensures { (w : World) → IsAt self.now w → IfOk result (λ answer. IsAnswerTo w (Show span) answer) }
+    /// Answers an ask of the cache.
+    fn ask_cache(&mut self, ask: Ask) -> Result<Answer, OutOfMemory>
+        ensures { (w : World) → IsAt self.old w → IfOk result (λ answer.
+            HasComeTo (IsAskAnswered w (Plain (ask_of ask)) answer) (IsAt self.new)) }
     {
-        let start = span.start as usize;
-        match self.cache.read(span.block, start, span.len as usize) {
+        self.ask(GroupAsk::Plain(ask))
+    }
+
+    /// Brings the patches of a group to the disk.
+    fn sync(&mut self, group: GroupNo) -> Result<Answer, OutOfMemory>
+        ensures { (w : World) → IsAt self.old w → IfOk result (λ answer.
+            HasComeTo (IsAnswered w (Sync group) answer) (IsAt self.new)) }
+    {
+        let synced = sync(
+            &self.groups,
+            &mut self.cache,
+            &mut self.flights,
+            &mut self.device,
+            group,
+        );
+        match synced {
+            Ok(()) => Ok(Answer::Synced),
+            Err(refusal) => answer_of_sync_refusal(refusal),
+        }
+    }
+
+    fn show(&self, alloc: Global, span: Span) -> Result<Answer, OutOfMemory>
+        ensures { (w : World) → IsAt self.now w → IfOk result (λ answer. IsAnswered w (Show span) answer w) }
+    {
+        match self
+            .cache
+            .read(span.block, span.start as usize, span.len as usize)
+        {
             Ok(bytes) => Ok(Answer::Shown(copied(alloc, bytes)?)),
             Err(refusal) => Ok(Answer::Refused(refusal.refusal())),
         }
     }
 
     fn show_disk(&mut self, alloc: Global, span: Span) -> Result<Answer, OutOfMemory>
-        ensures answer { (w : World) → IsAt self.old w → IfOk result (λ answer. IsAnswerTo w (Disk span) answer) }
+        ensures answer { (w : World) → IsAt self.old w → IfOk result (λ answer. IsAnswered w (Disk span) answer w) }
         ensures same { (w : World) → IsAt self.old w → IsAt self.new w }
     {
         let mut block = [0; BLOCK];
@@ -107,28 +144,28 @@ impl Core for CachedDisk {
                 bytes,
                 after,
                 undo,
-                writer: _,
-            } => self.ask(Ask::Create {
+                writer,
+            } => self.ask(GroupAsk::Patch {
+                writer,
                 block,
                 start: start as usize,
                 bytes,
                 after,
                 undo,
             }),
-            Line::Merge { a, b } => self.ask(Ask::Merge { a, b }),
-            Line::Send(block) => self.ask(Ask::Send { block }),
-            Line::Complete(block) => self.ask(Ask::Complete { block }),
-            Line::View { take, back, span } => {
-                let moves = moves_of(alloc, take.as_slice(), back.as_slice())?;
-                self.ask(Ask::View {
-                    block: span.block,
-                    moves,
-                    start: span.start as usize,
-                    len: span.len as usize,
-                })
-            }
+            Line::Merge { a, b } => self.ask_cache(Ask::Merge { a, b }),
+            Line::Send(block) => self.ask_cache(Ask::Send { block }),
+            Line::Complete(block) => self.ask_cache(Ask::Complete { block }),
+            Line::View { take, back, span } => self.ask_cache(view(alloc, &take, &back, span)?),
             Line::Show(span) => self.show(alloc, span),
             Line::Disk(span) => self.show_disk(alloc, span),
+            Line::Group => self.ask(GroupAsk::Group),
+            Line::Engage { writer, group } => self.ask(GroupAsk::Engage { writer, group }),
+            Line::Disengage { writer, group } => self.ask(GroupAsk::Disengage { writer, group }),
+            Line::Depend { group, on } => self.ask(GroupAsk::Depend { group, on }),
+            Line::Close(group) => self.ask(GroupAsk::Close { group }),
+            Line::Pending(group) => self.ask(GroupAsk::Pending { group }),
+            Line::Sync(group) => self.sync(group),
         }
     }
 }
@@ -139,49 +176,24 @@ fn moves_in_order(
     take: &[PatchNo],
     back: &[PatchNo],
 ) -> Result<Vec<Move>, AllocError>
-    ensures { IfOk result (λ moves. moves.items ≡ the_moves take.now back.now) }
+    ensures { IfOk result (λ moves. moves.items ≡ moves_of take.now back.now) }
 {
     let takes = take.iter().map(|no| Move::Take(*no));
     let backs = back.iter().map(|no| Move::Back(*no));
     takes.chain(backs).collect(alloc)
 }
 
-/// The moves of a view, as it is asked for.
-fn moves_of(alloc: Global, take: &[PatchNo], back: &[PatchNo]) -> Result<Items<Move>, OutOfMemory>
-    ensures { IfOk result (λ moves. moves ≡ the_moves take.now back.now) }
+/// The view that a line asks for.
+fn view(alloc: Global, take: &Numbers, back: &Numbers, span: Span) -> Result<Ask, OutOfMemory>
+    ensures { IfOk result (λ ask. ask_of ask ≡ View span.block (moves_of take.now back.now) span.start span.len) }
 {
-    Ok(Items::from_vec(moves_in_order(alloc, take, back)?))
-}
-
-/// A cache's answer, as a line is told it. A device in memory has no fault but want of memory.
-fn told(answer: patch_cache::Answer) -> Result<Answer, OutOfMemory>
-    ensures told { IfOk result (λ line. line ≡ as_told (answer_of answer)) }
-    ensures memory { IfOk result (λ _. answer_of answer ≢ Refused (bare kind.OutOfMemory)) }
-    ensures fault { IfOk result (λ _. answer_of answer ≢ Refused (bare kind.Fault)) }
-{
-    match answer {
-        patch_cache::Answer::Made(no) => Ok(Answer::Made(no)),
-        patch_cache::Answer::Merged(name) => Ok(Answer::Merged(name)),
-        patch_cache::Answer::Sent {
-            block,
-            numbers,
-            image: _,
-        } => Ok(Answer::Sent { block, numbers }),
-        patch_cache::Answer::Landed { block, numbers } => Ok(Answer::Landed { block, numbers }),
-        patch_cache::Answer::Seen { without, cached } => Ok(Answer::Seen { without, cached }),
-        patch_cache::Answer::Refused(refusal) => told_refusal(refusal),
-    }
-}
-
-fn told_refusal(refusal: Refusal) -> Result<Answer, OutOfMemory>
-    ensures told { IfOk result (λ line. line ≡ answer.Refused refusal) }
-    ensures memory { IfOk result (λ _. refusal.kind ≢ kind.OutOfMemory) }
-    ensures fault { IfOk result (λ _. refusal.kind ≢ kind.Fault) }
-{
-    match refusal.kind {
-        RefusalKind::OutOfMemory | RefusalKind::Fault => Err(OutOfMemory),
-        _ => Ok(Answer::Refused(refusal)),
-    }
+    let moves = moves_in_order(alloc, take.as_slice(), back.as_slice())?;
+    Ok(Ask::View {
+        block: span.block,
+        moves: Items::from_vec(moves),
+        start: span.start as usize,
+        len: span.len as usize,
+    })
 }
 
 fn number_of(block: BlockNo) -> u32
@@ -190,13 +202,13 @@ fn number_of(block: BlockNo) -> u32
     block.0
 }
 
-/// `len` of the bytes, from `start` on, where there are so many.
-fn part(bytes: &[u8], start: u32, len: u32) -> Option<&[u8]>
-    ensures { MatchOption result (length bytes.now < start + len)
-        (λ part. (start + len ≤ length bytes.now) × (part.now ≡ slice_range bytes.now start (start + len))) }
+/// `len` of the bytes, from `from` on, where there are so many.
+fn part(bytes: &[u8], from: u32, len: u32) -> Option<&[u8]>
+    ensures { MatchOption result (length bytes.now < from + len)
+        (λ part. (from + len ≤ length bytes.now) × (part.now ≡ slice_range bytes.now from (from + len))) }
 {
-    let start = start as usize;
-    bytes.get(start..start + len as usize)
+    let from = from as usize;
+    bytes.get(from..from + len as usize)
 }
 
 fn copied(alloc: Global, bytes: &[u8]) -> Result<Bytes, OutOfMemory>

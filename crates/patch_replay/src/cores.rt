@@ -1,7 +1,7 @@
 //! What answers lines.
 ghost use Rattle.std.specs.Prelude.{IfOk};
-ghost use Rattle.patch_replay.specs.Answering.{IsAnswerTo};
-ghost use Rattle.patch_replay.specs.World.{World, after};
+ghost use Rattle.patch_replay.specs.Answering.{IsAnswered, HasComeTo};
+ghost use Rattle.patch_replay.specs.World.{World};
 
 use patch_model::OutOfMemory;
 use patch_script::{Answer, Line};
@@ -15,5 +15,5 @@ pub trait Core {
     /// Answers a line. Want of memory leaves the core unfit for use.
     fn answer(&mut self, alloc: Global, line: Line) -> Result<Answer, OutOfMemory>
         ensures { (w : World) → IsAt self.old w → IfOk result (λ answer.
-            IsAnswerTo w line answer × IsAt self.new (after w line answer)) };
+            HasComeTo (IsAnswered w line answer) (IsAt self.new)) };
 }

@@ -6,6 +6,8 @@ mod laws;
 #[cfg(test)]
 mod rows;
 #[cfg(test)]
+mod rows_of_groups;
+#[cfg(test)]
 mod rows_of_merges;
 #[cfg(test)]
 mod rows_of_writes;

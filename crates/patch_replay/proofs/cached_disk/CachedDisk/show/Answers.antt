@@ -1,13 +1,13 @@
-use Rattle.std.proofs.Common.{◌∙◌, ap}
+use Rattle.std.proofs.Common.{◌∙◌, ap, refl}
 use Rattle.patch_script.specs.declared.answers.Answer.TheVariants.{Shown, Refused}
-use Rattle.patch_replay.specs.Answering.{IsAnswerTo}
+use Rattle.patch_replay.specs.Answering.{IsAnswered}
 use Rattle.patch_replay.proofs.cached_disk.CachedDisk.show.Goals as goal
 
 pub returns-in_ok-copied-in-Ok : goal.returns-in_ok-copied-in-Ok
-unfolding IsAnswerTo
-returns-in_ok-copied-in-Ok c = λ w at. let r = c.in-Ok.ensures w.run at.runs.cache_is in rw (r.0) (ap Shown (c.in_ok-copied-in-Ok.ensures ∙ r.1))
+unfolding IsAnswered
+returns-in_ok-copied-in-Ok c = λ w at. let r = c.in-Ok.ensures w.run at.runs.cache_is in (rw (r.0) (ap Shown (c.in_ok-copied-in-Ok.ensures ∙ r.1)), refl)
 
 pub returns-in-Err : goal.returns-in-Err
-unfolding IsAnswerTo
+unfolding IsAnswered
 returns-in-Err c = λ w at.
-    rw (c.in-Err.ensures w.run at.runs.cache_is) (ap Refused c.refusal.ensures)
+    (rw (c.in-Err.ensures w.run at.runs.cache_is) (ap Refused c.refusal.ensures), refl)
