@@ -12,7 +12,7 @@ use Rattle.patch_cache.specs.Asks as cache
 use Rattle.patch_cache.specs.Running.{IsCrashSafe, CountFaults, HaveWritten}
 use Rattle.patch_cache.specs.declared.flights.Flights.{Flights}
 use Rattle.patch_group.specs.Groups.{Groups}
-use Rattle.patch_group.specs.Asks.{Ask, Answer, Part, asks_of, answers_of, after_parts, steps_of, part_of, parts, run_after, run_after_all, groups_after, groups_after_all, IsGroupAnswer, IsGroupGivenUp, AreGroupAnswers}
+use Rattle.patch_group.specs.Asks.{Ask, Answer, Part, cache_asks, cache_answers, after_parts, steps_of, part_of, parts, run_after, run_after_all, groups_after, groups_after_all, IsGroupAnswer, IsGroupGivenUp, AreGroupAnswers}
 use Rattle.patch_group.specs.Runs.{asks_of, group_ask_of, group_answer_of, RunsWith, HasPassed, IsGroupAnswered, HasGroupRun}
 use Rattle.patch_group.specs.declared.asks.GroupAsk.{GroupAsk as CodeAsk}
 use Rattle.patch_group.specs.declared.asks.GroupAnswer.{GroupAnswer as CodeAnswer}
@@ -69,13 +69,13 @@ steps_append (p ∷ ps) qs = ap (λ s. step_added p.0 p.1 ++ s) (steps_append ps
 
 -- Faults and writes of parts.
 
-faults_append : (ps qs : List Part) (old between new : ℕ) → CountFaults (answers_of ps) old between → CountFaults (answers_of qs) between new → CountFaults (answers_of (ps ++ qs)) old new
-faults_append [] qs old between new first second = subst (λ n. CountFaults (answers_of qs) n new) (sym first) second
+faults_append : (ps qs : List Part) (old between new : ℕ) → CountFaults (cache_answers ps) old between → CountFaults (cache_answers qs) between new → CountFaults (cache_answers (ps ++ qs)) old new
+faults_append [] qs old between new first second = subst (λ n. CountFaults (cache_answers qs) n new) (sym first) second
 faults_append (p ∷ ps) qs old between new first second = (first.0, first.1, faults_append ps qs first.0 between new first.2 second)
 
-written_append : (run : Execution) (ps qs : List Part) (old between new : List (List ℕ)) → HaveWritten run (asks_of ps) (answers_of ps) old between
-    → HaveWritten (after_parts run ps) (asks_of qs) (answers_of qs) between new → HaveWritten run (asks_of (ps ++ qs)) (answers_of (ps ++ qs)) old new
-written_append run [] qs old between new first second = subst (λ c. HaveWritten run (asks_of qs) (answers_of qs) c new) first second
+written_append : (run : Execution) (ps qs : List Part) (old between new : List (List ℕ)) → HaveWritten run (cache_asks ps) (cache_answers ps) old between
+    → HaveWritten (after_parts run ps) (cache_asks qs) (cache_answers qs) between new → HaveWritten run (cache_asks (ps ++ qs)) (cache_answers (ps ++ qs)) old new
+written_append run [] qs old between new first second = subst (λ c. HaveWritten run (cache_asks qs) (cache_answers qs) c new) first second
 written_append run (p ∷ ps) qs old between new first second = (first.0, first.1, written_append (after run p.0 p.1) ps qs first.0 between new first.2 second)
 
 -- Nothing, and one thing after another.

@@ -100,19 +100,19 @@ IsGroupGivenUp run gs (Pending group) answer = ⊥
 abbrev pub Part : Type 0
 Part = CacheAsk × CacheAnswer
 
-abbrev pub asks_of : List Part → List CacheAsk
-asks_of parts = map (λ p. p.0) parts
+abbrev pub cache_asks : List Part → List CacheAsk
+cache_asks parts = map (λ p. p.0) parts
 
-abbrev pub answers_of : List Part → List CacheAnswer
-answers_of parts = map (λ p. p.1) parts
+abbrev pub cache_answers : List Part → List CacheAnswer
+cache_answers parts = map (λ p. p.1) parts
 
 -- the execution with the steps of the asks that the cache has answered
 abbrev pub after_parts : Execution → List Part → Execution
-after_parts run parts = after_all run (asks_of parts) (answers_of parts)
+after_parts run parts = after_all run (cache_asks parts) (cache_answers parts)
 
 -- the steps that they have added
 abbrev pub steps_of : List Part → List Step
-steps_of parts = steps_added (asks_of parts) (answers_of parts)
+steps_of parts = steps_added (cache_asks parts) (cache_answers parts)
 
 -- the ask with the cache's answer, if it was the cache that answered
 abbrev pub answered_by : CacheAsk → Answer → List Part

@@ -13,7 +13,7 @@ use Rattle.patch_cache.specs.Asks as cache
 use Rattle.patch_cache.specs.Running.{RunsOn, LeavesSafe, CountFaults, HaveAllWritten}
 use Rattle.patch_cache.specs.declared.flights.Flights.{Flights}
 use Rattle.patch_group.specs.Groups.{Groups}
-use Rattle.patch_group.specs.Asks.{Ask, Answer, Part, Plain, Patch, Group, Engage, Disengage, Depend, Close, Pending, GroupMade, Done, Count, Refused, IsGroupAnswer, IsGroupGivenUp, asks_of, answers_of, after_parts, steps_of, part_of, parts, run_after, groups_after, AreGroupAnswers}
+use Rattle.patch_group.specs.Asks.{Ask, Answer, Part, Plain, Patch, Group, Engage, Disengage, Depend, Close, Pending, GroupMade, Done, Count, Refused, IsGroupAnswer, IsGroupGivenUp, cache_asks, cache_answers, after_parts, steps_of, part_of, parts, run_after, groups_after, AreGroupAnswers}
 use Rattle.patch_group.specs.Order.{AreGroupsOf}
 use Rattle.patch_group.specs.Refusals.{group_cause}
 use Rattle.patch_group.specs.declared.asks.GroupAsk.{GroupAsk as CodeAsk}
@@ -56,8 +56,8 @@ pub record RunsWith {A D : Type 0} (g : Ghosts D) (cache : Contents) (flights : 
 -- counted; and of an honest device the images were written of what was completed, and nothing else, as a crash may leave them.
 pub record HasPassed {A D : Type 0} (g : Ghosts D) (run : Execution) (done : List Part) (cache : Contents) (flights : Flights A) (groups : Groups) (device device_now : D) : Type 0 where
   pub stands : RunsWith g cache flights groups device_now (after_parts run done)
-  pub faults : CountFaults (answers_of done) (g.fault_count device) (g.fault_count device_now)
-  pub written : HaveAllWritten g run (asks_of done) (answers_of done) device device_now
+  pub faults : CountFaults (cache_answers done) (g.fault_count device) (g.fault_count device_now)
+  pub written : HaveAllWritten g run (cache_asks done) (cache_answers done) device device_now
   pub crash : LeavesSafe g run (after_parts run done) device device_now
 
 -- the ask is answered right or given up, and the cache has done its part of it

@@ -13,7 +13,7 @@ use Rattle.patch_cache.specs.Asks as cache
 use Rattle.patch_cache.specs.Running.{Runs, HasWritten, HaveWritten}
 use Rattle.patch_cache.specs.Waves.{HoldImages}
 use Rattle.patch_group.specs.Groups.{Groups}
-use Rattle.patch_group.specs.Asks.{Ask, Answer, Part, Plain, Patch, Group, Engage, Disengage, Depend, Close, Pending, GroupMade, Done, Count, Refused, IsPlain, IsGroupAnswer, IsGroupGivenUp, AreGroupAnswers, is_refused, plain_of, answered_by, part_of, parts, asked, told, after_parts, run_after, groups_after}
+use Rattle.patch_group.specs.Asks.{Ask, Answer, Part, Plain, Patch, Group, Engage, Disengage, Depend, Close, Pending, GroupMade, Done, Count, Refused, IsPlain, IsGroupAnswer, IsGroupGivenUp, AreGroupAnswers, is_refused, plain_of, answered_by, part_of, parts, cache_asks, cache_answers, after_parts, run_after, groups_after}
 use Rattle.patch_group.specs.Asks as group
 use Rattle.patch_group.specs.Order.{AreGroupsOf}
 use Rattle.patch_group.specs.Runs.{group_answer_of}
@@ -92,7 +92,7 @@ abbrev disk_by : Execution → List (List ℕ) → Option CacheAsk → Answer �
 disk_by run disk p a = if is_refused a then disk else elim p as (λ _. List (List ℕ)) [ Some ask ↦ written run disk ask | None ↦ disk ]
 
 disk_of_parts : (run : Execution) (disk : List (List ℕ)) (p : Option CacheAsk) (a : Answer) (call : Type 0) (old new : List (List ℕ)) → old ≡ disk → IsServed a → IsRightFor run p a call
-    → HaveWritten run (asked (parts_by p a)) (told (parts_by p a)) old new → new ≡ disk_by run disk p a
+    → HaveWritten run (cache_asks (parts_by p a)) (cache_answers (parts_by p a)) old new → new ≡ disk_by run disk p a
 disk_of_parts run disk None a call old new is served right wrote = wrote ∙ is ∙ sym (either (is_refused a) disk)
 disk_of_parts run disk (Some ask) (Plain a) call old new is served right wrote =
     wrote.2 ∙ disk_is run disk ask a old wrote.0 is (λ e. served.fault (ap plain e)) wrote.1
@@ -116,7 +116,7 @@ pub record HasServed (w : World) (core now : CachedDisk) (ask : Ask) (a : Answer
   pub runs : Runs now.cache now.flights (run_after w.run w.groups ask a)
   pub groups : now.groups ≡ groups_after w.groups ask a
   pub groups_are : AreGroupsOf (run_after w.run w.groups ask a) now.groups
-  pub wrote : HaveWritten w.run (asked (part_of w.groups ask a)) (told (part_of w.groups ask a)) (contents_of core.device) (contents_of now.device)
+  pub wrote : HaveWritten w.run (cache_asks (part_of w.groups ask a)) (cache_answers (part_of w.groups ask a)) (contents_of core.device) (contents_of now.device)
 
 comes : StatesExtend → ImagesStay → (w : World) (core now : CachedDisk) (ask : Ask) (a : Answer) (line : LineAnswer) → IsAt core w → line ≡ line_answer a → IsServed a
     → HasServed w core now ask a → HasComeTo (IsAskAnswered w ask line) (IsAt now)
@@ -145,7 +145,7 @@ pub record HasServedAll (w : World) (core now : CachedDisk) (ask : Ask) (answers
   pub runs : Runs now.cache now.flights (after_parts w.run (parts core.groups (ask ∷ []) answers))
   pub groups : now.groups ≡ group.groups_after_all core.groups (ask ∷ []) answers
   pub groups_are : AreGroupsOf (after_parts w.run (parts core.groups (ask ∷ []) answers)) now.groups
-  pub wrote : HaveWritten w.run (asked (parts core.groups (ask ∷ []) answers)) (told (parts core.groups (ask ∷ []) answers)) (contents_of core.device) (contents_of now.device)
+  pub wrote : HaveWritten w.run (cache_asks (parts core.groups (ask ∷ []) answers)) (cache_answers (parts core.groups (ask ∷ []) answers)) (contents_of core.device) (contents_of now.device)
 
 served_one : (w : World) (core now : CachedDisk) (ask : Ask) (a : Answer) → IsAt core w → HasServedAll w core now ask (a ∷ []) → HasServed w core now ask a
 served_one w core now ask a at ran =
@@ -154,7 +154,7 @@ served_one w core now ask a at ran =
       runs = subst (λ ps. Runs now.cache now.flights (after_parts w.run ps)) same ran.runs;
       groups = ran.groups ∙ ap (λ gs. groups_after gs ask a) at.groups;
       groups_are = subst (λ ps. AreGroupsOf (after_parts w.run ps) now.groups) same ran.groups_are;
-      wrote = subst (λ ps. HaveWritten w.run (asked ps) (told ps) (contents_of core.device) (contents_of now.device)) same ran.wrote;
+      wrote = subst (λ ps. HaveWritten w.run (cache_asks ps) (cache_answers ps) (contents_of core.device) (contents_of now.device)) same ran.wrote;
     }
 
 -- the one ask of a list, and what the line is answered, unless there is no memory
