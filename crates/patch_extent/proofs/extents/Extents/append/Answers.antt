@@ -1,0 +1,20 @@
+use Rattle.std.proofs.Common.{◌≡◌, Some, Option, ap}
+use Rattle.std.proofs.lemmas.Result.{err_from_is_err_and}
+use Rattle.patch_cache.specs.Refusals.{IsCause}
+use Rattle.patch_model.specs.declared.refusals.Refusal.{Refusal}
+use Rattle.patch_extent.specs.Answers.{setting, asked}
+use Rattle.patch_extent.specs.Refusals.{append_cause}
+use Rattle.patch_extent.proofs.Finishing.{none_begun}
+use Rattle.patch_extent.proofs.extents.Extents.append.Goals as goal
+
+caused : (o : Option Refusal) (r t : Refusal) → o ≡ Some r → t ≡ r → IsCause o t
+caused o r t h same = rw h same
+
+pub returns-in_err-why_not_appended-clause-answer : goal.returns-in_err-why_not_appended-clause-answer
+returns-in_err-why_not_appended-clause-answer g c run h =
+    let p = err_from_is_err_and c.from_residual.result c.from_residual.ensures.1 in
+    let told = c.in_err-why_not_appended.ensures in
+    rw p.1 (record {
+      cause = caused _ _ _ (told.cause run h.cache_is) (ap append_cause p.2);
+      begun = none_begun run (asked c.args.writer c.args.extent c.args.bytes.now c.args.after.now) (setting c.args.self.now c.args.groups.now c.args.cache.now) h;
+    })

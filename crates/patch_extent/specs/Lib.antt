@@ -1,0 +1,11 @@
+pub mod Extents
+pub mod Planning
+pub mod Writing
+pub mod Meaning
+pub mod Opening
+pub mod Refusing
+pub mod Refusals
+pub mod Answers
+pub mod Appending
+pub mod Rows
+pub mod Laws

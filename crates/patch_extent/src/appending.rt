@@ -1,0 +1,217 @@
+//! How bytes are appended to an extent.
+ghost use Rattle.std.specs.Prelude.{ℕ, Bool, true, false, ◌≡◌, ◌≢◌, ◌+◌, ◌<◌, ◌≤◌, ◌++◌, ◌∷◌, [], Some, None, length, option_map, IfOk, IfErr, OnOk, OnErr, IsNone, MatchResult};
+ghost use Rattle.patch_model.specs.declared.patches.Undo.TheVariants.{MayDrop};
+ghost use Rattle.patch_model.specs.Execution.{Execution, extended};
+ghost use Rattle.patch_model.specs.State.{entries_of};
+ghost use Rattle.patch_frame.specs.Geometry.{largest_pointer, pointer_block, pointer_start, first_block};
+ghost use Rattle.patch_frame.specs.Pointer.{Fits, spelling};
+ghost use Rattle.patch_cache.specs.Meaning.{Represents as IsCacheOf};
+ghost use Rattle.patch_group.specs.Groups.{with_patch, patch_of};
+ghost use Rattle.patch_extent.specs.declared.refusals.AppendRefusal.TheVariants as append;
+ghost use Rattle.patch_extent.specs.Extents.{extent_at, offset_at};
+ghost use Rattle.patch_extent.specs.Planning.{touched, names_behind};
+ghost use Rattle.patch_extent.specs.Refusals.{append_cause};
+ghost use Rattle.patch_extent.specs.Refusing.{why_not_appended};
+ghost use Rattle.patch_extent.specs.Answers.{setting, asked, AnswersAppend};
+ghost use Rattle.patch_extent.specs.Appending.{AppendsCounted, LaysParts, LaysPatch, MergesBehind};
+
+use crate::counting::count_patches;
+use crate::extents::Extents;
+use crate::parting::{numbers_from, part_end, part_start, touched, with_one_more};
+use crate::places::{Appended, Place};
+use crate::refusals::AppendRefusal;
+use patch_cache::Cache;
+use patch_frame::{Pointer, laws as frame_laws, pointer_start, write_pointer};
+use patch_group::Groups;
+use patch_model::{BLOCK, BlockNo, OutOfMemory, PatchNo, Undo, WriterNo, laws as model_laws};
+use std::alloc::Allocator;
+
+impl<A: Allocator + Copy> Extents<A> {
+    /// Puts bytes at an extent's pointer and moves it past them. There is one data patch for each block touched, rising, each
+    /// behind `after` and the extent's last reset; then the pointer patch, behind all of them. It becomes one with the last
+    /// patch of the record where they may be merged; a refusal of that merge is none of the append.
+    ///
+    /// The patches are the writer's, and join its groups. All of them are counted before the first is made. Where memory runs
+    /// out the pointer and all bytes below it are as they were; bytes past it may differ, and are never read before they
+    /// are written again.
+    pub fn append(
+        &mut self,
+        cache: &mut Cache<A>,
+        groups: &mut Groups<A>,
+        writer: Option<WriterNo>,
+        extent: u32,
+        bytes: &[u8],
+        after: &[PatchNo],
+    ) -> Result<Appended, AppendRefusal>
+        requires { 0 < length bytes.now }
+        ensures answer { AnswersAppend (asked writer extent bytes.now after.now) result
+            (setting self.old groups.old cache.old) (setting self.new groups.new cache.new) }
+        ensures refused { OnErr result (self.new ≡ self.old) }
+        ensures refused_groups { IfErr result (λ refusal. refusal ≢ append.OutOfMemory → groups.new ≡ groups.old) }
+        ensures refused_cache { IfErr result (λ refusal. refusal ≢ append.OutOfMemory → cache.new ≡ cache.old) }
+    {
+        self.why_not_appended(cache, extent, bytes.len(), after)?;
+        Ok(self.append_counted(cache, groups, writer, extent, bytes, after)?)
+    }
+
+    /// Whether so many bytes can be appended: the first cause against it.
+    fn why_not_appended(
+        &self,
+        cache: &Cache<A>,
+        extent: u32,
+        len: usize,
+        after: &[PatchNo],
+    ) -> Result<(), AppendRefusal>
+        requires { 0 < len }
+        ensures none { (run : Execution) → IsCacheOf cache.now run
+            → OnOk result (why_not_appended self.now (entries_of run) extent len after.now ≡ None) }
+        ensures cause { (run : Execution) → IsCacheOf cache.now run → IfErr result (λ refusal.
+            why_not_appended self.now (entries_of run) extent len after.now ≡ Some (append_cause refusal)) }
+        ensures known { OnOk result (extent < self.now.geometry.extents) }
+        ensures room { OnOk result (offset_at self.now extent + len ≤ largest_pointer self.now.geometry.format) }
+        ensures numbers { OnOk result (cache.now.graph.made ≤ 16777216) }
+        ensures memory { IfErr result (λ refusal. refusal ≢ append.OutOfMemory) }
+    {
+        if extent >= self.geometry.extents {
+            return Err(AppendRefusal::NoSuchExtent);
+        }
+        let offset = self.each[extent as usize].pointer.offset;
+        if len > (self.geometry.format.largest_pointer() - offset) as usize {
+            return Err(AppendRefusal::ExtentFull);
+        }
+        Ok(count_patches(cache, after, touched(offset, len as u32) + 1)?)
+    }
+
+    /// Appends bytes where there is no cause against it.
+    fn append_counted(
+        &mut self,
+        cache: &mut Cache<A>,
+        groups: &mut Groups<A>,
+        writer: Option<WriterNo>,
+        extent: u32,
+        bytes: &[u8],
+        after: &[PatchNo],
+    ) -> Result<Appended, OutOfMemory>
+        requires some { 0 < length bytes.now }
+        requires known { extent < self.old.geometry.extents }
+        requires room { offset_at self.old extent + length bytes.now ≤ largest_pointer self.old.geometry.format }
+        requires numbers { cache.old.graph.made ≤ 16777216 }
+        ensures answer { AppendsCounted (asked writer extent bytes.now after.now) result
+            (setting self.old groups.old cache.old) (setting self.new groups.new cache.new) }
+        ensures refused { OnErr result (self.new ≡ self.old) }
+    {
+        model_laws::steps_extend();
+        model_laws::executions_are_orderly();
+        frame_laws::pointers_are_read_again();
+        let kept = self.each[extent as usize];
+        let len = bytes.len() as u32;
+        let names = with_one_more(self.alloc, after, &kept.reset)?;
+        let count = touched(kept.pointer.offset, len);
+        let numbers = numbers_from(self.alloc, cache.made(), count)?;
+        self.lay_parts(cache, groups, &writer, extent, bytes, names.as_slice())?;
+        let moved = Pointer {
+            generation: kept.pointer.generation,
+            offset: kept.pointer.offset + len,
+        };
+        let no = self.lay_pointer(cache, groups, &writer, extent, moved, numbers.as_slice())?;
+        merge_behind(cache, &kept.point, no);
+        let record = &mut self.each[extent as usize];
+        record.pointer = moved;
+        record.point = Some(no);
+        Ok(Appended {
+            place: Place {
+                extent,
+                generation: kept.pointer.generation,
+                offset: kept.pointer.offset,
+                len,
+            },
+            pointer_patch: no,
+        })
+    }
+
+    /// Makes a data patch for each block that the bytes touch.
+    fn lay_parts(
+        &self,
+        cache: &mut Cache<A>,
+        groups: &mut Groups<A>,
+        writer: &Option<WriterNo>,
+        extent: u32,
+        bytes: &[u8],
+        names: &[PatchNo],
+    ) -> Result<(), OutOfMemory>
+        requires some { 0 < length bytes.now }
+        requires known { extent < self.now.geometry.extents }
+        requires room { offset_at self.now extent + length bytes.now ≤ largest_pointer self.now.geometry.format }
+        ensures { LaysParts (asked writer.now extent bytes.now names.now) result
+            (setting self.now groups.old cache.old) (setting self.now groups.new cache.new) }
+    {
+        model_laws::steps_extend();
+        let offset = self.each[extent as usize].pointer.offset;
+        let len = bytes.len() as u32;
+        let first = self.geometry.first_block(extent);
+        for k in 0..touched(offset, len) {
+            let start = part_start(offset, k);
+            let end = part_end(offset, len, k);
+            lay(
+                cache,
+                groups,
+                writer,
+                BlockNo(first + start / BLOCK as u32),
+                start as usize % BLOCK,
+                &bytes[(start - offset) as usize..(end - offset) as usize],
+                names,
+            )?;
+        }
+        Ok(())
+    }
+
+    /// Makes the patch of an extent's pointer record.
+    fn lay_pointer(
+        &self,
+        cache: &mut Cache<A>,
+        groups: &mut Groups<A>,
+        writer: &Option<WriterNo>,
+        extent: u32,
+        pointer: Pointer,
+        after: &[PatchNo],
+    ) -> Result<PatchNo, OutOfMemory>
+        requires known { extent < self.now.geometry.extents }
+        requires fits { Fits (largest_pointer self.now.geometry.format) pointer }
+        ensures { LaysPatch (pointer_block self.now.geometry) (pointer_start extent) (spelling pointer) writer.now after.now result
+            groups.old cache.old groups.new cache.new }
+    {
+        let block = BlockNo(self.geometry.pointer_block());
+        let record = write_pointer(pointer);
+        let start = pointer_start(extent);
+        lay(cache, groups, writer, block, start, &record, after)
+    }
+}
+
+/// Makes a patch that was counted. Nothing but want of memory stands against it: its block is there, its bytes are some and
+/// fit, and what it names was made.
+fn lay<A: Allocator + Copy>(
+    cache: &mut Cache<A>,
+    groups: &mut Groups<A>,
+    writer: &Option<WriterNo>,
+    block: BlockNo,
+    start: usize,
+    bytes: &[u8],
+    after: &[PatchNo],
+) -> Result<PatchNo, OutOfMemory>
+    ensures { LaysPatch block start bytes.now writer.now after.now result groups.old cache.old groups.new cache.new }
+{
+    match groups.create_patch(cache, *writer, block, start, bytes, after, Undo::MayDrop) {
+        Ok(no) => Ok(no),
+        Err(_) => Err(OutOfMemory),
+    }
+}
+
+/// Makes one class of a pointer patch and the one before it, where they may be merged.
+fn merge_behind<A: Allocator + Copy>(cache: &mut Cache<A>, before: &Option<PatchNo>, no: PatchNo)
+    ensures { MergesBehind before.now no cache.old cache.new }
+{
+    if let Some(before) = before {
+        // A refusal leaves two patches of which the later one depends on the earlier one.
+        let _ = cache.merge(*before, no);
+    }
+}

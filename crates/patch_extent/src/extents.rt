@@ -1,0 +1,121 @@
+//! The extents of a disk, and how they are opened.
+ghost use Rattle.std.specs.Prelude.{ℕ, ◌≡◌, ◌<◌, ◌≤◌, length, Err, IfOk, OnErr};
+ghost use Rattle.patch_frame.specs.Geometry.{IsGeometry, block_count};
+ghost use Rattle.patch_extent.specs.Extents.{generation_at, offset_at};
+ghost use Rattle.patch_frame.specs.Field.{are_zeros};
+ghost use Rattle.patch_extent.specs.declared.refusals.ExtentsFault.TheVariants.{BadPointer};
+ghost use Rattle.patch_extent.specs.Opening.{AreRecords, IsRecord, IsBadRecord};
+ghost use Rattle.patch_extent.specs.Answers.{IsOpened};
+
+use crate::records::Extent;
+use crate::refusals::ExtentsFault;
+use patch_cache::Cache;
+use patch_frame::{Geometry, POINTER_BYTES, Pointer, pointer_start, read_pointer_within};
+use patch_model::{BLOCK, BlockNo, laws as model_laws};
+use std::alloc::{Allocator, Global};
+use std::marker::Model;
+
+/// The extents of a disk whose blocks are those of a cache. Each is filled at its write pointer by `append`, and emptied by
+/// `reset`, which raises its generation. What the extents make of patches stands in the cache; kept here is what no block
+/// says: the pointer records as they are cached, and which patches the next ones have to come after.
+#[derive(Drop)]
+pub struct Extents<A: Allocator + Copy = Global> {
+    pub(crate) alloc: A,
+    pub(crate) geometry: Geometry,
+    pub(crate) each: Vec<Extent, A>,
+}
+
+impl<A: Allocator + Copy> Model for Extents<A> {
+    ghost use Rattle.patch_extent.specs.Extents.{Extents as Kept, AreWhole};
+
+    ghost Value = { Kept };
+
+    ghost view = { λ s. record { geometry = s.geometry; each = s.each.items } };
+
+    ghost invariant = { λ s. AreWhole (record { geometry = s.geometry; each = s.each.items }) };
+}
+
+impl<A: Allocator + Copy> Extents<A> {
+    /// The extents of a cache of a disk that is divided so. No patch of the pointer block was made yet: patches that were
+    /// made before aren't known.
+    pub fn open(alloc: A, cache: &Cache<A>, geometry: Geometry) -> Result<Extents<A>, ExtentsFault>
+        requires geometry { IsGeometry geometry }
+        requires blocks { block_count geometry ≡ length cache.now.blocks }
+        ensures { IsOpened cache.now geometry result }
+    {
+        model_laws::executions_are_orderly();
+        let Ok(block) = cache.read(BlockNo(geometry.pointer_block()), 0, BLOCK) else {
+            return Err(ExtentsFault::BadPointer);
+        };
+        // Never so: a block has all its bytes.
+        if block.len() < BLOCK {
+            return Err(ExtentsFault::BadPointer);
+        }
+        let each = read_records(alloc, block, geometry)?;
+        if !is_zeros(&block[POINTER_BYTES * geometry.extents as usize..BLOCK]) {
+            return Err(ExtentsFault::BadPointer);
+        }
+        Ok(Extents {
+            alloc,
+            geometry,
+            each,
+        })
+    }
+
+    /// The generation of an extent and its write pointer, as the cache has them.
+    pub fn pointer(&self, extent: u32) -> (u32, u32)
+        requires { extent < self.now.geometry.extents }
+        ensures { result ≡ (generation_at self.now extent, offset_at self.now extent) }
+    {
+        let pointer = self.each[extent as usize].pointer;
+        (pointer.generation, pointer.offset)
+    }
+}
+
+/// The record of each extent, of which no patch was made yet.
+fn read_records<A: Allocator>(
+    alloc: A,
+    block: &[u8],
+    geometry: Geometry,
+) -> Result<Vec<Extent, A>, ExtentsFault>
+    requires geometry { IsGeometry geometry }
+    requires long { BLOCK ≤ length block.now }
+    ensures read { IfOk result (λ each. AreRecords geometry block.now each.items geometry.extents) }
+    ensures bad { result ≡ Err BadPointer → (e : ℕ) × (e < geometry.extents) × IsBadRecord geometry block.now e }
+{
+    let mut each = Vec::with_capacity(alloc, geometry.extents as usize)?;
+    for extent in 0..geometry.extents {
+        let record = read_record(block, geometry, extent)?;
+        if let Err(_) = each.push(record) {
+            return Err(ExtentsFault::OutOfMemory);
+        }
+    }
+    Ok(each)
+}
+
+/// The record of one extent.
+fn read_record(block: &[u8], geometry: Geometry, extent: u32) -> Result<Extent, ExtentsFault>
+    requires geometry { IsGeometry geometry }
+    requires known { extent < geometry.extents }
+    requires long { BLOCK ≤ length block.now }
+    ensures read { IfOk result (λ k. IsRecord geometry block.now extent k) }
+    ensures bad { OnErr result (IsBadRecord geometry block.now extent) }
+{
+    let start = pointer_start(extent);
+    let bytes = &block[start..start + POINTER_BYTES];
+    match read_pointer_within(bytes, geometry.format.largest_pointer()) {
+        Ok(pointer) => Ok(Extent {
+            pointer,
+            reset: None,
+            point: None,
+        }),
+        Err(_) => Err(ExtentsFault::BadPointer),
+    }
+}
+
+/// Whether each of the bytes is zero.
+fn is_zeros(bytes: &[u8]) -> bool
+    ensures { result ≡ are_zeros bytes.now }
+{
+    bytes.iter().all(|byte| *byte == 0)
+}
