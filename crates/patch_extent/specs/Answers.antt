@@ -133,5 +133,5 @@ HasNoPoints g run = of_block (pointer_block g) (entries_of run) ≡ []
 abbrev pub IsOpened : Contents → Geometry → Result Extents ExtentsFault → Type 0
 IsOpened cache g result =
     (run : Execution) → IsCacheOf cache run → HasNoPoints g run → MatchResult result
-    (λ extents. Represents extents run × (extents.geometry ≡ g))
+    (λ extents. Represents extents run)
     (λ fault. fault ≡ BadPointer → bad_pointers g (cached_blocks run) ≡ true)

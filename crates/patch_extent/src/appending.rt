@@ -1,15 +1,12 @@
 //! How bytes are appended to an extent.
-ghost use Rattle.std.specs.Prelude.{ℕ, Bool, true, false, ◌≡◌, ◌≢◌, ◌+◌, ◌<◌, ◌≤◌, ◌++◌, ◌∷◌, [], Some, None, length, option_map, IfOk, IfErr, OnOk, OnErr, IsNone, MatchResult};
-ghost use Rattle.patch_model.specs.declared.patches.Undo.TheVariants.{MayDrop};
-ghost use Rattle.patch_model.specs.Execution.{Execution, extended};
+ghost use Rattle.std.specs.Prelude.{◌≡◌, ◌≢◌, ◌+◌, ◌<◌, ◌≤◌, Some, None, length, OnOk, OnErr, IfErr};
+ghost use Rattle.patch_model.specs.Execution.{Execution};
 ghost use Rattle.patch_model.specs.State.{entries_of};
-ghost use Rattle.patch_frame.specs.Geometry.{largest_pointer, pointer_block, pointer_start, first_block};
+ghost use Rattle.patch_frame.specs.Geometry.{largest_pointer, pointer_block, pointer_start};
 ghost use Rattle.patch_frame.specs.Pointer.{Fits, spelling};
 ghost use Rattle.patch_cache.specs.Meaning.{Represents as IsCacheOf};
-ghost use Rattle.patch_group.specs.Groups.{with_patch, patch_of};
 ghost use Rattle.patch_extent.specs.declared.refusals.AppendRefusal.TheVariants as append;
-ghost use Rattle.patch_extent.specs.Extents.{extent_at, offset_at};
-ghost use Rattle.patch_extent.specs.Planning.{touched, names_behind};
+ghost use Rattle.patch_extent.specs.Extents.{offset_at};
 ghost use Rattle.patch_extent.specs.Refusals.{append_cause};
 ghost use Rattle.patch_extent.specs.Refusing.{why_not_appended};
 ghost use Rattle.patch_extent.specs.Answers.{setting, asked, AnswersAppend};
@@ -46,6 +43,7 @@ impl<A: Allocator + Copy> Extents<A> {
         requires { 0 < length bytes.now }
         ensures answer { AnswersAppend (asked writer extent bytes.now after.now) result
             (setting self.old groups.old cache.old) (setting self.new groups.new cache.new) }
+        ensures geometry { self.new.geometry ≡ self.old.geometry }
         ensures refused { OnErr result (self.new ≡ self.old) }
         ensures refused_groups { IfErr result (λ refusal. refusal ≢ append.OutOfMemory → groups.new ≡ groups.old) }
         ensures refused_cache { IfErr result (λ refusal. refusal ≢ append.OutOfMemory → cache.new ≡ cache.old) }
@@ -98,6 +96,7 @@ impl<A: Allocator + Copy> Extents<A> {
         requires numbers { cache.old.graph.made ≤ 16777216 }
         ensures answer { AppendsCounted (asked writer extent bytes.now after.now) result
             (setting self.old groups.old cache.old) (setting self.new groups.new cache.new) }
+        ensures geometry { self.new.geometry ≡ self.old.geometry }
         ensures refused { OnErr result (self.new ≡ self.old) }
     {
         model_laws::steps_extend();

@@ -41,7 +41,8 @@ impl<A: Allocator + Copy> Extents<A> {
     pub fn open(alloc: A, cache: &Cache<A>, geometry: Geometry) -> Result<Extents<A>, ExtentsFault>
         requires geometry { IsGeometry geometry }
         requires blocks { block_count geometry ≡ length cache.now.blocks }
-        ensures { IsOpened cache.now geometry result }
+        ensures opened { IsOpened cache.now geometry result }
+        ensures geometry { IfOk result (λ extents. extents.geometry ≡ geometry) }
     {
         model_laws::executions_are_orderly();
         let Ok(block) = cache.read(BlockNo(geometry.pointer_block()), 0, BLOCK) else {

@@ -34,6 +34,7 @@ impl<A: Allocator + Copy> Extents<A> {
     ) -> Result<PatchNo, ResetRefusal>
         ensures answer { (groups : TheGroups) → AnswersReset extent after.now result
             (setting self.old groups cache.old) (setting self.new groups cache.new) }
+        ensures geometry { self.new.geometry ≡ self.old.geometry }
         ensures refused { OnErr result (self.new ≡ self.old) }
         ensures refused_cache { OnErr result (cache.new ≡ cache.old) }
     {
