@@ -4,4 +4,5 @@ pub mod Standing
 pub mod Making
 pub mod Spans
 pub mod Beginning
+pub mod Bytes
 pub mod Finishing

@@ -1,13 +1,18 @@
 -- Laws of plans, and of what the extents represent.
-use Rattle.std.specs.Prelude.{ℕ, Bool, ◌≡◌, ◌+◌, List, ◌++◌, length, Option, IsTrue}
+use Rattle.std.specs.Prelude.{ℕ, Bool, ◌≡◌, ◌+◌, ◌<◌, ◌≤◌, List, ◌++◌, length, take, Option, IsTrue}
 use Rattle.patch_model.specs.Step.{Step}
-use Rattle.patch_model.specs.Execution.{Execution, extended}
+use Rattle.patch_model.specs.Execution.{Execution, extended, followed_by}
+use Rattle.patch_frame.specs.declared.geometries.Geometry.{Geometry}
+use Rattle.patch_frame.specs.Geometry.{largest_pointer}
 use Rattle.patch_group.specs.Groups.{Groups}
 use Rattle.patch_recovery.specs.Change.{Made}
+use Rattle.patch_recovery.specs.Closed.{cached_blocks}
+use Rattle.patch_recovery.specs.Reading.{ledger_in}
 use Rattle.patch_recovery.specs.Store.{makes_nothing}
-use Rattle.patch_extent.specs.Extents.{Extents}
+use Rattle.patch_extent.specs.Extents.{Extents, offset_at}
 use Rattle.patch_extent.specs.Writing.{after_plan, with_patches, steps_of}
 use Rattle.patch_extent.specs.Meaning.{Represents}
+use Rattle.patch_extent.specs.Answers.{Setting, IsSettingOf, Append, plan_of, plan_steps}
 
 -- the steps of two plans, one after the other, are those of the first and then those of the second
 abbrev pub PlansJoin : Type 0
@@ -20,3 +25,18 @@ PlansJoin =
 abbrev pub OtherStepsLeaveExtents : Type 0
 OtherStepsLeaveExtents =
     (s : Extents) (run : Execution) (step : Step) → IsTrue (makes_nothing step) → Represents s run → Represents s (extended run step)
+
+-- the byte at this place of an extent, as it is cached
+abbrev pub byte_at : Geometry → Execution → (extent place : ℕ) → ℕ
+byte_at g run extent place = (ledger_in g (cached_blocks run)).byte extent place
+
+-- An append that is done, or cut short, leaves all bytes below the extent's pointer, and all bytes of other extents, as they
+-- were: whichever first changes of its plan are made, and whichever merges.
+abbrev pub AppendsKeepBytes : Type 0
+AppendsKeepBytes =
+    (run : Execution) (a : Append) (old : Setting) (choices : List Bool) (k extent place : ℕ) → IsSettingOf old run
+    → 0 < length a.bytes → offset_at old.extents a.extent + length a.bytes ≤ largest_pointer old.extents.geometry.format
+    → extent < old.extents.geometry.extents → place < largest_pointer old.extents.geometry.format
+    → (extent ≡ a.extent → place < offset_at old.extents a.extent)
+    → byte_at old.extents.geometry (followed_by run (plan_steps run old a.writer choices (take k (plan_of run old.extents a)))) extent place
+    ≡ byte_at old.extents.geometry run extent place

@@ -1,5 +1,5 @@
 //! Laws of plans, each the contract of a function that does nothing.
-ghost use Rattle.patch_extent.specs.Laws.{PlansJoin, OtherStepsLeaveExtents};
+ghost use Rattle.patch_extent.specs.Laws.{PlansJoin, OtherStepsLeaveExtents, AppendsKeepBytes};
 
 /// The steps of two plans, one after the other, are those of the first and then those of the second.
 pub fn plans_join()
@@ -11,4 +11,12 @@ pub fn other_steps_leave_extents()
     ensures { OtherStepsLeaveExtents }
 {
     patch_model::laws::steps_extend();
+}
+
+/// An append, done or cut short, leaves each byte below its extent's pointer, and each of the other extents, as it was.
+pub fn appends_keep_bytes()
+    ensures { AppendsKeepBytes }
+{
+    patch_model::laws::steps_extend();
+    patch_model::laws::executions_are_orderly();
 }

@@ -1,0 +1,251 @@
+//! Each allocation refused in turn, and what that leaves.
+use super::*;
+use linked_list_allocator::LocalHeap;
+use patch_model::{RefusalKind, Refuses};
+
+// How many bytes the heap has: a cache of 35 blocks, and more.
+const HEAP: usize = 262_144;
+
+// What is called, one after the other, where only one hole is left in the heap.
+#[derive(Clone, Copy)]
+enum Call {
+    Append,
+    Read,
+    Reset,
+}
+
+const CALLS: [Call; 3] = [Call::Append, Call::Read, Call::Reset];
+
+// A cache in a heap, with its groups and its extents. The first extent begins with 100 bytes.
+#[derive(Drop)]
+struct Bench<'a> {
+    alloc: Global,
+    heap: &'a LocalHeap,
+    cache: Cache<&'a LocalHeap>,
+    groups: Groups<&'a LocalHeap>,
+    extents: Extents<&'a LocalHeap>,
+}
+
+// Pieces of a heap.
+type Ballast<'a> = Vec<Vec<u8, &'a LocalHeap>>;
+
+// Takes up to 64 pieces of this size.
+fn take_pieces<'a>(
+    heap: &'a LocalHeap,
+    ballast: &mut Ballast<'a>,
+    size: usize,
+) -> Result<(), OutOfMemory> {
+    for _ in 0..64 {
+        let Ok(piece) = Vec::with_capacity(heap, size) else {
+            break;
+        };
+        ballast.push(piece)?;
+    }
+    Ok(())
+}
+
+fn take_all<'a>(heap: &'a LocalHeap, ballast: &mut Ballast<'a>) -> Result<(), OutOfMemory> {
+    for size in [16384usize, 4096, 1024, 256, 64, 16] {
+        take_pieces(heap, ballast, size)?;
+    }
+    Ok(())
+}
+
+// All of a heap's memory.
+fn all_of<'a>(alloc: Global, heap: &'a LocalHeap) -> Result<Ballast<'a>, OutOfMemory> {
+    let mut ballast = Vec::new(alloc);
+    take_all(heap, &mut ballast)?;
+    Ok(ballast)
+}
+
+// Takes all of a heap's memory but one hole of this size.
+fn fill<'a>(alloc: Global, heap: &'a LocalHeap, hole: usize) -> Result<Ballast<'a>, OutOfMemory> {
+    let kept: Vec<u8, &'a LocalHeap> = Vec::with_capacity(heap, hole)?;
+    let ballast = all_of(alloc, heap);
+    drop(kept);
+    ballast
+}
+
+// A hole larger than that of the size before it.
+fn hole_of(size: usize) -> usize {
+    let small = size.min(64);
+    let large = size.saturating_sub(small).min(1000);
+    small * 16 + large * 64
+}
+
+// So many bytes at the start of the first extent, before it is reset.
+fn front(len: u32) -> Place {
+    Place {
+        extent: 0,
+        generation: 0,
+        offset: 0,
+        len,
+    }
+}
+
+// Whether the bytes are 100 sevens, and more eights.
+fn are_as_appended(bytes: &[u8]) -> bool {
+    bytes
+        .iter()
+        .enumerate()
+        .all(|(at, byte)| *byte == if at < 100 { 7 } else { 8 })
+}
+
+fn read_front(bench: &Bench, len: u32) -> Result<(), RefusalKind> {
+    match bench.extents.read(&bench.cache, front(len)) {
+        Ok(bytes) if bytes.len() == len as usize && are_as_appended(bytes.as_slice()) => Ok(()),
+        Ok(_) => Err(RefusalKind::ReadBack),
+        Err(refusal) => Err(refusal.kind()),
+    }
+}
+
+// What is read of 100 bytes, of one more, and of all that are appended in the end.
+type Shown = (
+    Result<(), RefusalKind>,
+    Result<(), RefusalKind>,
+    Result<(), RefusalKind>,
+);
+
+fn shown(bench: &Bench) -> Shown {
+    (
+        read_front(bench, 100),
+        read_front(bench, 101),
+        read_front(bench, 5100),
+    )
+}
+
+fn append_bytes(bench: &mut Bench, bytes: &[u8]) -> Result<(), RefusalKind> {
+    if bytes.is_empty() {
+        return Ok(());
+    }
+    let Bench {
+        cache,
+        groups,
+        extents,
+        ..
+    } = bench;
+    match extents.append(cache, groups, Some(WriterNo(0)), 0, bytes, &[]) {
+        Ok(_) => Ok(()),
+        Err(refusal) => Err(refusal.kind()),
+    }
+}
+
+fn reset_first(bench: &mut Bench) -> Result<(), RefusalKind> {
+    let Bench { cache, extents, .. } = bench;
+    match extents.reset(cache, 0, &[]) {
+        Ok(_) => Ok(()),
+        Err(refusal) => Err(refusal.kind()),
+    }
+}
+
+fn make_call(bench: &mut Bench, call: Call) -> Result<(), RefusalKind> {
+    match call {
+        Call::Append => append_bytes(bench, &[8; 5000]),
+        Call::Read => read_front(bench, 5100),
+        Call::Reset => reset_first(bench),
+    }
+}
+
+// Calls where only a hole of this size is left.
+fn call_in_hole(
+    bench: &mut Bench,
+    which: Call,
+    hole: usize,
+) -> Result<Result<(), RefusalKind>, OutOfMemory> {
+    let ballast = fill(bench.alloc, bench.heap, hole)?;
+    let answer = make_call(bench, which);
+    drop(ballast);
+    Ok(answer)
+}
+
+// Calls where only a hole of this size is left, and again with memory where that is refused. Whether it was: then all that could
+// be read before is read as before, and nothing more.
+fn call_twice(rt: &impl Abort, bench: &mut Bench, which: Call, hole: usize) -> Result<bool, Fail> {
+    let before = shown(bench);
+    let first = call_in_hole(bench, which, hole)?;
+    if first.is_ok() {
+        return Ok(false);
+    }
+    expect_equal(rt, "answer", first, Err(RefusalKind::OutOfMemory));
+    expect_equal(rt, "shown", shown(bench), before);
+    expect_equal(rt, "again", make_call(bench, which), Ok(()));
+    Ok(true)
+}
+
+// Calls each in turn, and counts those that were refused at first.
+fn call_each(
+    rt: &impl Abort,
+    bench: &mut Bench,
+    hole: usize,
+    refused: &mut [u32],
+) -> Result<(), Fail> {
+    for (which, count) in CALLS.iter().zip(refused.iter_mut()) {
+        if call_twice(rt, bench, *which, hole)? {
+            *count = count.saturating_add(1);
+        }
+    }
+    let old = Err(RefusalKind::OldGeneration);
+    expect_equal(rt, "reset", shown(bench), (old, old, old));
+    Ok(())
+}
+
+// The groups of a cache, of which writer 0 has one engaged.
+fn groups_in(heap: &LocalHeap) -> Result<Groups<&LocalHeap>, Fail> {
+    let mut groups = Groups::new(heap);
+    let group = groups.create()?;
+    groups.engage(WriterNo(0), group)?;
+    Ok(groups)
+}
+
+fn open_bench<'a>(rt: &impl Abort, alloc: Global, heap: &'a LocalHeap) -> Result<Bench<'a>, Fail> {
+    let geometry = Geometry {
+        index: 1,
+        extents: 2,
+        format: Format::One,
+    };
+    let cache = open_cache(rt, heap, 35, &[])?;
+    assert!(rt; cache.blocks() == 35);
+    let ballast = fill(alloc, heap, 16)?;
+    let refused = Extents::open(heap, &cache, geometry).is_err();
+    drop(ballast);
+    expect_equal(rt, "opened without memory", refused, true);
+    let extents = Extents::open(heap, &cache, geometry)?;
+    let groups = groups_in(heap)?;
+    Ok(Bench {
+        alloc,
+        heap,
+        cache,
+        groups,
+        extents,
+    })
+}
+
+fn call_anew(
+    rt: &impl Abort,
+    alloc: Global,
+    heap: &LocalHeap,
+    hole: usize,
+    refused: &mut [u32],
+) -> Result<(), Fail> {
+    let mut bench = open_bench(rt, alloc, heap)?;
+    expect_equal(rt, "first", append_bytes(&mut bench, &[7; 100]), Ok(()));
+    call_each(rt, &mut bench, hole, refused)
+}
+
+// Each hole is larger than the one before it, so that one allocation more succeeds now and then, until all do. How many of
+// the calls were refused.
+#[test]
+fn each_call_is_refused_and_repeated(rt: HostRuntime) -> Result<(), Fail> {
+    let heap = LocalHeap::new(rt.alloc(), HEAP)?;
+    let mut refused = [0u32; 3];
+    for size in 0..400usize {
+        let before = refused;
+        call_anew(&rt, rt.alloc(), &heap, hole_of(size), &mut refused)?;
+        expect_equal(&rt, "used", heap.used(), 0);
+        if refused == before {
+            expect_equal(&rt, "never refused", refused.contains(&0), false);
+            return Ok(());
+        }
+    }
+    Err(Fail::from("refused in the largest hole"))
+}

@@ -1,0 +1,541 @@
+//! Lists of calls, with what each of them answers and which steps they leave in the trace.
+use super::*;
+
+// A call, or a look at the trace.
+#[derive(Clone, Copy)]
+enum Move {
+    // Bytes of the value of the count of appends so far, from 1.
+    Append {
+        extent: u32,
+        len: usize,
+    },
+    // By a writer.
+    By {
+        writer: u8,
+        extent: u32,
+        len: usize,
+    },
+    // One byte, behind a patch.
+    Behind {
+        extent: u32,
+        after: u32,
+    },
+    Reset {
+        extent: u32,
+    },
+    Read {
+        extent: u32,
+        generation: u32,
+        offset: u32,
+        len: u32,
+    },
+    // To make a group.
+    Group,
+    // To let a writer's patches belong to a group, and no more.
+    Engage {
+        writer: u8,
+        group: u32,
+    },
+    Leave {
+        writer: u8,
+        group: u32,
+    },
+    // To let a group depend on another.
+    Order {
+        group: u32,
+        on: u32,
+    },
+    // The steps since the last look.
+    Trace,
+}
+
+use Move::{Append, Behind, By, Engage, Group, Leave, Order, Read, Reset, Trace};
+
+#[derive(Drop)]
+struct Bench {
+    alloc: Global,
+    cache: Cache,
+    groups: Groups,
+    extents: Extents,
+    // How many appends there were.
+    appends: u8,
+}
+
+// 5,000 bytes, 10 more, a reset, and one byte.
+const WORKED: [Move; 17] = [
+    Append {
+        extent: 0,
+        len: 5000,
+    },
+    Trace,
+    Append { extent: 0, len: 10 },
+    Trace,
+    Read {
+        extent: 0,
+        generation: 0,
+        offset: 4999,
+        len: 3,
+    },
+    Reset { extent: 0 },
+    Trace,
+    Append { extent: 0, len: 1 },
+    Trace,
+    Read {
+        extent: 0,
+        generation: 0,
+        offset: 0,
+        len: 5000,
+    },
+    Read {
+        extent: 0,
+        generation: 1,
+        offset: 0,
+        len: 2,
+    },
+    Read {
+        extent: 0,
+        generation: 1,
+        offset: 0,
+        len: 1,
+    },
+    Append {
+        extent: 0,
+        len: 65_536,
+    },
+    Append { extent: 2, len: 1 },
+    Read {
+        extent: 2,
+        generation: 0,
+        offset: 0,
+        len: 0,
+    },
+    Reset { extent: 2 },
+    Behind {
+        extent: 0,
+        after: 8,
+    },
+];
+
+const WORKED_TOLD: &str = "\
+append extent 0 generation 0 offset 0 len 5000 by 2
+trace 3.0+4096[] 4.0+904[] 2.0+8[0,1] = 0000000000001388
+append extent 0 generation 0 offset 5000 len 10 by 4
+trace 4.904+10[] 2.0+8[3] = 0000000000001392 merge 2 4
+read 1x1 2x2
+reset 5
+trace 2.0+8[] = 0000000100000000
+append extent 0 generation 1 offset 0 len 1 by 7
+trace 3.0+1[5] = 03 2.0+8[6] = 0000000100000001
+read refused OldGeneration
+read refused PastPointer
+read 3x1
+append refused ExtentFull
+append refused NoSuchExtent
+read refused NoSuchExtent
+reset refused NoSuchExtent
+append refused UnknownDependency
+";
+
+// Extents of 64 blocks, the second of which is filled.
+const LONG: [Move; 6] = [
+    Append { extent: 1, len: 1 },
+    Trace,
+    Append {
+        extent: 1,
+        len: 262_143,
+    },
+    Append { extent: 1, len: 1 },
+    Read {
+        extent: 1,
+        generation: 0,
+        offset: 0,
+        len: 262_144,
+    },
+    Append {
+        extent: 0,
+        len: 65_537,
+    },
+];
+
+const LONG_TOLD: &str = "\
+append extent 1 generation 0 offset 0 len 1 by 1
+trace 67.0+1[] = 01 2.8+8[0] = 0000000000000001
+append extent 1 generation 0 offset 1 len 262143 by 66
+append refused ExtentFull
+read 1x1 2x262143
+append extent 0 generation 0 offset 0 len 65537 by 84
+";
+
+// The patches of a writer join its groups, and name those of the groups before.
+const GROUPED: [Move; 9] = [
+    Group,
+    Group,
+    Engage {
+        writer: 0,
+        group: 0,
+    },
+    By {
+        writer: 0,
+        extent: 0,
+        len: 1,
+    },
+    Leave {
+        writer: 0,
+        group: 0,
+    },
+    Order { group: 1, on: 0 },
+    Engage {
+        writer: 1,
+        group: 1,
+    },
+    By {
+        writer: 1,
+        extent: 1,
+        len: 1,
+    },
+    Trace,
+];
+
+const GROUPED_TOLD: &str = "\
+ok
+ok
+ok
+append extent 0 generation 0 offset 0 len 1 by 1
+ok
+ok
+ok
+append extent 1 generation 0 offset 0 len 1 by 3
+trace 3.0+1[] = 01 2.0+8[0] = 0000000000000001 19.0+1[0,1] = 02 2.8+8[2,0,1] = 0000000000000001
+";
+
+// An extent of the last generation.
+const SPENT: [Move; 3] = [Reset { extent: 0 }, Append { extent: 0, len: 1 }, Trace];
+
+const SPENT_TOLD: &str = "\
+reset refused GenerationSpent
+append extent 0 generation 4294967295 offset 7 len 1 by 1
+trace 3.7+1[] = 01 2.0+8[0] = ffffffff00000008
+";
+
+fn tell_numbers(told: &mut String, numbers: &[PatchNo]) -> Result<(), Fail> {
+    told.push('[')?;
+    for (place, no) in numbers.iter().enumerate() {
+        if place > 0 {
+            told.push(',')?;
+        }
+        write!(told, "{no}")?;
+    }
+    told.push(']')?;
+    Ok(())
+}
+
+// The bytes, if they are few.
+fn tell_few(told: &mut String, bytes: &[u8]) -> Result<(), Fail> {
+    if bytes.len() > 8 {
+        return Ok(());
+    }
+    told.push_str(" = ")?;
+    for byte in bytes {
+        write!(told, "{byte:02x}")?;
+    }
+    Ok(())
+}
+
+fn tell_step(told: &mut String, step: &Step) -> Result<(), Fail> {
+    match step {
+        Step::Create {
+            block,
+            start,
+            bytes,
+            after,
+            ..
+        } => {
+            let len = bytes.as_slice().len();
+            write!(told, " {block}.{start}+{len}")?;
+            tell_numbers(told, after.as_slice())?;
+            tell_few(told, bytes.as_slice())
+        }
+        Step::Merge { a, b } => {
+            write!(told, " merge {a} {b}")?;
+            Ok(())
+        }
+        Step::Send { .. } | Step::Complete { .. } => {
+            told.push_str(" write")?;
+            Ok(())
+        }
+    }
+}
+
+fn tell_steps(told: &mut String, steps: &[Step]) -> Result<(), Fail> {
+    told.push_str("trace")?;
+    for step in steps {
+        tell_step(told, step)?;
+    }
+    Ok(())
+}
+
+fn tell_trace(told: &mut String, bench: &mut Bench) -> Result<(), Fail> {
+    let steps = bench.cache.drain_trace()?;
+    tell_steps(told, steps.as_slice())
+}
+
+// How often each value stands there in a row.
+fn tell_runs(told: &mut String, bytes: &[u8]) -> Result<(), Fail> {
+    told.push_str("read")?;
+    let mut from = 0;
+    for at in 0..bytes.len() {
+        if at + 1 == bytes.len() || bytes[at + 1] != bytes[at] {
+            let byte = bytes[at];
+            let count = (at + 1).saturating_sub(from);
+            write!(told, " {byte}x{count}")?;
+            from = at + 1;
+        }
+    }
+    Ok(())
+}
+
+fn tell_read(told: &mut String, bench: &Bench, place: Place) -> Result<(), Fail> {
+    match bench.extents.read(&bench.cache, place) {
+        Ok(bytes) => tell_runs(told, bytes.as_slice()),
+        Err(refusal) => {
+            write!(told, "read refused {refusal}")?;
+            Ok(())
+        }
+    }
+}
+
+fn append_some(
+    bench: &mut Bench,
+    writer: Option<WriterNo>,
+    extent: u32,
+    bytes: &[u8],
+    after: &[PatchNo],
+) -> Result<Appended, AppendRefusal> {
+    if bytes.is_empty() {
+        return Err(AppendRefusal::OutOfMemory);
+    }
+    let Bench {
+        cache,
+        groups,
+        extents,
+        ..
+    } = bench;
+    extents.append(cache, groups, writer, extent, bytes, after)
+}
+
+fn tell_append(
+    told: &mut String,
+    bench: &mut Bench,
+    writer: Option<WriterNo>,
+    extent: u32,
+    len: usize,
+    after: &[PatchNo],
+) -> Result<(), Fail> {
+    bench.appends = bench.appends.saturating_add(1);
+    let bytes = vec![in bench.alloc; bench.appends; len]?;
+    match append_some(bench, writer, extent, bytes.as_slice(), after) {
+        Ok(
+            Appended {
+                place: Place {
+                    extent,
+                    generation,
+                    offset,
+                    len,
+                },
+                pointer_patch,
+            },
+        ) => write!(
+            told,
+            "append extent {extent} generation {generation} offset {offset} len {len} by {pointer_patch}"
+        )?,
+        Err(refusal) => write!(told, "append refused {refusal}")?,
+    }
+    Ok(())
+}
+
+fn tell_reset(told: &mut String, bench: &mut Bench, extent: u32) -> Result<(), Fail> {
+    let Bench { cache, extents, .. } = bench;
+    match extents.reset(cache, extent, &[]) {
+        Ok(no) => write!(told, "reset {no}")?,
+        Err(refusal) => write!(told, "reset refused {refusal}")?,
+    }
+    Ok(())
+}
+
+fn group_some(groups: &mut Groups, step: Move) -> Result<(), Fail> {
+    match step {
+        Engage { writer, group } => groups.engage(writer_of(writer), GroupNo(group))?,
+        Leave { writer, group } => groups.disengage(writer_of(writer), GroupNo(group))?,
+        Order { group, on } => groups.depend(GroupNo(group), GroupNo(on))?,
+        _ => {
+            groups.create()?;
+        }
+    }
+    Ok(())
+}
+
+fn tell_group(told: &mut String, bench: &mut Bench, step: Move) -> Result<(), Fail> {
+    group_some(&mut bench.groups, step)?;
+    told.push_str("ok")?;
+    Ok(())
+}
+
+// One of two writers.
+fn writer_of(writer: u8) -> WriterNo {
+    WriterNo(if writer == 0 { 0 } else { 1 })
+}
+
+fn tell_move(told: &mut String, bench: &mut Bench, step: Move) -> Result<(), Fail> {
+    match step {
+        Append { extent, len } => tell_append(told, bench, None, extent, len, &[])?,
+        By {
+            writer,
+            extent,
+            len,
+        } => tell_append(told, bench, Some(writer_of(writer)), extent, len, &[])?,
+        Behind { extent, after } => tell_append(told, bench, None, extent, 1, &[PatchNo(after)])?,
+        Reset { extent } => tell_reset(told, bench, extent)?,
+        Read {
+            extent,
+            generation,
+            offset,
+            len,
+        } => tell_read(
+            told,
+            bench,
+            Place {
+                extent,
+                generation,
+                offset,
+                len,
+            },
+        )?,
+        Group | Engage { .. } | Leave { .. } | Order { .. } => tell_group(told, bench, step)?,
+        Trace => tell_trace(told, bench)?,
+    }
+    told.push('\n')?;
+    Ok(())
+}
+
+fn tell_each(told: &mut String, bench: &mut Bench, moves: &[Move]) -> Result<(), Fail> {
+    for step in moves {
+        tell_move(told, bench, *step)?;
+    }
+    Ok(())
+}
+
+fn open_bench(
+    rt: &impl Abort,
+    alloc: Global,
+    geometry: Geometry,
+    records: &[u8],
+) -> Result<Bench, Fail> {
+    assert!(rt; geometry.is_valid());
+    let cache = open_cache(rt, alloc, geometry.block_count() as usize, records)?;
+    assert!(rt; cache.blocks() == geometry.block_count());
+    let extents = Extents::open(alloc, &cache, geometry)?;
+    Ok(Bench {
+        alloc,
+        cache,
+        groups: Groups::new(alloc),
+        extents,
+        appends: 0,
+    })
+}
+
+// Walks through the moves on a disk of this format with these pointer records, and what is told is this.
+fn walk(
+    rt: &impl Abort,
+    alloc: Global,
+    format: Format,
+    records: &[u8],
+    moves: &[Move],
+    want: &str,
+) -> Result<(), Fail> {
+    let mut bench = open_bench(rt, alloc, geometry_of(format), records)?;
+    let mut told = String::new(alloc);
+    tell_each(&mut told, &mut bench, moves)?;
+    expect_equal(rt, "told", told.as_str(), want);
+    Ok(())
+}
+
+#[test]
+fn appends_and_resets_are_as_worked(rt: HostRuntime) -> Result<(), Fail> {
+    walk(&rt, rt.alloc(), Format::One, &[], &WORKED, WORKED_TOLD)
+}
+
+#[test]
+fn long_extents_are_filled(rt: HostRuntime) -> Result<(), Fail> {
+    let format = Format::Two { length: 64 };
+    walk(&rt, rt.alloc(), format, &[], &LONG, LONG_TOLD)
+}
+
+#[test]
+fn groups_order_appends(rt: HostRuntime) -> Result<(), Fail> {
+    walk(&rt, rt.alloc(), Format::One, &[], &GROUPED, GROUPED_TOLD)
+}
+
+#[test]
+fn the_last_generation_stays(rt: HostRuntime) -> Result<(), Fail> {
+    let records = [0xff, 0xff, 0xff, 0xff, 0, 0, 0, 7];
+    walk(&rt, rt.alloc(), Format::One, &records, &SPENT, SPENT_TOLD)
+}
+
+fn fault_of(
+    rt: &impl Abort,
+    alloc: Global,
+    format: Format,
+    records: &[u8],
+) -> Result<Option<ExtentsFault>, OutOfMemory> {
+    let geometry = geometry_of(format);
+    assert!(rt; geometry.is_valid());
+    let cache = open_cache(rt, alloc, geometry.block_count() as usize, records)?;
+    assert!(rt; cache.blocks() == geometry.block_count());
+    match Extents::open(alloc, &cache, geometry) {
+        Ok(_) => Ok(None),
+        Err(fault) => Ok(Some(fault)),
+    }
+}
+
+// A pointer past its extent, and a byte behind the records, are refused; the largest pointer of each version isn't.
+#[test]
+fn bad_pointers_are_refused(rt: HostRuntime) -> Result<(), Fail> {
+    let one = Format::One;
+    let long = Format::Two { length: 64 };
+    let full = [0, 0, 0, 0, 0, 1, 0, 0];
+    let past = [0, 0, 0, 0, 0, 1, 0, 1];
+    let longest = [0, 0, 0, 0, 0, 4, 0, 0];
+    let mut behind = [0; 17];
+    behind[16] = 1;
+    let bad = Some(ExtentsFault::BadPointer);
+    expect_equal(&rt, "full", fault_of(&rt, rt.alloc(), one, &full)?, None);
+    expect_equal(&rt, "past", fault_of(&rt, rt.alloc(), one, &past)?, bad);
+    expect_equal(&rt, "behind", fault_of(&rt, rt.alloc(), one, &behind)?, bad);
+    expect_equal(&rt, "long", fault_of(&rt, rt.alloc(), long, &past)?, None);
+    expect_equal(
+        &rt,
+        "longest",
+        fault_of(&rt, rt.alloc(), long, &longest)?,
+        None,
+    );
+    Ok(())
+}
+
+#[test]
+fn pointers_are_told(rt: HostRuntime) -> Result<(), Fail> {
+    let geometry = Geometry {
+        index: 1,
+        extents: 2,
+        format: Format::One,
+    };
+    let mut cache = open_cache(&rt, rt.alloc(), 35, &[])?;
+    assert!(rt; cache.blocks() == 35);
+    let mut groups = Groups::new(rt.alloc());
+    let mut extents = Extents::open(rt.alloc(), &cache, geometry)?;
+    extents.append(&mut cache, &mut groups, None, 1, b"bytes", &[])?;
+    expect_equal(&rt, "appended", extents.pointer(1), (0, 5));
+    extents.reset(&mut cache, 1, &[])?;
+    expect_equal(&rt, "reset", extents.pointer(1), (1, 0));
+    expect_equal(&rt, "other", extents.pointer(0), (0, 0));
+    Ok(())
+}
