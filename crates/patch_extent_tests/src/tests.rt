@@ -6,6 +6,7 @@ use patch_extent::{
 use patch_frame::{Format, Geometry};
 use patch_group::Groups;
 use patch_model::{BLOCK, BlockBytes, GroupNo, MAX_BLOCKS, OutOfMemory, PatchNo, Step, WriterNo};
+use patch_testing::zeros;
 use std::alloc::{Allocator, Global};
 use std::fmt::Debug;
 use std::process::Abort;
@@ -20,31 +21,18 @@ fn expect_equal<T: Copy + Debug + PartialEq>(rt: &impl Abort, what: &str, got: T
     assert_eq!(rt; got, want, "{what}");
 }
 
-fn push_zeros<A: Allocator + Copy>(
-    alloc: A,
-    blocks: &mut Vec<BlockBytes<A>, A>,
-    count: usize,
-) -> Result<(), OutOfMemory> {
-    for _ in 0..count {
-        blocks.push(BlockBytes::zeros(alloc)?)?;
-    }
-    Ok(())
-}
-
 // So many blocks of zeros, the third of which begins with these bytes.
 fn blocks_with<A: Allocator + Copy>(
     alloc: A,
     count: usize,
     records: &[u8],
 ) -> Result<Vec<BlockBytes<A>, A>, OutOfMemory> {
-    let mut blocks = Vec::new(alloc);
-    push_zeros(alloc, &mut blocks, 2)?;
-    let mut third = BlockBytes::zeros(alloc)?;
-    if records.len() <= BLOCK {
-        third.write(0, records);
+    let mut blocks = zeros(alloc, count)?;
+    if let Some(third) = blocks.get_mut(2) {
+        if records.len() <= BLOCK {
+            third.write(0, records);
+        }
     }
-    blocks.push(third)?;
-    push_zeros(alloc, &mut blocks, count.saturating_sub(3))?;
     Ok(blocks)
 }
 

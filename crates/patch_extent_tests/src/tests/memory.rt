@@ -2,6 +2,7 @@
 use super::*;
 use linked_list_allocator::LocalHeap;
 use patch_model::{RefusalKind, Refuses};
+use patch_testing::{fill, hole_of};
 
 // How many bytes the heap has: a cache of 35 blocks, and more.
 const HEAP: usize = 262_144;
@@ -24,53 +25,6 @@ struct Bench<'a> {
     cache: Cache<&'a LocalHeap>,
     groups: Groups<&'a LocalHeap>,
     extents: Extents<&'a LocalHeap>,
-}
-
-// Pieces of a heap.
-type Ballast<'a> = Vec<Vec<u8, &'a LocalHeap>>;
-
-// Takes up to 64 pieces of this size.
-fn take_pieces<'a>(
-    heap: &'a LocalHeap,
-    ballast: &mut Ballast<'a>,
-    size: usize,
-) -> Result<(), OutOfMemory> {
-    for _ in 0..64 {
-        let Ok(piece) = Vec::with_capacity(heap, size) else {
-            break;
-        };
-        ballast.push(piece)?;
-    }
-    Ok(())
-}
-
-fn take_all<'a>(heap: &'a LocalHeap, ballast: &mut Ballast<'a>) -> Result<(), OutOfMemory> {
-    for size in [16384usize, 4096, 1024, 256, 64, 16] {
-        take_pieces(heap, ballast, size)?;
-    }
-    Ok(())
-}
-
-// All of a heap's memory.
-fn all_of<'a>(alloc: Global, heap: &'a LocalHeap) -> Result<Ballast<'a>, OutOfMemory> {
-    let mut ballast = Vec::new(alloc);
-    take_all(heap, &mut ballast)?;
-    Ok(ballast)
-}
-
-// Takes all of a heap's memory but one hole of this size.
-fn fill<'a>(alloc: Global, heap: &'a LocalHeap, hole: usize) -> Result<Ballast<'a>, OutOfMemory> {
-    let kept: Vec<u8, &'a LocalHeap> = Vec::with_capacity(heap, hole)?;
-    let ballast = all_of(alloc, heap);
-    drop(kept);
-    ballast
-}
-
-// A hole larger than that of the size before it.
-fn hole_of(size: usize) -> usize {
-    let small = size.min(64);
-    let large = size.saturating_sub(small).min(1000);
-    small * 16 + large * 64
 }
 
 // So many bytes at the start of the first extent, before it is reset.
