@@ -1,5 +1,5 @@
 //! Laws of the formats. Each is the contract of a function that does nothing: who calls it may rest on the law.
-ghost use Rattle.std.specs.Prelude.{◌≡◌, ◌<◌, ◌≤◌, ◌^◌, ◌+◌, ◌++◌, ℕ, List, [], Option, Ok, length};
+ghost use Rattle.std.specs.Prelude.{◌≡◌, ◌<◌, ◌≤◌, ◌^◌, ◌+◌, ◌++◌, ℕ, List, [], Option, Ok, length, All};
 ghost use Rattle.patch_model.specs.declared.blocks.TheConstants.{BLOCK};
 ghost use Rattle.patch_frame.specs.declared.geometries.Format.{Format as FormatFields};
 ghost use Rattle.patch_frame.specs.declared.geometries.Format.TheVariants.{Two};
@@ -61,6 +61,12 @@ pub fn slots_are_read_again()
 pub fn pointers_are_read_again()
     ensures { (largest : ℕ) (p : PointerFields) → largest < 2 ^ 32 → pointer.Fits largest p
         → pointer.pointer_at largest (pointer.spelling p) ≡ Ok p }
+{}
+
+/// A record of bytes that is read is spelled by what it is read as, and that fits.
+pub fn read_pointers_are_spelled()
+    ensures { (largest : ℕ) (bytes : List ℕ) (p : PointerFields) → All (λ byte. byte < 256) bytes → length bytes ≡ 8
+        → pointer.pointer_at largest bytes ≡ Ok p → pointer.Fits largest p × (bytes ≡ pointer.spelling p) }
 {}
 
 /// What is spelled is read, so different divisions of a disk have different superblocks.
