@@ -13,7 +13,8 @@ use Rattle.patch_recovery.specs.Ledger.{Ledger, after, after_all, after_those}
 use Rattle.patch_recovery.specs.Right.{IsRight}
 use Rattle.patch_recovery.specs.Orders.{is_widen}
 use Rattle.patch_recovery.proofs.Agreeing.{AllKept, AreRight, geometries_agree}
-use Rattle.patch_recovery.proofs.Widening.{limits_of, shape_all, first_one}
+use Rattle.patch_recovery.specs.Wider.{limits_of}
+use Rattle.patch_recovery.proofs.Widening.{shape_all, first_one}
 use Rattle.patch_recovery.proofs.Sound.{AreHeld, IsHeld, fewer}
 use Rattle.patch_recovery.proofs.Blocks.{laid, length-laid}
 use Rattle.patch_recovery.proofs.Showing.{Formats, Shows, shows_data, shows_point, shows_slot}

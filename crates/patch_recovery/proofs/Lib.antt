@@ -15,3 +15,4 @@ pub mod Putting
 pub mod Closing
 pub mod Staying
 pub mod EachCommand
+pub mod Lasting

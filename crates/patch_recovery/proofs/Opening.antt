@@ -26,7 +26,8 @@ use Rattle.patch_recovery.specs.Reading.{Fault, FileSize, BadPointer, BadSlot, B
 use Rattle.patch_recovery.specs.Reading.{record_at, slot_bytes, read_as, ledger_in, bad_pointers, has_key, used_tests}
 use Rattle.patch_recovery.specs.Reading.{slot_tests, disk_tests, read_under, reading}
 use Rattle.patch_recovery.specs.Right.{IsNamed, IsSound}
-use Rattle.patch_recovery.proofs.Widening.{limits_of, named_along}
+use Rattle.patch_recovery.specs.Wider.{limits_of}
+use Rattle.patch_recovery.proofs.Widening.{named_along}
 use Rattle.patch_recovery.proofs.Showing.{Shows}
 use Rattle.patch_recovery.proofs.Upgrading.{super_parts}
 

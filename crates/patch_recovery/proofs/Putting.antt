@@ -13,7 +13,6 @@ use Rattle.std.proofs.lemmas.List.FromFn.{get_or-map-range_with_len, length-rang
 use Rattle.patch_model.specs.Entry.{is_among}
 use Rattle.patch_frame.specs.declared.geometries.Format.{Format}
 use Rattle.patch_frame.specs.declared.geometries.Format.TheVariants.{One, Two}
-use Rattle.patch_frame.specs.declared.geometries.Geometry.{Geometry}
 use Rattle.patch_frame.specs.Geometry.{IsGeometry, IsFormat, slot_count, largest_pointer, longest_frame, value_limit}
 use Rattle.patch_frame.specs.Frame.{Content, Fits, frame_at, spelling, length_of}
 use Rattle.patch_recovery.specs.Change.{Change, Data, Point, Fill, Made}
@@ -24,7 +23,8 @@ use Rattle.patch_recovery.specs.Said.{value_read, last_said}
 use Rattle.patch_recovery.specs.Putting.{pieces_within, made_in_order, Put, fields_put, bytes_put, pointer_put}
 use Rattle.patch_recovery.specs.Putting.{IsRightPut, IsPutWell}
 use Rattle.patch_recovery.proofs.Held.{right_of}
-use Rattle.patch_recovery.proofs.Widening.{Wider, limits_of, shape_all}
+use Rattle.patch_recovery.specs.Wider.{limits_of, format_kept}
+use Rattle.patch_recovery.proofs.Widening.{shape_all}
 use Rattle.patch_recovery.proofs.Naming.{names_suffice}
 
 -- what frames are read from and how long they are
@@ -241,11 +241,6 @@ said_before names first e (suc most) offset (byte ∷ bytes) ms key =
 pub limit_small : (f : Format) → IsFormat f → value_limit f < 2 ^ 32
 limit_small One is = omega arith
 limit_small (Two x) is = let high = is.1 in omega arith
-
--- an upgrade leaves a format that there may be
-pub format_kept : (g h : Geometry) → IsFormat g.format → Wider g h → IsFormat h.format
-format_kept g h is (inl e) = rw e is
-format_kept g h is (inr w) = rw (w.1) (omega arith, omega arith)
 
 -- so the changes of a put are well made
 pub put_well : Frames → (first : Ledger) (earlier : List Made) (put : Put) → IsGeometry first.geometry

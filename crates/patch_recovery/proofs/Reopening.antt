@@ -20,7 +20,8 @@ use Rattle.patch_recovery.specs.Ledger.{Ledger, bytes_at, frame_named, entry_rea
 use Rattle.patch_recovery.specs.Reading.{Fault, block_on, record_at, read_as, ledger_in, has_key, used_tests}
 use Rattle.patch_recovery.specs.Reading.{slot_tests, disk_tests, read_under, reading, map_read}
 use Rattle.patch_recovery.specs.Right.{IsSound}
-use Rattle.patch_recovery.proofs.Widening.{Wider, Limits, limits_of, bytes_same}
+use Rattle.patch_recovery.specs.Wider.{Wider, Limits, limits_of}
+use Rattle.patch_recovery.proofs.Widening.{bytes_same}
 use Rattle.patch_recovery.proofs.Showing.{Shows}
 use Rattle.patch_recovery.proofs.Opening.{outcome_from, from_range, none_from, flat_map-same, from_flat_map, names_from}
 use Rattle.patch_recovery.proofs.Opening.{pointer_back, sound_alike}

@@ -18,7 +18,8 @@ use Rattle.patch_frame.specs.declared.pointers.Pointer.{Pointer}
 use Rattle.patch_recovery.proofs.Agreeing.{AllKept, AllKept-fewer, AreRight, on_slot, pointers_agree, bytes_agree}
 use Rattle.patch_recovery.proofs.Agreeing.{byte-other, geometries_agree, slots_agree, entries_agree, keys_agree}
 use Rattle.patch_recovery.proofs.Agreeing.{pointers_behind}
-use Rattle.patch_recovery.proofs.Widening.{Wider, Limits, limits_of, shape_all, shape_those, first_one, named_along}
+use Rattle.patch_recovery.specs.Wider.{Wider, Limits, limits_of}
+use Rattle.patch_recovery.proofs.Widening.{shape_all, shape_those, first_one, named_along}
 use Rattle.patch_recovery.proofs.Widening.{bytes_same}
 
 -- of one record

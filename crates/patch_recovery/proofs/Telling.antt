@@ -18,18 +18,13 @@ use Rattle.patch_recovery.specs.Reading.{has_key}
 use Rattle.patch_recovery.specs.Right.{IsRight, IsRightFill, IsRightClear, IsSound}
 use Rattle.patch_recovery.specs.Orders.{is_reset, is_clear, is_widen}
 use Rattle.patch_recovery.specs.Said.{speaks_of, value_read, said, last_said}
+use Rattle.patch_recovery.specs.Lasting.{HasSlot, Tells}
 use Rattle.patch_recovery.proofs.Agreeing.{AllKept, AreRight, on_slot, bytes_agree, byte-other, geometries_agree}
 use Rattle.patch_recovery.proofs.Agreeing.{slots_agree, keys_agree, pointers_behind}
-use Rattle.patch_recovery.proofs.Widening.{limits_of, shape_those, first_one, frame_within, bytes_same, Wider}
+use Rattle.patch_recovery.specs.Wider.{limits_of, Wider}
+use Rattle.patch_recovery.proofs.Widening.{shape_those, first_one, frame_within, bytes_same}
 use Rattle.patch_recovery.proofs.Sound.{IsHeld, AreHeld, sound_those, fewer, not_covered, filled, some_alike}
 use Rattle.patch_recovery.proofs.Sound.{byte_of_frame}
-
--- a slot has the key
-pub record HasSlot (l : Ledger) (key : List ℕ) : Type 0 where
-  pub slot : ℕ
-  pub fields : SlotFields
-  pub used : l.slot slot ≡ Some fields
-  pub same : fields.key ≡ key
 
 -- a frame that is read
 abbrev ok : Content → Result Content FrameFault
@@ -132,12 +127,6 @@ module _ (l : Ledger) (sound : IsSound l) where
   ]
 
 -- ---- what is told
-
--- each key of a slot is told the slot's value, and no other key is told one
-pub record Tells (l : Ledger) (told : List ℕ → Option (List ℕ)) : Type 0 where
-  pub has : (slot : ℕ) (f : SlotFields) (c : Content) → l.slot slot ≡ Some f → frame_named l f ≡ Ok c
-      → told f.key ≡ Some c.value
-  pub only : (key v : List ℕ) → told key ≡ Some v → HasSlot l key
 
 tells_first : (l : Ledger) → IsSound l → Tells l (value_in (map_of l))
 tells_first l sound = record {

@@ -1,5 +1,5 @@
 -- An upgrade widens the limits and moves nothing.
-use Rattle.std.proofs.Common.{◌≡◌, ℕ, zero, suc, ◌+◌, ◌<◌, ◌≤◌, ◌⊎◌, ◌∙◌, inl, inr, Bool, false, List, [], ◌∷◌, ◌++◌}
+use Rattle.std.proofs.Common.{◌≡◌, ℕ, zero, suc, ◌+◌, ◌<◌, ◌≤◌, ◌∙◌, inl, inr, Bool, false, List, [], ◌∷◌, ◌++◌}
 use Rattle.std.proofs.Common.{length, take, drop, Ok, Err, refl, sym, ap, arith}
 use Rattle.std.specs.Prelude.{nat_lt}
 use Rattle.std.proofs.lemmas.Bool.{cases_Bool}
@@ -8,48 +8,14 @@ use Rattle.patch_frame.specs.declared.faults.FrameFault.TheVariants.{BadValue}
 use Rattle.patch_frame.specs.declared.geometries.Format.TheVariants.{One}
 use Rattle.patch_frame.specs.declared.geometries.Geometry.{Geometry}
 use Rattle.patch_frame.specs.Field.{outcome}
-use Rattle.patch_frame.specs.Geometry.{value_limit, longest_frame, largest_pointer, slot_count, block_count}
+use Rattle.patch_frame.specs.Geometry.{value_limit}
 use Rattle.patch_frame.specs.Slot.{SlotFields}
 use Rattle.patch_frame.specs.Frame.{Content, frame_at, frame_tests, content_of, value_length}
 use Rattle.patch_recovery.specs.Change.{Change, Data, Point, Fill, Clear, Widen, Made, widened}
 use Rattle.patch_recovery.specs.Ledger.{Ledger, after, after_all, after_those, bytes_at}
 use Rattle.patch_recovery.specs.Right.{IsRight, IsNamed}
+use Rattle.patch_recovery.specs.Wider.{Wider, Limits}
 use Rattle.patch_recovery.proofs.Agreeing.{AreRight}
-
--- the one geometry, or the one that an upgrade makes of it
-abbrev pub Wider : Geometry → Geometry → Type 0
-Wider g h = (h ≡ g) ⊎ ((g.format ≡ One) × (h ≡ widened g))
-
--- what an upgrade may change of the limits
-pub record Limits (g h : Geometry) : Type 0 where
-  pub index : h.index ≡ g.index
-  pub extents : h.extents ≡ g.extents
-  pub slots : slot_count h ≡ slot_count g
-  pub blocks : block_count h ≡ block_count g
-  pub pointer : largest_pointer h.format ≡ largest_pointer g.format
-  pub value : value_limit g.format ≤ value_limit h.format
-  pub frame : longest_frame g.format ≤ longest_frame h.format
-
--- each geometry that an upgrade leaves keeps these
-pub limits_of : (g h : Geometry) → Wider g h → Limits g h
-limits_of g h (inl e) = rw e (record {
-  index = refl;
-  extents = refl;
-  slots = refl;
-  blocks = refl;
-  pointer = refl;
-  value = omega arith;
-  frame = omega arith;
-})
-limits_of g h (inr w) = rw (w.1) (record {
-  index = refl;
-  extents = refl;
-  slots = refl;
-  blocks = rw (w.0) refl;
-  pointer = rw (w.0) refl;
-  value = rw (w.0) (omega arith);
-  frame = rw (w.0) (omega arith);
-})
 
 two_isnt_one : (g : Geometry) → (widened g).format ≡ One → ⊥
 two_isnt_one g h = cc

@@ -5,8 +5,10 @@ pub mod Right
 pub mod Orders
 pub mod Naming
 pub mod Store
+pub mod Wider
 pub mod Said
 pub mod Closed
+pub mod Lasting
 pub mod Putting
 pub mod Rows
 pub mod Runs

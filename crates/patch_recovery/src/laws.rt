@@ -4,6 +4,7 @@ ghost use Rattle.patch_recovery.specs.Store.{StoresBegin, StoresGrow, OtherSteps
 ghost use Rattle.patch_recovery.specs.Closed.{ClosedDisksOpen, ClosedDisksHaveWords, CrashDisksOpen};
 ghost use Rattle.patch_recovery.specs.Closed.{CrashDisksHaveWords, CachedBlocksOpen};
 ghost use Rattle.patch_recovery.specs.Putting.{PutsAreWellMade, PutsAgainAreMoves};
+ghost use Rattle.patch_recovery.specs.Lasting.{LedgersLast, ReadBlocksAreSound};
 
 // What every closed set leaves.
 
@@ -64,4 +65,15 @@ pub fn puts_are_well_made()
 /// The frames that slots name stay as they are.
 pub fn frames_stay()
     ensures { FramesStay }
+{}
+
+/// Changes that were each well made leave of a sound ledger a sound one, and its map has what they say. An upgrade among
+/// them moves nothing.
+pub fn ledgers_last()
+    ensures { LedgersLast }
+{}
+
+/// Blocks that are read are divided as a disk may be, and what they say is sound.
+pub fn read_blocks_are_sound()
+    ensures { ReadBlocksAreSound }
 {}
