@@ -1,0 +1,81 @@
+-- A legal history is that of a store.
+use Rattle.std.proofs.Common.{◌≡◌, ℕ, ◌+◌, ◌<◌, ◌^◌, List, [], ◌∷◌, length, refl, arith, subst}
+use Rattle.std.specs.Prelude.{fold, drop, All, ◌-◌}
+use Rattle.std.specs.List.{range_with_len}
+use Rattle.std.proofs.lemmas.List.{length-take, length-drop}
+use Rattle.std.proofs.lemmas.List.Elements.{All-take, All-drop}
+use Rattle.patch_model.specs.declared.blocks.TheConstants.{BLOCK}
+use Rattle.patch_frame.specs.Geometry.{largest_pointer, pointer_block, pointer_start}
+use Rattle.patch_recovery.specs.Reading.{block_on, record_at}
+use Rattle.patch_recovery.specs.Store.{IsOfStore}
+use Rattle.patch_recovery.specs.Lasting.{IsReadAs}
+use Rattle.patch_history.specs.History.{History, Event, AreRight, IsLegalHistory, after_event, standing_of}
+use Rattle.patch_history.specs.Shelf.{may_be_current}
+use Rattle.patch_history.specs.Standing.{Standing, at_opening}
+use Rattle.patch_history.specs.Laws.{HistoriesAreOfStores, MapsAreSaid}
+use Rattle.patch_history.specs.Given.{Given}
+use Rattle.patch_history.proofs.Members.{from_range}
+use Rattle.patch_history.proofs.Calls.{event_stood}
+use Rattle.patch_history.proofs.Events.{Stood}
+use Rattle.patch_history.proofs.Extending.{standings_run}
+use Rattle.patch_history.proofs.Keeping.{holds-opened}
+use Rattle.patch_history.proofs.Places.{find_in}
+
+module _ (given : Given) where
+  pub opened_by : (h : History) → IsLegalHistory h → IsReadAs h.opening h.first
+  opened_by h l = given.read h.opening h.first l.legal.blocks l.reads
+
+  -- each pointer record at first has a generation of 32 bits
+  first_few : (h : History) → IsLegalHistory h → (e : ℕ) → e < h.first.geometry.extents
+      → (h.first.pointer e).generation < 2 ^ 32
+  first_few h l e less =
+      let start = opened_by h l in
+      let count = start.count in
+      let few = start.valid.few_extents in
+      let at = pointer_block h.first.geometry in
+      let inside : pointer_block h.first.geometry < length h.opening = omega arith in
+      let block = block_on h.opening (pointer_block h.first.geometry) in
+      let long : length (block_on h.opening (pointer_block h.first.geometry)) ≡ BLOCK = l.legal.blocks at [] inside in
+      let dropped = length-drop (pointer_start e) (block_on h.opening (pointer_block h.first.geometry)) in
+      let cut = length-take (pointer_start e + 8 - pointer_start e)
+      (drop (pointer_start e) (block_on h.opening (pointer_block h.first.geometry))) in
+      let eight : length (record_at h.first.geometry h.opening e) ≡ 8 = omega arith in
+      let bytes : All (λ byte. byte < 256) (record_at h.first.geometry h.opening e) =
+      All-take (λ byte. byte < 256) (pointer_start e + 8 - pointer_start e) _
+      (All-drop (λ byte. byte < 256) (pointer_start e) block (l.bytes at [] inside)) in
+      (given.pointers.spelled (largest_pointer h.first.geometry.format) (record_at h.first.geometry h.opening e)
+      (h.first.pointer e) bytes eight (start.points e less)).0.generation
+
+  stood_first : (h : History) → IsLegalHistory h → Stood h.first (at_opening h.opening h.first)
+  stood_first h l = record {
+    store = record { blocks = l.legal.blocks; read = l.reads; patches = refl; well_made = tt };
+    good = record {
+      holds = holds-opened h.first;
+      well = tt;
+      current = λ e at.
+          let found = find_in (may_be_current h.first) (range_with_len 0 h.first.geometry.extents) e at in
+          let within = (from_range 0 h.first.geometry.extents e found).1 in
+          omega arith;
+      few = first_few h l;
+    };
+    format = refl;
+    said = λ key. refl;
+  }
+
+  stood_on : (h : History) → IsLegalHistory h → (events : List Event) (st : Standing) → Stood h.first st
+      → AreRight st events → Stood h.first (fold after_event st events)
+  stood_on h l [] st stood right = stood
+  stood_on h l (event ∷ events) st stood right =
+      let start = opened_by h l in
+      stood_on h l events (after_event st event)
+      (event_stood given h.first start.sound start.valid st event stood right.0) right.1
+
+  pub stood_all : (h : History) → IsLegalHistory h → Stood h.first (standing_of h)
+  stood_all h l = stood_on h l h.events (at_opening h.opening h.first) (stood_first h l) l.right
+
+  pub histories_are_of_stores : HistoriesAreOfStores
+  histories_are_of_stores h l =
+      subst (λ run. IsOfStore run h.first (standing_of h).made) (standings_run h) (stood_all h l).store
+
+  pub maps_are_said : MapsAreSaid
+  maps_are_said h key l = (stood_all h l).said key

@@ -1,0 +1,11 @@
+use Rattle.std.proofs.Common.{refl}
+use Rattle.patch_frame.specs.Field.{zeros}
+use Rattle.patch_history.proofs.rows.index_full.Goals as goal
+
+pub returns-clause-replies : goal.returns-clause-replies
+unfolding zeros
+returns-clause-replies c = refl
+
+pub returns-clause-extents : goal.returns-clause-extents
+unfolding zeros
+returns-clause-extents c = refl

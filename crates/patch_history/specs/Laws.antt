@@ -1,0 +1,42 @@
+-- Laws of histories.
+use Rattle.std.specs.Prelude.{ℕ, true, ◌≡◌, List}
+use Rattle.patch_model.specs.Legal.{IsLegal}
+use Rattle.patch_recovery.specs.Ledger.{value_in}
+use Rattle.patch_recovery.specs.Said.{last_said}
+use Rattle.patch_recovery.specs.Store.{IsOfStore}
+use Rattle.patch_recovery.specs.Closed.{Opens, cached_blocks}
+use Rattle.patch_extent.specs.Meaning as extents
+use Rattle.patch_history.specs.History.{History, Event, IsLegalHistory, IsRight, execution_of, standing_of, ledger_of}
+use Rattle.patch_history.specs.History.{with_event}
+
+-- one event more is judged by the history so far
+abbrev pub HistoriesExtend : Type 0
+HistoriesExtend =
+    (h : History) (event : Event) → IsLegalHistory h → IsRight (standing_of h) event
+    → IsLegal (execution_of (with_event h event)) → IsLegalHistory (with_event h event)
+
+-- what a history's calls have made of the execution is its steps
+abbrev pub StandingsRun : Type 0
+StandingsRun = (h : History) → (standing_of h).run ≡ execution_of h
+
+-- The patches of a legal history are its changes, spelled; each was right where it was made, and comes after what it
+-- has to.
+abbrev pub HistoriesAreOfStores : Type 0
+HistoriesAreOfStores = (h : History) → IsLegalHistory h → IsOfStore (execution_of h) h.first (standing_of h).made
+
+-- the map of the commands that were done has for each key what the changes say of it
+abbrev pub MapsAreSaid : Type 0
+MapsAreSaid =
+    (h : History) (key : List ℕ) → IsLegalHistory h
+    → value_in (standing_of h).map.entries key ≡ last_said (λ number. true) h.first (standing_of h).made key
+
+-- so the cached blocks are read as that map
+abbrev pub HistoriesAreRead : Type 0
+HistoriesAreRead =
+    (h : History) → IsLegalHistory h
+    → Opens (cached_blocks (execution_of h)) (ledger_of h) (value_in (standing_of h).map.entries)
+
+-- the extents that are kept represent the execution
+abbrev pub ExtentsAreKept : Type 0
+ExtentsAreKept =
+    (h : History) → IsLegalHistory h → extents.Represents (standing_of h).shelf.extents (execution_of h)

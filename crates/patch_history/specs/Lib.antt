@@ -1,0 +1,15 @@
+pub mod Command
+pub mod Map
+pub mod Shelf
+pub mod Choosing
+pub mod Planning
+pub mod Standing
+pub mod Refusing
+pub mod History
+pub mod Kept
+pub mod Steps
+pub mod Given
+pub mod Laws
+pub mod Rows
+pub mod Refusals
+pub mod Commands

@@ -1,0 +1,94 @@
+//! Laws of histories.
+ghost use Rattle.patch_history.specs.Kept.{ShelvesAreKept, NewestAreKept, KeptAreNamed};
+ghost use Rattle.patch_history.specs.Steps.{FramesCompose, AppendsAreCuts, BegunAppendsAreCuts, CutsAreFirst, PlansAreOfStores, UpgradesSpellAlike};
+ghost use Rattle.patch_history.specs.Given.{Given};
+ghost use Rattle.patch_history.specs.Laws.{HistoriesExtend, StandingsRun, HistoriesAreOfStores, MapsAreSaid, HistoriesAreRead, ExtentsAreKept};
+
+/// One event more is judged by the history so far.
+pub fn histories_extend()
+    ensures { HistoriesExtend }
+{}
+
+/// What a history's calls have made of the execution is its steps.
+pub fn standings_run()
+    ensures { StandingsRun }
+{}
+
+/// What is kept beside the cache is what the changes of a history say.
+pub fn shelves_are_kept()
+    ensures { ShelvesAreKept }
+{}
+
+/// The patches that are kept to be named are the newest of their kinds.
+pub fn newest_are_kept()
+    ensures { NewestAreKept }
+{}
+
+/// What a shelf keeps is all that the next patches have to name.
+pub fn kept_are_named()
+    ensures { KeptAreNamed }
+{}
+
+/// The steps of an append, and of the slot's patch behind it, are those of a frame; where memory runs out between, some
+/// first ones of them.
+pub fn frames_compose()
+    ensures whole { FramesCompose }
+    ensures appended { AppendsAreCuts }
+    ensures begun { BegunAppendsAreCuts }
+{
+    patch_extent::laws::plans_join();
+}
+
+/// Some first steps of a plan are the steps of its first patches.
+pub fn cuts_are_first()
+    ensures { CutsAreFirst }
+{}
+
+/// The steps of a plan whose changes are well made leave a store.
+pub fn plans_are_of_stores()
+    ensures { PlansAreOfStores }
+{
+    patch_recovery::laws::stores_grow();
+}
+
+/// A change is spelled alike before the upgrade and after it.
+pub fn upgrades_spell_alike()
+    ensures { UpgradesSpellAlike }
+{}
+
+// What legal histories make.
+
+/// The patches of a legal history are the changes of a store, each right where it was made and behind what it has to come
+/// after. The map of the commands that were done has for each key what the changes say of it, so the cached blocks are
+/// read as that map.
+pub fn histories_are_of_stores()
+    ensures stores { HistoriesAreOfStores }
+    ensures maps { MapsAreSaid }
+    ensures read { HistoriesAreRead }
+{
+    laws_below();
+}
+
+/// What is kept of the extents is what the cached pointer block and the patches say of them.
+pub fn extents_are_kept()
+    ensures { ExtentsAreKept }
+{
+    laws_below();
+}
+
+// What the laws of the crates below say.
+fn laws_below()
+    ensures { Given }
+{
+    patch_model::laws::executions_are_orderly();
+    patch_frame::laws::frames_are_read_again();
+    patch_frame::laws::frames_fit_extents();
+    patch_frame::laws::pointers_are_read_again();
+    patch_frame::laws::read_pointers_are_spelled();
+    patch_recovery::laws::names_suffice();
+    patch_recovery::laws::puts_are_well_made();
+    patch_recovery::laws::stores_grow();
+    patch_recovery::laws::ledgers_last();
+    patch_recovery::laws::read_blocks_are_sound();
+    patch_recovery::laws::cached_blocks_open();
+}

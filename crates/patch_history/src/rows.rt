@@ -1,0 +1,166 @@
+//! What the definitions say of short scripts on new disks: facts that the prover computes.
+ghost use Rattle.std.specs.Prelude.{ℕ, ◌≡◌, List, [], ◌∷◌, ◌++◌, map, take, Some, None};
+ghost use Rattle.patch_model.specs.declared.refusals.RefusalKind.TheVariants as kind;
+ghost use Rattle.patch_model.specs.Refusing.{bare};
+ghost use Rattle.patch_model.specs.Step.{Send};
+ghost use Rattle.patch_history.specs.Command.{Command, Reply, Put, Get, Delete, Reclaim, Upgrade, Group, Engage, Disengage, Depend, CloseGroup, Pending, Done, Value, Absent, GroupMade, Count, Refused};
+ghost use Rattle.patch_history.specs.Shelf.{opened};
+ghost use Rattle.patch_history.specs.Standing.{at_opening};
+ghost use Rattle.patch_history.specs.Rows.{new_disk, short_disk, asked, replies, after_commands, extents_of, lengths_of, live_slots, names_of, key, bytes, put_steps, read_with};
+ghost use Rattle.patch_history.specs.History.{IsRight, Call, Moved, calls_of};
+ghost use Rattle.patch_history.specs.Refusing.{reply_of};
+
+// Puts, gets and deletes.
+
+// A value replaced.
+fn one_key_twice()
+    ensures replies { replies (new_disk 2 2) (Put (key 107) (1 ∷ []) ∷ Put (key 107) (2 ∷ []) ∷ Get (key 107) ∷ [])
+        ≡ Done ∷ Done ∷ Value (2 ∷ []) ∷ [] }
+    ensures extents { extents_of (after_commands (new_disk 2 2)
+        (Put (key 107) (1 ∷ []) ∷ Put (key 107) (2 ∷ []) ∷ [])) ≡ (0, 36, 18) ∷ (0, 0, 0) ∷ [] }
+    ensures entries { lengths_of (after_commands (new_disk 2 2)
+        (Put (key 107) (1 ∷ []) ∷ Put (key 107) (2 ∷ []) ∷ [])) ≡ (key 107, 1) ∷ [] }
+{}
+
+// Keys and values too long, and a key that is gone.
+fn limits_and_deletes()
+    ensures first { replies (new_disk 2 4)
+        (Put (key 107) [] ∷ Get (key 107) ∷ Delete (key 107) ∷ Get (key 107) ∷ Delete (key 107) ∷ [])
+        ≡ Done ∷ Value [] ∷ Done ∷ Absent ∷ Refused (bare kind.NoKey) ∷ [] }
+    ensures keys { replies (new_disk 2 4)
+        (Put (bytes 32) (1 ∷ []) ∷ Put (bytes 33) [] ∷ Get (bytes 33) ∷ Delete [] ∷ [])
+        ≡ Done ∷ Refused (bare kind.KeyLength) ∷ Refused (bare kind.KeyLength) ∷ Refused (bare kind.KeyLength) ∷ [] }
+    ensures values { replies (short_disk 2 4) (Put (key 118) (bytes 4048) ∷ Put (key 119) (bytes 4049) ∷ [])
+        ≡ Done ∷ Refused (bare kind.ValueLength) ∷ [] }
+{}
+
+// No slot is left for a new key, and one that stands is put anew.
+fn index_full()
+    ensures replies { replies (new_disk 2 2)
+        (Put (key 97) [] ∷ Put (key 98) [] ∷ Put (key 107) [] ∷ Put (key 97) [] ∷ [])
+        ≡ Done ∷ Done ∷ Refused (bare kind.IndexFull) ∷ Done ∷ [] }
+    ensures extents { extents_of (after_commands (new_disk 2 2)
+        (Put (key 97) [] ∷ Put (key 98) [] ∷ Put (key 107) [] ∷ Put (key 97) [] ∷ []))
+        ≡ (0, 51, 34) ∷ (0, 0, 0) ∷ [] }
+{}
+
+// The lowest empty slot is claimed, behind the last delete, which comes after the one before.
+fn claimed_slot()
+    ensures names { names_of (after_commands (new_disk 2 2)
+        (Put (key 98) [] ∷ Put (key 97) [] ∷ Delete (key 98) ∷ Delete (key 97) ∷ Put (key 97) [] ∷ []))
+        ≡ [] ∷ (0 ∷ []) ∷ (1 ∷ []) ∷ [] ∷ (3 ∷ []) ∷ (4 ∷ []) ∷ [] ∷ (6 ∷ []) ∷ [] ∷ (8 ∷ []) ∷ (9 ∷ 7 ∷ []) ∷ [] }
+    ensures extents { extents_of (after_commands (new_disk 2 2)
+        (Put (key 98) [] ∷ Put (key 97) [] ∷ Delete (key 98) ∷ Delete (key 97) ∷ Put (key 97) [] ∷ []))
+        ≡ (0, 51, 17) ∷ (0, 0, 0) ∷ [] }
+{}
+
+// Reclaims.
+
+// The last empty extent is kept.
+fn no_space()
+    ensures replies { replies (short_disk 2 2)
+        (Put (key 97) (bytes 2100) ∷ Put (key 98) (bytes 2100) ∷ Reclaim 0 ∷ Reclaim 1 ∷ Reclaim 2 ∷ [])
+        ≡ Done ∷ Refused (bare kind.NoSpace) ∷ Refused (bare kind.OpenExtent) ∷ Refused (bare kind.EmptyExtent)
+        ∷ Refused (bare kind.NoSuchExtent) ∷ [] }
+    ensures extents { extents_of (after_commands (short_disk 2 2)
+        (Put (key 97) (bytes 2100) ∷ Put (key 98) (bytes 2100) ∷ [])) ≡ (0, 2117, 2117) ∷ (0, 0, 0) ∷ [] }
+{}
+
+// An extent is won back; its frame moves to the empty one, and that is current then.
+fn won_back()
+    ensures replies { replies (short_disk 2 3)
+        (Put (key 97) (bytes 2100) ∷ Put (key 98) (bytes 2100) ∷ Reclaim 0 ∷ []) ≡ Done ∷ Done ∷ Done ∷ [] }
+    ensures extents { extents_of (after_commands (short_disk 2 3)
+        (Put (key 97) (bytes 2100) ∷ Put (key 98) (bytes 2100) ∷ Reclaim 0 ∷ []))
+        ≡ (1, 0, 0) ∷ (0, 2117, 2117) ∷ (0, 2117, 2117) ∷ [] }
+    ensures entries { lengths_of (after_commands (short_disk 2 3)
+        (Put (key 97) (bytes 2100) ∷ Put (key 98) (bytes 2100) ∷ Reclaim 0 ∷ []))
+        ≡ (key 97, 2100) ∷ (key 98, 2100) ∷ [] }
+    ensures names { names_of (after_commands (short_disk 2 3)
+        (Put (key 97) (bytes 2100) ∷ Put (key 98) (bytes 2100) ∷ Reclaim 0 ∷ []))
+        ≡ [] ∷ (0 ∷ []) ∷ (1 ∷ []) ∷ [] ∷ (3 ∷ []) ∷ (4 ∷ []) ∷ [] ∷ (6 ∷ []) ∷ (7 ∷ []) ∷ (8 ∷ []) ∷ [] }
+{}
+
+// And the extent that puts appended to.
+fn won_back_again()
+    ensures extents { extents_of (after_commands (short_disk 2 3)
+        (Put (key 97) (bytes 2100) ∷ Put (key 98) (bytes 2100) ∷ Reclaim 0 ∷ Reclaim 1 ∷ []))
+        ≡ (1, 2117, 2117) ∷ (1, 0, 0) ∷ (0, 2117, 2117) ∷ [] }
+    ensures entries { lengths_of (after_commands (short_disk 2 3)
+        (Put (key 97) (bytes 2100) ∷ Put (key 98) (bytes 2100) ∷ Reclaim 0 ∷ Reclaim 1 ∷ []))
+        ≡ (key 97, 2100) ∷ (key 98, 2100) ∷ [] }
+{}
+
+// A current extent without a live frame is reset, and none is current then.
+fn a_current_one_is_reset()
+    ensures replies { replies (new_disk 2 2)
+        (Put (key 107) [] ∷ Delete (key 107) ∷ Reclaim 0 ∷ Reclaim 0 ∷ Put (key 109) (1 ∷ []) ∷ [])
+        ≡ Done ∷ Done ∷ Done ∷ Refused (bare kind.EmptyExtent) ∷ Done ∷ [] }
+    ensures extents { extents_of (after_commands (new_disk 2 2)
+        (Put (key 107) [] ∷ Delete (key 107) ∷ Reclaim 0 ∷ Reclaim 0 ∷ Put (key 109) (1 ∷ []) ∷ []))
+        ≡ (1, 18, 18) ∷ (0, 0, 0) ∷ [] }
+    ensures names { names_of (after_commands (new_disk 2 2)
+        (Put (key 107) [] ∷ Delete (key 107) ∷ Reclaim 0 ∷ Reclaim 0 ∷ Put (key 109) (1 ∷ []) ∷ []))
+        ≡ [] ∷ (0 ∷ []) ∷ (1 ∷ []) ∷ [] ∷ (3 ∷ []) ∷ (4 ∷ []) ∷ (5 ∷ []) ∷ (6 ∷ 3 ∷ []) ∷ [] }
+{}
+
+// The live frames of an extent stand in order of their places, whatever slots name them.
+fn frames_in_order()
+    ensures slots { live_slots (after_commands (new_disk 2 2)
+        (Put (key 97) [] ∷ Put (key 98) [] ∷ Put (key 97) [] ∷ [])) 0 ≡ 1 ∷ 0 ∷ [] }
+{}
+
+// Upgrades, groups, and the store as it is opened.
+
+// After an upgrade each slot that is filled comes after it.
+fn upgraded()
+    ensures replies { replies (new_disk 2 2) (Put (key 107) [] ∷ Upgrade ∷ Upgrade ∷ Put (key 107) [] ∷ [])
+        ≡ Done ∷ Done ∷ Refused (bare kind.AlreadyVersion2) ∷ Done ∷ [] }
+    ensures names { names_of (after_commands (new_disk 2 2)
+        (Put (key 107) [] ∷ Upgrade ∷ Upgrade ∷ Put (key 107) [] ∷ []))
+        ≡ [] ∷ (0 ∷ []) ∷ (1 ∷ []) ∷ [] ∷ [] ∷ (4 ∷ []) ∷ (5 ∷ 3 ∷ []) ∷ [] }
+{}
+
+// A writer's patches come after those of the groups before its own, and a reclaim's are of no group.
+fn groups_in_order()
+    ensures replies { replies (new_disk 2 2)
+        (Group ∷ Engage 0 ∷ Put (key 97) [] ∷ Disengage 0 ∷ Group ∷ Depend 1 0 ∷ Engage 1 ∷ Engage 0 ∷ Pending 1
+        ∷ CloseGroup 1 ∷ CloseGroup 2 ∷ [])
+        ≡ GroupMade 0 ∷ Done ∷ Done ∷ Done ∷ GroupMade 1 ∷ Done ∷ Done ∷ Refused (bare kind.Sealed) ∷ Count 0
+        ∷ Refused (bare kind.Engaged) ∷ Refused (bare kind.NoSuchGroup) ∷ [] }
+    ensures names { names_of (after_commands (new_disk 2 2)
+        (Group ∷ Engage 0 ∷ Put (key 97) [] ∷ Disengage 0 ∷ Group ∷ Depend 1 0 ∷ Engage 1 ∷ Delete (key 97) ∷ Reclaim 0
+        ∷ [])) ≡ [] ∷ (0 ∷ []) ∷ (1 ∷ []) ∷ (0 ∷ 1 ∷ 2 ∷ []) ∷ (3 ∷ []) ∷ [] }
+{}
+
+// The lowest extent that has something, and room for a frame, is current when a store is opened.
+fn opened_with()
+    ensures first { (opened (read_with 65519 18)).current ≡ Some 0 }
+    ensures full { (opened (read_with 65520 18)).current ≡ Some 1 }
+    ensures none { (opened (read_with 0 65520)).current ≡ None }
+    ensures spent { reply_of (at_opening [] (read_with 18 65520)) 0 (Reclaim 1)
+        ≡ Refused (bare kind.GenerationSpent) }
+{}
+
+// What is right.
+
+// A put is right with all its steps, and, where memory ran out, with some first ones; not with none, nor with a refusal
+// that has no cause.
+fn right_and_wrong()
+    ensures done { IsRight (new_disk 2 2) (Call 0 (Put (key 107) []) Done put_steps) }
+    ensures cut { IsRight (new_disk 2 2)
+        (Call 0 (Put (key 107) []) (Refused (bare kind.OutOfMemory)) (take 2 put_steps)) }
+    ensures not_for_nothing { IsRight (new_disk 2 2) (Call 0 (Put (key 107) []) Done []) → ⊥ }
+    ensures no_cause { IsRight (new_disk 2 2) (Call 0 (Put (key 107) []) (Refused (bare kind.NoSpace)) []) → ⊥ }
+    ensures no_value { IsRight (new_disk 2 2) (Call 0 (Get (key 107)) (Value []) []) → ⊥ }
+    ensures always_granted { IsRight (new_disk 2 2) (Call 0 (Pending 0) (Refused (bare kind.OutOfMemory)) []) → ⊥ }
+{}
+
+// A book's entries tell where the steps of each call begin and end.
+fn calls_kept()
+    ensures counts { map {B = ℕ × ℕ × ℕ} (λ c. (c.writer, c.before, c.after)) (calls_of (record {
+      opening = [];
+      first = read_with 0 0;
+      events = Call 1 (Put (key 107) []) Done put_steps ∷ Moved (Send 3) ∷ Call 0 (Get (key 107)) (Value []) [] ∷ [];
+    })) ≡ (1, 0, 3) ∷ (0, 4, 4) ∷ [] }
+{}
