@@ -1,5 +1,5 @@
 -- A legal history is that of a store.
-use Rattle.std.proofs.Common.{◌≡◌, ℕ, ◌+◌, ◌<◌, ◌^◌, List, [], ◌∷◌, length, refl, arith, subst}
+use Rattle.std.proofs.Common.{◌∙◌, ◌++◌, Bool, map, sym, ap, take, ◌≡◌, ℕ, ◌+◌, ◌<◌, ◌^◌, List, [], ◌∷◌, length, refl, arith, subst}
 use Rattle.std.specs.Prelude.{fold, drop, All, ◌-◌}
 use Rattle.std.specs.List.{range_with_len}
 use Rattle.std.proofs.lemmas.List.{length-take, length-drop}
@@ -20,6 +20,14 @@ use Rattle.patch_history.proofs.Events.{Stood}
 use Rattle.patch_history.proofs.Extending.{standings_run}
 use Rattle.patch_history.proofs.Keeping.{holds-opened}
 use Rattle.patch_history.proofs.Places.{find_in}
+use Rattle.std.proofs.lemmas.List.{append_assoc, append-nil, length-append, length-map}
+use Rattle.patch_recovery.specs.Said.{AreMoves}
+use Rattle.patch_history.specs.Closed.{HistoriesMove, marks_in, marks_from, moves_entry}
+use Rattle.patch_history.specs.History.{Call, Moved, IsRight}
+use Rattle.patch_history.specs.Standing.{creates, plan_of}
+use Rattle.patch_history.proofs.Calls.{call_marked}
+use Rattle.patch_history.proofs.Going.{onto_length}
+use Rattle.patch_history.proofs.Moved.{HasStores, has_stores, marked, marked_plan}
 
 module _ (given : Given) where
   pub opened_by : (h : History) → IsLegalHistory h → IsReadAs h.opening h.first
@@ -62,13 +70,16 @@ module _ (given : Given) where
     said = λ key. refl;
   }
 
+  stores_of : (h : History) → IsLegalHistory h → HasStores h.first
+  stores_of h l = has_stores given.begin given.grow h.opening h.first l.legal.blocks l.reads
+
   stood_on : (h : History) → IsLegalHistory h → (events : List Event) (st : Standing) → Stood h.first st
       → AreRight st events → Stood h.first (fold after_event st events)
   stood_on h l [] st stood right = stood
   stood_on h l (event ∷ events) st stood right =
       let start = opened_by h l in
       stood_on h l events (after_event st event)
-      (event_stood given h.first start.sound start.valid st event stood right.0) right.1
+      (event_stood given h.first start.sound start.valid (stores_of h l) st event stood right.0) right.1
 
   pub stood_all : (h : History) → IsLegalHistory h → Stood h.first (standing_of h)
   stood_all h l = stood_on h l h.events (at_opening h.opening h.first) (stood_first h l) l.right
@@ -79,3 +90,37 @@ module _ (given : Given) where
 
   pub maps_are_said : MapsAreSaid
   maps_are_said h key l = (stood_all h l).said key
+
+  -- Which patches move entries.
+
+  event_marked : (h : History) → IsLegalHistory h → (event : Event) (st : Standing) (marks : List Bool)
+      → Stood h.first st → IsRight st event → length marks ≡ length st.made → AreMoves (marked marks) h.first st.made
+      → (length (marks ++ marks_in st event) ≡ length (after_event st event).made)
+      × AreMoves (marked (marks ++ marks_in st event)) h.first (after_event st event).made
+  event_marked h l (Call writer command reply steps) st marks stood right count are =
+      let start = opened_by h l in
+      let done = take (creates steps) (plan_of st writer command) in
+      let moved = call_marked given h.first start.sound start.valid (stores_of h l) st writer command reply steps stood right in
+      let long = length-append marks (map (moves_entry command) done) in
+      let each = length-map done (moves_entry command) in
+      let made = onto_length done st.made in
+      (omega (arith, long, each, made, count), marked_plan (moves_entry command) h.first done st.made marks count are moved)
+  event_marked h l (Moved step) st marks stood right count are =
+      (ap length (append-nil marks) ∙ count, subst (λ ms. AreMoves (marked ms) h.first st.made) (sym (append-nil marks)) are)
+
+  marked_on : (h : History) → IsLegalHistory h → (events : List Event) (st : Standing) (marks : List Bool)
+      → Stood h.first st → AreRight st events → length marks ≡ length st.made → AreMoves (marked marks) h.first st.made
+      → AreMoves (marked (marks ++ marks_from st events)) h.first (fold after_event st events).made
+  marked_on h l [] st marks stood right count are =
+      subst (λ ms. AreMoves (marked ms) h.first st.made) (sym (append-nil marks)) are
+  marked_on h l (event ∷ events) st marks stood right count are =
+      let start = opened_by h l in
+      let one = event_marked h l event st marks stood right.0 count are in
+      let now = event_stood given h.first start.sound start.valid (stores_of h l) st event stood right.0 in
+      subst (λ ms. AreMoves (marked ms) h.first (fold after_event (after_event st event) events).made)
+      (append_assoc marks (marks_in st event) (marks_from (after_event st event) events))
+      (marked_on h l events (after_event st event) (marks ++ marks_in st event) now right.1 one.0 one.1)
+
+  pub histories_move : HistoriesMove
+  histories_move h l =
+      marked_on h l h.events (at_opening h.opening h.first) [] (stood_first h l) l.right refl tt

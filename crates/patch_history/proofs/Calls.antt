@@ -46,8 +46,11 @@ use Rattle.patch_history.proofs.Stepping.{richer_named, named_none, well_cut}
 use Rattle.patch_history.proofs.Whole.{put_cases, put_fits, clear_well, reset_well}
 use Rattle.patch_history.proofs.Events.{Stood, whole_take, cut_steps, cut_take, stood_after, stood_quiet, stood_nothing}
 use Rattle.patch_history.proofs.Events.{refused_same, done_is, emptying, clearing, some_in, is_current_of}
+use Rattle.patch_history.specs.Closed.{moves_entry}
+use Rattle.patch_history.proofs.Moved.{HasStores, AllMoved, fills, silent_moved, moved_append, moved_take, moved_none}
 
-module _ (given : Given) (first : Ledger) (sound : IsSound first) (valid : IsGeometry first.geometry) where
+module _ (given : Given) (first : Ledger) (sound : IsSound first) (valid : IsGeometry first.geometry)
+    (stores : HasStores first) where
   -- Put.
 
   record IsReadyPut (st : Standing) (writer : ℕ) (key value : List ℕ) : Type 0 where
@@ -182,6 +185,7 @@ module _ (given : Given) (first : Ledger) (sound : IsSound first) (valid : IsGeo
     pub plan_is : plan_of st writer (Reclaim extent) ≡ emptied st.shelf (made_by st) extent moved
     pub well : AreWellMade first (onto (emptied st.shelf (made_by st) extent moved) st.made)
     pub quiet : AllQuiet first st.made (emptied st.shelf (made_by st) extent moved)
+    pub all_moved : AllMoved fills first st.made (emptied st.shelf (made_by st) extent moved)
 
   reclaim_start : (st : Standing) (extent : ℕ) → Stood first st → IsReclaimed st extent
       → Ready first st.map.entries extent ((after_all first st.made).pointer extent) st.shelf st.made (live_frames st.shelf extent)
@@ -230,7 +234,7 @@ module _ (given : Given) (first : Ledger) (sound : IsSound first) (valid : IsGeo
       let known_now : extent < (after_all first st.made).geometry.extents = omega (arith, known, geometry) in
       let known_first : extent < first.geometry.extents = omega (arith, known, geometry, extents) in
       let start = reclaim_start st extent stood can in
-      let went = moves_well given first sound valid st.map.entries extent ((after_all first st.made).pointer extent) known_first (live_frames st.shelf extent) st.shelf st.made n moved refl start emptying_one.moves_are in
+      let went = moves_well given first sound valid stores st.map.entries extent ((after_all first st.made).pointer extent) known_first (live_frames st.shelf extent) st.shelf st.made n moved refl start emptying_one.moves_are in
       let few = good.few extent known_first in
       let spent = can.generation in
       let generation : generation_at st.shelf.extents extent ≡ ((after_all first st.made).pointer extent).generation = ap (λ p. p.generation) (shelf.pointer extent known_now) in
@@ -245,6 +249,8 @@ module _ (given : Given) (first : Ledger) (sound : IsSound first) (valid : IsGeo
         plan_is = named_none st.groups n (unwrap_or (plan_for st (Reclaim extent)) []) ∙ ap (λ o. unwrap_or o []) can.is ∙ emptying_one.are;
         well = subst (AreWellMade first) (sym (onto-++ moved (reset ∷ []) st.made)) (one, went.well);
         quiet = quiet_append first moved (reset ∷ []) st.made went.quiet (record { said = λ key. refl; geometry = refl }, tt);
+        all_moved = moved_append fills first moved (reset ∷ []) st.made went.moved
+            (silent_moved first (reset ∷ []) (onto moved st.made) (tt, tt));
       }
 
   reclaim_whole : (st : Standing) (writer extent : ℕ) (reply : Reply) (steps : List Step) → Stood first st → is_refused reply ≡ false → is_refused (reply_of st writer (Reclaim extent)) ≡ false
@@ -304,6 +310,55 @@ module _ (given : Given) (first : Ledger) (sound : IsSound first) (valid : IsGeo
   cut_stood st writer (Depend group on) reply steps stood lost answered cut = stood_nothing given first sound st writer (Depend group on) reply steps stood cut (refused_same st.map (Depend group on) reply lost)
   cut_stood st writer (CloseGroup group) reply steps stood lost answered cut = stood_nothing given first sound st writer (CloseGroup group) reply steps stood cut (refused_same st.map (CloseGroup group) reply lost)
   cut_stood st writer (Pending group) reply steps stood lost answered cut = stood_nothing given first sound st writer (Pending group) reply steps stood cut (refused_same st.map (Pending group) reply lost)
+
+  -- Which of its patches move entries.
+
+  reclaim_moved : (st : Standing) (writer extent : ℕ) (steps : List Step) → Stood first st
+      → is_refused (reply_of st writer (Reclaim extent)) ≡ false
+      → AllMoved fills first st.made (take (creates steps) (plan_of st writer (Reclaim extent)))
+  reclaim_moved st writer extent steps stood answered =
+      let ready = reclaim_ready st writer extent stood answered in
+      subst (λ plan. AllMoved fills first st.made (take (creates steps) plan)) (sym ready.plan_is)
+      (moved_take fills first (creates steps) (emptied st.shelf (made_by st) extent ready.moved) st.made ready.all_moved)
+
+  reclaim_marked : (st : Standing) (writer extent : ℕ) (reply : Reply) (steps : List Step) → Stood first st
+      → IsRight st (Call writer (Reclaim extent) reply steps)
+      → AllMoved fills first st.made (take (creates steps) (plan_of st writer (Reclaim extent)))
+  reclaim_marked st writer extent reply steps stood (inl answered) = elim (cases_Bool (is_refused reply)) [
+    | inl u ↦
+        let made = answered.1 in
+        let none : steps ≡ [] = rw u at made in
+        subst (λ all. AllMoved fills first st.made (take (creates all) (plan_of st writer (Reclaim extent)))) (sym none) tt
+    | inr u ↦ reclaim_moved st writer extent steps stood (ap is_refused (sym answered.0) ∙ u)
+  ]
+  reclaim_marked st writer extent reply steps stood (inr lacked) =
+      reclaim_moved st writer extent steps stood lacked.no_cause
+
+  pub call_marked : (st : Standing) (writer : ℕ) (command : Command) (reply : Reply) (steps : List Step) → Stood first st
+      → IsRight st (Call writer command reply steps)
+      → AllMoved (moves_entry command) first st.made (take (creates steps) (plan_of st writer command))
+  call_marked st writer (Reclaim extent) reply steps stood right =
+      reclaim_marked st writer extent reply steps stood right
+  call_marked st writer (Put key value) reply steps stood right =
+      moved_none (moves_entry (Put key value)) first (λ m. refl) _ st.made
+  call_marked st writer (Get key) reply steps stood right =
+      moved_none (moves_entry (Get key)) first (λ m. refl) _ st.made
+  call_marked st writer (Delete key) reply steps stood right =
+      moved_none (moves_entry (Delete key)) first (λ m. refl) _ st.made
+  call_marked st writer Upgrade reply steps stood right =
+      moved_none (moves_entry Upgrade) first (λ m. refl) _ st.made
+  call_marked st writer Group reply steps stood right =
+      moved_none (moves_entry Group) first (λ m. refl) _ st.made
+  call_marked st writer (Engage group) reply steps stood right =
+      moved_none (moves_entry (Engage group)) first (λ m. refl) _ st.made
+  call_marked st writer (Disengage group) reply steps stood right =
+      moved_none (moves_entry (Disengage group)) first (λ m. refl) _ st.made
+  call_marked st writer (Depend group on) reply steps stood right =
+      moved_none (moves_entry (Depend group on)) first (λ m. refl) _ st.made
+  call_marked st writer (CloseGroup group) reply steps stood right =
+      moved_none (moves_entry (CloseGroup group)) first (λ m. refl) _ st.made
+  call_marked st writer (Pending group) reply steps stood right =
+      moved_none (moves_entry (Pending group)) first (λ m. refl) _ st.made
 
   write_makes_nothing : (step : Step) → is_write step ≡ true → makes_nothing step ≡ true
   write_makes_nothing (Create block start bytes after undo) h = h

@@ -13,6 +13,7 @@ pub mod Parts
 pub mod Framing
 pub mod Stepping
 pub mod Quiet
+pub mod Moved
 pub mod Living
 pub mod Moving
 pub mod Reclaiming

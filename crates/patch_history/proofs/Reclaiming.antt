@@ -1,5 +1,5 @@
 -- The frames of an extent move, one after another.
-use Rattle.std.proofs.Common.{◌≡◌, ◌≢◌, ℕ, suc, ◌+◌, ◌<◌, ◌≤◌, ◌∙◌, inl, inr, true, false, List, [], ◌∷◌, ◌++◌, length}
+use Rattle.std.proofs.Common.{Ok, ◌≡◌, ◌≢◌, ℕ, suc, ◌+◌, ◌<◌, ◌≤◌, ◌∙◌, inl, inr, true, false, List, [], ◌∷◌, ◌++◌, length}
 use Rattle.std.proofs.Common.{map, Some, refl, sym, ap, arith, subst}
 use Rattle.std.specs.Prelude.{◌==◌, if◌then◌else◌, unwrap_or}
 use Rattle.std.specs.List.{range_with_len}
@@ -18,7 +18,7 @@ use Rattle.patch_recovery.specs.Right.{IsSound, IsNamed}
 use Rattle.patch_recovery.specs.Orders.{AreWellMade}
 use Rattle.patch_recovery.specs.Naming.{is_point}
 use Rattle.patch_recovery.specs.Said.{last_said}
-use Rattle.patch_recovery.specs.Putting.{fields_put, slot_put}
+use Rattle.patch_recovery.specs.Putting.{pointer_put, fields_put, slot_put}
 use Rattle.patch_history.specs.Given.{Given}
 use Rattle.patch_recovery.specs.Wider.{format_kept}
 use Rattle.patch_extent.specs.Extents.{offset_at}
@@ -28,12 +28,14 @@ use Rattle.patch_history.specs.Planning.{frame_plan, fill_plan, content_of, move
 use Rattle.patch_history.specs.Shelf.{Shelf, after_change, after_plan}
 use Rattle.patch_history.specs.Standing.{onto}
 use Rattle.patch_history.proofs.Going.{Good, good-plan, onto-++, onto_length, still_current}
-use Rattle.patch_history.proofs.Framing.{put_of, frame_is, FrameFits, frame_well, put_slot, put_pointer}
+use Rattle.patch_history.proofs.Framing.{put_of, frame_is, FrameFits, right_put, frame_well, put_slot, put_pointer}
 use Rattle.patch_history.proofs.Quiet.{AllQuiet, AllSilent, silent_changes, silent_append, silent_quiet, quiet_append}
 use Rattle.patch_history.proofs.Quiet.{quiet_said}
 use Rattle.patch_history.proofs.Living.{Distinct}
 use Rattle.patch_history.proofs.Moving.{read_fits, Chosen, move_chosen, move_cases}
 use Rattle.patch_history.proofs.Members.{some_number, some_fields}
+use Rattle.patch_history.proofs.Moved.{HasStores, AllMoved, fills, silent_moved, moved_append}
+use Rattle.patch_recovery.specs.Said.{Moves}
 
 pub shelf_plan-++ : (s : Shelf) (n : ℕ) (p q : List Made) → after_plan s n (p ++ q) ≡ after_plan (after_plan s n p) (n + length p) q
 shelf_plan-++ s n [] q = let e : n + 0 ≡ n = omega arith in rw e refl
@@ -85,6 +87,10 @@ silent_append_plan s n extent bytes =
     (silent_changes (names_behind s.extents extent []) (part extent (offset_at s.extents extent) bytes)
     (range_with_len 0 (touched (offset_at s.extents extent) (length bytes))) (λ x. tt)) (tt, tt)
 
+abbrev head_or : Made → List Made → Made
+head_or d [] = d
+head_or d (m ∷ ms) = m
+
 abbrev tail_of : List Made → List Made
 tail_of [] = []
 tail_of (m ∷ ms) = ms
@@ -130,7 +136,7 @@ record HasContent (l : Ledger) (entries : List Content) (f : SlotFields) : Type 
   pub named : IsNamed l f
   pub is : named.content ≡ content_of entries f
 
-module _ (given : Given) (first : Ledger) (sound : IsSound first) (valid : IsGeometry first.geometry) (entries : List Content) (r : ℕ) (at_first : Pointer) (r_known : r < first.geometry.extents) where
+module _ (given : Given) (first : Ledger) (sound : IsSound first) (valid : IsGeometry first.geometry) (stores : HasStores first) (entries : List Content) (r : ℕ) (at_first : Pointer) (r_known : r < first.geometry.extents) where
   content_is : (s : Shelf) (made : List Made) (fs : List (ℕ × SlotFields)) → Ready first entries r at_first s made fs → (f : ℕ × SlotFields) → In fs f → HasContent (after_all first made) entries f.1
   content_is s made fs ready f i =
       let at = (ready.waits f i).1 in
@@ -179,6 +185,35 @@ module _ (given : Given) (first : Ledger) (sound : IsSound first) (valid : IsGeo
         only = λ other t ne there same. ne ((given.last first made sound good.well).sound.single other f.0 t f.1 there at same);
         same_key = λ t there. ap (λ g. g.key) (some_fields t f.1 (sym there ∙ at));
       }
+
+  -- the slot's patch of a move
+  move_moved : (s : Shelf) (made : List Made) (n : ℕ) (f : ℕ × SlotFields) (fs : List (ℕ × SlotFields)) (e : ℕ)
+      → n ≡ length made → Ready first entries r at_first s made (f ∷ fs) → Chosen s f.1.length e
+      → AllMoved fills first made (frame_plan s n e f.0 (content_of entries f.1))
+  move_moved s made n f fs e count ready chosen =
+      let good = ready.good in
+      let c = content_of entries f.1 in
+      let put = put_of s n e f.0 c in
+      let front = append_plan s.extents n e (spelling c) [] in
+      let fill = fill_plan s n e f.0 c in
+      let fits = move_fits s made f fs e ready chosen in
+      let has = content_is s made (f ∷ fs) ready f (inl refl) in
+      let whole : fill ∷ onto front made ≡ slot_put first made put =
+      sym (onto-++ front (fill ∷ []) made) ∙ frame_is given s first made n e f.0 c good fits.known in
+      let done = frame_well given s first made n e f.0 c valid count good fits in
+      let right = right_put given s first made n e f.0 c count good fits in
+      let store = stores (slot_put first made put) done.well_made in
+      let at = (ready.waits f (inl refl)).1 in
+      let moves_it = given.again store.0 first made put f.1 store.1 right at (has.named.frame ∙ ap Ok has.is) in
+      let change : fill.change ≡ Fill put.slot (fields_put (after_all first made) put) =
+      ap (λ ms. (head_or fill ms).change) whole in
+      moved_append fills first front (fill ∷ []) made
+      (silent_moved first front made (silent_append_plan s n e (spelling c))) (
+        (λ t.
+            subst (λ ms. Moves (after_all first ms) fill.change) (sym (ap tail_of whole))
+            (subst (Moves (after_all first (pointer_put first made put))) (sym change) moves_it)),
+        tt,
+      )
 
   move_ready : (s : Shelf) (made : List Made) (n : ℕ) (f : ℕ × SlotFields) (fs : List (ℕ × SlotFields)) (e : ℕ) → n ≡ length made → Ready first entries r at_first s made (f ∷ fs) → Chosen s f.1.length e
       → AreWellMade first (onto (frame_plan s n e f.0 (content_of entries f.1)) made) × AllQuiet first made (frame_plan s n e f.0 (content_of entries f.1))
@@ -229,13 +264,14 @@ module _ (given : Given) (first : Ledger) (sound : IsSound first) (valid : IsGeo
   pub record MovedWell (s : Shelf) (made : List Made) (n : ℕ) (plan : List Made) : Type 0 where
     pub well : AreWellMade first (onto plan made)
     pub quiet : AllQuiet first made plan
+    pub moved : AllMoved fills first made plan
     pub ready : Ready first entries r at_first (after_plan s n plan) (onto plan made) []
 
   no_plan : (plan : List Made) → Some [] ≡ Some plan → [] ≡ plan
   no_plan plan h = cc
 
   pub moves_well : (fs : List (ℕ × SlotFields)) (s : Shelf) (made : List Made) (n : ℕ) (plan : List Made) → n ≡ length made → Ready first entries r at_first s made fs → moves entries s n fs ≡ Some plan → MovedWell s made n plan
-  moves_well [] s made n plan count ready h = subst (MovedWell s made n) (no_plan plan h) (record { well = ready.good.well; quiet = tt; ready = ready })
+  moves_well [] s made n plan count ready h = subst (MovedWell s made n) (no_plan plan h) (record { well = ready.good.well; quiet = tt; moved = tt; ready = ready })
   moves_well (f ∷ fs) s made n plan count ready h =
       let case = move_cases entries s n f fs plan (extent_for_move s f.1.length) refl h in
       let e = case.extent in
@@ -247,6 +283,7 @@ module _ (given : Given) (first : Ledger) (sound : IsSound first) (valid : IsGeo
       subst (MovedWell s made n) (sym case.are) (record {
         well = subst (AreWellMade first) (sym (onto-++ p case.others made)) others.well;
         quiet = quiet_append first p case.others made one.1 others.quiet;
+        moved = moved_append fills first p case.others made (move_moved s made n f fs e count ready chosen) others.moved;
         ready = subst (λ ms. Ready first entries r at_first (after_plan s n (p ++ case.others)) ms []) (sym (onto-++ p case.others made))
             (subst (λ t. Ready first entries r at_first t (onto case.others (onto p made)) []) (sym (shelf_plan-++ s n p case.others)) others.ready);
       })

@@ -11,8 +11,8 @@ use Rattle.patch_frame.specs.Frame.{Content, Fits, spelling, length_of}
 use Rattle.patch_frame.specs.Pointer.{pointer_at}
 use Rattle.patch_frame.specs.Pointer as pointers
 use Rattle.patch_recovery.specs.Naming.{NamesSuffice}
-use Rattle.patch_recovery.specs.Putting.{PutsAreWellMade}
-use Rattle.patch_recovery.specs.Store.{StoresGrow, OtherStepsLeaveStores}
+use Rattle.patch_recovery.specs.Putting.{PutsAreWellMade, PutsAgainAreMoves}
+use Rattle.patch_recovery.specs.Store.{StoresBegin, StoresGrow, OtherStepsLeaveStores}
 use Rattle.patch_recovery.specs.Closed.{CachedBlocksOpen}
 use Rattle.patch_recovery.specs.Lasting.{LedgersLast, ReadBlocksAreSound}
 
@@ -34,6 +34,8 @@ pub record Given : Type 0 where
   pub pointers : Pointers
   pub names : NamesSuffice
   pub puts : PutsAreWellMade
+  pub again : PutsAgainAreMoves
+  pub begin : StoresBegin
   pub grow : StoresGrow
   pub others : OtherStepsLeaveStores
   pub last : LedgersLast

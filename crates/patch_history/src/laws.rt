@@ -2,6 +2,7 @@
 ghost use Rattle.patch_history.specs.Kept.{ShelvesAreKept, NewestAreKept, KeptAreNamed};
 ghost use Rattle.patch_history.specs.Steps.{FramesCompose, AppendsAreCuts, BegunAppendsAreCuts, CutsAreFirst, PlansAreOfStores, UpgradesSpellAlike};
 ghost use Rattle.patch_history.specs.Given.{Given};
+ghost use Rattle.patch_history.specs.Closed.{HistoriesMove, ClosedDisksOpen, CrashDisksOpen};
 ghost use Rattle.patch_history.specs.Laws.{HistoriesExtend, StandingsRun, HistoriesAreOfStores, MapsAreSaid, HistoriesAreRead, ExtentsAreKept};
 
 /// One event more is judged by the history so far.
@@ -67,6 +68,19 @@ pub fn histories_are_of_stores()
     ensures read { HistoriesAreRead }
 {
     laws_below();
+}
+
+/// Whatever closed set of a legal history's patches reached the disk, it opens, and each key has the value of its last put
+/// or delete whose patch is in the set, or a later move of which is. What a crash leaves is such a disk.
+pub fn closed_disks_open()
+    ensures moves { HistoriesMove }
+    ensures closed { ClosedDisksOpen }
+    ensures crash { CrashDisksOpen }
+{
+    laws_below();
+    histories_are_of_stores();
+    patch_recovery::laws::closed_disks_open();
+    patch_recovery::laws::crash_disks_open();
 }
 
 /// What is kept of the extents is what the cached pointer block and the patches say of them.

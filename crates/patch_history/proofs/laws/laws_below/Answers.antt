@@ -6,6 +6,8 @@ returns c = record {
   pointers = record { again = c.pointers_are_read_again.ensures; spelled = c.read_pointers_are_spelled.ensures };
   names = c.names_suffice.ensures;
   puts = c.puts_are_well_made.ensures.well_made;
+  again = c.puts_are_well_made.ensures.moves;
+  begin = c.stores_grow.ensures.begin;
   grow = c.stores_grow.ensures.grow;
   others = c.stores_grow.ensures.others;
   last = c.ledgers_last.ensures;
