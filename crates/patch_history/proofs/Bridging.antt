@@ -28,6 +28,13 @@ use Rattle.patch_history.specs.Standing.{creates, plan_of}
 use Rattle.patch_history.proofs.Calls.{call_marked}
 use Rattle.patch_history.proofs.Going.{onto_length}
 use Rattle.patch_history.proofs.Moved.{HasStores, has_stores, marked, marked_plan}
+use Rattle.std.specs.Prelude.{count_by}
+use Rattle.patch_model.specs.Entry.{is_live}
+use Rattle.patch_model.specs.State.{entries_of}
+use Rattle.patch_frame.specs.declared.geometries.Geometry.{Geometry}
+use Rattle.patch_recovery.specs.Change.{Made, patch_of, patches_of}
+use Rattle.patch_history.specs.History.{execution_of}
+use Rattle.patch_history.specs.Laws.{StandingsAgree}
 
 module _ (given : Given) where
   pub opened_by : (h : History) → IsLegalHistory h → IsReadAs h.opening h.first
@@ -124,3 +131,32 @@ module _ (given : Given) where
   pub histories_move : HistoriesMove
   histories_move h l =
       marked_on h l h.events (at_opening h.opening h.first) [] (stood_first h l) l.right refl tt
+
+  -- What a standing says.
+
+  length-patches_of : (g : Geometry) (ms : List Made) → length (patches_of g ms) ≡ length ms
+  length-patches_of g [] = refl
+  length-patches_of g (m ∷ ms) =
+      let rest = length-patches_of g ms in
+      let all = length-append (patches_of g ms) (patch_of g (length ms) m ∷ []) in
+      omega (arith, rest, all)
+
+  pub standings_agree : StandingsAgree
+  standings_agree h l =
+      let stood = stood_all h l in
+      let store = histories_are_of_stores h l in
+      let lasts = given.last h.first (standing_of h).made (opened_by h l).sound store.well_made in
+      record {
+        format = stood.format;
+        made = sym (length-patches_of h.first.geometry (standing_of h).made) ∙ ap length (sym store.patches)
+            ∙ length-map (entries_of (execution_of h)) (λ e. e.patch);
+        live = ap (λ run. count_by is_live (entries_of run)) (standings_run h);
+        tells = record {
+          has = λ slot f c at frame. stood.said f.key ∙ lasts.tells.has slot f c at frame;
+          only = λ key v told. lasts.tells.only key v (sym (stood.said key) ∙ told);
+        };
+        current = λ e at.
+            let known = stood.good.current e at in
+            let extents = stood.good.holds.extents in
+            omega (arith, known, extents);
+      }

@@ -2,6 +2,7 @@ pub mod Members
 pub mod Extending
 pub mod Shelving
 pub mod Keeping
+pub mod Making
 pub mod Composing
 pub mod Cutting
 pub mod Walking

@@ -1,5 +1,5 @@
 -- What a shelf keeps of the changes that were made.
-use Rattle.std.specs.Prelude.{ℕ, ◌≡◌, ◌<◌, IsTrue, IfSome, List, length, Option}
+use Rattle.std.specs.Prelude.{ℕ, ◌≡◌, ◌<◌, All, IsTrue, IfSome, List, length, Option}
 use Rattle.patch_model.specs.Entry.{is_among}
 use Rattle.patch_frame.specs.Geometry.{slot_count}
 use Rattle.patch_recovery.specs.Change.{Change, Data, Point, Fill, Clear, Made}
@@ -8,6 +8,7 @@ use Rattle.patch_recovery.specs.Orders.{StandsIn, is_reset, is_clear, is_widen, 
 use Rattle.patch_recovery.specs.Naming.{newest, is_point, HasNames}
 use Rattle.patch_extent.specs.Extents.{extent_at}
 use Rattle.patch_history.specs.Shelf.{Shelf, slot_at, left_of}
+use Rattle.patch_history.specs.Standing.{made_by}
 use Rattle.patch_history.specs.History.{History, standing_of, ledger_of}
 
 -- what is kept beside the cache is what a disk says
@@ -48,6 +49,22 @@ pub record KeepsNewest (s : Shelf) (first : Ledger) (made : List Made) : Type 0 
 -- so a history's shelf does
 abbrev pub NewestAreKept : Type 0
 NewestAreKept = (h : History) → KeepsNewest (standing_of h).shelf h.first (standing_of h).made
+
+-- if there is such a number, it is that of one of so many patches
+abbrev pub IsMade : ℕ → Option ℕ → Type 0
+IsMade count number = IfSome number (λ n. n < count)
+
+-- all that is kept to be named was made
+pub record AreMade (s : Shelf) (count : ℕ) : Type 0 where
+  pub last_delete : IsMade count s.last_delete
+  pub upgrade : IsMade count s.upgrade
+  pub resets : All (λ k. IsMade count k.reset) s.extents.each
+  pub points : All (λ k. IsMade count k.point) s.extents.each
+  pub left : All (All (λ n. n < count)) s.left
+
+-- so it is in every history
+abbrev pub KeptAreMade : Type 0
+KeptAreMade = (h : History) → AreMade (standing_of h).shelf (made_by (standing_of h))
 
 -- if there is such a number, it is one of these
 abbrev pub Has : List ℕ → Option ℕ → Type 0

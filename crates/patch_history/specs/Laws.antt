@@ -1,11 +1,15 @@
 -- Laws of histories.
-use Rattle.std.specs.Prelude.{ℕ, true, ◌≡◌, List}
+use Rattle.std.specs.Prelude.{ℕ, true, ◌≡◌, ◌<◌, List, length, count_by, Some}
+use Rattle.patch_model.specs.Entry.{is_live}
+use Rattle.patch_model.specs.State.{entries_of}
 use Rattle.patch_model.specs.Legal.{IsLegal}
 use Rattle.patch_recovery.specs.Ledger.{value_in}
 use Rattle.patch_recovery.specs.Said.{last_said}
 use Rattle.patch_recovery.specs.Store.{IsOfStore}
 use Rattle.patch_recovery.specs.Closed.{Opens, cached_blocks}
+use Rattle.patch_recovery.specs.Lasting.{Tells}
 use Rattle.patch_extent.specs.Meaning as extents
+use Rattle.patch_history.specs.Standing.{made_by, live_of}
 use Rattle.patch_history.specs.History.{History, Event, IsLegalHistory, IsRight, execution_of, standing_of, ledger_of}
 use Rattle.patch_history.specs.History.{with_event}
 
@@ -40,3 +44,16 @@ HistoriesAreRead =
 abbrev pub ExtentsAreKept : Type 0
 ExtentsAreKept =
     (h : History) → IsLegalHistory h → extents.Represents (standing_of h).shelf.extents (execution_of h)
+
+-- What a standing says, and the blocks with it: the format; how many patches were made; the frame of each used slot, which
+-- has the value of its key in the map; and the current extent, which is one of the disk's.
+pub record Agrees (h : History) : Type 0 where
+  pub format : (standing_of h).map.format ≡ (ledger_of h).geometry.format
+  pub made : made_by (standing_of h) ≡ length (entries_of (execution_of h))
+  pub live : live_of (standing_of h) ≡ count_by is_live (entries_of (execution_of h))
+  pub tells : Tells (ledger_of h) (value_in (standing_of h).map.entries)
+  pub current : (e : ℕ) → (standing_of h).shelf.current ≡ Some e → e < (ledger_of h).geometry.extents
+
+-- so it is in each legal history
+abbrev pub StandingsAgree : Type 0
+StandingsAgree = (h : History) → IsLegalHistory h → Agrees h

@@ -1,9 +1,9 @@
 //! Laws of histories.
-ghost use Rattle.patch_history.specs.Kept.{ShelvesAreKept, NewestAreKept, KeptAreNamed};
+ghost use Rattle.patch_history.specs.Kept.{ShelvesAreKept, NewestAreKept, KeptAreMade, KeptAreNamed};
 ghost use Rattle.patch_history.specs.Steps.{FramesCompose, AppendsAreCuts, BegunAppendsAreCuts, CutsAreFirst, PlansAreOfStores, UpgradesSpellAlike};
 ghost use Rattle.patch_history.specs.Given.{Given};
 ghost use Rattle.patch_history.specs.Closed.{HistoriesMove, ClosedDisksOpen, CrashDisksOpen};
-ghost use Rattle.patch_history.specs.Laws.{HistoriesExtend, StandingsRun, HistoriesAreOfStores, MapsAreSaid, HistoriesAreRead, ExtentsAreKept};
+ghost use Rattle.patch_history.specs.Laws.{HistoriesExtend, StandingsRun, HistoriesAreOfStores, MapsAreSaid, HistoriesAreRead, StandingsAgree, ExtentsAreKept};
 
 /// One event more is judged by the history so far.
 pub fn histories_extend()
@@ -23,6 +23,11 @@ pub fn shelves_are_kept()
 /// The patches that are kept to be named are the newest of their kinds.
 pub fn newest_are_kept()
     ensures { NewestAreKept }
+{}
+
+/// All that is kept to be named was made.
+pub fn kept_are_made()
+    ensures { KeptAreMade }
 {}
 
 /// What a shelf keeps is all that the next patches have to name.
@@ -66,6 +71,7 @@ pub fn histories_are_of_stores()
     ensures stores { HistoriesAreOfStores }
     ensures maps { MapsAreSaid }
     ensures read { HistoriesAreRead }
+    ensures agree { StandingsAgree }
 {
     laws_below();
 }

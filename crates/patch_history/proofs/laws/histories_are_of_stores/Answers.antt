@@ -10,3 +10,6 @@ returns-clause-maps c = bridging.maps_are_said c.laws_below.ensures
 
 pub returns-clause-read : goal.returns-clause-read
 returns-clause-read c = extended.histories_are_read c.laws_below.ensures
+
+pub returns-clause-agree : goal.returns-clause-agree
+returns-clause-agree c = bridging.standings_agree c.laws_below.ensures
