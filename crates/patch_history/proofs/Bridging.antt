@@ -107,7 +107,8 @@ module _ (given : Given) where
   event_marked h l (Call writer command reply steps) st marks stood right count are =
       let start = opened_by h l in
       let done = take (creates steps) (plan_of st writer command) in
-      let moved = call_marked given h.first start.sound start.valid (stores_of h l) st writer command reply steps stood right in
+      let moved =
+      call_marked given h.first start.sound start.valid (stores_of h l) st writer command reply steps stood right in
       let long = length-append marks (map (moves_entry command) done) in
       let each = length-map done (moves_entry command) in
       let made = onto_length done st.made in

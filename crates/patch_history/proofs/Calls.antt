@@ -59,13 +59,15 @@ module _ (given : Given) (first : Ledger) (sound : IsSound first) (valid : IsGeo
     pub fits : FrameFits first st.made extent slot (record { key = key; value = value })
     pub plan_is : plan_of st writer (Put key value) ≡ named_plan st.groups (Some writer) (made_by st) (frame_plan st.shelf (made_by st) extent slot (record { key = key; value = value }))
 
-  put_ready : (st : Standing) (writer : ℕ) (key value : List ℕ) → Stood first st → is_refused (reply_of st writer (Put key value)) ≡ false → IsReadyPut st writer key value
+  put_ready : (st : Standing) (writer : ℕ) (key value : List ℕ) → Stood first st
+      → is_refused (reply_of st writer (Put key value)) ≡ false → IsReadyPut st writer key value
   put_ready st writer key value stood answered =
       let c : Content = record { key = key; value = value } in
       let why = put_done st key value (no_cause (why_not_put st key value) Done answered) in
       let plan = why.1.0 in
       let put = put_cases st.shelf (made_by st) c plan (slot_for st.shelf key) refl why.1.1 in
-      let fit : Fits (value_limit (after_all first st.made).geometry.format) c = subst (λ f. Fits (value_limit f) c) stood.format why.0 in
+      let fit : Fits (value_limit (after_all first st.made).geometry.format) c =
+      subst (λ f. Fits (value_limit f) c) stood.format why.0 in
       record {
         slot = put.slot;
         extent = put.extent;
@@ -73,7 +75,8 @@ module _ (given : Given) (first : Ledger) (sound : IsSound first) (valid : IsGeo
         plan_is = ap (λ o. named_plan st.groups (Some writer) (made_by st) (unwrap_or o [])) why.1.1 ∙ ap (named_plan st.groups (Some writer) (made_by st)) put.are;
       }
 
-  put_well_named : (st : Standing) (writer : ℕ) (extent slot : ℕ) (c : Content) → Stood first st → FrameFits first st.made extent slot c
+  put_well_named : (st : Standing) (writer : ℕ) (extent slot : ℕ) (c : Content) → Stood first st
+      → FrameFits first st.made extent slot c
       → AreWellMade first (onto (named_plan st.groups (Some writer) (made_by st) (frame_plan st.shelf (made_by st) extent slot c)) st.made)
   put_well_named st writer extent slot c stood fits =
       let plan = frame_plan st.shelf (made_by st) extent slot c in
@@ -82,18 +85,24 @@ module _ (given : Given) (first : Ledger) (sound : IsSound first) (valid : IsGeo
       richer_well first (onto plan st.made) (onto (named_plan st.groups (Some writer) (made_by st) plan) st.made) (richer_named st.groups (Some writer) (made_by st) plan st.made)
       (subst (AreWellMade first) (sym is) done.well_made)
 
-  put_whole : (st : Standing) (writer : ℕ) (key value : List ℕ) (reply : Reply) (steps : List Step) → Stood first st → is_refused reply ≡ false → is_refused (reply_of st writer (Put key value)) ≡ false
-      → IsWhole st (plan_of st writer (Put key value)) steps → Stood first (after_call st writer (Put key value) reply steps)
+  put_whole : (st : Standing) (writer : ℕ) (key value : List ℕ) (reply : Reply) (steps : List Step) → Stood first st
+      → is_refused reply ≡ false → is_refused (reply_of st writer (Put key value)) ≡ false
+      → IsWhole st (plan_of st writer (Put key value)) steps
+      → Stood first (after_call st writer (Put key value) reply steps)
   put_whole st writer key value reply steps stood ok answered whole =
       let c : Content = record { key = key; value = value } in
       let ready = put_ready st writer key value stood answered in
       let plan = frame_plan st.shelf (made_by st) ready.extent ready.slot c in
       let put = put_of st.shelf (made_by st) ready.extent ready.slot c in
       let named_one = named_plan st.groups (Some writer) (made_by st) plan in
-      let is = frame_is given st.shelf first st.made (made_by st) ready.extent ready.slot c stood.good ready.fits.known in
-      let done = frame_well given st.shelf first st.made (made_by st) ready.extent ready.slot c valid refl stood.good ready.fits in
+      let is =
+      frame_is given st.shelf first st.made (made_by st) ready.extent ready.slot c stood.good ready.fits.known in
+      let done =
+      frame_well given st.shelf first st.made
+      (made_by st) ready.extent ready.slot c valid refl stood.good ready.fits in
       let richer = richer_named st.groups (Some writer) (made_by st) plan st.made in
-      let steps_are : steps ≡ steps_by whole.0 (written st.shelf.extents (made_by st) named_one) = whole.1 ∙ ap (λ p. steps_by whole.0 (written st.shelf.extents (made_by st) p)) ready.plan_is in
+      let steps_are : steps ≡ steps_by whole.0 (written st.shelf.extents (made_by st) named_one) =
+      whole.1 ∙ ap (λ p. steps_by whole.0 (written st.shelf.extents (made_by st) p)) ready.plan_is in
       let same_map = done_is st.map (Put key value) reply ok in
       stood_after given first sound st writer (Put key value) reply steps named_one whole.0 stood
       (whole_take whole.0 st.shelf.extents (made_by st) named_one steps steps_are ∙ ap (take (creates steps)) (sym ready.plan_is))
@@ -102,10 +111,13 @@ module _ (given : Given) (first : Ledger) (sound : IsSound first) (valid : IsGeo
       (ap (λ h. h.format) same_map ∙ stood.format ∙ ap (λ g. g.format) (sym (put_geometry first st.made put) ∙ ap (λ ms. (after_all first ms).geometry) (sym is) ∙ ap (λ l. l.geometry) (sym (richer_ledger first _ _ richer))))
       (λ k. ap (λ h. value_in h.entries k) same_map ∙ value_with st.map.entries key value k
       ∙ ap (λ o. if bytes_eq key k then Some value else o) (stood.said k)
-      ∙ sym (done.values k) ∙ ap (λ ms. last_said (λ number. true) first ms k) (sym is) ∙ sym (richer_said first _ _ k richer))
+      ∙ sym (done.values k) ∙ ap (λ ms. last_said (λ number. true) first ms k) (sym is)
+      ∙ sym (richer_said first _ _ k richer))
 
-  put_cut : (st : Standing) (writer : ℕ) (key value : List ℕ) (reply : Reply) (steps : List Step) → Stood first st → is_refused reply ≡ true → is_refused (reply_of st writer (Put key value)) ≡ false
-      → IsCut st (plan_of st writer (Put key value)) steps → Stood first (after_call st writer (Put key value) reply steps)
+  put_cut : (st : Standing) (writer : ℕ) (key value : List ℕ) (reply : Reply) (steps : List Step) → Stood first st
+      → is_refused reply ≡ true → is_refused (reply_of st writer (Put key value)) ≡ false
+      → IsCut st (plan_of st writer (Put key value)) steps
+      → Stood first (after_call st writer (Put key value) reply steps)
   put_cut st writer key value reply steps stood lost answered cut =
       let c : Content = record { key = key; value = value } in
       let n = made_by st in
@@ -137,21 +149,27 @@ module _ (given : Given) (first : Ledger) (sound : IsSound first) (valid : IsGeo
 
   -- Delete.
 
-  delete_whole : (st : Standing) (writer : ℕ) (key : List ℕ) (reply : Reply) (steps : List Step) → Stood first st → is_refused reply ≡ false → is_refused (reply_of st writer (Delete key)) ≡ false
+  delete_whole : (st : Standing) (writer : ℕ) (key : List ℕ) (reply : Reply) (steps : List Step) → Stood first st
+      → is_refused reply ≡ false → is_refused (reply_of st writer (Delete key)) ≡ false
       → IsWhole st (plan_of st writer (Delete key)) steps → Stood first (after_call st writer (Delete key) reply steps)
   delete_whole st writer key reply steps stood ok answered whole =
       let why = delete_done st key (no_cause (why_not_deleted st key) Done answered) in
       let clear = clearing st key why.0 (slot_of st.shelf key) refl why.1 in
       let one : Made = record { change = Clear clear.slot; after = option_to_list st.shelf.last_delete } in
       let named_one = named_plan st.groups (Some writer) (made_by st) (one ∷ []) in
-      let plan_is : plan_of st writer (Delete key) ≡ named_one = ap (λ o. named_plan st.groups (Some writer) (made_by st) (unwrap_or o [])) why.1 ∙ ap (named_plan st.groups (Some writer) (made_by st)) clear.are in
+      let plan_is : plan_of st writer (Delete key) ≡ named_one =
+      ap (λ o. named_plan st.groups (Some writer) (made_by st) (unwrap_or o [])) why.1
+      ∙ ap (named_plan st.groups (Some writer) (made_by st)) clear.are in
       let found = slot_found st.shelf key clear.slot clear.slot_is in
-      let well : IsWellMade first one st.made = clear_well given first sound valid st.shelf st.made clear.slot found.1.0 stood.good found.0 found.1.1 in
+      let well : IsWellMade first one st.made =
+      clear_well given first sound valid st.shelf st.made clear.slot found.1.0 stood.good found.0 found.1.1 in
       let richer = richer_named st.groups (Some writer) (made_by st) (one ∷ []) st.made in
-      let steps_are : steps ≡ steps_by whole.0 (written st.shelf.extents (made_by st) named_one) = whole.1 ∙ ap (λ p. steps_by whole.0 (written st.shelf.extents (made_by st) p)) plan_is in
+      let steps_are : steps ≡ steps_by whole.0 (written st.shelf.extents (made_by st) named_one) =
+      whole.1 ∙ ap (λ p. steps_by whole.0 (written st.shelf.extents (made_by st) p)) plan_is in
       let same_map = done_is st.map (Delete key) reply ok in
       let low : clear.slot < slot_count (after_all first st.made).geometry = (let counts = stood.good.holds.shelf.slots in let less = found.0 in omega (arith, counts, less)) in
-      let says : (after_all first st.made).slot clear.slot ≡ Some found.1.0 = sym (stood.good.holds.shelf.slot clear.slot low) ∙ found.1.1 in
+      let says : (after_all first st.made).slot clear.slot ≡ Some found.1.0 =
+      sym (stood.good.holds.shelf.slot clear.slot low) ∙ found.1.1 in
       stood_after given first sound st writer (Delete key) reply steps named_one whole.0 stood
       (whole_take whole.0 st.shelf.extents (made_by st) named_one steps steps_are ∙ ap (take (creates steps)) (sym plan_is))
       steps_are
@@ -164,11 +182,13 @@ module _ (given : Given) (first : Ledger) (sound : IsSound first) (valid : IsGeo
 
   -- Upgrade.
 
-  upgrade_whole : (st : Standing) (writer : ℕ) (reply : Reply) (steps : List Step) → Stood first st → is_refused reply ≡ false → is_refused (reply_of st writer Upgrade) ≡ false
+  upgrade_whole : (st : Standing) (writer : ℕ) (reply : Reply) (steps : List Step) → Stood first st
+      → is_refused reply ≡ false → is_refused (reply_of st writer Upgrade) ≡ false
       → IsWhole st (plan_of st writer Upgrade) steps → Stood first (after_call st writer Upgrade reply steps)
   upgrade_whole st writer reply steps stood ok answered whole =
       let one : Made = record { change = Widen; after = [] } in
-      let narrow : (after_all first st.made).geometry.format ≡ One = sym stood.format ∙ upgrade_done st (no_cause (why_not_upgraded st) Done answered) in
+      let narrow : (after_all first st.made).geometry.format ≡ One =
+      sym stood.format ∙ upgrade_done st (no_cause (why_not_upgraded st) Done answered) in
       let well : IsWellMade first one st.made = given.names first one st.made stood.good.well narrow tt in
       let same_map = done_is st.map Upgrade reply ok in
       stood_after given first sound st writer Upgrade reply steps (one ∷ []) whole.0 stood
@@ -192,7 +212,8 @@ module _ (given : Given) (first : Ledger) (sound : IsSound first) (valid : IsGeo
   reclaim_start st extent stood can =
       let good = stood.good in
       let shelf = good.holds.shelf in
-      let geometry : st.shelf.extents.geometry.extents ≡ (after_all first st.made).geometry.extents = ap (λ g. g.extents) shelf.geometry in
+      let geometry : st.shelf.extents.geometry.extents ≡ (after_all first st.made).geometry.extents =
+      ap (λ g. g.extents) shelf.geometry in
       let known = can.known in
       let known_now : extent < (after_all first st.made).geometry.extents = omega (arith, known, geometry) in
       let slots = good.holds.slots in
@@ -206,7 +227,8 @@ module _ (given : Given) (first : Ledger) (sound : IsSound first) (valid : IsGeo
             let some = some_in (live_frames st.shelf extent) f i in
             let a : is_current st.shelf extent ≡ true = is_current_of st.shelf extent st.shelf.current refl at in
             let b : (length (live_frames st.shelf extent) == 0) ≡ false = grind (arith, nat_tests) in
-            let opens : (is_current st.shelf extent && not (length (live_frames st.shelf extent) == 0)) ≡ true = rw (a, b) refl in
+            let opens : (is_current st.shelf extent && not (length (live_frames st.shelf extent) == 0)) ≡ true =
+            rw (a, b) refl in
             let no : false ≡ true = sym can.not_open ∙ opens in cc;
         said = stood.said;
         waits = λ f i.
@@ -220,28 +242,36 @@ module _ (given : Given) (first : Ledger) (sound : IsSound first) (valid : IsGeo
             live_all st.shelf extent x g (shelf.slot x low ∙ says) named;
       }
 
-  reclaim_ready : (st : Standing) (writer extent : ℕ) → Stood first st → is_refused (reply_of st writer (Reclaim extent)) ≡ false → IsReadyReclaim st writer extent
+  reclaim_ready : (st : Standing) (writer extent : ℕ) → Stood first st
+      → is_refused (reply_of st writer (Reclaim extent)) ≡ false → IsReadyReclaim st writer extent
   reclaim_ready st writer extent stood answered =
       let can = reclaim_done st extent (no_cause (why_not_reclaimed st extent) Done answered) in
       let n = made_by st in
-      let emptying_one = emptying st extent can.plan (moves st.map.entries st.shelf n (live_frames st.shelf extent)) refl can.is in
+      let emptying_one =
+      emptying st extent can.plan (moves st.map.entries st.shelf n (live_frames st.shelf extent)) refl can.is in
       let moved = emptying_one.moved in
       let good = stood.good in
       let shelf = good.holds.shelf in
-      let geometry : st.shelf.extents.geometry.extents ≡ (after_all first st.made).geometry.extents = ap (λ g. g.extents) shelf.geometry in
+      let geometry : st.shelf.extents.geometry.extents ≡ (after_all first st.made).geometry.extents =
+      ap (λ g. g.extents) shelf.geometry in
       let known = can.known in
       let extents = good.holds.extents in
       let known_now : extent < (after_all first st.made).geometry.extents = omega (arith, known, geometry) in
       let known_first : extent < first.geometry.extents = omega (arith, known, geometry, extents) in
       let start = reclaim_start st extent stood can in
-      let went = moves_well given first sound valid stores st.map.entries extent ((after_all first st.made).pointer extent) known_first (live_frames st.shelf extent) st.shelf st.made n moved refl start emptying_one.moves_are in
+      let went =
+      moves_well given first sound valid stores st.map.entries extent
+      ((after_all first st.made).pointer extent) known_first
+      (live_frames st.shelf extent) st.shelf st.made n moved refl start emptying_one.moves_are in
       let few = good.few extent known_first in
       let spent = can.generation in
-      let generation : generation_at st.shelf.extents extent ≡ ((after_all first st.made).pointer extent).generation = ap (λ p. p.generation) (shelf.pointer extent known_now) in
+      let generation : generation_at st.shelf.extents extent ≡ ((after_all first st.made).pointer extent).generation =
+      ap (λ p. p.generation) (shelf.pointer extent known_now) in
       let raised : generation_at st.shelf.extents extent + 1 ≡ ((after_all first (onto moved st.made)).pointer extent).generation + 1 =
       ap (λ g. g + 1) (generation ∙ ap (λ p. p.generation) (sym went.ready.kept)) in
       let small : generation_at st.shelf.extents extent + 1 < 2 ^ 32 = omega (arith, few, spent, generation) in
-      let reset : Made = record { change = Point extent (generation_at st.shelf.extents extent + 1) 0; after = left_of (after_plan st.shelf n moved) extent } in
+      let reset : Made =
+      record { change = Point extent (generation_at st.shelf.extents extent + 1) 0; after = left_of (after_plan st.shelf n moved) extent } in
       let one : IsWellMade first reset (onto moved st.made) = reset_well given first sound valid (after_plan st.shelf n moved) (onto moved st.made) extent (generation_at st.shelf.extents extent + 1)
       went.ready.good known_first small raised (λ slot f says named. went.ready.rest slot f says named) in
       record {
@@ -253,25 +283,32 @@ module _ (given : Given) (first : Ledger) (sound : IsSound first) (valid : IsGeo
             (silent_moved first (reset ∷ []) (onto moved st.made) (tt, tt));
       }
 
-  reclaim_whole : (st : Standing) (writer extent : ℕ) (reply : Reply) (steps : List Step) → Stood first st → is_refused reply ≡ false → is_refused (reply_of st writer (Reclaim extent)) ≡ false
-      → IsWhole st (plan_of st writer (Reclaim extent)) steps → Stood first (after_call st writer (Reclaim extent) reply steps)
+  reclaim_whole : (st : Standing) (writer extent : ℕ) (reply : Reply) (steps : List Step) → Stood first st
+      → is_refused reply ≡ false → is_refused (reply_of st writer (Reclaim extent)) ≡ false
+      → IsWhole st (plan_of st writer (Reclaim extent)) steps
+      → Stood first (after_call st writer (Reclaim extent) reply steps)
   reclaim_whole st writer extent reply steps stood ok answered whole =
       let ready = reclaim_ready st writer extent stood answered in
       let plan = emptied st.shelf (made_by st) extent ready.moved in
-      let steps_are : steps ≡ steps_by whole.0 (written st.shelf.extents (made_by st) plan) = whole.1 ∙ ap (λ p. steps_by whole.0 (written st.shelf.extents (made_by st) p)) ready.plan_is in
+      let steps_are : steps ≡ steps_by whole.0 (written st.shelf.extents (made_by st) plan) =
+      whole.1 ∙ ap (λ p. steps_by whole.0 (written st.shelf.extents (made_by st) p)) ready.plan_is in
       stood_quiet given first sound st writer (Reclaim extent) reply steps plan whole.0 stood
       (whole_take whole.0 st.shelf.extents (made_by st) plan steps steps_are ∙ ap (take (creates steps)) (sym ready.plan_is))
       steps_are ready.well ready.quiet (done_is st.map (Reclaim extent) reply ok)
 
-  reclaim_cut : (st : Standing) (writer extent : ℕ) (reply : Reply) (steps : List Step) → Stood first st → is_refused reply ≡ true → is_refused (reply_of st writer (Reclaim extent)) ≡ false
-      → IsCut st (plan_of st writer (Reclaim extent)) steps → Stood first (after_call st writer (Reclaim extent) reply steps)
+  reclaim_cut : (st : Standing) (writer extent : ℕ) (reply : Reply) (steps : List Step) → Stood first st
+      → is_refused reply ≡ true → is_refused (reply_of st writer (Reclaim extent)) ≡ false
+      → IsCut st (plan_of st writer (Reclaim extent)) steps
+      → Stood first (after_call st writer (Reclaim extent) reply steps)
   reclaim_cut st writer extent reply steps stood lost answered cut =
       let n = made_by st in
       let ready = reclaim_ready st writer extent stood answered in
       let plan = emptied st.shelf n extent ready.moved in
-      let plain : EndsPlainly (written st.shelf.extents n plan) = ends_plainly st.shelf.extents n ready.moved _ (λ s n. refl) in
+      let plain : EndsPlainly (written st.shelf.extents n plan) =
+      ends_plainly st.shelf.extents n ready.moved _ (λ s n. refl) in
       let all_steps = cut.2.1 ∙ ap (λ p. steps_by cut.2.0 (written st.shelf.extents n p)) ready.plan_is in
-      let some_first : IsFirst (written st.shelf.extents n plan) steps = cuts_are_first cut.2.0 (written st.shelf.extents n plan) steps cut.0 plain cut.1 all_steps in
+      let some_first : IsFirst (written st.shelf.extents n plan) steps =
+      cuts_are_first cut.2.0 (written st.shelf.extents n plan) steps cut.0 plain cut.1 all_steps in
       let less = some_first.2 in
       let long = length-written st.shelf.extents n plan in
       stood_quiet given first sound st writer (Reclaim extent) reply steps (take some_first.1 plan) some_first.0 stood
@@ -283,7 +320,8 @@ module _ (given : Given) (first : Ledger) (sound : IsSound first) (valid : IsGeo
 
   -- Any command.
 
-  whole_stood : (st : Standing) (writer : ℕ) (command : Command) (reply : Reply) (steps : List Step) → Stood first st → is_refused reply ≡ false → is_refused (reply_of st writer command) ≡ false
+  whole_stood : (st : Standing) (writer : ℕ) (command : Command) (reply : Reply) (steps : List Step) → Stood first st
+      → is_refused reply ≡ false → is_refused (reply_of st writer command) ≡ false
       → IsWhole st (plan_of st writer command) steps → Stood first (after_call st writer command reply steps)
   whole_stood st writer (Put key value) reply steps stood ok answered whole = put_whole st writer key value reply steps stood ok answered whole
   whole_stood st writer (Delete key) reply steps stood ok answered whole = delete_whole st writer key reply steps stood ok answered whole
@@ -297,8 +335,10 @@ module _ (given : Given) (first : Ledger) (sound : IsSound first) (valid : IsGeo
   whole_stood st writer (CloseGroup group) reply steps stood ok answered whole = stood_nothing given first sound st writer (CloseGroup group) reply steps stood whole.1 (done_is st.map (CloseGroup group) reply ok)
   whole_stood st writer (Pending group) reply steps stood ok answered whole = stood_nothing given first sound st writer (Pending group) reply steps stood whole.1 (done_is st.map (Pending group) reply ok)
 
-  cut_stood : (st : Standing) (writer : ℕ) (command : Command) (reply : Reply) (steps : List Step) → Stood first st → is_refused reply ≡ true → is_refused (reply_of st writer command) ≡ false
-      → MatchBool (may_be_cut command) (IsCut st (plan_of st writer command) steps) (steps ≡ []) → Stood first (after_call st writer command reply steps)
+  cut_stood : (st : Standing) (writer : ℕ) (command : Command) (reply : Reply) (steps : List Step) → Stood first st
+      → is_refused reply ≡ true → is_refused (reply_of st writer command) ≡ false
+      → MatchBool (may_be_cut command) (IsCut st (plan_of st writer command) steps) (steps ≡ [])
+      → Stood first (after_call st writer command reply steps)
   cut_stood st writer (Put key value) reply steps stood lost answered cut = put_cut st writer key value reply steps stood lost answered cut
   cut_stood st writer (Reclaim extent) reply steps stood lost answered cut = reclaim_cut st writer extent reply steps stood lost answered cut
   cut_stood st writer (Delete key) reply steps stood lost answered cut = stood_nothing given first sound st writer (Delete key) reply steps stood cut (refused_same st.map (Delete key) reply lost)
@@ -328,13 +368,15 @@ module _ (given : Given) (first : Ledger) (sound : IsSound first) (valid : IsGeo
     | inl u ↦
         let made = answered.1 in
         let none : steps ≡ [] = rw u at made in
-        subst (λ all. AllMoved fills first st.made (take (creates all) (plan_of st writer (Reclaim extent)))) (sym none) tt
+        subst (λ all. AllMoved fills first st.made (take (creates all) (plan_of st writer (Reclaim extent))))
+        (sym none) tt
     | inr u ↦ reclaim_moved st writer extent steps stood (ap is_refused (sym answered.0) ∙ u)
   ]
   reclaim_marked st writer extent reply steps stood (inr lacked) =
       reclaim_moved st writer extent steps stood lacked.no_cause
 
-  pub call_marked : (st : Standing) (writer : ℕ) (command : Command) (reply : Reply) (steps : List Step) → Stood first st
+  pub call_marked : (st : Standing) (writer : ℕ) (command : Command) (reply : Reply) (steps : List Step)
+      → Stood first st
       → IsRight st (Call writer command reply steps)
       → AllMoved (moves_entry command) first st.made (take (creates steps) (plan_of st writer command))
   call_marked st writer (Reclaim extent) reply steps stood right =
@@ -366,7 +408,8 @@ module _ (given : Given) (first : Ledger) (sound : IsSound first) (valid : IsGeo
   write_makes_nothing (Send block) h = refl
   write_makes_nothing (Complete block) h = refl
 
-  pub event_stood : (st : Standing) (event : Event) → Stood first st → IsRight st event → Stood first (after_event st event)
+  pub event_stood : (st : Standing) (event : Event) → Stood first st → IsRight st event
+      → Stood first (after_event st event)
   event_stood st (Call writer command reply steps) stood (inl answered) = elim (cases_Bool (is_refused reply)) [
     | inl u ↦ (let made = answered.1 in stood_nothing given first sound st writer command reply steps stood (rw u at made) (refused_same st.map command reply u))
     | inr u ↦ (let made = answered.1 in whole_stood st writer command reply steps stood u (ap is_refused (sym answered.0) ∙ u) (rw u at made))

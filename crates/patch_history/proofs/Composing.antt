@@ -16,7 +16,8 @@ no_merges : (s : Extents) (gs : Groups) (w : Option ℕ) (n : ℕ) (p : List Mad
     → steps_of (replicate (length p) false) s gs w n p ≡ steps_of [] s gs w n p
 no_merges s gs w n [] = refl
 no_merges s gs w n (m ∷ p) =
-    ap (λ xs. step_of s.geometry (record m { after = named gs w m.after }) ∷ xs) (no_merges (after_change s n m.change) (with_patch gs w n) w (n + 1) p)
+    ap (λ xs. step_of s.geometry (record m { after = named gs w m.after }) ∷ xs)
+    (no_merges (after_change s n m.change) (with_patch gs w n) w (n + 1) p)
 
 -- a plan that ends with a change has steps
 some_steps : (s : Extents) (gs : Groups) (w : Option ℕ) (n : ℕ) (p : List Made) (q : Made)

@@ -48,24 +48,33 @@ with_done st writer command reply steps done = record {
 
 -- How many patches steps make.
 
-pub whole_take : (choices : List Bool) (s : Extents) (n : ℕ) (plan : List Made) (steps : List Step) → steps ≡ steps_by choices (written s n plan) → plan ≡ take (creates steps) plan
+pub whole_take : (choices : List Bool) (s : Extents) (n : ℕ) (plan : List Made) (steps : List Step)
+    → steps ≡ steps_by choices (written s n plan) → plan ≡ take (creates steps) plan
 whole_take choices s n plan steps e =
     sym (take_all (creates steps) plan (let c : creates steps ≡ length plan = ap creates e ∙ creates_by choices s n plan in omega (arith, c)))
 
-pub cut_steps : (choices : List Bool) (s : Extents) (n count : ℕ) (plan : List Made) (steps : List Step) → steps ≡ steps_by choices (take count (written s n plan)) → steps ≡ steps_by choices (written s n (take count plan))
+pub cut_steps : (choices : List Bool) (s : Extents) (n count : ℕ) (plan : List Made) (steps : List Step)
+    → steps ≡ steps_by choices (take count (written s n plan))
+    → steps ≡ steps_by choices (written s n (take count plan))
 cut_steps choices s n count plan steps e = e ∙ ap (steps_by choices) (take_written count s n plan)
 
-pub cut_take : (choices : List Bool) (s : Extents) (n count : ℕ) (plan : List Made) (steps : List Step) → count < length plan → steps ≡ steps_by choices (take count (written s n plan)) → take count plan ≡ take (creates steps) plan
+pub cut_take : (choices : List Bool) (s : Extents) (n count : ℕ) (plan : List Made) (steps : List Step)
+    → count < length plan → steps ≡ steps_by choices (take count (written s n plan))
+    → take count plan ≡ take (creates steps) plan
 cut_take choices s n count plan steps less e =
-    let c : creates steps ≡ length (take count plan) = ap creates (cut_steps choices s n count plan steps e) ∙ creates_by choices s n (take count plan) in
+    let c : creates steps ≡ length (take count plan) =
+    ap creates (cut_steps choices s n count plan steps e) ∙ creates_by choices s n (take count plan) in
     let long = length-take count plan in
     ap (λ k. take k plan) (let same : count ≡ creates steps = omega (arith, c, long, less) in same)
 
 module _ (given : Given) (first : Ledger) (sound : IsSound first) where
-  pub stood_after : (st : Standing) (writer : ℕ) (command : Command) (reply : Reply) (steps : List Step) (done : List Made) (choices : List Bool) → Stood first st
-      → done ≡ take (creates steps) (plan_of st writer command) → steps ≡ steps_by choices (written st.shelf.extents (made_by st) done) → AreWellMade first (onto done st.made)
+  pub stood_after : (st : Standing) (writer : ℕ) (command : Command) (reply : Reply) (steps : List Step) (done : List Made) (choices : List Bool)
+      → Stood first st
+      → done ≡ take (creates steps) (plan_of st writer command)
+      → steps ≡ steps_by choices (written st.shelf.extents (made_by st) done) → AreWellMade first (onto done st.made)
       → (after_reply st.map command reply).format ≡ (after_all first (onto done st.made)).geometry.format
-      → ((key : List ℕ) → value_in (after_reply st.map command reply).entries key ≡ last_said (λ number. true) first (onto done st.made) key)
+      → ((key : List ℕ)
+      → value_in (after_reply st.map command reply).entries key ≡ last_said (λ number. true) first (onto done st.made) key)
       → Stood first (after_call st writer command reply steps)
   stood_after st writer command reply steps done choices stood is steps_are well format tells =
       subst (λ d. Stood first (with_done st writer command reply steps d)) is (record {
@@ -77,23 +86,29 @@ module _ (given : Given) (first : Ledger) (sound : IsSound first) where
       })
 
   -- changes that leave the map as it is
-  pub stood_quiet : (st : Standing) (writer : ℕ) (command : Command) (reply : Reply) (steps : List Step) (done : List Made) (choices : List Bool) → Stood first st
-      → done ≡ take (creates steps) (plan_of st writer command) → steps ≡ steps_by choices (written st.shelf.extents (made_by st) done) → AreWellMade first (onto done st.made)
-      → AllQuiet first st.made done → after_reply st.map command reply ≡ st.map → Stood first (after_call st writer command reply steps)
+  pub stood_quiet : (st : Standing) (writer : ℕ) (command : Command) (reply : Reply) (steps : List Step) (done : List Made) (choices : List Bool)
+      → Stood first st
+      → done ≡ take (creates steps) (plan_of st writer command)
+      → steps ≡ steps_by choices (written st.shelf.extents (made_by st) done) → AreWellMade first (onto done st.made)
+      → AllQuiet first st.made done → after_reply st.map command reply ≡ st.map
+      → Stood first (after_call st writer command reply steps)
   stood_quiet st writer command reply steps done choices stood is steps_are well quiet same =
       stood_after st writer command reply steps done choices stood is steps_are well
       (ap (λ h. h.format) same ∙ stood.format ∙ ap (λ g. g.format) (sym (quiet_geometry first done st.made quiet)))
       (λ key. ap (λ h. value_in h.entries key) same ∙ stood.said key ∙ sym (quiet_said first done st.made key quiet))
 
-  pub stood_nothing : (st : Standing) (writer : ℕ) (command : Command) (reply : Reply) (steps : List Step) → Stood first st → steps ≡ [] → after_reply st.map command reply ≡ st.map
+  pub stood_nothing : (st : Standing) (writer : ℕ) (command : Command) (reply : Reply) (steps : List Step)
+      → Stood first st → steps ≡ [] → after_reply st.map command reply ≡ st.map
       → Stood first (after_call st writer command reply steps)
   stood_nothing st writer command reply steps stood none same =
       stood_quiet st writer command reply steps [] [] stood (ap (λ all. take (creates all) (plan_of st writer command)) (sym none)) none stood.good.well tt same
 
-pub refused_same : (h : Map) (command : Command) (reply : Reply) → is_refused reply ≡ true → after_reply h command reply ≡ h
+pub refused_same : (h : Map) (command : Command) (reply : Reply) → is_refused reply ≡ true
+    → after_reply h command reply ≡ h
 refused_same h command reply r = rw r refl
 
-pub done_is : (h : Map) (command : Command) (reply : Reply) → is_refused reply ≡ false → after_reply h command reply ≡ after_done h command
+pub done_is : (h : Map) (command : Command) (reply : Reply) → is_refused reply ≡ false
+    → after_reply h command reply ≡ after_done h command
 done_is h command reply r = rw r refl
 
 -- a plan of a reclaim
@@ -102,7 +117,8 @@ pub record IsEmptying (st : Standing) (extent : ℕ) (plan : List Made) : Type 0
   pub moves_are : moves st.map.entries st.shelf (made_by st) (live_frames st.shelf extent) ≡ Some moved
   pub are : plan ≡ emptied st.shelf (made_by st) extent moved
 
-pub emptying : (st : Standing) (extent : ℕ) (plan : List Made) (o : Option (List Made)) → moves st.map.entries st.shelf (made_by st) (live_frames st.shelf extent) ≡ o
+pub emptying : (st : Standing) (extent : ℕ) (plan : List Made) (o : Option (List Made))
+    → moves st.map.entries st.shelf (made_by st) (live_frames st.shelf extent) ≡ o
     → option_map (emptied st.shelf (made_by st) extent) o ≡ Some plan → IsEmptying st extent plan
 emptying st extent plan None at h = absurd (let g : None ≡ Some plan = h in cc)
 emptying st extent plan (Some moved) at h = record { moved = moved; moves_are = at; are = some_plan _ _ (sym h) }
@@ -113,7 +129,8 @@ pub record IsClearing (st : Standing) (key : List ℕ) (plan : List Made) : Type
   pub are : plan ≡ record { change = Clear slot; after = option_to_list st.shelf.last_delete } ∷ []
 
 pub clearing : (st : Standing) (key : List ℕ) (plan : List Made) (o : Option ℕ) → slot_of st.shelf key ≡ o
-    → option_map (λ slot. record { change = Clear slot; after = option_to_list st.shelf.last_delete } ∷ []) o ≡ Some plan → IsClearing st key plan
+    → option_map (λ slot. record { change = Clear slot; after = option_to_list st.shelf.last_delete } ∷ []) o ≡ Some plan
+    → IsClearing st key plan
 clearing st key plan None at h = absurd (let g : None ≡ Some plan = h in cc)
 clearing st key plan (Some slot) at h = record { slot = slot; slot_is = at; are = some_plan _ _ (sym h) }
 

@@ -65,7 +65,8 @@ module _ (given : Given) where
                     (lasts.sound.pointers e (omega arith));
               })
           | inr past ↦
-              subst (λ k. Fits (largest_pointer s.geometry.format) k.pointer) (sym (get_or_past s.each e no_extent past))
+              subst (λ k. Fits (largest_pointer s.geometry.format) k.pointer)
+              (sym (get_or_past s.each e no_extent past))
               (record { generation = omega arith; offset = omega arith })
         ];
       }
@@ -83,7 +84,8 @@ module _ (given : Given) where
       let lasts = given.last h.first (standing_of h).made start.sound store.well_made in
       let limits = limits_of h.first.geometry (ledger_of h).geometry lasts.geometry in
       let opens = given.cached (execution_of h) h.first (standing_of h).made store in
-      let read = given.read (cached_blocks (execution_of h)) opens.l (blocks_long given (execution_of h) l.legal) opens.read in
+      let read =
+      given.read (cached_blocks (execution_of h)) opens.l (blocks_long given (execution_of h) l.legal) opens.read in
       let block : pointer_block s.geometry ≡ pointer_block h.first.geometry =
       ap pointer_block shelf.geometry ∙ ap (λ n. n + 1) limits.index in
       let same : opens.l.geometry ≡ s.geometry = opens.same.geometry ∙ sym shelf.geometry in

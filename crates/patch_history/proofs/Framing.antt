@@ -51,17 +51,20 @@ built p len extent slot c cs bn pn sn made =
 spelled_some : Given → (c : Content) → 0 < length (spelling c)
 spelled_some given c = let e = given.frames.long c in omega (arith, e)
 
-pub frame_is : Given → (s : Shelf) (first : Ledger) (made : List Made) (n extent slot : ℕ) (c : Content) → Good s first made → extent < first.geometry.extents
+pub frame_is : Given → (s : Shelf) (first : Ledger) (made : List Made) (n extent slot : ℕ) (c : Content)
+    → Good s first made → extent < first.geometry.extents
     → onto (frame_plan s n extent slot c) made ≡ slot_put first made (put_of s n extent slot c)
 frame_is given s first made n extent slot c good known =
     let bn = option_to_list (extent_at s.extents extent).reset in
     let pn = range_with_len n (touched (offset_at s.extents extent) (length (spelling c))) in
     let fill = fill_plan s n extent slot c in
-    let point : Made = record { change = Point extent (generation_at s.extents extent) (offset_at s.extents extent + length (spelling c)); after = pn } in
+    let point : Made =
+    record { change = Point extent (generation_at s.extents extent) (offset_at s.extents extent + length (spelling c)); after = pn } in
     let bytes : List ℕ = spelling c in
     let count : ℕ = touched (offset_at s.extents extent) (length (spelling c)) in
     let parts_made : List Made = parts extent (offset_at s.extents extent) bytes bn count in
-    let known_now : extent < (after_all first made).geometry.extents = (let e = good.holds.extents in omega (arith, known, e)) in
+    let known_now : extent < (after_all first made).geometry.extents =
+    (let e = good.holds.extents in omega (arith, known, e)) in
     let same = good.holds.shelf.pointer extent known_now in
     onto-++ (parts_made ++ point ∷ []) (fill ∷ []) made
     ∙ ap (λ ms. fill ∷ ms) (onto-++ parts_made (point ∷ []) made)
@@ -104,11 +107,13 @@ pub among_back : (xs ys : List ℕ) (n : ℕ) → is_among ys n ≡ true → is_
 among_back xs ys n h = list_any-append (λ m. m == n) xs ys ∙ or_second (is_among xs n) (is_among ys n) h
 
 -- if there is such a number, it is there
-pub has_kept : (names : List ℕ) (o : Option ℕ) → ((n : ℕ) → is_among (option_to_list o) n ≡ true → is_among names n ≡ true) → IfSome o (λ n. IsTrue (is_among names n))
+pub has_kept : (names : List ℕ) (o : Option ℕ) → ((n : ℕ) → is_among (option_to_list o) n ≡ true
+    → is_among names n ≡ true) → IfSome o (λ n. IsTrue (is_among names n))
 has_kept names None h = tt
 has_kept names (Some n) h = h n (among_itself n [])
 
-length-in_order : (names : List ℕ) (cs : List Change) (made : List Made) → length (made_in_order names cs made) ≡ length made + length cs
+length-in_order : (names : List ℕ) (cs : List Change) (made : List Made)
+    → length (made_in_order names cs made) ≡ length made + length cs
 length-in_order names [] made = omega arith
 length-in_order names (c ∷ cs) made = let e = length-in_order names cs (record { change = c; after = names } ∷ made) in omega (arith, e)
 
@@ -119,10 +124,12 @@ length-pieces e o bs some =
     ∙ length-map (range_with_len 0 count) (λ k. record { change = part e o bs k; after = [] })
     ∙ length-range_with_len 0 count
 
-length-bytes : Given → (s : Shelf) (first : Ledger) (made : List Made) (n extent slot : ℕ) (c : Content) → Good s first made → extent < first.geometry.extents
+length-bytes : Given → (s : Shelf) (first : Ledger) (made : List Made) (n extent slot : ℕ) (c : Content)
+    → Good s first made → extent < first.geometry.extents
     → length (bytes_put first made (put_of s n extent slot c)) ≡ length made + touched (offset_at s.extents extent) (length_of c)
 length-bytes given s first made n extent slot c good known =
-    let known_now : extent < (after_all first made).geometry.extents = (let e = good.holds.extents in omega (arith, known, e)) in
+    let known_now : extent < (after_all first made).geometry.extents =
+    (let e = good.holds.extents in omega (arith, known, e)) in
     let same = good.holds.shelf.pointer extent known_now in
     length-in_order (option_to_list (extent_at s.extents extent).reset) (pieces extent ((after_all first made).pointer extent).offset (spelling c)) made
     ∙ ap (λ k. length made + k)
@@ -130,7 +137,8 @@ length-bytes given s first made n extent slot c good known =
     ∙ ap (λ p. length made + touched p.offset (length (spelling c))) (sym same)
     ∙ ap (λ k. length made + touched (offset_at s.extents extent) k) (given.frames.long c)
 
-pub right_put : Given → (s : Shelf) (first : Ledger) (made : List Made) (n extent slot : ℕ) (c : Content) → n ≡ length made → Good s first made → FrameFits first made extent slot c
+pub right_put : Given → (s : Shelf) (first : Ledger) (made : List Made) (n extent slot : ℕ) (c : Content)
+    → n ≡ length made → Good s first made → FrameFits first made extent slot c
     → IsRightPut first made (put_of s n extent slot c)
 right_put given s first made n extent slot c e good fits =
     let known = fits.known in
@@ -162,14 +170,17 @@ right_put given s first made n extent slot c e good fits =
           (among_back (if is_none (slot_at s slot) then option_to_list s.last_delete else []) (option_to_list s.upgrade) k t)));
       cleared_named = λ none.
           let empty : slot_at s slot ≡ None = good.holds.shelf.slot slot at_now ∙ none in
-          let deletes : (if is_none (slot_at s slot) then option_to_list s.last_delete else []) ≡ option_to_list s.last_delete = ap (λ o. if is_none o then option_to_list s.last_delete else []) empty in
+          let deletes : (if is_none (slot_at s slot) then option_to_list s.last_delete else [])
+          ≡ option_to_list s.last_delete =
+          ap (λ o. if is_none o then option_to_list s.last_delete else []) empty in
           subst (λ o. IfSome o (λ k. IsTrue (is_among (fill_plan s n extent slot c).after k))) newest.last_delete
           (has_kept (fill_plan s n extent slot c).after s.last_delete (λ k t. among_later (n + touched (offset_at s.extents extent) (length_of c)) k inner
           (among_front (if is_none (slot_at s slot) then option_to_list s.last_delete else []) (option_to_list s.upgrade) k (ap (λ xs. is_among xs k) deletes ∙ t))));
     }
 
 -- the plan's changes are well made, and so on
-pub frame_well : Given → (s : Shelf) (first : Ledger) (made : List Made) (n extent slot : ℕ) (c : Content) → IsGeometry first.geometry → n ≡ length made → Good s first made → FrameFits first made extent slot c
+pub frame_well : Given → (s : Shelf) (first : Ledger) (made : List Made) (n extent slot : ℕ) (c : Content)
+    → IsGeometry first.geometry → n ≡ length made → Good s first made → FrameFits first made extent slot c
     → IsPutWell first made (put_of s n extent slot c)
 frame_well given s first made n extent slot c valid e good fits =
     given.puts first made (put_of s n extent slot c) valid good.well (right_put given s first made n extent slot c e good fits)
@@ -212,5 +223,6 @@ put_pointer first made put x =
     let same = put_leaves first made put in
     ap (λ o. if x == put.extent then record { generation = ((after_all first made).pointer put.extent).generation; offset = ((after_all first made).pointer put.extent).offset + length_of put.content } else o) (same.pointer x)
 
-pub put_geometry : (first : Ledger) (made : List Made) (put : Put) → (after_all first (slot_put first made put)).geometry ≡ (after_all first made).geometry
+pub put_geometry : (first : Ledger) (made : List Made) (put : Put)
+    → (after_all first (slot_put first made put)).geometry ≡ (after_all first made).geometry
 put_geometry first made put = (put_leaves first made put).geometry

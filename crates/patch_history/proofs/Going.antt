@@ -38,7 +38,8 @@ still_current e x (Some c) h = elim (cases_Bool (c == e)) [
   | inr u ↦ (rw u at h)
 ]
 
-current-change : (s : Shelf) (first : Ledger) (made : List Made) (n : ℕ) (c : Change) → Good s first made → IsRight (after_all first made) c
+current-change : (s : Shelf) (first : Ledger) (made : List Made) (n : ℕ) (c : Change) → Good s first made
+    → IsRight (after_all first made) c
     → (e : ℕ) → (after_change s n c).current ≡ Some e → e < first.geometry.extents
 current-change s first made n (Data extent offset bytes) good right e h = good.current e h
 current-change s first made n (Point extent generation offset) good right e h = elim (cases_Bool (offset == 0)) [
@@ -49,7 +50,8 @@ current-change s first made n (Fill slot fields) good right e h = good.current e
 current-change s first made n (Clear slot) good right e h = good.current e h
 current-change s first made n Widen good right e h = good.current e h
 
-few-change : (s : Shelf) (first : Ledger) (made : List Made) (c : Change) → Good s first made → IsRight (after_all first made) c
+few-change : (s : Shelf) (first : Ledger) (made : List Made) (c : Change) → Good s first made
+    → IsRight (after_all first made) c
     → (e : ℕ) → e < first.geometry.extents → ((after (after_all first made) c).pointer e).generation < 2 ^ 32
 few-change s first made (Data extent offset bytes) good right e h = good.few e h
 few-change s first made (Point extent generation offset) good right e h = elim (cases_Bool (e == extent)) [
@@ -60,7 +62,8 @@ few-change s first made (Fill slot fields) good right e h = good.few e h
 few-change s first made (Clear slot) good right e h = good.few e h
 few-change s first made Widen good right e h = good.few e h
 
-pub good-change : (s : Shelf) (first : Ledger) (made : List Made) (n : ℕ) (m : Made) → n ≡ length made → Good s first made → IsWellMade first m made → Good (after_change s n m.change) first (m ∷ made)
+pub good-change : (s : Shelf) (first : Ledger) (made : List Made) (n : ℕ) (m : Made) → n ≡ length made
+    → Good s first made → IsWellMade first m made → Good (after_change s n m.change) first (m ∷ made)
 good-change s first made n m e good well = record {
   holds = holds-change s first made n m e good.holds;
   well = (well, good.well);
@@ -68,7 +71,8 @@ good-change s first made n m e good well = record {
   few = few-change s first made m.change good well.right;
 }
 
-pub good-plan : (first : Ledger) (s : Shelf) (n : ℕ) (plan made : List Made) → n ≡ length made → Good s first made → AreWellMade first (onto plan made) → Good (after_plan s n plan) first (onto plan made)
+pub good-plan : (first : Ledger) (s : Shelf) (n : ℕ) (plan made : List Made) → n ≡ length made → Good s first made
+    → AreWellMade first (onto plan made) → Good (after_plan s n plan) first (onto plan made)
 good-plan first s n [] made e good well = good
 good-plan first s n (m ∷ plan) made e good well =
     good-plan first (after_change s n m.change) (n + 1) plan (m ∷ made) (omega (arith, e)) (good-change s first made n m e good (onto_front first plan (m ∷ made) well).0) well

@@ -28,11 +28,13 @@ or_none None b h = (refl, h)
 or_none (Some cause) b h = absurd (let g : Some cause ≡ None = h in cc)
 
 -- a test that would refuse doesn't hold
-passes : (test : Bool) (cause : Refusal) (rest : Option Refusal) → (if test then Some cause else rest) ≡ None → (test ≡ false) × (rest ≡ None)
+passes : (test : Bool) (cause : Refusal) (rest : Option Refusal) → (if test then Some cause else rest) ≡ None
+    → (test ≡ false) × (rest ≡ None)
 passes true cause rest h = absurd (let g : Some cause ≡ None = h in cc)
 passes false cause rest h = (refl, h)
 
-planned : (st : Standing) (no_plan : Refusal) (o : Option (List Made)) → why_not_made st no_plan o ≡ None → (plan : List Made) × (o ≡ Some plan)
+planned : (st : Standing) (no_plan : Refusal) (o : Option (List Made)) → why_not_made st no_plan o ≡ None
+    → (plan : List Made) × (o ≡ Some plan)
 planned st no_plan None h = absurd (let g : Some no_plan ≡ None = h in cc)
 planned st no_plan (Some plan) h = (plan, refl)
 
@@ -54,7 +56,8 @@ put_done st key value h =
     let short : length value ≤ value_limit st.map.format = grind (arith, nat_tests) in
     (record { some_key = keys.0; short_key = keys.1; short_value = short }, planned st (bare kind.NoSpace) (plan_for st (Put key value)) b.1)
 
-pub delete_done : (st : Standing) (key : List ℕ) → why_not_deleted st key ≡ None → (plan : List Made) × (plan_for st (Delete key) ≡ Some plan)
+pub delete_done : (st : Standing) (key : List ℕ) → why_not_deleted st key ≡ None
+    → (plan : List Made) × (plan_for st (Delete key) ≡ Some plan)
 delete_done st key h =
     let two = or_none (why_no_key key) _ h in
     let a = passes (is_none (value_in st.map.entries key)) (bare kind.NoKey) _ two.1 in

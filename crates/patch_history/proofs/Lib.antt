@@ -13,6 +13,7 @@ pub mod Going
 pub mod Parts
 pub mod Framing
 pub mod Stepping
+pub mod Continuing
 pub mod Quiet
 pub mod Moved
 pub mod Living

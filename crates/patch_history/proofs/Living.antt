@@ -44,7 +44,8 @@ abbrev pub Distinct : List (ℕ × SlotFields) → Type 0
 Distinct [] = Unit {0}
 Distinct (f ∷ fs) = ((g : ℕ × SlotFields) → In fs g → g.0 ≢ f.0) × Distinct fs
 
-distinct_placed : (g : ℕ × SlotFields) (fs : List (ℕ × SlotFields)) → ((h : ℕ × SlotFields) → In fs h → h.0 ≢ g.0) → Distinct fs → Distinct (placed g fs)
+distinct_placed : (g : ℕ × SlotFields) (fs : List (ℕ × SlotFields)) → ((h : ℕ × SlotFields) → In fs h → h.0 ≢ g.0)
+    → Distinct fs → Distinct (placed g fs)
 distinct_placed g [] apart d = ((λ h i. absurd i), tt)
 distinct_placed g (x ∷ xs) apart d = elim (cases_Bool (nat_le g.1.offset x.1.offset)) [
   | inl u ↦ rw u (apart, d)
@@ -68,10 +69,12 @@ record StandsAt (k : ℕ) (slots : List (Option SlotFields)) (f : ℕ × SlotFie
   pub within : place < length slots
   pub says : slice_index_or slots place None ≡ Some f.1
 
-further : (k : ℕ) (o : Option SlotFields) (slots : List (Option SlotFields)) (f : ℕ × SlotFields) → StandsAt (k + 1) slots f → StandsAt k (o ∷ slots) f
+further : (k : ℕ) (o : Option SlotFields) (slots : List (Option SlotFields)) (f : ℕ × SlotFields)
+    → StandsAt (k + 1) slots f → StandsAt k (o ∷ slots) f
 further k o slots f h = record { place = suc h.place; is = (let e = h.is in omega (arith, e)); within = (let w = h.within in omega (arith, w)); says = h.says }
 
-live_at : (e k : ℕ) (slots : List (Option SlotFields)) (f : ℕ × SlotFields) → In (live_from e k slots) f → StandsAt k slots f
+live_at : (e k : ℕ) (slots : List (Option SlotFields)) (f : ℕ × SlotFields) → In (live_from e k slots) f
+    → StandsAt k slots f
 live_at e k [] f h = absurd h
 live_at e k (None ∷ slots) f h = further k None slots f (live_at e (k + 1) slots f h)
 live_at e k (Some g ∷ slots) f h = elim (cases_Bool (g.extent == e)) [
@@ -82,16 +85,20 @@ live_at e k (Some g ∷ slots) f h = elim (cases_Bool (g.extent == e)) [
   | inr u ↦ (let j : In (live_from e (k + 1) slots) f = rw u at h in further k (Some g) slots f (live_at e (k + 1) slots f j))
 ]
 
-live_there : (e k : ℕ) (slots : List (Option SlotFields)) (j : ℕ) (g : SlotFields) → slice_index_or slots j None ≡ Some g → g.extent ≡ e → In (live_from e k slots) (k + j, g)
+live_there : (e k : ℕ) (slots : List (Option SlotFields)) (j : ℕ) (g : SlotFields)
+    → slice_index_or slots j None ≡ Some g → g.extent ≡ e → In (live_from e k slots) (k + j, g)
 live_there e k [] j g at named = absurd (let none : None ≡ Some g = at in cc)
 live_there e k (None ∷ slots) zero g at named = absurd (let none : None ≡ Some g = at in cc)
 live_there e k (None ∷ slots) (suc j) g at named = subst (λ n. In (live_from e (k + 1) slots) (n, g)) (let x : k + 1 + j ≡ k + suc j = omega arith in x) (live_there e (k + 1) slots j g at named)
 live_there e k (Some f ∷ slots) zero g at named =
     let same : f ≡ g = some_fields f g at in
-    let u : (f.extent == e) ≡ true = (let n : f.extent ≡ e = ap (λ f. f.extent) same ∙ named in grind (arith, nat_tests)) in
+    let u : (f.extent == e) ≡ true =
+    (let n : f.extent ≡ e = ap (λ f. f.extent) same ∙ named in grind (arith, nat_tests)) in
     rw u (inl (ap (λ f. (k, f)) same ∙ ap (λ n. (n, g)) (let x : k ≡ k + 0 = omega arith in x)))
 live_there e k (Some f ∷ slots) (suc j) g at named =
-    let there : In (live_from e (k + 1) slots) (k + suc j, g) = subst (λ n. In (live_from e (k + 1) slots) (n, g)) (let x : k + 1 + j ≡ k + suc j = omega arith in x) (live_there e (k + 1) slots j g at named) in
+    let there : In (live_from e (k + 1) slots) (k + suc j, g) =
+    subst (λ n. In (live_from e (k + 1) slots) (n, g)) (let x : k + 1 + j ≡ k + suc j = omega arith in x)
+    (live_there e (k + 1) slots j g at named) in
     elim (cases_Bool (f.extent == e)) [ inl u ↦ rw u (inr there) | inr u ↦ rw u there ]
 
 live_distinct : (e k : ℕ) (slots : List (Option SlotFields)) → Distinct (live_from e k slots)
@@ -102,13 +109,15 @@ live_distinct e k (Some g ∷ slots) = elim (cases_Bool (g.extent == e)) [
   | inr u ↦ rw u (live_distinct e (k + 1) slots)
 ]
 
-pub live_are : (s : Shelf) (e : ℕ) (f : ℕ × SlotFields) → In (live_frames s e) f → (f.0 < length s.slots) × (slot_at s f.0 ≡ Some f.1)
+pub live_are : (s : Shelf) (e : ℕ) (f : ℕ × SlotFields) → In (live_frames s e) f
+    → (f.0 < length s.slots) × (slot_at s f.0 ≡ Some f.1)
 live_are s e f h =
     let at = live_at e 0 s.slots f (in_order_in f (live_from e 0 s.slots) h) in
     let same : f.0 ≡ at.place = (let i = at.is in omega (arith, i)) in
     ((let w = at.within in omega (arith, w, same)), ap (slot_at s) same ∙ at.says)
 
-pub live_all : (s : Shelf) (e x : ℕ) (g : SlotFields) → slot_at s x ≡ Some g → g.extent ≡ e → In (live_frames s e) (x, g)
+pub live_all : (s : Shelf) (e x : ℕ) (g : SlotFields) → slot_at s x ≡ Some g → g.extent ≡ e
+    → In (live_frames s e) (x, g)
 live_all s e x g at named = in_order_into (x, g) (live_from e 0 s.slots) (subst (λ n. In (live_from e 0 s.slots) (n, g)) (let y : 0 + x ≡ x = omega arith in y) (live_there e 0 s.slots x g at named))
 
 pub live_apart : (s : Shelf) (e : ℕ) → Distinct (live_frames s e)

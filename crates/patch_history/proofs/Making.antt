@@ -59,7 +59,8 @@ change_made s n (Point extent generation offset) are = record {
   last_delete = are.last_delete;
   upgrade = are.upgrade;
   resets = All-set (λ k. IsMade (n + 1) k.reset) s.extents.each extent
-      (pointed n generation offset (extent_at s.extents extent)) (reset_made s n extent generation offset are) are.resets;
+      (pointed n generation offset (extent_at s.extents extent))
+      (reset_made s n extent generation offset are) are.resets;
   points = All-set (λ k. IsMade (n + 1) k.point) s.extents.each extent
       (pointed n generation offset (extent_at s.extents extent)) (omega arith) are.points;
   left = elim (cases_Bool (offset == 0)) [
@@ -93,7 +94,8 @@ plan_made : (plan : List Made) (s : Shelf) (n : ℕ) → AreMade s n → AreMade
 plan_made [] s n are = more s n (n + 0) (omega arith) are
 plan_made (m ∷ plan) s n are =
     let one = change_made s n m.change (more s n (n + 1) (omega arith) are) in
-    subst (AreMade (after_plan (after_change s n m.change) (n + 1) plan)) (let e : n + 1 + length plan ≡ n + length (m ∷ plan) = omega arith in e)
+    subst (AreMade (after_plan (after_change s n m.change) (n + 1) plan))
+    (let e : n + 1 + length plan ≡ n + length (m ∷ plan) = omega arith in e)
     (plan_made plan (after_change s n m.change) (n + 1) one)
 
 event_made : (st : Standing) (event : Event) → AreMade st.shelf (made_by st)

@@ -55,7 +55,8 @@ read_fits limit bytes c h =
 
 -- Which extent a move takes.
 
-pub current_chosen : (s : Shelf) (len e : ℕ) (o : Option ℕ) → s.current ≡ o → current_for s len ≡ Some e → (s.current ≡ Some e) × (has_room s len e ≡ true)
+pub current_chosen : (s : Shelf) (len e : ℕ) (o : Option ℕ) → s.current ≡ o → current_for s len ≡ Some e
+    → (s.current ≡ Some e) × (has_room s len e ≡ true)
 current_chosen s len e None at h = absurd (let g : None ≡ Some e = rw at at h in cc)
 current_chosen s len e (Some x) at h = elim (cases_Bool (has_room s len x)) [
   | inl u ↦ (let g : Some x ≡ Some e = rw (at, u) at h in let same = some_number x e g in (at ∙ g, ap (has_room s len) (sym same) ∙ u))
@@ -77,7 +78,8 @@ empty_chosen s len e h =
     let test = there.1 in
     record { known = inl (let w = within.1 in omega (arith, w)); which = inr (let z : offset_at s.extents e ≡ 0 = grind (arith, nat_tests) in z) }
 
-pub move_chosen : (s : Shelf) (len e : ℕ) (o : Option ℕ) → current_for s len ≡ o → extent_for_move s len ≡ Some e → Chosen s len e
+pub move_chosen : (s : Shelf) (len e : ℕ) (o : Option ℕ) → current_for s len ≡ o → extent_for_move s len ≡ Some e
+    → Chosen s len e
 move_chosen s len e None at h = empty_chosen s len e (first_in (empty_extents s) e (rw at at h))
 move_chosen s len e (Some x) at h =
     let same : Some x ≡ Some e = rw at at h in
@@ -92,13 +94,16 @@ pub record IsMove (entries : List Content) (s : Shelf) (n : ℕ) (f : ℕ × Slo
   pub go_on : moves entries (after_plan s n (frame_plan s n extent f.0 (content_of entries f.1))) (n + length (frame_plan s n extent f.0 (content_of entries f.1))) fs ≡ Some others
   pub are : plan ≡ frame_plan s n extent f.0 (content_of entries f.1) ++ others
 
-move_on : (entries : List Content) (s : Shelf) (n extent : ℕ) (f : ℕ × SlotFields) (fs : List (ℕ × SlotFields)) (plan : List Made) (o : Option (List Made)) → extent_for_move s f.1.length ≡ Some extent
+move_on : (entries : List Content) (s : Shelf) (n extent : ℕ) (f : ℕ × SlotFields) (fs : List (ℕ × SlotFields)) (plan : List Made) (o : Option (List Made))
+    → extent_for_move s f.1.length ≡ Some extent
     → moves entries (after_plan s n (frame_plan s n extent f.0 (content_of entries f.1))) (n + length (frame_plan s n extent f.0 (content_of entries f.1))) fs ≡ o
-    → option_map (λ rest. frame_plan s n extent f.0 (content_of entries f.1) ++ rest) o ≡ Some plan → IsMove entries s n f fs plan
+    → option_map (λ rest. frame_plan s n extent f.0 (content_of entries f.1) ++ rest) o ≡ Some plan
+    → IsMove entries s n f fs plan
 move_on entries s n extent f fs plan None at rest h = absurd (let g : None ≡ Some plan = h in cc)
 move_on entries s n extent f fs plan (Some others) at rest h = record { extent = extent; chosen = at; others = others; go_on = rest; are = some_plan _ _ (sym h) }
 
-pub move_cases : (entries : List Content) (s : Shelf) (n : ℕ) (f : ℕ × SlotFields) (fs : List (ℕ × SlotFields)) (plan : List Made) (o : Option ℕ) → extent_for_move s f.1.length ≡ o
+pub move_cases : (entries : List Content) (s : Shelf) (n : ℕ) (f : ℕ × SlotFields) (fs : List (ℕ × SlotFields)) (plan : List Made) (o : Option ℕ)
+    → extent_for_move s f.1.length ≡ o
     → moves entries s n (f ∷ fs) ≡ Some plan → IsMove entries s n f fs plan
 move_cases entries s n f fs plan None at h = absurd (let g : None ≡ Some plan = rw (at, moves) at h in cc)
 move_cases entries s n f fs plan (Some extent) at h = move_on entries s n extent f fs plan _ at refl (rw (at, moves) at h)

@@ -19,35 +19,44 @@ next_block o = omega arith
 start_next : (o k : ℕ) → part_start o (k + 1) ≡ part_start (o + (4096 - o % 4096)) k
 start_next o k = let e = next_block o in let d = div-add-mod o 4096 in omega arith
 
-end_next : (o len k : ℕ) → 4096 - o % 4096 ≤ len → part_end o len (k + 1) ≡ part_end (o + (4096 - o % 4096)) (len - (4096 - o % 4096)) k
+end_next : (o len k : ℕ) → 4096 - o % 4096 ≤ len
+    → part_end o len (k + 1) ≡ part_end (o + (4096 - o % 4096)) (len - (4096 - o % 4096)) k
 end_next o len k le = let e = next_block o in let d = div-add-mod o 4096 in omega arith
 
 start_behind : (o k : ℕ) → o + (4096 - o % 4096) ≤ part_start o (k + 1)
 start_behind o k = let d = div-add-mod o 4096 in omega arith
 
-touched_more : (o len : ℕ) → 4096 - o % 4096 < len → touched o len ≡ suc (touched (o + (4096 - o % 4096)) (len - (4096 - o % 4096)))
+touched_more : (o len : ℕ) → 4096 - o % 4096 < len
+    → touched o len ≡ suc (touched (o + (4096 - o % 4096)) (len - (4096 - o % 4096)))
 touched_more o len h = omega arith
 
 touched_one : (o len : ℕ) → 0 < len → len ≤ 4096 - o % 4096 → touched o len ≡ 1
 touched_one o len some h = omega arith
 
-part_next : (e o k : ℕ) (bs : List ℕ) → 4096 - o % 4096 ≤ length bs → part e o bs (k + 1) ≡ part e (o + (4096 - o % 4096)) (drop (4096 - o % 4096) bs) k
+part_next : (e o k : ℕ) (bs : List ℕ) → 4096 - o % 4096 ≤ length bs
+    → part e o bs (k + 1) ≡ part e (o + (4096 - o % 4096)) (drop (4096 - o % 4096) bs) k
 part_next e o k bs le =
     let d : ℕ = 4096 - o % 4096 in
     let rest = length-drop (4096 - o % 4096) bs in
     let from = start_next o k in
     let to = end_next o (length bs) k le in
     let behind = start_behind o k in
-    let at : (4096 - o % 4096) + (part_start (o + (4096 - o % 4096)) k - (o + (4096 - o % 4096))) ≡ part_start o (k + 1) - o = omega (arith, from, behind) in
+    let at : (4096 - o % 4096) + (part_start (o + (4096 - o % 4096)) k - (o + (4096 - o % 4096)))
+    ≡ part_start o (k + 1) - o =
+    omega (arith, from, behind) in
     let count : part_end o (length bs) (k + 1) - o - (part_start o (k + 1) - o)
     ≡ part_end (o + (4096 - o % 4096)) (length (drop (4096 - o % 4096) bs)) k - (o + (4096 - o % 4096)) - (part_start (o + (4096 - o % 4096)) k - (o + (4096 - o % 4096))) =
-    ap (λ n. n - o - (part_start o (k + 1) - o)) to ∙ ap (λ n. part_end (o + (4096 - o % 4096)) n k - o - (part_start o (k + 1) - o)) (sym rest) ∙ (let x : ℕ = part_end (o + (4096 - o % 4096)) (length (drop (4096 - o % 4096) bs)) k in omega (arith, from, behind)) in
+    ap (λ n. n - o - (part_start o (k + 1) - o)) to
+    ∙ ap (λ n. part_end (o + (4096 - o % 4096)) n k - o - (part_start o (k + 1) - o)) (sym rest)
+    ∙ (let x : ℕ = part_end (o + (4096 - o % 4096)) (length (drop (4096 - o % 4096) bs)) k in omega (arith, from, behind)) in
     let same : slice_range bs (part_start o (k + 1) - o) (part_end o (length bs) (k + 1) - o)
     ≡ slice_range (drop (4096 - o % 4096) bs) (part_start (o + (4096 - o % 4096)) k - (o + (4096 - o % 4096))) (part_end (o + (4096 - o % 4096)) (length (drop (4096 - o % 4096) bs)) k - (o + (4096 - o % 4096))) =
     ap (λ n. take (part_end o (length bs) (k + 1) - o - (part_start o (k + 1) - o)) (drop n bs)) (sym at)
-    ∙ ap (take (part_end o (length bs) (k + 1) - o - (part_start o (k + 1) - o))) (sym (drop-drop (part_start (o + (4096 - o % 4096)) k - (o + (4096 - o % 4096))) (4096 - o % 4096) bs))
+    ∙ ap (take (part_end o (length bs) (k + 1) - o - (part_start o (k + 1) - o)))
+    (sym (drop-drop (part_start (o + (4096 - o % 4096)) k - (o + (4096 - o % 4096))) (4096 - o % 4096) bs))
     ∙ ap (λ n. take n (drop (part_start (o + (4096 - o % 4096)) k - (o + (4096 - o % 4096))) (drop (4096 - o % 4096) bs))) count in
-    ap (λ n. Data e n (slice_range bs (part_start o (k + 1) - o) (part_end o (length bs) (k + 1) - o))) from ∙ ap (Data e (part_start (o + (4096 - o % 4096)) k)) same
+    ap (λ n. Data e n (slice_range bs (part_start o (k + 1) - o) (part_end o (length bs) (k + 1) - o))) from
+    ∙ ap (Data e (part_start (o + (4096 - o % 4096)) k)) same
 
 parts_next : (e o a n : ℕ) (bs : List ℕ) → 4096 - o % 4096 ≤ length bs
     → map (part e o bs) (range_with_len (a + 1) n) ≡ map (part e (o + (4096 - o % 4096)) (drop (4096 - o % 4096) bs)) (range_with_len a n)
@@ -93,16 +102,19 @@ parts_within (suc most) e o (b ∷ bs) le some =
       | inl less ↦
           let len : length (drop (4096 - o % 4096) (b ∷ bs)) ≤ most = omega (arith, rest, small, le) in
           let left : 0 < length (drop (4096 - o % 4096) (b ∷ bs)) = omega (arith, rest, less) in
-          ap (λ n. map (part e o (b ∷ bs)) (range_with_len 0 n)) (touched_more o (length (b ∷ bs)) less ∙ ap (λ n. suc (touched (o + (4096 - o % 4096)) n)) (sym rest))
+          ap (λ n. map (part e o (b ∷ bs)) (range_with_len 0 n))
+          (touched_more o (length (b ∷ bs)) less ∙ ap (λ n. suc (touched (o + (4096 - o % 4096)) n)) (sym rest))
           ∙ ap (λ c. c ∷ map (part e o (b ∷ bs)) (range_with_len 1 (touched (o + (4096 - o % 4096)) (length (drop (4096 - o % 4096) (b ∷ bs)))))) (part_first e o (b ∷ bs))
           ∙ ap (λ cs. Data e o (take (4096 - o % 4096) (b ∷ bs)) ∷ cs) (
           parts_next e o 0 (touched (o + (4096 - o % 4096)) (length (drop (4096 - o % 4096) (b ∷ bs)))) (b ∷ bs) (omega (arith, less))
           ∙ parts_within most e (o + (4096 - o % 4096)) (drop (4096 - o % 4096) (b ∷ bs)) len left)
       | inr all ↦
-          let none : drop (4096 - o % 4096) (b ∷ bs) ≡ [] = nothing_left (drop (4096 - o % 4096) (b ∷ bs)) (omega (arith, rest, all)) in
+          let none : drop (4096 - o % 4096) (b ∷ bs) ≡ [] =
+          nothing_left (drop (4096 - o % 4096) (b ∷ bs)) (omega (arith, rest, all)) in
           ap (λ n. map (part e o (b ∷ bs)) (range_with_len 0 n)) (touched_one o (length (b ∷ bs)) some all)
           ∙ ap (λ c. c ∷ []) (part_first e o (b ∷ bs))
-          ∙ ap (λ cs. Data e o (take (4096 - o % 4096) (b ∷ bs)) ∷ cs) (sym (no_pieces most e (o + (4096 - o % 4096))) ∙ ap (pieces_within most e (o + (4096 - o % 4096))) (sym none))
+          ∙ ap (λ cs. Data e o (take (4096 - o % 4096) (b ∷ bs)) ∷ cs)
+          (sym (no_pieces most e (o + (4096 - o % 4096))) ∙ ap (pieces_within most e (o + (4096 - o % 4096))) (sym none))
     ]
 
 -- each patch with the same names

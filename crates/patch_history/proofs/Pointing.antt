@@ -30,7 +30,8 @@ use Rattle.patch_history.specs.Given.{Given}
 off_left : (a b : Bool) → a ≡ false → (a && b) ≡ false
 off_left a b h = rw h refl
 
-same_place : (g : Geometry) (e extent : ℕ) → (pointer_block g == pointer_block g && pointer_start extent == pointer_start e) ≡ (e == extent)
+same_place : (g : Geometry) (e extent : ℕ)
+    → (pointer_block g == pointer_block g && pointer_start extent == pointer_start e) ≡ (e == extent)
 same_place g e extent = elim (cases_Bool (e == extent)) [
   | inl u ↦ (let a : (pointer_block g == pointer_block g) ≡ true = grind (arith, nat_tests) in let b : (pointer_start extent == pointer_start e) ≡ true = (let same : e ≡ extent = grind (arith, nat_tests) in grind (arith, nat_tests)) in rw (a, b, u) refl)
   | inr u ↦ (let a : (pointer_block g == pointer_block g) ≡ true = grind (arith, nat_tests) in let b : (pointer_start extent == pointer_start e) ≡ false = (let ne : e ≢ extent = grind (arith, nat_tests) in grind (arith, nat_tests)) in rw (a, b, u) refl)

@@ -11,27 +11,32 @@ use Rattle.patch_history.specs.Standing.{onto}
 
 -- each key has what it had, and the disk is divided as it was
 pub record IsQuiet (first : Ledger) (made : List Made) (m : Made) : Type 0 where
-  pub said : (key : List ℕ) → last_said (λ number. true) first (m ∷ made) key ≡ last_said (λ number. true) first made key
+  pub said : (key : List ℕ)
+      → last_said (λ number. true) first (m ∷ made) key ≡ last_said (λ number. true) first made key
   pub geometry : (after (after_all first made) m.change).geometry ≡ (after_all first made).geometry
 
 abbrev pub AllQuiet : Ledger → List Made → List Made → Type 0
 AllQuiet first made [] = Unit {0}
 AllQuiet first made (m ∷ plan) = IsQuiet first made m × AllQuiet first (m ∷ made) plan
 
-pub quiet_take : (first : Ledger) (k : ℕ) (plan made : List Made) → AllQuiet first made plan → AllQuiet first made (take k plan)
+pub quiet_take : (first : Ledger) (k : ℕ) (plan made : List Made) → AllQuiet first made plan
+    → AllQuiet first made (take k plan)
 quiet_take first zero plan made q = tt
 quiet_take first (suc k) [] made q = tt
 quiet_take first (suc k) (m ∷ plan) made q = (q.0, quiet_take first k plan (m ∷ made) q.1)
 
-pub quiet_append : (first : Ledger) (p q made : List Made) → AllQuiet first made p → AllQuiet first (onto p made) q → AllQuiet first made (p ++ q)
+pub quiet_append : (first : Ledger) (p q made : List Made) → AllQuiet first made p → AllQuiet first (onto p made) q
+    → AllQuiet first made (p ++ q)
 quiet_append first [] q made h k = k
 quiet_append first (m ∷ p) q made h k = (h.0, quiet_append first p q (m ∷ made) h.1 k)
 
-pub quiet_said : (first : Ledger) (plan made : List Made) (key : List ℕ) → AllQuiet first made plan → last_said (λ number. true) first (onto plan made) key ≡ last_said (λ number. true) first made key
+pub quiet_said : (first : Ledger) (plan made : List Made) (key : List ℕ) → AllQuiet first made plan
+    → last_said (λ number. true) first (onto plan made) key ≡ last_said (λ number. true) first made key
 quiet_said first [] made key q = refl
 quiet_said first (m ∷ plan) made key q = quiet_said first plan (m ∷ made) key q.1 ∙ q.0.said key
 
-pub quiet_geometry : (first : Ledger) (plan made : List Made) → AllQuiet first made plan → (after_all first (onto plan made)).geometry ≡ (after_all first made).geometry
+pub quiet_geometry : (first : Ledger) (plan made : List Made) → AllQuiet first made plan
+    → (after_all first (onto plan made)).geometry ≡ (after_all first made).geometry
 quiet_geometry first [] made q = refl
 quiet_geometry first (m ∷ plan) made q = quiet_geometry first plan (m ∷ made) q.1 ∙ q.0.geometry
 

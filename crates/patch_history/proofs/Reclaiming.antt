@@ -37,7 +37,8 @@ use Rattle.patch_history.proofs.Members.{some_number, some_fields}
 use Rattle.patch_history.proofs.Moved.{HasStores, AllMoved, fills, silent_moved, moved_append}
 use Rattle.patch_recovery.specs.Said.{Moves}
 
-pub shelf_plan-++ : (s : Shelf) (n : ℕ) (p q : List Made) → after_plan s n (p ++ q) ≡ after_plan (after_plan s n p) (n + length p) q
+pub shelf_plan-++ : (s : Shelf) (n : ℕ) (p q : List Made)
+    → after_plan s n (p ++ q) ≡ after_plan (after_plan s n p) (n + length p) q
 shelf_plan-++ s n [] q = let e : n + 0 ≡ n = omega arith in rw e refl
 shelf_plan-++ s n (m ∷ p) q =
     shelf_plan-++ (after_change s n m.change) (n + 1) p q ∙ ap (λ k. after_plan (after_plan (after_change s n m.change) (n + 1) p) k q) (let e : n + 1 + length p ≡ n + suc (length p) = omega arith in e)
@@ -55,7 +56,8 @@ other_changes : (r : ℕ) (names : List ℕ) (f : ℕ → Change) (xs : List ℕ
 other_changes r names f [] h = tt
 other_changes r names f (x ∷ xs) h = (h x, other_changes r names f xs h)
 
-other_change : (r : ℕ) (s : Shelf) (n : ℕ) (c : Change) → is_point r c ≡ false → s.current ≢ Some r → (after_change s n c).current ≢ Some r
+other_change : (r : ℕ) (s : Shelf) (n : ℕ) (c : Change) → is_point r c ≡ false → s.current ≢ Some r
+    → (after_change s n c).current ≢ Some r
 other_change r s n (Data extent offset bytes) off ne = ne
 other_change r s n (Point extent generation offset) off ne = λ h. elim (cases_Bool (offset == 0)) [
   | inl u ↦ ne (still_current extent r s.current (rw u at h))
@@ -65,11 +67,13 @@ other_change r s n (Fill slot fields) off ne = ne
 other_change r s n (Clear slot) off ne = ne
 other_change r s n Widen off ne = ne
 
-other_current : (r : ℕ) (s : Shelf) (n : ℕ) (plan : List Made) → AllOther r plan → s.current ≢ Some r → (after_plan s n plan).current ≢ Some r
+other_current : (r : ℕ) (s : Shelf) (n : ℕ) (plan : List Made) → AllOther r plan → s.current ≢ Some r
+    → (after_plan s n plan).current ≢ Some r
 other_current r s n [] h ne = ne
 other_current r s n (m ∷ plan) h ne = other_current r (after_change s n m.change) (n + 1) plan h.1 (other_change r s n m.change h.0 ne)
 
-other_frame : (r : ℕ) (s : Shelf) (n extent slot : ℕ) (c : Content) → extent ≢ r → AllOther r (frame_plan s n extent slot c)
+other_frame : (r : ℕ) (s : Shelf) (n extent slot : ℕ) (c : Content) → extent ≢ r
+    → AllOther r (frame_plan s n extent slot c)
 other_frame r s n extent slot c ne =
     let off : (r == extent) ≡ false = grind (arith, nat_tests) in
     other_append r (append_plan s.extents n extent (spelling c) []) (fill_plan s n extent slot c ∷ [])
@@ -80,7 +84,8 @@ other_frame r s n extent slot c ne =
     (refl, tt)
 
 -- a frame's bytes and pointer say nothing
-pub silent_append_plan : (s : Shelf) (n extent : ℕ) (bytes : List ℕ) → AllSilent (append_plan s.extents n extent bytes [])
+pub silent_append_plan : (s : Shelf) (n extent : ℕ) (bytes : List ℕ)
+    → AllSilent (append_plan s.extents n extent bytes [])
 silent_append_plan s n extent bytes =
     silent_append (parts extent (offset_at s.extents extent) bytes (names_behind s.extents extent [])
     (touched (offset_at s.extents extent) (length bytes))) _
@@ -128,7 +133,8 @@ pub record Ready (first : Ledger) (entries : List Content) (r : ℕ) (at_first :
   pub kept : (after_all first made).pointer r ≡ at_first
   pub current : (f : ℕ × SlotFields) → In fs f → s.current ≢ Some r
   pub said : (key : List ℕ) → value_in entries key ≡ last_said (λ number. true) first made key
-  pub waits : (f : ℕ × SlotFields) → In fs f → (f.0 < slot_count first.geometry) × ((after_all first made).slot f.0 ≡ Some f.1)
+  pub waits : (f : ℕ × SlotFields) → In fs f
+      → (f.0 < slot_count first.geometry) × ((after_all first made).slot f.0 ≡ Some f.1)
   pub apart : Distinct fs
   pub rest : (x : ℕ) (g : SlotFields) → (after_all first made).slot x ≡ Some g → g.extent ≡ r → In fs (x, g)
 
@@ -137,42 +143,59 @@ record HasContent (l : Ledger) (entries : List Content) (f : SlotFields) : Type 
   pub is : named.content ≡ content_of entries f
 
 module _ (given : Given) (first : Ledger) (sound : IsSound first) (valid : IsGeometry first.geometry) (stores : HasStores first) (entries : List Content) (r : ℕ) (at_first : Pointer) (r_known : r < first.geometry.extents) where
-  content_is : (s : Shelf) (made : List Made) (fs : List (ℕ × SlotFields)) → Ready first entries r at_first s made fs → (f : ℕ × SlotFields) → In fs f → HasContent (after_all first made) entries f.1
+  content_is : (s : Shelf) (made : List Made) (fs : List (ℕ × SlotFields)) → Ready first entries r at_first s made fs
+      → (f : ℕ × SlotFields) → In fs f → HasContent (after_all first made) entries f.1
   content_is s made fs ready f i =
       let at = (ready.waits f i).1 in
       let lasts = given.last first made sound ready.good.well in
       let n = lasts.sound.named f.0 f.1 at in
-      let value : value_in entries f.1.key ≡ Some n.content.value = ready.said f.1.key ∙ lasts.tells.has f.0 f.1 n.content at n.frame in
-      let same : n.content ≡ content_of entries f.1 = ap (λ k. record { key = k; value = n.content.value }) n.key ∙ ap (λ o. record { key = f.1.key; value = unwrap_or o [] }) (sym value) in
+      let value : value_in entries f.1.key ≡ Some n.content.value =
+      ready.said f.1.key ∙ lasts.tells.has f.0 f.1 n.content at n.frame in
+      let same : n.content ≡ content_of entries f.1 =
+      ap (λ k. record { key = k; value = n.content.value }) n.key
+      ∙ ap (λ o. record { key = f.1.key; value = unwrap_or o [] }) (sym value) in
       record { named = n; is = same }
 
-  geometry_now : (s : Shelf) (made : List Made) → Good s first made → s.extents.geometry ≡ (after_all first made).geometry
+  geometry_now : (s : Shelf) (made : List Made) → Good s first made
+      → s.extents.geometry ≡ (after_all first made).geometry
   geometry_now s made good = good.holds.shelf.geometry
 
-  not_itself : (s : Shelf) (made : List Made) (f : ℕ × SlotFields) (fs : List (ℕ × SlotFields)) (e : ℕ) → Ready first entries r at_first s made (f ∷ fs) → Chosen s f.1.length e → e ≢ r
+  not_itself : (s : Shelf) (made : List Made) (f : ℕ × SlotFields) (fs : List (ℕ × SlotFields)) (e : ℕ)
+      → Ready first entries r at_first s made (f ∷ fs) → Chosen s f.1.length e → e ≢ r
   not_itself s made f fs e ready chosen same = elim (chosen.which) [
     | inl cur ↦ ready.current f (inl refl) (cur.0 ∙ ap (λ x. Some x) same)
     | inr nought ↦
-        let known : r < (after_all first made).geometry.extents = (let x = ready.good.holds.extents in omega (arith, x, r_known)) in
+        let known : r < (after_all first made).geometry.extents =
+        (let x = ready.good.holds.extents in omega (arith, x, r_known)) in
         ready.filled (sym (ap (λ p. p.offset) (ready.good.holds.shelf.pointer r known)) ∙ ap (offset_at s.extents) (sym same) ∙ nought)
   ]
 
-  move_fits : (s : Shelf) (made : List Made) (f : ℕ × SlotFields) (fs : List (ℕ × SlotFields)) (e : ℕ) → Ready first entries r at_first s made (f ∷ fs) → Chosen s f.1.length e → FrameFits first made e f.0 (content_of entries f.1)
+  move_fits : (s : Shelf) (made : List Made) (f : ℕ × SlotFields) (fs : List (ℕ × SlotFields)) (e : ℕ)
+      → Ready first entries r at_first s made (f ∷ fs) → Chosen s f.1.length e
+      → FrameFits first made e f.0 (content_of entries f.1)
   move_fits s made f fs e ready chosen =
       let good = ready.good in
       let c = content_of entries f.1 in
       let has = content_is s made (f ∷ fs) ready f (inl refl) in
-      let fit : Fits (value_limit (after_all first made).geometry.format) c = subst (Fits (value_limit (after_all first made).geometry.format)) has.is (read_fits (value_limit (after_all first made).geometry.format) (bytes_at (after_all first made) f.1.extent f.1.offset f.1.length) has.named.content has.named.frame) in
+      let fit : Fits (value_limit (after_all first made).geometry.format) c =
+      subst (Fits (value_limit (after_all first made).geometry.format)) has.is
+      (read_fits (value_limit (after_all first made).geometry.format) (bytes_at (after_all first made) f.1.extent f.1.offset f.1.length) has.named.content has.named.frame) in
       let long : length_of c ≡ f.1.length = ap length_of (sym has.is) ∙ has.named.length in
-      let sizes = given.frames.fit (after_all first made).geometry.format c (format_kept first.geometry (after_all first made).geometry valid.format (given.last first made sound good.well).geometry) fit in
+      let sizes =
+      given.frames.fit (after_all first made).geometry.format c
+      (format_kept first.geometry (after_all first made).geometry valid.format (given.last first made sound good.well).geometry) fit in
       let geometry = good.holds.shelf.geometry in
       let known : e < first.geometry.extents = elim (chosen.known) [
         | inl k ↦ (let x = good.holds.extents in let y : s.extents.geometry.extents ≡ (after_all first made).geometry.extents = ap (λ g. g.extents) geometry in omega (arith, k, x, y))
         | inr cur ↦ good.current e cur
       ] in
-      let known_now : e < (after_all first made).geometry.extents = (let x = good.holds.extents in omega (arith, known, x)) in
-      let offset : offset_at s.extents e ≡ ((after_all first made).pointer e).offset = ap (λ p. p.offset) (good.holds.shelf.pointer e known_now) in
-      let largest : largest_pointer s.extents.geometry.format ≡ largest_pointer (after_all first made).geometry.format = ap (λ g. largest_pointer g.format) geometry in
+      let known_now : e < (after_all first made).geometry.extents =
+      (let x = good.holds.extents in omega (arith, known, x)) in
+      let offset : offset_at s.extents e ≡ ((after_all first made).pointer e).offset =
+      ap (λ p. p.offset) (good.holds.shelf.pointer e known_now) in
+      let largest : largest_pointer s.extents.geometry.format
+      ≡ largest_pointer (after_all first made).geometry.format =
+      ap (λ g. largest_pointer g.format) geometry in
       let at = (ready.waits f (inl refl)).1 in
       record {
         known = known;
@@ -215,7 +238,8 @@ module _ (given : Given) (first : Ledger) (sound : IsSound first) (valid : IsGeo
         tt,
       )
 
-  move_ready : (s : Shelf) (made : List Made) (n : ℕ) (f : ℕ × SlotFields) (fs : List (ℕ × SlotFields)) (e : ℕ) → n ≡ length made → Ready first entries r at_first s made (f ∷ fs) → Chosen s f.1.length e
+  move_ready : (s : Shelf) (made : List Made) (n : ℕ) (f : ℕ × SlotFields) (fs : List (ℕ × SlotFields)) (e : ℕ)
+      → n ≡ length made → Ready first entries r at_first s made (f ∷ fs) → Chosen s f.1.length e
       → AreWellMade first (onto (frame_plan s n e f.0 (content_of entries f.1)) made) × AllQuiet first made (frame_plan s n e f.0 (content_of entries f.1))
       × Ready first entries r at_first (after_plan s n (frame_plan s n e f.0 (content_of entries f.1))) (onto (frame_plan s n e f.0 (content_of entries f.1)) made) fs
   move_ready s made n f fs e count ready chosen =
@@ -231,7 +255,8 @@ module _ (given : Given) (first : Ledger) (sound : IsSound first) (valid : IsGeo
       let done = frame_well given s first made n e f.0 c valid count good fits in
       let well : AreWellMade first (onto plan made) = subst (AreWellMade first) (sym is) done.well_made in
       let had : last_said (λ number. true) first made c.key ≡ Some c.value =
-      (given.last first made sound good.well).tells.has f.0 f.1 has.named.content at has.named.frame ∙ ap (λ c. Some c.value) has.is in
+      (given.last first made sound good.well).tells.has f.0 f.1 has.named.content at has.named.frame
+      ∙ ap (λ c. Some c.value) has.is in
       let quiet = quiet_frame given s first made n e f.0 c valid count good fits had in
       let slots : (x : ℕ) → (after_all first (onto plan made)).slot x ≡ (if x == f.0 then Some (fields_put (after_all first made) put) else (after_all first made).slot x) =
       λ x. ap (λ ms. (after_all first ms).slot x) is ∙ put_slot first made put x in
@@ -270,7 +295,9 @@ module _ (given : Given) (first : Ledger) (sound : IsSound first) (valid : IsGeo
   no_plan : (plan : List Made) → Some [] ≡ Some plan → [] ≡ plan
   no_plan plan h = cc
 
-  pub moves_well : (fs : List (ℕ × SlotFields)) (s : Shelf) (made : List Made) (n : ℕ) (plan : List Made) → n ≡ length made → Ready first entries r at_first s made fs → moves entries s n fs ≡ Some plan → MovedWell s made n plan
+  pub moves_well : (fs : List (ℕ × SlotFields)) (s : Shelf) (made : List Made) (n : ℕ) (plan : List Made)
+      → n ≡ length made → Ready first entries r at_first s made fs → moves entries s n fs ≡ Some plan
+      → MovedWell s made n plan
   moves_well [] s made n plan count ready h = subst (MovedWell s made n) (no_plan plan h) (record { well = ready.good.well; quiet = tt; moved = tt; ready = ready })
   moves_well (f ∷ fs) s made n plan count ready h =
       let case = move_cases entries s n f fs plan (extent_for_move s f.1.length) refl h in
@@ -279,7 +306,8 @@ module _ (given : Given) (first : Ledger) (sound : IsSound first) (valid : IsGeo
       let chosen = move_chosen s f.1.length e (current_for s f.1.length) refl case.chosen in
       let one = move_ready s made n f fs e count ready chosen in
       let length_now : n + length p ≡ length (onto p made) = ap (λ k. k + length p) count ∙ sym (onto_length p made) in
-      let others = moves_well fs (after_plan s n p) (onto p made) (n + length p) case.others length_now one.2 case.go_on in
+      let others =
+      moves_well fs (after_plan s n p) (onto p made) (n + length p) case.others length_now one.2 case.go_on in
       subst (MovedWell s made n) (sym case.are) (record {
         well = subst (AreWellMade first) (sym (onto-++ p case.others made)) others.well;
         quiet = quiet_append first p case.others made one.1 others.quiet;

@@ -53,7 +53,8 @@ record IsRicherPatch (p q : Patch) : Type 0 where
   pub bytes : q.bytes ≡ p.bytes
   pub names : (n : ℕ) → is_among p.after n ≡ true → is_among q.after n ≡ true
 
-richer_patch : (g : Geometry) (n k : ℕ) (m r : Made) → k ≡ n → IsRicher m r → IsRicherPatch (patch_of g n m) (patch_of g k r)
+richer_patch : (g : Geometry) (n k : ℕ) (m r : Made) → k ≡ n → IsRicher m r
+    → IsRicherPatch (patch_of g n m) (patch_of g k r)
 richer_patch g n k m r e h = record {
   no = e;
   block = ap (block_of g) h.change;
@@ -69,14 +70,16 @@ or_true : (a b c d : Bool) → (a ≡ true → c ≡ true) → d ≡ b → (a ||
 or_true true b c d f e h = rw (f refl) refl
 or_true false b c d f e h = let dt : d ≡ true = e ∙ h in elim (cases_Bool c) [ inl u ↦ rw u refl | inr u ↦ rw (u, dt) refl ]
 
-richer_depends : (p x q y : Patch) → IsRicherPatch p x → IsRicherPatch q y → depends_directly p q ≡ true → depends_directly x y ≡ true
+richer_depends : (p x q y : Patch) → IsRicherPatch p x → IsRicherPatch q y → depends_directly p q ≡ true
+    → depends_directly x y ≡ true
 richer_depends p x q y hp hq h =
     or_true (is_among p.after q.no) (nat_lt q.no p.no && shares_byte p q) (is_among x.after y.no) (nat_lt y.no x.no && shares_byte x y)
     (λ t. ap (is_among x.after) hq.no ∙ hp.names q.no t)
     (ap (λ b. nat_lt y.no x.no && b) (shares_same p x q y hp hq) ∙ ap (λ n. nat_lt n x.no && shares_byte p q) hq.no ∙ ap (λ n. nat_lt q.no n && shares_byte p q) hp.no)
     h
 
-richer_in : (g : Geometry) (ms rs : List Made) → AreRicher ms rs → (q : Patch) → In (patches_of g ms) q → (y : Patch) × In (patches_of g rs) y × IsRicherPatch q y
+richer_in : (g : Geometry) (ms rs : List Made) → AreRicher ms rs → (q : Patch) → In (patches_of g ms) q
+    → (y : Patch) × In (patches_of g rs) y × IsRicherPatch q y
 richer_in g [] [] h q i = absurd i
 richer_in g [] (r ∷ rs) h q i = absurd h
 richer_in g (m ∷ ms) [] h q i = absurd h
@@ -86,13 +89,15 @@ richer_in g (m ∷ ms) (r ∷ rs) h q i = elim (In-append (patches_of g ms) (pat
     | inl e ↦ (
       patch_of g (length rs) r,
       In-right (patches_of g rs) (patch_of g (length rs) r ∷ []) (patch_of g (length rs) r) (inl refl),
-      subst (λ x. IsRicherPatch x (patch_of g (length rs) r)) e (richer_patch g (length ms) (length rs) m r (richer_length ms rs h.1) h.0),
+      subst (λ x. IsRicherPatch x (patch_of g (length rs) r)) e
+          (richer_patch g (length ms) (length rs) m r (richer_length ms rs h.1) h.0),
     )
     | inr none ↦ absurd none
   ]
 ]
 
-richer_reaches : (g : Geometry) (ms rs : List Made) → AreRicher ms rs → (p q x y : Patch) → Reaches (patches_of g ms) p q → IsRicherPatch p x → IsRicherPatch q y → Reaches (patches_of g rs) x y
+richer_reaches : (g : Geometry) (ms rs : List Made) → AreRicher ms rs → (p q x y : Patch)
+    → Reaches (patches_of g ms) p q → IsRicherPatch p x → IsRicherPatch q y → Reaches (patches_of g rs) x y
 richer_reaches g ms rs h p q x y (directly d) hp hq = directly (richer_depends p x q y hp hq d)
 richer_reaches g ms rs h p q x y (onward {p = u} {q = z} {r = v} d inside rest) hp hq =
     let there = richer_in g ms rs h z (In-from_Contains (patches_of g ms) z inside) in
@@ -106,7 +111,8 @@ record StandsPoorer (ms : List Made) (r : Made) (rs : List Made) : Type 0 where
   pub richer : IsRicher made r
   pub all : AreRicher before rs
 
-poorer : (ms rs later : List Made) (other : Made) (before : List Made) → AreRicher ms rs → rs ≡ later ++ other ∷ before → StandsPoorer ms other before
+poorer : (ms rs later : List Made) (other : Made) (before : List Made) → AreRicher ms rs
+    → rs ≡ later ++ other ∷ before → StandsPoorer ms other before
 poorer ms [] [] other before h e = absurd (let n = ap length e in omega (arith, n))
 poorer ms [] (x ∷ later) other before h e = absurd (let n = ap length e in omega (arith, n))
 poorer [] (r ∷ rs) later other before h e = absurd h
@@ -129,10 +135,13 @@ richer_well first (m ∷ ms) (r ∷ rs) h well = (
         let same : comes_after (after_all first ms) m.change (after_all first there.before) there.made.change ≡ true =
         ap (λ c. comes_after (after_all first ms) c (after_all first there.before) there.made.change) (sym h.0.change)
         ∙ ap (λ c. comes_after (after_all first ms) r.change (after_all first there.before) c) (sym there.richer.change)
-        ∙ ap (λ k. comes_after (after_all first ms) r.change k other.change) (sym (richer_ledger first there.before before there.all))
-        ∙ ap (λ l. comes_after l r.change (after_all first before) other.change) (sym (richer_ledger first ms rs h.1)) ∙ t in
+        ∙ ap (λ k. comes_after (after_all first ms) r.change k other.change)
+        (sym (richer_ledger first there.before before there.all))
+        ∙ ap (λ l. comes_after l r.change (after_all first before) other.change) (sym (richer_ledger first ms rs h.1))
+        ∙ t in
         richer_reaches first.geometry (m ∷ ms) (r ∷ rs) h (patch_of first.geometry (length ms) m) (patch_of first.geometry (length there.before) there.made)
-        (patch_of first.geometry (length rs) r) (patch_of first.geometry (length before) other) (well.0.reaches there.made there.before there.stands same)
+        (patch_of first.geometry (length rs) r) (patch_of first.geometry (length before) other)
+        (well.0.reaches there.made there.before there.stands same)
         (richer_patch first.geometry (length ms) (length rs) m r (richer_length ms rs h.1) h.0)
         (richer_patch first.geometry (length there.before) (length before) there.made other (richer_length there.before before there.all) there.richer);
   },
@@ -140,11 +149,14 @@ richer_well first (m ∷ ms) (r ∷ rs) h well = (
 )
 
 -- names say nothing of a key
-pub richer_said : (first : Ledger) (ms rs : List Made) (key : List ℕ) → AreRicher ms rs → last_said (λ number. true) first rs key ≡ last_said (λ number. true) first ms key
+pub richer_said : (first : Ledger) (ms rs : List Made) (key : List ℕ) → AreRicher ms rs
+    → last_said (λ number. true) first rs key ≡ last_said (λ number. true) first ms key
 richer_said first [] [] key h = refl
 richer_said first [] (r ∷ rs) key h = absurd h
 richer_said first (m ∷ ms) [] key h = absurd h
 richer_said first (m ∷ ms) (r ∷ rs) key h =
-    ap (λ x. if speaks_of key (after_all first rs) r.change then said (after_all first rs) r.change else x) (richer_said first ms rs key h.1)
-    ∙ ap (λ l. if speaks_of key l r.change then said l r.change else last_said (λ number. true) first ms key) (richer_ledger first ms rs h.1)
+    ap (λ x. if speaks_of key (after_all first rs) r.change then said (after_all first rs) r.change else x)
+    (richer_said first ms rs key h.1)
+    ∙ ap (λ l. if speaks_of key l r.change then said l r.change else last_said (λ number. true) first ms key)
+    (richer_ledger first ms rs h.1)
     ∙ ap (λ c. if speaks_of key (after_all first ms) c then said (after_all first ms) c else last_said (λ number. true) first ms key) h.0.change

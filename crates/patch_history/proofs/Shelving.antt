@@ -23,20 +23,23 @@ unequal a b t = grind (arith, nat_tests)
 
 -- one more change of a slot
 pub after_slot_is : (s : Shelf) (l : Ledger) (n at : ℕ) (fields : Option SlotFields) → IsShelfOf s l
-    → (slot : ℕ) → slot < slot_count l.geometry → slot_at (after_slot s n at fields) slot ≡ (if slot == at then fields else l.slot slot)
+    → (slot : ℕ) → slot < slot_count l.geometry
+    → slot_at (after_slot s n at fields) slot ≡ (if slot == at then fields else l.slot slot)
 after_slot_is s l n at fields is slot h = elim (cases_Bool (slot == at)) [
   | inl t ↦ rw t (let e : slot ≡ at = equal slot at t in rw e (get_or-set_same s.slots at fields None (let c = is.slots in omega (arith, h, c, e))))
   | inr t ↦ rw t (get_or-set_other s.slots at slot fields None (unequal slot at t) ∙ is.slot slot h)
 ]
 
-after_point_is : (s : Shelf) (l : Ledger) (n at generation offset : ℕ) → IsShelfOf s l → (e : ℕ) → e < l.geometry.extents
+after_point_is : (s : Shelf) (l : Ledger) (n at generation offset : ℕ) → IsShelfOf s l → (e : ℕ)
+    → e < l.geometry.extents
     → (extent_at (after_change s n (Point at generation offset)).extents e).pointer ≡ ((after l (Point at generation offset)).pointer e)
 after_point_is s l n at generation offset is e h = elim (cases_Bool (e == at)) [
   | inl t ↦ rw t (let same : e ≡ at = equal e at t in rw same (ap (λ k. k.pointer) (get_or-set_same s.extents.each at (pointed n generation offset (extent_at s.extents at)) no_extent (let c = is.extents in omega (arith, h, c, same)))))
   | inr t ↦ rw t (ap (λ k. k.pointer) (get_or-set_other s.extents.each at e (pointed n generation offset (extent_at s.extents at)) no_extent (unequal e at t)) ∙ is.pointer e h)
 ]
 
-pub after_change_is : (s : Shelf) (l : Ledger) (n : ℕ) (c : Change) → IsShelfOf s l → IsShelfOf (after_change s n c) (after l c)
+pub after_change_is : (s : Shelf) (l : Ledger) (n : ℕ) (c : Change) → IsShelfOf s l
+    → IsShelfOf (after_change s n c) (after l c)
 after_change_is s l n (Data extent offset bytes) is = record { geometry = is.geometry; extents = is.extents; slots = is.slots; pointer = is.pointer; slot = is.slot }
 after_change_is s l n (Point extent generation offset) is = record {
   geometry = is.geometry;
@@ -61,11 +64,13 @@ after_change_is s l n (Clear at) is = record {
 }
 after_change_is s l n Widen is = record { geometry = ap widened is.geometry; extents = is.extents; slots = is.slots; pointer = is.pointer; slot = is.slot }
 
-pub after_plan_is : (first : Ledger) (s : Shelf) (n : ℕ) (plan made : List Made) → IsShelfOf s (after_all first made) → IsShelfOf (after_plan s n plan) (after_all first (onto plan made))
+pub after_plan_is : (first : Ledger) (s : Shelf) (n : ℕ) (plan made : List Made) → IsShelfOf s (after_all first made)
+    → IsShelfOf (after_plan s n plan) (after_all first (onto plan made))
 after_plan_is first s n [] made is = is
 after_plan_is first s n (m ∷ plan) made is = after_plan_is first (after_change s n m.change) (n + 1) plan (m ∷ made) (after_change_is s (after_all first made) n m.change is)
 
-after_event_is : (first : Ledger) (st : Standing) (event : Event) → IsShelfOf st.shelf (after_all first st.made) → IsShelfOf (after_event st event).shelf (after_all first (after_event st event).made)
+after_event_is : (first : Ledger) (st : Standing) (event : Event) → IsShelfOf st.shelf (after_all first st.made)
+    → IsShelfOf (after_event st event).shelf (after_all first (after_event st event).made)
 after_event_is first st (Call writer command reply steps) is = after_plan_is first st.shelf (made_by st) (take (creates steps) (plan_of st writer command)) st.made is
 after_event_is first st (Moved step) is = is
 

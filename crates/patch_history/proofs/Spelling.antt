@@ -24,5 +24,6 @@ bytes_alike g Widen = refl
 
 pub upgrades_spell_alike : UpgradesSpellAlike
 upgrades_spell_alike g m e =
-    ap (λ block. Create block (start_of m.change) (bytes_of (widened g) m.change) m.after MayDrop) (blocks_alike g m.change e)
+    ap (λ block. Create block (start_of m.change) (bytes_of (widened g) m.change) m.after MayDrop)
+    (blocks_alike g m.change e)
     ∙ ap (λ bytes. Create (block_of g m.change) (start_of m.change) bytes m.after MayDrop) (bytes_alike g m.change)

@@ -12,6 +12,7 @@ use Rattle.patch_history.specs.Command.{Command, Reply, Put, is_refused}
 use Rattle.patch_history.specs.Choosing.{live_frames}
 use Rattle.patch_history.specs.Standing.{Standing, made_by, plan_of, after_call}
 use Rattle.patch_history.specs.Refusing.{reply_of}
+use Rattle.patch_history.specs.History.{Event, Call}
 
 -- A new disk with so many slots and extents: a few of the slots are enough for a short script.
 abbrev pub new_disk_of : Format → (slots extents : ℕ) → Standing
@@ -63,6 +64,13 @@ abbrev pub after_commands : Standing → List Command → Standing
 after_commands st [] = st
 after_commands st (command ∷ commands) = after_commands (asked st 0 command) commands
 
+-- their calls
+abbrev pub calls_for : Standing → List Command → List Event
+calls_for st [] = []
+calls_for st (command ∷ commands) =
+    let reply = reply_of st 0 command in
+    Call 0 command reply (steps_for st 0 command reply) ∷ calls_for (asked st 0 command) commands
+
 -- of each extent its generation, its pointer, and how many live bytes it has
 abbrev pub extents_of : Standing → List (ℕ × ℕ × ℕ)
 extents_of st =
@@ -103,6 +111,9 @@ abbrev pub read_with : (first second : ℕ) → Ledger
 read_with first second = record {
   geometry = record { index = 1; extents = 2; format = One };
   pointer = λ e. record { generation = 4294967295; offset = if e == 0 then first else second };
-  slot = λ s. if s == 1 then Some (record { key = key 107; extent = 1; generation = 4294967295; offset = 0; length = 17 }) else None;
+  slot = λ s.
+      if s == 1
+      then Some (record { key = key 107; extent = 1; generation = 4294967295; offset = 0; length = 17 })
+      else None;
   byte = λ e place. 0;
 }

@@ -13,6 +13,8 @@ use Rattle.patch_extent.specs.Extents.{Extents}
 use Rattle.patch_extent.specs.Planning.{append_plan}
 use Rattle.patch_extent.specs.Writing.{after_change, after_plan, with_patches, named_plan, Written, written}
 use Rattle.patch_extent.specs.Writing.{steps_by, steps_of}
+use Rattle.patch_history.specs.Shelf.{Shelf}
+use Rattle.patch_history.specs.Shelf as shelves
 use Rattle.patch_history.specs.Planning.{frame_plan, fill_plan}
 use Rattle.patch_history.specs.Standing.{Standing, made_by, onto}
 use Rattle.patch_history.specs.History.{IsWhole, IsCut}
@@ -74,6 +76,35 @@ abbrev pub BegunAppendsAreCuts : Type 0
 BegunAppendsAreCuts =
     (f : FramePut) (count : ℕ) → count < length (appended f)
     → IsCut f.standing (framed f) (steps_made f [] (take count (appended f)))
+
+-- How plans of no writer go on: a reclaim's moves, one after another.
+
+-- a store that stands behind a plan: its extents are those after it, and so many more patches were made
+pub record StandsBehind (st : Standing) (plan : List Made) (later : Standing) : Type 0 where
+  pub extents : later.shelf.extents ≡ after_plan st.shelf.extents (made_by st) plan
+  pub made : made_by later ≡ made_by st + length plan
+
+-- the extents of a shelf behind a plan are those behind it
+abbrev pub ShelvesGoOn : Type 0
+ShelvesGoOn =
+    (s : Shelf) (n : ℕ) (plan : List Made) → (shelves.after_plan s n plan).extents ≡ after_plan s.extents n plan
+
+-- all steps of a plan, and all of one behind it, are all of both
+abbrev pub WholesJoin : Type 0
+WholesJoin =
+    (st later : Standing) (p q : List Made) (steps more : List Step) → StandsBehind st p later → IsWhole st p steps
+    → IsWhole later q more → IsWhole st (p ++ q) (steps ++ more)
+
+-- and some first ones of the second make some first ones of both
+abbrev pub CutsJoin : Type 0
+CutsJoin =
+    (st later : Standing) (p q : List Made) (steps more : List Step) → StandsBehind st p later → IsWhole st p steps
+    → IsCut later q more → IsCut st (p ++ q) (steps ++ more)
+
+-- so does the first alone, where there is a second
+abbrev pub WholesAreCuts : Type 0
+WholesAreCuts =
+    (st : Standing) (p q : List Made) (steps : List Step) → q ≢ [] → IsWhole st p steps → IsCut st (p ++ q) steps
 
 -- Some first steps of a plan.
 

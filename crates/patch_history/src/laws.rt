@@ -1,6 +1,7 @@
 //! Laws of histories.
 ghost use Rattle.patch_history.specs.Kept.{ShelvesAreKept, NewestAreKept, KeptAreMade, KeptAreNamed};
-ghost use Rattle.patch_history.specs.Steps.{FramesCompose, AppendsAreCuts, BegunAppendsAreCuts, CutsAreFirst, PlansAreOfStores, UpgradesSpellAlike};
+ghost use Rattle.patch_history.specs.Steps.{FramesCompose, AppendsAreCuts, BegunAppendsAreCuts, ShelvesGoOn, WholesJoin, CutsJoin, WholesAreCuts};
+ghost use Rattle.patch_history.specs.Steps.{CutsAreFirst, PlansAreOfStores, UpgradesSpellAlike};
 ghost use Rattle.patch_history.specs.Given.{Given};
 ghost use Rattle.patch_history.specs.Closed.{HistoriesMove, ClosedDisksOpen, CrashDisksOpen};
 ghost use Rattle.patch_history.specs.Laws.{HistoriesExtend, StandingsRun, HistoriesAreOfStores, MapsAreSaid, HistoriesAreRead, StandingsAgree, ExtentsAreKept};
@@ -41,6 +42,17 @@ pub fn frames_compose()
     ensures whole { FramesCompose }
     ensures appended { AppendsAreCuts }
     ensures begun { BegunAppendsAreCuts }
+{
+    patch_extent::laws::plans_join();
+}
+
+/// The steps of a plan of no writer, and those of one behind it, are those of both; so are some first ones. The extents of
+/// a shelf go with the plan.
+pub fn plans_continue()
+    ensures shelf { ShelvesGoOn }
+    ensures whole { WholesJoin }
+    ensures cut { CutsJoin }
+    ensures stopped { WholesAreCuts }
 {
     patch_extent::laws::plans_join();
 }

@@ -1,12 +1,14 @@
 //! What the definitions say of short scripts on new disks: facts that the prover computes.
-ghost use Rattle.std.specs.Prelude.{ℕ, ◌≡◌, List, [], ◌∷◌, ◌++◌, map, take, Some, None};
+ghost use Rattle.std.specs.Prelude.{ℕ, true, false, replicate, ◌≡◌, List, [], ◌∷◌, ◌++◌, map, take, Some, None};
 ghost use Rattle.patch_model.specs.declared.refusals.RefusalKind.TheVariants as kind;
 ghost use Rattle.patch_model.specs.Refusing.{bare};
 ghost use Rattle.patch_model.specs.Step.{Send};
-ghost use Rattle.patch_history.specs.Command.{Command, Reply, Put, Get, Delete, Reclaim, Upgrade, Group, Engage, Disengage, Depend, CloseGroup, Pending, Done, Value, Absent, GroupMade, Count, Refused};
+ghost use Rattle.patch_history.specs.Command.{Command, Put, Get, Delete, Reclaim, Upgrade, Group, Engage, Disengage, Depend};
+ghost use Rattle.patch_history.specs.Command.{CloseGroup, Pending, Reply, Done, Value, Absent, GroupMade, Count, Refused};
 ghost use Rattle.patch_history.specs.Shelf.{opened};
 ghost use Rattle.patch_history.specs.Standing.{at_opening};
-ghost use Rattle.patch_history.specs.Rows.{new_disk, short_disk, asked, replies, after_commands, extents_of, lengths_of, live_slots, names_of, key, bytes, put_steps, read_with};
+ghost use Rattle.patch_history.specs.Rows.{new_disk, short_disk, asked, replies, after_commands, extents_of, lengths_of, live_slots, calls_for, names_of, key, bytes, put_steps, read_with};
+ghost use Rattle.patch_history.specs.Closed.{marks_from};
 ghost use Rattle.patch_history.specs.History.{IsRight, Call, Moved, calls_of};
 ghost use Rattle.patch_history.specs.Refusing.{reply_of};
 
@@ -102,6 +104,23 @@ fn a_current_one_is_reset()
     ensures names { names_of (after_commands (new_disk 2 2)
         (Put (key 107) [] ∷ Delete (key 107) ∷ Reclaim 0 ∷ Reclaim 0 ∷ Put (key 109) (1 ∷ []) ∷ []))
         ≡ [] ∷ (0 ∷ []) ∷ (1 ∷ []) ∷ [] ∷ (3 ∷ []) ∷ (4 ∷ []) ∷ (5 ∷ []) ∷ (6 ∷ 3 ∷ []) ∷ [] }
+{}
+
+// A shelf keeps what was deleted last and what left each extent, until it is reset.
+fn what_left_an_extent()
+    ensures left { (after_commands (new_disk 2 2)
+        (Put (key 107) [] ∷ Put (key 107) [] ∷ Delete (key 107) ∷ [])).shelf.left ≡ (5 ∷ 6 ∷ []) ∷ [] ∷ [] }
+    ensures none { (after_commands (new_disk 2 2)
+        (Put (key 107) [] ∷ Put (key 107) [] ∷ Delete (key 107) ∷ Reclaim 0 ∷ [])).shelf.left ≡ [] ∷ [] ∷ [] }
+    ensures deleted { (after_commands (new_disk 2 2)
+        (Put (key 107) [] ∷ Put (key 107) [] ∷ Delete (key 107) ∷ [])).shelf.last_delete ≡ Some 6 }
+{}
+
+// Of the patches of two puts and a reclaim one is a move: the slot's of the reclaim.
+fn moves_of_a_reclaim()
+    ensures marks { marks_from (short_disk 2 3)
+        (calls_for (short_disk 2 3) (Put (key 97) (bytes 2100) ∷ Put (key 98) (bytes 2100) ∷ Reclaim 0 ∷ []))
+        ≡ replicate 8 false ++ true ∷ false ∷ [] }
 {}
 
 // The live frames of an extent stand in order of their places, whatever slots name them.
