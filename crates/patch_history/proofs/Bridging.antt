@@ -1,5 +1,6 @@
 -- A legal history is that of a store.
-use Rattle.std.proofs.Common.{◌∙◌, ◌++◌, Bool, map, sym, ap, take, ◌≡◌, ℕ, ◌+◌, ◌<◌, ◌^◌, List, [], ◌∷◌, length, refl, arith, subst}
+use Rattle.std.proofs.Common.{◌∙◌, ◌++◌, Bool, map, sym, ap, take, ◌≡◌, ℕ, ◌+◌, ◌<◌, ◌^◌, List, [], ◌∷◌, length, refl}
+use Rattle.std.proofs.Common.{arith, subst}
 use Rattle.std.specs.Prelude.{fold, drop, All, ◌-◌}
 use Rattle.std.specs.List.{range_with_len}
 use Rattle.std.proofs.lemmas.List.{length-take, length-drop}

@@ -72,7 +72,9 @@ module _ (given : Given) (first : Ledger) (sound : IsSound first) (valid : IsGeo
         slot = put.slot;
         extent = put.extent;
         fits = put_fits given first sound valid st.shelf st.made (made_by st) c plan stood.good fit put;
-        plan_is = ap (λ o. named_plan st.groups (Some writer) (made_by st) (unwrap_or o [])) why.1.1 ∙ ap (named_plan st.groups (Some writer) (made_by st)) put.are;
+        plan_is =
+            ap (λ o. named_plan st.groups (Some writer) (made_by st) (unwrap_or o [])) why.1.1
+            ∙ ap (named_plan st.groups (Some writer) (made_by st)) put.are;
       }
 
   put_well_named : (st : Standing) (writer : ℕ) (extent slot : ℕ) (c : Content) → Stood first st
@@ -167,7 +169,9 @@ module _ (given : Given) (first : Ledger) (sound : IsSound first) (valid : IsGeo
       let steps_are : steps ≡ steps_by whole.0 (written st.shelf.extents (made_by st) named_one) =
       whole.1 ∙ ap (λ p. steps_by whole.0 (written st.shelf.extents (made_by st) p)) plan_is in
       let same_map = done_is st.map (Delete key) reply ok in
-      let low : clear.slot < slot_count (after_all first st.made).geometry = (let counts = stood.good.holds.shelf.slots in let less = found.0 in omega (arith, counts, less)) in
+      let low : clear.slot < slot_count (after_all first st.made).geometry =
+      (let counts = stood.good.holds.shelf.slots in
+      let less = found.0 in omega (arith, counts, less)) in
       let says : (after_all first st.made).slot clear.slot ≡ Some found.1.0 =
       sym (stood.good.holds.shelf.slot clear.slot low) ∙ found.1.1 in
       stood_after given first sound st writer (Delete key) reply steps named_one whole.0 stood
@@ -276,9 +280,13 @@ module _ (given : Given) (first : Ledger) (sound : IsSound first) (valid : IsGeo
       went.ready.good known_first small raised (λ slot f says named. went.ready.rest slot f says named) in
       record {
         moved = moved;
-        plan_is = named_none st.groups n (unwrap_or (plan_for st (Reclaim extent)) []) ∙ ap (λ o. unwrap_or o []) can.is ∙ emptying_one.are;
+        plan_is =
+            named_none st.groups n (unwrap_or (plan_for st (Reclaim extent)) []) ∙ ap (λ o. unwrap_or o []) can.is
+            ∙ emptying_one.are;
         well = subst (AreWellMade first) (sym (onto-++ moved (reset ∷ []) st.made)) (one, went.well);
-        quiet = quiet_append first moved (reset ∷ []) st.made went.quiet (record { said = λ key. refl; geometry = refl }, tt);
+        quiet =
+            quiet_append first moved (reset ∷ []) st.made went.quiet
+            (record { said = λ key. refl; geometry = refl }, tt);
         all_moved = moved_append fills first moved (reset ∷ []) st.made went.moved
             (silent_moved first (reset ∷ []) (onto moved st.made) (tt, tt));
       }
@@ -323,33 +331,68 @@ module _ (given : Given) (first : Ledger) (sound : IsSound first) (valid : IsGeo
   whole_stood : (st : Standing) (writer : ℕ) (command : Command) (reply : Reply) (steps : List Step) → Stood first st
       → is_refused reply ≡ false → is_refused (reply_of st writer command) ≡ false
       → IsWhole st (plan_of st writer command) steps → Stood first (after_call st writer command reply steps)
-  whole_stood st writer (Put key value) reply steps stood ok answered whole = put_whole st writer key value reply steps stood ok answered whole
-  whole_stood st writer (Delete key) reply steps stood ok answered whole = delete_whole st writer key reply steps stood ok answered whole
-  whole_stood st writer (Reclaim extent) reply steps stood ok answered whole = reclaim_whole st writer extent reply steps stood ok answered whole
-  whole_stood st writer Upgrade reply steps stood ok answered whole = upgrade_whole st writer reply steps stood ok answered whole
-  whole_stood st writer (Get key) reply steps stood ok answered whole = stood_nothing given first sound st writer (Get key) reply steps stood whole.1 (done_is st.map (Get key) reply ok)
-  whole_stood st writer Group reply steps stood ok answered whole = stood_nothing given first sound st writer Group reply steps stood whole.1 (done_is st.map Group reply ok)
-  whole_stood st writer (Engage group) reply steps stood ok answered whole = stood_nothing given first sound st writer (Engage group) reply steps stood whole.1 (done_is st.map (Engage group) reply ok)
-  whole_stood st writer (Disengage group) reply steps stood ok answered whole = stood_nothing given first sound st writer (Disengage group) reply steps stood whole.1 (done_is st.map (Disengage group) reply ok)
-  whole_stood st writer (Depend group on) reply steps stood ok answered whole = stood_nothing given first sound st writer (Depend group on) reply steps stood whole.1 (done_is st.map (Depend group on) reply ok)
-  whole_stood st writer (CloseGroup group) reply steps stood ok answered whole = stood_nothing given first sound st writer (CloseGroup group) reply steps stood whole.1 (done_is st.map (CloseGroup group) reply ok)
-  whole_stood st writer (Pending group) reply steps stood ok answered whole = stood_nothing given first sound st writer (Pending group) reply steps stood whole.1 (done_is st.map (Pending group) reply ok)
+  whole_stood st writer (Put key value) reply steps stood ok answered whole =
+      put_whole st writer key value reply steps stood ok answered whole
+  whole_stood st writer (Delete key) reply steps stood ok answered whole =
+      delete_whole st writer key reply steps stood ok answered whole
+  whole_stood st writer (Reclaim extent) reply steps stood ok answered whole =
+      reclaim_whole st writer extent reply steps stood ok answered whole
+  whole_stood st writer Upgrade reply steps stood ok answered whole =
+      upgrade_whole st writer reply steps stood ok answered whole
+  whole_stood st writer (Get key) reply steps stood ok answered whole =
+      stood_nothing given first sound st writer (Get key) reply steps stood whole.1
+      (done_is st.map (Get key) reply ok)
+  whole_stood st writer Group reply steps stood ok answered whole =
+      stood_nothing given first sound st writer Group reply steps stood whole.1 (done_is st.map Group reply ok)
+  whole_stood st writer (Engage group) reply steps stood ok answered whole =
+      stood_nothing given first sound st writer (Engage group) reply steps stood whole.1
+      (done_is st.map (Engage group) reply ok)
+  whole_stood st writer (Disengage group) reply steps stood ok answered whole =
+      stood_nothing given first sound st writer (Disengage group) reply steps stood whole.1
+      (done_is st.map (Disengage group) reply ok)
+  whole_stood st writer (Depend group on) reply steps stood ok answered whole =
+      stood_nothing given first sound st writer (Depend group on) reply steps stood whole.1
+      (done_is st.map (Depend group on) reply ok)
+  whole_stood st writer (CloseGroup group) reply steps stood ok answered whole =
+      stood_nothing given first sound st writer (CloseGroup group) reply steps stood whole.1
+      (done_is st.map (CloseGroup group) reply ok)
+  whole_stood st writer (Pending group) reply steps stood ok answered whole =
+      stood_nothing given first sound st writer (Pending group) reply steps stood whole.1
+      (done_is st.map (Pending group) reply ok)
 
   cut_stood : (st : Standing) (writer : ℕ) (command : Command) (reply : Reply) (steps : List Step) → Stood first st
       → is_refused reply ≡ true → is_refused (reply_of st writer command) ≡ false
       → MatchBool (may_be_cut command) (IsCut st (plan_of st writer command) steps) (steps ≡ [])
       → Stood first (after_call st writer command reply steps)
-  cut_stood st writer (Put key value) reply steps stood lost answered cut = put_cut st writer key value reply steps stood lost answered cut
-  cut_stood st writer (Reclaim extent) reply steps stood lost answered cut = reclaim_cut st writer extent reply steps stood lost answered cut
-  cut_stood st writer (Delete key) reply steps stood lost answered cut = stood_nothing given first sound st writer (Delete key) reply steps stood cut (refused_same st.map (Delete key) reply lost)
-  cut_stood st writer Upgrade reply steps stood lost answered cut = stood_nothing given first sound st writer Upgrade reply steps stood cut (refused_same st.map Upgrade reply lost)
-  cut_stood st writer (Get key) reply steps stood lost answered cut = stood_nothing given first sound st writer (Get key) reply steps stood cut (refused_same st.map (Get key) reply lost)
-  cut_stood st writer Group reply steps stood lost answered cut = stood_nothing given first sound st writer Group reply steps stood cut (refused_same st.map Group reply lost)
-  cut_stood st writer (Engage group) reply steps stood lost answered cut = stood_nothing given first sound st writer (Engage group) reply steps stood cut (refused_same st.map (Engage group) reply lost)
-  cut_stood st writer (Disengage group) reply steps stood lost answered cut = stood_nothing given first sound st writer (Disengage group) reply steps stood cut (refused_same st.map (Disengage group) reply lost)
-  cut_stood st writer (Depend group on) reply steps stood lost answered cut = stood_nothing given first sound st writer (Depend group on) reply steps stood cut (refused_same st.map (Depend group on) reply lost)
-  cut_stood st writer (CloseGroup group) reply steps stood lost answered cut = stood_nothing given first sound st writer (CloseGroup group) reply steps stood cut (refused_same st.map (CloseGroup group) reply lost)
-  cut_stood st writer (Pending group) reply steps stood lost answered cut = stood_nothing given first sound st writer (Pending group) reply steps stood cut (refused_same st.map (Pending group) reply lost)
+  cut_stood st writer (Put key value) reply steps stood lost answered cut =
+      put_cut st writer key value reply steps stood lost answered cut
+  cut_stood st writer (Reclaim extent) reply steps stood lost answered cut =
+      reclaim_cut st writer extent reply steps stood lost answered cut
+  cut_stood st writer (Delete key) reply steps stood lost answered cut =
+      stood_nothing given first sound st writer (Delete key) reply steps stood cut
+      (refused_same st.map (Delete key) reply lost)
+  cut_stood st writer Upgrade reply steps stood lost answered cut =
+      stood_nothing given first sound st writer Upgrade reply steps stood cut (refused_same st.map Upgrade reply lost)
+  cut_stood st writer (Get key) reply steps stood lost answered cut =
+      stood_nothing given first sound st writer (Get key) reply steps stood cut
+      (refused_same st.map (Get key) reply lost)
+  cut_stood st writer Group reply steps stood lost answered cut =
+      stood_nothing given first sound st writer Group reply steps stood cut (refused_same st.map Group reply lost)
+  cut_stood st writer (Engage group) reply steps stood lost answered cut =
+      stood_nothing given first sound st writer (Engage group) reply steps stood cut
+      (refused_same st.map (Engage group) reply lost)
+  cut_stood st writer (Disengage group) reply steps stood lost answered cut =
+      stood_nothing given first sound st writer (Disengage group) reply steps stood cut
+      (refused_same st.map (Disengage group) reply lost)
+  cut_stood st writer (Depend group on) reply steps stood lost answered cut =
+      stood_nothing given first sound st writer (Depend group on) reply steps stood cut
+      (refused_same st.map (Depend group on) reply lost)
+  cut_stood st writer (CloseGroup group) reply steps stood lost answered cut =
+      stood_nothing given first sound st writer (CloseGroup group) reply steps stood cut
+      (refused_same st.map (CloseGroup group) reply lost)
+  cut_stood st writer (Pending group) reply steps stood lost answered cut =
+      stood_nothing given first sound st writer (Pending group) reply steps stood cut
+      (refused_same st.map (Pending group) reply lost)
 
   -- Which of its patches move entries.
 
@@ -414,5 +457,7 @@ module _ (given : Given) (first : Ledger) (sound : IsSound first) (valid : IsGeo
     | inl u ↦ (let made = answered.1 in stood_nothing given first sound st writer command reply steps stood (rw u at made) (refused_same st.map command reply u))
     | inr u ↦ (let made = answered.1 in whole_stood st writer command reply steps stood u (ap is_refused (sym answered.0) ∙ u) (rw u at made))
   ]
-  event_stood st (Call writer command reply steps) stood (inr given) = cut_stood st writer command reply steps stood (ap is_refused given.reply_is) given.no_cause given.cut
-  event_stood st (Moved step) stood right = record { store = given.others st.run first st.made step (write_makes_nothing step right) stood.store; good = stood.good; format = stood.format; said = stood.said }
+  event_stood st (Call writer command reply steps) stood (inr given) =
+      cut_stood st writer command reply steps stood (ap is_refused given.reply_is) given.no_cause given.cut
+  event_stood st (Moved step) stood right =
+      record { store = given.others st.run first st.made step (write_makes_nothing step right) stood.store; good = stood.good; format = stood.format; said = stood.said }

@@ -1,5 +1,6 @@
 -- How plans of no writer go on.
-use Rattle.std.proofs.Common.{◌≡◌, ◌≢◌, ◌+◌, ℕ, zero, suc, Bool, true, false, List, [], ◌∷◌, ◌++◌, length, refl, sym, ap}
+use Rattle.std.proofs.Common.{◌≡◌, ◌≢◌, ◌+◌, ℕ, zero, suc, Bool, true, false, List, [], ◌∷◌, ◌++◌, length, refl, sym}
+use Rattle.std.proofs.Common.{ap}
 use Rattle.std.proofs.Common.{◌∙◌, arith}
 use Rattle.std.specs.Prelude.{None, option_to_list}
 use Rattle.std.proofs.lemmas.List.{append_assoc}
@@ -38,7 +39,8 @@ length-fitted choices zero = refl
 length-fitted [] (suc k) = ap suc (length-fitted [] k)
 length-fitted (c ∷ choices) (suc k) = ap suc (length-fitted choices k)
 
-steps_fitted : (choices : List Bool) (ws : List Written) → steps_by choices ws ≡ steps_by (fitted choices (length ws)) ws
+steps_fitted : (choices : List Bool) (ws : List Written)
+    → steps_by choices ws ≡ steps_by (fitted choices (length ws)) ws
 steps_fitted choices [] = refl
 steps_fitted [] (w ∷ ws) = ap (λ xs. w.create ∷ xs) (steps_fitted [] ws)
 steps_fitted (true ∷ choices) (w ∷ ws) = ap (λ xs. w.create ∷ (option_to_list w.merge ++ xs)) (steps_fitted choices ws)
@@ -63,7 +65,8 @@ module _ (join : PlansJoin) where
       ++ steps_by ds (written (after_plan s n p) (n + length p) plan)) (named_none later (n + length p) q)
       ∙ ap (λ k. steps_by (fitted cs k) (written s n p) ++ steps_by ds (written (after_plan s n p) (n + length p) q))
       (sym (length-written s n p))
-      ∙ ap (λ xs. xs ++ steps_by ds (written (after_plan s n p) (n + length p) q)) (sym (steps_fitted cs (written s n p)))
+      ∙ ap (λ xs. xs ++ steps_by ds (written (after_plan s n p) (n + length p) q))
+      (sym (steps_fitted cs (written s n p)))
 
   pub wholes_join : WholesJoin
   wholes_join st later p q steps more behind first second =

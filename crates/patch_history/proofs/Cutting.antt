@@ -28,7 +28,8 @@ two x y xs ys e f = ap (λ z. z ∷ xs) e ∙ ap (λ zs. y ∷ zs) f
 -- one patch more in front, without its merge or with it
 without : (w : Written) (ws : List Written) (s : Step) (steps : List Step) → s ≡ w.create → IsFirst ws steps
     → IsFirst (w ∷ ws) (s ∷ steps)
-without w ws s steps e f = (false ∷ f.0, suc f.1, (let k = f.2 in omega (arith, k)), two s w.create steps (steps_by f.0 (take f.1 ws)) e f.3)
+without w ws s steps e f =
+    (false ∷ f.0, suc f.1, (let k = f.2 in omega (arith, k)), two s w.create steps (steps_by f.0 (take f.1 ws)) e f.3)
 
 with_merge : (w : Written) (ws : List Written) (m s t : Step) (steps : List Step) → w.merge ≡ Some m → s ≡ w.create
     → t ≡ m → IsFirst ws steps → IsFirst (w ∷ ws) (s ∷ t ∷ steps)
@@ -51,14 +52,17 @@ module _ (rest : List Step) (some : rest ≢ []) where
       → steps ++ rest ≡ option_to_list o ++ steps_by choices ws → IsFirst (w ∷ ws) (s ∷ steps)
   merged choices w ws s steps None is p e go f = without w ws s steps e (go steps f)
   merged choices w ws s [] (Some m) is p e go f = alone w ws m s p is e
-  merged choices w ws s (t ∷ steps) (Some m) is p e go f = with_merge w ws m s t steps is e (ap (head_or m) f) (go steps (ap tail_of f))
+  merged choices w ws s (t ∷ steps) (Some m) is p e go f =
+      with_merge w ws m s t steps is e (ap (head_or m) f) (go steps (ap tail_of f))
 
   cut : (choices : List Bool) (ws : List Written) (steps : List Step) → EndsPlainly ws
       → steps ++ rest ≡ steps_by choices ws → IsFirst ws steps
   cut choices [] steps p e = absurd (not_empty steps rest some e)
   cut choices (w ∷ ws) [] p e = ([], 0, omega arith, refl)
-  cut [] (w ∷ ws) (s ∷ steps) p e = without w ws s steps (ap (head_or s) e) (cut [] ws steps (plain w ws p) (ap tail_of e))
-  cut (false ∷ choices) (w ∷ ws) (s ∷ steps) p e = without w ws s steps (ap (head_or s) e) (cut choices ws steps (plain w ws p) (ap tail_of e))
+  cut [] (w ∷ ws) (s ∷ steps) p e =
+      without w ws s steps (ap (head_or s) e) (cut [] ws steps (plain w ws p) (ap tail_of e))
+  cut (false ∷ choices) (w ∷ ws) (s ∷ steps) p e =
+      without w ws s steps (ap (head_or s) e) (cut choices ws steps (plain w ws p) (ap tail_of e))
   cut (true ∷ choices) (w ∷ ws) (s ∷ steps) p e =
       merged choices w ws s steps w.merge refl p (ap (head_or s) e) (λ left f. cut choices ws left (plain w ws p) f) (ap tail_of e)
 

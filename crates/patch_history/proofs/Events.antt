@@ -140,4 +140,6 @@ some_in (x ∷ xs) f h = omega arith
 
 pub is_current_of : (s : Shelf) (e : ℕ) (o : Option ℕ) → s.current ≡ o → o ≡ Some e → is_current s e ≡ true
 is_current_of s e None at h = absurd (let g : None ≡ Some e = h in cc)
-is_current_of s e (Some x) at h = let same : x ≡ e = cc in let on : (x == e) ≡ true = grind (arith, nat_tests) in rw (at, on) refl
+is_current_of s e (Some x) at h =
+    let same : x ≡ e = cc in
+    let on : (x == e) ≡ true = grind (arith, nat_tests) in rw (at, on) refl

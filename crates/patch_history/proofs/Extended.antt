@@ -104,7 +104,8 @@ module _ (given : Given) where
             (opens.same.pointer e (now e less) ∙ sym (shelf.pointer e (now e less)))
             (subst (λ g. pointer_at (largest_pointer g.format) (record_at g (cached_blocks run) e) ≡ Ok (opens.l.pointer e))
             same (read.points e (let all = ap (λ g. g.extents) same in omega arith)));
-        rest = subst (λ g. are_zeros (slice_range (block_on (cached_blocks run) (pointer_block g)) (pointer_start g.extents)
+        rest =
+            subst (λ g. are_zeros (slice_range (block_on (cached_blocks run) (pointer_block g)) (pointer_start g.extents)
             4096) ≡ true) same read.padding;
         resets = λ e less.
             newest.reset e (known e less)

@@ -15,7 +15,8 @@ AreRight-push st (first ∷ events) event are is = (are.0, AreRight-push (after_
 
 pub IsLegalHistory-push : (h : History) (event : Event) → IsLegalHistory h → IsRight (standing_of h) event
     → IsLegal (execution_of (with_event h event)) → IsLegalHistory (with_event h event)
-IsLegalHistory-push h event l right legal = record { bytes = l.bytes; reads = l.reads; legal = legal; right = AreRight-push (at_opening h.opening h.first) h.events event l.right right }
+IsLegalHistory-push h event l right legal =
+    record { bytes = l.bytes; reads = l.reads; legal = legal; right = AreRight-push (at_opening h.opening h.first) h.events event l.right right }
 
 run-after_event : (st : Standing) (event : Event) → (after_event st event).run ≡ followed_by st.run (steps_in event)
 run-after_event st (Call writer command reply steps) = refl

@@ -1,5 +1,6 @@
 -- A frame's plan is a put: its changes are well made.
-use Rattle.std.proofs.Common.{◌≡◌, ◌≢◌, ℕ, zero, suc, ◌+◌, ◌-◌, ◌%◌, ◌<◌, ◌≤◌, ◌∙◌, inl, inr, Bool, true, false, List, [], ◌∷◌}
+use Rattle.std.proofs.Common.{◌≡◌, ◌≢◌, ℕ, zero, suc, ◌+◌, ◌-◌, ◌%◌, ◌<◌, ◌≤◌, ◌∙◌, inl, inr, Bool, true, false, List}
+use Rattle.std.proofs.Common.{[], ◌∷◌}
 use Rattle.std.proofs.Common.{◌++◌, length, map, Option, Some, None, refl, sym, ap, arith, subst}
 use Rattle.std.specs.Prelude.{take, drop, ◌==◌, ◌||◌, if◌then◌else◌, IfSome, IsTrue, option_to_list, is_none}
 use Rattle.std.specs.List.{range_with_len}
@@ -115,7 +116,8 @@ has_kept names (Some n) h = h n (among_itself n [])
 length-in_order : (names : List ℕ) (cs : List Change) (made : List Made)
     → length (made_in_order names cs made) ≡ length made + length cs
 length-in_order names [] made = omega arith
-length-in_order names (c ∷ cs) made = let e = length-in_order names cs (record { change = c; after = names } ∷ made) in omega (arith, e)
+length-in_order names (c ∷ cs) made =
+    let e = length-in_order names cs (record { change = c; after = names } ∷ made) in omega (arith, e)
 
 length-pieces : (e o : ℕ) (bs : List ℕ) → 0 < length bs → length (pieces e o bs) ≡ touched o (length bs)
 length-pieces e o bs some =
@@ -158,14 +160,19 @@ right_put given s first made n extent slot c e good fits =
       room = fits.room;
       only = fits.only;
       same_key = fits.same_key;
-      bytes_named = subst (λ o. IfSome o (λ k. IsTrue (is_among (option_to_list (extent_at s.extents extent).reset) k))) (newest.reset extent fits.known)
+      bytes_named =
+          subst (λ o. IfSome o (λ k. IsTrue (is_among (option_to_list (extent_at s.extents extent).reset) k)))
+          (newest.reset extent fits.known)
           (has_kept (option_to_list (extent_at s.extents extent).reset) (extent_at s.extents extent).reset (λ k t. t));
       pointer_named = λ k from to.
           among_range n (touched (offset_at s.extents extent) (length (spelling c))) k (omega (arith, e, from))
           (let t : touched (offset_at s.extents extent) (length (spelling c)) ≡ touched (offset_at s.extents extent) (length_of c) = ap (touched (offset_at s.extents extent)) spelled in omega (arith, e, to, long, t));
-      slot_named = subst (λ k. is_among (fill_plan s n extent slot c).after k ≡ true) (ap (λ k. k + touched (offset_at s.extents extent) (length_of c)) e ∙ sym long)
+      slot_named =
+          subst (λ k. is_among (fill_plan s n extent slot c).after k ≡ true)
+          (ap (λ k. k + touched (offset_at s.extents extent) (length_of c)) e ∙ sym long)
           (among_itself (n + touched (offset_at s.extents extent) (length_of c)) inner);
-      upgrade_named = subst (λ o. IfSome o (λ k. IsTrue (is_among (fill_plan s n extent slot c).after k))) newest.upgrade
+      upgrade_named =
+          subst (λ o. IfSome o (λ k. IsTrue (is_among (fill_plan s n extent slot c).after k))) newest.upgrade
           (has_kept (fill_plan s n extent slot c).after s.upgrade (λ k t. among_later (n + touched (offset_at s.extents extent) (length_of c)) k inner
           (among_back (if is_none (slot_at s slot) then option_to_list s.last_delete else []) (option_to_list s.upgrade) k t)));
       cleared_named = λ none.

@@ -44,7 +44,11 @@ current-change : (s : Shelf) (first : Ledger) (made : List Made) (n : ℕ) (c : 
 current-change s first made n (Data extent offset bytes) good right e h = good.current e h
 current-change s first made n (Point extent generation offset) good right e h = elim (cases_Bool (offset == 0)) [
   | inl u ↦ good.current e (still_current extent e s.current (rw u at h))
-  | inr u ↦ (let g : Some extent ≡ Some e = rw u at h in let same = some_number extent e g in let known = right.known in let extents = good.holds.extents in omega (arith, same, known, extents))
+  | inr u ↦ (
+      let g : Some extent ≡ Some e = rw u at h in
+      let same = some_number extent e g in
+      let known = right.known in
+      let extents = good.holds.extents in omega (arith, same, known, extents))
 ]
 current-change s first made n (Fill slot fields) good right e h = good.current e h
 current-change s first made n (Clear slot) good right e h = good.current e h

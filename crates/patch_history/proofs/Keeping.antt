@@ -62,7 +62,9 @@ shorter all other before h =
 -- What leaves an extent.
 
 among-push : (xs : List ℕ) (n : ℕ) → is_among (xs ++ n ∷ []) n ≡ true
-among-push xs n = list_any-append (λ m. m == n) xs (n ∷ []) ∙ (elim (cases_Bool (list_any (λ m. m == n) xs)) [ inl t ↦ rw t refl | inr t ↦ rw (t, same_test n) refl ])
+among-push xs n =
+    list_any-append (λ m. m == n) xs (n ∷ [])
+    ∙ (elim (cases_Bool (list_any (λ m. m == n) xs)) [ inl t ↦ rw t refl | inr t ↦ rw (t, same_test n) refl ])
 
 among-more : (xs : List ℕ) (n k : ℕ) → is_among xs k ≡ true → is_among (xs ++ n ∷ []) k ≡ true
 among-more xs n k t = list_any-append (λ m. m == k) xs (n ∷ []) ∙ rw t refl
@@ -174,13 +176,14 @@ keeps_slot : (s : Shelf) (first : Ledger) (made : List Made) (m : Made) (slot : 
     → IsInIndex (slot_count first.geometry) other.change → takes_from e (after_all first before) other.change ≡ true
     → IfSome (newest (is_reset e) made) (λ n. n < length before)
     → is_among (slice_index_or (leaving s.left (length made) (slot_at s slot)) e []) (length before) ≡ true
-keeps_slot s first made m slot holds takes inside_m e h other before stands inside t i = elim (split m made other before stands) [
-  | inl both ↦ (let u = sym (takes e) ∙ newest_takes first m other made before e both.0 both.1 t in
-      let k = inside_m (subst (λ x. IsInIndex (slot_count first.geometry) x.change) (sym both.0) inside) in
-      ap (λ b. is_among (slice_index_or (leaving s.left (length made) (slot_at s slot)) e []) (length b)) (sym both.1)
-      ∙ newest_left s first made e slot holds h k u)
-  | inr old ↦ (let l = holds.left in leaves_old s.left e (length made) (length before) (slot_at s slot) (omega (arith, h, l)) (holds.newest.left e h other before old inside t i))
-]
+keeps_slot s first made m slot holds takes inside_m e h other before stands inside t i =
+    elim (split m made other before stands) [
+      | inl both ↦ (let u = sym (takes e) ∙ newest_takes first m other made before e both.0 both.1 t in
+          let k = inside_m (subst (λ x. IsInIndex (slot_count first.geometry) x.change) (sym both.0) inside) in
+          ap (λ b. is_among (slice_index_or (leaving s.left (length made) (slot_at s slot)) e []) (length b)) (sym both.1)
+          ∙ newest_left s first made e slot holds h k u)
+      | inr old ↦ (let l = holds.left in leaves_old s.left e (length made) (length before) (slot_at s slot) (omega (arith, h, l)) (holds.newest.left e h other before old inside t i))
+    ]
 
 keeps_fill : (s : Shelf) (first : Ledger) (made : List Made) (slot : ℕ) (fields : SlotFields) (after : List ℕ)
     → Holds s first made
@@ -255,7 +258,9 @@ point_left s first made at generation offset after holds e h other before stands
       | inl both ↦ (let u : false ≡ true = newest_takes first m other made before e both.0 both.1 t in absurd (cc))
       | inr old ↦ elim (cases_Bool (offset == 0)) [
         | inl u ↦ elim (cases_Bool (e == at)) [
-          | inl v ↦ (let late : length made < length before = rw (v, u) at i in let low = shorter made other before old in absurd (omega (arith, late, low)))
+          | inl v ↦ (
+              let late : length made < length before = rw (v, u) at i in
+              let low = shorter made other before old in absurd (omega (arith, late, low)))
           | inr v ↦ (let j : IfSome (newest (is_reset e) made) (λ n. n < length before) = rw v at i in
               rw u (ap (λ xs. is_among xs (length before)) (get_or-set_other s.left at e [] [] (unequal e at v)) ∙ holds.newest.left e h other before old inside t j))
         ]
@@ -280,14 +285,16 @@ keeps_point s first made at generation offset after holds = record {
 keeps : (s : Shelf) (first : Ledger) (made : List Made) (c : Change) (after : List ℕ) → Holds s first made
     → KeepsNewest (after_change s (length made) c) first (record { change = c; after = after } ∷ made)
 keeps s first made (Data extent offset bytes) after holds = keeps_data s first made extent offset bytes after holds
-keeps s first made (Point extent generation offset) after holds = keeps_point s first made extent generation offset after holds
+keeps s first made (Point extent generation offset) after holds =
+    keeps_point s first made extent generation offset after holds
 keeps s first made (Fill slot fields) after holds = keeps_fill s first made slot fields after holds
 keeps s first made (Clear slot) after holds = keeps_clear s first made slot after holds
 keeps s first made Widen after holds = keeps_widen s first made after holds
 
 length-left : (s : Shelf) (n : ℕ) (c : Change) → length (after_change s n c).left ≡ length s.left
 length-left s n (Data extent offset bytes) = refl
-length-left s n (Point extent generation offset) = elim (cases_Bool (offset == 0)) [ inl u ↦ rw u (length-set s.left extent []) | inr u ↦ rw u refl ]
+length-left s n (Point extent generation offset) =
+    elim (cases_Bool (offset == 0)) [ inl u ↦ rw u (length-set s.left extent []) | inr u ↦ rw u refl ]
 length-left s n (Fill slot fields) = length-leaving s.left n (slot_at s slot)
 length-left s n (Clear slot) = length-leaving s.left n (slot_at s slot)
 length-left s n Widen = refl
@@ -311,13 +318,15 @@ holds-plan first s n (m ∷ plan) made e holds =
 
 holds-event : (first : Ledger) (st : Standing) (event : Event) → Holds st.shelf first st.made
     → Holds (after_event st event).shelf first (after_event st event).made
-holds-event first st (Call writer command reply steps) holds = holds-plan first st.shelf (made_by st) (take (creates steps) (plan_of st writer command)) st.made refl holds
+holds-event first st (Call writer command reply steps) holds =
+    holds-plan first st.shelf (made_by st) (take (creates steps) (plan_of st writer command)) st.made refl holds
 holds-event first st (Moved step) holds = holds
 
 holds-events : (first : Ledger) (st : Standing) (events : List Event) → Holds st.shelf first st.made
     → Holds (fold after_event st events).shelf first (fold after_event st events).made
 holds-events first st [] holds = holds
-holds-events first st (event ∷ events) holds = holds-events first (after_event st event) events (holds-event first st event holds)
+holds-events first st (event ∷ events) holds =
+    holds-events first (after_event st event) events (holds-event first st event holds)
 
 none_stands : (other : Made) (before : List Made) → StandsIn [] other before → ⊥
 none_stands other before h =
@@ -334,8 +343,12 @@ holds-opened l = record {
   newest = record {
     last_delete = refl;
     upgrade = refl;
-    reset = λ e h. ap (λ k. k.reset) (get_or-map-range_with_len (λ e. opened_extent (l.pointer e)) 0 l.geometry.extents e e no_extent h (omega arith));
-    point = λ e h. ap (λ k. k.point) (get_or-map-range_with_len (λ e. opened_extent (l.pointer e)) 0 l.geometry.extents e e no_extent h (omega arith));
+    reset =
+        λ e h. ap (λ k. k.reset)
+        (get_or-map-range_with_len (λ e. opened_extent (l.pointer e)) 0 l.geometry.extents e e no_extent h (omega arith));
+    point =
+        λ e h. ap (λ k. k.point)
+        (get_or-map-range_with_len (λ e. opened_extent (l.pointer e)) 0 l.geometry.extents e e no_extent h (omega arith));
     left = λ e h other before stands inside t i. absurd (none_stands other before stands);
   };
 }

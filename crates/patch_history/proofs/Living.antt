@@ -32,7 +32,8 @@ into_placed f g (x ∷ xs) h = elim (cases_Bool (nat_le g.1.offset x.1.offset)) 
 
 in_order_in : (f : ℕ × SlotFields) (fs : List (ℕ × SlotFields)) → In (in_order fs) f → In fs f
 in_order_in f [] h = h
-in_order_in f (x ∷ xs) h = elim (in_placed f x (in_order xs) h) [ inl e ↦ inl e | inr there ↦ inr (in_order_in f xs there) ]
+in_order_in f (x ∷ xs) h =
+    elim (in_placed f x (in_order xs) h) [ inl e ↦ inl e | inr there ↦ inr (in_order_in f xs there) ]
 
 in_order_into : (f : ℕ × SlotFields) (fs : List (ℕ × SlotFields)) → In fs f → In (in_order fs) f
 in_order_into f [] h = h
@@ -71,7 +72,8 @@ record StandsAt (k : ℕ) (slots : List (Option SlotFields)) (f : ℕ × SlotFie
 
 further : (k : ℕ) (o : Option SlotFields) (slots : List (Option SlotFields)) (f : ℕ × SlotFields)
     → StandsAt (k + 1) slots f → StandsAt k (o ∷ slots) f
-further k o slots f h = record { place = suc h.place; is = (let e = h.is in omega (arith, e)); within = (let w = h.within in omega (arith, w)); says = h.says }
+further k o slots f h =
+    record { place = suc h.place; is = (let e = h.is in omega (arith, e)); within = (let w = h.within in omega (arith, w)); says = h.says }
 
 live_at : (e k : ℕ) (slots : List (Option SlotFields)) (f : ℕ × SlotFields) → In (live_from e k slots) f
     → StandsAt k slots f
@@ -89,7 +91,9 @@ live_there : (e k : ℕ) (slots : List (Option SlotFields)) (j : ℕ) (g : SlotF
     → slice_index_or slots j None ≡ Some g → g.extent ≡ e → In (live_from e k slots) (k + j, g)
 live_there e k [] j g at named = absurd (let none : None ≡ Some g = at in cc)
 live_there e k (None ∷ slots) zero g at named = absurd (let none : None ≡ Some g = at in cc)
-live_there e k (None ∷ slots) (suc j) g at named = subst (λ n. In (live_from e (k + 1) slots) (n, g)) (let x : k + 1 + j ≡ k + suc j = omega arith in x) (live_there e (k + 1) slots j g at named)
+live_there e k (None ∷ slots) (suc j) g at named =
+    subst (λ n. In (live_from e (k + 1) slots) (n, g)) (let x : k + 1 + j ≡ k + suc j = omega arith in x)
+    (live_there e (k + 1) slots j g at named)
 live_there e k (Some f ∷ slots) zero g at named =
     let same : f ≡ g = some_fields f g at in
     let u : (f.extent == e) ≡ true =
@@ -105,7 +109,11 @@ live_distinct : (e k : ℕ) (slots : List (Option SlotFields)) → Distinct (liv
 live_distinct e k [] = tt
 live_distinct e k (None ∷ slots) = live_distinct e (k + 1) slots
 live_distinct e k (Some g ∷ slots) = elim (cases_Bool (g.extent == e)) [
-  | inl u ↦ rw u ((λ h i same. let at = live_at e (k + 1) slots h i in let place = at.is in omega (arith, place, same)), live_distinct e (k + 1) slots)
+  | inl u ↦ rw u (
+    (λ h i same. let at = live_at e (k + 1) slots h i in
+        let place = at.is in omega (arith, place, same)),
+    live_distinct e (k + 1) slots,
+  )
   | inr u ↦ rw u (live_distinct e (k + 1) slots)
 ]
 
@@ -118,7 +126,9 @@ live_are s e f h =
 
 pub live_all : (s : Shelf) (e x : ℕ) (g : SlotFields) → slot_at s x ≡ Some g → g.extent ≡ e
     → In (live_frames s e) (x, g)
-live_all s e x g at named = in_order_into (x, g) (live_from e 0 s.slots) (subst (λ n. In (live_from e 0 s.slots) (n, g)) (let y : 0 + x ≡ x = omega arith in y) (live_there e 0 s.slots x g at named))
+live_all s e x g at named =
+    in_order_into (x, g) (live_from e 0 s.slots)
+    (subst (λ n. In (live_from e 0 s.slots) (n, g)) (let y : 0 + x ≡ x = omega arith in y) (live_there e 0 s.slots x g at named))
 
 pub live_apart : (s : Shelf) (e : ℕ) → Distinct (live_frames s e)
 live_apart s e = distinct_order (live_from e 0 s.slots) (live_distinct e 0 s.slots)

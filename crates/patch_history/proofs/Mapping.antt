@@ -39,7 +39,8 @@ value_behind (x ∷ xs) c k h = elim (cases_Bool (bytes_eq x.key k)) [
 value_before : (map : List Content) (c : Content) (k : List ℕ) → bytes_eq c.key k ≡ false
     → value_in (map ++ c ∷ []) k ≡ value_in map k
 value_before [] c k h = rw h refl
-value_before (x ∷ xs) c k h = elim (cases_Bool (bytes_eq x.key k)) [ inl u ↦ rw u refl | inr u ↦ rw u (value_before xs c k h) ]
+value_before (x ∷ xs) c k h =
+    elim (cases_Bool (bytes_eq x.key k)) [ inl u ↦ rw u refl | inr u ↦ rw u (value_before xs c k h) ]
 
 pub value_with : (map : List Content) (key value k : List ℕ)
     → value_in (with_value map key value) k ≡ (if bytes_eq key k then Some value else value_in map k)

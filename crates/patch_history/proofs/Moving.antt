@@ -1,5 +1,6 @@
 -- The moves of a reclaim are well made, and leave no slot that names the extent.
-use Rattle.std.proofs.Common.{Bool, ◌≡◌, ℕ, ◌+◌, ◌-◌, ◌<◌, ◌≤◌, ◌⊎◌, ◌∙◌, inl, inr, true, false, List, [], ◌∷◌, ◌++◌, length}
+use Rattle.std.proofs.Common.{Bool, ◌≡◌, ℕ, ◌+◌, ◌-◌, ◌<◌, ◌≤◌, ◌⊎◌, ◌∙◌, inl, inr, true, false, List, [], ◌∷◌, ◌++◌}
+use Rattle.std.proofs.Common.{length}
 use Rattle.std.proofs.Common.{Option, Some, None, Ok, refl, sym, ap, arith, subst}
 use Rattle.std.specs.Prelude.{◌==◌, ◌||◌, nat_lt, option_map, drop}
 use Rattle.std.specs.List.{range_with_len}
@@ -59,7 +60,9 @@ pub current_chosen : (s : Shelf) (len e : ℕ) (o : Option ℕ) → s.current �
     → (s.current ≡ Some e) × (has_room s len e ≡ true)
 current_chosen s len e None at h = absurd (let g : None ≡ Some e = rw at at h in cc)
 current_chosen s len e (Some x) at h = elim (cases_Bool (has_room s len x)) [
-  | inl u ↦ (let g : Some x ≡ Some e = rw (at, u) at h in let same = some_number x e g in (at ∙ g, ap (has_room s len) (sym same) ∙ u))
+  | inl u ↦ (
+      let g : Some x ≡ Some e = rw (at, u) at h in
+      let same = some_number x e g in (at ∙ g, ap (has_room s len) (sym same) ∙ u))
   | inr u ↦ absurd (let g : None ≡ Some e = rw (at, u) at h in cc)
 ]
 
@@ -100,10 +103,12 @@ move_on : (entries : List Content) (s : Shelf) (n extent : ℕ) (f : ℕ × Slot
     → option_map (λ rest. frame_plan s n extent f.0 (content_of entries f.1) ++ rest) o ≡ Some plan
     → IsMove entries s n f fs plan
 move_on entries s n extent f fs plan None at rest h = absurd (let g : None ≡ Some plan = h in cc)
-move_on entries s n extent f fs plan (Some others) at rest h = record { extent = extent; chosen = at; others = others; go_on = rest; are = some_plan _ _ (sym h) }
+move_on entries s n extent f fs plan (Some others) at rest h =
+    record { extent = extent; chosen = at; others = others; go_on = rest; are = some_plan _ _ (sym h) }
 
 pub move_cases : (entries : List Content) (s : Shelf) (n : ℕ) (f : ℕ × SlotFields) (fs : List (ℕ × SlotFields)) (plan : List Made) (o : Option ℕ)
     → extent_for_move s f.1.length ≡ o
     → moves entries s n (f ∷ fs) ≡ Some plan → IsMove entries s n f fs plan
 move_cases entries s n f fs plan None at h = absurd (let g : None ≡ Some plan = rw (at, moves) at h in cc)
-move_cases entries s n f fs plan (Some extent) at h = move_on entries s n extent f fs plan _ at refl (rw (at, moves) at h)
+move_cases entries s n f fs plan (Some extent) at h =
+    move_on entries s n extent f fs plan _ at refl (rw (at, moves) at h)

@@ -61,7 +61,9 @@ key_of key (Some f) h = (f, refl, (bytes_eq-Decides f.key key).0 h)
 
 pub no_key_of : (key : List ℕ) (o : Option SlotFields) (f : SlotFields) → has_key key o ≡ false → o ≡ Some f
     → f.key ≢ key
-no_key_of key o f h e same = let on : has_key key o ≡ true = ap (has_key key) e ∙ (bytes_eq-Decides f.key key).1 same in let no : false ≡ true = sym h ∙ on in cc
+no_key_of key o f h e same =
+    let on : has_key key o ≡ true = ap (has_key key) e ∙ (bytes_eq-Decides f.key key).1 same in
+    let no : false ≡ true = sym h ∙ on in cc
 
 empty_is : (o : Option SlotFields) → is_none o ≡ true → o ≡ None
 empty_is None h = refl
@@ -75,11 +77,14 @@ pub record IsSlotFor (s : Shelf) (key : List ℕ) (j : ℕ) : Type 0 where
 
 pub slot_found : (s : Shelf) (key : List ℕ) (j : ℕ) → slot_of s key ≡ Some j
     → (j < length s.slots) × ((f : SlotFields) × (slot_at s j ≡ Some f) × (f.key ≡ key))
-slot_found s key j h = let at = position_at (has_key key) None s.slots j h in (at.within, key_of key (slot_at s j) at.passes)
+slot_found s key j h =
+    let at = position_at (has_key key) None s.slots j h in (at.within, key_of key (slot_at s j) at.passes)
 
 pub slot_chosen : (s : Shelf) (key : List ℕ) (j : ℕ) (o : Option ℕ) → slot_of s key ≡ o → slot_for s key ≡ Some j
     → IsSlotFor s key j
-slot_chosen s key j (Some i) at h = let same : Some i ≡ Some j = rw at at h in let found = slot_found s key j (at ∙ same) in record { within = found.0; whose = inl found.1 }
+slot_chosen s key j (Some i) at h =
+    let same : Some i ≡ Some j = rw at at h in
+    let found = slot_found s key j (at ∙ same) in record { within = found.0; whose = inl found.1 }
 slot_chosen s key j None at h =
     let there = position_at is_none None s.slots j (rw at at h) in
     record { within = there.within; whose = inr (empty_is (slot_at s j) there.passes, position_none (has_key key) None s.slots at) }

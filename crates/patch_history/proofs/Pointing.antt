@@ -7,7 +7,8 @@ use Rattle.std.proofs.lemmas.Bool.Decides.{nat_tests}
 use Rattle.std.proofs.lemmas.List.Sums.{fold-append}
 use Rattle.patch_model.specs.Patch.{Patch}
 use Rattle.patch_frame.specs.declared.geometries.Geometry.{Geometry}
-use Rattle.patch_frame.specs.Geometry.{IsFormat, IsGeometry, slot_count, slot_block, first_block, pointer_block, pointer_start}
+use Rattle.patch_frame.specs.Geometry.{IsFormat, IsGeometry, slot_count, slot_block, first_block, pointer_block}
+use Rattle.patch_frame.specs.Geometry.{pointer_start}
 use Rattle.patch_frame.specs.Geometry.{largest_pointer}
 use Rattle.patch_frame.specs.Pointer.{spelling, pointer_of}
 use Rattle.patch_recovery.specs.Change.{Change, Data, Point, Fill, Clear, Widen, Made, patch_of, patches_of}
@@ -33,16 +34,23 @@ off_left a b h = rw h refl
 same_place : (g : Geometry) (e extent : ℕ)
     → (pointer_block g == pointer_block g && pointer_start extent == pointer_start e) ≡ (e == extent)
 same_place g e extent = elim (cases_Bool (e == extent)) [
-  | inl u ↦ (let a : (pointer_block g == pointer_block g) ≡ true = grind (arith, nat_tests) in let b : (pointer_start extent == pointer_start e) ≡ true = (let same : e ≡ extent = grind (arith, nat_tests) in grind (arith, nat_tests)) in rw (a, b, u) refl)
-  | inr u ↦ (let a : (pointer_block g == pointer_block g) ≡ true = grind (arith, nat_tests) in let b : (pointer_start extent == pointer_start e) ≡ false = (let ne : e ≢ extent = grind (arith, nat_tests) in grind (arith, nat_tests)) in rw (a, b, u) refl)
+  | inl u ↦ (
+      let a : (pointer_block g == pointer_block g) ≡ true = grind (arith, nat_tests) in
+      let b : (pointer_start extent == pointer_start e) ≡ true = (let same : e ≡ extent = grind (arith, nat_tests) in grind (arith, nat_tests)) in rw (a, b, u) refl)
+  | inr u ↦ (
+      let a : (pointer_block g == pointer_block g) ≡ true = grind (arith, nat_tests) in
+      let b : (pointer_start extent == pointer_start e) ≡ false = (let ne : e ≢ extent = grind (arith, nat_tests) in grind (arith, nat_tests)) in rw (a, b, u) refl)
 ]
 
 -- a change of another block
 elsewhere : (x y : ℕ) (b : Bool) → x ≢ y → (x == y && b) ≡ false
 elsewhere x y b ne = off_left (x == y) b (let t : (x == y) ≡ false = grind (arith, nat_tests) in t)
 
-point_tells : (g : Geometry) (l : Ledger) (n e : ℕ) (c : Change) (names : List ℕ) → slot_count l.geometry ≡ slot_count g → IsRight l c → extents.is_point g e (patch_of g n (record { change = c; after = names })) ≡ is_point e c
-point_tells g l n e (Data extent offset bytes) names slots right = elsewhere (first_block g extent + offset / 4096) (pointer_block g) _ (λ same. omega (arith, same))
+point_tells : (g : Geometry) (l : Ledger) (n e : ℕ) (c : Change) (names : List ℕ)
+    → slot_count l.geometry ≡ slot_count g → IsRight l c
+    → extents.is_point g e (patch_of g n (record { change = c; after = names })) ≡ is_point e c
+point_tells g l n e (Data extent offset bytes) names slots right =
+    elsewhere (first_block g extent + offset / 4096) (pointer_block g) _ (λ same. omega (arith, same))
 point_tells g l n e (Point extent generation offset) names slots right = same_place g e extent
 point_tells g l n e (Fill slot s) names slots right =
     elsewhere (slot_block slot) (pointer_block g) _ (let known = right.known in λ same. omega arith)
@@ -50,8 +58,11 @@ point_tells g l n e (Clear slot) names slots right =
     elsewhere (slot_block slot) (pointer_block g) _ (let known = right.known in λ same. omega arith)
 point_tells g l n e Widen names slots right = elsewhere 0 (pointer_block g) _ (λ same. omega (arith, same))
 
-reset_tells : Given → (g : Geometry) (l : Ledger) (n e : ℕ) (c : Change) (names : List ℕ) → slot_count l.geometry ≡ slot_count g → largest_pointer l.geometry.format < 2 ^ 32 → IsRight l c → extents.is_reset g e (patch_of g n (record { change = c; after = names })) ≡ is_reset e c
-reset_tells given g l n e (Data extent offset bytes) names slots small right = off_left _ _ (point_tells g l n e (Data extent offset bytes) names slots right)
+reset_tells : Given → (g : Geometry) (l : Ledger) (n e : ℕ) (c : Change) (names : List ℕ)
+    → slot_count l.geometry ≡ slot_count g → largest_pointer l.geometry.format < 2 ^ 32 → IsRight l c
+    → extents.is_reset g e (patch_of g n (record { change = c; after = names })) ≡ is_reset e c
+reset_tells given g l n e (Data extent offset bytes) names slots small right =
+    off_left _ _ (point_tells g l n e (Data extent offset bytes) names slots right)
 reset_tells given g l n e (Point extent generation offset) names slots small right =
     let p : Pointer = record { generation = generation; offset = offset } in
     let read = given.pointers.again (largest_pointer l.geometry.format) p small
@@ -61,8 +72,10 @@ reset_tells given g l n e (Point extent generation offset) names slots small rig
     ap (λ b. b && (pointer_of (spelling (record { generation = generation; offset = offset }))).offset == 0)
     (same_place g e extent)
     ∙ ap (λ p. e == extent && p.offset == 0) back
-reset_tells given g l n e (Fill slot s) names slots small right = off_left _ _ (point_tells g l n e (Fill slot s) names slots right)
-reset_tells given g l n e (Clear slot) names slots small right = off_left _ _ (point_tells g l n e (Clear slot) names slots right)
+reset_tells given g l n e (Fill slot s) names slots small right =
+    off_left _ _ (point_tells g l n e (Fill slot s) names slots right)
+reset_tells given g l n e (Clear slot) names slots small right =
+    off_left _ _ (point_tells g l n e (Clear slot) names slots right)
 reset_tells given g l n e Widen names slots small right = off_left _ _ (point_tells g l n e Widen names slots right)
 
 last_newest : (g : Geometry) (test : Patch → Bool) (kind : Change → Bool) (l : Ledger) (ms : List Made)

@@ -49,7 +49,8 @@ IsSilent (Fill slot s) = ⊥
 IsSilent (Clear slot) = ⊥
 IsSilent Widen = ⊥
 
-silent_said : (first : Ledger) (made : List Made) (c : Change) (names : List ℕ) → IsSilent c → IsQuiet first made (record { change = c; after = names })
+silent_said : (first : Ledger) (made : List Made) (c : Change) (names : List ℕ) → IsSilent c
+    → IsQuiet first made (record { change = c; after = names })
 silent_said first made (Data extent offset bytes) names h = record { said = λ key. refl; geometry = refl }
 silent_said first made (Point extent generation offset) names h = record { said = λ key. refl; geometry = refl }
 silent_said first made (Fill slot s) names h = absurd h
@@ -62,7 +63,8 @@ AllSilent (m ∷ plan) = IsSilent m.change × AllSilent plan
 
 pub silent_quiet : (first : Ledger) (plan made : List Made) → AllSilent plan → AllQuiet first made plan
 silent_quiet first [] made h = tt
-silent_quiet first (m ∷ plan) made h = (silent_said first made m.change m.after h.0, silent_quiet first plan (m ∷ made) h.1)
+silent_quiet first (m ∷ plan) made h =
+    (silent_said first made m.change m.after h.0, silent_quiet first plan (m ∷ made) h.1)
 
 pub silent_append : (p q : List Made) → AllSilent p → AllSilent q → AllSilent (p ++ q)
 silent_append [] q h k = k
@@ -77,6 +79,7 @@ pub silent_named : (gs : Groups) (w : Option ℕ) (n : ℕ) (p : List Made) → 
 silent_named gs w n [] h = tt
 silent_named gs w n (m ∷ p) h = (h.0, silent_named (with_patch gs w n) w (n + 1) p h.1)
 
-pub silent_changes : (names : List ℕ) (f : ℕ → Change) (xs : List ℕ) → ((x : ℕ) → IsSilent (f x)) → AllSilent (map (λ k. record { change = f k; after = names }) xs)
+pub silent_changes : (names : List ℕ) (f : ℕ → Change) (xs : List ℕ) → ((x : ℕ) → IsSilent (f x))
+    → AllSilent (map (λ k. record { change = f k; after = names }) xs)
 silent_changes names f [] h = tt
 silent_changes names f (x ∷ xs) h = (h x, silent_changes names f xs h)

@@ -1,5 +1,6 @@
 -- The frames of an extent move, one after another.
-use Rattle.std.proofs.Common.{Ok, ◌≡◌, ◌≢◌, ℕ, suc, ◌+◌, ◌<◌, ◌≤◌, ◌∙◌, inl, inr, true, false, List, [], ◌∷◌, ◌++◌, length}
+use Rattle.std.proofs.Common.{Ok, ◌≡◌, ◌≢◌, ℕ, suc, ◌+◌, ◌<◌, ◌≤◌, ◌∙◌, inl, inr, true, false, List, [], ◌∷◌, ◌++◌}
+use Rattle.std.proofs.Common.{length}
 use Rattle.std.proofs.Common.{map, Some, refl, sym, ap, arith, subst}
 use Rattle.std.specs.Prelude.{◌==◌, if◌then◌else◌, unwrap_or}
 use Rattle.std.specs.List.{range_with_len}
@@ -52,7 +53,8 @@ other_append : (r : ℕ) (p q : List Made) → AllOther r p → AllOther r q →
 other_append r [] q h k = k
 other_append r (m ∷ p) q h k = (h.0, other_append r p q h.1 k)
 
-other_changes : (r : ℕ) (names : List ℕ) (f : ℕ → Change) (xs : List ℕ) → ((x : ℕ) → is_point r (f x) ≡ false) → AllOther r (map (λ k. record { change = f k; after = names }) xs)
+other_changes : (r : ℕ) (names : List ℕ) (f : ℕ → Change) (xs : List ℕ) → ((x : ℕ) → is_point r (f x) ≡ false)
+    → AllOther r (map (λ k. record { change = f k; after = names }) xs)
 other_changes r names f [] h = tt
 other_changes r names f (x ∷ xs) h = (h x, other_changes r names f xs h)
 
@@ -61,7 +63,11 @@ other_change : (r : ℕ) (s : Shelf) (n : ℕ) (c : Change) → is_point r c ≡
 other_change r s n (Data extent offset bytes) off ne = ne
 other_change r s n (Point extent generation offset) off ne = λ h. elim (cases_Bool (offset == 0)) [
   | inl u ↦ ne (still_current extent r s.current (rw u at h))
-  | inr u ↦ (let g : Some extent ≡ Some r = rw u at h in let same = some_number extent r g in let on : (r == extent) ≡ true = grind (arith, nat_tests) in let no : false ≡ true = sym off ∙ on in cc)
+  | inr u ↦ (
+      let g : Some extent ≡ Some r = rw u at h in
+      let same = some_number extent r g in
+      let on : (r == extent) ≡ true = grind (arith, nat_tests) in
+      let no : false ≡ true = sym off ∙ on in cc)
 ]
 other_change r s n (Fill slot fields) off ne = ne
 other_change r s n (Clear slot) off ne = ne
@@ -70,7 +76,8 @@ other_change r s n Widen off ne = ne
 other_current : (r : ℕ) (s : Shelf) (n : ℕ) (plan : List Made) → AllOther r plan → s.current ≢ Some r
     → (after_plan s n plan).current ≢ Some r
 other_current r s n [] h ne = ne
-other_current r s n (m ∷ plan) h ne = other_current r (after_change s n m.change) (n + 1) plan h.1 (other_change r s n m.change h.0 ne)
+other_current r s n (m ∷ plan) h ne =
+    other_current r (after_change s n m.change) (n + 1) plan h.1 (other_change r s n m.change h.0 ne)
 
 other_frame : (r : ℕ) (s : Shelf) (n extent slot : ℕ) (c : Content) → extent ≢ r
     → AllOther r (frame_plan s n extent slot c)
@@ -142,7 +149,9 @@ record HasContent (l : Ledger) (entries : List Content) (f : SlotFields) : Type 
   pub named : IsNamed l f
   pub is : named.content ≡ content_of entries f
 
-module _ (given : Given) (first : Ledger) (sound : IsSound first) (valid : IsGeometry first.geometry) (stores : HasStores first) (entries : List Content) (r : ℕ) (at_first : Pointer) (r_known : r < first.geometry.extents) where
+module _ (given : Given) (first : Ledger) (sound : IsSound first) (valid : IsGeometry first.geometry)
+    (stores : HasStores first) (entries : List Content) (r : ℕ) (at_first : Pointer)
+    (r_known : r < first.geometry.extents) where
   content_is : (s : Shelf) (made : List Made) (fs : List (ℕ × SlotFields)) → Ready first entries r at_first s made fs
       → (f : ℕ × SlotFields) → In fs f → HasContent (after_all first made) entries f.1
   content_is s made fs ready f i =
@@ -186,7 +195,9 @@ module _ (given : Given) (first : Ledger) (sound : IsSound first) (valid : IsGeo
       (format_kept first.geometry (after_all first made).geometry valid.format (given.last first made sound good.well).geometry) fit in
       let geometry = good.holds.shelf.geometry in
       let known : e < first.geometry.extents = elim (chosen.known) [
-        | inl k ↦ (let x = good.holds.extents in let y : s.extents.geometry.extents ≡ (after_all first made).geometry.extents = ap (λ g. g.extents) geometry in omega (arith, k, x, y))
+        | inl k ↦ (
+            let x = good.holds.extents in
+            let y : s.extents.geometry.extents ≡ (after_all first made).geometry.extents = ap (λ g. g.extents) geometry in omega (arith, k, x, y))
         | inr cur ↦ good.current e cur
       ] in
       let known_now : e < (after_all first made).geometry.extents =
@@ -202,10 +213,14 @@ module _ (given : Given) (first : Ledger) (sound : IsSound first) (valid : IsGeo
         slot = (ready.waits f (inl refl)).0;
         content = fit;
         room = elim (chosen.which) [
-          | inl cur ↦ (let test = cur.1 in let le : offset_at s.extents e + f.1.length ≤ largest_pointer s.extents.geometry.format = grind (arith, nat_tests) in omega (arith, le, long, offset, largest))
+          | inl cur ↦ (
+              let test = cur.1 in
+              let le : offset_at s.extents e + f.1.length ≤ largest_pointer s.extents.geometry.format = grind (arith, nat_tests) in omega (arith, le, long, offset, largest))
           | inr nought ↦ (let small = sizes.2 in omega (arith, nought, offset, small))
         ];
-        only = λ other t ne there same. ne ((given.last first made sound good.well).sound.single other f.0 t f.1 there at same);
+        only =
+            λ other t ne there same. ne
+            ((given.last first made sound good.well).sound.single other f.0 t f.1 there at same);
         same_key = λ t there. ap (λ g. g.key) (some_fields t f.1 (sym there ∙ at));
       }
 
@@ -276,12 +291,21 @@ module _ (given : Given) (first : Ledger) (sound : IsSound first) (valid : IsGeo
               (there.0, slots g.0 ∙ (rw apart (there.1)));
           apart = ready.apart.1;
           rest = λ x g says named. elim (cases_Bool (x == f.0)) [
-            | inl u ↦ (let old = slots x in let new : (after_all first (onto plan made)).slot x ≡ Some (fields_put (after_all first made) put) = rw u at old in let now : Some (fields_put (after_all first made) put) ≡ Some g = sym new ∙ says in
+            | inl u ↦ (
+                let old = slots x in
+                let new : (after_all first (onto plan made)).slot x ≡ Some (fields_put (after_all first made) put) =
+                rw u at old in
+                let now : Some (fields_put (after_all first made) put) ≡ Some g = sym new ∙ says in
                 let same = some_fields (fields_put (after_all first made) put) g now in absurd (ne (ap (λ g. g.extent) same ∙ named)))
-            | inr u ↦ (let old = slots x in let new : (after_all first (onto plan made)).slot x ≡ (after_all first made).slot x = rw u at old in let before : (after_all first made).slot x ≡ Some g = sym new ∙ says in elim (ready.rest x g before named) [
-              | inl same ↦ (let eq : f.0 ≡ x = ap (λ p. p.0) same in let on : (x == f.0) ≡ true = grind (arith, nat_tests) in absurd (let no : false ≡ true = sym u ∙ on in cc))
-              | inr there ↦ there
-            ])
+            | inr u ↦ (
+                let old = slots x in
+                let new : (after_all first (onto plan made)).slot x ≡ (after_all first made).slot x = rw u at old in
+                let before : (after_all first made).slot x ≡ Some g = sym new ∙ says in elim (ready.rest x g before named) [
+                  | inl same ↦ (
+                      let eq : f.0 ≡ x = ap (λ p. p.0) same in
+                      let on : (x == f.0) ≡ true = grind (arith, nat_tests) in absurd (let no : false ≡ true = sym u ∙ on in cc))
+                  | inr there ↦ there
+                ])
           ];
         },
       )
@@ -298,7 +322,9 @@ module _ (given : Given) (first : Ledger) (sound : IsSound first) (valid : IsGeo
   pub moves_well : (fs : List (ℕ × SlotFields)) (s : Shelf) (made : List Made) (n : ℕ) (plan : List Made)
       → n ≡ length made → Ready first entries r at_first s made fs → moves entries s n fs ≡ Some plan
       → MovedWell s made n plan
-  moves_well [] s made n plan count ready h = subst (MovedWell s made n) (no_plan plan h) (record { well = ready.good.well; quiet = tt; moved = tt; ready = ready })
+  moves_well [] s made n plan count ready h =
+      subst (MovedWell s made n) (no_plan plan h)
+      (record { well = ready.good.well; quiet = tt; moved = tt; ready = ready })
   moves_well (f ∷ fs) s made n plan count ready h =
       let case = move_cases entries s n f fs plan (extent_for_move s f.1.length) refl h in
       let e = case.extent in
@@ -311,7 +337,10 @@ module _ (given : Given) (first : Ledger) (sound : IsSound first) (valid : IsGeo
       subst (MovedWell s made n) (sym case.are) (record {
         well = subst (AreWellMade first) (sym (onto-++ p case.others made)) others.well;
         quiet = quiet_append first p case.others made one.1 others.quiet;
-        moved = moved_append fills first p case.others made (move_moved s made n f fs e count ready chosen) others.moved;
-        ready = subst (λ ms. Ready first entries r at_first (after_plan s n (p ++ case.others)) ms []) (sym (onto-++ p case.others made))
+        moved =
+            moved_append fills first p case.others made (move_moved s made n f fs e count ready chosen) others.moved;
+        ready =
+            subst (λ ms. Ready first entries r at_first (after_plan s n (p ++ case.others)) ms [])
+            (sym (onto-++ p case.others made))
             (subst (λ t. Ready first entries r at_first t (onto case.others (onto p made)) []) (sym (shelf_plan-++ s n p case.others)) others.ready);
       })

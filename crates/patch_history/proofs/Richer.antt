@@ -43,7 +43,8 @@ pub richer_ledger : (first : Ledger) (ms rs : List Made) → AreRicher ms rs →
 richer_ledger first [] [] h = refl
 richer_ledger first [] (r ∷ rs) h = absurd h
 richer_ledger first (m ∷ ms) [] h = absurd h
-richer_ledger first (m ∷ ms) (r ∷ rs) h = ap (λ l. after l r.change) (richer_ledger first ms rs h.1) ∙ ap (after (after_all first ms)) h.0.change
+richer_ledger first (m ∷ ms) (r ∷ rs) h =
+    ap (λ l. after l r.change) (richer_ledger first ms rs h.1) ∙ ap (after (after_all first ms)) h.0.change
 
 -- the patch is the same, and names all that the other does
 record IsRicherPatch (p q : Patch) : Type 0 where
@@ -68,7 +69,8 @@ shares_same p x q y hp hq = rw (hp.block, hp.start, hp.bytes, hq.block, hq.start
 
 or_true : (a b c d : Bool) → (a ≡ true → c ≡ true) → d ≡ b → (a || b) ≡ true → (c || d) ≡ true
 or_true true b c d f e h = rw (f refl) refl
-or_true false b c d f e h = let dt : d ≡ true = e ∙ h in elim (cases_Bool c) [ inl u ↦ rw u refl | inr u ↦ rw (u, dt) refl ]
+or_true false b c d f e h =
+    let dt : d ≡ true = e ∙ h in elim (cases_Bool c) [ inl u ↦ rw u refl | inr u ↦ rw (u, dt) refl ]
 
 richer_depends : (p x q y : Patch) → IsRicherPatch p x → IsRicherPatch q y → depends_directly p q ≡ true
     → depends_directly x y ≡ true
@@ -129,7 +131,9 @@ richer_well first [] (r ∷ rs) h well = absurd h
 richer_well first (m ∷ ms) [] h well = absurd h
 richer_well first (m ∷ ms) (r ∷ rs) h well = (
   record {
-    right = subst (λ l. IsRight l r.change) (sym (richer_ledger first ms rs h.1)) (subst (λ c. IsRight (after_all first ms) c) (sym h.0.change) well.0.right);
+    right =
+        subst (λ l. IsRight l r.change) (sym (richer_ledger first ms rs h.1))
+        (subst (λ c. IsRight (after_all first ms) c) (sym h.0.change) well.0.right);
     reaches = λ other before stands t.
         let there = poorer ms rs stands.later other before h.1 stands.are in
         let same : comes_after (after_all first ms) m.change (after_all first there.before) there.made.change ≡ true =

@@ -40,7 +40,8 @@ after_point_is s l n at generation offset is e h = elim (cases_Bool (e == at)) [
 
 pub after_change_is : (s : Shelf) (l : Ledger) (n : ℕ) (c : Change) → IsShelfOf s l
     → IsShelfOf (after_change s n c) (after l c)
-after_change_is s l n (Data extent offset bytes) is = record { geometry = is.geometry; extents = is.extents; slots = is.slots; pointer = is.pointer; slot = is.slot }
+after_change_is s l n (Data extent offset bytes) is =
+    record { geometry = is.geometry; extents = is.extents; slots = is.slots; pointer = is.pointer; slot = is.slot }
 after_change_is s l n (Point extent generation offset) is = record {
   geometry = is.geometry;
   extents = length-set s.extents.each extent (pointed n generation offset (extent_at s.extents extent)) ∙ is.extents;
@@ -62,29 +63,36 @@ after_change_is s l n (Clear at) is = record {
   pointer = is.pointer;
   slot = after_slot_is s l n at None is;
 }
-after_change_is s l n Widen is = record { geometry = ap widened is.geometry; extents = is.extents; slots = is.slots; pointer = is.pointer; slot = is.slot }
+after_change_is s l n Widen is =
+    record { geometry = ap widened is.geometry; extents = is.extents; slots = is.slots; pointer = is.pointer; slot = is.slot }
 
 pub after_plan_is : (first : Ledger) (s : Shelf) (n : ℕ) (plan made : List Made) → IsShelfOf s (after_all first made)
     → IsShelfOf (after_plan s n plan) (after_all first (onto plan made))
 after_plan_is first s n [] made is = is
-after_plan_is first s n (m ∷ plan) made is = after_plan_is first (after_change s n m.change) (n + 1) plan (m ∷ made) (after_change_is s (after_all first made) n m.change is)
+after_plan_is first s n (m ∷ plan) made is =
+    after_plan_is first (after_change s n m.change) (n + 1) plan (m ∷ made)
+    (after_change_is s (after_all first made) n m.change is)
 
 after_event_is : (first : Ledger) (st : Standing) (event : Event) → IsShelfOf st.shelf (after_all first st.made)
     → IsShelfOf (after_event st event).shelf (after_all first (after_event st event).made)
-after_event_is first st (Call writer command reply steps) is = after_plan_is first st.shelf (made_by st) (take (creates steps) (plan_of st writer command)) st.made is
+after_event_is first st (Call writer command reply steps) is =
+    after_plan_is first st.shelf (made_by st) (take (creates steps) (plan_of st writer command)) st.made is
 after_event_is first st (Moved step) is = is
 
 after_events_is : (first : Ledger) (st : Standing) (events : List Event) → IsShelfOf st.shelf (after_all first st.made)
     → IsShelfOf (fold after_event st events).shelf (after_all first (fold after_event st events).made)
 after_events_is first st [] is = is
-after_events_is first st (event ∷ events) is = after_events_is first (after_event st event) events (after_event_is first st event is)
+after_events_is first st (event ∷ events) is =
+    after_events_is first (after_event st event) events (after_event_is first st event is)
 
 pub opened_is : (l : Ledger) → IsShelfOf (opened l) l
 opened_is l = record {
   geometry = refl;
   extents = length-map-range_with_len (λ e. opened_extent (l.pointer e)) 0 l.geometry.extents;
   slots = length-map-range_with_len l.slot 0 (slot_count l.geometry);
-  pointer = λ e h. ap (λ k. k.pointer) (get_or-map-range_with_len (λ e. opened_extent (l.pointer e)) 0 l.geometry.extents e e no_extent h (omega arith));
+  pointer =
+      λ e h. ap (λ k. k.pointer)
+      (get_or-map-range_with_len (λ e. opened_extent (l.pointer e)) 0 l.geometry.extents e e no_extent h (omega arith));
   slot = λ slot h. get_or-map-range_with_len l.slot 0 (slot_count l.geometry) slot slot None h (omega arith);
 }
 

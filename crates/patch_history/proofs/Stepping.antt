@@ -1,5 +1,6 @@
 -- The steps of a plan, how many patches they make, and what they leave.
-use Rattle.std.proofs.Common.{◌≡◌, ℕ, zero, suc, ◌+◌, ◌≤◌, arith, ◌∙◌, inl, inr, Bool, true, false, List, [], ◌∷◌, ◌++◌, length}
+use Rattle.std.proofs.Common.{◌≡◌, ℕ, zero, suc, ◌+◌, ◌≤◌, arith, ◌∙◌, inl, inr, Bool, true, false, List, [], ◌∷◌, ◌++◌}
+use Rattle.std.proofs.Common.{length}
 use Rattle.std.proofs.Common.{Option, Some, None, refl, sym, ap, subst}
 use Rattle.std.specs.Prelude.{◌==◌, option_to_list, take, drop}
 use Rattle.std.proofs.lemmas.Bool.{cases_Bool}
@@ -34,7 +35,8 @@ merge_with_none n (Some before) steps = refl
 merge_none : (s : Extents) (n : ℕ) (c : Change) (steps : List Step)
     → creates (option_to_list (merge_behind s n c) ++ steps) ≡ creates steps
 merge_none s n (Data extent offset bytes) steps = refl
-merge_none s n (Point extent generation offset) steps = elim (cases_Bool (offset == 0)) [ inl u ↦ rw u refl | inr u ↦ rw u (merge_with_none n (extent_at s extent).point steps) ]
+merge_none s n (Point extent generation offset) steps =
+    elim (cases_Bool (offset == 0)) [ inl u ↦ rw u refl | inr u ↦ rw u (merge_with_none n (extent_at s extent).point steps) ]
 merge_none s n (Fill slot fields) steps = refl
 merge_none s n (Clear slot) steps = refl
 merge_none s n Widen steps = refl

@@ -24,7 +24,8 @@ merge_with_nothing n (Some before) = refl
 
 merge_nothing : (s : Extents) (n : ℕ) (c : Change) → NothingIf (merge_behind s n c)
 merge_nothing s n (Data extent offset bytes) = tt
-merge_nothing s n (Point extent generation offset) = elim (cases_Bool (offset == 0)) [ inl u ↦ rw u tt | inr u ↦ rw u (merge_with_nothing n (extent_at s extent).point) ]
+merge_nothing s n (Point extent generation offset) =
+    elim (cases_Bool (offset == 0)) [ inl u ↦ rw u tt | inr u ↦ rw u (merge_with_nothing n (extent_at s extent).point) ]
 merge_nothing s n (Fill slot fields) = tt
 merge_nothing s n (Clear slot) = tt
 merge_nothing s n Widen = tt
@@ -47,12 +48,14 @@ module _ (grow : StoresGrow) (others : OtherStepsLeaveStores) (first : Ledger) w
   made_one : (run : Execution) (s : Extents) (made : List Made) (n : ℕ) (m : Made) (plan : List Made)
       → PlanFits first s n made (m ∷ plan) → IsOfStore run first made
       → IsOfStore (extended run (step_of s.geometry m)) first (m ∷ made)
-  made_one run s made n m plan fits is = subst (λ step. IsOfStore (extended run step) first (m ∷ made)) (sym fits.0) (grow run first m made is fits.1)
+  made_one run s made n m plan fits is =
+      subst (λ step. IsOfStore (extended run step) first (m ∷ made)) (sym fits.0) (grow run first m made is fits.1)
 
   walk : (choices : List Bool) (plan : List Made) (run : Execution) (s : Extents) (n : ℕ) (made : List Made)
       → PlanFits first s n made plan → IsOfStore run first made
       → IsOfStore (followed_by run (steps_by choices (written s n plan))) first (onto plan made)
-  walk choices [] run s n made fits is = subst (λ steps. IsOfStore (record run { steps = steps }) first made) (sym (append-nil run.steps)) is
+  walk choices [] run s n made fits is =
+      subst (λ steps. IsOfStore (record run { steps = steps }) first made) (sym (append-nil run.steps)) is
   walk [] (m ∷ plan) run s n made fits is =
       subst (λ all. IsOfStore all first (onto plan (m ∷ made)))
       (followed_by-∷ run (step_of s.geometry m) (steps_by [] (written (after_change s n m.change) (n + 1) plan)))
@@ -69,4 +72,5 @@ module _ (grow : StoresGrow) (others : OtherStepsLeaveStores) (first : Ledger) w
       (λ run is. walk choices plan run (after_change s n m.change) (n + 1) (m ∷ made) fits.2 is))
 
 pub plans_are_of_stores : StoresGrow → OtherStepsLeaveStores → PlansAreOfStores
-plans_are_of_stores grow others run first s n made plan choices fits is = walk grow others first choices plan run s n made fits is
+plans_are_of_stores grow others run first s n made plan choices fits is =
+    walk grow others first choices plan run s n made fits is

@@ -55,7 +55,8 @@ first_of_two_in (y ∷ z ∷ xs) x h = h
 
 pub put_chosen : (s : Shelf) (len e : ℕ) (o : Option ℕ) → current_for s len ≡ o → extent_for_put s len ≡ Some e
     → Chosen s len e
-put_chosen s len e None at h = empty_chosen s len e (first_in (empty_extents s) e (first_of_two_in (empty_extents s) e (rw at at h)))
+put_chosen s len e None at h =
+    empty_chosen s len e (first_in (empty_extents s) e (first_of_two_in (empty_extents s) e (rw at at h)))
 put_chosen s len e (Some x) at h =
     let same : Some x ≡ Some e = rw at at h in
     let chosen = current_chosen s len e s.current refl (at ∙ same) in
@@ -72,12 +73,14 @@ put_extent : (s : Shelf) (n slot : ℕ) (c : Content) (plan : List Made) (o : Op
     → extent_for_put s (length_of c) ≡ o
     → option_map (λ extent. frame_plan s n extent slot c) o ≡ Some plan → IsPut s n c plan
 put_extent s n slot c plan None at e h = absurd (let g : None ≡ Some plan = h in cc)
-put_extent s n slot c plan (Some extent) at e h = record { slot = slot; extent = extent; slot_is = at; extent_is = e; are = some_plan _ _ (sym h) }
+put_extent s n slot c plan (Some extent) at e h =
+    record { slot = slot; extent = extent; slot_is = at; extent_is = e; are = some_plan _ _ (sym h) }
 
 pub put_cases : (s : Shelf) (n : ℕ) (c : Content) (plan : List Made) (o : Option ℕ) → slot_for s c.key ≡ o
     → put_plan s n c ≡ Some plan → IsPut s n c plan
 put_cases s n c plan None at h = absurd (let g : None ≡ Some plan = rw (at, put_plan) at h in cc)
-put_cases s n c plan (Some slot) at h = put_extent s n slot c plan (extent_for_put s (length_of c)) at refl (rw (at, put_plan) at h)
+put_cases s n c plan (Some slot) at h =
+    put_extent s n slot c plan (extent_for_put s (length_of c)) at refl (rw (at, put_plan) at h)
 
 module _ (given : Given) (first : Ledger) (sound : IsSound first) (valid : IsGeometry first.geometry) where
   pub put_fits : (s : Shelf) (made : List Made) (n : ℕ) (c : Content) (plan : List Made) → Good s first made
@@ -95,7 +98,9 @@ module _ (given : Given) (first : Ledger) (sound : IsSound first) (valid : IsGeo
       let slots = good.holds.slots in
       let within = place.within in
       let known : p.extent < first.geometry.extents = elim (chosen.known) [
-        | inl k ↦ (let x = good.holds.extents in let y : s.extents.geometry.extents ≡ (after_all first made).geometry.extents = ap (λ g. g.extents) geometry in omega (arith, k, x, y))
+        | inl k ↦ (
+            let x = good.holds.extents in
+            let y : s.extents.geometry.extents ≡ (after_all first made).geometry.extents = ap (λ g. g.extents) geometry in omega (arith, k, x, y))
         | inr cur ↦ good.current p.extent cur
       ] in
       let known_now : p.extent < (after_all first made).geometry.extents =
@@ -113,7 +118,9 @@ module _ (given : Given) (first : Ledger) (sound : IsSound first) (valid : IsGeo
         slot = omega (arith, within, counts, slots);
         content = fit;
         room = elim (chosen.which) [
-          | inl cur ↦ (let test = cur.1 in let le : offset_at s.extents p.extent + length_of c ≤ largest_pointer s.extents.geometry.format = grind (arith, nat_tests) in omega (arith, le, offset, largest))
+          | inl cur ↦ (
+              let test = cur.1 in
+              let le : offset_at s.extents p.extent + length_of c ≤ largest_pointer s.extents.geometry.format = grind (arith, nat_tests) in omega (arith, le, offset, largest))
           | inr nought ↦ (let small = sizes.2 in omega (arith, nought, offset, small))
         ];
         only = λ other t ne there same. elim (place.whose) [

@@ -103,7 +103,7 @@ with_event h event = record h { events = h.events ++ event ∷ [] }
 
 -- How a book keeps a history: its calls, each with the counts of steps at its start and at its end, and all steps.
 
-pub record Entry : Type 0 where
+pub record BookCall : Type 0 where
   pub writer : ℕ
   pub command : Command
   pub reply : Reply
@@ -111,12 +111,12 @@ pub record Entry : Type 0 where
   pub after : ℕ
 
 -- the calls of some events, before which there were so many steps
-abbrev pub entries_from : ℕ → List Event → List Entry
-entries_from n [] = []
-entries_from n (Call writer command reply steps ∷ events) =
+abbrev pub calls_from : ℕ → List Event → List BookCall
+calls_from n [] = []
+calls_from n (Call writer command reply steps ∷ events) =
     record { writer = writer; command = command; reply = reply; before = n; after = n + length steps }
-    ∷ entries_from (n + length steps) events
-entries_from n (Moved step ∷ events) = entries_from (n + 1) events
+    ∷ calls_from (n + length steps) events
+calls_from n (Moved step ∷ events) = calls_from (n + 1) events
 
-abbrev pub calls_of : History → List Entry
-calls_of h = entries_from 0 h.events
+abbrev pub calls_of : History → List BookCall
+calls_of h = calls_from 0 h.events
