@@ -110,7 +110,10 @@ module _ (given : Given) (first : Ledger) (sound : IsSound first) (valid : IsGeo
       (whole_take whole.0 st.shelf.extents (made_by st) named_one steps steps_are ∙ ap (take (creates steps)) (sym ready.plan_is))
       steps_are
       (put_well_named st writer ready.extent ready.slot c stood ready.fits)
-      (ap (λ h. h.format) same_map ∙ stood.format ∙ ap (λ g. g.format) (sym (put_geometry first st.made put) ∙ ap (λ ms. (after_all first ms).geometry) (sym is) ∙ ap (λ l. l.geometry) (sym (richer_ledger first _ _ richer))))
+      (ap (λ h. h.format) same_map ∙ stood.format
+      ∙ ap (λ g. g.format) (sym (put_geometry first st.made put)
+      ∙ ap (λ ms. (after_all first ms).geometry) (sym is)
+      ∙ ap (λ l. l.geometry) (sym (richer_ledger first _ _ richer))))
       (λ k. ap (λ h. value_in h.entries k) same_map ∙ value_with st.map.entries key value k
       ∙ ap (λ o. if bytes_eq key k then Some value else o) (stood.said k)
       ∙ sym (done.values k) ∙ ap (λ ms. last_said (λ number. true) first ms k) (sym is)

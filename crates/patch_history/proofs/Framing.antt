@@ -166,7 +166,10 @@ right_put given s first made n extent slot c e good fits =
           (has_kept (option_to_list (extent_at s.extents extent).reset) (extent_at s.extents extent).reset (λ k t. t));
       pointer_named = λ k from to.
           among_range n (touched (offset_at s.extents extent) (length (spelling c))) k (omega (arith, e, from))
-          (let t : touched (offset_at s.extents extent) (length (spelling c)) ≡ touched (offset_at s.extents extent) (length_of c) = ap (touched (offset_at s.extents extent)) spelled in omega (arith, e, to, long, t));
+          (let t : touched (offset_at s.extents extent) (length (spelling c))
+          ≡ touched (offset_at s.extents extent) (length_of c) =
+          ap (touched (offset_at s.extents extent)) spelled in
+          omega (arith, e, to, long, t));
       slot_named =
           subst (λ k. is_among (fill_plan s n extent slot c).after k ≡ true)
           (ap (λ k. k + touched (offset_at s.extents extent) (length_of c)) e ∙ sym long)
@@ -223,12 +226,19 @@ put_slot first made put x =
     let same = put_leaves first made put in
     ap (λ o. if x == put.slot then Some (fields_put (after_all first made) put) else o) (same.slot x)
 
+-- the pointer past its frame
+abbrev pub pointer_after : Ledger → Put → Pointer
+pointer_after l put = record {
+  generation = (l.pointer put.extent).generation;
+  offset = (l.pointer put.extent).offset + length_of put.content;
+}
+
 pub put_pointer : (first : Ledger) (made : List Made) (put : Put) (x : ℕ)
     → (after_all first (slot_put first made put)).pointer x
-    ≡ (if x == put.extent then record { generation = ((after_all first made).pointer put.extent).generation; offset = ((after_all first made).pointer put.extent).offset + length_of put.content } else (after_all first made).pointer x)
+    ≡ (if x == put.extent then pointer_after (after_all first made) put else (after_all first made).pointer x)
 put_pointer first made put x =
     let same = put_leaves first made put in
-    ap (λ o. if x == put.extent then record { generation = ((after_all first made).pointer put.extent).generation; offset = ((after_all first made).pointer put.extent).offset + length_of put.content } else o) (same.pointer x)
+    ap (λ o. if x == put.extent then pointer_after (after_all first made) put else o) (same.pointer x)
 
 pub put_geometry : (first : Ledger) (made : List Made) (put : Put)
     → (after_all first (slot_put first made put)).geometry ≡ (after_all first made).geometry

@@ -51,7 +51,8 @@ part_next e o k bs le =
     ∙ ap (λ n. part_end (o + (4096 - o % 4096)) n k - o - (part_start o (k + 1) - o)) (sym rest)
     ∙ (let x : ℕ = part_end (o + (4096 - o % 4096)) (length (drop (4096 - o % 4096) bs)) k in omega (arith, from, behind)) in
     let same : slice_range bs (part_start o (k + 1) - o) (part_end o (length bs) (k + 1) - o)
-    ≡ slice_range (drop (4096 - o % 4096) bs) (part_start (o + (4096 - o % 4096)) k - (o + (4096 - o % 4096))) (part_end (o + (4096 - o % 4096)) (length (drop (4096 - o % 4096) bs)) k - (o + (4096 - o % 4096))) =
+    ≡ slice_range (drop (4096 - o % 4096) bs) (part_start (o + (4096 - o % 4096)) k - (o + (4096 - o % 4096)))
+    (part_end (o + (4096 - o % 4096)) (length (drop (4096 - o % 4096) bs)) k - (o + (4096 - o % 4096))) =
     ap (λ n. take (part_end o (length bs) (k + 1) - o - (part_start o (k + 1) - o)) (drop n bs)) (sym at)
     ∙ ap (take (part_end o (length bs) (k + 1) - o - (part_start o (k + 1) - o)))
     (sym (drop-drop (part_start (o + (4096 - o % 4096)) k - (o + (4096 - o % 4096))) (4096 - o % 4096) bs))

@@ -24,7 +24,14 @@ at_from : {X : Type 0} (test : X → Bool) (d : X) (i : ℕ) (xs : List X) (j : 
 at_from test d i [] j h = absurd (let g : None ≡ Some j = h in cc)
 at_from test d i (x ∷ xs) j h = elim (cases_Bool (test x)) [
   | inl u ↦ (let g : Some i ≡ Some j = rw u at h in record { place = 0; is = (let e = some_number i j g in omega (arith, e)); within = omega arith; passes = u })
-  | inr u ↦ (let there = at_from test d (i + 1) xs j (rw u at h) in record { place = suc there.place; is = (let e = there.is in omega (arith, e)); within = (let w = there.within in omega (arith, w)); passes = there.passes })
+  | inr u ↦
+      let there = at_from test d (i + 1) xs j (rw u at h) in
+      record {
+        place = suc there.place;
+        is = (let e = there.is in omega (arith, e));
+        within = (let w = there.within in omega (arith, w));
+        passes = there.passes;
+      }
 ]
 
 none_from : {X : Type 0} (test : X → Bool) (d : X) (i : ℕ) (xs : List X) → position_from test i xs ≡ None → (k : ℕ)

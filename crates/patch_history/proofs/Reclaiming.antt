@@ -42,7 +42,8 @@ pub shelf_plan-++ : (s : Shelf) (n : ℕ) (p q : List Made)
     → after_plan s n (p ++ q) ≡ after_plan (after_plan s n p) (n + length p) q
 shelf_plan-++ s n [] q = let e : n + 0 ≡ n = omega arith in rw e refl
 shelf_plan-++ s n (m ∷ p) q =
-    shelf_plan-++ (after_change s n m.change) (n + 1) p q ∙ ap (λ k. after_plan (after_plan (after_change s n m.change) (n + 1) p) k q) (let e : n + 1 + length p ≡ n + suc (length p) = omega arith in e)
+    shelf_plan-++ (after_change s n m.change) (n + 1) p q
+    ∙ ap (λ k. after_plan (after_plan (after_change s n m.change) (n + 1) p) k q) (let e : n + 1 + length p ≡ n + suc (length p) = omega arith in e)
 
 -- the plan makes no patch of this extent's pointer
 abbrev AllOther : ℕ → List Made → Type 0
@@ -276,7 +277,8 @@ module _ (given : Given) (first : Ledger) (sound : IsSound first) (valid : IsGeo
       let slots : (x : ℕ) → (after_all first (onto plan made)).slot x ≡ (if x == f.0 then Some (fields_put (after_all first made) put) else (after_all first made).slot x) =
       λ x. ap (λ ms. (after_all first ms).slot x) is ∙ put_slot first made put x in
       let off : (r == e) ≡ false = grind (arith, nat_tests) in
-      let pointer : (after_all first (onto plan made)).pointer r ≡ (after_all first made).pointer r = ap (λ ms. (after_all first ms).pointer r) is ∙ put_pointer first made put r ∙ (rw off refl) in (
+      let pointer : (after_all first (onto plan made)).pointer r ≡ (after_all first made).pointer r =
+      ap (λ ms. (after_all first ms).pointer r) is ∙ put_pointer first made put r ∙ (rw off refl) in (
         well,
         quiet,
         record {

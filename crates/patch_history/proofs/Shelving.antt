@@ -34,7 +34,11 @@ after_point_is : (s : Shelf) (l : Ledger) (n at generation offset : ℕ) → IsS
     → e < l.geometry.extents
     → (extent_at (after_change s n (Point at generation offset)).extents e).pointer ≡ ((after l (Point at generation offset)).pointer e)
 after_point_is s l n at generation offset is e h = elim (cases_Bool (e == at)) [
-  | inl t ↦ rw t (let same : e ≡ at = equal e at t in rw same (ap (λ k. k.pointer) (get_or-set_same s.extents.each at (pointed n generation offset (extent_at s.extents at)) no_extent (let c = is.extents in omega (arith, h, c, same)))))
+  | inl t ↦
+      let same : e ≡ at = equal e at t in
+      let new = pointed n generation offset (extent_at s.extents at) in
+      let c = is.extents in
+      rw (t, same) (ap (λ k. k.pointer) (get_or-set_same s.extents.each at new no_extent (omega (arith, h, c, same))))
   | inr t ↦ rw t (ap (λ k. k.pointer) (get_or-set_other s.extents.each at e (pointed n generation offset (extent_at s.extents at)) no_extent (unequal e at t)) ∙ is.pointer e h)
 ]
 

@@ -44,7 +44,9 @@ pub in_index : Given → (first : Ledger) (ms : List Made) → IsSound first →
     → IsInIndex (slot_count first.geometry) other.change
 in_index given first ms sound well other before stands =
     let here = tail_well first stands.later other before (subst (AreWellMade first) stands.are well) in
-    inside (after_all first before) (slot_count first.geometry) other.change (limits_of first.geometry (after_all first before).geometry (given.last first before sound here.1).geometry).slots here.0.right
+    inside (after_all first before) (slot_count first.geometry) other.change
+    (limits_of first.geometry (after_all first before).geometry (given.last first before sound here.1).geometry).slots
+    here.0.right
 
 -- A put.
 
