@@ -1,15 +1,15 @@
 -- What a plan leaves of the bytes below the pointers.
-use Rattle.std.proofs.Common.{◌≡◌, ℕ, zero, suc, ◌+◌, ◌-◌, ◌*◌, ◌/◌, ◌%◌, ◌<◌, ◌≤◌, ◌⊎◌, ◌∙◌, inl, inr, Bool, true, false, List, [], ◌∷◌, ◌++◌, length, map, take, drop, get_or, slice_range, Option, Some, None, refl, sym, ap, subst, append_assoc, append-nil, arith}
+use Rattle.std.proofs.Common.{◌≡◌, ◌≢◌, ℕ, zero, suc, ◌+◌, ◌-◌, ◌*◌, ◌/◌, ◌%◌, ◌<◌, ◌≤◌, ◌⊎◌, ◌∙◌, inl, inr, Bool, true, false, List, [], ◌∷◌, ◌++◌, length, map, take, drop, get_or, slice_range, Option, Some, None, refl, sym, ap, subst, append_assoc, append-nil, arith}
 use Rattle.std.specs.Prelude.{◌==◌, slice_index_or, option_to_list}
 use Rattle.std.specs.List.{range_with_len}
 use Rattle.std.proofs.lemmas.Bool.{cases_Bool, cases_lt}
 use Rattle.std.proofs.lemmas.Bool.Decides.{nat_tests}
-use Rattle.std.proofs.lemmas.List.{length-take}
+use Rattle.std.proofs.lemmas.List.{length-take, length-drop, get_or-take, get_or-drop, map-append}
 use Rattle.std.proofs.Math.Nat.{div-add-mod}
 use Rattle.patch_model.specs.declared.patches.Undo.TheVariants.{MayDrop}
 use Rattle.patch_model.specs.Patch.{Patch}
 use Rattle.patch_model.specs.Pile.{end, lay, pile}
-use Rattle.patch_model.specs.Laying.{length-lay, lay-before, lay-behind}
+use Rattle.patch_model.specs.Laying.{length-lay, lay-before, lay-inside, lay-behind}
 use Rattle.patch_model.specs.Step.{Merge}
 use Rattle.patch_model.specs.Execution.{Execution, extended, followed_by}
 use Rattle.patch_model.specs.State.{entries_of, next_patch}
@@ -19,15 +19,15 @@ use Rattle.patch_frame.specs.Geometry.{extent_blocks, largest_pointer, first_blo
 use Rattle.patch_group.specs.Groups.{Groups, named, with_patch}
 use Rattle.patch_recovery.specs.Change.{Change, Data, Point, Made, step_of, block_of, start_of, bytes_of}
 use Rattle.patch_extent.specs.Extents.{Extents, offset_at, generation_at}
-use Rattle.patch_extent.specs.Planning.{touched, part, part_start, part_end, parts, names_behind, append_plan}
+use Rattle.patch_extent.specs.Planning.{touched, part, part_start, part_end, parts, names_behind, append_plan, reset_plan}
 use Rattle.patch_extent.specs.Writing.{after_change, steps_of, merge_behind, merge_with}
 use Rattle.patch_extent.specs.Meaning.{patches_of}
 use Rattle.patch_extent.proofs.Patches.{StateLaw, on_block, cached_is, cached_on, cached_long, patches_made, patches_stay}
-use Rattle.patch_extent.specs.Answers.{Setting, IsSettingOf, Append, plan_of, plan_steps}
+use Rattle.patch_extent.specs.Answers.{Setting, IsSettingOf, Append, plan_of, plan_steps, cached_bytes}
 use Rattle.patch_extent.specs.Laws.{byte_at}
 use Rattle.patch_extent.proofs.Making.{followed_both, followed_none}
 use Rattle.patch_extent.proofs.Finishing.{BlockLaw}
-use Rattle.patch_extent.proofs.Spans.{is_touched}
+use Rattle.patch_extent.proofs.Spans.{is_touched, range_both}
 
 -- a plan's changes are of bytes and pointers
 abbrev pub IsOfExtents : Change → Type 0
@@ -277,4 +277,179 @@ below_stays law bl run a old choices k x i h some room known inside below =
     (point_leaves g a.extent (generation_at old.extents a.extent) (offset_at old.extents a.extent + length a.bytes) x i) in
     ap (λ blk. get_or blk (i % 4096) 0) (cached_on next (first_block g x + i / 4096) (omega (arith, there, kept)))
     ∙ left_alone g run next plan (first_block g x + i / 4096) (i % 4096) adds long leaves
+    ∙ ap (λ blk. get_or blk (i % 4096) 0) (sym (cached_on run (first_block g x + i / 4096) there))
+
+-- The bytes of an append.
+
+long_off : (b j : ℕ) (ps : List Patch) (blk : List ℕ) → length blk ≡ 4096 → AllOff b j ps → length (pile blk (on_block b ps)) ≡ 4096
+long_off b j [] blk long off = long
+long_off b j (p ∷ ps) blk long off = elim (cases_Bool (p.block == b)) [
+  | inl u ↦
+      let same : p.block ≡ b = grind (arith, nat_tests) in
+      let told = off.0 same in
+      let fits : end p ≤ length blk = omega (arith, told.0, long) in
+      rw u (long_off b j ps (lay blk p) (length-lay blk p fits ∙ long) off.1)
+  | inr u ↦ rw u (long_off b j ps blk long off.1)
+]
+
+-- the patches of a plan, cut where the plan is
+record CutAt (g : Geometry) (before : List Made) (m : Made) (after : List Made) (ps : List Patch) : Type 0 where
+  first : List Patch
+  here : Patch
+  rest : List Patch
+  are : ps ≡ first ++ here ∷ rest
+  first_are : ArePatchesOf g before first
+  here_is : IsPatchOf g m.change here
+  rest_are : ArePatchesOf g after rest
+
+cut_at : (g : Geometry) (before : List Made) (m : Made) (after : List Made) (ps : List Patch) → ArePatchesOf g (before ++ m ∷ after) ps → CutAt g before m after ps
+cut_at g [] m after [] h = absurd h
+cut_at g [] m after (p ∷ ps) h = record { first = []; here = p; rest = ps; are = refl; first_are = tt; here_is = h.0; rest_are = h.1 }
+cut_at g (x ∷ xs) m after [] h = absurd h
+cut_at g (x ∷ xs) m after (p ∷ ps) h =
+    let r = cut_at g xs m after ps h.1 in
+    record { first = p ∷ r.first; here = r.here; rest = r.rest; are = ap (λ qs. p ∷ qs) r.are; first_are = (h.0, r.first_are); here_is = r.here_is; rest_are = r.rest_are }
+
+-- the byte that one patch of the block puts there, and no other
+put_once : (b j : ℕ) (first : List Patch) (p : Patch) (rest : List Patch) (blk : List ℕ) → length blk ≡ 4096 → p.block ≡ b → end p ≤ 4096 → p.start ≤ j → j < end p → AllOff b j first → AllOff b j rest
+    → get_or (pile blk (on_block b (first ++ p ∷ rest))) j 0 ≡ get_or p.bytes (j - p.start) 0
+put_once b j first p rest blk long same fits from to off_first off_rest =
+    let t : (p.block == b) ≡ true = grind (arith, nat_tests) in
+    let base = pile blk (on_block b first) in
+    let long_base = long_off b j first blk long off_first in
+    let fit : end p ≤ length (pile blk (on_block b first)) = omega (arith, fits, long_base) in
+    let mine : on_block b (p ∷ rest) ≡ p ∷ on_block b rest = rw t refl in
+    ap (λ ps. get_or (pile blk ps) j 0) (on_both b first (p ∷ rest) ∙ ap (λ qs. on_block b first ++ qs) mine)
+    ∙ ap (λ x. get_or x j 0) (pile_both (on_block b first) (p ∷ on_block b rest) blk)
+    ∙ pile_off b j rest (lay (pile blk (on_block b first)) p) (length-lay (pile blk (on_block b first)) p fit ∙ long_base) off_rest
+    ∙ lay-inside (pile blk (on_block b first)) p j 0 fit from to
+
+-- the number of a part's block
+part_block : (offset len k : ℕ) → 0 < len → k < touched offset len → part_start offset k / 4096 ≡ offset / 4096 + k
+part_block offset len k some less = let d = div-add-mod offset 4096 in let f = div-add-mod (part_start offset k) 4096 in omega arith
+
+-- another part is of another block
+other_part : (g : Geometry) (e offset : ℕ) (bytes : List ℕ) (k k0 i : ℕ) → 0 < length bytes → k < touched offset (length bytes) → offset + length bytes ≤ largest_pointer g.format
+    → i < largest_pointer g.format → i / 4096 ≡ offset / 4096 + k0 → k ≢ k0 → Leaves g (first_block g e + i / 4096) (i % 4096) (part e offset bytes k)
+other_part g e offset bytes k k0 i some less room inside at other p is same =
+    let t = is_touched offset (length bytes) k some less in
+    let far : part_start offset k < largest_pointer g.format = omega (arith, t.some, t.ends, room) in
+    let both = same_place g e e i (part_start offset k) inside far (sym same ∙ is.block) in
+    let block = part_block offset (length bytes) k some less in
+    absurd (other (omega (arith, both.1, block, at)))
+
+ranges : (n k : ℕ) → k < n → range_with_len 0 n ≡ range_with_len 0 k ++ k ∷ range_with_len (k + 1) (n - (k + 1))
+ranges n k less =
+    let all : n ≡ k + suc (n - (k + 1)) = omega arith in
+    let z : 0 + k ≡ k = omega arith in
+    ap (range_with_len 0) all ∙ range_both 0 k (suc (n - (k + 1))) ∙ ap (λ a. range_with_len 0 k ++ range_with_len a (suc (n - (k + 1)))) z
+
+each_from : (P : Change → Type 0) (e offset : ℕ) (bytes names : List ℕ) (a n : ℕ) → ((k : ℕ) → a ≤ k → k < a + n → P (part e offset bytes k))
+    → Each P (map (λ k. record { change = part e offset bytes k; after = names }) (range_with_len a n))
+each_from P e offset bytes names a zero h = tt
+each_from P e offset bytes names a (suc n) h = (h a (omega arith) (omega arith), each_from P e offset bytes names (a + 1) n (λ k from less. h k (omega (arith, from)) (omega (arith, less))))
+
+length_of_part : (bs : List ℕ) (offset from to : ℕ) → offset ≤ from → to ≤ offset + length bs → length (slice_range bs (from - offset) (to - offset)) ≡ to - from
+length_of_part bs offset from to low high = omega (arith, length-take (to - offset - (from - offset)) (drop (from - offset) bs), length-drop (from - offset) bs)
+
+-- the bytes of a part
+byte_of_part : (bs : List ℕ) (from to n : ℕ) → n < to - from → get_or (slice_range bs from to) n 0 ≡ get_or bs (from + n) 0
+byte_of_part bs from to n less = get_or-take (to - from) (drop from bs) n 0 less ∙ get_or-drop from bs n 0
+
+-- Each byte of an append stands at its place.
+byte_put : StateLaw → BlockLaw → (run : Execution) (a : Append) (old : Setting) (choices : List Bool) (n : ℕ) → IsSettingOf old run
+    → a.extent < old.extents.geometry.extents → offset_at old.extents a.extent + length a.bytes ≤ largest_pointer old.extents.geometry.format → n < length a.bytes
+    → byte_at old.extents.geometry (followed_by run (plan_steps run old a.writer choices (plan_of run old.extents a))) a.extent (offset_at old.extents a.extent + n) ≡ get_or a.bytes n 0
+byte_put law bl run a old choices n h known room within =
+    let g = old.extents.geometry in
+    let e = a.extent in
+    let offset = offset_at old.extents a.extent in
+    let i = offset_at old.extents a.extent + n in
+    let count = touched (offset_at old.extents a.extent) (length a.bytes) in
+    let k : ℕ = (offset_at old.extents a.extent + n) / 4096 - offset_at old.extents a.extent / 4096 in
+    let some : 0 < length a.bytes = omega (arith, within) in
+    let d = div-add-mod (offset_at old.extents a.extent) 4096 in
+    let di = div-add-mod (offset_at old.extents a.extent + n) 4096 in
+    let dl = div-add-mod (offset_at old.extents a.extent + length a.bytes - 1) 4096 in
+    let at : (offset_at old.extents a.extent + n) / 4096 ≡ offset_at old.extents a.extent / 4096 + k = omega (arith, d, di) in
+    let less : k < touched (offset_at old.extents a.extent) (length a.bytes) = omega (arith, d, di, dl, within) in
+    let t = is_touched (offset_at old.extents a.extent) (length a.bytes) k some less in
+    let block = part_block (offset_at old.extents a.extent) (length a.bytes) k some less in
+    let df = div-add-mod (part_start (offset_at old.extents a.extent) k) 4096 in
+    let from : part_start (offset_at old.extents a.extent) k ≤ offset_at old.extents a.extent + n = omega (arith, d, di, at) in
+    let to : offset_at old.extents a.extent + n < part_end (offset_at old.extents a.extent) (length a.bytes) k = omega (arith, d, di, at, within) in
+    let inside : offset_at old.extents a.extent + n < largest_pointer old.extents.geometry.format = omega (arith, within, room) in
+    let names = names_behind old.extents a.extent a.after in
+    let first = parts a.extent (offset_at old.extents a.extent) a.bytes (names_behind old.extents a.extent a.after) k in
+    let m : Made = record { change = part a.extent (offset_at old.extents a.extent) a.bytes k; after = names_behind old.extents a.extent a.after } in
+    let f : ℕ → Made = λ (j : ℕ). record { change = part a.extent (offset_at old.extents a.extent) a.bytes j; after = names_behind old.extents a.extent a.after } in
+    let last : Made = record { change = Point a.extent (generation_at old.extents a.extent) (offset_at old.extents a.extent + length a.bytes); after = range_with_len (length (entries_of run)) (touched (offset_at old.extents a.extent) (length a.bytes)) } in
+    let others = map f (range_with_len (k + 1) (count - (k + 1))) ++ last ∷ [] in
+    let plan : plan_of run old.extents a ≡ first ++ m ∷ others =
+    ap (λ ks. map f ks ++ last ∷ []) (ranges count k less)
+    ∙ ap (λ ms. ms ++ last ∷ []) (map-append f (range_with_len 0 k) (k ∷ range_with_len (k + 1) (count - (k + 1))))
+    ∙ append_assoc first (m ∷ map f (range_with_len (k + 1) (count - (k + 1)))) (last ∷ []) in
+    let adds = steps_add law choices old.extents old.groups a.writer (length (entries_of run)) (plan_of run old.extents a) run
+    (each_push IsOfExtents (parts a.extent offset a.bytes names count) last (each_part IsOfExtents a.extent offset a.bytes names 0 count (λ j under. tt)) tt) in
+    let next = followed_by run (plan_steps run old a.writer choices (plan_of run old.extents a)) in
+    let cut = cut_at g first m others adds.made (subst (λ ms. ArePatchesOf g ms adds.made) plan adds.are) in
+    let far = extents_apart g e g.extents known in
+    let low = block_of_place i (extent_blocks g.format) inside in
+    let blocks = h.represents.blocks in
+    let b = first_block g e + i / 4096 in
+    let there : first_block g e + i / 4096 < length run.first = omega (arith, far, low, blocks) in
+    let kept : length next.first ≡ length run.first = ap length adds.first in
+    let long = cached_long run (first_block g e + i / 4096) (bl run (first_block g e + i / 4096) h.cache_is.legal there) in
+    let p = cut.here in
+    let is = cut.here_is in
+    let start = is.start in
+    let short : length p.bytes ≡ part_end offset (length a.bytes) k - part_start offset k = ap length is.bytes ∙ length_of_part a.bytes offset (part_start offset k) (part_end offset (length a.bytes) k) t.starts t.ends in
+    let same : p.block ≡ first_block g e + i / 4096 = is.block ∙ ap (λ q. first_block g e + q) (block ∙ sym at) in
+    let leaves : (j : ℕ) → j < count → j ≢ k → Leaves g (first_block g e + i / 4096) (i % 4096) (part e offset a.bytes j) =
+    λ j under other. other_part g e offset a.bytes j k i some under room inside at other in
+    let off_first = all_off g b (i % 4096) first cut.first cut.first_are (each_part (Leaves g b (i % 4096)) e offset a.bytes names 0 k (λ j under. leaves j (omega (arith, under, less)) (λ s. absurd (omega (arith, under, s))))) in
+    let off_rest = all_off g b (i % 4096) others cut.rest cut.rest_are
+    (each_push (Leaves g b (i % 4096)) (map f (range_with_len (k + 1) (count - (k + 1)))) last
+    (each_from (Leaves g b (i % 4096)) e offset a.bytes names (k + 1) (count - (k + 1)) (λ j above under. leaves j (omega (arith, under, less)) (λ s. absurd (omega (arith, above, s)))))
+    (point_leaves g e (generation_at old.extents a.extent) (offset + length a.bytes) e i)) in
+    ap (λ blk. get_or blk (i % 4096) 0) (cached_on next (first_block g e + i / 4096) (omega (arith, there, kept)))
+    ∙ ap (λ blk. get_or blk (i % 4096) 0) (cached_more g run next (plan_of run old.extents a) b adds)
+    ∙ ap (λ ps. get_or (pile (cached (history_of run b)) (on_block b ps)) (i % 4096) 0) cut.are
+    ∙ put_once b (i % 4096) cut.first p cut.rest (cached (history_of run b)) long same (omega (arith, start, short, t.one_block)) (omega (arith, start, from, block, at, di, df)) (omega (arith, start, short, to, block, at, di, df)) off_first off_rest
+    ∙ ap (λ bs. get_or bs (i % 4096 - p.start) 0) is.bytes
+    ∙ ap (λ x. get_or (slice_range a.bytes (part_start offset k - offset) (part_end offset (length a.bytes) k - offset)) x 0) (let z : i % 4096 - p.start ≡ i - part_start offset k = omega (arith, start, from, block, at, di, df) in z)
+    ∙ byte_of_part a.bytes (part_start offset k - offset) (part_end offset (length a.bytes) k - offset) (i - part_start offset k) (omega (arith, to, from, t.starts))
+    ∙ ap (λ x. get_or a.bytes x 0) (let z : part_start offset k - offset + (i - part_start offset k) ≡ n = omega (arith, from, t.starts) in z)
+
+list_is : (f : ℕ → ℕ) (a : ℕ) (xs : List ℕ) → ((j : ℕ) → j < length xs → f (a + j) ≡ get_or xs j 0) → map f (range_with_len a (length xs)) ≡ xs
+list_is f a [] h = refl
+list_is f a (x ∷ xs) h =
+    ap (λ y. y ∷ map f (range_with_len (a + 1) (length xs))) (ap f (let e : a ≡ a + 0 = omega arith in e) ∙ h 0 (omega arith))
+    ∙ ap (λ ys. x ∷ ys) (list_is f (a + 1) xs (λ j less. ap f (let e : a + 1 + j ≡ a + suc j = omega arith in e) ∙ h (suc j) (omega (arith, less))))
+
+-- So what is read of its place is what was appended.
+pub bytes_put : StateLaw → BlockLaw → (run : Execution) (a : Append) (old : Setting) (choices : List Bool) → IsSettingOf old run
+    → a.extent < old.extents.geometry.extents → offset_at old.extents a.extent + length a.bytes ≤ largest_pointer old.extents.geometry.format
+    → cached_bytes old.extents.geometry (followed_by run (plan_steps run old a.writer choices (plan_of run old.extents a))) a.extent (offset_at old.extents a.extent) (length a.bytes) ≡ a.bytes
+bytes_put law bl run a old choices h known room =
+    list_is (λ place. byte_at old.extents.geometry (followed_by run (plan_steps run old a.writer choices (plan_of run old.extents a))) a.extent place) (offset_at old.extents a.extent) a.bytes
+    (λ j less. byte_put law bl run a old choices j h known room less)
+
+-- A reset leaves all bytes of the extents.
+pub reset_stays : StateLaw → BlockLaw → (run : Execution) (old : Setting) (choices : List Bool) (extent : ℕ) (after : List ℕ) (x i : ℕ) → IsSettingOf old run
+    → x < old.extents.geometry.extents → i < largest_pointer old.extents.geometry.format
+    → byte_at old.extents.geometry (followed_by run (plan_steps run old None choices (reset_plan old.extents extent after))) x i ≡ byte_at old.extents.geometry run x i
+reset_stays law bl run old choices extent after x i h known inside =
+    let g = old.extents.geometry in
+    let plan = reset_plan old.extents extent after in
+    let next = followed_by run (plan_steps run old None choices plan) in
+    let adds = steps_add law choices old.extents old.groups None (length (entries_of run)) plan run (tt, tt) in
+    let far = extents_apart g x g.extents known in
+    let low = block_of_place i (extent_blocks g.format) inside in
+    let blocks = h.represents.blocks in
+    let there : first_block g x + i / 4096 < length run.first = omega (arith, far, low, blocks) in
+    let kept : length next.first ≡ length run.first = ap length adds.first in
+    let long = cached_long run (first_block g x + i / 4096) (bl run (first_block g x + i / 4096) h.cache_is.legal there) in
+    ap (λ blk. get_or blk (i % 4096) 0) (cached_on next (first_block g x + i / 4096) (omega (arith, there, kept)))
+    ∙ left_alone g run next plan (first_block g x + i / 4096) (i % 4096) adds long (point_leaves g extent (generation_at old.extents extent + 1) 0 x i, tt)
     ∙ ap (λ blk. get_or blk (i % 4096) 0) (sym (cached_on run (first_block g x + i / 4096) there))

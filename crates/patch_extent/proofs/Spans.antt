@@ -32,7 +32,7 @@ map_same f h a b (suc m) same =
     let rest = map_same f h (a + 1) (b + 1) m (λ j less. ap f (let e : a + 1 + j ≡ a + (j + 1) = omega arith in e) ∙ same (j + 1) (omega (arith, less)) ∙ ap h (let e : b + (j + 1) ≡ b + 1 + j = omega arith in e)) in
     ap (λ x. x ∷ map f (range_with_len (a + 1) m)) first ∙ ap (λ xs. h b ∷ xs) rest
 
-range_both : (a n m : ℕ) → range_with_len a (n + m) ≡ range_with_len a n ++ range_with_len (a + n) m
+pub range_both : (a n m : ℕ) → range_with_len a (n + m) ≡ range_with_len a n ++ range_with_len (a + n) m
 range_both a zero m = let e : 0 + m ≡ m = omega arith in let f : a + 0 ≡ a = omega arith in rw (e, f) refl
 range_both a (suc n) m =
     ap (range_with_len a) (let e : suc n + m ≡ suc (n + m) = omega arith in e)

@@ -1,5 +1,5 @@
 -- Laws of plans, and of what the extents represent.
-use Rattle.std.specs.Prelude.{ℕ, Bool, ◌≡◌, ◌+◌, ◌<◌, ◌≤◌, List, ◌++◌, length, take, Option, IsTrue}
+use Rattle.std.specs.Prelude.{ℕ, Bool, ◌≡◌, ◌+◌, ◌<◌, ◌≤◌, List, ◌++◌, length, take, Option, None, IsTrue}
 use Rattle.patch_model.specs.Step.{Step}
 use Rattle.patch_model.specs.Execution.{Execution, extended, followed_by}
 use Rattle.patch_frame.specs.declared.geometries.Geometry.{Geometry}
@@ -10,9 +10,10 @@ use Rattle.patch_recovery.specs.Closed.{cached_blocks}
 use Rattle.patch_recovery.specs.Reading.{ledger_in}
 use Rattle.patch_recovery.specs.Store.{makes_nothing}
 use Rattle.patch_extent.specs.Extents.{Extents, offset_at}
+use Rattle.patch_extent.specs.Planning.{reset_plan}
 use Rattle.patch_extent.specs.Writing.{after_plan, with_patches, steps_of}
 use Rattle.patch_extent.specs.Meaning.{Represents}
-use Rattle.patch_extent.specs.Answers.{Setting, IsSettingOf, Append, plan_of, plan_steps}
+use Rattle.patch_extent.specs.Answers.{Setting, IsSettingOf, Append, plan_of, plan_steps, cached_bytes}
 
 -- the steps of two plans, one after the other, are those of the first and then those of the second
 abbrev pub PlansJoin : Type 0
@@ -30,6 +31,15 @@ OtherStepsLeaveExtents =
 abbrev pub byte_at : Geometry → Execution → (extent place : ℕ) → ℕ
 byte_at g run extent place = (ledger_in g (cached_blocks run)).byte extent place
 
+-- An append that is done puts its bytes at the pointer, whichever merges are made.
+abbrev pub AppendsPutBytes : Type 0
+AppendsPutBytes =
+    (run : Execution) (a : Append) (old : Setting) (choices : List Bool) → IsSettingOf old run
+    → a.extent < old.extents.geometry.extents → offset_at old.extents a.extent + length a.bytes ≤ largest_pointer old.extents.geometry.format
+    → cached_bytes old.extents.geometry (followed_by run (plan_steps run old a.writer choices (plan_of run old.extents a)))
+    a.extent (offset_at old.extents a.extent) (length a.bytes)
+    ≡ a.bytes
+
 -- An append that is done, or cut short, leaves all bytes below the extent's pointer, and all bytes of other extents, as they
 -- were: whichever first changes of its plan are made, and whichever merges.
 abbrev pub AppendsKeepBytes : Type 0
@@ -39,4 +49,12 @@ AppendsKeepBytes =
     → extent < old.extents.geometry.extents → place < largest_pointer old.extents.geometry.format
     → (extent ≡ a.extent → place < offset_at old.extents a.extent)
     → byte_at old.extents.geometry (followed_by run (plan_steps run old a.writer choices (take k (plan_of run old.extents a)))) extent place
+    ≡ byte_at old.extents.geometry run extent place
+
+-- a reset leaves all bytes of all extents
+abbrev pub ResetsKeepBytes : Type 0
+ResetsKeepBytes =
+    (run : Execution) (old : Setting) (choices : List Bool) (reset : ℕ) (after : List ℕ) (extent place : ℕ) → IsSettingOf old run
+    → extent < old.extents.geometry.extents → place < largest_pointer old.extents.geometry.format
+    → byte_at old.extents.geometry (followed_by run (plan_steps run old None choices (reset_plan old.extents reset after))) extent place
     ≡ byte_at old.extents.geometry run extent place

@@ -1,5 +1,5 @@
-//! Laws of plans, each the contract of a function that does nothing.
-ghost use Rattle.patch_extent.specs.Laws.{PlansJoin, OtherStepsLeaveExtents, AppendsKeepBytes};
+//! Laws of plans and of what they leave of the bytes, each the contract of a function that does nothing.
+ghost use Rattle.patch_extent.specs.Laws.{PlansJoin, OtherStepsLeaveExtents, AppendsPutBytes, AppendsKeepBytes, ResetsKeepBytes};
 
 /// The steps of two plans, one after the other, are those of the first and then those of the second.
 pub fn plans_join()
@@ -13,9 +13,19 @@ pub fn other_steps_leave_extents()
     patch_model::laws::steps_extend();
 }
 
-/// An append, done or cut short, leaves each byte below its extent's pointer, and each of the other extents, as it was.
-pub fn appends_keep_bytes()
-    ensures { AppendsKeepBytes }
+/// What is cached at the place of an append that is done is what was appended.
+pub fn appends_put_bytes()
+    ensures { AppendsPutBytes }
+{
+    patch_model::laws::steps_extend();
+    patch_model::laws::executions_are_orderly();
+}
+
+/// An append, done or cut short, leaves each byte below its extent's pointer, and each of the other extents, as it was; a reset
+/// leaves them all.
+pub fn bytes_stay()
+    ensures appends { AppendsKeepBytes }
+    ensures resets { ResetsKeepBytes }
 {
     patch_model::laws::steps_extend();
     patch_model::laws::executions_are_orderly();
