@@ -78,7 +78,7 @@ module _ (given : Given) where
     said = λ key. refl;
   }
 
-  stores_of : (h : History) → IsLegalHistory h → HasStores h.first
+  pub stores_of : (h : History) → IsLegalHistory h → HasStores h.first
   stores_of h l = has_stores given.begin given.grow h.opening h.first l.legal.blocks l.reads
 
   stood_on : (h : History) → IsLegalHistory h → (events : List Event) (st : Standing) → Stood h.first st

@@ -48,18 +48,27 @@ use Rattle.patch_history.proofs.Events.{Stood, whole_take, cut_steps, cut_take, 
 use Rattle.patch_history.proofs.Events.{refused_same, done_is, emptying, clearing, some_in, is_current_of}
 use Rattle.patch_history.specs.Closed.{moves_entry}
 use Rattle.patch_history.proofs.Moved.{HasStores, AllMoved, fills, silent_moved, moved_append, moved_take, moved_none}
+use Rattle.std.proofs.lemmas.List.{append-nil}
+use Rattle.patch_frame.specs.Frame.{length_of}
+use Rattle.patch_history.specs.Choosing.{extent_for_put}
+use Rattle.patch_history.specs.Planning.{put_plan}
 
 module _ (given : Given) (first : Ledger) (sound : IsSound first) (valid : IsGeometry first.geometry)
     (stores : HasStores first) where
   -- Put.
 
-  record IsReadyPut (st : Standing) (writer : ℕ) (key value : List ℕ) : Type 0 where
+  pub record IsReadyPut (st : Standing) (writer : ℕ) (key value : List ℕ) : Type 0 where
     pub slot : ℕ
     pub extent : ℕ
+    pub slot_is : slot_for st.shelf key ≡ Some slot
+    pub extent_is : extent_for_put st.shelf (length_of (record { key = key; value = value })) ≡ Some extent
+    pub is : put_plan st.shelf (made_by st) (record { key = key; value = value })
+        ≡ Some (frame_plan st.shelf (made_by st) extent slot (record { key = key; value = value }))
+    pub short : Fits (value_limit st.map.format) (record { key = key; value = value })
     pub fits : FrameFits first st.made extent slot (record { key = key; value = value })
     pub plan_is : plan_of st writer (Put key value) ≡ named_plan st.groups (Some writer) (made_by st) (frame_plan st.shelf (made_by st) extent slot (record { key = key; value = value }))
 
-  put_ready : (st : Standing) (writer : ℕ) (key value : List ℕ) → Stood first st
+  pub put_ready : (st : Standing) (writer : ℕ) (key value : List ℕ) → Stood first st
       → is_refused (reply_of st writer (Put key value)) ≡ false → IsReadyPut st writer key value
   put_ready st writer key value stood answered =
       let c : Content = record { key = key; value = value } in
@@ -71,6 +80,10 @@ module _ (given : Given) (first : Ledger) (sound : IsSound first) (valid : IsGeo
       record {
         slot = put.slot;
         extent = put.extent;
+        slot_is = put.slot_is;
+        extent_is = put.extent_is;
+        is = why.1.1 ∙ ap (λ plan. Some plan) put.are;
+        short = why.0;
         fits = put_fits given first sound valid st.shelf st.made (made_by st) c plan stood.good fit put;
         plan_is =
             ap (λ o. named_plan st.groups (Some writer) (made_by st) (unwrap_or o [])) why.1.1
@@ -214,7 +227,7 @@ module _ (given : Given) (first : Ledger) (sound : IsSound first) (valid : IsGeo
     pub quiet : AllQuiet first st.made (emptied st.shelf (made_by st) extent moved)
     pub all_moved : AllMoved fills first st.made (emptied st.shelf (made_by st) extent moved)
 
-  reclaim_start : (st : Standing) (extent : ℕ) → Stood first st → IsReclaimed st extent
+  pub reclaim_start : (st : Standing) (extent : ℕ) → Stood first st → IsReclaimed st extent
       → Ready first st.map.entries extent ((after_all first st.made).pointer extent) st.shelf st.made (live_frames st.shelf extent)
   reclaim_start st extent stood can =
       let good = stood.good in
@@ -269,7 +282,9 @@ module _ (given : Given) (first : Ledger) (sound : IsSound first) (valid : IsGeo
       let went =
       moves_well given first sound valid stores st.map.entries extent
       ((after_all first st.made).pointer extent) known_first
-      (live_frames st.shelf extent) st.shelf st.made n moved refl start emptying_one.moves_are in
+      (live_frames st.shelf extent) [] st.shelf st.made n moved refl
+      (subst (Ready first st.map.entries extent ((after_all first st.made).pointer extent) st.shelf st.made)
+      (sym (append-nil (live_frames st.shelf extent))) start) emptying_one.moves_are in
       let few = good.few extent known_first in
       let spent = can.generation in
       let generation : generation_at st.shelf.extents extent ≡ ((after_all first st.made).pointer extent).generation =

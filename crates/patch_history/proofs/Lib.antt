@@ -29,3 +29,4 @@ pub mod Bridging
 pub mod Pointing
 pub mod Lengths
 pub mod Extended
+pub mod Fitting

@@ -15,7 +15,7 @@ use Rattle.patch_frame.specs.Slot.{SlotFields}
 use Rattle.patch_frame.specs.Frame.{Content, Fits, spelling, length_of}
 use Rattle.patch_recovery.specs.Change.{Change, Data, Point, Fill, Clear, Widen, Made}
 use Rattle.patch_recovery.specs.Ledger.{Ledger, after_all, bytes_at, value_in}
-use Rattle.patch_recovery.specs.Right.{IsSound, IsNamed}
+use Rattle.patch_recovery.specs.Right.{IsSound}
 use Rattle.patch_recovery.specs.Orders.{AreWellMade}
 use Rattle.patch_recovery.specs.Naming.{is_point}
 use Rattle.patch_recovery.specs.Said.{last_said}
@@ -37,6 +37,8 @@ use Rattle.patch_history.proofs.Moving.{read_fits, Chosen, move_chosen, move_cas
 use Rattle.patch_history.proofs.Members.{some_number, some_fields}
 use Rattle.patch_history.proofs.Moved.{HasStores, AllMoved, fills, silent_moved, moved_append}
 use Rattle.patch_recovery.specs.Said.{Moves}
+use Rattle.std.proofs.lemmas.List.{length-append}
+use Rattle.patch_history.specs.Fitting.{IsThere}
 
 pub shelf_plan-++ : (s : Shelf) (n : ℕ) (p q : List Made)
     → after_plan s n (p ++ q) ≡ after_plan (after_plan s n p) (n + length p) q
@@ -146,15 +148,11 @@ pub record Ready (first : Ledger) (entries : List Content) (r : ℕ) (at_first :
   pub apart : Distinct fs
   pub rest : (x : ℕ) (g : SlotFields) → (after_all first made).slot x ≡ Some g → g.extent ≡ r → In fs (x, g)
 
-record HasContent (l : Ledger) (entries : List Content) (f : SlotFields) : Type 0 where
-  pub named : IsNamed l f
-  pub is : named.content ≡ content_of entries f
-
 module _ (given : Given) (first : Ledger) (sound : IsSound first) (valid : IsGeometry first.geometry)
     (stores : HasStores first) (entries : List Content) (r : ℕ) (at_first : Pointer)
     (r_known : r < first.geometry.extents) where
-  content_is : (s : Shelf) (made : List Made) (fs : List (ℕ × SlotFields)) → Ready first entries r at_first s made fs
-      → (f : ℕ × SlotFields) → In fs f → HasContent (after_all first made) entries f.1
+  pub content_is : (s : Shelf) (made : List Made) (fs : List (ℕ × SlotFields)) → Ready first entries r at_first s made fs
+      → (f : ℕ × SlotFields) → In fs f → IsThere (after_all first made) entries f.1
   content_is s made fs ready f i =
       let at = (ready.waits f i).1 in
       let lasts = given.last first made sound ready.good.well in
@@ -164,7 +162,7 @@ module _ (given : Given) (first : Ledger) (sound : IsSound first) (valid : IsGeo
       let same : n.content ≡ content_of entries f.1 =
       ap (λ k. record { key = k; value = n.content.value }) n.key
       ∙ ap (λ o. record { key = f.1.key; value = unwrap_or o [] }) (sym value) in
-      record { named = n; is = same }
+      record { named = n; content = same }
 
   geometry_now : (s : Shelf) (made : List Made) → Good s first made
       → s.extents.geometry ≡ (after_all first made).geometry
@@ -180,7 +178,7 @@ module _ (given : Given) (first : Ledger) (sound : IsSound first) (valid : IsGeo
         ready.filled (sym (ap (λ p. p.offset) (ready.good.holds.shelf.pointer r known)) ∙ ap (offset_at s.extents) (sym same) ∙ nought)
   ]
 
-  move_fits : (s : Shelf) (made : List Made) (f : ℕ × SlotFields) (fs : List (ℕ × SlotFields)) (e : ℕ)
+  pub move_fits : (s : Shelf) (made : List Made) (f : ℕ × SlotFields) (fs : List (ℕ × SlotFields)) (e : ℕ)
       → Ready first entries r at_first s made (f ∷ fs) → Chosen s f.1.length e
       → FrameFits first made e f.0 (content_of entries f.1)
   move_fits s made f fs e ready chosen =
@@ -188,9 +186,9 @@ module _ (given : Given) (first : Ledger) (sound : IsSound first) (valid : IsGeo
       let c = content_of entries f.1 in
       let has = content_is s made (f ∷ fs) ready f (inl refl) in
       let fit : Fits (value_limit (after_all first made).geometry.format) c =
-      subst (Fits (value_limit (after_all first made).geometry.format)) has.is
+      subst (Fits (value_limit (after_all first made).geometry.format)) has.content
       (read_fits (value_limit (after_all first made).geometry.format) (bytes_at (after_all first made) f.1.extent f.1.offset f.1.length) has.named.content has.named.frame) in
-      let long : length_of c ≡ f.1.length = ap length_of (sym has.is) ∙ has.named.length in
+      let long : length_of c ≡ f.1.length = ap length_of (sym has.content) ∙ has.named.length in
       let sizes =
       given.frames.fit (after_all first made).geometry.format c
       (format_kept first.geometry (after_all first made).geometry valid.format (given.last first made sound good.well).geometry) fit in
@@ -243,7 +241,7 @@ module _ (given : Given) (first : Ledger) (sound : IsSound first) (valid : IsGeo
       let right = right_put given s first made n e f.0 c count good fits in
       let store = stores (slot_put first made put) done.well_made in
       let at = (ready.waits f (inl refl)).1 in
-      let moves_it = given.again store.0 first made put f.1 store.1 right at (has.named.frame ∙ ap Ok has.is) in
+      let moves_it = given.again store.0 first made put f.1 store.1 right at (has.named.frame ∙ ap Ok has.content) in
       let change : fill.change ≡ Fill put.slot (fields_put (after_all first made) put) =
       ap (λ ms. (head_or fill ms).change) whole in
       moved_append fills first front (fill ∷ []) made
@@ -272,7 +270,7 @@ module _ (given : Given) (first : Ledger) (sound : IsSound first) (valid : IsGeo
       let well : AreWellMade first (onto plan made) = subst (AreWellMade first) (sym is) done.well_made in
       let had : last_said (λ number. true) first made c.key ≡ Some c.value =
       (given.last first made sound good.well).tells.has f.0 f.1 has.named.content at has.named.frame
-      ∙ ap (λ c. Some c.value) has.is in
+      ∙ ap (λ c. Some c.value) has.content in
       let quiet = quiet_frame given s first made n e f.0 c valid count good fits had in
       let slots : (x : ℕ) → (after_all first (onto plan made)).slot x ≡ (if x == f.0 then Some (fields_put (after_all first made) put) else (after_all first made).slot x) =
       λ x. ap (λ ms. (after_all first ms).slot x) is ∙ put_slot first made put x in
@@ -312,37 +310,65 @@ module _ (given : Given) (first : Ledger) (sound : IsSound first) (valid : IsGeo
         },
       )
 
-  pub record MovedWell (s : Shelf) (made : List Made) (n : ℕ) (plan : List Made) : Type 0 where
+  pub record MovedWell (later : List (ℕ × SlotFields)) (s : Shelf) (made : List Made) (n : ℕ) (plan : List Made)
+      : Type 0 where
     pub well : AreWellMade first (onto plan made)
     pub quiet : AllQuiet first made plan
     pub moved : AllMoved fills first made plan
-    pub ready : Ready first entries r at_first (after_plan s n plan) (onto plan made) []
+    pub ready : Ready first entries r at_first (after_plan s n plan) (onto plan made) later
 
   no_plan : (plan : List Made) → Some [] ≡ Some plan → [] ≡ plan
   no_plan plan h = cc
 
-  pub moves_well : (fs : List (ℕ × SlotFields)) (s : Shelf) (made : List Made) (n : ℕ) (plan : List Made)
-      → n ≡ length made → Ready first entries r at_first s made fs → moves entries s n fs ≡ Some plan
-      → MovedWell s made n plan
-  moves_well [] s made n plan count ready h =
-      subst (MovedWell s made n) (no_plan plan h)
+  -- the moves of some frames, behind which others are ready to move
+  pub moves_well : (fs later : List (ℕ × SlotFields)) (s : Shelf) (made : List Made) (n : ℕ) (plan : List Made)
+      → n ≡ length made → Ready first entries r at_first s made (fs ++ later) → moves entries s n fs ≡ Some plan
+      → MovedWell later s made n plan
+  moves_well [] later s made n plan count ready h =
+      subst (MovedWell later s made n) (no_plan plan h)
       (record { well = ready.good.well; quiet = tt; moved = tt; ready = ready })
-  moves_well (f ∷ fs) s made n plan count ready h =
+  moves_well (f ∷ fs) later s made n plan count ready h =
       let case = move_cases entries s n f fs plan (extent_for_move s f.1.length) refl h in
       let e = case.extent in
       let p = frame_plan s n e f.0 (content_of entries f.1) in
       let chosen = move_chosen s f.1.length e (current_for s f.1.length) refl case.chosen in
-      let one = move_ready s made n f fs e count ready chosen in
+      let one = move_ready s made n f (fs ++ later) e count ready chosen in
+      let moved_one = move_moved s made n f (fs ++ later) e count ready chosen in
       let length_now : n + length p ≡ length (onto p made) = ap (λ k. k + length p) count ∙ sym (onto_length p made) in
       let others =
-      moves_well fs (after_plan s n p) (onto p made) (n + length p) case.others length_now one.2 case.go_on in
-      subst (MovedWell s made n) (sym case.are) (record {
+      moves_well fs later (after_plan s n p) (onto p made) (n + length p) case.others length_now one.2 case.go_on in
+      subst (MovedWell later s made n) (sym case.are) (record {
         well = subst (AreWellMade first) (sym (onto-++ p case.others made)) others.well;
         quiet = quiet_append first p case.others made one.1 others.quiet;
-        moved =
-            moved_append fills first p case.others made (move_moved s made n f fs e count ready chosen) others.moved;
+        moved = moved_append fills first p case.others made moved_one others.moved;
         ready =
-            subst (λ ms. Ready first entries r at_first (after_plan s n (p ++ case.others)) ms [])
+            subst (λ ms. Ready first entries r at_first (after_plan s n (p ++ case.others)) ms later)
             (sym (onto-++ p case.others made))
-            (subst (λ t. Ready first entries r at_first t (onto case.others (onto p made)) []) (sym (shelf_plan-++ s n p case.others)) others.ready);
+            (subst (λ t. Ready first entries r at_first t (onto case.others (onto p made)) later)
+            (sym (shelf_plan-++ s n p case.others)) others.ready);
       })
+
+-- Where all of some frames move, the last ones move behind the first.
+pub moves_rest : (entries : List Content) (before fs : List (ℕ × SlotFields)) (s : Shelf) (n : ℕ) (plan p : List Made)
+    → moves entries s n (before ++ fs) ≡ Some plan → moves entries s n before ≡ Some p
+    → (q : List Made) × (moves entries (after_plan s n p) (n + length p) fs ≡ Some q)
+moves_rest entries [] fs s n plan p h k =
+    let none : [] ≡ p = cc in
+    subst (λ p. (q : List Made) × (moves entries (after_plan s n p) (n + length p) fs ≡ Some q)) none
+    (plan, ap (λ m. moves entries s m fs) (let e : n + 0 ≡ n = omega arith in e) ∙ h)
+moves_rest entries (f ∷ before) fs s n plan p h k =
+    let all = move_cases entries s n f (before ++ fs) plan (extent_for_move s f.1.length) refl h in
+    let some = move_cases entries s n f before p (extent_for_move s f.1.length) refl k in
+    let same : all.extent ≡ some.extent = some_number all.extent some.extent (sym all.chosen ∙ some.chosen) in
+    let one = frame_plan s n some.extent f.0 (content_of entries f.1) in
+    let go_on = subst (λ e. moves entries (after_plan s n (frame_plan s n e f.0 (content_of entries f.1)))
+    (n + length (frame_plan s n e f.0 (content_of entries f.1))) (before ++ fs) ≡ Some all.others) same all.go_on in
+    let rest = moves_rest entries before fs (after_plan s n one) (n + length one) all.others some.others go_on some.go_on in
+    let long = length-append one some.others in (
+      rest.0,
+      ap (λ p. moves entries (after_plan s n p) (n + length p) fs) some.are
+          ∙ ap (λ t. moves entries t (n + length (one ++ some.others)) fs) (shelf_plan-++ s n one some.others)
+          ∙ ap (λ m. moves entries (after_plan (after_plan s n one) (n + length one) some.others) m fs)
+          (let e : n + length (one ++ some.others) ≡ n + length one + length some.others = omega (arith, long) in e)
+          ∙ rest.1,
+    )

@@ -11,6 +11,7 @@ pub mod Steps
 pub mod Given
 pub mod Laws
 pub mod Closed
+pub mod Fitting
 pub mod Rows
 pub mod Refusals
 pub mod Commands

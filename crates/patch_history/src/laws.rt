@@ -2,6 +2,7 @@
 ghost use Rattle.patch_history.specs.Kept.{ShelvesAreKept, NewestAreKept, KeptAreMade, KeptAreNamed};
 ghost use Rattle.patch_history.specs.Steps.{FramesCompose, AppendsAreCuts, BegunAppendsAreCuts, ShelvesGoOn, WholesJoin, CutsJoin, WholesAreCuts};
 ghost use Rattle.patch_history.specs.Steps.{CutsAreFirst, PlansAreOfStores, UpgradesSpellAlike};
+ghost use Rattle.patch_history.specs.Fitting.{PutsFit, FramesAreThere, ReclaimsGoOn};
 ghost use Rattle.patch_history.specs.Given.{Given};
 ghost use Rattle.patch_history.specs.Closed.{HistoriesMove, ClosedDisksOpen, CrashDisksOpen};
 ghost use Rattle.patch_history.specs.Laws.{HistoriesExtend, StandingsRun, HistoriesAreOfStores, MapsAreSaid, HistoriesAreRead, StandingsAgree, ExtentsAreKept};
@@ -104,6 +105,16 @@ pub fn closed_disks_open()
 /// What is kept of the extents is what the cached pointer block and the patches say of them.
 pub fn extents_are_kept()
     ensures { ExtentsAreKept }
+{
+    laws_below();
+}
+
+/// A put that isn't refused finds a slot and an extent with room. The frame of each used slot is there, with the value of
+/// its key; and in a reclaim that isn't refused each next one is there too, and finds an extent.
+pub fn commands_fit()
+    ensures puts { PutsFit }
+    ensures frames { FramesAreThere }
+    ensures reclaims { ReclaimsGoOn }
 {
     laws_below();
 }
