@@ -113,7 +113,8 @@ module _ (given : Given) where
       let there = content_is given h.first start.sound start.valid stores entries extent at_first known_first s made
       (f ∷ rest) went.ready f (inl refl) in
       let go_on = moves_rest entries before (f ∷ rest) st.shelf n all.moved moved all_moved some_moved in
-      let case = move_cases entries s (next_behind h moved) f rest go_on.0 (extent_for_move s f.1.length) refl go_on.1 in
+      let case =
+      move_cases entries s (next_behind h moved) f rest go_on.0 (extent_for_move s f.1.length) refl go_on.1 in
       let chosen = move_chosen s f.1.length case.extent (current_for s f.1.length) refl case.chosen in
       let fits = move_fits given h.first start.sound start.valid stores entries extent at_first known_first s made f rest
       case.extent went.ready chosen in
