@@ -6,3 +6,4 @@ pub mod Spans
 pub mod Beginning
 pub mod Bytes
 pub mod Finishing
+pub mod Grouping

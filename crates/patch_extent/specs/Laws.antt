@@ -1,10 +1,12 @@
 -- Laws of plans, and of what the extents represent.
 use Rattle.std.specs.Prelude.{ℕ, Bool, ◌≡◌, ◌+◌, ◌<◌, ◌≤◌, List, ◌++◌, length, take, Option, None, IsTrue}
 use Rattle.patch_model.specs.Step.{Step}
+use Rattle.patch_model.specs.State.{entries_of}
 use Rattle.patch_model.specs.Execution.{Execution, extended, followed_by}
 use Rattle.patch_frame.specs.declared.geometries.Geometry.{Geometry}
 use Rattle.patch_frame.specs.Geometry.{largest_pointer}
 use Rattle.patch_group.specs.Groups.{Groups}
+use Rattle.patch_group.specs.Order.{AreGroupsOf}
 use Rattle.patch_recovery.specs.Change.{Made}
 use Rattle.patch_recovery.specs.Closed.{cached_blocks}
 use Rattle.patch_recovery.specs.Reading.{ledger_in}
@@ -26,6 +28,12 @@ PlansJoin =
 abbrev pub OtherStepsLeaveExtents : Type 0
 OtherStepsLeaveExtents =
     (s : Extents) (run : Execution) (step : Step) → IsTrue (makes_nothing step) → Represents s run → Represents s (extended run step)
+
+-- groups of an execution are those of the execution after a plan, with its patches
+abbrev pub PlansKeepGroups : Type 0
+PlansKeepGroups =
+    (run : Execution) (s : Extents) (gs : Groups) (w : Option ℕ) (choices : List Bool) (plan : List Made) → AreGroupsOf run gs
+    → AreGroupsOf (followed_by run (steps_of choices s gs w (length (entries_of run)) plan)) (with_patches gs w (length (entries_of run)) (length plan))
 
 -- the byte at this place of an extent, as it is cached
 abbrev pub byte_at : Geometry → Execution → (extent place : ℕ) → ℕ
