@@ -7,6 +7,7 @@ use Rattle.patch_model.specs.declared.refusals.Refusal.{Refusal}
 use Rattle.patch_model.specs.Entry.{Entry, is_live}
 use Rattle.patch_model.specs.Refusing.{bare}
 use Rattle.patch_frame.specs.Geometry.{largest_pointer}
+use Rattle.patch_cache.specs.Contents.{Contents}
 use Rattle.patch_extent.specs.Extents.{Extents, generation_at, offset_at}
 use Rattle.patch_extent.specs.Planning.{touched}
 use Rattle.patch_extent.specs.declared.places.Place.{Place}
@@ -22,6 +23,10 @@ why_no_room made live count =
 abbrev pub why_not_behind : (made live : ℕ) (after : List ℕ) (count : ℕ) → Option Refusal
 why_not_behind made live after count =
     if list_any (λ n. nat_le made n) after then Some (bare kind.UnknownDependency) else why_no_room made live count
+
+-- by a cache that holds this
+abbrev pub why_not_held : Contents → (after : List ℕ) (count : ℕ) → Option Refusal
+why_not_held cache after count = why_not_behind cache.graph.made cache.live after count
 
 abbrev pub why_not_after : List Entry → (after : List ℕ) (count : ℕ) → Option Refusal
 why_not_after all after count = why_not_behind (length all) (count_by is_live all) after count

@@ -2,7 +2,7 @@
 ghost use Rattle.std.specs.Prelude.{◌≡◌, ◌<◌, Some, None, MatchResult, nat_le};
 ghost use Rattle.std.specs.List.{list_any};
 ghost use Rattle.patch_extent.specs.Refusals.{count_cause};
-ghost use Rattle.patch_extent.specs.Refusing.{why_not_behind};
+ghost use Rattle.patch_extent.specs.Refusing.{why_not_held};
 
 use patch_cache::Cache;
 use patch_model::{MAX_LIVE, MAX_PATCHES, PatchNo};
@@ -24,8 +24,8 @@ pub(crate) fn count_patches<A: Allocator + Copy>(
 ) -> Result<(), CountRefusal>
     requires { count < 1000 }
     ensures { MatchResult result
-        (λ _. why_not_behind cache.now.graph.made cache.now.live after.now count ≡ None)
-        (λ refusal. why_not_behind cache.now.graph.made cache.now.live after.now count ≡ Some (count_cause refusal)) }
+        (λ _. why_not_held cache.now after.now count ≡ None)
+        (λ refusal. why_not_held cache.now after.now count ≡ Some (count_cause refusal)) }
 {
     if names_unmade(cache.made(), after) {
         return Err(CountRefusal::UnknownDependency);

@@ -1,6 +1,10 @@
 -- What the formats have in common: padding, and tests that are made in order.
-use Rattle.std.specs.Prelude.{◌≡◌, ℕ, Bool, List, [], ◌∷◌, Result, Ok, Err, ◌==◌, if◌then◌else◌, replicate}
+use Rattle.std.specs.Prelude.{◌≡◌, ◌<◌, ℕ, Bool, All, List, [], ◌∷◌, Result, Ok, Err, ◌==◌, if◌then◌else◌, replicate}
 use Rattle.std.specs.List.{list_all}
+
+-- each number is a byte
+abbrev pub AreBytes : List ℕ → Type 0
+AreBytes bytes = All (λ byte. byte < 256) bytes
 
 -- so many zeros
 unfoldable pub zeros : ℕ → List ℕ

@@ -1,11 +1,12 @@
 //! Laws of the formats. Each is the contract of a function that does nothing: who calls it may rest on the law.
-ghost use Rattle.std.specs.Prelude.{◌≡◌, ◌<◌, ◌≤◌, ◌^◌, ◌+◌, ◌++◌, ℕ, List, [], Option, Ok, length, All};
+ghost use Rattle.std.specs.Prelude.{◌≡◌, ◌<◌, ◌≤◌, ◌^◌, ◌+◌, ◌++◌, ℕ, List, [], Option, Ok, length};
 ghost use Rattle.patch_model.specs.declared.blocks.TheConstants.{BLOCK};
 ghost use Rattle.patch_frame.specs.declared.geometries.Format.{Format as FormatFields};
 ghost use Rattle.patch_frame.specs.declared.geometries.Format.TheVariants.{Two};
 ghost use Rattle.patch_frame.specs.declared.pointers.TheConstants.{MAX_POINTER};
 ghost use Rattle.patch_frame.specs.declared.geometries.Geometry.{Geometry as GeometryFields};
 ghost use Rattle.patch_frame.specs.declared.pointers.Pointer.{Pointer as PointerFields};
+ghost use Rattle.patch_frame.specs.Field.{AreBytes};
 ghost use Rattle.patch_frame.specs.Frame.{Content, Fits, spelling, length_of, frame_at};
 ghost use Rattle.patch_frame.specs.Geometry.{IsFormat, IsGeometry, value_limit, longest_frame, largest_pointer, extent_blocks, first_block, pointer_block, block_count, slot_count, slot_block};
 ghost use Rattle.patch_frame.specs.Pointer as pointer;
@@ -65,7 +66,7 @@ pub fn pointers_are_read_again()
 
 /// A record of bytes that is read is spelled by what it is read as, and that fits.
 pub fn read_pointers_are_spelled()
-    ensures { (largest : ℕ) (bytes : List ℕ) (p : PointerFields) → All (λ byte. byte < 256) bytes → length bytes ≡ 8
+    ensures { (largest : ℕ) (bytes : List ℕ) (p : PointerFields) → AreBytes bytes → length bytes ≡ 8
         → pointer.pointer_at largest bytes ≡ Ok p → pointer.Fits largest p × (bytes ≡ pointer.spelling p) }
 {}
 

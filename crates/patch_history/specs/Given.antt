@@ -1,5 +1,5 @@
 -- What the laws of the crates below say.
-use Rattle.std.specs.Prelude.{ℕ, ◌≡◌, ◌<◌, ◌≤◌, ◌^◌, List, length, All, Ok}
+use Rattle.std.specs.Prelude.{ℕ, ◌≡◌, ◌<◌, ◌≤◌, ◌^◌, List, length, Ok}
 use Rattle.patch_model.specs.Execution.{Execution}
 use Rattle.patch_model.specs.State.{entries_of}
 use Rattle.patch_model.specs.Legal.{IsLegal}
@@ -7,6 +7,7 @@ use Rattle.patch_model.specs.Orderly.{IsOrderly}
 use Rattle.patch_frame.specs.declared.geometries.Format.{Format}
 use Rattle.patch_frame.specs.declared.pointers.Pointer.{Pointer}
 use Rattle.patch_frame.specs.Geometry.{IsFormat, value_limit, longest_frame, largest_pointer}
+use Rattle.patch_frame.specs.Field.{AreBytes}
 use Rattle.patch_frame.specs.Frame.{Content, Fits, spelling, length_of}
 use Rattle.patch_frame.specs.Pointer.{pointer_at}
 use Rattle.patch_frame.specs.Pointer as pointers
@@ -26,7 +27,7 @@ pub record Frames : Type 0 where
 pub record Pointers : Type 0 where
   pub again : (largest : ℕ) (p : Pointer) → largest < 2 ^ 32 → pointers.Fits largest p
       → pointer_at largest (pointers.spelling p) ≡ Ok p
-  pub spelled : (largest : ℕ) (bytes : List ℕ) (p : Pointer) → All (λ byte. byte < 256) bytes → length bytes ≡ 8
+  pub spelled : (largest : ℕ) (bytes : List ℕ) (p : Pointer) → AreBytes bytes → length bytes ≡ 8
       → pointer_at largest bytes ≡ Ok p → pointers.Fits largest p × (bytes ≡ pointers.spelling p)
 
 pub record Given : Type 0 where

@@ -1,11 +1,12 @@
 -- A list of calls, with the steps of each, and the writes between them.
-use Rattle.std.specs.Prelude.{ℕ, Bool, true, false, ◌≡◌, ◌≢◌, ◌⊎◌, ◌+◌, ◌<◌, All, IsTrue, MatchBool, List, [], ◌∷◌}
+use Rattle.std.specs.Prelude.{ℕ, Bool, true, false, ◌≡◌, ◌≢◌, ◌⊎◌, ◌+◌, All, IsTrue, MatchBool, List, [], ◌∷◌}
 use Rattle.std.specs.Prelude.{◌++◌, length, fold, flat_map, Ok}
 use Rattle.patch_model.specs.declared.refusals.RefusalKind.TheVariants as kind
 use Rattle.patch_model.specs.Step.{Step, Send, Complete}
 use Rattle.patch_model.specs.Execution.{Execution, extended}
 use Rattle.patch_model.specs.Legal.{IsLegal}
 use Rattle.patch_model.specs.Refusing.{bare}
+use Rattle.patch_frame.specs.Field.{AreBytes}
 use Rattle.patch_recovery.specs.Change.{Made}
 use Rattle.patch_recovery.specs.Ledger.{Ledger, after_all}
 use Rattle.patch_recovery.specs.Reading.{reading}
@@ -92,7 +93,7 @@ AreRight st (event ∷ events) = IsRight st event × AreRight (after_event st ev
 -- The blocks have bytes and were such as can be opened, each step is legal, and each event right where it stands: by the
 -- blocks and the events before it, and nothing else.
 pub record IsLegalHistory (h : History) : Type 0 where
-  pub bytes : All (λ block. All (λ byte. byte < 256) block) h.opening
+  pub bytes : All AreBytes h.opening
   pub reads : reading h.opening ≡ Ok h.first
   pub legal : IsLegal (execution_of h)
   pub right : AreRight (at_opening h.opening h.first) h.events

@@ -1,5 +1,5 @@
 -- Short scripts of commands on a new disk, with their replies.
-use Rattle.std.specs.Prelude.{ℕ, ◌==◌, if◌then◌else◌, List, [], ◌∷◌, length, map, sum_by, replicate, reverse, Some, None}
+use Rattle.std.specs.Prelude.{ℕ, ◌==◌, if◌then◌else◌, List, [], ◌∷◌, ◌++◌, length, map, sum_by, replicate, reverse, Some, None}
 use Rattle.std.specs.List.{range_with_len}
 use Rattle.patch_model.specs.Step.{Step}
 use Rattle.patch_frame.specs.declared.geometries.Format.{Format}
@@ -8,11 +8,15 @@ use Rattle.patch_group.specs.Groups.{no_groups}
 use Rattle.patch_recovery.specs.Ledger.{Ledger}
 use Rattle.patch_extent.specs.Extents.{no_extent, generation_at, offset_at}
 use Rattle.patch_extent.specs.Writing.{Written, written, steps_by}
-use Rattle.patch_history.specs.Command.{Command, Reply, Put, is_refused}
+use Rattle.patch_model.specs.declared.refusals.RefusalKind.{RefusalKind}
+use Rattle.patch_model.specs.Refusing.{bare}
+use Rattle.patch_model.specs.Step.{Send}
+use Rattle.patch_history.specs.Command.{Command, Put, Get, Delete, Reclaim, Upgrade, Group, Engage, Disengage, Depend}
+use Rattle.patch_history.specs.Command.{CloseGroup, Pending, Reply, Done, Value, Refused, is_refused}
 use Rattle.patch_history.specs.Choosing.{live_frames}
 use Rattle.patch_history.specs.Standing.{Standing, made_by, plan_of, after_call}
 use Rattle.patch_history.specs.Refusing.{reply_of}
-use Rattle.patch_history.specs.History.{Event, Call}
+use Rattle.patch_history.specs.History.{Event, Call, Moved, History, calls_of}
 
 -- A new disk with so many slots and extents: a few of the slots are enough for a short script.
 abbrev pub new_disk_of : Format → (slots extents : ℕ) → Standing
@@ -117,3 +121,76 @@ read_with first second = record {
       else None;
   byte = λ e place. 0;
 }
+
+abbrev pub refused : RefusalKind → Reply
+refused kind = Refused (bare kind)
+
+-- Scripts.
+
+abbrev pub put_twice : List Command
+put_twice = Put (key 107) (1 ∷ []) ∷ Put (key 107) (2 ∷ []) ∷ []
+
+abbrev pub deleted_twice : List Command
+deleted_twice = Put (key 107) [] ∷ Get (key 107) ∷ Delete (key 107) ∷ Get (key 107) ∷ Delete (key 107) ∷ []
+
+abbrev pub long_keys : List Command
+long_keys = Put (bytes 32) (1 ∷ []) ∷ Put (bytes 33) [] ∷ Get (bytes 33) ∷ Delete [] ∷ []
+
+abbrev pub long_values : List Command
+long_values = Put (key 118) (bytes 4048) ∷ Put (key 119) (bytes 4049) ∷ []
+
+-- three keys for two slots, and the first of them anew
+abbrev pub three_keys : List Command
+three_keys = Put (key 97) [] ∷ Put (key 98) [] ∷ Put (key 107) [] ∷ Put (key 97) [] ∷ []
+
+-- both slots are emptied, and one is claimed again
+abbrev pub claimed_again : List Command
+claimed_again = Put (key 98) [] ∷ Put (key 97) [] ∷ Delete (key 98) ∷ Delete (key 97) ∷ Put (key 97) [] ∷ []
+
+-- two values, of which an extent of one block has room for one
+abbrev pub two_values : List Command
+two_values = Put (key 97) (bytes 2100) ∷ Put (key 98) (bytes 2100) ∷ []
+
+abbrev pub one_reclaimed : List Command
+one_reclaimed = two_values ++ Reclaim 0 ∷ []
+
+abbrev pub two_reclaimed : List Command
+two_reclaimed = two_values ++ Reclaim 0 ∷ Reclaim 1 ∷ []
+
+abbrev pub three_reclaimed : List Command
+three_reclaimed = two_values ++ Reclaim 0 ∷ Reclaim 1 ∷ Reclaim 2 ∷ []
+
+-- an extent without a live frame is reclaimed, and once more
+abbrev pub emptied : List Command
+emptied = Put (key 107) [] ∷ Delete (key 107) ∷ Reclaim 0 ∷ Reclaim 0 ∷ Put (key 109) (1 ∷ []) ∷ []
+
+-- a key is put twice, and deleted
+abbrev pub put_and_deleted : List Command
+put_and_deleted = Put (key 107) [] ∷ Put (key 107) [] ∷ Delete (key 107) ∷ []
+
+abbrev pub upgraded_twice : List Command
+upgraded_twice = Put (key 107) [] ∷ Upgrade ∷ Upgrade ∷ Put (key 107) [] ∷ []
+
+-- a put in the group 0, behind which there is the group 1
+abbrev pub in_order : List Command
+in_order = Group ∷ Engage 0 ∷ Put (key 97) [] ∷ Disengage 0 ∷ Group ∷ Depend 1 0 ∷ Engage 1 ∷ []
+
+-- and calls that are refused, or count
+abbrev pub refused_in_order : List Command
+refused_in_order = in_order ++ Engage 0 ∷ Pending 1 ∷ CloseGroup 1 ∷ CloseGroup 2 ∷ []
+
+-- and a delete in the group 1, with a reclaim
+abbrev pub deleted_in_order : List Command
+deleted_in_order = in_order ++ Delete (key 97) ∷ Reclaim 0 ∷ []
+
+-- a put and a get with a write begun between them
+abbrev pub put_sent_got : History
+put_sent_got = record {
+  opening = [];
+  first = read_with 0 0;
+  events = Call 1 (Put (key 107) []) Done put_steps ∷ Moved (Send 3) ∷ Call 0 (Get (key 107)) (Value []) [] ∷ [];
+}
+
+-- of each call its writer, and how many steps were made before and after it
+abbrev pub counts_of : History → List (ℕ × ℕ × ℕ)
+counts_of h = map {B = ℕ × ℕ × ℕ} (λ c. (c.writer, c.before, c.after)) (calls_of h)

@@ -16,110 +16,75 @@ ghost use Rattle.patch_history.specs.Refusing.{reply_of};
 
 // A value replaced.
 fn one_key_twice()
-    ensures replies { replies (new_disk 2 2) (Put (key 107) (1 ∷ []) ∷ Put (key 107) (2 ∷ []) ∷ Get (key 107) ∷ [])
-        ≡ Done ∷ Done ∷ Value (2 ∷ []) ∷ [] }
-    ensures extents { extents_of (after_commands (new_disk 2 2)
-        (Put (key 107) (1 ∷ []) ∷ Put (key 107) (2 ∷ []) ∷ [])) ≡ (0, 36, 18) ∷ (0, 0, 0) ∷ [] }
-    ensures entries { lengths_of (after_commands (new_disk 2 2)
-        (Put (key 107) (1 ∷ []) ∷ Put (key 107) (2 ∷ []) ∷ [])) ≡ (key 107, 1) ∷ [] }
+    ensures replies { replies (new_disk 2 2) (put_twice ++ Get (key 107) ∷ []) ≡ Done ∷ Done ∷ Value (2 ∷ []) ∷ [] }
+    ensures extents { extents_of (after_commands (new_disk 2 2) put_twice) ≡ (0, 36, 18) ∷ (0, 0, 0) ∷ [] }
+    ensures entries { lengths_of (after_commands (new_disk 2 2) put_twice) ≡ (key 107, 1) ∷ [] }
 {}
 
 // Keys and values too long, and a key that is gone.
 fn limits_and_deletes()
-    ensures first { replies (new_disk 2 4)
-        (Put (key 107) [] ∷ Get (key 107) ∷ Delete (key 107) ∷ Get (key 107) ∷ Delete (key 107) ∷ [])
-        ≡ Done ∷ Value [] ∷ Done ∷ Absent ∷ Refused (bare kind.NoKey) ∷ [] }
-    ensures keys { replies (new_disk 2 4)
-        (Put (bytes 32) (1 ∷ []) ∷ Put (bytes 33) [] ∷ Get (bytes 33) ∷ Delete [] ∷ [])
-        ≡ Done ∷ Refused (bare kind.KeyLength) ∷ Refused (bare kind.KeyLength) ∷ Refused (bare kind.KeyLength) ∷ [] }
-    ensures values { replies (short_disk 2 4) (Put (key 118) (bytes 4048) ∷ Put (key 119) (bytes 4049) ∷ [])
-        ≡ Done ∷ Refused (bare kind.ValueLength) ∷ [] }
+    ensures first { replies (new_disk 2 4) deleted_twice ≡ Done ∷ Value [] ∷ Done ∷ Absent ∷ refused kind.NoKey ∷ [] }
+    ensures keys { replies (new_disk 2 4) long_keys ≡ Done ∷ replicate 3 (refused kind.KeyLength) }
+    ensures values { replies (short_disk 2 4) long_values ≡ Done ∷ refused kind.ValueLength ∷ [] }
 {}
 
 // No slot is left for a new key, and one that stands is put anew.
 fn index_full()
-    ensures replies { replies (new_disk 2 2)
-        (Put (key 97) [] ∷ Put (key 98) [] ∷ Put (key 107) [] ∷ Put (key 97) [] ∷ [])
-        ≡ Done ∷ Done ∷ Refused (bare kind.IndexFull) ∷ Done ∷ [] }
-    ensures extents { extents_of (after_commands (new_disk 2 2)
-        (Put (key 97) [] ∷ Put (key 98) [] ∷ Put (key 107) [] ∷ Put (key 97) [] ∷ []))
-        ≡ (0, 51, 34) ∷ (0, 0, 0) ∷ [] }
+    ensures replies { replies (new_disk 2 2) three_keys ≡ Done ∷ Done ∷ refused kind.IndexFull ∷ Done ∷ [] }
+    ensures extents { extents_of (after_commands (new_disk 2 2) three_keys) ≡ (0, 51, 34) ∷ (0, 0, 0) ∷ [] }
 {}
 
 // The lowest empty slot is claimed, behind the last delete, which comes after the one before.
 fn claimed_slot()
-    ensures names { names_of (after_commands (new_disk 2 2)
-        (Put (key 98) [] ∷ Put (key 97) [] ∷ Delete (key 98) ∷ Delete (key 97) ∷ Put (key 97) [] ∷ []))
+    ensures names { names_of (after_commands (new_disk 2 2) claimed_again)
         ≡ [] ∷ (0 ∷ []) ∷ (1 ∷ []) ∷ [] ∷ (3 ∷ []) ∷ (4 ∷ []) ∷ [] ∷ (6 ∷ []) ∷ [] ∷ (8 ∷ []) ∷ (9 ∷ 7 ∷ []) ∷ [] }
-    ensures extents { extents_of (after_commands (new_disk 2 2)
-        (Put (key 98) [] ∷ Put (key 97) [] ∷ Delete (key 98) ∷ Delete (key 97) ∷ Put (key 97) [] ∷ []))
-        ≡ (0, 51, 17) ∷ (0, 0, 0) ∷ [] }
+    ensures extents { extents_of (after_commands (new_disk 2 2) claimed_again) ≡ (0, 51, 17) ∷ (0, 0, 0) ∷ [] }
 {}
 
 // Reclaims.
 
 // The last empty extent is kept.
 fn no_space()
-    ensures replies { replies (short_disk 2 2)
-        (Put (key 97) (bytes 2100) ∷ Put (key 98) (bytes 2100) ∷ Reclaim 0 ∷ Reclaim 1 ∷ Reclaim 2 ∷ [])
-        ≡ Done ∷ Refused (bare kind.NoSpace) ∷ Refused (bare kind.OpenExtent) ∷ Refused (bare kind.EmptyExtent)
-        ∷ Refused (bare kind.NoSuchExtent) ∷ [] }
-    ensures extents { extents_of (after_commands (short_disk 2 2)
-        (Put (key 97) (bytes 2100) ∷ Put (key 98) (bytes 2100) ∷ [])) ≡ (0, 2117, 2117) ∷ (0, 0, 0) ∷ [] }
+    ensures replies { replies (short_disk 2 2) three_reclaimed
+        ≡ Done ∷ map refused (kind.NoSpace ∷ kind.OpenExtent ∷ kind.EmptyExtent ∷ kind.NoSuchExtent ∷ []) }
+    ensures extents { extents_of (after_commands (short_disk 2 2) two_values) ≡ (0, 2117, 2117) ∷ (0, 0, 0) ∷ [] }
 {}
 
 // An extent is won back; its frame moves to the empty one, and that is current then.
 fn won_back()
-    ensures replies { replies (short_disk 2 3)
-        (Put (key 97) (bytes 2100) ∷ Put (key 98) (bytes 2100) ∷ Reclaim 0 ∷ []) ≡ Done ∷ Done ∷ Done ∷ [] }
-    ensures extents { extents_of (after_commands (short_disk 2 3)
-        (Put (key 97) (bytes 2100) ∷ Put (key 98) (bytes 2100) ∷ Reclaim 0 ∷ []))
+    ensures replies { replies (short_disk 2 3) one_reclaimed ≡ Done ∷ Done ∷ Done ∷ [] }
+    ensures extents { extents_of (after_commands (short_disk 2 3) one_reclaimed)
         ≡ (1, 0, 0) ∷ (0, 2117, 2117) ∷ (0, 2117, 2117) ∷ [] }
-    ensures entries { lengths_of (after_commands (short_disk 2 3)
-        (Put (key 97) (bytes 2100) ∷ Put (key 98) (bytes 2100) ∷ Reclaim 0 ∷ []))
-        ≡ (key 97, 2100) ∷ (key 98, 2100) ∷ [] }
-    ensures names { names_of (after_commands (short_disk 2 3)
-        (Put (key 97) (bytes 2100) ∷ Put (key 98) (bytes 2100) ∷ Reclaim 0 ∷ []))
+    ensures entries { lengths_of (after_commands (short_disk 2 3) one_reclaimed) ≡ (key 97, 2100) ∷ (key 98, 2100) ∷ [] }
+    ensures names { names_of (after_commands (short_disk 2 3) one_reclaimed)
         ≡ [] ∷ (0 ∷ []) ∷ (1 ∷ []) ∷ [] ∷ (3 ∷ []) ∷ (4 ∷ []) ∷ [] ∷ (6 ∷ []) ∷ (7 ∷ []) ∷ (8 ∷ []) ∷ [] }
 {}
 
 // And the extent that puts appended to.
 fn won_back_again()
-    ensures extents { extents_of (after_commands (short_disk 2 3)
-        (Put (key 97) (bytes 2100) ∷ Put (key 98) (bytes 2100) ∷ Reclaim 0 ∷ Reclaim 1 ∷ []))
+    ensures extents { extents_of (after_commands (short_disk 2 3) two_reclaimed)
         ≡ (1, 2117, 2117) ∷ (1, 0, 0) ∷ (0, 2117, 2117) ∷ [] }
-    ensures entries { lengths_of (after_commands (short_disk 2 3)
-        (Put (key 97) (bytes 2100) ∷ Put (key 98) (bytes 2100) ∷ Reclaim 0 ∷ Reclaim 1 ∷ []))
-        ≡ (key 97, 2100) ∷ (key 98, 2100) ∷ [] }
+    ensures entries { lengths_of (after_commands (short_disk 2 3) two_reclaimed) ≡ (key 97, 2100) ∷ (key 98, 2100) ∷ [] }
 {}
 
 // A current extent without a live frame is reset, and none is current then.
 fn a_current_one_is_reset()
-    ensures replies { replies (new_disk 2 2)
-        (Put (key 107) [] ∷ Delete (key 107) ∷ Reclaim 0 ∷ Reclaim 0 ∷ Put (key 109) (1 ∷ []) ∷ [])
-        ≡ Done ∷ Done ∷ Done ∷ Refused (bare kind.EmptyExtent) ∷ Done ∷ [] }
-    ensures extents { extents_of (after_commands (new_disk 2 2)
-        (Put (key 107) [] ∷ Delete (key 107) ∷ Reclaim 0 ∷ Reclaim 0 ∷ Put (key 109) (1 ∷ []) ∷ []))
-        ≡ (1, 18, 18) ∷ (0, 0, 0) ∷ [] }
-    ensures names { names_of (after_commands (new_disk 2 2)
-        (Put (key 107) [] ∷ Delete (key 107) ∷ Reclaim 0 ∷ Reclaim 0 ∷ Put (key 109) (1 ∷ []) ∷ []))
+    ensures replies { replies (new_disk 2 2) emptied ≡ Done ∷ Done ∷ Done ∷ refused kind.EmptyExtent ∷ Done ∷ [] }
+    ensures extents { extents_of (after_commands (new_disk 2 2) emptied) ≡ (1, 18, 18) ∷ (0, 0, 0) ∷ [] }
+    ensures names { names_of (after_commands (new_disk 2 2) emptied)
         ≡ [] ∷ (0 ∷ []) ∷ (1 ∷ []) ∷ [] ∷ (3 ∷ []) ∷ (4 ∷ []) ∷ (5 ∷ []) ∷ (6 ∷ 3 ∷ []) ∷ [] }
 {}
 
 // A shelf keeps what was deleted last and what left each extent, until it is reset.
 fn what_left_an_extent()
-    ensures left { (after_commands (new_disk 2 2)
-        (Put (key 107) [] ∷ Put (key 107) [] ∷ Delete (key 107) ∷ [])).shelf.left ≡ (5 ∷ 6 ∷ []) ∷ [] ∷ [] }
-    ensures none { (after_commands (new_disk 2 2)
-        (Put (key 107) [] ∷ Put (key 107) [] ∷ Delete (key 107) ∷ Reclaim 0 ∷ [])).shelf.left ≡ [] ∷ [] ∷ [] }
-    ensures deleted { (after_commands (new_disk 2 2)
-        (Put (key 107) [] ∷ Put (key 107) [] ∷ Delete (key 107) ∷ [])).shelf.last_delete ≡ Some 6 }
+    ensures left { (after_commands (new_disk 2 2) put_and_deleted).shelf.left ≡ (5 ∷ 6 ∷ []) ∷ [] ∷ [] }
+    ensures none { (after_commands (new_disk 2 2) (put_and_deleted ++ Reclaim 0 ∷ [])).shelf.left ≡ [] ∷ [] ∷ [] }
+    ensures deleted { (after_commands (new_disk 2 2) put_and_deleted).shelf.last_delete ≡ Some 6 }
 {}
 
 // Of the patches of two puts and a reclaim one is a move: the slot's of the reclaim.
 fn moves_of_a_reclaim()
-    ensures marks { marks_from (short_disk 2 3)
-        (calls_for (short_disk 2 3) (Put (key 97) (bytes 2100) ∷ Put (key 98) (bytes 2100) ∷ Reclaim 0 ∷ []))
+    ensures marks { marks_from (short_disk 2 3) (calls_for (short_disk 2 3) one_reclaimed)
         ≡ replicate 8 false ++ true ∷ false ∷ [] }
 {}
 
@@ -133,23 +98,18 @@ fn frames_in_order()
 
 // After an upgrade each slot that is filled comes after it.
 fn upgraded()
-    ensures replies { replies (new_disk 2 2) (Put (key 107) [] ∷ Upgrade ∷ Upgrade ∷ Put (key 107) [] ∷ [])
-        ≡ Done ∷ Done ∷ Refused (bare kind.AlreadyVersion2) ∷ Done ∷ [] }
-    ensures names { names_of (after_commands (new_disk 2 2)
-        (Put (key 107) [] ∷ Upgrade ∷ Upgrade ∷ Put (key 107) [] ∷ []))
+    ensures replies { replies (new_disk 2 2) upgraded_twice ≡ Done ∷ Done ∷ refused kind.AlreadyVersion2 ∷ Done ∷ [] }
+    ensures names { names_of (after_commands (new_disk 2 2) upgraded_twice)
         ≡ [] ∷ (0 ∷ []) ∷ (1 ∷ []) ∷ [] ∷ [] ∷ (4 ∷ []) ∷ (5 ∷ 3 ∷ []) ∷ [] }
 {}
 
 // A writer's patches come after those of the groups before its own, and a reclaim's are of no group.
 fn groups_in_order()
-    ensures replies { replies (new_disk 2 2)
-        (Group ∷ Engage 0 ∷ Put (key 97) [] ∷ Disengage 0 ∷ Group ∷ Depend 1 0 ∷ Engage 1 ∷ Engage 0 ∷ Pending 1
-        ∷ CloseGroup 1 ∷ CloseGroup 2 ∷ [])
-        ≡ GroupMade 0 ∷ Done ∷ Done ∷ Done ∷ GroupMade 1 ∷ Done ∷ Done ∷ Refused (bare kind.Sealed) ∷ Count 0
-        ∷ Refused (bare kind.Engaged) ∷ Refused (bare kind.NoSuchGroup) ∷ [] }
-    ensures names { names_of (after_commands (new_disk 2 2)
-        (Group ∷ Engage 0 ∷ Put (key 97) [] ∷ Disengage 0 ∷ Group ∷ Depend 1 0 ∷ Engage 1 ∷ Delete (key 97) ∷ Reclaim 0
-        ∷ [])) ≡ [] ∷ (0 ∷ []) ∷ (1 ∷ []) ∷ (0 ∷ 1 ∷ 2 ∷ []) ∷ (3 ∷ []) ∷ [] }
+    ensures replies { replies (new_disk 2 2) refused_in_order
+        ≡ GroupMade 0 ∷ Done ∷ Done ∷ Done ∷ GroupMade 1 ∷ Done ∷ Done
+        ∷ refused kind.Sealed ∷ Count 0 ∷ refused kind.Engaged ∷ refused kind.NoSuchGroup ∷ [] }
+    ensures names { names_of (after_commands (new_disk 2 2) deleted_in_order)
+        ≡ [] ∷ (0 ∷ []) ∷ (1 ∷ []) ∷ (0 ∷ 1 ∷ 2 ∷ []) ∷ (3 ∷ []) ∷ [] }
 {}
 
 // The lowest extent that has something, and room for a frame, is current when a store is opened.
@@ -158,7 +118,7 @@ fn opened_with()
     ensures full { (opened (read_with 65520 18)).current ≡ Some 1 }
     ensures none { (opened (read_with 0 65520)).current ≡ None }
     ensures spent { reply_of (at_opening [] (read_with 18 65520)) 0 (Reclaim 1)
-        ≡ Refused (bare kind.GenerationSpent) }
+        ≡ refused kind.GenerationSpent }
 {}
 
 // What is right.
@@ -177,9 +137,5 @@ fn right_and_wrong()
 
 // A book's entries tell where the steps of each call begin and end.
 fn calls_kept()
-    ensures counts { map {B = ℕ × ℕ × ℕ} (λ c. (c.writer, c.before, c.after)) (calls_of (record {
-      opening = [];
-      first = read_with 0 0;
-      events = Call 1 (Put (key 107) []) Done put_steps ∷ Moved (Send 3) ∷ Call 0 (Get (key 107)) (Value []) [] ∷ [];
-    })) ≡ (1, 0, 3) ∷ (0, 4, 4) ∷ [] }
+    ensures counts { counts_of put_sent_got ≡ (1, 0, 3) ∷ (0, 4, 4) ∷ [] }
 {}
