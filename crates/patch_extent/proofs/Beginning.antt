@@ -41,7 +41,8 @@ bad_record g blocks block e is known bad =
     list_any-from (λ x. is_err (pointer_at (largest_pointer g.format) (record_at g blocks x))) (range_with_len 0 g.extents) e inside there in
     rw some refl
 
-pub bad_rest : (g : Geometry) (blocks : List (List ℕ)) (block : List ℕ) → block ≡ block_on blocks (pointer_block g) → are_zeros (slice_range block (pointer_start g.extents) 4096) ≡ false → bad_pointers g blocks ≡ true
+pub bad_rest : (g : Geometry) (blocks : List (List ℕ)) (block : List ℕ) → block ≡ block_on blocks (pointer_block g) → are_zeros (slice_range block (pointer_start g.extents) 4096) ≡ false
+    → bad_pointers g blocks ≡ true
 bad_rest g blocks block is bad =
     let rest : are_zeros (slice_range (block_on blocks (pointer_block g)) (pointer_start g.extents) 4096) ≡ false = ap (λ b. are_zeros (slice_range b (pointer_start g.extents) 4096)) (sym is) ∙ bad in
     elim (cases_Bool (list_any (λ x. is_err (pointer_at (largest_pointer g.format) (record_at g blocks x))) (range_with_len 0 g.extents))) [
@@ -70,7 +71,8 @@ records_represent g run block each geometry blocks none is records rest =
         fits = λ e. elim (cases_lt e g.extents) [
           | inl known ↦ (records.records e known).fits
           | inr past ↦ let counted = records.counted in
-              subst (λ (k : Extent). Fits (largest_pointer g.format) k.pointer) (sym (get_or_past each e no_extent (omega (arith, past, counted)))) (record { generation = omega arith; offset = omega arith })
+              subst (λ (k : Extent). Fits (largest_pointer g.format) k.pointer) (sym (get_or_past each e no_extent (omega (arith, past, counted))))
+              (record { generation = omega arith; offset = omega arith })
         ];
       };
       blocks = blocks;

@@ -1,5 +1,6 @@
 -- What a plan leaves of the bytes below the pointers.
-use Rattle.std.proofs.Common.{◌≡◌, ◌≢◌, ℕ, zero, suc, ◌+◌, ◌-◌, ◌*◌, ◌/◌, ◌%◌, ◌<◌, ◌≤◌, ◌⊎◌, ◌∙◌, inl, inr, Bool, true, false, List, [], ◌∷◌, ◌++◌, length, map, take, drop, get_or, slice_range, Option, Some, None, refl, sym, ap, subst, append_assoc, append-nil, arith}
+use Rattle.std.proofs.Common.{◌≡◌, ◌≢◌, ℕ, zero, suc, ◌+◌, ◌-◌, ◌*◌, ◌/◌, ◌%◌, ◌<◌, ◌≤◌, ◌⊎◌, ◌∙◌, inl, inr, Bool, true, false, List, [], ◌∷◌, ◌++◌}
+use Rattle.std.proofs.Common.{length, map, take, drop, get_or, slice_range, Option, Some, None, refl, sym, ap, subst, append_assoc, append-nil, arith}
 use Rattle.std.specs.Prelude.{◌==◌, slice_index_or, option_to_list}
 use Rattle.std.specs.List.{range_with_len}
 use Rattle.std.proofs.lemmas.Bool.{cases_Bool, cases_lt}
@@ -65,7 +66,8 @@ geometry_stays s n (Data extent offset bytes) h = refl
 geometry_stays s n (Point extent generation offset) h = refl
 geometry_stays s n _ h = absurd h
 
-merge_stays : StateLaw → (run : Execution) (o : Option ℕ) (n : ℕ) → (patches_of (followed_by run (option_to_list (merge_with n o))) ≡ patches_of run) × ((followed_by run (option_to_list (merge_with n o))).first ≡ run.first)
+merge_stays : StateLaw → (run : Execution) (o : Option ℕ) (n : ℕ)
+    → (patches_of (followed_by run (option_to_list (merge_with n o))) ≡ patches_of run) × ((followed_by run (option_to_list (merge_with n o))).first ≡ run.first)
 merge_stays law run None n = (ap patches_of (followed_none run), refl)
 merge_stays law run (Some b) n = (patches_stay law run (Merge b n) refl, refl)
 
@@ -383,7 +385,11 @@ byte_put law bl run a old choices n h known room within =
     let first = parts a.extent (offset_at old.extents a.extent) a.bytes (names_behind old.extents a.extent a.after) k in
     let m : Made = record { change = part a.extent (offset_at old.extents a.extent) a.bytes k; after = names_behind old.extents a.extent a.after } in
     let f : ℕ → Made = λ (j : ℕ). record { change = part a.extent (offset_at old.extents a.extent) a.bytes j; after = names_behind old.extents a.extent a.after } in
-    let last : Made = record { change = Point a.extent (generation_at old.extents a.extent) (offset_at old.extents a.extent + length a.bytes); after = range_with_len (length (entries_of run)) (touched (offset_at old.extents a.extent) (length a.bytes)) } in
+    let last : Made = record {
+      change = Point a.extent (generation_at old.extents a.extent) (offset_at old.extents a.extent + length a.bytes);
+      after = range_with_len
+          (length (entries_of run)) (touched (offset_at old.extents a.extent) (length a.bytes));
+    } in
     let others = map f (range_with_len (k + 1) (count - (k + 1))) ++ last ∷ [] in
     let plan : plan_of run old.extents a ≡ first ++ m ∷ others =
     ap (λ ks. map f ks ++ last ∷ []) (ranges count k less)
@@ -403,11 +409,13 @@ byte_put law bl run a old choices n h known room within =
     let p = cut.here in
     let is = cut.here_is in
     let start = is.start in
-    let short : length p.bytes ≡ part_end offset (length a.bytes) k - part_start offset k = ap length is.bytes ∙ length_of_part a.bytes offset (part_start offset k) (part_end offset (length a.bytes) k) t.starts t.ends in
+    let short : length p.bytes ≡ part_end offset (length a.bytes) k - part_start offset k = ap length is.bytes
+    ∙ length_of_part a.bytes offset (part_start offset k) (part_end offset (length a.bytes) k) t.starts t.ends in
     let same : p.block ≡ first_block g e + i / 4096 = is.block ∙ ap (λ q. first_block g e + q) (block ∙ sym at) in
     let leaves : (j : ℕ) → j < count → j ≢ k → Leaves g (first_block g e + i / 4096) (i % 4096) (part e offset a.bytes j) =
     λ j under other. other_part g e offset a.bytes j k i some under room inside at other in
-    let off_first = all_off g b (i % 4096) first cut.first cut.first_are (each_part (Leaves g b (i % 4096)) e offset a.bytes names 0 k (λ j under. leaves j (omega (arith, under, less)) (λ s. absurd (omega (arith, under, s))))) in
+    let off_first = all_off g b (i % 4096) first cut.first cut.first_are
+    (each_part (Leaves g b (i % 4096)) e offset a.bytes names 0 k (λ j under. leaves j (omega (arith, under, less)) (λ s. absurd (omega (arith, under, s))))) in
     let off_rest = all_off g b (i % 4096) others cut.rest cut.rest_are
     (each_push (Leaves g b (i % 4096)) (map f (range_with_len (k + 1) (count - (k + 1)))) last
     (each_from (Leaves g b (i % 4096)) e offset a.bytes names (k + 1) (count - (k + 1)) (λ j above under. leaves j (omega (arith, under, less)) (λ s. absurd (omega (arith, above, s)))))
@@ -415,9 +423,11 @@ byte_put law bl run a old choices n h known room within =
     ap (λ blk. get_or blk (i % 4096) 0) (cached_on next (first_block g e + i / 4096) (omega (arith, there, kept)))
     ∙ ap (λ blk. get_or blk (i % 4096) 0) (cached_more g run next (plan_of run old.extents a) b adds)
     ∙ ap (λ ps. get_or (pile (cached (history_of run b)) (on_block b ps)) (i % 4096) 0) cut.are
-    ∙ put_once b (i % 4096) cut.first p cut.rest (cached (history_of run b)) long same (omega (arith, start, short, t.one_block)) (omega (arith, start, from, block, at, di, df)) (omega (arith, start, short, to, block, at, di, df)) off_first off_rest
+    ∙ put_once b (i % 4096) cut.first p cut.rest (cached (history_of run b)) long same (omega (arith, start, short, t.one_block)) (omega (arith, start, from, block, at, di, df))
+    (omega (arith, start, short, to, block, at, di, df)) off_first off_rest
     ∙ ap (λ bs. get_or bs (i % 4096 - p.start) 0) is.bytes
-    ∙ ap (λ x. get_or (slice_range a.bytes (part_start offset k - offset) (part_end offset (length a.bytes) k - offset)) x 0) (let z : i % 4096 - p.start ≡ i - part_start offset k = omega (arith, start, from, block, at, di, df) in z)
+    ∙ ap (λ x. get_or (slice_range a.bytes (part_start offset k - offset) (part_end offset (length a.bytes) k - offset)) x 0)
+    (let z : i % 4096 - p.start ≡ i - part_start offset k = omega (arith, start, from, block, at, di, df) in z)
     ∙ byte_of_part a.bytes (part_start offset k - offset) (part_end offset (length a.bytes) k - offset) (i - part_start offset k) (omega (arith, to, from, t.starts))
     ∙ ap (λ x. get_or a.bytes x 0) (let z : part_start offset k - offset + (i - part_start offset k) ≡ n = omega (arith, from, t.starts) in z)
 

@@ -1,5 +1,6 @@
 -- What the patches of an append come to.
-use Rattle.std.proofs.Common.{◌≡◌, ℕ, ◌+◌, ◌-◌, ◌/◌, ◌%◌, ◌<◌, ◌≤◌, ◌∙◌, Bool, true, false, List, [], ◌∷◌, ◌++◌, length, slice_range, Option, Some, None, Result, Ok, Err, refl, sym, ap, subst, append-nil, arith}
+use Rattle.std.proofs.Common.{◌≡◌, ℕ, ◌+◌, ◌-◌, ◌/◌, ◌%◌, ◌<◌, ◌≤◌, ◌∙◌, Bool, true, false, List, [], ◌∷◌, ◌++◌, length, slice_range, Option, Some}
+use Rattle.std.proofs.Common.{None, Result, Ok, Err, refl, sym, ap, subst, append-nil, arith}
 use Rattle.std.specs.Prelude.{◌==◌, if◌then◌else◌, slice_set, replicate, IfOk, OnOk, OnErr}
 use Rattle.std.specs.List.{range_with_len}
 use Rattle.std.proofs.lemmas.Bool.Decides.{nat_tests}
@@ -44,7 +45,8 @@ pub patched_there : (g : Geometry) (e offset k first off start stop : ℕ) (byte
     → IsPatched (first + start / 4096) (start % 4096) (slice_range bytes (start - off) (stop - off)) writer names gs c next_gs next num
     → IsPatched (block_of g (part e offset bytes k)) (start_of (part e offset bytes k)) (bytes_of g (part e offset bytes k)) writer names gs c next_gs next num
 patched_there g e offset k first off start stop bytes writer names gs next_gs c next num first_is off_is start_is stop_is h =
-    subst (λ f. IsPatched (f + part_start offset k / 4096) (part_start offset k % 4096) (slice_range bytes (part_start offset k - offset) (part_end offset (length bytes) k - offset)) writer names gs c next_gs next num) first_is
+    subst (λ f. IsPatched (f + part_start offset k / 4096) (part_start offset k % 4096)
+    (slice_range bytes (part_start offset k - offset) (part_end offset (length bytes) k - offset)) writer names gs c next_gs next num) first_is
     (subst (λ t. IsPatched (first + part_start offset k / 4096) (part_start offset k % 4096) (slice_range bytes (part_start offset k - offset) (t - offset)) writer names gs c next_gs next num) stop_is
     (subst (λ s. IsPatched (first + s / 4096) (s % 4096) (slice_range bytes (s - offset) (stop - offset)) writer names gs c next_gs next num) start_is
     (subst (λ o. IsPatched (first + start / 4096) (start % 4096) (slice_range bytes (start - o) (stop - o)) writer names gs c next_gs next num) off_is h)))
@@ -88,8 +90,13 @@ append_begun run a old gs c k names are le made =
     let count = touched (offset_at old.extents a.extent) (length a.bytes) in
     let behind = names_behind s a.extent a.after in
     let all = parts a.extent (offset_at s a.extent) a.bytes (names_behind s a.extent a.after) (touched (offset_at old.extents a.extent) (length a.bytes)) in
-    let last : Made = record { change = Point a.extent (generation_at s a.extent) (offset_at s a.extent + length a.bytes); after = range_with_len (length (entries_of run)) (touched (offset_at old.extents a.extent) (length a.bytes)) } in
-    let long : length all ≡ touched (offset_at old.extents a.extent) (length a.bytes) = length-parts a.extent (offset_at s a.extent) a.bytes (names_behind s a.extent a.after) (touched (offset_at old.extents a.extent) (length a.bytes)) in
+    let last : Made = record {
+      change = Point a.extent (generation_at s a.extent) (offset_at s a.extent + length a.bytes);
+      after = range_with_len (length (entries_of run))
+          (touched (offset_at old.extents a.extent) (length a.bytes));
+    } in
+    let long : length all ≡ touched (offset_at old.extents a.extent) (length a.bytes) = length-parts a.extent (offset_at s a.extent) a.bytes (names_behind s a.extent a.after)
+    (touched (offset_at old.extents a.extent) (length a.bytes)) in
     let longer : length (plan_of run old.extents a) ≡ touched (offset_at old.extents a.extent) (length a.bytes) + 1 = length-append all (last ∷ []) ∙ ap (λ n. n + 1) long in
     record {
       count = k;
@@ -122,7 +129,8 @@ some_offset offset len some = grind (arith, nat_tests)
 pub append_done : StateLaw → PointerLaw → BlockLaw → (run : Execution) (a : Append) (old : Setting) (gs1 gs2 : Groups) (c1 c2 c3 : Contents) (num : ℕ) (appended : Appended)
     → a.extent < old.extents.geometry.extents → 0 < length a.bytes
     → Fits (largest_pointer old.extents.geometry.format) (record { generation = generation_at old.extents a.extent; offset = offset_at old.extents a.extent + length a.bytes })
-    → AreMade run a.writer [] (parts a.extent (offset_at old.extents a.extent) a.bytes (names_behind old.extents a.extent a.after) (touched (offset_at old.extents a.extent) (length a.bytes))) old (setting old.extents gs1 c1)
+    → AreMade run a.writer [] (parts a.extent (offset_at old.extents a.extent) a.bytes (names_behind old.extents a.extent a.after)
+    (touched (offset_at old.extents a.extent) (length a.bytes))) old (setting old.extents gs1 c1)
     → IsPatched (pointer_block old.extents.geometry) (pointer_start a.extent)
     (spelling (record { generation = generation_at old.extents a.extent; offset = offset_at old.extents a.extent + length a.bytes }))
     a.writer (range_with_len (length (entries_of run)) (touched (offset_at old.extents a.extent) (length a.bytes))) gs1 c1 gs2 c2 num
@@ -138,7 +146,11 @@ append_done law pl bl run a old gs1 gs2 c1 c2 c3 num appended known some fits ma
     let gen = generation_at s a.extent in
     let to = offset_at s a.extent + length a.bytes in
     let plan = parts a.extent (offset_at s a.extent) a.bytes (names_behind s a.extent a.after) (touched (offset_at s a.extent) (length a.bytes)) in
-    let m : Made = record { change = Point a.extent (generation_at s a.extent) (offset_at s a.extent + length a.bytes); after = range_with_len (length (entries_of run)) (touched (offset_at s a.extent) (length a.bytes)) } in
+    let m : Made = record {
+      change = Point a.extent (generation_at s a.extent) (offset_at s a.extent + length a.bytes);
+      after = range_with_len (length (entries_of run))
+          (touched (offset_at s a.extent) (length a.bytes));
+    } in
     let mid = setting s gs1 c1 in
     let run1 = followed_by run (plan_steps run old a.writer [] plan) in
     let step = create_of mid a.writer m in
@@ -158,7 +170,8 @@ append_done law pl bl run a old gs1 gs2 c1 c2 c3 num appended known some fits ma
     let rep2 = point_made pl s run1 run2 (next_patch run1 (pointer_block g) (pointer_start e) spelled (named gs1 a.writer m.after) MayDrop) e gen to refl
     (patches_made law run1 (pointer_block g) (pointer_start e) spelled (named gs1 a.writer m.after) MayDrop) whole refl refl refl known fits rep1 in
     let new = setting (after_point s num e gen to) gs2 c3 in
-    let long : length plan ≡ touched (offset_at s a.extent) (length a.bytes) = length-parts a.extent (offset_at s a.extent) a.bytes (names_behind s a.extent a.after) (touched (offset_at s a.extent) (length a.bytes)) in
+    let long : length plan ≡ touched (offset_at s a.extent) (length a.bytes) = length-parts a.extent (offset_at s a.extent) a.bytes (names_behind s a.extent a.after)
+    (touched (offset_at s a.extent) (length a.bytes)) in
     let counted = made.counted in
     let behind : merge_with num (extent_at s a.extent).point ≡ merge_behind s (length (entries_of run1)) m.change =
     rw (some_offset (offset_at s a.extent) (length a.bytes) some) (ap (λ k. merge_with k (extent_at s a.extent).point) number) in
@@ -210,8 +223,10 @@ pub reset_done : StateLaw → PointerLaw → BlockLaw → (run : Execution) (ext
     → IsSettingOf old run
     → ((run : Execution) → IsCacheOf old.cache run → IsMade run (pointer_block old.extents.geometry) (pointer_start extent)
     (spelling (record { generation = generation_at old.extents extent + 1; offset = 0 })) after MayDrop num c2)
-    → c2.trace ≡ old.cache.trace ++ Create (pointer_block old.extents.geometry) (pointer_start extent) (spelling (record { generation = generation_at old.extents extent + 1; offset = 0 })) after MayDrop ∷ []
-    → (num ≡ length (entries_of run)) × IsWritten run None (reset_plan old.extents extent after) old (setting (after_point old.extents num extent (generation_at old.extents extent + 1) 0) old.groups c2)
+    → c2.trace ≡ old.cache.trace ++ Create (pointer_block old.extents.geometry) (pointer_start extent)
+    (spelling (record { generation = generation_at old.extents extent + 1; offset = 0 })) after MayDrop ∷ []
+    → (num ≡ length (entries_of run)) × IsWritten run None (reset_plan old.extents extent after) old
+    (setting (after_point old.extents num extent (generation_at old.extents extent + 1) 0) old.groups c2)
 reset_done law pl bl run extent after old c2 num known fits stands patched trace =
     let s = old.extents in
     let g = s.geometry in
@@ -255,7 +270,8 @@ pointed_is x k num gen to pointer reset point some =
     ∙ ap (λ y. let z : Extent = record { pointer = record { generation = gen; offset = to }; reset = y; point = x.point } in z) (reset ∙ sym same)
     ∙ ap (λ y. let z : Extent = record { pointer = record { generation = gen; offset = to }; reset = if to == 0 then Some num else k.reset; point = y } in z) point
 
-pub moved_is : (s t : Extents) (e num gen to : ℕ) (x : Extent) → s ≡ t → x ≡ pointed num gen to (extent_at t e) → (let z : Extents = record { geometry = s.geometry; each = slice_set s.each e x } in z) ≡ after_point t num e gen to
+pub moved_is : (s t : Extents) (e num gen to : ℕ) (x : Extent) → s ≡ t → x ≡ pointed num gen to (extent_at t e)
+    → (let z : Extents = record { geometry = s.geometry; each = slice_set s.each e x } in z) ≡ after_point t num e gen to
 moved_is s t e num gen to x same is =
     ap (λ (u : Extents). let z : Extents = record { geometry = u.geometry; each = slice_set u.each e x } in z) same
     ∙ ap (λ y. let z : Extents = record { geometry = t.geometry; each = slice_set t.each e y } in z) is

@@ -128,8 +128,10 @@ last_made run writer plan m old mid new chosen merge made is stands count trace 
     ap (λ s. merge_behind s (n + length plan) m.change) (sym made.extents_are) ∙ ap (λ k. merge_behind mid.extents k m.change) (sym made.counted) ∙ sym is in
     let last : steps_of (chosen ∷ []) (after_plan old.extents n plan) (with_patches old.groups writer n (length plan)) writer (n + length plan) (m ∷ []) ≡ more =
     last_steps chosen (after_plan old.extents n plan) (with_patches old.groups writer n (length plan)) writer (n + length plan) m
-    ∙ ap (λ s. step_of s.geometry (record m { after = named (with_patches old.groups writer n (length plan)) writer m.after }) ∷ merges chosen (merge_behind (after_plan old.extents n plan) (n + length plan) m.change)) (sym made.extents_are)
-    ∙ ap (λ gs. step_of mid.extents.geometry (record m { after = named gs writer m.after }) ∷ merges chosen (merge_behind (after_plan old.extents n plan) (n + length plan) m.change)) (sym made.groups_are)
+    ∙ ap (λ s. step_of s.geometry (record m { after = named (with_patches old.groups writer n (length plan)) writer m.after }) ∷ merges chosen
+    (merge_behind (after_plan old.extents n plan) (n + length plan) m.change)) (sym made.extents_are)
+    ∙ ap (λ gs. step_of mid.extents.geometry (record m { after = named gs writer m.after }) ∷ merges chosen (merge_behind (after_plan old.extents n plan) (n + length plan) m.change))
+    (sym made.groups_are)
     ∙ ap (λ x. step ∷ merges chosen x) behind in
     one_more_made run writer (replicate (length plan) false) (replicate (length plan) false ++ chosen ∷ []) plan m old mid new more quiet
     (joined old.extents old.groups writer n plan (m ∷ []) (replicate (length plan) false) (chosen ∷ []) (length-replicate (length plan) false)

@@ -29,7 +29,8 @@ map_same : (f h : ℕ → ℕ) (a b m : ℕ) → ((j : ℕ) → j < m → f (a +
 map_same f h a b zero same = refl
 map_same f h a b (suc m) same =
     let first : f a ≡ h b = ap f (let e : a ≡ a + 0 = omega arith in e) ∙ same 0 (omega arith) ∙ ap h (let e : b + 0 ≡ b = omega arith in e) in
-    let rest = map_same f h (a + 1) (b + 1) m (λ j less. ap f (let e : a + 1 + j ≡ a + (j + 1) = omega arith in e) ∙ same (j + 1) (omega (arith, less)) ∙ ap h (let e : b + (j + 1) ≡ b + 1 + j = omega arith in e)) in
+    let rest = map_same f h (a + 1) (b + 1) m (λ j less. ap f (let e : a + 1 + j ≡ a + (j + 1) = omega arith in e) ∙ same (j + 1) (omega (arith, less))
+    ∙ ap h (let e : b + (j + 1) ≡ b + 1 + j = omega arith in e)) in
     ap (λ x. x ∷ map f (range_with_len (a + 1) m)) first ∙ ap (λ xs. h b ∷ xs) rest
 
 pub range_both : (a n m : ℕ) → range_with_len a (n + m) ≡ range_with_len a n ++ range_with_len (a + n) m

@@ -154,7 +154,8 @@ point_made law s run next p e generation offset first patches long on at is know
     let few = r.whole.geometry.few_extents in
     let most = most_bytes g.format r.whole.geometry.format in
     let small : largest_pointer g.format < 2 ^ 32 = omega arith in
-    let back : pointer_of p.bytes ≡ record { generation = generation; offset = offset } = ap pointer_of is ∙ spelled law (largest_pointer g.format) (record { generation = generation; offset = offset }) small fits in
+    let back : pointer_of p.bytes ≡ record { generation = generation; offset = offset } = ap pointer_of is
+    ∙ spelled law (largest_pointer g.format) (record { generation = generation; offset = offset }) small fits in
     let count : length next.first ≡ block_count g = ap length first ∙ r.blocks in
     let there = pointer_block_there g in
     let bytes : length p.bytes ≡ 8 = ap length is in
@@ -192,7 +193,8 @@ point_made law s run next p e generation offset first patches long on at is know
           ∙ ap are_zeros (range_behind (cached (history_of run (pointer_block g))) p (pointer_start g.extents) 4096 fit (omega arith) (omega arith))
           ∙ ap (λ b. are_zeros (slice_range b (pointer_start g.extents) 4096)) (sym before) ∙ r.rest;
       resets = λ x in_range. elim (cases_eq x e) [
-        | inl same ↦ rw same (ap (λ y. y.reset) mine ∙ sym (ap (last_of (is_reset g e)) patches ∙ reset_last g e p generation offset (patches_of run) on_it at back ∙ ap (λ o. if offset == 0 then Some p.no else o) (sym (r.resets e known))))
+        | inl same ↦ rw same (ap (λ y. y.reset) mine ∙ sym (ap (last_of (is_reset g e)) patches ∙ reset_last g e p generation offset (patches_of run) on_it at back
+            ∙ ap (λ o. if offset == 0 then Some p.no else o) (sym (r.resets e known))))
         | inr other ↦ ap (λ y. y.reset) (theirs x other) ∙ r.resets x in_range ∙ sym (ap (last_of (is_reset g x)) patches ∙ last_before (is_reset g x) (patches_of run) p (off_reset g x e p at other))
       ];
       points = λ x in_range. elim (cases_eq x e) [

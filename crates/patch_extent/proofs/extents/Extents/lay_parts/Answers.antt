@@ -38,6 +38,7 @@ returns g c run h =
     let old = setting c.args.self.now c.args.groups.now c.args.cache.now in
     let a = asked c.args.writer.now c.args.extent c.args.bytes.now c.args.names.now in
     let all : c.loop-k.k ≡ c.touched-k-end.result = omega arith in
-    subst (λ n. AreMade run c.args.writer.now [] (parts_of (setting c.args.self.now c.args.groups.now c.args.cache.now) (asked c.args.writer.now c.args.extent c.args.bytes.now c.args.names.now) n) (setting c.args.self.now c.args.groups.now c.args.cache.now) (setting c.args.self.now c.loop-k.groups c.loop-k.cache))
+    subst (λ n. AreMade run c.args.writer.now [] (parts_of (setting c.args.self.now c.args.groups.now c.args.cache.now)
+    (asked c.args.writer.now c.args.extent c.args.bytes.now c.args.names.now) n) (setting c.args.self.now c.args.groups.now c.args.cache.now) (setting c.args.self.now c.loop-k.groups c.loop-k.cache))
     (all ∙ c.touched-k-end.ensures ∙ ap (λ o. touched o (length c.args.bytes.now)) offset)
     (c.loop-k.invariant run h)

@@ -19,7 +19,8 @@ returns-clause-answer g c groups run h =
     let e = c.args.extent in
     let after = c.args.after.now in
     let inside : c.args.extent < length c.args.self.now.each = omega (arith, h.represents.whole.count, c.in_ok-why_not_reset.ensures.known) in
-    let at : c.index.result.now ≡ extent_at c.args.self.now c.args.extent = get_or_read c.args.self.now.each c.args.extent c.index.result.now inside (c.index.ensures ∙ ap (λ t. get_or t.each c.args.extent c.index.result.now) c.self.view_is) no_extent in
+    let at : c.index.result.now ≡ extent_at c.args.self.now c.args.extent = get_or_read c.args.self.now.each c.args.extent c.index.result.now inside
+    (c.index.ensures ∙ ap (λ t. get_or t.each c.args.extent c.index.result.now) c.self.view_is) no_extent in
     let old = setting c.args.self.now groups c.args.cache.now in
     let c2 = c.lay_record.new.cache in
     let num = c.in_ok-no.no in
