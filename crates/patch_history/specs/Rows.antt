@@ -175,11 +175,11 @@ upgraded_twice = Put (key 107) [] ∷ Upgrade ∷ Upgrade ∷ Put (key 107) [] �
 abbrev pub in_order : List Command
 in_order = Group ∷ Engage 0 ∷ Put (key 97) [] ∷ Disengage 0 ∷ Group ∷ Depend 1 0 ∷ Engage 1 ∷ []
 
--- and calls that are refused, or count
-abbrev pub refused_in_order : List Command
-refused_in_order = in_order ++ Engage 0 ∷ Pending 1 ∷ CloseGroup 1 ∷ CloseGroup 2 ∷ []
+-- behind it, calls that are refused, or count
+abbrev pub refused_calls : List Command
+refused_calls = Engage 0 ∷ Pending 1 ∷ CloseGroup 1 ∷ CloseGroup 2 ∷ []
 
--- and a delete in the group 1, with a reclaim
+-- and in the group 1 a delete, with a reclaim
 abbrev pub deleted_in_order : List Command
 deleted_in_order = in_order ++ Delete (key 97) ∷ Reclaim 0 ∷ []
 

@@ -1,15 +1,14 @@
 //! What the definitions say of short scripts on new disks: facts that the prover computes.
-ghost use Rattle.std.specs.Prelude.{ℕ, true, false, replicate, ◌≡◌, List, [], ◌∷◌, ◌++◌, map, take, Some, None};
+ghost use Rattle.std.specs.Prelude.{true, false, replicate, ◌≡◌, [], ◌∷◌, ◌++◌, map, take, Some, None};
 ghost use Rattle.patch_model.specs.declared.refusals.RefusalKind.TheVariants as kind;
 ghost use Rattle.patch_model.specs.Refusing.{bare};
-ghost use Rattle.patch_model.specs.Step.{Send};
-ghost use Rattle.patch_history.specs.Command.{Command, Put, Get, Delete, Reclaim, Upgrade, Group, Engage, Disengage, Depend};
-ghost use Rattle.patch_history.specs.Command.{CloseGroup, Pending, Reply, Done, Value, Absent, GroupMade, Count, Refused};
+ghost use Rattle.patch_history.specs.Command.{Put, Get, Reclaim, Pending, Done, Value, Absent, GroupMade, Count, Refused};
 ghost use Rattle.patch_history.specs.Shelf.{opened};
 ghost use Rattle.patch_history.specs.Standing.{at_opening};
-ghost use Rattle.patch_history.specs.Rows.{new_disk, short_disk, asked, replies, after_commands, extents_of, lengths_of, live_slots, calls_for, names_of, key, bytes, put_steps, read_with};
+ghost use Rattle.patch_history.specs.Rows.{new_disk, short_disk, replies, after_commands, extents_of, lengths_of, live_slots, calls_for, names_of, key, put_steps, read_with, refused, counts_of};
+ghost use Rattle.patch_history.specs.Rows.{put_twice, deleted_twice, long_keys, long_values, three_keys, claimed_again, two_values, one_reclaimed, two_reclaimed, three_reclaimed, emptied, put_and_deleted, upgraded_twice, in_order, refused_calls, deleted_in_order, put_sent_got};
 ghost use Rattle.patch_history.specs.Closed.{marks_from};
-ghost use Rattle.patch_history.specs.History.{IsRight, Call, Moved, calls_of};
+ghost use Rattle.patch_history.specs.History.{IsRight, Call};
 ghost use Rattle.patch_history.specs.Refusing.{reply_of};
 
 // Puts, gets and deletes.
@@ -105,9 +104,10 @@ fn upgraded()
 
 // A writer's patches come after those of the groups before its own, and a reclaim's are of no group.
 fn groups_in_order()
-    ensures replies { replies (new_disk 2 2) refused_in_order
-        ≡ GroupMade 0 ∷ Done ∷ Done ∷ Done ∷ GroupMade 1 ∷ Done ∷ Done
-        ∷ refused kind.Sealed ∷ Count 0 ∷ refused kind.Engaged ∷ refused kind.NoSuchGroup ∷ [] }
+    ensures replies { replies (new_disk 2 2) in_order
+        ≡ GroupMade 0 ∷ Done ∷ Done ∷ Done ∷ GroupMade 1 ∷ Done ∷ Done ∷ [] }
+    ensures refused { replies (after_commands (new_disk 2 2) in_order) refused_calls
+        ≡ refused kind.Sealed ∷ Count 0 ∷ refused kind.Engaged ∷ refused kind.NoSuchGroup ∷ [] }
     ensures names { names_of (after_commands (new_disk 2 2) deleted_in_order)
         ≡ [] ∷ (0 ∷ []) ∷ (1 ∷ []) ∷ (0 ∷ 1 ∷ 2 ∷ []) ∷ (3 ∷ []) ∷ [] }
 {}

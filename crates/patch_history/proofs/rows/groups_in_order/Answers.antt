@@ -9,3 +9,7 @@ returns-clause-replies c = refl
 pub returns-clause-names : goal.returns-clause-names
 unfolding zeros
 returns-clause-names c = refl
+
+pub returns-clause-refused : goal.returns-clause-refused
+unfolding zeros
+returns-clause-refused c = refl
