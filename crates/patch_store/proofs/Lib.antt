@@ -1,0 +1,4 @@
+pub mod Gaining
+pub mod Engaging
+pub mod Writing
+pub mod Slots

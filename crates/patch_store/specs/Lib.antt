@@ -1,0 +1,4 @@
+pub mod Index
+pub mod Meaning
+pub mod Replies
+pub mod Sending
