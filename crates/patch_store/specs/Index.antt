@@ -1,7 +1,7 @@
 -- The slots as the code keeps them.
 use Rattle.std.specs.Prelude.{ℕ, List, Option, take, option_map}
 use Rattle.patch_frame.specs.Slot.{SlotFields}
-use Rattle.patch_store.specs.declared.keys.Key.{Key}
+use Rattle.patch_store.specs.declared.entries.Key.{Key}
 use Rattle.patch_store.specs.declared.entries.Entry.{Entry}
 
 -- the bytes of a key

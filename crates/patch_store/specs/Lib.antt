@@ -1,4 +1,6 @@
 pub mod Index
 pub mod Meaning
+pub mod Getting
+pub mod Making
 pub mod Replies
 pub mod Sending

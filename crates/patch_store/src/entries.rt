@@ -1,9 +1,16 @@
 //! What the index keeps of a used slot.
-ghost use Rattle.std.specs.Prelude.{◌≡◌, ◌≤◌, length};
-ghost use Rattle.patch_store.specs.Index.{key_of};
+ghost use Rattle.std.specs.Prelude.{◌+◌, ◌≤◌};
+ghost use Rattle.patch_frame.specs.declared.pointers.TheConstants.{MAX_POINTER};
 
-use crate::keys::Key;
 use patch_frame::MAX_KEY;
+
+/// A key of at most 32 bytes, in no memory of its own.
+#[derive(Clone, Copy)]
+pub(crate) struct Key {
+    pub(crate) bytes: [u8; MAX_KEY],
+    pub(crate) length: u32,
+    ghost fits: { length ≤ 32 },
+}
 
 /// The frame of a key: where it stands, and how many bytes it has.
 #[derive(Clone, Copy)]
@@ -14,26 +21,6 @@ pub(crate) struct Entry {
     pub(crate) generation: u32,
     pub(crate) offset: u32,
     pub(crate) length: u32,
-}
-
-impl Key {
-    /// The key of these bytes.
-    pub(crate) fn of(bytes: &[u8]) -> Key
-        requires { length bytes.now ≤ MAX_KEY }
-        ensures { key_of result ≡ bytes.now }
-    {
-        let mut kept = [0; MAX_KEY];
-        kept[..bytes.len()].copy_from_slice(bytes);
-        Key {
-            bytes: kept,
-            length: bytes.len(),
-        }
-    }
-
-    /// The bytes of the key.
-    pub(crate) fn as_slice(&self) -> &[u8]
-        ensures { result.now ≡ key_of self.now }
-    {
-        &self.bytes[..self.length]
-    }
+    ghost within: { offset + length ≤ MAX_POINTER },
+    ghost whole: { 16 + key.length ≤ length },
 }

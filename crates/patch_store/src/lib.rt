@@ -1,14 +1,17 @@
 //! A chunk store over a patch cache: a map on slots and frames, reclaimed, upgraded and opened.
 //!
-//! A [`Store`] is defined in `stores`. Its calls stand by themselves: those of groups in `grouping`, `send` and `complete` in
-//! `sending`.
+//! A [`Store`] is defined in `stores`. Its calls stand by themselves: `get` in `getting`, those of groups in `grouping`, `send`
+//! and `complete` in `sending`. `make`, in `making`, gives the blocks of a new disk.
 #![tactic(auto)]
 
 mod entries;
+mod getting;
 mod grouping;
 mod indexes;
 mod keys;
+mod making;
 mod sending;
 mod stores;
 
+pub use making::make;
 pub use stores::Store;
