@@ -5,3 +5,4 @@ pub mod Slots
 pub mod Values
 pub mod Disks
 pub mod Finding
+pub mod Extents

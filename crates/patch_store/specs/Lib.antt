@@ -1,5 +1,6 @@
 pub mod Index
 pub mod Meaning
+pub mod Choosing
 pub mod Getting
 pub mod Making
 pub mod Replies

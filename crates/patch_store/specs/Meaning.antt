@@ -3,7 +3,7 @@ use Rattle.std.specs.Prelude.{ℕ, ◌≡◌, ◌<◌, IfSome, List, ◌++◌, l
 use Rattle.patch_model.specs.Step.{Step}
 use Rattle.patch_cache.specs.Contents.{Contents}
 use Rattle.patch_cache.specs.Meaning.{Represents as IsCacheOf}
-use Rattle.patch_frame.specs.Geometry.{slot_count}
+use Rattle.patch_frame.specs.Geometry.{IsGeometry, slot_count}
 use Rattle.patch_group.specs.Groups.{Groups}
 use Rattle.patch_history.specs.Command.{Command, Reply}
 use Rattle.patch_history.specs.Shelf.{Shelf}
@@ -16,8 +16,10 @@ pub record Store : Type 0 where
   pub groups : Groups
   pub shelf : Shelf
 
--- each slot of the index is kept, and of each extent what has left it; the current extent is one of the disk
+-- the disk is divided as one may be; each slot of the index is kept, and of each extent what has left it; the current
+-- extent is one of the disk
 pub record IsWhole (s : Shelf) : Type 0 where
+  pub geometry : IsGeometry s.extents.geometry
   pub slots : length s.slots ≡ slot_count s.extents.geometry
   pub left : length s.left ≡ s.extents.geometry.extents
   pub current : IfSome s.current (λ extent. extent < s.extents.geometry.extents)

@@ -4,6 +4,7 @@
 //! and `complete` in `sending`. `make`, in `making`, gives the blocks of a new disk.
 #![tactic(auto)]
 
+mod choosing;
 mod entries;
 mod getting;
 mod grouping;

@@ -1,0 +1,77 @@
+//! Which slot and which extent are taken.
+ghost use Rattle.std.specs.Prelude.{◌≡◌, ◌<◌, IfSome};
+ghost use Rattle.patch_history.specs.Choosing.{slot_for as the_slot_for, has_room as fits_behind, current_for as the_current_for, first_of_any, extent_for_put as the_extent_for_put, extent_for_move as the_extent_for_move};
+ghost use Rattle.patch_store.specs.Choosing.{empty_from};
+
+use crate::stores::Store;
+use std::alloc::Allocator;
+
+impl<A: Allocator + Copy> Store<A> {
+    /// The key's own slot, or for a new key the lowest empty one.
+    pub(crate) fn slot_for(&self, key: &[u8]) -> Option<u32>
+        ensures { result ≡ the_slot_for self.now.shelf key.now }
+    {
+        match self.index.slot_of(key) {
+            Some(slot) => Some(slot),
+            None => self.index.empty_slot(),
+        }
+    }
+
+    /// Where the frame of a put goes: to the current extent, or where it doesn't fit there to the lowest empty one, of which the
+    /// last is kept.
+    pub(crate) fn extent_for_put(&self, len: u32) -> Option<u32>
+        ensures { result ≡ the_extent_for_put self.now.shelf len }
+    {
+        if let Some(extent) = self.current_for(len) {
+            return Some(extent);
+        }
+        let first = self.first_empty(0)?;
+        let _kept = self.first_empty(first + 1)?;
+        Some(first)
+    }
+
+    /// Where a frame goes that is moved: it may take the last empty extent.
+    pub(crate) fn extent_for_move(&self, len: u32) -> Option<u32>
+        ensures { result ≡ the_extent_for_move self.now.shelf len }
+    {
+        match self.current_for(len) {
+            Some(extent) => Some(extent),
+            None => self.first_empty(0),
+        }
+    }
+
+    /// The current extent, where so many bytes fit.
+    fn current_for(&self, len: u32) -> Option<u32>
+        ensures { result ≡ the_current_for self.now.shelf len }
+    {
+        let extent = self.current?;
+        if self.has_room(len, extent) {
+            Some(extent)
+        } else {
+            None
+        }
+    }
+
+    /// Whether so many bytes fit behind the extent's pointer.
+    fn has_room(&self, len: u32, extent: u32) -> bool
+        requires { extent < self.now.shelf.extents.geometry.extents }
+        ensures { result ≡ fits_behind self.now.shelf len extent }
+    {
+        let (_, offset) = self.extents.pointer(extent);
+        offset.saturating_add(len) <= self.geometry.format.largest_pointer()
+    }
+
+    /// The lowest empty extent from this one on.
+    fn first_empty(&self, first: u32) -> Option<u32>
+        ensures value { result ≡ first_of_any (empty_from self.now.shelf first) }
+        ensures few { IfSome result (λ extent. extent < 254) }
+    {
+        for extent in first..self.geometry.extents {
+            let (_, offset) = self.extents.pointer(extent);
+            if offset == 0 {
+                return Some(extent);
+            }
+        }
+        None
+    }
+}
