@@ -85,6 +85,12 @@ pub viewed : {h : History} {writer : ℕ} {command : Command} {reply : Reply} {o
 viewed {h = h} {writer = writer} {command = command} {reply = reply} {new = new} is said =
     subst (λ s. Represents s h → HasAnswered h writer command reply s new) is said
 
+-- and of a store that stays as it is
+pub viewed_same : {h : History} {writer : ℕ} {command : Command} {reply : Reply} {old now : Store} → old ≡ now
+    → (Represents old h → HasAnswered h writer command reply old old) → Represents now h → HasAnswered h writer command reply now now
+viewed_same {h = h} {writer = writer} {command = command} {reply = reply} is said =
+    subst (λ s. Represents s h → HasAnswered h writer command reply s s) is said
+
 -- a trace has no part in what a store represents
 pub drained_so : (h : History) (old : Store) (cache : Contents) → Represents old h → ((run : Execution) → IsCacheOf old.cache run → IsCacheOf cache run)
     → Represents (record old { cache = cache }) h

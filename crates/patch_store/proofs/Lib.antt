@@ -6,3 +6,4 @@ pub mod Values
 pub mod Disks
 pub mod Finding
 pub mod Extents
+pub mod Removing

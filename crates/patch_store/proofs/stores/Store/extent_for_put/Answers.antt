@@ -1,4 +1,4 @@
-use Rattle.std.proofs.Common.{◌<◌, ◌∙◌, arith}
+use Rattle.std.proofs.Common.{◌∙◌, arith}
 use Rattle.patch_store.proofs.Extents.{put_kept, put_taken}
 use Rattle.patch_store.proofs.stores.Store.extent_for_put.Goals as goal
 
