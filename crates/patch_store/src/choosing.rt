@@ -1,6 +1,7 @@
 //! Which slot and which extent are taken.
 ghost use Rattle.std.specs.Prelude.{◌≡◌, ◌<◌, IfSome};
-ghost use Rattle.patch_history.specs.Choosing.{slot_for as the_slot_for, has_room as fits_behind, current_for as the_current_for, first_of_any, extent_for_put as the_extent_for_put, extent_for_move as the_extent_for_move};
+ghost use Rattle.patch_history.specs.Choosing.{slot_for as the_slot_for, has_room as fits_behind, current_for as the_current_for, first_of_any};
+ghost use Rattle.patch_history.specs.Choosing.{extent_for_put as the_extent_for_put, extent_for_move as the_extent_for_move};
 ghost use Rattle.patch_store.specs.Choosing.{empty_from};
 
 use crate::stores::Store;

@@ -1,5 +1,5 @@
 //! How a key is taken away.
-ghost use Rattle.std.specs.Prelude.{◌≡◌, ◌≢◌, Some, None, IfOk, IfErr, OnOk, OnErr, option_to_list, MatchResult, length, ◌<◌};
+ghost use Rattle.std.specs.Prelude.{◌≡◌, Some, IfOk, OnErr, option_to_list, length, ◌<◌};
 ghost use Rattle.patch_frame.specs.Geometry.{slot_block as the_slot_block, slot_start as the_slot_start};
 ghost use Rattle.patch_frame.specs.Field.{zeros};
 ghost use Rattle.patch_extent.specs.Appending.{LaysPatch};

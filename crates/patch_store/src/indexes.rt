@@ -1,5 +1,5 @@
 //! The index: what each slot says.
-ghost use Rattle.std.specs.Prelude.{◌≡◌, ◌<◌, ◌≤◌, ◌++◌, ◌∷◌, [], Some, None, length, position, is_none, option_map, slice_index_or, slice_set, IfOk, OnOk, OnErr};
+ghost use Rattle.std.specs.Prelude.{◌≡◌, ◌<◌, ◌≤◌, ◌++◌, ◌∷◌, [], Some, None, length, position, is_none, slice_index_or, slice_set, IfOk, OnOk, OnErr};
 ghost use Rattle.patch_recovery.specs.Reading.{has_key as is_of};
 ghost use Rattle.patch_store.specs.Index.{fields_of, told};
 

@@ -1,7 +1,7 @@
 //! The blocks of a new disk.
-ghost use Rattle.std.specs.Prelude.{◌≡◌, ◌-◌, ◌∷◌, [], Ok, Err, IsTrue, IsFalse, IfOk, IfErr, replicate};
+ghost use Rattle.std.specs.Prelude.{◌≡◌, ◌-◌, Ok, Err, IsTrue, IsFalse, IfOk};
 ghost use Rattle.patch_frame.specs.Field.{zeros};
-ghost use Rattle.patch_frame.specs.Geometry.{IsGeometry, is_geometry, block_count};
+ghost use Rattle.patch_frame.specs.Geometry.{IsGeometry, is_geometry};
 ghost use Rattle.patch_frame.specs.Superblock.{spelling as superblock};
 ghost use Rattle.patch_history.specs.declared.refusals.MakeRefusal.TheVariants as refusal;
 ghost use Rattle.patch_store.specs.Making.{new_disk, IsNewDisk};

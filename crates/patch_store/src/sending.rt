@@ -1,9 +1,8 @@
 //! How writes of the store's blocks begin and end.
 ghost use Rattle.std.specs.Prelude.{◌≡◌, None, IfOk, IfErr, OnErr, Contains};
-ghost use Rattle.patch_model.specs.Step.{Send, Complete};
-ghost use Rattle.patch_model.specs.State.{entries_of, state_of, flying_of, numbers_of};
-ghost use Rattle.patch_history.specs.History.{History, Moved, execution_of};
-ghost use Rattle.patch_store.specs.Meaning.{Represents, HasGained};
+ghost use Rattle.patch_model.specs.State.{state_of};
+ghost use Rattle.patch_history.specs.History.{History, execution_of};
+ghost use Rattle.patch_store.specs.Meaning.{Represents};
 ghost use Rattle.patch_store.specs.Sending.{HasSent, HasEnded};
 
 use crate::stores::Store;
