@@ -10,6 +10,7 @@ use Rattle.patch_history.specs.declared.refusals.GetRefusal.{GetRefusal}
 use Rattle.patch_history.specs.History.{History, standing_of}
 use Rattle.patch_history.specs.Refusals.{get_cause}
 use Rattle.patch_history.specs.Refusing.{why_no_key}
+use Rattle.patch_store.specs.Meaning.{Store}
 
 -- the value is that of the map of the commands; a key that can't be one is refused
 abbrev pub IsGot : {A : Type 0} → History → (key : List ℕ) → Result (Option (Vec ℕ A)) GetRefusal → Type 0
@@ -20,3 +21,7 @@ IsGot h key result = MatchResult result
 -- the bytes of the value in the frame that a slot names, as they are cached: they stand behind the key
 abbrev pub value_bytes : Geometry → Execution → SlotFields → List ℕ
 value_bytes g run f = cached_bytes g run f.extent (f.offset + (12 + length f.key)) (f.length - 16 - length f.key)
+
+-- where the store's cache has them
+abbrev pub value_kept : Store → Execution → SlotFields → List ℕ
+value_kept s run f = value_bytes s.shelf.extents.geometry run f

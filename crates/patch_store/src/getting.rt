@@ -4,7 +4,7 @@ ghost use Rattle.patch_model.specs.Execution.{Execution};
 ghost use Rattle.patch_cache.specs.Meaning.{Represents as IsCacheOf};
 ghost use Rattle.patch_extent.specs.Meaning.{Represents as AreExtentsOf};
 ghost use Rattle.patch_history.specs.History.{History};
-ghost use Rattle.patch_store.specs.Getting.{IsGot, value_bytes};
+ghost use Rattle.patch_store.specs.Getting.{IsGot, value_kept};
 ghost use Rattle.patch_store.specs.Index.{fields_of};
 ghost use Rattle.patch_store.specs.Meaning.{Represents};
 
@@ -46,8 +46,8 @@ impl<A: Allocator + Copy> Store<A> {
 
     /// The bytes of a frame's value.
     fn value_of(&self, entry: &Entry) -> Result<Vec<u8, A>, OutOfMemory>
-        ensures { (run : Execution) → IsCacheOf self.now.cache run → AreExtentsOf self.now.shelf.extents run → IfOk result (λ value.
-            value.items ≡ value_bytes self.now.shelf.extents.geometry run (fields_of entry.now)) }
+        ensures { (run : Execution) → IsCacheOf self.now.cache run → AreExtentsOf self.now.shelf.extents run
+            → IfOk result (λ value. value.items ≡ value_kept self.now run (fields_of entry.now)) }
     {
         let key = entry.key.as_slice().len() as u32;
         let place = Place {
