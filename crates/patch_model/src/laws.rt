@@ -3,7 +3,7 @@ ghost use Rattle.std.specs.Prelude.{ℕ, ◌≡◌, ◌≢◌, ◌<◌, ◌≤�
 ghost use Rattle.std.specs.List.{list_any};
 ghost use Rattle.std.specs.List.Sorted.{IsNonDecreasing};
 ghost use Rattle.patch_model.specs.declared.blocks.TheConstants.{BLOCK};
-ghost use Rattle.patch_model.specs.declared.limits.TheConstants.{MAX_BLOCKS, MAX_PATCHES, MAX_LIVE};
+ghost use Rattle.patch_model.specs.declared.limits.TheConstants.{MAX_BLOCKS, MAX_WRITER, MAX_PATCHES, MAX_LIVE};
 ghost use Rattle.patch_model.specs.declared.patches.Undo.{Undo};
 ghost use Rattle.patch_model.specs.Patch.{Patch};
 ghost use Rattle.patch_model.specs.Step.{Step, Create, Merge, Send, Complete};
@@ -92,6 +92,15 @@ pub fn executions_are_orderly()
     ensures numbered { (run : Execution) → IsNumbered (entries_of run) }
     ensures blocks { (run : Execution) (block : ℕ) → IsLegal run → block < length run.first
         → IsOrderlyBlock (history_of run block) block }
+{}
+
+/// The limits that all else names by their constants, in numbers.
+pub fn limits_are_numbers()
+    ensures bytes { BLOCK ≡ 4096 }
+    ensures blocks { MAX_BLOCKS ≡ 4096 }
+    ensures writer { MAX_WRITER ≡ 7 }
+    ensures patches { MAX_PATCHES ≡ 16777216 }
+    ensures live { MAX_LIVE ≡ 65536 }
 {}
 
 /// How many blocks, patches, live patches and sends an execution has at most; and that it may begin with so many blocks.
