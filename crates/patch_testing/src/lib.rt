@@ -3,6 +3,8 @@
 
 mod blocks;
 mod heaps;
+#[cfg(test)]
+mod tests;
 
 pub use blocks::zeros;
 pub use heaps::{Ballast, HEAP, fill, hole_of};
