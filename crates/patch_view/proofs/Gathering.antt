@@ -113,6 +113,46 @@ undoable-may h k r soft =
     let m = r.marked q.0 q.1 is in
     ap (λ z. z && not k.hard) (sym m.1) ∙ ap (λ z. is_memory q.0 && not z) (sym m.2) ∙ soft q.0 q.1 is
 
+-- two classes may be made one at the place of the lower one, where the higher one depends on none between them
+placed-joins : (b : Block) (h : History) (low high : ℕ) (c : Class) → IsMerged (class_at b low) (class_at b high) c → low < high → high < length b.classes → Represents b [] h
+    → MayJoin h.entries (class_at b low).name (class_at b high).name
+    → ((k : ℕ) → low < k → k < high → class_depends h.entries (class_at b high).name (class_at b k).name ≡ false)
+    → Represents (settled_at b low high c) [] (with_joined h (class_at b low).name (class_at b high).name)
+placed-joins b h low high c is_c less within r m free =
+    let w_l : low < length b.classes = omega arith in
+    let q = list_any-at (λ e. e.class == (class_at b low).name && list_any (λ f. f.class == (class_at b high).name && nat_le e.patch.start (end f.patch) && nat_le f.patch.start (end e.patch)) h.entries) h.entries m.near in
+    let p = and_parts _ _ q.2 in
+    let v = list_any-at (λ f. f.class == (class_at b high).name && nat_le q.0.patch.start (end f.patch) && nat_le f.patch.start (end q.0.patch)) h.entries p.1 in
+    let u = and_parts _ _ v.2 in
+    let u2 = and_parts _ _ u.0 in
+    let a = member-span h (class_at b low) q.0 r.coherent (r.classes low w_l) q.1 (eqb-true _ _ p.0) in
+    let z = member-span h (class_at b high) v.0 r.coherent (r.classes high within) v.1 (eqb-true _ _ u2.0) in
+    let t1 : q.0.patch.start ≤ end v.0.patch = leb-true _ _ u2.1 in
+    let t2 : v.0.patch.start ≤ end q.0.patch = leb-true _ _ u.1 in
+    let a0 : (class_at b low).start ≤ q.0.patch.start = a.0 in
+    let a1 : end q.0.patch ≤ (class_at b low).stop = a.1 in
+    let b0 : (class_at b high).start ≤ v.0.patch.start = z.0 in
+    let b1 : end v.0.patch ≤ (class_at b high).stop = z.1 in
+    joins b h low high c r (record {
+      less = less;
+      within = within;
+      may_low = undoable-may h (class_at b low) (r.classes low w_l) (λ e i is. m.undoable e (Contains-from_In h.entries e i) (inl is));
+      may_high = undoable-may h (class_at b high) (r.classes high within) (λ e i is. m.undoable e (Contains-from_In h.entries e i) (inr is));
+      near_a = omega arith;
+      near_b = omega arith;
+      free = free;
+    }) is_c
+
+-- as where the higher one follows none
+pub free-joins : (b : Block) (h : History) (low high : ℕ) (c : Class) → IsMerged (class_at b low) (class_at b high) c → low < high → high < length b.classes → Represents b [] h
+    → ((k : ℕ) → low + 1 ≤ k → k < high → follows b high k ≡ false)
+    → MayJoin h.entries (class_at b low).name (class_at b high).name
+    → Represents (settled_at b low high c) [] (with_joined h (class_at b low).name (class_at b high).name)
+free-joins b h low high c is_c less within r none may = placed-joins b h low high c is_c less within r may (λ k f t.
+    let w_k : k < length b.classes = omega arith in
+    let apart : (class_at b high).name ≢ (class_at b k).name = (λ z. let e : high ≡ k = r.distinct high k within w_k z in omega arith) in
+    sym (linked_as r high k within w_k apart) ∙ none k (omega arith) t)
+
 -- gathered, the two may be made one
 pub gathered-joins : (old new : Block) (h : History) (low high front : ℕ) (c : Class) → IsMerged (class_at old low) (class_at old high) c → low < high → high < length old.classes → Represents old [] h → IsGatheredTo old new low high front high
     → MayJoin h.entries (class_at old low).name (class_at old high).name
@@ -127,37 +167,16 @@ gathered-joins old new h low high front c is_c less within r g may =
     let same_high : class_at old high ≡ class_at new high = sym (g.same_rest high (omega arith)) in
     let m : MayJoin h.entries (class_at new front).name (class_at new high).name =
     subst (λ n. MayJoin h.entries n (class_at new high).name) (ap (λ c. c.name) same_low) (subst (λ n. MayJoin h.entries (class_at old low).name n) (ap (λ c. c.name) same_high) may) in
-    let q = list_any-at (λ e. e.class == (class_at new front).name && list_any (λ f. f.class == (class_at new high).name && nat_le e.patch.start (end f.patch) && nat_le f.patch.start (end e.patch)) h.entries) h.entries m.near in
-    let p = and_parts _ _ q.2 in
-    let v = list_any-at (λ f. f.class == (class_at new high).name && nat_le q.0.patch.start (end f.patch) && nat_le f.patch.start (end q.0.patch)) h.entries p.1 in
-    let u = and_parts _ _ v.2 in
-    let u2 = and_parts _ _ u.0 in
-    let a = member-span h (class_at new front) q.0 s.coherent (s.classes front w_f) q.1 (eqb-true _ _ p.0) in
-    let b = member-span h (class_at new high) v.0 s.coherent (s.classes high w_h) v.1 (eqb-true _ _ u2.0) in
-    let t1 : q.0.patch.start ≤ end v.0.patch = leb-true _ _ u2.1 in
-    let t2 : v.0.patch.start ≤ end q.0.patch = leb-true _ _ u.1 in
-    let a0 : (class_at new front).start ≤ q.0.patch.start = a.0 in
-    let a1 : end q.0.patch ≤ (class_at new front).stop = a.1 in
-    let b0 : (class_at new high).start ≤ v.0.patch.start = b.0 in
-    let b1 : end v.0.patch ≤ (class_at new high).stop = b.1 in
     let is_new : IsMerged (class_at new front) (class_at new high) c =
     subst (λ z. IsMerged z (class_at new high) c) same_low (subst (λ z. IsMerged (class_at old low) z c) same_high is_c) in
     subst (λ z. Represents (settled_at new front high c) [] (with_joined h z.name (class_at old high).name)) (sym same_low)
     (subst (λ z. Represents (settled_at new front high c) [] (with_joined h (class_at new front).name z.name)) (sym same_high)
-    (joins new h front high c s (record {
-      less = to;
-      within = w_h;
-      may_low = undoable-may h (class_at new front) (s.classes front w_f) (λ e i is. m.undoable e (Contains-from_In h.entries e i) (inl is));
-      may_high = undoable-may h (class_at new high) (s.classes high w_h) (λ e i is. m.undoable e (Contains-from_In h.entries e i) (inr is));
-      near_a = omega arith;
-      near_b = omega arith;
-      free = λ k f t. false_from_ne_true (class_depends h.entries (class_at new high).name (class_at new k).name) (λ on.
-          let w_k : k < length new.classes = omega arith in
-          let not_high : (class_at new high).name ≢ (class_at new k).name = (λ z. let e : high ≡ k = s.distinct high k w_h w_k z in omega arith) in
-          let not_low : (class_at new k).name ≢ (class_at new front).name = (λ z. let e : k ≡ front = s.distinct k front w_k w_f z in omega arith) in
-          m.none_between (class_at new k).name not_low (λ z. not_high (sym z))
-          (inr (one on, g.carried h r k f t)));
-    }) is_new))
+    (placed-joins new h front high c is_new to w_h s m (λ k f t. false_from_ne_true (class_depends h.entries (class_at new high).name (class_at new k).name) (λ on.
+    let w_k : k < length new.classes = omega arith in
+    let not_high : (class_at new high).name ≢ (class_at new k).name = (λ z. let e : high ≡ k = s.distinct high k w_h w_k z in omega arith) in
+    let not_low : (class_at new k).name ≢ (class_at new front).name = (λ z. let e : k ≡ front = s.distinct k front w_k w_f z in omega arith) in
+    m.none_between (class_at new k).name not_low (λ z. not_high (sym z))
+    (inr (one on, g.carried h r k f t))))))
 
 pub joined-comm : (c d : ℕ) (e : Entry) → joined c d e ≡ joined d c e
 joined-comm c d e = elim (cases_in c d e) [

@@ -21,3 +21,4 @@ pub mod Lawful
 pub mod Sweeping
 pub mod Together
 pub mod Leaving
+pub mod Clear

@@ -1,6 +1,7 @@
 -- What the calls of a view answer.
-use Rattle.std.specs.Prelude.{ℕ, ◌≡◌, ◌↔◌, IsTrue, IsFalse, List, [], Some, None, Result, MatchResult, IsOk}
-use Rattle.patch_model.specs.Entry.{Entry, is_among, is_undoable}
+use Rattle.std.specs.Prelude.{ℕ, Bool, ◌≡◌, ◌↔◌, IsTrue, IsFalse, List, [], Some, None, Result, MatchResult, IsOk}
+use Rattle.std.specs.List.{list_all}
+use Rattle.patch_model.specs.Entry.{Entry, is_among, is_undoable, is_durable}
 use Rattle.patch_model.specs.Member.{In}
 use Rattle.patch_model.specs.History.{History, HoldsDependents, Take, Back, moved, without}
 use Rattle.patch_model.specs.Refusing.{why_not_taken, why_not_put_back, class_named}
@@ -84,3 +85,7 @@ IsAsBefore old new =
 -- these are the block's bytes without the classes that are taken
 abbrev pub Shows : Block → List ℕ → Type 0
 Shows b bytes = (h : History) (taken : List ℕ) → Represents b taken h → bytes ≡ without h taken
+
+-- whether all patches of the block are durable, whichever classes are taken
+abbrev pub TellsClear : Block → Bool → Type 0
+TellsClear b result = (h : History) (taken : List ℕ) → Represents b taken h → result ≡ list_all is_durable h.entries

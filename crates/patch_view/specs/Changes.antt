@@ -1,5 +1,5 @@
 -- What the calls that change a block's records make of the history that these represent, where nothing is taken.
-use Rattle.std.specs.Prelude.{ℕ, Bool, true, false, ◌≡◌, ◌+◌, ◌≤◌, List, [], length, map, Option, Result, OnOk}
+use Rattle.std.specs.Prelude.{ℕ, true, false, ◌≡◌, ◌+◌, ◌≤◌, List, [], length, map, Option, Result, OnOk}
 use Rattle.std.specs.List.Sorted.{IsNonDecreasing}
 use Rattle.patch_model.specs.declared.blocks.TheConstants.{BLOCK}
 use Rattle.patch_model.specs.declared.patches.Undo.{Undo}

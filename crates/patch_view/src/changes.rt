@@ -222,15 +222,20 @@ impl<A: Allocator> BlockState<A> {
         let _gone = self.classes.remove(high);
     }
 
-    /// Puts the record of the classes at two places in place of both.
+    /// Puts the record of the classes at two places in place of both. Where the higher one depends on none between them, as the
+    /// newest class mostly does, it goes down to the lower one; else the lower one is brought up to it.
     fn join_at(&mut self, low: usize, high: usize, class: Class<A>)
         requires less { low < high }
         requires within { high < length self.old.classes }
         ensures bytes { self.new.bytes ≡ self.old.bytes }
         ensures answer { JoinsPlaces self.old low high class self.new }
     {
-        let front = self.gather(low, high);
-        self.settle(front, high, class);
+        if self.follows_any(low + 1, high) {
+            let front = self.gather(low, high);
+            self.settle(front, high, class);
+        } else {
+            self.settle(low, high, class);
+        }
     }
 
     /// Draws up the classes of two patches as one. Both may be taken back, their spans meet or touch, and no third class lies

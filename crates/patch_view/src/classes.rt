@@ -278,19 +278,34 @@ fn is_listed(numbers: &[PatchNo], no: PatchNo) -> bool
     numbers.binary_search(&no).is_ok()
 }
 
-/// The numbers of both lists, rising.
+/// The numbers of two lists that rise, rising. They are put in order only where the one list doesn't follow the other.
 fn both_lists<A: Allocator>(
     alloc: A,
     these: &[PatchNo],
     those: &[PatchNo],
 ) -> Result<Vec<PatchNo, A>, OutOfMemory>
+    requires these { IsNonDecreasing these.now }
+    requires those { IsNonDecreasing those.now }
     ensures all { IfOk result (λ all. IsPermutation (these.now ++ those.now) all.items) }
     ensures rising { IfOk result (λ all. IsNonDecreasing all.items) }
 {
-    let mut all = Vec::from_slice(alloc, these)?;
+    let mut all = Vec::with_capacity(alloc, these.len().saturating_add(those.len()))?;
+    all.extend_from_slice(these)?;
     all.extend_from_slice(those)?;
-    sort(&mut all);
+    if !is_followed(these, those) {
+        sort(&mut all);
+    }
     Ok(all)
+}
+
+/// Whether of two lists that rise none of the second has a number below the last of the first.
+fn is_followed(these: &[PatchNo], those: &[PatchNo]) -> bool
+    ensures { IsNonDecreasing these.now → IsNonDecreasing those.now → IsTrue result → IsNonDecreasing (these.now ++ those.now) }
+{
+    if these.is_empty() || those.is_empty() {
+        return true;
+    }
+    these[these.len() - 1] <= those[0]
 }
 
 /// Puts the numbers into rising order.

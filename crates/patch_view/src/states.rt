@@ -5,7 +5,7 @@ ghost use Rattle.std.specs.Prelude.{◌≡◌, ◌<◌, length, [], OnErr};
 ghost use Rattle.patch_model.specs.History.{History, cached as the_cached};
 ghost use Rattle.patch_view.specs.State.{Block, is_takeable, swept_to, class_at, exchanged_at, follows, hinders, place_of, restored_to, outline, IsLeast};
 ghost use Rattle.patch_view.specs.Meaning.{Represents};
-ghost use Rattle.patch_view.specs.Answers.{AnswersTake, AcceptsTake, AnswersPutBack, AcceptsPutBack, TakesAll, PutsAllBack, IsAsBefore, Shows};
+ghost use Rattle.patch_view.specs.Answers.{AnswersTake, AcceptsTake, AnswersPutBack, AcceptsPutBack, TakesAll, PutsAllBack, IsAsBefore, Shows, TellsClear};
 
 use crate::classes::{Class, Turn};
 use crate::refusals::{PutBackRefusal, TakeRefusal};
@@ -252,6 +252,13 @@ impl<A: Allocator> BlockState<A> {
         ensures answer { Shows self.now result.now }
     {
         &self.bytes
+    }
+
+    /// Whether all of the block's patches are durable. It looks at no record.
+    pub fn is_clear(&self) -> bool
+        ensures answer { TellsClear self.now result }
+    {
+        self.len() == 0
     }
 
     fn exchange_at(&mut self, at: usize, turn: Turn)
