@@ -1,13 +1,17 @@
 -- The causes against a write of a block.
-use Rattle.std.proofs.Common.{◌≡◌, ◌<◌, ◌∙◌, ℕ, true, false, List, [], ◌∷◌, Option, Some, None, length, refl, sym}
-use Rattle.std.specs.Prelude.{◌≢◌, ◌==◌, is_some}
+use Rattle.std.proofs.Common.{◌≡◌, ◌<◌, ◌∙◌, inl, subst, ℕ, true, false, List, [], ◌∷◌, Option, Some, None, length, refl, sym}
+use Rattle.std.specs.Prelude.{◌≢◌, ◌==◌, is_some, Contains}
+use Rattle.std.specs.List.{list_all}
 use Rattle.std.proofs.Math.Dec.{eqb-suc-zero}
-use Rattle.std.proofs.lemmas.Bool.{lt-leb, eq-eqb}
+use Rattle.std.proofs.lemmas.Bool.{lt-leb, eq-eqb, and_parts}
 use Rattle.patch_model.specs.declared.refusals.RefusalKind.TheVariants as kind
-use Rattle.patch_model.specs.Entry.{Entry}
+use Rattle.patch_model.specs.declared.patches.Mark.{Mark}
+use Rattle.patch_model.specs.declared.patches.Mark.TheVariants.{Memory, Flight, Durable}
+use Rattle.patch_model.specs.Entry.{Entry, is_memory, is_durable, marks_memory, marks_durable}
+use Rattle.patch_model.specs.History.{history_of, of_block}
 use Rattle.patch_model.specs.Execution.{Execution}
-use Rattle.patch_model.specs.Member.{In-from_Contains, list_any-from}
-use Rattle.patch_model.specs.Ready.{ready}
+use Rattle.patch_model.specs.Member.{In-from_Contains, Contains-from_In, In-filter, list_any-from, list_all-at}
+use Rattle.patch_model.specs.Ready.{ready, IsLargestWritable}
 use Rattle.patch_model.specs.Refusing.{why_not_sent, bare}
 use Rattle.patch_model.specs.State.{entries_of, state_of, has_flight}
 use Rattle.patch_cache.specs.Contents.{Write}
@@ -47,3 +51,22 @@ something run block known still some = by (ready (entries_of run) block) refl
 pub is_none : {X : Type 0} → (o : Option X) → is_some o ≡ false → o ≡ None
 is_none None h = refl
 is_none (Some x) h = absurd (cc)
+
+apart : (m : Mark) → marks_memory m ≡ true → marks_durable m ≡ true → ⊥
+apart Memory a b = absurd (cc)
+apart Flight a b = absurd (cc)
+apart Durable a b = absurd (cc)
+
+-- where all patches of a block are durable, none of it is ready
+pub none_ready : (run : Execution) (block : ℕ) → IsLargestWritable (entries_of run) block (ready (entries_of run) block)
+    → list_all is_durable (history_of run block).entries ≡ true → ready (entries_of run) block ≢ [] → ⊥
+none_ready run block big clear some = by (ready (entries_of run) block) refl
+  where
+    by : (set : List Entry) → ready (entries_of run) block ≡ set → ⊥
+    by [] is = some is
+    by (e ∷ es) is =
+        let first : Contains (e ∷ es) e = Contains-from_In (e ∷ es) e (inl refl) in
+        let m = big.writable.in_memory e (subst (λ l. Contains l e) (sym is) first) in
+        let parts = and_parts (is_memory e) (e.patch.block == block) m.1 in
+        let there = In-filter (λ f. f.patch.block == block) (entries_of run) e (In-from_Contains (entries_of run) e m.0) parts.1 in
+        apart e.mark parts.0 (list_all-at is_durable (of_block block (entries_of run)) e clear there)

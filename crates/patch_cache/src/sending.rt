@@ -48,12 +48,17 @@ impl<A: Allocator + Copy> Cache<A> {
         ensures not_under_way { IsNone result → write_at self.old block ≡ None }
         ensures same { self.new ≡ self.old }
     {
+        model_laws::ready_is_largest();
         let at = block.0 as usize;
         if at >= self.blocks.len() {
             return Some(SendRefusal::NoSuchBlock);
         }
         if self.writes[at].is_some() {
             return Some(SendRefusal::AlreadyInFlight);
+        }
+        // The graph would find nothing either, by a search.
+        if self.blocks[at].is_clear() {
+            return Some(SendRefusal::NothingReady);
         }
         if !self.graph.any_ready(block) {
             return Some(SendRefusal::NothingReady);

@@ -1,11 +1,14 @@
-use Rattle.std.proofs.Common.{◌≡◌, ◌<◌, ◌∙◌, ℕ, true, false, None, length, get_or, sym, ap, arith, subst}
+use Rattle.std.proofs.Common.{◌≡◌, [], ◌<◌, ◌∙◌, ℕ, true, false, None, length, get_or, sym, ap, arith, subst}
 use Rattle.std.specs.Prelude.{is_some}
 use Rattle.std.proofs.lemmas.Bool.{both_ways}
 use Rattle.std.proofs.lemmas.List.{get_or_read_under}
 use Rattle.patch_model.specs.State.{state_of, entries_of, has_flight}
 use Rattle.patch_graph.specs.Meaning.{Represents as IsGraphOf}
-use Rattle.patch_cache.specs.Contents.{Contents, write_at}
-use Rattle.patch_cache.proofs.Refusing.{has_one, already, nothing, something, is_none}
+use Rattle.patch_cache.specs.Contents.{Contents, no_block, block_at, write_at}
+use Rattle.patch_model.specs.History.{history_of}
+use Rattle.patch_view.specs.State.{Block}
+use Rattle.patch_view.specs.Meaning.{Represents as IsBlockOf}
+use Rattle.patch_cache.proofs.Refusing.{has_one, already, nothing, none_ready, something, is_none}
 use Rattle.patch_cache.proofs.caches.Cache.why_not_sent.Goals as goal
 
 pub returns-then-is_some-clause-cause : goal.returns-then-is_some-clause-cause
@@ -19,6 +22,23 @@ returns-then-is_some-clause-cause g c = λ run at.
     let flies : has_flight (state_of run) c.args.block ≡ true =
     has_one run c.args.block (write_at c.args.self.now c.args.block) (at.writes c.args.block known) ∙ ap is_some (sym write) ∙ sym c.is_some.ensures ∙ c.if-is_some.true in
     sym (already run c.args.block known flies)
+
+pub returns-then-is_clear-clause-cause : goal.returns-then-is_clear-clause-cause
+returns-then-is_clear-clause-cause g c = λ run at.
+    let known : c.args.block < length run.first =
+    let below = c.if-at-len.false in let len = c.len.ensures in let count = at.count in let same : length c.self.inside.blocks.items ≡ length c.args.self.now.blocks = ap (λ (v : Contents). length v.blocks) c.self.view_is in
+    let long = c.self.inside.blocks.ok.0 in let place : c.block.inside.0 ≡ c.args.block = c.block.view_is in omega arith in
+    let write : c.index.result.now ≡ write_at c.args.self.now c.args.block =
+    get_or_read_under c.self.inside.writes.items c.block.inside.0 c.self.inside.writes.len c.index.result.now None c.index.ensures (omega arith) c.self.inside.writes.ok.0
+    ∙ ap (λ (i : ℕ). get_or c.self.inside.writes.items i None) c.block.view_is ∙ ap (λ (v : Contents). get_or v.writes c.args.block None) c.self.view_is in
+    let flies : has_flight (state_of run) c.args.block ≡ false =
+    has_one run c.args.block (write_at c.args.self.now c.args.block) (at.writes c.args.block known) ∙ ap is_some (sym write) ∙ sym c.is_some.ensures ∙ c.if-is_some.false in
+    let state : c.index-2.result.now ≡ block_at c.args.self.now c.args.block =
+    get_or_read_under c.self.inside.blocks.items c.block.inside.0 c.self.inside.blocks.len c.index-2.result.now no_block c.index-2.ensures (omega arith) c.self.inside.blocks.ok.0
+    ∙ ap (λ (i : ℕ). get_or c.self.inside.blocks.items i no_block) c.block.view_is ∙ ap (λ (v : Contents). get_or v.blocks c.args.block no_block) c.self.view_is in
+    let shown : IsBlockOf c.index-2.result.now [] (history_of run c.args.block) = subst (λ (b : Block). IsBlockOf b [] (history_of run c.args.block)) (sym state) (at.blocks c.args.block known) in
+    let durable = sym (c.is_clear.ensures.answer (history_of run c.args.block) [] shown) ∙ c.if-is_clear.true in
+    sym (nothing run c.args.block known flies (none_ready run c.args.block (c.ready_is_largest.ensures.largest (entries_of run) c.args.block (c.ready_is_largest.ensures.made run)) durable))
 
 pub returns-then-not-any_ready-clause-cause : goal.returns-then-not-any_ready-clause-cause
 returns-then-not-any_ready-clause-cause g c = λ run at.
