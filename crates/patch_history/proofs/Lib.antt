@@ -30,3 +30,4 @@ pub mod Pointing
 pub mod Lengths
 pub mod Extended
 pub mod Fitting
+pub mod Grouping

@@ -3,6 +3,7 @@ use Rattle.std.specs.Prelude.{ℕ, true, ◌≡◌, ◌<◌, List, length, count
 use Rattle.patch_model.specs.Entry.{is_live}
 use Rattle.patch_model.specs.State.{entries_of}
 use Rattle.patch_model.specs.Legal.{IsLegal}
+use Rattle.patch_group.specs.Order.{AreGroupsOf}
 use Rattle.patch_recovery.specs.Ledger.{value_in}
 use Rattle.patch_recovery.specs.Said.{last_said}
 use Rattle.patch_recovery.specs.Store.{IsOfStore}
@@ -44,6 +45,10 @@ HistoriesAreRead =
 abbrev pub ExtentsAreKept : Type 0
 ExtentsAreKept =
     (h : History) → IsLegalHistory h → extents.Represents (standing_of h).shelf.extents (execution_of h)
+
+-- and the groups are those of the execution
+abbrev pub GroupsAreKept : Type 0
+GroupsAreKept = (h : History) → IsLegalHistory h → AreGroupsOf (execution_of h) (standing_of h).groups
 
 -- What a standing says, and the blocks with it: the format; how many patches were made; the frame of each used slot, which
 -- has the value of its key in the map; and the current extent, which is one of the disk's.

@@ -5,7 +5,7 @@ ghost use Rattle.patch_history.specs.Steps.{CutsAreFirst, PlansAreOfStores, Upgr
 ghost use Rattle.patch_history.specs.Fitting.{PutsFit, FramesAreThere, ReclaimsGoOn};
 ghost use Rattle.patch_history.specs.Given.{Given};
 ghost use Rattle.patch_history.specs.Closed.{HistoriesMove, ClosedDisksOpen, CrashDisksOpen};
-ghost use Rattle.patch_history.specs.Laws.{HistoriesExtend, StandingsRun, HistoriesAreOfStores, MapsAreSaid, HistoriesAreRead, StandingsAgree, ExtentsAreKept};
+ghost use Rattle.patch_history.specs.Laws.{HistoriesExtend, StandingsRun, HistoriesAreOfStores, MapsAreSaid, HistoriesAreRead, StandingsAgree, ExtentsAreKept, GroupsAreKept};
 
 /// One event more is judged by the history so far.
 pub fn histories_extend()
@@ -107,6 +107,14 @@ pub fn extents_are_kept()
     ensures { ExtentsAreKept }
 {
     laws_below();
+}
+
+/// The groups are those of the execution: each patch of a group names all patches of all groups before it.
+pub fn groups_are_kept()
+    ensures { GroupsAreKept }
+{
+    patch_model::laws::steps_extend();
+    patch_group::laws::order_is_kept();
 }
 
 /// A put that isn't refused finds a slot and an extent with room. The frame of each used slot is there, with the value of
