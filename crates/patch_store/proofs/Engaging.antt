@@ -1,13 +1,17 @@
 -- The answers of the calls of groups.
-use Rattle.std.proofs.Common.{◌≡◌, ℕ, ◌∙◌, inl, [], length, refl, sym, ap}
+use Rattle.std.proofs.Common.{◌≡◌, ℕ, ◌∙◌, inl, [], length, refl, sym, ap, subst}
 use Rattle.std.specs.Prelude.{Result, Ok, Err, Some, None, IfOk, IfErr, OnOk, OnErr}
+use Rattle.patch_model.specs.Execution.{Execution}
+use Rattle.patch_model.specs.State.{entries_of}
+use Rattle.patch_cache.specs.Meaning.{Represents as IsCacheOf}
 use Rattle.patch_cache.specs.Refusals.{IsCause}
 use Rattle.patch_group.specs.declared.refusals.GroupRefusal.{GroupRefusal}
 use Rattle.patch_group.specs.Refusals.{group_cause}
-use Rattle.patch_group.specs.Groups.{Groups, why_not_begun, why_not_engaged, why_not_disengaged, why_not_ordered, why_not_closed, begun, engaged, disengaged, ordered, closed}
-use Rattle.patch_history.specs.Command.{Command, Group, Engage, Disengage, Depend, CloseGroup, Done, GroupMade, unless}
-use Rattle.patch_history.specs.Laws.{HistoriesExtend}
-use Rattle.patch_history.specs.History.{History, Call, IsRight, after_event, standing_of}
+use Rattle.patch_group.specs.Groups.{Groups, why_not_begun, why_not_engaged, why_not_disengaged, why_not_ordered, why_not_closed, why_not_counted, pending, begun, engaged, disengaged, ordered, closed}
+use Rattle.patch_group.specs.Order.{AreGroupsOf}
+use Rattle.patch_history.specs.Command.{Command, Group, Engage, Disengage, Depend, CloseGroup, Pending, Done, GroupMade, Count, unless}
+use Rattle.patch_history.specs.Laws.{HistoriesExtend, StandingsRun, GroupsAreKept}
+use Rattle.patch_history.specs.History.{History, Call, IsRight, after_event, execution_of, standing_of}
 use Rattle.patch_store.specs.Meaning.{Store, Represents, HasAnswered}
 use Rattle.patch_store.specs.Replies.{reply_to}
 use Rattle.patch_store.proofs.Gaining.{answered, refused, right_refused, right_caused}
@@ -96,3 +100,26 @@ closed_so extends h writer group old gs (Err r) was made cause same =
     (right_caused (standing_of h) writer (CloseGroup group) (why_not_closed old.groups group) (group_cause r) Done
     (ap (λ s. unless (why_not_closed s group) Done) (sym was.groups_are)) cause)
     (ap (λ g. record old { groups = g }) same)
+
+pub counted_so : HistoriesExtend → StandingsRun → GroupsAreKept → (h : History) (writer group : ℕ) (old : Store) (result : Result ℕ GroupRefusal)
+    → ((run : Execution) → IsCacheOf old.cache run → AreGroupsOf run old.groups → IfOk result (λ count. count ≡ pending (entries_of run) old.groups group))
+    → OnOk result (why_not_counted old.groups group ≡ None) → IfErr result (λ r. why_not_counted old.groups group ≡ Some (group_cause r))
+    → Represents old h → HasAnswered h writer (Pending group) (reply_to group_cause (λ count. Count count) result) old old
+counted_so extends runs kept h writer group old (Ok count) counted known cause was =
+    let is = was.groups_are in
+    let st = standing_of h in
+    let number : count ≡ pending (entries_of st.run) st.groups group =
+    counted (execution_of h) was.cache_is (subst (AreGroupsOf (execution_of h)) (sym is) (kept h was.legal))
+    ∙ ap (λ run. pending (entries_of run) old.groups group) (sym (runs h)) ∙ ap (λ s. pending (entries_of st.run) s group) is in
+    answered extends h writer (Pending group) (Count count) old old was
+    (inl (
+      ap Count number ∙ sym (ap (λ c. unless c (Count (pending (entries_of st.run) st.groups group))) (ap (λ s. why_not_counted s group) (sym is) ∙ known)),
+      ([], refl),
+    ))
+    refl is refl
+counted_so extends runs kept h writer group old (Err r) counted known cause was =
+    let st = standing_of h in
+    refused extends h writer (Pending group) (group_cause r) old old was
+    (right_caused st writer (Pending group) (why_not_counted old.groups group) (group_cause r) (Count (pending (entries_of st.run) st.groups group))
+    (ap (λ s. unless (why_not_counted s group) (Count (pending (entries_of st.run) st.groups group))) (sym was.groups_are)) cause)
+    refl

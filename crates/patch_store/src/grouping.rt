@@ -1,7 +1,7 @@
 //! The calls of groups.
 ghost use Rattle.std.specs.Prelude.{◌≡◌, ℕ, OnErr};
 ghost use Rattle.patch_group.specs.Refusals.{group_cause};
-ghost use Rattle.patch_history.specs.Command.{Group, Engage, Disengage, Depend, CloseGroup, Done, GroupMade};
+ghost use Rattle.patch_history.specs.Command.{Group, Engage, Disengage, Depend, CloseGroup, Pending, Done, GroupMade, Count};
 ghost use Rattle.patch_store.specs.Meaning.{Answers};
 ghost use Rattle.patch_store.specs.Replies.{reply_to};
 
@@ -55,5 +55,14 @@ impl<A: Allocator + Copy> Store<A> {
     {
         history_laws::histories_extend();
         self.groups.close(group)
+    }
+    /// How many patches of the group aren't on the disk yet. It takes no memory.
+    pub fn pending(&self, group: GroupNo) -> Result<u32, GroupRefusal>
+        ensures { (writer : ℕ) → Answers writer (Pending group) (reply_to group_cause (λ count. Count count) result) self.now self.now }
+    {
+        history_laws::histories_extend();
+        history_laws::standings_run();
+        history_laws::groups_are_kept();
+        self.groups.pending(group, &self.cache)
     }
 }
