@@ -1,8 +1,10 @@
 //! The extents of a disk, and how they are opened.
 ghost use Rattle.std.specs.Prelude.{ℕ, ◌≡◌, ◌<◌, ◌≤◌, length, Err, IfOk, OnErr};
+ghost use Rattle.patch_frame.specs.declared.geometries.Format.TheVariants.{One};
 ghost use Rattle.patch_frame.specs.Geometry.{IsGeometry, block_count};
 ghost use Rattle.patch_extent.specs.Extents.{generation_at, offset_at};
 ghost use Rattle.patch_frame.specs.Field.{are_zeros};
+ghost use Rattle.patch_recovery.specs.Change.{widened};
 ghost use Rattle.patch_extent.specs.declared.refusals.ExtentsFault.TheVariants.{BadPointer};
 ghost use Rattle.patch_extent.specs.Opening.{AreRecords, IsRecord, IsBadRecord};
 ghost use Rattle.patch_extent.specs.Answers.{IsOpened};
@@ -10,7 +12,7 @@ ghost use Rattle.patch_extent.specs.Answers.{IsOpened};
 use crate::records::Extent;
 use crate::refusals::ExtentsFault;
 use patch_cache::Cache;
-use patch_frame::{Geometry, POINTER_BYTES, Pointer, pointer_start, read_pointer_within};
+use patch_frame::{Format, Geometry, POINTER_BYTES, Pointer, pointer_start, read_pointer_within};
 use patch_model::{BLOCK, BlockNo, laws as model_laws};
 use std::alloc::{Allocator, Global};
 use std::marker::Model;
@@ -70,6 +72,27 @@ impl<A: Allocator + Copy> Extents<A> {
     {
         let pointer = self.each[extent as usize].pointer;
         (pointer.generation, pointer.offset)
+    }
+
+    /// How an upgrade divides the disk: in version 2, with each extent where it is.
+    pub fn widened(&self) -> Geometry
+        ensures { result ≡ widened self.now.geometry }
+    {
+        Geometry {
+            index: self.geometry.index,
+            extents: self.geometry.extents,
+            format: Format::Two {
+                length: Format::One.extent_blocks(),
+            },
+        }
+    }
+
+    /// Lets the disk be of version 2 from now on. The patch that says so on the disk is made by who calls this.
+    pub fn widen(&mut self)
+        requires { self.old.geometry.format ≡ One }
+        ensures { self.new ≡ record self.old { geometry = widened self.old.geometry } }
+    {
+        self.geometry = self.widened();
     }
 }
 
