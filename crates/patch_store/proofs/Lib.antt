@@ -7,3 +7,4 @@ pub mod Disks
 pub mod Finding
 pub mod Extents
 pub mod Removing
+pub mod Widening

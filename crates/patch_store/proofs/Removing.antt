@@ -47,16 +47,16 @@ key_long key long =
     let b : nat_lt 32 (length key) ≡ true = grind (arith, nat_tests, long) in
     rw (a, b) refl
 
-room_none : (made live : ℕ) → made < 16777216 → live < 65536 → why_no_room made live 1 ≡ None
+pub room_none : (made live : ℕ) → made < 16777216 → live < 65536 → why_no_room made live 1 ≡ None
 room_none made live few still =
     let a : nat_lt 16777216 (made + 1) ≡ false = grind (arith, nat_tests, few) in
     let b : nat_lt 65536 (live + 1) ≡ false = grind (arith, nat_tests, still) in
     rw (a, b) refl
 
-room_spent : (made live : ℕ) → 16777216 ≤ made → why_no_room made live 1 ≡ Some (bare kind.NumbersSpent)
+pub room_spent : (made live : ℕ) → 16777216 ≤ made → why_no_room made live 1 ≡ Some (bare kind.NumbersSpent)
 room_spent made live spent = let a : nat_lt 16777216 (made + 1) ≡ true = grind (arith, nat_tests, spent) in rw a refl
 
-room_full : (made live : ℕ) → made < 16777216 → 65536 ≤ live → why_no_room made live 1 ≡ Some (bare kind.TooManyLive)
+pub room_full : (made live : ℕ) → made < 16777216 → 65536 ≤ live → why_no_room made live 1 ≡ Some (bare kind.TooManyLive)
 room_full made live few full =
     let a : nat_lt 16777216 (made + 1) ≡ false = grind (arith, nat_tests, few) in
     let b : nat_lt 65536 (live + 1) ≡ true = grind (arith, nat_tests, full) in

@@ -6,3 +6,4 @@ pub mod Getting
 pub mod Making
 pub mod Replies
 pub mod Sending
+pub mod Upgrading

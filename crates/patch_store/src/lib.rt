@@ -15,6 +15,7 @@ mod keys;
 mod making;
 mod sending;
 mod stores;
+mod upgrading;
 
 pub use making::make;
 pub use stores::Store;
