@@ -8,3 +8,4 @@ pub mod Finding
 pub mod Extents
 pub mod Removing
 pub mod Widening
+pub mod Waving

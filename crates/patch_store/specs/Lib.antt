@@ -7,3 +7,4 @@ pub mod Making
 pub mod Replies
 pub mod Sending
 pub mod Upgrading
+pub mod Flushing

@@ -1,13 +1,14 @@
 //! A chunk store over a patch cache: a map on slots and frames, reclaimed, upgraded and opened.
 //!
-//! A [`Store`] is defined in `stores`. Its calls stand by themselves: `get` in `getting`, `delete` in `deleting`, those of groups
-//! in `grouping`, `send` and `complete` in `sending`. `make`, in `making`, gives the blocks of a new disk. Which slot and which
-//! extent a frame takes is said in `choosing`.
+//! A [`Store`] is defined in `stores`. Its calls stand by themselves: `get` in `getting`, `delete` in `deleting`, `upgrade` in
+//! `upgrading`, those of groups in `grouping`, `send` and `complete` in `sending`. [`flush`], in `flushing`, brings all patches to
+//! the disk. `make`, in `making`, gives the blocks of a new disk. Which slot and which extent a frame takes is said in `choosing`.
 #![tactic(auto)]
 
 mod choosing;
 mod deleting;
 mod entries;
+mod flushing;
 mod getting;
 mod grouping;
 mod indexes;
@@ -17,5 +18,6 @@ mod sending;
 mod stores;
 mod upgrading;
 
+pub use flushing::{FlushFault, flush};
 pub use making::make;
 pub use stores::Store;
