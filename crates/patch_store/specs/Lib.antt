@@ -8,3 +8,4 @@ pub mod Replies
 pub mod Sending
 pub mod Upgrading
 pub mod Flushing
+pub mod Laws

@@ -13,6 +13,7 @@ mod getting;
 mod grouping;
 mod indexes;
 mod keys;
+pub mod laws;
 mod making;
 mod sending;
 mod stores;

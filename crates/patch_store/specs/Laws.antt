@@ -1,0 +1,28 @@
+-- Laws of stores.
+use Rattle.std.specs.Prelude.{ℕ, Bool, List}
+use Rattle.patch_model.specs.Entry.{Entry}
+use Rattle.patch_model.specs.State.{entries_of}
+use Rattle.patch_model.specs.Crash.{IsClosed, MayLeave, crash_set, disk_of}
+use Rattle.patch_recovery.specs.Ledger.{value_in}
+use Rattle.patch_recovery.specs.Closed.{Opens, cached_blocks}
+use Rattle.patch_history.specs.Closed.{OpensBy}
+use Rattle.patch_history.specs.History.{History, execution_of, standing_of, ledger_of}
+use Rattle.patch_store.specs.Meaning.{Store, Represents}
+
+-- the cached blocks are read as the map of the commands that were done
+abbrev pub CachedDisksOpen : Type 0
+CachedDisksOpen =
+    (s : Store) (h : History) → Represents s h
+    → Opens (cached_blocks (execution_of h)) (ledger_of h) (value_in (standing_of h).map.entries)
+
+-- the disk of every closed set opens
+abbrev pub ClosedDisksOpen : Type 0
+ClosedDisksOpen =
+    (s : Store) (h : History) (set : Entry → Bool) → Represents s h → IsClosed (entries_of (execution_of h)) set
+    → OpensBy h set (disk_of (execution_of h) set)
+
+-- and so does every disk that a crash may leave
+abbrev pub CrashDisksOpen : Type 0
+CrashDisksOpen =
+    (s : Store) (h : History) (disk : List (List ℕ)) (crash : MayLeave (execution_of h) disk) → Represents s h
+    → OpensBy h (crash_set crash.landed) disk

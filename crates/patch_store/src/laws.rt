@@ -1,0 +1,14 @@
+//! What is true of every store, each law the contract of a function that does nothing.
+ghost use Rattle.patch_store.specs.Laws.{CachedDisksOpen, ClosedDisksOpen, CrashDisksOpen};
+
+/// Whatever closed set of a store's patches reached the disk, it opens: each key has the value of its last put or delete whose
+/// patch is in the set, or a later move of which is. What a crash leaves is such a disk. And the cached blocks open as the map
+/// of the commands. So it is behind each call, as each leaves a store that represents a history.
+pub fn closed_disks_open()
+    ensures cached { CachedDisksOpen }
+    ensures closed { ClosedDisksOpen }
+    ensures crash { CrashDisksOpen }
+{
+    patch_history::laws::histories_are_of_stores();
+    patch_history::laws::closed_disks_open();
+}
