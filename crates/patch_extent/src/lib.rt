@@ -18,5 +18,6 @@ mod resetting;
 mod rows;
 
 pub use extents::Extents;
+pub use parting::touched;
 pub use places::{Appended, Place};
 pub use refusals::{AppendRefusal, ExtentsFault, ReadRefusal, ResetRefusal};

@@ -8,8 +8,8 @@ use std::alloc::Allocator;
 
 const BLOCK_BYTES: u32 = BLOCK as u32;
 
-/// How many blocks a write of so many bytes touches.
-pub(crate) fn touched(offset: u32, len: u32) -> u32
+/// How many blocks a write of so many bytes touches: an append makes a data patch for each, and then its pointer patch.
+pub fn touched(offset: u32, len: u32) -> u32
     requires some { 0 < len }
     requires fits { offset + len ≤ 2 ^ 31 }
     ensures { result ≡ touched offset len }
