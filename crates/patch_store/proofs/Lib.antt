@@ -9,3 +9,7 @@ pub mod Extents
 pub mod Removing
 pub mod Widening
 pub mod Waving
+pub mod Counted
+pub mod Framed
+pub mod Placing
+pub mod Puts

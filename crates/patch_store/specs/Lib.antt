@@ -2,8 +2,10 @@ pub mod Index
 pub mod Meaning
 pub mod Choosing
 pub mod Deleting
+pub mod Framing
 pub mod Getting
 pub mod Making
+pub mod Putting
 pub mod Replies
 pub mod Sending
 pub mod Upgrading

@@ -1,0 +1,271 @@
+//! How a frame is put into an extent and named by a slot.
+ghost use Rattle.std.specs.Prelude.{◌≡◌, ◌<◌, ◌++◌, [], Some, None, IfOk, IfSome, OnOk, length, option_to_list};
+ghost use Rattle.patch_frame.specs.declared.slots.TheConstants.{MAX_FRAME};
+ghost use Rattle.patch_frame.specs.Geometry.{slot_block as the_slot_block, slot_start as the_slot_start};
+ghost use Rattle.patch_frame.specs.Slot.{FitsUsed, spelling};
+ghost use Rattle.patch_extent.specs.Answers.{asked};
+ghost use Rattle.patch_extent.specs.Appending.{LaysPatch};
+ghost use Rattle.patch_history.specs.Shelf.{slot_at};
+ghost use Rattle.patch_store.specs.Framing.{next_fields, names_behind, delete_before as the_delete_before, FillsSlot, AppendsFrame, PutsFrame};
+ghost use Rattle.patch_store.specs.Index.{fields_of};
+
+use crate::entries::{Entry, Key};
+use crate::stores::Store;
+use patch_cache::Cache;
+use patch_frame::{
+    MAX_FRAME, MAX_KEY, MAX_POINTER, Slot, SlotState, laws as frame_laws, slot_block, slot_start,
+    write_slot,
+};
+use patch_group::Groups;
+use patch_history::laws as history_laws;
+use patch_model::{BlockNo, OutOfMemory, PatchNo, Undo, WriterNo};
+use std::alloc::Allocator;
+
+// How many bytes a frame has beside its key and its value.
+const OVERHEAD: usize = 16;
+
+// The most patches that a slot's patch names: a pointer's, a delete's and the upgrade's.
+const MAX_NAMES: usize = 3;
+
+impl<A: Allocator + Copy> Store<A> {
+    /// Puts the frame of a key into an extent, and lets a slot name it: the patches are a writer's, or none's. They were
+    /// counted. Where memory runs out some first ones of them were made; a slot names the whole frame or none of it.
+    pub(crate) fn put_frame(
+        &mut self,
+        writer: &Option<WriterNo>,
+        slot: u32,
+        extent: u32,
+        key: &[u8],
+        frame: &[u8],
+    ) -> Result<(), OutOfMemory>
+        requires slot { slot < length self.old.shelf.slots }
+        requires known { extent < self.old.shelf.extents.geometry.extents }
+        ensures { PutsFrame writer.now slot extent key.now frame.now result self.old self.new }
+    {
+        history_laws::frames_compose();
+        history_laws::plans_continue();
+        frame_laws::frames_are_read_again();
+        let Some(entry) = self.next_entry(extent, key, frame.len()) else {
+            return Err(OutOfMemory);
+        };
+        let Ok(point) = self.append_frame(writer, extent, frame) else {
+            return Err(OutOfMemory);
+        };
+        let Ok(()) = self.name_frame(writer, slot, &entry, point) else {
+            return Err(OutOfMemory);
+        };
+        Ok(())
+    }
+
+    /// What a slot says of a frame of the key that is appended to the extent next. There is none that is too long for it.
+    fn next_entry(&self, extent: u32, key: &[u8], len: usize) -> Option<Entry>
+        requires { extent < self.now.shelf.extents.geometry.extents }
+        ensures fields { IfSome result (λ entry. fields_of entry ≡ next_fields self.now.shelf extent key.now len) }
+        ensures fits { IfSome result (λ entry. FitsUsed MAX_FRAME (fields_of entry)) }
+        ensures some { IfSome result (λ entry. 0 < len) }
+    {
+        if key.is_empty() || key.len() > MAX_KEY {
+            return None;
+        }
+        if len < OVERHEAD + key.len() || len > MAX_FRAME as usize {
+            return None;
+        }
+        let (generation, offset) = self.extents.pointer(extent);
+        let length = len as u32;
+        if offset > MAX_POINTER - length {
+            return None;
+        }
+        Some(Entry {
+            key: Key::of(key),
+            extent,
+            generation,
+            offset,
+            length,
+        })
+    }
+
+    /// Appends a frame. Its extent is the current one from then on.
+    fn append_frame(
+        &mut self,
+        writer: &Option<WriterNo>,
+        extent: u32,
+        frame: &[u8],
+    ) -> Result<PatchNo, OutOfMemory>
+        requires some { 0 < length frame.now }
+        requires known { extent < self.old.shelf.extents.geometry.extents }
+        ensures { AppendsFrame (asked writer.now extent frame.now []) result self.old self.new }
+    {
+        let Ok(appended) = self.extents.append(
+            &mut self.cache,
+            &mut self.groups,
+            *writer,
+            extent,
+            frame,
+            &[],
+        )
+        else {
+            return Err(OutOfMemory);
+        };
+        self.current = Some(extent);
+        Ok(appended.pointer_patch)
+    }
+
+    /// Lets a slot name a frame whose pointer patch this is.
+    fn name_frame(
+        &mut self,
+        writer: &Option<WriterNo>,
+        slot: u32,
+        entry: &Entry,
+        point: PatchNo,
+    ) -> Result<(), OutOfMemory>
+        requires slot { slot < length self.old.shelf.slots }
+        requires fits { FitsUsed MAX_FRAME (fields_of entry.now) }
+        ensures { FillsSlot writer.now slot (fields_of entry.now) (names_behind self.old.shelf slot point) result self.old self.new }
+    {
+        let Ok(names) = self.names_for(slot, point) else {
+            return Err(OutOfMemory);
+        };
+        match self.index.entry(slot) {
+            Some(was) => self.refill_slot(writer, slot, &was, entry, names.as_slice()),
+            None => self.claim_slot(writer, slot, entry, names.as_slice()),
+        }
+    }
+
+    /// What the patch of a slot comes after.
+    fn names_for(&self, slot: u32, point: PatchNo) -> Result<Vec<PatchNo, A>, OutOfMemory>
+        ensures { IfOk result (λ names. names.items ≡ names_behind self.now.shelf slot point) }
+    {
+        let mut names = Vec::with_capacity(self.alloc, MAX_NAMES)?;
+        names.push(point)?;
+        push_number(&mut names, &self.delete_before(slot))?;
+        push_number(&mut names, &self.upgrade)?;
+        Ok(names)
+    }
+
+    /// The last delete, which comes before the patch of a slot that is empty.
+    fn delete_before(&self, slot: u32) -> Option<PatchNo>
+        ensures { option_to_list result ≡ the_delete_before self.now.shelf slot }
+    {
+        match self.index.entry(slot) {
+            Some(_) => None,
+            None => self.last_delete,
+        }
+    }
+
+    /// Fills an empty slot.
+    fn claim_slot(
+        &mut self,
+        writer: &Option<WriterNo>,
+        slot: u32,
+        entry: &Entry,
+        names: &[PatchNo],
+    ) -> Result<(), OutOfMemory>
+        requires slot { slot < length self.old.shelf.slots }
+        requires fits { FitsUsed MAX_FRAME (fields_of entry.now) }
+        requires empty { slot_at self.old.shelf slot ≡ None }
+        ensures { FillsSlot writer.now slot (fields_of entry.now) names.now result self.old self.new }
+    {
+        let alloc = self.alloc;
+        let Ok(_) = lay_slot(
+            alloc,
+            &mut self.groups,
+            &mut self.cache,
+            writer,
+            slot,
+            entry,
+            names,
+        ) else {
+            return Err(OutOfMemory);
+        };
+        self.index.fill(slot, *entry);
+        Ok(())
+    }
+
+    /// Fills a slot that was used. Its entry leaves the extent that it named.
+    fn refill_slot(
+        &mut self,
+        writer: &Option<WriterNo>,
+        slot: u32,
+        was: &Entry,
+        entry: &Entry,
+        names: &[PatchNo],
+    ) -> Result<(), OutOfMemory>
+        requires slot { slot < length self.old.shelf.slots }
+        requires fits { FitsUsed MAX_FRAME (fields_of entry.now) }
+        requires used { slot_at self.old.shelf slot ≡ Some (fields_of was.now) }
+        ensures { FillsSlot writer.now slot (fields_of entry.now) names.now result self.old self.new }
+    {
+        let alloc = self.alloc;
+        // Never so: a slot names an extent of the disk.
+        let Some(left) = self.left.get_mut(was.extent as usize) else {
+            return Err(OutOfMemory);
+        };
+        let Ok(()) = left.reserve(1) else {
+            return Err(OutOfMemory);
+        };
+        let Ok(no) = lay_slot(
+            alloc,
+            &mut self.groups,
+            &mut self.cache,
+            writer,
+            slot,
+            entry,
+            names,
+        ) else {
+            return Err(OutOfMemory);
+        };
+        left.push_reserved(no);
+        self.index.fill(slot, *entry);
+        Ok(())
+    }
+}
+
+/// Makes the patch of a slot that names a frame. The slot's bytes are written first.
+fn lay_slot<A: Allocator + Copy>(
+    alloc: A,
+    groups: &mut Groups<A>,
+    cache: &mut Cache<A>,
+    writer: &Option<WriterNo>,
+    slot: u32,
+    entry: &Entry,
+    after: &[PatchNo],
+) -> Result<PatchNo, OutOfMemory>
+    requires { FitsUsed MAX_FRAME (fields_of entry.now) }
+    ensures { LaysPatch (the_slot_block slot) (the_slot_start slot) (spelling (Some (fields_of entry.now))) writer.now after.now result
+        groups.old cache.old groups.new cache.new }
+{
+    let said = SlotState::Used(Slot {
+        key: entry.key.as_slice(),
+        extent: entry.extent as u16,
+        generation: entry.generation,
+        offset: entry.offset,
+        length: entry.length,
+    });
+    let bytes = write_slot(alloc, &said)?;
+    let block = BlockNo(slot_block(slot));
+    match groups.create_patch(
+        cache,
+        *writer,
+        block,
+        slot_start(slot),
+        bytes.as_slice(),
+        after,
+        Undo::MayDrop,
+    ) {
+        Ok(no) => Ok(no),
+        Err(_) => Err(OutOfMemory),
+    }
+}
+
+/// Adds a number to others, if there is one.
+fn push_number<A: Allocator>(
+    names: &mut Vec<PatchNo, A>,
+    number: &Option<PatchNo>,
+) -> Result<(), OutOfMemory>
+    ensures { OnOk result (names.new.items ≡ names.old.items ++ option_to_list number.now) }
+{
+    if let Some(no) = number {
+        names.push(*no)?;
+    }
+    Ok(())
+}
