@@ -43,7 +43,7 @@ blank_block super count (suc n) some less = get_or-replicate (count - 1) n (blan
 
 -- Tests of which none holds.
 
-none_in : (p : ℕ → Bool) (a n : ℕ) → ((k : ℕ) → a ≤ k → k < a + n → p k ≡ false) → list_any p (range_with_len a n) ≡ false
+pub none_in : (p : ℕ → Bool) (a n : ℕ) → ((k : ℕ) → a ≤ k → k < a + n → p k ≡ false) → list_any p (range_with_len a n) ≡ false
 none_in p a zero f = refl
 none_in p a (suc n) f = rw (f a (omega arith) (omega arith)) (none_in p (a + 1) n (λ k low high. f k (omega (arith, low)) (omega (arith, high))))
 

@@ -13,3 +13,6 @@ pub mod Counted
 pub mod Framed
 pub mod Placing
 pub mod Puts
+pub mod Tested
+pub mod Scanned
+pub mod Opened

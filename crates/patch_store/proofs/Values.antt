@@ -30,7 +30,7 @@ bytes_within l e o n a b low high =
     ap (take (b - a)) (drop_range (λ place. l.byte e place) o n a)
     ∙ take-map-range_with_len (λ place. l.byte e place) (o + a) (n - a) (b - a) (omega (arith, low, high))
 
-length_range : (xs : List ℕ) (a b : ℕ) → a ≤ b → b ≤ length xs → length (slice_range xs a b) ≡ b - a
+pub length_range : (xs : List ℕ) (a b : ℕ) → a ≤ b → b ≤ length xs → length (slice_range xs a b) ≡ b - a
 length_range xs a b low high = let d = length-drop a xs in length-take-le (b - a) (drop a xs) (omega (arith, d, low, high))
 
 -- what is read is what the tests are about

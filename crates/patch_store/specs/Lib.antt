@@ -6,6 +6,7 @@ pub mod Framing
 pub mod Getting
 pub mod Making
 pub mod Putting
+pub mod Opening
 pub mod Replies
 pub mod Sending
 pub mod Upgrading

@@ -1,9 +1,10 @@
 //! A chunk store over a patch cache: a map on slots and frames, reclaimed, upgraded and opened.
 //!
-//! A [`Store`] is defined in `stores`. [`make`], in `making`, gives the blocks of a new disk. Its calls stand by themselves:
-//! `get` in `getting`, `put` in `putting`, `delete` in `deleting`, `upgrade` in `upgrading`, those of groups in `grouping`,
-//! `send` and `complete` in `sending`. [`flush`], in `flushing`, brings all patches to the disk. Which slot and which extent
-//! a frame takes is said in `choosing`, and how it is put and named in `framing`.
+//! A [`Store`] is defined in `stores`. [`make`], in `making`, gives the blocks of a new disk; `open` is in `opening`, with
+//! the slots in `scanning`. Its calls stand by themselves: `get` in `getting`, `put` in `putting`, `delete` in `deleting`,
+//! `upgrade` in `upgrading`, those of groups in `grouping`, `send` and `complete` in `sending`. [`flush`], in `flushing`,
+//! brings all patches to the disk. Which slot and which extent a frame takes is said in `choosing`, and how it is put and
+//! named in `framing`.
 #![tactic(auto)]
 
 mod choosing;
@@ -17,7 +18,9 @@ mod indexes;
 mod keys;
 pub mod laws;
 mod making;
+mod opening;
 mod putting;
+mod scanning;
 mod sending;
 mod stores;
 mod upgrading;

@@ -1,0 +1,188 @@
+//! How the slots of a disk are read, one after another, as it is opened.
+ghost use Rattle.std.specs.Prelude.{◌≡◌, ◌+◌, ◌<◌, ◌≤◌, ℕ, List, map, length, nat_le, IsTrue, IfOk, IfSome, MatchOption, MatchResult};
+ghost use Rattle.std.specs.List.{range_with_len};
+ghost use Rattle.patch_model.specs.declared.blocks.TheConstants.{BLOCK};
+ghost use Rattle.patch_cache.specs.Meaning.{Represents as IsCacheOf};
+ghost use Rattle.patch_extent.specs.Meaning.{Represents as AreExtentsOf};
+ghost use Rattle.patch_frame.specs.declared.framing.TheConstants.{MAX_KEY};
+ghost use Rattle.patch_frame.specs.Frame.{frame_at};
+ghost use Rattle.patch_frame.specs.Geometry.{IsFormat, IsGeometry, slot_count, largest_pointer};
+ghost use Rattle.patch_frame.specs.Slot.{used_fields};
+ghost use Rattle.patch_recovery.specs.Ledger.{is_frame_of as holds};
+ghost use Rattle.patch_recovery.specs.Reading.{ledger_in, slot_tests};
+ghost use Rattle.patch_store.specs.Index.{fields_of, told};
+ghost use Rattle.patch_store.specs.Opening.{unchanged, IsSpan, IsFirstOf, IsScanned, AreScanned, IsPlaced, NoneHolds, index_tests, frame_tests};
+
+use crate::entries::{Entry, Key};
+use crate::indexes::Index;
+use patch_cache::Cache;
+use patch_extent::{Extents, Place, ReadRefusal};
+use patch_frame::{
+    Format, Geometry, MAX_KEY, SLOT_BYTES, Slot, SlotState, decode_within, laws as frame_laws,
+    read_slot_within, slot_block, slot_start,
+};
+use patch_history::OpenFault;
+use patch_model::BlockNo;
+use std::alloc::Allocator;
+
+/// What each slot says, unless one is refused: the lowest that is tells the fault.
+pub(crate) fn read_slots<A: Allocator + Copy>(
+    alloc: A,
+    cache: &Cache<A>,
+    extents: &Extents<A>,
+    geometry: Geometry,
+) -> Result<Index<A>, OpenFault>
+    requires geometry { IsGeometry geometry }
+    requires extents { extents.now.geometry ≡ geometry }
+    ensures count { IfOk result (λ index. length index ≡ slot_count geometry) }
+    ensures read { (blocks : List (List ℕ)) → IsCacheOf cache.now (unchanged blocks) → AreExtentsOf extents.now (unchanged blocks)
+        → MatchResult result (λ index. AreScanned (ledger_in geometry blocks) blocks index (slot_count geometry))
+        (IsFirstOf (index_tests geometry blocks)) }
+{
+    let count = geometry.slot_count();
+    let Ok(mut index) = Index::with_room(alloc, count) else {
+        return Err(OpenFault::OutOfMemory);
+    };
+    for slot in 0..count {
+        let entry = read_slot(cache, extents, geometry, &index, slot)?;
+        let Ok(()) = index.push(entry) else {
+            return Err(OpenFault::OutOfMemory);
+        };
+    }
+    Ok(index)
+}
+
+/// What a slot says, where the lower ones are these.
+fn read_slot<A: Allocator + Copy>(
+    cache: &Cache<A>,
+    extents: &Extents<A>,
+    geometry: Geometry,
+    lower: &Index<A>,
+    slot: u32,
+) -> Result<Option<Entry>, OpenFault>
+    requires geometry { IsGeometry geometry }
+    requires extents { extents.now.geometry ≡ geometry }
+    requires within { slot < slot_count geometry }
+    ensures { (blocks : List (List ℕ)) → IsCacheOf cache.now (unchanged blocks) → AreExtentsOf extents.now (unchanged blocks)
+        → lower.now ≡ map (ledger_in geometry blocks).slot (range_with_len 0 slot)
+        → MatchResult result (λ entry. IsScanned (ledger_in geometry blocks) blocks slot (told entry))
+        (IsFirstOf (slot_tests (ledger_in geometry blocks) blocks slot)) }
+{
+    let start = slot_start(slot);
+    let Some(bytes) = span(cache, BlockNo(slot_block(slot)), start, SLOT_BYTES) else {
+        // Never so: the slot lies on the disk.
+        return Err(OpenFault::BadSlot(slot));
+    };
+    let Ok(state) = read_slot_within(bytes, geometry.format.longest_frame()) else {
+        return Err(OpenFault::BadSlot(slot));
+    };
+    let SlotState::Used(named) = state else {
+        return Ok(None);
+    };
+    let entry = read_entry(cache, extents, geometry.format, &named, slot)?;
+    if lower.slot_of(named.key).is_some() {
+        return Err(OpenFault::DuplicateKey(slot));
+    }
+    Ok(Some(entry))
+}
+
+/// The frame that a used slot names, if it is one of the slot's key.
+fn read_entry<A: Allocator + Copy>(
+    cache: &Cache<A>,
+    extents: &Extents<A>,
+    format: Format,
+    named: &Slot<'_>,
+    slot: u32,
+) -> Result<Entry, OpenFault>
+    requires format { IsFormat format }
+    requires extents { extents.now.geometry.format ≡ format }
+    requires key { length named.now.key.now ≤ MAX_KEY }
+    ensures fields { IfOk result (λ entry. fields_of entry ≡ used_fields named.now) }
+    ensures read { (blocks : List (List ℕ)) → IsCacheOf cache.now (unchanged blocks) → AreExtentsOf extents.now (unchanged blocks)
+        → MatchResult result (λ _. NoneHolds (frame_tests (ledger_in extents.now.geometry blocks) slot (used_fields named.now)))
+        (IsFirstOf (frame_tests (ledger_in extents.now.geometry blocks) slot (used_fields named.now))) }
+{
+    frame_laws::the_longest_extents_reach_the_limit();
+    let bytes = read_place(cache, extents, named, slot)?;
+    if !is_frame_of(named, &bytes, format.value_limit()) {
+        return Err(OpenFault::BadFrame(slot));
+    }
+    if !ends_within(named, format) {
+        // Never so: the pointer lies within its extent.
+        return Err(OpenFault::BadFrame(slot));
+    }
+    Ok(Entry {
+        key: Key::of(named.key),
+        extent: named.extent as u32,
+        generation: named.generation,
+        offset: named.offset,
+        length: named.length,
+    })
+}
+
+/// The bytes at the place that a used slot names, if it lies before its extent's pointer, in the extent's generation.
+fn read_place<A: Allocator + Copy>(
+    cache: &Cache<A>,
+    extents: &Extents<A>,
+    named: &Slot<'_>,
+    slot: u32,
+) -> Result<Vec<u8, A>, OpenFault>
+    ensures { (blocks : List (List ℕ)) → IsCacheOf cache.now (unchanged blocks) → AreExtentsOf extents.now (unchanged blocks)
+        → MatchResult result
+        (λ bytes. IsPlaced (ledger_in extents.now.geometry blocks) (used_fields named.now) bytes.items)
+        (IsFirstOf (frame_tests (ledger_in extents.now.geometry blocks) slot (used_fields named.now))) }
+{
+    let place = Place {
+        extent: named.extent as u32,
+        generation: named.generation,
+        offset: named.offset,
+        len: named.length,
+    };
+    match extents.read(cache, place) {
+        Ok(bytes) => Ok(bytes),
+        Err(ReadRefusal::NoSuchExtent) => Err(OpenFault::BadSlot(slot)),
+        Err(ReadRefusal::OldGeneration) => Err(OpenFault::BadFrame(slot)),
+        Err(ReadRefusal::PastPointer) => Err(OpenFault::BadFrame(slot)),
+        Err(ReadRefusal::OutOfMemory) => Err(OpenFault::OutOfMemory),
+    }
+}
+
+/// Whether the place that a used slot names ends within an extent.
+fn ends_within(named: &Slot<'_>, format: Format) -> bool
+    requires { IsFormat format }
+    ensures { result ≡ nat_le (named.now.offset + named.now.length) (largest_pointer format) }
+{
+    named.offset.saturating_add(named.length) <= format.largest_pointer()
+}
+
+/// Whether the bytes are one frame of just the slot's length, with the slot's key.
+fn is_frame_of(named: &Slot<'_>, bytes: &[u8], limit: u32) -> bool
+    ensures value { result ≡ holds (used_fields named.now) (frame_at limit bytes.now) }
+    ensures whole { IsTrue result → 16 + length named.now.key.now ≤ named.now.length }
+{
+    match decode_within(bytes, limit) {
+        Ok(frame) => frame.key == named.key && frame.length == named.length as usize,
+        Err(_) => false,
+    }
+}
+
+/// So many bytes of a block.
+pub(crate) fn span<A: Allocator + Copy>(
+    cache: &Cache<A>,
+    block: BlockNo,
+    start: usize,
+    len: usize,
+) -> Option<&[u8]>
+    ensures long { IfSome result (λ bytes. length bytes.now ≡ len) }
+    ensures bytes { (blocks : List (List ℕ)) → IsCacheOf cache.now (unchanged blocks) → block < length blocks → start + len ≤ BLOCK
+        → MatchOption result ⊥ (λ bytes. IsSpan blocks block start len bytes.now) }
+{
+    let Ok(bytes) = cache.read(block, start, len) else {
+        return None;
+    };
+    if bytes.len() == len {
+        Some(bytes)
+    } else {
+        None
+    }
+}
