@@ -13,16 +13,13 @@ use Rattle.patch_cache.specs.Meaning.{Represents as IsCacheOf}
 use Rattle.patch_cache.specs.Flights.{AreFlightsOf}
 use Rattle.patch_cache.specs.Running.{Runs, held_by}
 use Rattle.patch_cache.specs.Waves.{is_write, is_send, classes_in_memory, steps_since, HasGoneOn, HoldImages, IsFlushed}
-use Rattle.patch_cache.specs.Waves as cache
 use Rattle.patch_cache.specs.declared.flights.Flights.{Flights}
 use Rattle.patch_cache.specs.declared.refusals.FlushRefusal.{FlushRefusal}
-use Rattle.patch_cache.specs.declared.refusals.FlushRefusal.TheVariants as flush
 use Rattle.patch_history.specs.History.{History, Event, Moved, steps_in, after_event, execution_of, standing_of, IsLegalHistory, AreRight}
 use Rattle.patch_history.specs.History as histories
 use Rattle.patch_history.specs.Standing.{Standing, at_opening}
 use Rattle.patch_store.specs.Meaning.{Store, Represents}
-use Rattle.patch_store.specs.declared.flushing.FlushFault.{FlushFault}
-use Rattle.patch_store.specs.Flushing.{StandsStill, with_writes, HasWritten, HoldCached, RisesIfGivenUp, fault_told}
+use Rattle.patch_store.specs.Flushing.{StandsStill, with_writes, HasWritten, HoldCached}
 
 -- The history with the writes.
 
@@ -120,19 +117,6 @@ pub said_view : {A : Type 0} (P : History → List Step → Type 0) (old now : S
     → (h : History) → StandsStill now h → P h (steps_since now.cache cache)
 said_view P old now cache flights is none said h still =
     subst (λ s. StandsStill s h → P h (steps_since s.cache cache)) is (λ w. said h (runs_so h old flights none w)) still
-
--- What a flush tells.
-
-pub told_ok : (X : Type 0) (flushed : Result (Unit {0}) FlushRefusal) (result : Result (Unit {0}) FlushFault) → result ≡ fault_told flushed → OnOk flushed X → OnOk result X
-told_ok X (Ok done) result is x = subst (λ r. OnOk r X) (sym is) x
-told_ok X (Err (flush.DeviceGaveUp block)) result is x = subst (λ r. OnOk r X) (sym is) tt
-told_ok X (Err flush.OutOfMemory) result is x = subst (λ r. OnOk r X) (sym is) tt
-
-pub told_rise : (flushed : Result (Unit {0}) FlushRefusal) (result : Result (Unit {0}) FlushFault) (before now : ℕ) → result ≡ fault_told flushed
-    → cache.RisesIfGivenUp flushed before now → RisesIfGivenUp result before now
-told_rise (Ok done) result before now is rises = subst (λ r. RisesIfGivenUp r before now) (sym is) tt
-told_rise (Err (flush.DeviceGaveUp block)) result before now is rises = subst (λ r. RisesIfGivenUp r before now) (sym is) rises
-told_rise (Err flush.OutOfMemory) result before now is rises = subst (λ r. RisesIfGivenUp r before now) (sym is) tt
 
 -- where nothing is left, images are what is cached
 pub cached_so : ((run : Execution) (block : ℕ) → IsFlushed run → image (history_of run block) ≡ cached (history_of run block))

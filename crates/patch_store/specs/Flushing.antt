@@ -1,19 +1,12 @@
 -- How all patches of a store are brought to the disk.
-use Rattle.std.specs.Prelude.{ℕ, ◌≡◌, ◌+◌, ◌<◌, ◌≤◌, List, [], ◌++◌, length, map, count_by, slice_index_or, IsFalse, Result, Ok, Err}
-use Rattle.patch_model.specs.declared.refusals.RefusalKind.TheVariants as kind
-use Rattle.patch_model.specs.declared.refusals.Refusal.{Refusal}
-use Rattle.patch_model.specs.Refusing.{bare, with_number}
+use Rattle.std.specs.Prelude.{ℕ, ◌≡◌, ◌+◌, ◌<◌, ◌≤◌, List, [], ◌++◌, length, map, count_by, slice_index_or, IsFalse}
 use Rattle.patch_model.specs.Step.{Step}
 use Rattle.patch_model.specs.Execution.{Execution}
 use Rattle.patch_model.specs.State.{entries_of, state_of, has_flight}
 use Rattle.patch_model.specs.History.{history_of, cached}
-use Rattle.patch_cache.specs.Waves.{is_send, classes_in_memory, HasGivenUp}
-use Rattle.patch_cache.specs.declared.refusals.FlushRefusal.{FlushRefusal}
-use Rattle.patch_cache.specs.declared.refusals.FlushRefusal.TheVariants as flush
+use Rattle.patch_cache.specs.Waves.{is_send, classes_in_memory}
 use Rattle.patch_history.specs.History.{History, Moved, execution_of}
 use Rattle.patch_store.specs.Meaning.{Store, Represents}
-use Rattle.patch_store.specs.declared.flushing.FlushFault.{FlushFault}
-use Rattle.patch_store.specs.declared.flushing.FlushFault.TheVariants as fault
 
 -- the store represents the history, and no write of it is under way
 pub record StandsStill (s : Store) (h : History) : Type 0 where
@@ -35,24 +28,3 @@ pub record HasWritten (h : History) (steps : List Step) (new : Store) : Type 0 w
 pub record HoldCached (run : Execution) (contents : List (List ℕ)) : Type 0 where
   pub count : length contents ≡ length run.first
   pub blocks : (b : ℕ) → b < length run.first → slice_index_or contents b [] ≡ cached (history_of run b)
-
--- What a fault tells.
-
-abbrev pub fault_cause : FlushFault → Refusal
-fault_cause (fault.DeviceGaveUp block) = with_number kind.DeviceGaveUp block
-fault_cause fault.OutOfMemory = bare kind.OutOfMemory
-
--- that of a refusal of the cache
-abbrev pub fault_of_refusal : FlushRefusal → FlushFault
-fault_of_refusal (flush.DeviceGaveUp block) = fault.DeviceGaveUp block
-fault_of_refusal flush.OutOfMemory = fault.OutOfMemory
-
-abbrev pub fault_told : Result (Unit {0}) FlushRefusal → Result (Unit {0}) FlushFault
-fault_told (Ok done) = Ok done
-fault_told (Err refusal) = Err (fault_of_refusal refusal)
-
--- an answer that the device gave up rests on as many faults as a write is tried
-abbrev pub RisesIfGivenUp : Result (Unit {0}) FlushFault → ℕ → ℕ → Type 0
-RisesIfGivenUp (Ok done) before now = Unit {0}
-RisesIfGivenUp (Err (fault.DeviceGaveUp block)) before now = HasGivenUp before now
-RisesIfGivenUp (Err fault.OutOfMemory) before now = Unit {0}

@@ -3,59 +3,23 @@ ghost use Rattle.std.specs.Prelude.{◌≡◌, ◌+◌, ◌*◌, ◌≤◌, leng
 ghost use Rattle.patch_model.specs.Execution.{followed_by};
 ghost use Rattle.patch_device.specs.SameDevice.{IsSameDevice};
 ghost use Rattle.patch_cache.specs.declared.landing.TheConstants.{TRIES};
-ghost use Rattle.patch_cache.specs.Waves.{is_send, steps_since, Continues, HasKept, HoldImages, IsFlushed};
+ghost use Rattle.patch_cache.specs.Waves.{is_send, steps_since, Continues, HasKept, HoldImages, IsFlushed, RisesIfGivenUp};
 ghost use Rattle.patch_history.specs.History.{History, execution_of};
-ghost use Rattle.patch_store.specs.Flushing.{StandsStill, HasWritten, HoldCached, RisesIfGivenUp, fault_cause, fault_told};
+ghost use Rattle.patch_store.specs.Flushing.{StandsStill, HasWritten, HoldCached};
 
 use crate::stores::Store;
 use patch_cache::{Flights, FlushRefusal, laws as cache_laws};
 use patch_device::Device;
-use patch_model::{BlockNo, Refusal, RefusalKind, Refuses};
 use std::alloc::Allocator;
-use thiserror::Error;
-
-/// Why a flush ends before all patches are on the disk. The writes that it has begun and not ended are given up: their blocks
-/// stay in flight for the store's life.
-#[derive(Clone, Copy, Debug, PartialEq, Eq, Error)]
-pub enum FlushFault {
-    /// The device refused the write of this block [`TRIES`](patch_cache::TRIES) times.
-    #[error("DeviceGaveUp {0}")]
-    DeviceGaveUp(BlockNo),
-    #[error("OutOfMemory")]
-    OutOfMemory,
-}
-
-impl Refuses for FlushFault {
-    ghost cause = { fault_cause };
-
-    fn refusal(self) -> Refusal {
-        match self {
-            FlushFault::DeviceGaveUp(block) => RefusalKind::DeviceGaveUp.with_number(block.0),
-            FlushFault::OutOfMemory => RefusalKind::OutOfMemory.bare(),
-        }
-    }
-}
-
-impl From<FlushRefusal> for FlushFault {
-    ghost use Rattle.patch_store.specs.Flushing.{fault_of_refusal};
-
-    ghost from_gives = { λ r e. e ≡ fault_of_refusal r };
-
-    fn from(refusal: FlushRefusal) -> FlushFault {
-        match refusal {
-            FlushRefusal::DeviceGaveUp(block) => FlushFault::DeviceGaveUp(block),
-            FlushRefusal::OutOfMemory => FlushFault::OutOfMemory,
-        }
-    }
-}
 
 /// Brings all patches of a store to the disk, in waves: begins all writes that can begin, writes them out and completes them,
 /// until none can begin. Called while no write is under way, on a device with the store's blocks. What was completed stays so
-/// whatever it answers.
+/// whatever it answers; the writes that it has begun and not ended are given up, and their blocks stay in flight for the store's
+/// life.
 pub fn flush<A: Allocator + Copy, D: Device>(
     store: &mut Store<A>,
     device: &mut D,
-) -> Result<(), FlushFault>
+) -> Result<(), FlushRefusal>
     ensures ran { (h : History) → StandsStill store.old h → HasWritten h (steps_since store.old.cache store.new.cache) store.new }
     ensures trace { Continues store.old.cache store.new.cache }
     ensures disk { D.is_honest device.old → (h : History) → StandsStill store.old h
@@ -76,15 +40,5 @@ pub fn flush<A: Allocator + Copy, D: Device>(
     let mut flights = Flights::new(store.alloc);
     let flushed = store.cache.flush(&mut flights, device);
     flights.abandon();
-    fault_of(flushed)
-}
-
-/// The fault of a cache's refusal.
-fn fault_of(flushed: Result<(), FlushRefusal>) -> Result<(), FlushFault>
-    ensures { result ≡ fault_told flushed }
-{
-    match flushed {
-        Ok(()) => Ok(()),
-        Err(refusal) => Err(FlushFault::from(refusal)),
-    }
+    flushed
 }

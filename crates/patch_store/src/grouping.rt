@@ -56,6 +56,7 @@ impl<A: Allocator + Copy> Store<A> {
         history_laws::histories_extend();
         self.groups.close(group)
     }
+
     /// How many patches of the group aren't on the disk yet. It takes no memory.
     pub fn pending(&self, group: GroupNo) -> Result<u32, GroupRefusal>
         ensures { (writer : ℕ) → Answers writer (Pending group) (reply_to group_cause (λ count. Count count) result) self.now self.now }

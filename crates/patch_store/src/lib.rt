@@ -25,6 +25,6 @@ mod sending;
 mod stores;
 mod upgrading;
 
-pub use flushing::{FlushFault, flush};
+pub use flushing::flush;
 pub use making::make;
 pub use stores::Store;

@@ -1,11 +1,10 @@
 use Rattle.std.proofs.Common.{◌≡◌, length}
 use Rattle.std.specs.Prelude.{OnOk}
 use Rattle.patch_model.specs.Execution.{followed_by}
-use Rattle.patch_cache.specs.Waves.{HasKept, IsFlushed, steps_since}
-use Rattle.patch_cache.specs.Waves as cache
+use Rattle.patch_cache.specs.Waves.{HasKept, IsFlushed, RisesIfGivenUp, steps_since}
 use Rattle.patch_history.specs.History.{execution_of}
 use Rattle.patch_store.specs.Flushing.{HoldCached}
-use Rattle.patch_store.proofs.Waving.{written_view, said_view, told_ok, told_rise, ok_map, cached_so}
+use Rattle.patch_store.proofs.Waving.{written_view, said_view, ok_map, cached_so}
 use Rattle.patch_store.proofs.flushing.flush.Goals as goal
 
 pub returns-clause-ran : goal.returns-clause-ran
@@ -23,27 +22,23 @@ returns-clause-disk g c honest h still =
 
 pub returns-clause-flushed : goal.returns-clause-flushed
 returns-clause-flushed g c h still =
-    told_ok _ c.flush-flushed.result c.fault_of.result c.fault_of.ensures
-    (said_view (λ h steps. OnOk c.flush-flushed.result (IsFlushed (followed_by (execution_of h) steps))) _ _ c.flush-flushed.new.self
-    c.new-flights.result c.store.view_is c.new-flights.ensures (λ h runs. c.flush-flushed.ensures.flushed (execution_of h) runs) h still)
+    said_view (λ h steps. OnOk c.flush-flushed.result (IsFlushed (followed_by (execution_of h) steps))) _ _ c.flush-flushed.new.self
+    c.new-flights.result c.store.view_is c.new-flights.ensures (λ h runs. c.flush-flushed.ensures.flushed (execution_of h) runs) h still
 
 pub returns-clause-cached : goal.returns-clause-cached
 returns-clause-cached g c honest h still held =
     let steps = steps_since c.args.store.now.cache c.flush-flushed.new.self in
     let run = followed_by (execution_of h) steps in
     let contents = g.D.Device.contents c.flush-flushed.new.device in
-    told_ok (HoldCached run contents) c.flush-flushed.result c.fault_of.result c.fault_of.ensures
-    (ok_map (IsFlushed run) (HoldCached run contents) c.flush-flushed.result
+    ok_map (IsFlushed run) (HoldCached run contents) c.flush-flushed.result
     (λ flushed. cached_so c.flushed_images_are_cached.ensures run contents flushed ((returns-clause-disk g c honest h still).images held))
-    (said_view (λ h steps. OnOk c.flush-flushed.result (IsFlushed (followed_by (execution_of h) steps))) _ _ c.flush-flushed.new.self
-    c.new-flights.result c.store.view_is c.new-flights.ensures (λ h runs. c.flush-flushed.ensures.flushed (execution_of h) runs) h still))
+    (returns-clause-flushed g c h still)
 
 pub returns-clause-gave_up : goal.returns-clause-gave_up
 returns-clause-gave_up g c h still count =
     let d = g.D.Device in
     let before = c.args.device.now in
     let now = c.flush-flushed.new.device in
-    told_rise c.flush-flushed.result c.fault_of.result (d.fault_count before) (d.fault_count now) c.fault_of.ensures
-    (said_view (λ h steps. d.block_count before ≡ length h.opening → cache.RisesIfGivenUp c.flush-flushed.result (d.fault_count before) (d.fault_count now)) _ _
+    said_view (λ h steps. d.block_count before ≡ length h.opening → RisesIfGivenUp c.flush-flushed.result (d.fault_count before) (d.fault_count now)) _ _
     c.flush-flushed.new.self c.new-flights.result c.store.view_is c.new-flights.ensures
-    (λ h runs count. c.flush-flushed.ensures.gave_up (execution_of h) (record { runs = runs; blocks = count })) h still count)
+    (λ h runs count. c.flush-flushed.ensures.gave_up (execution_of h) (record { runs = runs; blocks = count })) h still count
