@@ -1,4 +1,6 @@
 //! Lists of calls, with what each of them answers and which steps they leave in the trace.
+ghost use Rattle.std.specs.Prelude.{◌<◌};
+
 use super::*;
 
 // A call, or a look at the trace.
@@ -424,16 +426,31 @@ fn tell_each(told: &mut String, bench: &mut Bench, moves: &[Move]) -> Result<(),
     Ok(())
 }
 
+// How many blocks a disk of this geometry has.
+fn count_blocks(rt: &impl Abort, geometry: Geometry) -> usize {
+    assert!(rt; geometry.is_valid());
+    geometry.block_count() as usize
+}
+
+fn open_extents(
+    rt: &impl Abort,
+    alloc: Global,
+    cache: &Cache,
+    geometry: Geometry,
+) -> Result<Extents, ExtentsFault> {
+    assert!(rt; geometry.is_valid());
+    assert!(rt; cache.blocks() == geometry.block_count());
+    Extents::open(alloc, cache, geometry)
+}
+
 fn open_bench(
     rt: &impl Abort,
     alloc: Global,
     geometry: Geometry,
     records: &[u8],
 ) -> Result<Bench, Fail> {
-    assert!(rt; geometry.is_valid());
-    let cache = open_cache(rt, alloc, geometry.block_count() as usize, records)?;
-    assert!(rt; cache.blocks() == geometry.block_count());
-    let extents = Extents::open(alloc, &cache, geometry)?;
+    let cache = open_cache(rt, alloc, count_blocks(rt, geometry), records)?;
+    let extents = open_extents(rt, alloc, &cache, geometry)?;
     Ok(Bench {
         alloc,
         cache,
@@ -488,13 +505,8 @@ fn fault_of(
     records: &[u8],
 ) -> Result<Option<ExtentsFault>, OutOfMemory> {
     let geometry = geometry_of(format);
-    assert!(rt; geometry.is_valid());
-    let cache = open_cache(rt, alloc, geometry.block_count() as usize, records)?;
-    assert!(rt; cache.blocks() == geometry.block_count());
-    match Extents::open(alloc, &cache, geometry) {
-        Ok(_) => Ok(None),
-        Err(fault) => Ok(Some(fault)),
-    }
+    let cache = open_cache(rt, alloc, count_blocks(rt, geometry), records)?;
+    Ok(open_extents(rt, alloc, &cache, geometry).err())
 }
 
 // A pointer past its extent, and a byte behind the records, are refused; the largest pointer of each version isn't.
@@ -521,6 +533,23 @@ fn bad_pointers_are_refused(rt: HostRuntime) -> Result<(), Fail> {
     Ok(())
 }
 
+// Appends to the second extent, and resets it.
+fn move_pointer(
+    rt: &impl Abort,
+    cache: &mut Cache,
+    groups: &mut Groups,
+    extents: &mut Extents,
+) -> Result<(), Fail>
+    requires { 1 < extents.old.geometry.extents }
+{
+    extents.append(cache, groups, None, 1, b"bytes", &[])?;
+    expect_equal(rt, "appended", extents.pointer(1), (0, 5));
+    extents.reset(cache, 1, &[])?;
+    expect_equal(rt, "reset", extents.pointer(1), (1, 0));
+    expect_equal(rt, "other", extents.pointer(0), (0, 0));
+    Ok(())
+}
+
 #[test]
 fn pointers_are_told(rt: HostRuntime) -> Result<(), Fail> {
     let geometry = Geometry {
@@ -530,12 +559,7 @@ fn pointers_are_told(rt: HostRuntime) -> Result<(), Fail> {
     };
     let mut cache = open_cache(&rt, rt.alloc(), 35, &[])?;
     assert!(rt; cache.blocks() == 35);
-    let mut groups = Groups::new(rt.alloc());
     let mut extents = Extents::open(rt.alloc(), &cache, geometry)?;
-    extents.append(&mut cache, &mut groups, None, 1, b"bytes", &[])?;
-    expect_equal(&rt, "appended", extents.pointer(1), (0, 5));
-    extents.reset(&mut cache, 1, &[])?;
-    expect_equal(&rt, "reset", extents.pointer(1), (1, 0));
-    expect_equal(&rt, "other", extents.pointer(0), (0, 0));
-    Ok(())
+    let mut groups = Groups::new(rt.alloc());
+    move_pointer(&rt, &mut cache, &mut groups, &mut extents)
 }
