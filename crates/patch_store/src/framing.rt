@@ -21,8 +21,8 @@ use patch_history::laws as history_laws;
 use patch_model::{BlockNo, OutOfMemory, PatchNo, Undo, WriterNo};
 use std::alloc::Allocator;
 
-// How many bytes a frame has beside its key and its value.
-const OVERHEAD: usize = 16;
+/// How many bytes a frame has beside its key and its value.
+pub(crate) const OVERHEAD: u32 = 16;
 
 // The most patches that a slot's patch names: a pointer's, a delete's and the upgrade's.
 const MAX_NAMES: usize = 3;
@@ -62,12 +62,12 @@ impl<A: Allocator + Copy> Store<A> {
         requires { extent < self.now.shelf.extents.geometry.extents }
         ensures fields { IfSome result (λ entry. fields_of entry ≡ next_fields self.now.shelf extent key.now len) }
         ensures fits { IfSome result (λ entry. FitsUsed MAX_FRAME (fields_of entry)) }
-        ensures some { IfSome result (λ entry. 0 < len) }
+        ensures some { IfSome result (λ _. 0 < len) }
     {
         if key.is_empty() || key.len() > MAX_KEY {
             return None;
         }
-        if len < OVERHEAD + key.len() || len > MAX_FRAME as usize {
+        if len < OVERHEAD as usize + key.len() || len > MAX_FRAME as usize {
             return None;
         }
         let (generation, offset) = self.extents.pointer(extent);
