@@ -1,6 +1,6 @@
 -- The answers of an upgrade.
-use Rattle.std.proofs.Common.{◌≡◌, ℕ, ◌+◌, ◌<◌, ◌≤◌, ◌∙◌, inl, true, false, List, [], ◌∷◌, ◌++◌, length, refl, sym, ap, subst, arith}
-use Rattle.std.specs.Prelude.{Some, None, count_by, slice_range, if◌then◌else◌}
+use Rattle.std.proofs.Common.{◌≡◌, ℕ, ◌<◌, ◌≤◌, ◌∙◌, inl, List, [], ◌∷◌, ◌++◌, length, refl, sym, ap, subst, arith}
+use Rattle.std.specs.Prelude.{Some, None, count_by, slice_range}
 use Rattle.patch_model.specs.declared.refusals.RefusalKind.TheVariants as kind
 use Rattle.patch_model.specs.declared.refusals.Refusal.{Refusal}
 use Rattle.patch_model.specs.Refusing.{bare}
@@ -22,7 +22,7 @@ use Rattle.patch_extent.specs.Refusing.{why_no_room}
 use Rattle.patch_history.specs.Command.{Upgrade, Done, Refused, unless}
 use Rattle.patch_history.specs.Kept.{ShelvesAreKept}
 use Rattle.patch_history.specs.Laws.{HistoriesExtend, StandingsAgree}
-use Rattle.patch_history.specs.Refusing.{why_not_upgraded, is_wide}
+use Rattle.patch_history.specs.Refusing.{why_not_upgraded}
 use Rattle.patch_history.specs.Shelf.{Shelf, after_change}
 use Rattle.patch_history.specs.Standing.{Standing, made_by, live_of}
 use Rattle.patch_history.specs.History.{History, Call, execution_of, standing_of}

@@ -1,5 +1,5 @@
 -- A disk that is made one of version 2.
-use Rattle.std.specs.Prelude.{ℕ, ◌≡◌, List, [], ◌∷◌, ◌++◌, length, slice_range, Result, MatchResult}
+use Rattle.std.specs.Prelude.{ℕ, ◌≡◌, [], ◌∷◌, ◌++◌, length, slice_range, Result, MatchResult}
 use Rattle.patch_model.specs.declared.patches.Undo.TheVariants.{MayDrop}
 use Rattle.patch_model.specs.declared.refusals.OutOfMemory.{OutOfMemory}
 use Rattle.patch_model.specs.Step.{Step, Create}
