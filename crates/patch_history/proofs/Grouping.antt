@@ -1,5 +1,5 @@
 -- The groups of a standing are those of its execution: each event keeps them so.
-use Rattle.std.proofs.Common.{◌≡◌, ℕ, suc, ◌+◌, ◌≤◌, ◌∙◌, inl, inr, Bool, true, false, List, [], ◌∷◌, ◌++◌, length, map}
+use Rattle.std.proofs.Common.{◌≡◌, ℕ, ◌+◌, ◌≤◌, ◌∙◌, inl, inr, Bool, true, false, List, [], ◌∷◌, ◌++◌, length}
 use Rattle.std.proofs.Common.{Option, Some, None, refl, sym, ap, arith, subst}
 use Rattle.std.specs.Prelude.{◌==◌, option_to_list, fold, take, unwrap_or}
 use Rattle.std.proofs.lemmas.Bool.{cases_Bool}
@@ -10,7 +10,7 @@ use Rattle.patch_model.specs.State.{state_of, entries_of, after_step}
 use Rattle.patch_model.specs.declared.patches.Undo.TheVariants.{MayDrop}
 use Rattle.patch_recovery.specs.Change.{Change, Data, Point, Fill, Clear, Widen, Made, step_of, block_of, start_of, bytes_of}
 use Rattle.patch_recovery.specs.Store.{makes_nothing}
-use Rattle.patch_group.specs.Groups.{Groups, named, with_patch, why_not_begun, why_not_engaged, why_not_disengaged, why_not_ordered, why_not_closed}
+use Rattle.patch_group.specs.Groups.{Groups, named, with_patch, why_not_engaged, why_not_ordered}
 use Rattle.patch_group.specs.Order.{AreGroupsOf, NoneAreOfAny, StepsKeep, PatchesKeep, CallsKeep}
 use Rattle.patch_extent.specs.Extents.{Extents, extent_at}
 use Rattle.patch_extent.specs.Writing.{after_change, with_patches, named_plan, merge_behind, merge_with, written, steps_by}
@@ -18,8 +18,8 @@ use Rattle.patch_history.specs.Command.{Command, Reply, Put, Get, Delete, Reclai
 use Rattle.patch_history.specs.Command.{CloseGroup, Pending, Done, is_refused, may_be_cut}
 use Rattle.patch_history.specs.Standing.{Standing, at_opening, made_by, maker_of, plan_for, plan_of, creates, onto, after_call, groups_after}
 use Rattle.patch_history.specs.Refusing.{reply_of}
-use Rattle.patch_history.specs.History.{History, Event, Call, Moved, IsRight, AreRight, IsLegalHistory, IsWhole, is_write}
-use Rattle.patch_history.specs.History.{after_event, standing_of, execution_of}
+use Rattle.patch_history.specs.History.{Event, Call, Moved, IsRight, AreRight, IsWhole, is_write}
+use Rattle.patch_history.specs.History.{after_event, standing_of}
 use Rattle.patch_history.specs.Laws.{GroupsAreKept}
 use Rattle.patch_history.proofs.Extending.{standings_run}
 use Rattle.patch_history.proofs.Going.{onto_length}
