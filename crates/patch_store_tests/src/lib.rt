@@ -1,4 +1,4 @@
-//! Tests of `patch_store`: the blocks of new disks.
+//! Tests of `patch_store`: the blocks of new disks, and opening.
 #![tactic(auto)]
 
 #[cfg(test)]

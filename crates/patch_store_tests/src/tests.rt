@@ -1,11 +1,13 @@
-//! New disks: how many blocks they have, what their superblocks begin with, and which are refused.
+//! New disks: how many blocks they have, what their superblocks begin with, and which are refused; and how disks open.
 use patch_frame::{Format, Geometry};
 use patch_history::MakeRefusal;
-use patch_model::{BlockBytes, OutOfMemory};
+use patch_model::{BlockBytes, OutOfMemory, WriterNo};
 use patch_store::make;
 use std::alloc::Global;
 use std::process::Abort;
 use std::test::Fail;
+
+mod opening;
 
 // The fronts of the superblocks of one index block and two extents, and of longer extents.
 const FRONT: [u8; 20] = *b"FSTCHUNK\0\0\0\x01\0\0\0\x01\0\0\0\x02";
