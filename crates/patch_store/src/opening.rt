@@ -33,8 +33,8 @@ struct Disk<A: Allocator + Copy> {
 
 impl<A: Allocator + Copy> Store<A> {
     /// The store of a cache's blocks, of which no patch was made yet. Each slot's frame is read, so a store that opens has a
-    /// value for each of its keys; what no slot names isn't looked at. Where the blocks aren't those of a store the cache
-    /// comes back.
+    /// value for each of its keys; what no slot names isn't looked at. Where the blocks aren't those of a store, or there is
+    /// no memory, the cache comes back.
     pub fn open(alloc: A, cache: Cache<A>) -> Result<Store<A>, (Cache<A>, OpenFault)>
         ensures opened { (blocks : List (List ℕ)) → IsCacheOf cache (unchanged blocks) → Opens blocks result }
         ensures cache { KeepsCache cache result }
