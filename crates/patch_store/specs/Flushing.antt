@@ -1,10 +1,10 @@
 -- How all patches of a store are brought to the disk.
 use Rattle.std.specs.Prelude.{ℕ, ◌≡◌, ◌+◌, ◌<◌, ◌≤◌, List, [], ◌++◌, length, map, count_by, slice_index_or, IsFalse}
 use Rattle.patch_model.specs.Step.{Step}
-use Rattle.patch_model.specs.Execution.{Execution}
+use Rattle.patch_model.specs.Execution.{Execution, followed_by}
 use Rattle.patch_model.specs.State.{entries_of, state_of, has_flight}
 use Rattle.patch_model.specs.History.{history_of, cached}
-use Rattle.patch_cache.specs.Waves.{is_send, classes_in_memory}
+use Rattle.patch_cache.specs.Waves.{is_send, classes_in_memory, steps_since, HasKept}
 use Rattle.patch_history.specs.History.{History, Moved, execution_of}
 use Rattle.patch_store.specs.Meaning.{Store, Represents}
 
@@ -24,7 +24,20 @@ pub record HasWritten (h : History) (steps : List Step) (new : Store) : Type 0 w
   pub sends : count_by is_send steps + classes_in_memory (entries_of (execution_of (with_writes h steps)))
       ≤ classes_in_memory (entries_of (execution_of h))
 
+-- the execution behind what a call has added to the trace
+abbrev pub run_after : History → (old new : Store) → Execution
+run_after h old new = followed_by (execution_of h) (steps_since old.cache new.cache)
+
+-- the disk holds what these steps leave of it, and each contents on the way is such as a crash may leave
+abbrev pub KeepsDisk : History → (old new : Store) → (had had_now : List (List (List ℕ))) (contents contents_now : List (List ℕ)) → Type 0
+KeepsDisk h old new had had_now contents contents_now =
+    HasKept (execution_of h) (steps_since old.cache new.cache) had had_now contents contents_now
+
 -- each block of the device is the cached one
 pub record HoldCached (run : Execution) (contents : List (List ℕ)) : Type 0 where
   pub count : length contents ≡ length run.first
   pub blocks : (b : ℕ) → b < length run.first → slice_index_or contents b [] ≡ cached (history_of run b)
+
+-- behind what a call has added to the trace
+abbrev pub HoldNow : History → (old new : Store) → (contents : List (List ℕ)) → Type 0
+HoldNow h old new contents = HoldCached (run_after h old new) contents

@@ -1,9 +1,10 @@
 -- A store that is opened.
 use Rattle.std.specs.Prelude.{ℕ, Bool, ◌≡◌, ◌<◌, ◌+◌, ◌≤◌, ◌&&◌, not, nat_le, nat_lt, List, [], ◌∷◌, Option, Ok, Err, Result}
-use Rattle.std.specs.Prelude.{None, MatchResult, MatchOption, length, map, find, replicate, slice_range, flat_map}
+use Rattle.std.specs.Prelude.{None, Vec, MatchResult, MatchOption, length, map, find, replicate, slice_range, flat_map}
 use Rattle.std.specs.List.{range_with_len}
 use Rattle.patch_model.specs.Execution.{Execution}
 use Rattle.patch_cache.specs.Contents.{Contents}
+use Rattle.patch_cache.specs.Meaning.{Represents as IsCacheOf}
 use Rattle.patch_frame.specs.declared.geometries.Geometry.{Geometry}
 use Rattle.patch_frame.specs.Field.{outcome}
 use Rattle.patch_frame.specs.Geometry.{IsGeometry, block_count, slot_count, largest_pointer}
@@ -17,7 +18,9 @@ use Rattle.patch_history.specs.declared.refusals.OpenFault.{OpenFault}
 use Rattle.patch_history.specs.History.{History}
 use Rattle.patch_history.specs.Refusals.{fault_of}
 use Rattle.patch_history.specs.Shelf.{Shelf}
+use Rattle.patch_store.specs.declared.entries.Entry.{Entry}
 use Rattle.patch_store.specs.declared.opening.Disk.{Disk}
+use Rattle.patch_store.specs.Index.{told}
 use Rattle.patch_store.specs.Meaning.{Store, Represents}
 
 -- the execution of no steps over these blocks
@@ -96,6 +99,35 @@ pub record IsScanned (l : Ledger) (blocks : List (List ℕ)) (slot : ℕ) (says 
 pub record AreScanned (l : Ledger) (blocks : List (List ℕ)) (slots : List (Option SlotFields)) (count : ℕ) : Type 0 where
   pub pass : (s : ℕ) → s < count → NoneHolds (slot_tests l blocks s)
   pub say : slots ≡ map l.slot (range_with_len 0 count)
+
+-- What is read of a disk, or which test refuses it. No patch of it was made yet.
+
+-- what a cache and its extents give, over all blocks that they stand for
+abbrev pub Reads : Contents → Extents → (List (List ℕ) → Type 0) → Type 0
+Reads cache extents says =
+    (blocks : List (List ℕ)) → IsCacheOf cache (unchanged blocks) → AreExtentsOf extents (unchanged blocks) → says blocks
+
+-- all slots
+abbrev pub ReadsSlots : Geometry → Result (List (Option SlotFields)) OpenFault → List (List ℕ) → Type 0
+ReadsSlots g result blocks = MatchResult result
+    (λ slots. AreScanned (ledger_in g blocks) blocks slots (slot_count g)) (IsFirstOf (index_tests g blocks))
+
+-- one slot, where the lower ones say this
+abbrev pub ReadsSlot : Geometry → (lower : List (Option SlotFields)) (slot : ℕ) → Result (Option Entry) OpenFault → List (List ℕ)
+    → Type 0
+ReadsSlot g lower slot result blocks =
+    lower ≡ map (ledger_in g blocks).slot (range_with_len 0 slot) → MatchResult result
+    (λ entry. IsScanned (ledger_in g blocks) blocks slot (told entry)) (IsFirstOf (slot_tests (ledger_in g blocks) blocks slot))
+
+-- the frame that a used slot names
+abbrev pub ReadsFrame : {X : Type 0} → Geometry → (slot : ℕ) → SlotFields → Result X OpenFault → List (List ℕ) → Type 0
+ReadsFrame g slot f result blocks = MatchResult result
+    (λ _. NoneHolds (frame_tests (ledger_in g blocks) slot f)) (IsFirstOf (frame_tests (ledger_in g blocks) slot f))
+
+-- the bytes at its place
+abbrev pub ReadsPlace : {A : Type 0} → Geometry → (slot : ℕ) → SlotFields → Result (Vec ℕ A) OpenFault → List (List ℕ) → Type 0
+ReadsPlace g slot f result blocks = MatchResult result
+    (λ bytes. IsPlaced (ledger_in g blocks) f bytes.items) (IsFirstOf (frame_tests (ledger_in g blocks) slot f))
 
 -- the extent is begun, and has room for the shortest frame
 abbrev pub is_open : Extents → ℕ → Bool

@@ -1,11 +1,10 @@
 //! How all patches of a store are brought to the disk.
 ghost use Rattle.std.specs.Prelude.{◌≡◌, ◌+◌, ◌*◌, ◌≤◌, length, count_by, OnOk};
-ghost use Rattle.patch_model.specs.Execution.{followed_by};
 ghost use Rattle.patch_device.specs.SameDevice.{IsSameDevice};
 ghost use Rattle.patch_cache.specs.declared.landing.TheConstants.{TRIES};
-ghost use Rattle.patch_cache.specs.Waves.{is_send, steps_since, Continues, HasKept, HoldImages, IsFlushed, RisesIfGivenUp};
+ghost use Rattle.patch_cache.specs.Waves.{is_send, steps_since, Continues, HoldImages, IsFlushed, RisesIfGivenUp};
 ghost use Rattle.patch_history.specs.History.{History, execution_of};
-ghost use Rattle.patch_store.specs.Flushing.{StandsStill, HasWritten, HoldCached};
+ghost use Rattle.patch_store.specs.Flushing.{StandsStill, HasWritten, KeepsDisk, HoldNow, run_after};
 
 use crate::stores::Store;
 use patch_cache::{Flights, FlushRefusal, laws as cache_laws};
@@ -22,14 +21,11 @@ pub fn flush<A: Allocator + Copy, D: Device>(
 ) -> Result<(), FlushRefusal>
     ensures ran { (h : History) → StandsStill store.old h → HasWritten h (steps_since store.old.cache store.new.cache) store.new }
     ensures trace { Continues store.old.cache store.new.cache }
-    ensures disk { D.is_honest device.old → (h : History) → StandsStill store.old h
-        → HasKept (execution_of h) (steps_since store.old.cache store.new.cache)
+    ensures disk { D.is_honest device.old → (h : History) → StandsStill store.old h → KeepsDisk h store.old store.new
         (D.had device.old) (D.had device.new) (D.contents device.old) (D.contents device.new) }
-    ensures flushed { (h : History) → StandsStill store.old h
-        → OnOk result (IsFlushed (followed_by (execution_of h) (steps_since store.old.cache store.new.cache))) }
-    ensures cached { D.is_honest device.old → (h : History) → StandsStill store.old h
-        → HoldImages (execution_of h) (D.contents device.old)
-        → OnOk result (HoldCached (followed_by (execution_of h) (steps_since store.old.cache store.new.cache)) (D.contents device.new)) }
+    ensures flushed { (h : History) → StandsStill store.old h → OnOk result (IsFlushed (run_after h store.old store.new)) }
+    ensures cached { D.is_honest device.old → (h : History) → StandsStill store.old h → HoldImages (execution_of h) (D.contents device.old)
+        → OnOk result (HoldNow h store.old store.new (D.contents device.new)) }
     ensures tries { D.is_honest device.old → length (D.had device.new)
         ≤ length (D.had device.old) + TRIES * count_by is_send (steps_since store.old.cache store.new.cache) }
     ensures gave_up { (h : History) → StandsStill store.old h → D.block_count device.old ≡ length h.opening

@@ -1,17 +1,14 @@
 //! How the slots of a disk are read, one after another, as it is opened.
-ghost use Rattle.std.specs.Prelude.{◌≡◌, ◌+◌, ◌<◌, ◌≤◌, ℕ, List, map, length, nat_le, IsTrue, IfOk, IfSome, MatchOption, MatchResult};
-ghost use Rattle.std.specs.List.{range_with_len};
+ghost use Rattle.std.specs.Prelude.{◌≡◌, ◌+◌, ◌<◌, ◌≤◌, ℕ, List, length, nat_le, IsTrue, IfOk, IfSome, MatchOption};
 ghost use Rattle.patch_model.specs.declared.blocks.TheConstants.{BLOCK};
 ghost use Rattle.patch_cache.specs.Meaning.{Represents as IsCacheOf};
-ghost use Rattle.patch_extent.specs.Meaning.{Represents as AreExtentsOf};
 ghost use Rattle.patch_frame.specs.declared.framing.TheConstants.{MAX_KEY};
 ghost use Rattle.patch_frame.specs.Frame.{frame_at};
 ghost use Rattle.patch_frame.specs.Geometry.{IsFormat, IsGeometry, slot_count, largest_pointer};
 ghost use Rattle.patch_frame.specs.Slot.{used_fields};
 ghost use Rattle.patch_recovery.specs.Ledger.{is_frame_of as holds};
-ghost use Rattle.patch_recovery.specs.Reading.{ledger_in, slot_tests};
-ghost use Rattle.patch_store.specs.Index.{fields_of, told};
-ghost use Rattle.patch_store.specs.Opening.{unchanged, IsSpan, IsFirstOf, IsScanned, AreScanned, IsPlaced, NoneHolds, index_tests, frame_tests};
+ghost use Rattle.patch_store.specs.Index.{fields_of};
+ghost use Rattle.patch_store.specs.Opening.{unchanged, IsSpan, Reads, ReadsSlots, ReadsSlot, ReadsFrame, ReadsPlace};
 
 use crate::entries::{Entry, Key};
 use crate::indexes::Index;
@@ -35,9 +32,7 @@ pub(crate) fn read_slots<A: Allocator + Copy>(
     requires geometry { IsGeometry geometry }
     requires extents { extents.now.geometry ≡ geometry }
     ensures count { IfOk result (λ index. length index ≡ slot_count geometry) }
-    ensures read { (blocks : List (List ℕ)) → IsCacheOf cache.now (unchanged blocks) → AreExtentsOf extents.now (unchanged blocks)
-        → MatchResult result (λ index. AreScanned (ledger_in geometry blocks) blocks index (slot_count geometry))
-        (IsFirstOf (index_tests geometry blocks)) }
+    ensures read { Reads cache.now extents.now (ReadsSlots geometry result) }
 {
     let count = geometry.slot_count();
     let Ok(mut index) = Index::with_room(alloc, count) else {
@@ -63,10 +58,7 @@ fn read_slot<A: Allocator + Copy>(
     requires geometry { IsGeometry geometry }
     requires extents { extents.now.geometry ≡ geometry }
     requires within { slot < slot_count geometry }
-    ensures { (blocks : List (List ℕ)) → IsCacheOf cache.now (unchanged blocks) → AreExtentsOf extents.now (unchanged blocks)
-        → lower.now ≡ map (ledger_in geometry blocks).slot (range_with_len 0 slot)
-        → MatchResult result (λ entry. IsScanned (ledger_in geometry blocks) blocks slot (told entry))
-        (IsFirstOf (slot_tests (ledger_in geometry blocks) blocks slot)) }
+    ensures { Reads cache.now extents.now (ReadsSlot geometry lower.now slot result) }
 {
     let start = slot_start(slot);
     let Some(bytes) = span(cache, BlockNo(slot_block(slot)), start, SLOT_BYTES) else {
@@ -98,9 +90,7 @@ fn read_entry<A: Allocator + Copy>(
     requires extents { extents.now.geometry.format ≡ format }
     requires key { length named.now.key.now ≤ MAX_KEY }
     ensures fields { IfOk result (λ entry. fields_of entry ≡ used_fields named.now) }
-    ensures read { (blocks : List (List ℕ)) → IsCacheOf cache.now (unchanged blocks) → AreExtentsOf extents.now (unchanged blocks)
-        → MatchResult result (λ _. NoneHolds (frame_tests (ledger_in extents.now.geometry blocks) slot (used_fields named.now)))
-        (IsFirstOf (frame_tests (ledger_in extents.now.geometry blocks) slot (used_fields named.now))) }
+    ensures read { Reads cache.now extents.now (ReadsFrame extents.now.geometry slot (used_fields named.now) result) }
 {
     frame_laws::the_longest_extents_reach_the_limit();
     let bytes = read_place(cache, extents, named, slot)?;
@@ -127,10 +117,7 @@ fn read_place<A: Allocator + Copy>(
     named: &Slot<'_>,
     slot: u32,
 ) -> Result<Vec<u8, A>, OpenFault>
-    ensures { (blocks : List (List ℕ)) → IsCacheOf cache.now (unchanged blocks) → AreExtentsOf extents.now (unchanged blocks)
-        → MatchResult result
-        (λ bytes. IsPlaced (ledger_in extents.now.geometry blocks) (used_fields named.now) bytes.items)
-        (IsFirstOf (frame_tests (ledger_in extents.now.geometry blocks) slot (used_fields named.now))) }
+    ensures { Reads cache.now extents.now (ReadsPlace extents.now.geometry slot (used_fields named.now) result) }
 {
     let place = Place {
         extent: named.extent as u32,
