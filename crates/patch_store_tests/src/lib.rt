@@ -1,4 +1,4 @@
-//! Tests of `patch_store`: the blocks of new disks, opening, puts and deletes, flushes, and upgrades.
+//! Tests of `patch_store`: the blocks of new disks, and opening.
 #![tactic(auto)]
 
 #[cfg(test)]

@@ -7,8 +7,6 @@ use std::alloc::Global;
 use std::process::Abort;
 use std::test::Fail;
 
-mod calls;
-mod flushes;
 mod opening;
 
 // The fronts of the superblocks of one index block and two extents, and of longer extents.
