@@ -15,7 +15,7 @@ use Rattle.patch_history.specs.Laws.{HistoriesExtend}
 use Rattle.patch_history.specs.History.{History, Event, Call, steps_in, steps_of, after_event, execution_of, standing_of, with_event, IsRight, IsCut}
 use Rattle.patch_store.specs.Meaning.{Store, Represents, HasGained, HasAnswered}
 
-steps_push : (events : List Event) (event : Event) → flat_map steps_in (events ++ event ∷ []) ≡ flat_map steps_in events ++ steps_in event
+pub steps_push : (events : List Event) (event : Event) → flat_map steps_in (events ++ event ∷ []) ≡ flat_map steps_in events ++ steps_in event
 steps_push [] event = append-nil (steps_in event)
 steps_push (first ∷ events) event = ap (λ steps. steps_in first ++ steps) (steps_push events event) ∙ sym (append_assoc (steps_in first) (flat_map steps_in events) (steps_in event))
 

@@ -16,3 +16,4 @@ pub mod Puts
 pub mod Tested
 pub mod Scanned
 pub mod Opened
+pub mod Calling

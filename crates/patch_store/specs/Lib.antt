@@ -8,6 +8,7 @@ pub mod Making
 pub mod Putting
 pub mod Opening
 pub mod Replies
+pub mod Running
 pub mod Sending
 pub mod Upgrading
 pub mod Flushing

@@ -20,6 +20,8 @@ pub mod laws;
 mod making;
 mod opening;
 mod putting;
+mod reclaiming;
+mod running;
 mod scanning;
 mod sending;
 mod stores;

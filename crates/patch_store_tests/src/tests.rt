@@ -1,13 +1,29 @@
-//! New disks: how many blocks they have, what their superblocks begin with, and which are refused; and how disks open.
+//! New disks: how many blocks they have, what their superblocks begin with, and which are refused; and what the tests of stores
+//! share.
+use patch_cache::Cache;
 use patch_frame::{Format, Geometry};
 use patch_history::MakeRefusal;
-use patch_model::{BlockBytes, OutOfMemory, WriterNo};
-use patch_store::make;
-use std::alloc::Global;
+use patch_model::{BLOCK, BlockBytes, MAX_BLOCKS, OutOfMemory, WriterNo};
+use patch_store::{Store, make};
+use std::alloc::{Allocator, Global};
 use std::process::Abort;
 use std::test::Fail;
 
+mod closed;
+mod flushes;
+mod memory;
 mod opening;
+mod walks;
+
+// One index block and two extents: 35 blocks.
+const SMALL: Geometry = Geometry {
+    index: 1,
+    extents: 2,
+    format: Format::One,
+};
+
+// Bytes that stand somewhere on a disk: in which block, from where, and which.
+type Piece<'a> = (usize, usize, &'a [u8]);
 
 // The fronts of the superblocks of one index block and two extents, and of longer extents.
 const FRONT: [u8; 20] = *b"FSTCHUNK\0\0\0\x01\0\0\0\x01\0\0\0\x02";
@@ -48,6 +64,64 @@ fn expect_no_geometry(rt: &impl Abort, alloc: Global, geometry: Geometry) {
         Err(refusal) => refusal == MakeRefusal::Geometry,
     };
     assert!(rt; refused);
+}
+
+// The blocks of a new disk divided like this, with these pieces over them.
+fn disk_with<A: Allocator + Copy>(
+    alloc: A,
+    geometry: Geometry,
+    pieces: &[Piece<'_>],
+) -> Result<Vec<BlockBytes<A>, A>, OutOfMemory> {
+    let Ok(mut blocks) = make(alloc, geometry) else {
+        return Err(OutOfMemory);
+    };
+    for (block, start, bytes) in pieces {
+        if let Some(block) = blocks.get_mut(*block) {
+            if bytes.len() <= BLOCK && *start <= BLOCK - bytes.len() {
+                block.write(*start, bytes);
+            }
+        }
+    }
+    Ok(blocks)
+}
+
+fn cache_of<A: Allocator + Copy>(
+    rt: &impl Abort,
+    alloc: A,
+    blocks: Vec<BlockBytes<A>, A>,
+) -> Result<Cache<A>, OutOfMemory> {
+    assert!(rt; !blocks.is_empty() && blocks.len() <= MAX_BLOCKS);
+    Cache::open(alloc, blocks)
+}
+
+fn open_with<A: Allocator + Copy>(
+    rt: &impl Abort,
+    alloc: A,
+    geometry: Geometry,
+    pieces: &[Piece<'_>],
+) -> Result<Store<A>, Fail> {
+    let cache = cache_of(rt, alloc, disk_with(alloc, geometry, pieces)?)?;
+    match Store::open(alloc, cache) {
+        Ok(store) => Ok(store),
+        Err(_) => Err(Fail::from("a good disk was not opened")),
+    }
+}
+
+// Asserts that a key has this value, or none.
+fn expect_value<A: Allocator + Copy>(
+    rt: &impl Abort,
+    store: &Store<A>,
+    key: &[u8],
+    value: Option<&[u8]>,
+) -> Result<(), Fail> {
+    let Ok(got) = store.get(key) else {
+        return Err(Fail::from("a key could not be read"));
+    };
+    match (got, value) {
+        (Some(got), Some(value)) => assert_eq!(rt; got.as_slice(), value),
+        (got, value) => assert!(rt; got.is_none() && value.is_none()),
+    }
+    Ok(())
 }
 
 #[test]

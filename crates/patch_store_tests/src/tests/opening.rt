@@ -1,18 +1,12 @@
 //! Disks that open, and disks that don't: which fault each has, and that the cache comes back.
 use super::*;
 use linked_list_allocator::LocalHeap;
-use patch_cache::Cache;
 use patch_history::OpenFault;
-use patch_model::{BLOCK, BlockNo, MAX_BLOCKS};
 use patch_store::Store;
 use patch_testing::{fill, hole_of};
-use std::alloc::Allocator;
 
 // How many bytes the heap has: a cache of 35 blocks, and more.
 const HEAP: usize = 262_144;
-
-// Bytes that stand somewhere on a disk: in which block, from where, and which.
-type Piece<'a> = (usize, usize, &'a [u8]);
 
 // The frame of key `k` with bytes 1 and 2, its pointer record and its slot.
 const FRAME: Piece<'static> = (3, 0, b"FCH1\x01\0\0\0\0\0\0\x02k\x01\x021HCF");
@@ -20,33 +14,6 @@ const FRAME: Piece<'static> = (3, 0, b"FCH1\x01\0\0\0\0\0\0\x02k\x01\x021HCF");
 const POINTER: Piece<'static> = (2, 0, b"\0\0\0\0\0\0\0\x13");
 
 const SLOT: Piece<'static> = (1, 0, b"\x01\x01\0\0\0\0\0\0\0\0\0\0\0\0\0\x13k");
-
-// The blocks of a new disk with one index block and two extents, and then these pieces.
-fn disk_with<A: Allocator + Copy>(
-    alloc: A,
-    pieces: &[Piece<'_>],
-) -> Result<Vec<BlockBytes<A>, A>, OutOfMemory> {
-    let Ok(mut blocks) = make(alloc, disk(1, 2, Format::One)) else {
-        return Err(OutOfMemory);
-    };
-    for (block, start, bytes) in pieces {
-        if let Some(block) = blocks.get_mut(*block) {
-            if bytes.len() <= BLOCK && *start <= BLOCK - bytes.len() {
-                block.write(*start, bytes);
-            }
-        }
-    }
-    Ok(blocks)
-}
-
-fn cache_of<A: Allocator + Copy>(
-    rt: &impl Abort,
-    alloc: A,
-    blocks: Vec<BlockBytes<A>, A>,
-) -> Result<Cache<A>, OutOfMemory> {
-    assert!(rt; !blocks.is_empty() && blocks.len() <= MAX_BLOCKS);
-    Cache::open(alloc, blocks)
-}
 
 // Asserts that the blocks are refused with this fault, and that the cache comes back as it was.
 fn expect_refused(
@@ -77,52 +44,27 @@ fn expect_fault(
 ) -> Result<(), Fail> {
     let mut all = vec![in alloc; FRAME, POINTER, SLOT]?;
     all.extend_from_slice(pieces)?;
-    let blocks = disk_with(alloc, &all)?;
+    let blocks = disk_with(alloc, SMALL, &all)?;
     expect_refused(rt, alloc, blocks, fault)
-}
-
-fn open_with(rt: &impl Abort, alloc: Global, pieces: &[Piece<'_>]) -> Result<Store, Fail> {
-    let cache = cache_of(rt, alloc, disk_with(alloc, pieces)?)?;
-    match Store::open(alloc, cache) {
-        Ok(store) => Ok(store),
-        Err(_) => Err(Fail::from("a good disk was not opened")),
-    }
-}
-
-// Asserts that a key has this value, or none.
-fn expect_value(
-    rt: &impl Abort,
-    store: &Store,
-    key: &[u8],
-    value: Option<&[u8]>,
-) -> Result<(), Fail> {
-    let Ok(got) = store.get(key) else {
-        return Err(Fail::from("a key could not be read"));
-    };
-    match (got, value) {
-        (Some(got), Some(value)) => assert_eq!(rt; got.as_slice(), value),
-        (got, value) => assert!(rt; got.is_none() && value.is_none()),
-    }
-    Ok(())
 }
 
 #[test]
 fn a_new_disk_holds_no_key(rt: HostRuntime) -> Result<(), Fail> {
-    let store = open_with(&rt, rt.alloc(), &[])?;
+    let store = open_with(&rt, rt.alloc(), SMALL, &[])?;
     assert_eq!(&rt; store.cache().blocks(), 35);
     expect_value(&rt, &store, b"k", None)
 }
 
 #[test]
 fn a_slot_gives_its_key_the_value_of_its_frame(rt: HostRuntime) -> Result<(), Fail> {
-    let store = open_with(&rt, rt.alloc(), &[FRAME, POINTER, SLOT])?;
+    let store = open_with(&rt, rt.alloc(), SMALL, &[FRAME, POINTER, SLOT])?;
     expect_value(&rt, &store, b"k", Some(&[1, 2]))?;
     expect_value(&rt, &store, b"l", None)
 }
 
 #[test]
 fn a_key_is_deleted_from_an_opened_disk(rt: HostRuntime) -> Result<(), Fail> {
-    let mut store = open_with(&rt, rt.alloc(), &[FRAME, POINTER, SLOT])?;
+    let mut store = open_with(&rt, rt.alloc(), SMALL, &[FRAME, POINTER, SLOT])?;
     assert!(&rt; store.delete(WriterNo(0), b"k").is_ok());
     expect_value(&rt, &store, b"k", None)
 }
@@ -138,7 +80,7 @@ fn a_superblock_and_a_count_that_differ_are_refused(rt: HostRuntime) -> Result<(
         &[(0, 0, &[0]), (2, 16, &[1])],
         OpenFault::BadSuper,
     )?;
-    let mut blocks = disk_with(alloc, &[])?;
+    let mut blocks = disk_with(alloc, SMALL, &[])?;
     let _last = blocks.pop();
     expect_refused(&rt, alloc, blocks, OpenFault::FileSize)
 }
@@ -188,7 +130,7 @@ fn a_key_in_two_slots_is_refused(rt: HostRuntime) -> Result<(), Fail> {
 
 // Opens where only a hole of this size is left, and again with memory where that is refused. Whether it was.
 fn open_twice(rt: &impl Abort, alloc: Global, heap: &LocalHeap, hole: usize) -> Result<bool, Fail> {
-    let cache = cache_of(rt, heap, disk_with(heap, &[FRAME, POINTER, SLOT])?)?;
+    let cache = cache_of(rt, heap, disk_with(heap, SMALL, &[FRAME, POINTER, SLOT])?)?;
     let ballast = fill(alloc, heap, hole)?;
     let first = Store::open(heap, cache);
     drop(ballast);

@@ -1,0 +1,106 @@
+//! Flushes: what the disk holds then, and devices that fail.
+use super::walks::{Ask, Said, behind, put};
+use super::*;
+use patch_device::{Device, FaultyDevice, MemDevice, load};
+use patch_store::flush;
+
+// How many blocks a small disk has.
+const COUNT: u32 = 35;
+
+// How many writes a flush of the commands below begins.
+const WRITES: u64 = 4;
+
+// What a store of a small disk has gone through before it is flushed.
+const TURNS: [(Ask<'static>, Said); 4] = [
+    (
+        Ask::Put {
+            key: b"a",
+            byte: 1,
+            len: 5000,
+        },
+        Said::Done,
+    ),
+    (
+        Ask::Put {
+            key: b"b",
+            byte: 2,
+            len: 1,
+        },
+        Said::Done,
+    ),
+    (Ask::Delete { key: b"b" }, Said::Done),
+    (
+        Ask::Put {
+            key: b"b",
+            byte: 3,
+            len: 2,
+        },
+        Said::Done,
+    ),
+];
+
+// A device that holds a new disk.
+fn new_device(alloc: Global) -> Result<MemDevice, Fail> {
+    let mut device = MemDevice::new(alloc, COUNT)?;
+    let blocks = disk_with(alloc, SMALL, &[])?;
+    for at in 0..blocks.len() {
+        if device.write(at as u32, blocks[at].as_slice()).is_err() {
+            return Err(Fail::from("a device in memory refused a write"));
+        }
+    }
+    Ok(device)
+}
+
+fn blocks_of<D: Device>(alloc: Global, device: &mut D) -> Result<Vec<BlockBytes>, Fail> {
+    match load(alloc, device) {
+        Ok(blocks) => Ok(blocks),
+        Err(_) => Err(Fail::from("a device was not loaded")),
+    }
+}
+
+// The device's blocks open as the map of the commands.
+fn expect_on_disk<D: Device>(rt: &impl Abort, alloc: Global, device: &mut D) -> Result<(), Fail> {
+    let cache = cache_of(rt, alloc, blocks_of(alloc, device)?)?;
+    let Ok(store) = Store::open(alloc, cache) else {
+        return Err(Fail::from("a flushed disk was not opened"));
+    };
+    expect_value(rt, &store, b"b", Some(&[3, 3]))?;
+    match store.get(b"a") {
+        Ok(Some(value)) => assert_eq!(rt; value.len(), 5000),
+        _ => return Err(Fail::from("a value was lost")),
+    }
+    Ok(())
+}
+
+// Flushes the commands to the device, all of them.
+fn expect_flushed<D: Device>(rt: &impl Abort, alloc: Global, device: &mut D) -> Result<(), Fail> {
+    let mut store = behind(rt, alloc, SMALL, &TURNS)?;
+    assert!(rt; flush(&mut store, device).is_ok());
+    assert_eq!(rt; store.cache().live(), 0);
+    Ok(())
+}
+
+#[test]
+fn a_flushed_disk_is_opened_again(rt: HostRuntime) -> Result<(), Fail> {
+    let mut device = new_device(rt.alloc())?;
+    let before = device.writes().len() as u64;
+    expect_flushed(&rt, rt.alloc(), &mut device)?;
+    assert_eq!(&rt; device.writes().len() as u64, before.saturating_add(WRITES));
+    expect_on_disk(&rt, rt.alloc(), &mut device)
+}
+
+// One write fails, landing or not: it is tried again.
+fn flush_over_a_fault(rt: &impl Abort, alloc: Global, at: u64, lands: bool) -> Result<(), Fail> {
+    let mut device = FaultyDevice::new(new_device(alloc)?, at, lands);
+    expect_flushed(rt, alloc, &mut device)?;
+    expect_on_disk(rt, alloc, &mut device)
+}
+
+#[test]
+fn a_write_that_fails_once_is_tried_again(rt: HostRuntime) -> Result<(), Fail> {
+    for at in 0..WRITES {
+        flush_over_a_fault(&rt, rt.alloc(), at, false)?;
+        flush_over_a_fault(&rt, rt.alloc(), at, true)?;
+    }
+    Ok(())
+}
