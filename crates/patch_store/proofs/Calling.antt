@@ -72,9 +72,6 @@ begun_run h commands s was = record {
   trace_is = sym (ap (λ events. s.cache.trace ++ flat_map steps_in events) (none_called commands) ∙ append-nil s.cache.trace);
 }
 
-
-
-
 pub next_run : {A : Type 0} (h : History) (commands : List (ℕ × CodeCommand A)) (replies : List (CodeReply A))
     (c : ℕ × CodeCommand A) (reply : CodeReply A) (old mid new : Store)
     → length replies < length commands → get_or commands (length replies) c ≡ c

@@ -17,3 +17,4 @@ pub mod Tested
 pub mod Scanned
 pub mod Opened
 pub mod Calling
+pub mod Reported

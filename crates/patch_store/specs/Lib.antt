@@ -1,5 +1,6 @@
 pub mod Index
 pub mod Meaning
+pub mod Checking
 pub mod Choosing
 pub mod Deleting
 pub mod Framing

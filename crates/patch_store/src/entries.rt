@@ -6,7 +6,7 @@ use patch_frame::MAX_KEY;
 
 /// A key of at most 32 bytes, in no memory of its own.
 #[derive(Clone, Copy)]
-pub(crate) struct Key {
+pub struct Key {
     pub(crate) bytes: [u8; MAX_KEY],
     pub(crate) length: u32,
     ghost fits: { length ≤ 32 },

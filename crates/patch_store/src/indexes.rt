@@ -1,9 +1,11 @@
 //! The index: what each slot says.
-ghost use Rattle.std.specs.Prelude.{◌≡◌, ◌<◌, ◌≤◌, ◌++◌, ◌∷◌, [], Some, None, length, position, is_none, slice_index_or, slice_set, IfOk, OnOk, OnErr};
+ghost use Rattle.std.specs.Prelude.{◌≡◌, ◌<◌, ◌≤◌, ◌++◌, ◌∷◌, [], Some, None, length, position, is_none, slice_index_or, slice_set, map, IfOk, OnOk, OnErr};
 ghost use Rattle.patch_recovery.specs.Reading.{has_key as is_of};
+ghost use Rattle.patch_store.specs.Checking.{reported, of_slots, live_bytes, bytes_in as bytes_of};
 ghost use Rattle.patch_store.specs.Index.{fields_of, told};
 
 use crate::entries::Entry;
+use crate::reports::EntryReport;
 use patch_model::OutOfMemory;
 use std::alloc::{Allocator, Global};
 use std::marker::Model;
@@ -81,6 +83,30 @@ impl<A: Allocator> Index<A> {
         None
     }
 
+    /// Each used slot's key, with the length of its value, in the order of the slots.
+    pub(crate) fn reports<B: Allocator>(&self, alloc: B) -> Result<Vec<EntryReport, B>, OutOfMemory>
+        ensures { IfOk result (λ entries. map reported entries.items ≡ of_slots self.now) }
+    {
+        let mut entries = Vec::new(alloc);
+        for slot in 0..self.slots.len() {
+            if let Some(entry) = self.slots[slot] {
+                entries.push(entry.report())?;
+            }
+        }
+        Ok(entries)
+    }
+
+    /// How many bytes the frames have that slots name in the extent.
+    pub(crate) fn live_bytes(&self, extent: u32) -> u32
+        ensures { result ≡ live_bytes self.now extent }
+    {
+        let mut live = 0;
+        for slot in 0..self.slots.len() {
+            live += bytes_in(&self.slots[slot], extent);
+        }
+        live
+    }
+
     /// Lets a slot name this frame from now on.
     pub(crate) fn fill(&mut self, slot: u32, entry: Entry)
         requires { slot < length self.old }
@@ -105,6 +131,17 @@ fn has_key(slot: &Option<Entry>, key: &[u8]) -> bool
     match slot {
         Some(entry) => entry.key.as_slice() == key,
         None => false,
+    }
+}
+
+/// How many bytes a slot's frame has in the extent.
+fn bytes_in(slot: &Option<Entry>, extent: u32) -> u32
+    ensures value { result ≡ bytes_of extent (told slot.now) }
+    ensures few { result ≤ 262144 }
+{
+    match slot {
+        Some(entry) if entry.extent == extent => entry.length,
+        _ => 0,
     }
 }
 

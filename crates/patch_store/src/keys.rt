@@ -20,7 +20,7 @@ impl Key {
     }
 
     /// The bytes of the key.
-    pub(crate) fn as_slice(&self) -> &[u8]
+    pub fn as_slice(&self) -> &[u8]
         ensures { result.now ≡ key_of self.now }
     {
         &self.bytes[..self.length as usize]

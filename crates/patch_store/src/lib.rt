@@ -7,6 +7,7 @@
 //! named in `framing`.
 #![tactic(auto)]
 
+mod checking;
 mod choosing;
 mod deleting;
 mod entries;
@@ -21,12 +22,15 @@ mod making;
 mod opening;
 mod putting;
 mod reclaiming;
+mod reports;
 mod running;
 mod scanning;
 mod sending;
 mod stores;
 mod upgrading;
 
+pub use entries::Key;
 pub use flushing::flush;
 pub use making::make;
+pub use reports::{EntryReport, ExtentReport, Report};
 pub use stores::Store;

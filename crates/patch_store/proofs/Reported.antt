@@ -1,0 +1,97 @@
+-- What is reported of slots, one more at a time, and that it is the map.
+use Rattle.std.proofs.Common.{◌≡◌, ℕ, zero, suc, ◌+◌, ◌-◌, ◌<◌, ◌≤◌, ◌∙◌, List, [], ◌∷◌, ◌++◌, length, map, take, get_or, refl, sym, ap, arith}
+use Rattle.std.specs.Prelude.{Option, Some, None, Ok, flat_map}
+use Rattle.std.specs.List.{range_with_len}
+use Rattle.std.proofs.lemmas.List.{map_more, map-append}
+use Rattle.patch_frame.specs.Frame.{Content, length_of}
+use Rattle.patch_frame.specs.Geometry.{slot_count}
+use Rattle.patch_frame.specs.Slot.{SlotFields}
+use Rattle.patch_recovery.specs.Ledger.{Ledger, map_of, entry_of, entry_read, value_in}
+use Rattle.patch_recovery.specs.Right.{IsNamed}
+use Rattle.patch_history.specs.History.{History, standing_of, ledger_of}
+use Rattle.patch_history.specs.Kept.{ShelvesAreKept}
+use Rattle.patch_history.specs.Laws.{HistoriesAreRead}
+use Rattle.patch_history.specs.Shelf.{Shelf}
+use Rattle.patch_store.specs.Checking.{of_slot, of_content, of_slots, bytes_in, live_bytes, ListsMap}
+use Rattle.patch_store.specs.Meaning.{Store, Represents}
+
+slots_push : (slots : List (Option SlotFields)) (slot : Option SlotFields) → of_slots (slots ++ slot ∷ []) ≡ of_slots slots ++ of_slots (slot ∷ [])
+slots_push [] slot = refl
+slots_push (None ∷ slots) slot = slots_push slots slot
+slots_push (Some f ∷ slots) slot = ap (λ es. of_slot f ∷ es) (slots_push slots slot)
+
+live_push : (slots : List (Option SlotFields)) (slot : Option SlotFields) (extent : ℕ) → live_bytes (slots ++ slot ∷ []) extent ≡ live_bytes slots extent + bytes_in extent slot
+live_push [] slot extent = let n = bytes_in extent slot in omega arith
+live_push (s ∷ slots) slot extent =
+    let rest = live_push slots slot extent in
+    omega (arith, rest)
+
+-- the same of the first slots, by what each of them tells
+pub more_slots : {X : Type 0} (f : X → Option SlotFields) (xs : List X) (i : ℕ) (d : X) → i < length xs
+    → of_slots (map f (take (i + 1) xs)) ≡ of_slots (map f (take i xs)) ++ of_slots (f (get_or xs i d) ∷ [])
+more_slots f xs i d less = ap of_slots (map_more f xs i d less) ∙ slots_push (map f (take i xs)) (f (get_or xs i d))
+
+pub more_live : {X : Type 0} (f : X → Option SlotFields) (xs : List X) (i : ℕ) (d : X) (extent : ℕ) → i < length xs
+    → live_bytes (map f (take (i + 1) xs)) extent ≡ live_bytes (map f (take i xs)) extent + bytes_in extent (f (get_or xs i d))
+more_live f xs i d extent less = ap (λ s. live_bytes s extent) (map_more f xs i d less) ∙ live_push (map f (take i xs)) (f (get_or xs i d)) extent
+
+-- what the slots tell is what the map has
+abbrev AreNamed : Ledger → Type 0
+AreNamed l = (slot : ℕ) (f : SlotFields) → l.slot slot ≡ Some f → IsNamed l f
+
+one_told : (l : Ledger) (o : Option SlotFields) → ((f : SlotFields) → o ≡ Some f → IsNamed l f) → of_slots (o ∷ []) ≡ map of_content (entry_of l o)
+one_told l None named = refl
+one_told l (Some f) named =
+    let is = named f refl in
+    let c = is.content in
+    let long : 16 + length c.key + length c.value ≡ f.length = is.length in
+    let n : length c.key ≡ length f.key = ap length is.key in
+    let value : length c.value ≡ f.length - 16 - length f.key = omega (arith, long, n) in
+    ap (λ k. (k, f.length - 16 - length f.key) ∷ []) (sym is.key) ∙ ap (λ v. (c.key, v) ∷ []) (sym value)
+    ∙ ap (λ r. map of_content (entry_read r)) (sym is.frame)
+
+told_from : (l : Ledger) → AreNamed l → (start count : ℕ) → of_slots (map l.slot (range_with_len start count)) ≡ map of_content (flat_map (λ s. entry_of l (l.slot s)) (range_with_len start count))
+told_from l named start zero = refl
+told_from l named start (suc count) =
+    first_told (l.slot start) (map l.slot (range_with_len (start + 1) count))
+    ∙ ap (λ es. es ++ of_slots (map l.slot (range_with_len (start + 1) count))) (one_told l (l.slot start) (named start))
+    ∙ ap (λ es. map of_content (entry_of l (l.slot start)) ++ es) (told_from l named (start + 1) count)
+    ∙ sym (map-append of_content (entry_of l (l.slot start)) (flat_map (λ s. entry_of l (l.slot s)) (range_with_len (start + 1) count)))
+  where
+    first_told : (o : Option SlotFields) (slots : List (Option SlotFields)) → of_slots (o ∷ slots) ≡ of_slots (o ∷ []) ++ of_slots slots
+    first_told None slots = refl
+    first_told (Some f) slots = refl
+
+-- the slots of a list, by their places
+slots_are : (l : Ledger) (slots : List (Option SlotFields)) (start : ℕ) → ((i : ℕ) → i < length slots → get_or slots i None ≡ l.slot (start + i))
+    → slots ≡ map l.slot (range_with_len start (length slots))
+slots_are l [] start each = refl
+slots_are l (o ∷ slots) start each =
+    ap (λ x. x ∷ slots) (each 0 (omega arith) ∙ ap l.slot (omega arith))
+    ∙ ap (λ xs. l.slot start ∷ xs) (slots_are l slots (start + 1) (λ i less. each (suc i) (omega (arith, less)) ∙ ap l.slot (omega arith)))
+
+pub listed_so : ShelvesAreKept → HistoriesAreRead → (h : History) (s : Store) → Represents s h → (entries : List (List ℕ × ℕ)) → entries ≡ of_slots s.shelf.slots
+    → ListsMap h entries
+listed_so kept reads h s was entries is =
+    let l = ledger_of h in
+    let shelf = kept h in
+    let opens = reads h was.legal in
+    let slots = (standing_of h).shelf.slots in
+    let long : length slots ≡ slot_count l.geometry = shelf.slots in
+    record {
+      listed =
+          is ∙ ap (λ (x : Shelf). of_slots x.slots) was.shelf_is
+          ∙ ap of_slots (slots_are l slots 0 (λ i less. shelf.slot i (omega (arith, less, long)) ∙ ap l.slot (omega arith)))
+          ∙ ap (λ n. of_slots (map l.slot (range_with_len 0 n))) long ∙ told_from l opens.sound.named 0 (slot_count l.geometry);
+      said = opens.tells;
+    }
+
+range_more : (a n : ℕ) → range_with_len a (suc n) ≡ range_with_len a n ++ (a + n) ∷ []
+range_more a zero = ap (λ k. k ∷ []) (let e : a ≡ a + zero = omega arith in e)
+range_more a (suc n) = ap (λ xs. a ∷ xs) (range_more (a + 1) n ∙ ap (λ k. range_with_len (a + 1) n ++ k ∷ []) (let e : a + 1 + n ≡ a + suc n = omega arith in e))
+
+-- one extent more
+pub more_extents : {X : Type 0} (f : ℕ → X) (n : ℕ) → map f (range_with_len 0 (n + 1)) ≡ map f (range_with_len 0 n) ++ f n ∷ []
+more_extents f n =
+    ap (λ k. map f (range_with_len 0 k)) (let e : n + 1 ≡ suc n = omega arith in e) ∙ ap (map f) (range_more 0 n)
+    ∙ map-append f (range_with_len 0 n) ((0 + n) ∷ []) ∙ ap (λ k. map f (range_with_len 0 n) ++ f k ∷ []) (let e : 0 + n ≡ n = omega arith in e)

@@ -1,0 +1,50 @@
+//! What a store holds, as it is reported.
+ghost use Rattle.std.specs.Prelude.{◌≡◌, ◌<◌, map, IfOk};
+ghost use Rattle.patch_history.specs.History.{History, standing_of};
+ghost use Rattle.patch_store.specs.Checking.{reported, extent_report, extent_reports, ListsMap};
+ghost use Rattle.patch_store.specs.Meaning.{Represents};
+
+use crate::reports::{ExtentReport, Report};
+use crate::stores::Store;
+use patch_history::laws as history_laws;
+use patch_model::OutOfMemory;
+use std::alloc::Allocator;
+
+impl<A: Allocator + Copy> Store<A> {
+    /// What the store holds: its keys, with the lengths of their values, and its extents.
+    pub fn check(&self) -> Result<Report<A>, OutOfMemory>
+        ensures entries { (h : History) → Represents self.now h → IfOk result (λ report. ListsMap h (map reported report.entries.items)) }
+        ensures extents { (h : History) → Represents self.now h → IfOk result (λ report.
+            report.extents.items ≡ extent_reports (standing_of h).shelf) }
+    {
+        history_laws::shelves_are_kept();
+        history_laws::histories_are_of_stores();
+        let entries = self.index.reports(self.alloc)?;
+        let extents = self.extent_reports()?;
+        Ok(Report { entries, extents })
+    }
+
+    /// The extents, rising.
+    fn extent_reports(&self) -> Result<Vec<ExtentReport, A>, OutOfMemory>
+        ensures { IfOk result (λ extents. extents.items ≡ extent_reports self.now.shelf) }
+    {
+        let mut extents = Vec::with_capacity(self.alloc, self.geometry.extents as usize)?;
+        for extent in 0..self.geometry.extents {
+            extents.push(self.extent_report(extent))?;
+        }
+        Ok(extents)
+    }
+
+    /// One extent.
+    fn extent_report(&self, extent: u32) -> ExtentReport
+        requires { extent < self.now.shelf.extents.geometry.extents }
+        ensures { result ≡ extent_report self.now.shelf extent }
+    {
+        let (generation, pointer) = self.extents.pointer(extent);
+        ExtentReport {
+            generation,
+            pointer,
+            live: self.index.live_bytes(extent),
+        }
+    }
+}
