@@ -89,7 +89,7 @@ shelf_joined s n (m ∷ p) q =
     shelf_joined (after_change s n m.change) (n + 1) p q ∙ ap (λ k. after_plan (after_plan (after_change s n m.change) (n + 1) p) k q) z
 
 -- bytes leave it as it is
-parts_leave : (s : Shelf) (n extent offset : ℕ) (bytes names ks : List ℕ)
+pub parts_leave : (s : Shelf) (n extent offset : ℕ) (bytes names ks : List ℕ)
     → after_plan s n (map (λ k. record { change = part extent offset bytes k; after = names }) ks) ≡ s
 parts_leave s n extent offset bytes names [] = refl
 parts_leave s n extent offset bytes names (k ∷ ks) = parts_leave s (n + 1) extent offset bytes names ks

@@ -18,3 +18,8 @@ pub mod Scanned
 pub mod Opened
 pub mod Calling
 pub mod Reported
+pub mod Lined
+pub mod Ordered
+pub mod Tried
+pub mod Summed
+pub mod Judged

@@ -14,3 +14,6 @@ pub mod Sending
 pub mod Upgrading
 pub mod Flushing
 pub mod Laws
+pub mod Live
+pub mod Moving
+pub mod Trials

@@ -1,5 +1,5 @@
 //! The index: what each slot says.
-ghost use Rattle.std.specs.Prelude.{◌≡◌, ◌<◌, ◌≤◌, ◌++◌, ◌∷◌, [], Some, None, length, position, is_none, slice_index_or, slice_set, map, IfOk, OnOk, OnErr};
+ghost use Rattle.std.specs.Prelude.{◌≡◌, ◌<◌, ◌≤◌, ◌++◌, ◌∷◌, [], Some, None, length, position, is_none, slice_index_or, slice_set, map, IfOk, OnOk, OnErr, option_map};
 ghost use Rattle.patch_recovery.specs.Reading.{has_key as is_of};
 ghost use Rattle.patch_store.specs.Checking.{reported, of_slots, live_bytes, bytes_in as bytes_of};
 ghost use Rattle.patch_store.specs.Index.{fields_of, told};
@@ -49,6 +49,14 @@ impl<A: Allocator> Index<A> {
         }
     }
 
+    /// How many slots there are.
+    pub(crate) fn count(&self) -> u32
+        ensures count { result ≡ length self.now }
+        ensures few { length self.now ≤ 1024 }
+    {
+        self.slots.len() as u32
+    }
+
     /// The frame that a slot names, if it is used.
     pub(crate) fn entry(&self, slot: u32) -> Option<Entry>
         ensures { told result ≡ slice_index_or self.now slot None }
@@ -56,6 +64,16 @@ impl<A: Allocator> Index<A> {
         match self.slots.get(slot as usize) {
             Some(entry) => *entry,
             None => None,
+        }
+    }
+
+    /// Where in its extent the frame begins that a slot names, if it is used.
+    pub(crate) fn offset(&self, slot: u32) -> Option<u32>
+        ensures { result ≡ option_map (λ f. f.offset) (slice_index_or self.now slot None) }
+    {
+        match self.slots.get(slot as usize) {
+            Some(Some(entry)) => Some(entry.offset),
+            _ => None,
         }
     }
 

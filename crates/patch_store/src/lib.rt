@@ -4,7 +4,8 @@
 //! the slots in `scanning`. Its calls stand by themselves: `get` in `getting`, `put` in `putting`, `delete` in `deleting`,
 //! `upgrade` in `upgrading`, those of groups in `grouping`, `send` and `complete` in `sending`. [`flush`], in `flushing`,
 //! brings all patches to the disk. Which slot and which extent a frame takes is said in `choosing`, and how it is put and
-//! named in `framing`.
+//! named in `framing`. Whether an extent may be reclaimed is said in `judging`: its live slots, which `ordering` puts in order,
+//! are tried on a `Trial` of the extents, as `trying` does it, before any frame moves.
 #![tactic(auto)]
 
 mod checking;
@@ -16,10 +17,13 @@ mod framing;
 mod getting;
 mod grouping;
 mod indexes;
+mod judging;
 mod keys;
 pub mod laws;
+mod live_slots;
 mod making;
 mod opening;
+mod ordering;
 mod putting;
 mod reclaiming;
 mod reports;
@@ -27,6 +31,8 @@ mod running;
 mod scanning;
 mod sending;
 mod stores;
+mod trials;
+mod trying;
 mod upgrading;
 
 pub use entries::Key;

@@ -24,7 +24,7 @@ use patch_model::{MAX_LIVE, MAX_PATCHES, WriterNo};
 use std::alloc::Allocator;
 
 // The patches of a put beside those of the frame's bytes: the pointer's and the slot's.
-const MORE_PATCHES: u32 = 2;
+pub(crate) const MORE_PATCHES: u32 = 2;
 
 // Where a put goes: the slot that is to name the frame, and the extent that is to have it.
 #[derive(Clone, Copy)]
