@@ -6,9 +6,11 @@ ghost use Rattle.patch_extent.specs.Meaning.{Represents as AreExtentsOf};
 ghost use Rattle.patch_frame.specs.Field.{AreBytes};
 ghost use Rattle.patch_frame.specs.Geometry.{IsGeometry, block_count};
 ghost use Rattle.patch_group.specs.Groups.{no_groups};
+ghost use Rattle.patch_store.specs.Laws.{ClosedDisksOpen, CrashDisksOpen};
 ghost use Rattle.patch_store.specs.Opening.{unchanged, Opens, KeepsCache, IsDivided, IsFaultOf, IsFirstOf, IsWholeDisk, IsDiskOf, pointer_tests, is_open, shelf_of};
 
 use crate::indexes::Index;
+use crate::laws;
 use crate::scanning::{read_slots, span};
 use crate::stores::Store;
 use patch_cache::Cache;
@@ -34,11 +36,14 @@ struct Disk<A: Allocator + Copy> {
 impl<A: Allocator + Copy> Store<A> {
     /// The store of a cache's blocks, of which no patch was made yet. Each slot's frame is read, so a store that opens has a
     /// value for each of its keys; what no slot names isn't looked at. Where the blocks aren't those of a store, or there is
-    /// no memory, the cache comes back.
+    /// no memory, the cache comes back. Whatever closed set of the store's patches reaches the disk from then on, it opens.
     pub fn open(alloc: A, cache: Cache<A>) -> Result<Store<A>, (Cache<A>, OpenFault)>
         ensures opened { (blocks : List (List ℕ)) → IsCacheOf cache (unchanged blocks) → Opens blocks result }
         ensures cache { KeepsCache cache result }
+        ensures closed { ClosedDisksOpen }
+        ensures crash { CrashDisksOpen }
     {
+        laws::closed_disks_open();
         blocks_are_bytes(&cache);
         match read_disk(alloc, &cache) {
             Ok(disk) => Ok(disk.into_store(alloc, cache)),
