@@ -36,7 +36,7 @@ take_front xs ys = take-append-le (length xs) xs ys (omega arith) ∙ take_all (
 abbrev pub store_at : Standing → Contents → Store
 store_at st cache = record { cache = cache; groups = st.groups; shelf = st.shelf }
 
-store_is : (st : Standing) (s : Store) → s.groups ≡ st.groups → s.shelf ≡ st.shelf → s ≡ store_at st s.cache
+pub store_is : (st : Standing) (s : Store) → s.groups ≡ st.groups → s.shelf ≡ st.shelf → s ≡ store_at st s.cache
 store_is st s groups shelf = ap (λ g. record s { groups = g }) groups ∙ ap (λ x. record (store_at st s.cache) { shelf = x }) shelf
 
 -- a patch whose block, start and bytes are told otherwise

@@ -19,7 +19,7 @@ pub steps_push : (events : List Event) (event : Event) → flat_map steps_in (ev
 steps_push [] event = append-nil (steps_in event)
 steps_push (first ∷ events) event = ap (λ steps. steps_in first ++ steps) (steps_push events event) ∙ sym (append_assoc (steps_in first) (flat_map steps_in events) (steps_in event))
 
-fold_push : (st : Standing) (events : List Event) (event : Event) → fold after_event st (events ++ event ∷ []) ≡ after_event (fold after_event st events) event
+pub fold_push : (st : Standing) (events : List Event) (event : Event) → fold after_event st (events ++ event ∷ []) ≡ after_event (fold after_event st events) event
 fold_push st [] event = refl
 fold_push st (first ∷ events) event = fold_push (after_event st first) events event
 

@@ -11,8 +11,12 @@ pub mod Widening
 pub mod Waving
 pub mod Counted
 pub mod Framed
+pub mod Copied
+pub mod Moves
+pub mod Emptied
 pub mod Placing
 pub mod Puts
+pub mod Reclaims
 pub mod Tested
 pub mod Scanned
 pub mod Opened

@@ -36,7 +36,7 @@ use Rattle.patch_store.specs.Meaning.{Store, Represents, IsWhole}
 
 -- What is chosen is there.
 
-one_of : {X : Type 0} (a b : Option X) (x : X) → option_or a b ≡ Some x → (a ≡ Some x) ⊎ (b ≡ Some x)
+pub one_of : {X : Type 0} (a b : Option X) (x : X) → option_or a b ≡ Some x → (a ≡ Some x) ⊎ (b ≡ Some x)
 one_of (Some y) b x is = inl is
 one_of None b x is = inr is
 
@@ -56,7 +56,7 @@ has_current s len extent (Some e) is = elim (cases_Bool (has_room s len e)) [
 ]
 
 -- and an empty one is one of the disk's
-first_there : (p : ℕ → Bool) (a n e : ℕ) → first_of_any (filter p (range_with_len a n)) ≡ Some e → (e < a + n) × (p e ≡ true)
+pub first_there : (p : ℕ → Bool) (a n e : ℕ) → first_of_any (filter p (range_with_len a n)) ≡ Some e → (e < a + n) × (p e ≡ true)
 first_there p a zero e is = absurd (let g : None ≡ Some e = is in cc)
 first_there p a (suc n) e is = elim (cases_Bool (p a)) [
   | inl u ↦ (let g : Some a ≡ Some e = rw u at is in let same : a ≡ e = cc in (omega (arith, same), ap p (sym same) ∙ u))

@@ -1,4 +1,5 @@
 //! What is true of every store, each law the contract of a function that does nothing.
+ghost use Rattle.patch_store.specs.Given.{Given};
 ghost use Rattle.patch_store.specs.Laws.{CachedDisksOpen, ClosedDisksOpen, CrashDisksOpen};
 
 /// Whatever closed set of a store's patches reached the disk, it opens: each key has the value of its last put or delete whose
@@ -11,4 +12,17 @@ pub fn closed_disks_open()
 {
     patch_history::laws::histories_are_of_stores();
     patch_history::laws::closed_disks_open();
+}
+
+// What the laws of histories say that a reclaim rests on.
+pub(crate) fn laws_below()
+    ensures { Given }
+{
+    patch_history::laws::histories_extend();
+    patch_history::laws::standings_run();
+    patch_history::laws::shelves_are_kept();
+    patch_history::laws::histories_are_of_stores();
+    patch_history::laws::extents_are_kept();
+    patch_history::laws::plans_continue();
+    patch_history::laws::commands_fit();
 }

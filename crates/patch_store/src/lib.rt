@@ -22,6 +22,7 @@ mod keys;
 pub mod laws;
 mod live_slots;
 mod making;
+mod moving;
 mod opening;
 mod ordering;
 mod putting;

@@ -1,0 +1,40 @@
+use Rattle.std.proofs.Common.{◌<◌, ◌∙◌, refl, length, map, sym, ap, arith}
+use Rattle.patch_history.specs.Shelf.{Shelf}
+use Rattle.patch_store.proofs.Emptied.{no_longer, still, none_left, left_at, shelf_reset, emptied_so}
+use Rattle.patch_store.proofs.stores.Store.empty_extent.Goals as goal
+
+pub returns-then-puts_append_to : goal.returns-then-puts_append_to
+returns-then-puts_append_to g c =
+    let e = c.args.extent in
+    let s : Shelf = record {
+      extents = c.self.inside.extents;
+      slots = c.self.inside.index;
+      current = c.self.inside.current;
+      last_delete = c.self.inside.last_delete;
+      upgrade = c.self.inside.upgrade;
+      left = map (λ v. v.items) c.self.inside.left.items;
+    } in
+    let within : e < length c.self.inside.left.items = let l = c.in-Some.ensures.variant.0 refl in let long = c.self.inside.left.ok.0 in omega (arith, l, long) in
+    emptied_so e c.as_slice.result.now c.in-Ok.field-0 _ _ _ c.self.view_is
+    (c.as_slice.ensures.value ∙ left_at (λ v. v.items) c.self.inside.left.items e c.in-Some.left.now within c.in-Some.ensures.value)
+    (λ groups run stands. c.in-Ok.ensures.answer groups run stands) refl
+    (shelf_reset s e c.reset.new.self _ _ (no_longer e c.self.inside.current (sym c.puts_append_to.ensures ∙ c.if-puts_append_to.true))
+    (none_left (λ v. v.items) c.self.inside.left.items e c.clear.new.self c.clear.ensures.items))
+
+pub returns-else-puts_append_to : goal.returns-else-puts_append_to
+returns-else-puts_append_to g c =
+    let e = c.args.extent in
+    let s : Shelf = record {
+      extents = c.self.inside.extents;
+      slots = c.self.inside.index;
+      current = c.self.inside.current;
+      last_delete = c.self.inside.last_delete;
+      upgrade = c.self.inside.upgrade;
+      left = map (λ v. v.items) c.self.inside.left.items;
+    } in
+    let within : e < length c.self.inside.left.items = let l = c.in-Some.ensures.variant.0 refl in let long = c.self.inside.left.ok.0 in omega (arith, l, long) in
+    emptied_so e c.as_slice.result.now c.in-Ok.field-0 _ _ _ c.self.view_is
+    (c.as_slice.ensures.value ∙ left_at (λ v. v.items) c.self.inside.left.items e c.in-Some.left.now within c.in-Some.ensures.value)
+    (λ groups run stands. c.in-Ok.ensures.answer groups run stands) refl
+    (shelf_reset s e c.reset.new.self _ _ (still e c.self.inside.current (sym c.puts_append_to.ensures ∙ c.if-puts_append_to.false))
+    (none_left (λ v. v.items) c.self.inside.left.items e c.clear.new.self c.clear.ensures.items))

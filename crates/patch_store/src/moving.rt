@@ -1,0 +1,76 @@
+//! How frames are moved out of an extent.
+ghost use Rattle.std.specs.Prelude.{ℕ, ◌≡◌, IfOk};
+ghost use Rattle.patch_model.specs.Execution.{Execution};
+ghost use Rattle.patch_frame.specs.Frame.{Content, spelling};
+ghost use Rattle.patch_extent.specs.Answers.{IsSettingOf};
+ghost use Rattle.patch_store.specs.Framing.{setting_of};
+ghost use Rattle.patch_store.specs.Index.{fields_of};
+ghost use Rattle.patch_store.specs.Moving.{IsCached, MovesFrame, MovesFrames};
+
+use crate::entries::Entry;
+use crate::laws::laws_below;
+use crate::live_slots::LiveSlots;
+use crate::stores::Store;
+use patch_extent::Place;
+use patch_frame::decode_within;
+use patch_history::laws as history_laws;
+use patch_model::OutOfMemory;
+use std::alloc::Allocator;
+
+impl<A: Allocator + Copy> Store<A> {
+    /// Moves the frames of these slots, one after another.
+    pub(crate) fn move_frames(&mut self, slots: &LiveSlots) -> Result<(), OutOfMemory>
+        ensures { MovesFrames slots.now result self.old self.new }
+    {
+        laws_below();
+        for at in 0..slots.len() {
+            // Never so: there are so many.
+            let Some(slot) = slots.get(at) else {
+                return Err(OutOfMemory);
+            };
+            let Ok(()) = self.move_frame(slot) else {
+                return Err(OutOfMemory);
+            };
+        }
+        Ok(())
+    }
+
+    /// Moves the frame that a slot names: its bytes are appended where they have room, and then the slot names them there.
+    fn move_frame(&mut self, slot: u32) -> Result<(), OutOfMemory>
+        ensures { MovesFrame slot result self.old self.new }
+    {
+        history_laws::frames_compose();
+        let Some(entry) = self.index.entry(slot) else {
+            return Err(OutOfMemory);
+        };
+        let Some(extent) = self.extent_for_move(entry.length) else {
+            return Err(OutOfMemory);
+        };
+        let Ok(frame) = self.frame_of(&entry) else {
+            return Err(OutOfMemory);
+        };
+        self.put_frame(&None, slot, extent, entry.key.as_slice(), frame.as_slice())
+    }
+
+    /// The bytes of a frame.
+    fn frame_of(&self, entry: &Entry) -> Result<Vec<u8, A>, OutOfMemory>
+        ensures { (run : Execution) (c : Content) → IsSettingOf (setting_of self.now) run
+            → IsCached self.now.shelf.extents.geometry run (fields_of entry.now) c → IfOk result (λ frame. frame.items ≡ spelling c) }
+    {
+        let place = Place {
+            extent: entry.extent,
+            generation: entry.generation,
+            offset: entry.offset,
+            len: entry.length,
+        };
+        let Ok(frame) = self.extents.read(&self.cache, place) else {
+            return Err(OutOfMemory);
+        };
+        // Always so: a slot names a frame.
+        let limit = self.geometry.format.value_limit();
+        let Ok(_) = decode_within(frame.as_slice(), limit) else {
+            return Err(OutOfMemory);
+        };
+        Ok(frame)
+    }
+}
