@@ -4,7 +4,6 @@ pub mod Checking
 pub mod Choosing
 pub mod Deleting
 pub mod Framing
-pub mod Moving
 pub mod Given
 pub mod Getting
 pub mod Making
