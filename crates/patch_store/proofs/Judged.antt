@@ -1,5 +1,5 @@
 -- Why an extent isn't reclaimed.
-use Rattle.std.proofs.Common.{◌≡◌, ◌≢◌, ℕ, ◌+◌, ◌<◌, ◌∙◌, false, List, length, refl, sym, ap, arith}
+use Rattle.std.proofs.Common.{◌≡◌, ◌≢◌, ℕ, ◌+◌, ◌<◌, ◌∙◌, true, false, List, length, refl, sym, ap, arith}
 use Rattle.std.specs.Prelude.{◌==◌, nat_le, if◌then◌else◌, Option, Some, None, option_map, count_by}
 use Rattle.std.proofs.lemmas.Bool.Decides.{nat_tests}
 use Rattle.std.proofs.lemmas.List.{length-append}
@@ -89,3 +89,19 @@ room_for agree h s extent count was free is =
     by_plan h s extent was free
     ∙ some_plan st (bare kind.NoSpace) (emptied st.shelf (made_by st) extent) all count (length-emptied st.shelf (made_by st) extent) (sym is)
     ∙ ap (λ m. why_no_room m (live_of st) (count + 1)) a.made ∙ ap (λ l. why_no_room (length (entries_of (execution_of h))) l (count + 1)) a.live
+
+pub in_use : (h : History) (s : Store) (extent : ℕ) → Represents s h → extent < s.shelf.extents.geometry.extents → offset_at s.shelf.extents extent ≢ 0
+    → is_in_use s.shelf extent ≡ true → why_not_reclaimed (standing_of h) extent ≡ Some (bare kind.OpenExtent)
+in_use h s extent was known begun used =
+    let a : nat_le s.shelf.extents.geometry.extents extent ≡ false = grind (arith, nat_tests, known) in
+    let b : (offset_at s.shelf.extents extent == 0) ≡ false = grind (arith, nat_tests, begun) in
+    ap (λ x. why_over (standing_of h) x extent) (sym was.shelf_is) ∙ rw (a, b, used) refl
+
+pub spent : (h : History) (s : Store) (extent : ℕ) → Represents s h → extent < s.shelf.extents.geometry.extents → offset_at s.shelf.extents extent ≢ 0
+    → is_in_use s.shelf extent ≡ false → generation_at s.shelf.extents extent ≡ 4294967295
+    → why_not_reclaimed (standing_of h) extent ≡ Some (bare kind.GenerationSpent)
+spent h s extent was known begun unused last =
+    let a : nat_le s.shelf.extents.geometry.extents extent ≡ false = grind (arith, nat_tests, known) in
+    let b : (offset_at s.shelf.extents extent == 0) ≡ false = grind (arith, nat_tests, begun) in
+    let d : (generation_at s.shelf.extents extent == 4294967295) ≡ true = grind (arith, nat_tests, last) in
+    ap (λ x. why_over (standing_of h) x extent) (sym was.shelf_is) ∙ rw (a, b, unused, d) refl

@@ -4,7 +4,7 @@ use Rattle.patch_extent.specs.Extents.{generation_at, offset_at}
 use Rattle.patch_history.specs.History.{execution_of}
 use Rattle.patch_store.specs.Meaning.{Store}
 use Rattle.patch_store.specs.Moving.{live_slots}
-use Rattle.patch_store.proofs.Judged.{IsFree, no_space, room_for}
+use Rattle.patch_store.proofs.Judged.{IsFree, no_space, room_for, in_use, spent}
 use Rattle.patch_store.proofs.Placing.{room_spent, room_full, room_left}
 use Rattle.patch_store.proofs.stores.Store.slots_to_move.Goals as goal
 
@@ -84,3 +84,26 @@ returns-clause-none g c h was =
     room_for c.histories_are_of_stores.ensures.agree h c.args.self.now e c.in-Some.moving was free (c.in-Some.ensures.count h e was live)
     ∙ room_left _ _ _ (sym (c.lacks_numbers.ensures (execution_of h) was.cache_is) ∙ c.if-lacks_numbers.false)
     (sym (c.lacks_room.ensures (execution_of h) was.cache_is) ∙ c.if-lacks_room.false)
+
+pub returns-then-is_in_use-clause-cause : goal.returns-then-is_in_use-clause-cause
+returns-then-is_in_use-clause-cause g c h was =
+    let e = c.args.extent in
+    let count = ap (λ (k : Geometry). k.extents) c.self.invariant.0 ∙ ap (λ (x : Store). x.shelf.extents.geometry.extents) c.self.view_is in
+    let offset = ap (λ (r : ℕ × ℕ). r.1) c.pointer-generation.ensures ∙ ap (λ (x : Store). offset_at x.shelf.extents e) c.self.view_is in
+    let live = c.live_slots-live.ensures ∙ ap (λ (x : Store). live_slots x.shelf e) c.self.view_is in
+    let there = c.if-extent-self.false in
+    let begun = c.if-offset-eq0.false in
+    in_use h c.args.self.now e was (omega (arith, there, count)) (omega (arith, begun, offset)) (sym (c.is_in_use.ensures live) ∙ c.if-is_in_use.true)
+
+pub returns-then-generation-clause-cause : goal.returns-then-generation-clause-cause
+returns-then-generation-clause-cause g c h was =
+    let e = c.args.extent in
+    let count = ap (λ (k : Geometry). k.extents) c.self.invariant.0 ∙ ap (λ (x : Store). x.shelf.extents.geometry.extents) c.self.view_is in
+    let generation = ap (λ (r : ℕ × ℕ). r.0) c.pointer-generation.ensures ∙ ap (λ (x : Store). generation_at x.shelf.extents e) c.self.view_is in
+    let offset = ap (λ (r : ℕ × ℕ). r.1) c.pointer-generation.ensures ∙ ap (λ (x : Store). offset_at x.shelf.extents e) c.self.view_is in
+    let live = c.live_slots-live.ensures ∙ ap (λ (x : Store). live_slots x.shelf e) c.self.view_is in
+    let there = c.if-extent-self.false in
+    let begun = c.if-offset-eq0.false in
+    let last = c.if-generation.true in
+    spent h c.args.self.now e was (omega (arith, there, count)) (omega (arith, begun, offset)) (sym (c.is_in_use.ensures live) ∙ c.if-is_in_use.false)
+    (omega (arith, last, generation))
