@@ -1,5 +1,5 @@
 -- The bytes of a frame, as they are copied.
-use Rattle.std.proofs.Common.{◌≡◌, ℕ, zero, suc, ◌+◌, ◌<◌, ◌≤◌, ◌∙◌, inl, inr, List, [], ◌∷◌, ◌++◌, length, drop, get_or, append-nil, refl, sym, ap, subst, arith}
+use Rattle.std.proofs.Common.{◌≡◌, ℕ, zero, suc, ◌+◌, ◌<◌, ◌∙◌, inl, inr, List, [], ◌∷◌, ◌++◌, length, drop, get_or, append-nil, refl, sym, ap, subst, arith}
 use Rattle.std.specs.Prelude.{◌==◌, Ok, Option, Some, None}
 use Rattle.std.specs.List.{range_with_len}
 use Rattle.std.proofs.lemmas.List.{length-map, drop_all}
@@ -28,17 +28,18 @@ same_read limit n bytes read d c l b x y =
     cc
 
 -- what is read of a frame, in just its length, is all of it
-pub copied_so : (g : Geometry) (run : Execution) (f : SlotFields) (c d : Content) (bytes : List ℕ) (limit long : ℕ) → IsCached g run f c
-    → bytes ≡ cached_bytes g run f.extent f.offset f.length → limit ≡ value_limit g.format
-    → frame_at limit bytes ≡ Ok d → long ≡ length_of d → bytes ≡ spelling d ++ drop long bytes → bytes ≡ spelling c
-copied_so g run f c d bytes limit long is there limit_is read long_is found =
+pub copied_so : (g : Geometry) (run : Execution) (f : SlotFields) (c d : Content) (copy bytes : List ℕ) (limit long : ℕ) → IsCached g run f c
+    → bytes ≡ copy → copy ≡ cached_bytes g run f.extent f.offset f.length → limit ≡ value_limit g.format
+    → frame_at limit bytes ≡ Ok d → long ≡ length_of d → bytes ≡ spelling d ++ drop long bytes → copy ≡ spelling c
+copied_so g run f c d copy bytes limit long is copied cached limit_is read long_is found =
+    let there = copied ∙ cached in
     let same = same_read limit (value_limit g.format) bytes (cached_bytes g run f.extent f.offset f.length) d c limit_is there read is.frame in
     let l : Ledger = ledger_in g (cached_blocks run) in
     let byte : ℕ → ℕ = λ place. l.byte f.extent place in
     let count : length bytes ≡ f.length = ap length there ∙ length-map (range_with_len f.offset f.length) byte ∙ length-range_with_len f.offset f.length in
     let whole : long ≡ f.length = long_is ∙ ap length_of same ∙ is.length in
     let none : drop long bytes ≡ [] = drop_all long bytes (omega (arith, count, whole)) in
-    found ∙ ap (λ rest. spelling d ++ rest) none ∙ append-nil (spelling d) ∙ ap spelling same
+    sym copied ∙ found ∙ ap (λ rest. spelling d ++ rest) none ∙ append-nil (spelling d) ∙ ap spelling same
 
 -- What a slot names.
 

@@ -1,6 +1,6 @@
 -- An extent that is emptied.
-use Rattle.std.proofs.Common.{◌≡◌, ℕ, ◌∙◌, ◌++◌, ◌<◌, Bool, true, false, List, [], ◌∷◌, length, map, take, get_or, refl, sym, ap, subst}
-use Rattle.std.specs.Prelude.{◌==◌, Option, Some, None, slice_set, if◌then◌else◌}
+use Rattle.std.proofs.Common.{◌≡◌, ℕ, ◌∙◌, ◌++◌, ◌<◌, true, false, List, [], length, map, take, get_or, refl, sym, ap, subst}
+use Rattle.std.specs.Prelude.{◌==◌, Option, Some, None, slice_set}
 use Rattle.std.proofs.lemmas.List.{map-set, get_or-map}
 use Rattle.patch_model.specs.Execution.{Execution, followed_by}
 use Rattle.patch_model.specs.State.{entries_of}

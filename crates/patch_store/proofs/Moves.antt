@@ -1,5 +1,5 @@
 -- Moves one behind another, and what a store is behind them.
-use Rattle.std.proofs.Common.{◌≡◌, ℕ, zero, suc, ◌+◌, ◌<◌, ◌≤◌, ◌∙◌, inl, inr, List, [], ◌∷◌, ◌++◌, length, take, set, get_or, append_assoc, refl, sym, ap, subst, arith}
+use Rattle.std.proofs.Common.{◌≡◌, ℕ, zero, suc, ◌+◌, ◌≤◌, ◌∙◌, inl, inr, List, [], ◌∷◌, ◌++◌, length, take, get_or, append_assoc, refl, sym, ap, subst, arith}
 use Rattle.std.specs.Prelude.{Option, Some, None, option_map}
 use Rattle.std.specs.List.{range_with_len}
 use Rattle.std.proofs.lemmas.Bool.{cases_eq, cases_lt}
@@ -19,7 +19,6 @@ use Rattle.patch_extent.specs.Writing as extents
 use Rattle.patch_extent.specs.Writing.{named_plan, with_patches, written, steps_by}
 use Rattle.patch_history.specs.Choosing.{extent_for_move}
 use Rattle.patch_history.specs.History.{IsWhole, IsCut}
-use Rattle.patch_history.specs.Map.{Map}
 use Rattle.patch_history.specs.Planning.{frame_plan, fill_plan, content_of, moves}
 use Rattle.patch_history.specs.Shelf.{Shelf, after_plan}
 use Rattle.patch_history.specs.Shelf as shelves

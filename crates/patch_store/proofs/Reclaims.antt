@@ -1,11 +1,11 @@
 -- The moves of a reclaim, its reset, and its answers.
 use Rattle.std.proofs.Common.{◌≡◌, ◌≢◌, ℕ, zero, suc, ◌+◌, ◌<◌, ◌≤◌, ◌∙◌, inl, inr, List, [], ◌∷◌, ◌++◌, length, map, take, get_or, append_assoc, append-nil, refl, sym, ap, subst, arith}
-use Rattle.std.specs.Prelude.{Option, Some, None, Ok, option_map, unwrap_or}
+use Rattle.std.specs.Prelude.{Some, None, Ok, option_map, unwrap_or}
 use Rattle.std.proofs.lemmas.List.{length-map, length-take-le, take_all}
 use Rattle.patch_model.specs.declared.refusals.RefusalKind.TheVariants as kind
 use Rattle.patch_model.specs.declared.refusals.Refusal.{Refusal}
 use Rattle.patch_model.specs.Refusing.{bare}
-use Rattle.patch_model.specs.Execution.{Execution, followed_by}
+use Rattle.patch_model.specs.Execution.{followed_by}
 use Rattle.patch_model.specs.State.{entries_of}
 use Rattle.patch_model.specs.Step.{Step}
 use Rattle.patch_cache.specs.Meaning.{Represents as IsCacheOf}
@@ -18,27 +18,25 @@ use Rattle.patch_recovery.specs.Closed.{cached_blocks}
 use Rattle.patch_recovery.specs.Ledger.{bytes_at}
 use Rattle.patch_recovery.specs.Reading.{ledger_in}
 use Rattle.patch_extent.specs.Answers.{cached_bytes}
-use Rattle.patch_extent.specs.Extents.{generation_at}
 use Rattle.patch_extent.specs.Meaning.{Represents as AreExtentsOf}
 use Rattle.patch_extent.specs.Planning.{reset_plan}
 use Rattle.patch_extent.specs.Writing.{named_plan}
 use Rattle.patch_history.specs.Choosing.{extent_for_move, live_frames}
 use Rattle.patch_history.specs.Command.{Reclaim, Done, Refused, unless, is_refused}
-use Rattle.patch_history.specs.Fitting.{FramesAreThere, ReclaimsGoOn, NextMoves, shelf_behind, next_behind}
-use Rattle.patch_history.specs.Kept.{ShelvesAreKept}
+use Rattle.patch_history.specs.Fitting.{NextMoves, shelf_behind, next_behind}
 use Rattle.patch_history.specs.Map.{Map}
-use Rattle.patch_history.specs.Laws.{HistoriesExtend, StandingsRun, HistoriesAreRead, StandingsAgree, ExtentsAreKept}
+use Rattle.patch_history.specs.Laws.{HistoriesExtend, StandingsRun}
 use Rattle.patch_history.specs.Planning.{frame_plan, content_of, moves, emptied}
 use Rattle.patch_history.specs.Refusing.{why_not_reclaimed}
 use Rattle.patch_history.specs.Shelf.{Shelf, slot_at, left_of, after_plan}
-use Rattle.patch_history.specs.Standing.{Standing, made_by, creates, onto, plan_of}
-use Rattle.patch_history.specs.Steps.{framed, ShelvesGoOn, WholesJoin, CutsJoin, WholesAreCuts}
+use Rattle.patch_history.specs.Standing.{Standing, made_by, creates, onto}
+use Rattle.patch_history.specs.Steps.{framed, ShelvesGoOn}
 use Rattle.patch_history.specs.Steps as plans
-use Rattle.patch_history.specs.History.{History, Event, Call, IsRight, IsWhole, IsCut, after_event, execution_of, standing_of, ledger_of, with_event}
+use Rattle.patch_history.specs.History.{History, Event, Call, IsWhole, IsCut, after_event, execution_of, standing_of, ledger_of, with_event}
 use Rattle.patch_store.specs.Given.{Given}
 use Rattle.patch_store.specs.Meaning.{Store, Represents, HasGained, HasAnswered}
 use Rattle.patch_store.specs.Framing.{framing, StandsBehind, IsFramed, IsFramedInPart}
-use Rattle.patch_store.specs.Moving.{live_slots, IsStanding, IsCached, frame_cached, IsMovable, MovesFrame, reset_of, IsEmptied, IsReclaiming, HaveMoved, plan_at, IsReclaimedInPart}
+use Rattle.patch_store.specs.Moving.{IsStanding, IsCached, frame_cached, IsMovable, reset_of, IsEmptied, IsReclaiming, HaveMoved, plan_at, IsReclaimedInPart}
 use Rattle.patch_store.proofs.Counted.{creates_all}
 use Rattle.patch_store.proofs.Gaining.{fold_push, run_push, gained, refused, right_caused}
 use Rattle.patch_store.proofs.Moves.{named_none, patches_none, IsMove, move_cases, move_made, moves_joined, moves_keep, IsLater, join_stands, widen_stands, whole_few, cut_few, cut_longer}

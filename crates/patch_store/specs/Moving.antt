@@ -1,12 +1,12 @@
 -- How an extent is won back: its live frames move, and it is emptied.
-use Rattle.std.specs.Prelude.{ℕ, ◌≡◌, List, length, map, Option, Some, None, Result, Ok, MatchResult}
+use Rattle.std.specs.Prelude.{ℕ, ◌≡◌, List, length, map, Some, None, Result, Ok, MatchResult, IfOk, Vec}
 use Rattle.patch_model.specs.declared.refusals.OutOfMemory.{OutOfMemory}
 use Rattle.patch_model.specs.Step.{Step}
 use Rattle.patch_model.specs.Execution.{Execution}
 use Rattle.patch_model.specs.State.{entries_of}
 use Rattle.patch_frame.specs.declared.faults.FrameFault.{FrameFault}
 use Rattle.patch_frame.specs.declared.geometries.Geometry.{Geometry}
-use Rattle.patch_frame.specs.Frame.{Content, frame_at, length_of}
+use Rattle.patch_frame.specs.Frame.{Content, frame_at, length_of, spelling}
 use Rattle.patch_frame.specs.Geometry.{value_limit}
 use Rattle.patch_frame.specs.Slot.{SlotFields}
 use Rattle.patch_recovery.specs.Change.{Made}
@@ -44,6 +44,12 @@ pub record IsCached (g : Geometry) (run : Execution) (f : SlotFields) (c : Conte
   pub frame : frame_cached g run f ≡ Ok c
   pub key : c.key ≡ f.key
   pub length : length_of c ≡ f.length
+
+-- the bytes of the frame at a slot's place, whatever execution the store stands for
+abbrev pub CopiesFrame : {A : Type 0} → Store → SlotFields → Result (Vec ℕ A) OutOfMemory → Type 0
+CopiesFrame s f result =
+    (run : Execution) (c : Content) → IsSettingOf (setting_of s) run → IsCached s.shelf.extents.geometry run f c
+    → IfOk result (λ frame. frame.items ≡ spelling c)
 
 -- the slot names a frame of this content, which goes to this extent
 pub record IsMovable (st : Standing) (slot extent : ℕ) (c : Content) (s : Store) : Type 0 where

@@ -2,10 +2,13 @@
 //!
 //! A [`Store`] is defined in `stores`. [`make`], in `making`, gives the blocks of a new disk; `open` is in `opening`, with
 //! the slots in `scanning`. Its calls stand by themselves: `get` in `getting`, `put` in `putting`, `delete` in `deleting`,
-//! `upgrade` in `upgrading`, those of groups in `grouping`, `send` and `complete` in `sending`. [`flush`], in `flushing`,
-//! brings all patches to the disk. Which slot and which extent a frame takes is said in `choosing`, and how it is put and
-//! named in `framing`. Whether an extent may be reclaimed is said in `judging`: its live slots, which `ordering` puts in order,
-//! are tried on a `Trial` of the extents, as `trying` does it, before any frame moves.
+//! `reclaim` in `reclaiming`, `upgrade` in `upgrading`, those of groups in `grouping`, `send` and `complete` in `sending`.
+//! `run`, in `running`, goes through a list of commands, and `check`, in `checking`, reports what the store holds. [`flush`], in
+//! `flushing`, brings all patches to the disk.
+//!
+//! Which slot and which extent a frame takes is said in `choosing`, and how it is put and named in `framing`. Whether an
+//! extent may be reclaimed is said in `judging`: its live slots, which `ordering` puts in order, are tried on a `Trial` of the
+//! extents, as `trying` does it, before any frame moves. `moving` moves them.
 #![tactic(auto)]
 
 mod checking;

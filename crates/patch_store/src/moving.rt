@@ -1,11 +1,6 @@
 //! How frames are moved out of an extent.
-ghost use Rattle.std.specs.Prelude.{ℕ, ◌≡◌, IfOk};
-ghost use Rattle.patch_model.specs.Execution.{Execution};
-ghost use Rattle.patch_frame.specs.Frame.{Content, spelling};
-ghost use Rattle.patch_extent.specs.Answers.{IsSettingOf};
-ghost use Rattle.patch_store.specs.Framing.{setting_of};
 ghost use Rattle.patch_store.specs.Index.{fields_of};
-ghost use Rattle.patch_store.specs.Moving.{IsCached, MovesFrame, MovesFrames};
+ghost use Rattle.patch_store.specs.Moving.{CopiesFrame, MovesFrame, MovesFrames};
 
 use crate::entries::Entry;
 use crate::laws::laws_below;
@@ -54,8 +49,7 @@ impl<A: Allocator + Copy> Store<A> {
 
     /// The bytes of a frame.
     fn frame_of(&self, entry: &Entry) -> Result<Vec<u8, A>, OutOfMemory>
-        ensures { (run : Execution) (c : Content) → IsSettingOf (setting_of self.now) run
-            → IsCached self.now.shelf.extents.geometry run (fields_of entry.now) c → IfOk result (λ frame. frame.items ≡ spelling c) }
+        ensures { CopiesFrame self.now (fields_of entry.now) result }
     {
         let place = Place {
             extent: entry.extent,

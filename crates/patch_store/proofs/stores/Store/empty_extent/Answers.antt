@@ -1,4 +1,4 @@
-use Rattle.std.proofs.Common.{◌<◌, ◌∙◌, refl, length, map, sym, ap, arith}
+use Rattle.std.proofs.Common.{◌<◌, ◌∙◌, refl, length, map, sym, arith}
 use Rattle.patch_history.specs.Shelf.{Shelf}
 use Rattle.patch_store.proofs.Emptied.{no_longer, still, none_left, left_at, shelf_reset, emptied_so}
 use Rattle.patch_store.proofs.stores.Store.empty_extent.Goals as goal

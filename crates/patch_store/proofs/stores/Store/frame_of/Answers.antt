@@ -19,6 +19,5 @@ returns g c run d stands cached =
     let there = subst (λ (s : Store). IsCached s.shelf.extents.geometry run (fields_of c.args.entry.now) d) (sym c.self.view_is) cached in
     let limit = c.value_limit-limit.ensures ∙ ap (λ (k : Geometry). value_limit k.format) c.self.invariant.0 in
     let e = c.in-Ok-decode_within.ensures in
-    sym c.as_slice.ensures.value
-    ∙ copied_so _ run (fields_of c.args.entry.now) d (content c.in-Ok-decode_within.field-0) c.as_slice.result.now _ _ there
-    (c.as_slice.ensures.value ∙ c.in-Ok.ensures.bytes run stood.cache_is stood.represents) limit e.exact e.found.1 e.found.2
+    copied_so _ run (fields_of c.args.entry.now) d (content c.in-Ok-decode_within.field-0) c.in-Ok.frame.items c.as_slice.result.now _ _ there
+    c.as_slice.ensures.value (c.in-Ok.ensures.bytes run stood.cache_is stood.represents) limit e.exact e.found.1 e.found.2
