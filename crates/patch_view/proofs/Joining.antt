@@ -237,10 +237,10 @@ among-merged low high ms n same = sym (list_any-IsPermutation (λ k. k == n) (lo
     ∙ list_any-append (λ k. k == n) low.members high.members
 
 -- the spans of two classes that overlap or touch
-spans-merged : (low high : Class) (ms us : List ℕ) (x : ℕ) → low.start ≤ high.stop → high.start ≤ low.stop → low.start < low.stop → high.start < high.stop
-    → spans (merged low high ms us) x ≡ (spans low x || spans high x)
-spans-merged low high ms us x near_a near_b some_a some_b = same_bool (spans (merged low high ms us) x) (spans low x || spans high x)
-    (λ t. let p = spans-at (merged low high ms us) x t in
+spans-merged : (low high : Class) (ms us : List ℕ) (space : ℕ) (x : ℕ) → low.start ≤ high.stop → high.start ≤ low.stop → low.start < low.stop → high.start < high.stop
+    → spans (merged low high ms us space) x ≡ (spans low x || spans high x)
+spans-merged low high ms us space x near_a near_b some_a some_b = same_bool (spans (merged low high ms us space) x) (spans low x || spans high x)
+    (λ t. let p = spans-at (merged low high ms us space) x t in
     let f : min low.start high.start ≤ x = p.0 in let g : x < max low.stop high.stop = p.1 in
     elim (cases_Bool (spans low x)) [
       | inl u ↦ or_left _ (spans high x) u
@@ -253,8 +253,8 @@ spans-merged low high ms us x near_a near_b some_a some_b = same_bool (spans (me
       ])
     ])
     (λ t. elim (or_cases (spans low x) (spans high x) t) [
-      | inl u ↦ let p = spans-at low x u in let f : low.start ≤ x = p.0 in let g : x < low.stop = p.1 in spans-from (merged low high ms us) x (omega arith) (omega arith)
-      | inr u ↦ let p = spans-at high x u in let f : high.start ≤ x = p.0 in let g : x < high.stop = p.1 in spans-from (merged low high ms us) x (omega arith) (omega arith)
+      | inl u ↦ let p = spans-at low x u in let f : low.start ≤ x = p.0 in let g : x < low.stop = p.1 in spans-from (merged low high ms us space) x (omega arith) (omega arith)
+      | inr u ↦ let p = spans-at high x u in let f : high.start ≤ x = p.0 in let g : x < high.stop = p.1 in spans-from (merged low high ms us space) x (omega arith) (omega arith)
     ])
 
 length-laid_over : (place : ℕ) (over bytes : List ℕ) → place + length over ≤ length bytes → length (laid_over place over bytes) ≡ length bytes
@@ -340,23 +340,23 @@ outside-low : (over bytes : List ℕ) (place i : ℕ) → place + length over �
 outside-low over bytes place i fits (inl before) = laid-before bytes over place i before fits
 outside-low over bytes place i fits (inr behind) = laid-behind bytes over place i behind fits
 
-merged-long : (low high : Class) (ms us : List ℕ) → low.start + length low.saved ≡ low.stop → high.start + length high.saved ≡ high.stop → low.start < low.stop → high.start < high.stop
-    → (merged low high ms us).start + length (merged low high ms us).saved ≡ (merged low high ms us).stop
-merged-long low high ms us long_l long_h some_l some_h =
+merged-long : (low high : Class) (ms us : List ℕ) (space : ℕ) → low.start + length low.saved ≡ low.stop → high.start + length high.saved ≡ high.stop → low.start < low.stop → high.start < high.stop
+    → (merged low high ms us space).start + length (merged low high ms us space).saved ≡ (merged low high ms us space).stop
+merged-long low high ms us space long_l long_h some_l some_h =
     let z : length (replicate (max low.stop high.stop - min low.start high.start) 0) ≡ max low.stop high.stop - min low.start high.start = length-replicate {A = ℕ} (max low.stop high.stop - min low.start high.start) 0 in
     let fits_h : high.start - min low.start high.start + length high.saved ≤ length (replicate (max low.stop high.stop - min low.start high.start) 0) = omega (arith, z) in
     let inner : length (laid_over (high.start - min low.start high.start) high.saved (replicate (max low.stop high.stop - min low.start high.start) 0)) ≡ max low.stop high.stop - min low.start high.start =
     length-laid_over (high.start - min low.start high.start) high.saved (replicate (max low.stop high.stop - min low.start high.start) 0) fits_h ∙ z in
     let fits_l : low.start - min low.start high.start + length low.saved ≤ length (laid_over (high.start - min low.start high.start) high.saved (replicate (max low.stop high.stop - min low.start high.start) 0)) = omega (arith, inner) in
-    let outer : length (merged low high ms us).saved ≡ max low.stop high.stop - min low.start high.start =
+    let outer : length (merged low high ms us space).saved ≡ max low.stop high.stop - min low.start high.start =
     length-laid_over (low.start - min low.start high.start) low.saved (laid_over (high.start - min low.start high.start) high.saved (replicate (max low.stop high.stop - min low.start high.start) 0)) fits_l ∙ inner in
     omega (arith, outer)
 
 -- the merged class's saved bytes
-merged-saved : (h : History) (low high : Class) (ms us : List ℕ) (x : ℕ) → IsCoherent h → IsClassOf h [] low → IsClassOf h [] high → may_be_taken low ≡ true → may_be_taken high ≡ true
+merged-saved : (h : History) (low high : Class) (ms us : List ℕ) (space : ℕ) (x : ℕ) → IsCoherent h → IsClassOf h [] low → IsClassOf h [] high → may_be_taken low ≡ true → may_be_taken high ≡ true
     → low.name ≢ high.name → class_depends_on h low.name high.name ≡ false → (spans low x || spans high x) ≡ true
-    → get_or (merged low high ms us).saved (x - (merged low high ms us).start) 0 ≡ below (with_joined h low.name high.name) (min low.name high.name) x
-merged-saved h low high ms us x o rl rh may_l may_h two none on =
+    → get_or (merged low high ms us space).saved (x - (merged low high ms us space).start) 0 ≡ below (with_joined h low.name high.name) (min low.name high.name) x
+merged-saved h low high ms us space x o rl rh may_l may_h two none on =
     let long_l : low.start + length low.saved ≡ low.stop = rl.long may_l in
     let long_h : high.start + length high.saved ≡ high.stop = rh.long may_h in
     let zeros : List ℕ = replicate (max low.stop high.stop - min low.start high.start) 0 in
@@ -391,10 +391,10 @@ merged-saved h low high ms us x o rl rh may_l may_h two none on =
     ]
 
 -- the merged class's record
-merged-class_of : (h : History) (low high : Class) (ms us : List ℕ) → IsPermutation (low.members ++ high.members) ms → IsPermutation (low.after ++ high.after) us → IsCoherent h → IsClassOf h [] low → IsClassOf h [] high → may_be_taken low ≡ true → may_be_taken high ≡ true
+merged-class_of : (h : History) (low high : Class) (ms us : List ℕ) (space : ℕ) → IsPermutation (low.members ++ high.members) ms → IsPermutation (low.after ++ high.after) us → IsCoherent h → IsClassOf h [] low → IsClassOf h [] high → may_be_taken low ≡ true → may_be_taken high ≡ true
     → low.name ≢ high.name → class_depends_on h low.name high.name ≡ false → low.start ≤ high.stop → high.start ≤ low.stop
-    → IsClassOf (with_joined h low.name high.name) [] (merged low high ms us)
-merged-class_of h low high ms us pm pa o rl rh may_l may_h two none near_a near_b =
+    → IsClassOf (with_joined h low.name high.name) [] (merged low high ms us space)
+merged-class_of h low high ms us space pm pa o rl rh may_l may_h two none near_a near_b =
     let some_l : low.start < low.stop = rl.some in
     let some_h : high.start < high.stop = rh.some in
     let fit_l : low.stop ≤ 4096 = rl.fits in
@@ -432,14 +432,14 @@ merged-class_of h low high ms us pm pa o rl rh may_l may_h two none near_a near_
             ap is_memory (sym q.2) ∙ ap marks_memory (mark-joined low.name high.name q.0) ∙ old.1,
             ap (λ z. z.hard) (sym q.2) ∙ hard-joined low.name high.name q.0 ∙ old.2,
           );
-      span = λ x. spans-merged low high ms us x near_a near_b some_l some_h ∙ ap (λ z. z || spans high x) (rl.span x) ∙ ap (λ z. class_covers h low.name x || z) (rh.span x)
+      span = λ x. spans-merged low high ms us space x near_a near_b some_l some_h ∙ ap (λ z. z || spans high x) (rl.span x) ∙ ap (λ z. class_covers h low.name x || z) (rh.span x)
           ∙ sym (covers-merged h low.name high.name x);
       flag = refl;
       some = omega arith;
       fits = omega arith;
-      long = λ m. merged-long low high ms us (rl.long may_l) (rh.long may_h) some_l some_h;
+      long = λ m. merged-long low high ms us space (rl.long may_l) (rh.long may_h) some_l some_h;
       no_saved = λ m. absurd (cc);
-      saved = λ m x on. merged-saved h low high ms us x o rl rh may_l may_h two none (sym (spans-merged low high ms us x near_a near_b some_l some_h) ∙ on);
+      saved = λ m x on. merged-saved h low high ms us space x o rl rh may_l may_h two none (sym (spans-merged low high ms us space x near_a near_b some_l some_h) ∙ on);
     }
 
 pub merged-class : (h : History) (low high m : Class) → IsMerged low high m → IsCoherent h → IsClassOf h [] low → IsClassOf h [] high → may_be_taken low ≡ true → may_be_taken high ≡ true
@@ -447,7 +447,7 @@ pub merged-class : (h : History) (low high m : Class) → IsMerged low high m �
     → IsClassOf (with_joined h low.name high.name) [] m
 merged-class h low high m is o rl rh may_l may_h two none near_a near_b =
     subst (λ z. IsClassOf (with_joined h low.name high.name) [] z) (sym is.is)
-    (merged-class_of h low high m.members m.after is.members is.after o rl rh may_l may_h two none near_a near_b)
+    (merged-class_of h low high m.members m.after m.room is.members is.after o rl rh may_l may_h two none near_a near_b)
 
 -- the two classes stand together: what lies between them in the list does not keep the higher one up
 pub record MayJoinAt (b : Block) (h : History) (low high : ℕ) : Type 0 where
@@ -474,12 +474,12 @@ joined_place b low high i c less within =
           inr (s, ne, at_ ∙ get_or-set_other b.classes low (stood high i) c no_class s)
     ]
 
-joins_of : (b : Block) (h : History) (low high : ℕ) (ms us : List ℕ) → Represents b [] h → MayJoinAt b h low high
+joins_of : (b : Block) (h : History) (low high : ℕ) (ms us : List ℕ) (space : ℕ) → Represents b [] h → MayJoinAt b h low high
     → IsPermutation ((class_at b low).members ++ (class_at b high).members) ms → IsPermutation ((class_at b low).after ++ (class_at b high).after) us
-    → Represents (settled_at b low high (merged (class_at b low) (class_at b high) ms us)) [] (with_joined h (class_at b low).name (class_at b high).name)
-joins_of b h low high ms us r m pm pa =
-    let c : Class = merged (class_at b low) (class_at b high) ms us in
-    let is_c : IsMerged (class_at b low) (class_at b high) (merged (class_at b low) (class_at b high) ms us) = record { members = pm; after = pa; is = refl } in
+    → Represents (settled_at b low high (merged (class_at b low) (class_at b high) ms us space)) [] (with_joined h (class_at b low).name (class_at b high).name)
+joins_of b h low high ms us space r m pm pa =
+    let c : Class = merged (class_at b low) (class_at b high) ms us space in
+    let is_c : IsMerged (class_at b low) (class_at b high) (merged (class_at b low) (class_at b high) ms us space) = record { members = pm; after = pa; is = refl } in
     let less = m.less in
     let within = m.within in
     let w_low : low < length b.classes = omega arith in
@@ -572,4 +572,4 @@ joins_of b h low high ms us r m pm pa =
 pub joins : (b : Block) (h : History) (low high : ℕ) (c : Class) → Represents b [] h → MayJoinAt b h low high → IsMerged (class_at b low) (class_at b high) c
     → Represents (settled_at b low high c) [] (with_joined h (class_at b low).name (class_at b high).name)
 joins b h low high c r m is_c = subst (λ z. Represents (settled_at b low high z) [] (with_joined h (class_at b low).name (class_at b high).name)) (sym is_c.is)
-    (joins_of b h low high c.members c.after r m is_c.members is_c.after)
+    (joins_of b h low high c.members c.after c.room r m is_c.members is_c.after)

@@ -17,6 +17,7 @@ pub mod Joining
 pub mod Moving
 pub mod Rotating
 pub mod Gathering
+pub mod Settling
 pub mod Lawful
 pub mod Sweeping
 pub mod Together

@@ -8,7 +8,7 @@ use Rattle.patch_model.specs.History.{History}
 use Rattle.patch_model.specs.Orderly.{MayJoin}
 use Rattle.patch_model.specs.State.{sent}
 use Rattle.patch_view.specs.History.{IsNext, MayDepart, laid, made, with_joined}
-use Rattle.patch_view.specs.State.{Block, Class, Joint, IsLaid, IsMerged, IsJoint, class_at}
+use Rattle.patch_view.specs.State.{Block, Drawn, Joint, IsLaid, IsDrawn, IsJoint, class_at, in_its_place, settled_at}
 use Rattle.patch_view.specs.Meaning.{Represents}
 use Rattle.patch_view.specs.Answers.{IsPatch}
 
@@ -31,10 +31,16 @@ Hardens old new =
     → IsLaid before number start bytes after false old → Represents before [] h → IsNext h (made number block start bytes after undo true)
     → start + length bytes ≤ BLOCK → Represents new [] (laid h (made number block start bytes after undo true))
 
--- the classes at two places are one, if the class is the record of both
-abbrev pub JoinsPlaces : Block → (low high : ℕ) → Class → Block → Type 0
-JoinsPlaces old low high class new =
-    (h : History) → IsMerged (class_at old low) (class_at old high) class → Represents old [] h
+-- the record that was drawn up of the classes at two places stands in place of both
+abbrev pub Settles : Block → (low high : ℕ) → Drawn → Block → Type 0
+Settles old low high drawn new =
+    IsDrawn (class_at old low) (class_at old high) drawn
+    → new ≡ settled_at old low high (in_its_place (class_at old low) (class_at old high) drawn)
+
+-- the classes at two places are one, if the record was drawn up of both
+abbrev pub JoinsPlaces : Block → (low high : ℕ) → Drawn → Block → Type 0
+JoinsPlaces old low high drawn new =
+    (h : History) → IsDrawn (class_at old low) (class_at old high) drawn → Represents old [] h
     → MayJoin h.entries (class_at old low).name (class_at old high).name
     → Represents new [] (with_joined h (class_at old low).name (class_at old high).name)
 

@@ -1,12 +1,13 @@
 -- What one block's records look like.
-use Rattle.std.specs.Prelude.{ℕ, Bool, true, false, ◌≡◌, ◌<◌, ◌≤◌, Some, None, ◌+◌, ◌&&◌, ◌||◌, not, nat_le, nat_lt, List, [], ◌∷◌, ◌++◌, ◌⊎◌, length, take, drop, slice_range, slice_index_or, slice_set, replicate, min, max, ◌-◌, Option, position, zero, suc, map, filter, if◌then◌else◌, IsPermutation}
+use Rattle.std.specs.Prelude.{ℕ, Bool, true, false, ◌≡◌, ◌==◌, ◌<◌, ◌≤◌, Some, None, ◌+◌, ◌&&◌, ◌||◌, not, nat_le, nat_lt, List, [], ◌∷◌, ◌++◌, ◌⊎◌, length, take, drop, slice_range, slice_index_or, slice_set, replicate, min, max, ◌-◌, Option, position, zero, suc, map, filter, if◌then◌else◌, IsPermutation}
 use Rattle.std.specs.List.{list_any, remove, insert}
 use Rattle.patch_model.specs.Entry.{is_among}
 use Rattle.patch_view.specs.declared.classes.Turn.{Turn}
 use Rattle.patch_view.specs.declared.classes.Turn.TheVariants.{Take, PutBack}
 
 -- a live class: its name and members, its span, the bytes that the block would have there in the other state, the numbers
--- that its members name, whether it is in flight, whether it is hard, and whether it is taken back
+-- that its members name, whether it is in flight, whether it is hard, whether it is taken back, and how many more members and
+-- names it can take in without memory
 pub record Class : Type 0 where
   pub name : ℕ
   pub members : List ℕ
@@ -17,13 +18,14 @@ pub record Class : Type 0 where
   pub flying : Bool
   pub hard : Bool
   pub taken : Bool
+  pub room : ℕ
 
 pub record Block : Type 0 where
   pub bytes : List ℕ
   pub classes : List Class
 
 abbrev pub no_class : Class
-no_class = record { name = 0; members = []; start = 0; stop = 0; saved = []; after = []; flying = false; hard = false; taken = false }
+no_class = record { name = 0; members = []; start = 0; stop = 0; saved = []; after = []; flying = false; hard = false; taken = false; room = 0 }
 
 abbrev pub class_at : Block → ℕ → Class
 class_at b at = slice_index_or b.classes at no_class
@@ -117,6 +119,7 @@ new_class b number start bytes after hard = record {
   flying = false;
   hard = hard;
   taken = false;
+  room = 0;
 }
 
 -- the block with one more class, which names these
@@ -191,9 +194,10 @@ with_landed b = record b { classes = filter (λ c. not c.flying) b.classes }
 abbrev pub laid_over : ℕ → List ℕ → List ℕ → List ℕ
 laid_over place over bytes = take place bytes ++ over ++ drop (place + length over) bytes
 
--- two classes as one, with these members, which name these: on the bytes that they share, what the lower one saved
-abbrev pub merged : Class → Class → List ℕ → List ℕ → Class
-merged low high members after = record {
+-- two classes as one, with these members, which name these, and with room for so many more: on the bytes that they share, what
+-- the lower one saved
+abbrev pub merged : Class → Class → List ℕ → List ℕ → ℕ → Class
+merged low high members after room = record {
   name = min low.name high.name;
   members = members;
   start = min low.start high.start;
@@ -204,23 +208,61 @@ merged low high members after = record {
   flying = false;
   hard = false;
   taken = false;
+  room = room;
 }
 
 -- the class is the two as one
 pub record IsMerged (low high c : Class) : Type 0 where
   pub members : IsPermutation (low.members ++ high.members) c.members
   pub after : IsPermutation (low.after ++ high.after) c.after
-  pub is : c ≡ merged low high c.members c.after
+  pub is : c ≡ merged low high c.members c.after c.room
+
+-- where both lists rise, no number of the second is below one of the first
+abbrev pub follow_on : List ℕ → List ℕ → Bool
+follow_on these those =
+    length these == 0 || length those == 0 || nat_le (slice_index_or these (length these - 1) 0) (slice_index_or those 0 0)
+
+-- the class has room for the members and the names of a higher one, behind its own
+abbrev pub has_room_for : Class → Class → Bool
+has_room_for low high =
+    nat_le (length high.members) low.room && nat_le (length high.after) low.room
+    && follow_on low.members high.members && follow_on low.after high.after
+
+-- the class with the lists of another, and the room there
+abbrev pub with_lists : Class → Class → Class
+with_lists c other = record c { members = other.members; after = other.after; room = other.room }
+
+-- the class with the members and the names of a higher one behind its own
+abbrev pub with_lists_of : Class → Class → Class
+with_lists_of low high = record low {
+  members = low.members ++ high.members;
+  after = low.after ++ high.after;
+  room = low.room - max (length high.members) (length high.after);
+}
+
+-- A record that was drawn up of two classes. A growing one has no lists of its own: the lower class's take in the higher one's.
+pub record Drawn : Type 0 where
+  pub class : Class
+  pub growing : Bool
+
+-- the class that it is in the place of the two
+abbrev pub in_its_place : Class → Class → Drawn → Class
+in_its_place low high drawn = if drawn.growing then with_lists drawn.class (with_lists_of low high) else drawn.class
+
+-- it was drawn up of these
+pub record IsDrawn (low high : Class) (drawn : Drawn) : Type 0 where
+  pub room : drawn.growing ≡ true → has_room_for low high ≡ true
+  pub is : IsMerged low high (in_its_place low high drawn)
 
 -- a record of the classes at two places as one
 pub record Joint : Type 0 where
   pub low : ℕ
   pub high : ℕ
-  pub class : Class
+  pub drawn : Drawn
 
 -- the joint is that of the classes at these places
 abbrev pub IsJointAt : Block → ℕ → ℕ → Joint → Type 0
-IsJointAt b low high joint = (joint.low ≡ low) × (joint.high ≡ high) × IsMerged (class_at b low) (class_at b high) joint.class
+IsJointAt b low high joint = (joint.low ≡ low) × (joint.high ≡ high) × IsDrawn (class_at b low) (class_at b high) joint.drawn
 
 -- The joint is that of the classes of two patches, which stand at two places, in either order. There is none where they
 -- aren't two classes of the block: one of them has no place, or both have the same.
@@ -228,7 +270,7 @@ abbrev pub IsJoint : Block → ℕ → ℕ → Option Joint → Type 0
 IsJoint b x y None = (i j : ℕ) → place_of b x ≡ Some i → place_of b y ≡ Some j → i ≡ j
 IsJoint b x y (Some joint) = (joint.low < joint.high)
     × (((place_of b x ≡ Some joint.low) × (place_of b y ≡ Some joint.high)) ⊎ ((place_of b x ≡ Some joint.high) × (place_of b y ≡ Some joint.low)))
-    × IsMerged (class_at b joint.low) (class_at b joint.high) joint.class
+    × IsDrawn (class_at b joint.low) (class_at b joint.high) joint.drawn
 
 -- the class at k moved down to the place front
 abbrev pub moved_down : Block → ℕ → ℕ → Block

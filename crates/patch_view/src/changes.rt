@@ -7,13 +7,13 @@ ghost use Rattle.patch_model.specs.History.{History};
 ghost use Rattle.patch_model.specs.Orderly.{IsOrderlyBlock};
 ghost use Rattle.patch_model.specs.State.{landed};
 ghost use Rattle.patch_view.specs.State.{follows, with_laid, IsLaid, without_newest, with_newest_hard, departed_at, landed_at, with_departed, HasDeparted};
-ghost use Rattle.patch_view.specs.State.{with_one_departed, with_one_landed, with_landed, moved_down, settled_at, IsJoint, IsJointAt, has_places};
+ghost use Rattle.patch_view.specs.State.{with_one_departed, with_one_landed, with_landed, moved_down, IsJoint, IsJointAt, has_places};
 ghost use Rattle.patch_view.specs.History.{unpatched, MayLand, with_mark};
 ghost use Rattle.patch_view.specs.Meaning.{Represents, IsGathered};
 ghost use Rattle.patch_view.specs.Answers.{IsPatch};
-ghost use Rattle.patch_view.specs.Changes.{Lays, Unlays, Hardens, JoinsPlaces, JoinsBy, Joins, DepartsEach};
+ghost use Rattle.patch_view.specs.Changes.{Lays, Unlays, Hardens, Settles, JoinsPlaces, JoinsBy, Joins, DepartsEach};
 
-use crate::classes::{Class, Turn, sort};
+use crate::classes::{Class, Drawn, Turn, sort};
 use crate::spans::swap_span;
 use crate::states::BlockState;
 use patch_model::{BLOCK, BlockBytes, OutOfMemory, PatchNo};
@@ -25,7 +25,7 @@ use std::marker::Model;
 pub struct Joint<A: Allocator = Global> {
     low: usize,
     high: usize,
-    class: Class<A>,
+    drawn: Drawn<A>,
 }
 
 impl<A: Allocator> Model for Joint<A> {
@@ -33,7 +33,7 @@ impl<A: Allocator> Model for Joint<A> {
 
     ghost Value = { Drawn };
 
-    ghost view = { λ j. record { low = j.low; high = j.high; class = j.class } };
+    ghost view = { λ j. record { low = j.low; high = j.high; drawn = j.drawn } };
 }
 
 impl<A: Allocator> BlockState<A> {
@@ -209,37 +209,42 @@ impl<A: Allocator> BlockState<A> {
         ensures { IfOk result (λ joint. IsJointAt self.now low high joint) }
     {
         let class = &self.classes[low];
-        let class = class.merged(self.bytes.allocator().clone()?, &self.classes[high])?;
-        Ok(Joint { low, high, class })
+        let drawn = class.drawn_up(self.bytes.allocator().clone()?, &self.classes[high])?;
+        Ok(Joint { low, high, drawn })
     }
 
-    fn settle(&mut self, low: usize, high: usize, class: Class<A>)
+    /// Puts the record that was drawn up of the classes at two places in the place of the lower one.
+    fn settle(&mut self, low: usize, high: usize, drawn: Drawn<A>)
         requires less { low < high }
         requires within { high < length self.old.classes }
-        ensures { self.new ≡ settled_at self.old low high class }
+        ensures bytes { self.new.bytes ≡ self.old.bytes }
+        ensures settled { Settles self.old low high drawn self.new }
     {
-        self.classes[low] = class;
-        let _gone = self.classes.remove(high);
+        let upper = self.classes.remove(high);
+        let lower = &mut self.classes[low];
+        lower.become_both(drawn, &upper);
     }
 
     /// Puts the record of the classes at two places in place of both. Where the higher one depends on none between them, as the
     /// newest class mostly does, it goes down to the lower one; else the lower one is brought up to it.
-    fn join_at(&mut self, low: usize, high: usize, class: Class<A>)
+    fn join_at(&mut self, low: usize, high: usize, drawn: Drawn<A>)
         requires less { low < high }
         requires within { high < length self.old.classes }
         ensures bytes { self.new.bytes ≡ self.old.bytes }
-        ensures answer { JoinsPlaces self.old low high class self.new }
+        ensures answer { JoinsPlaces self.old low high drawn self.new }
     {
         if self.follows_any(low + 1, high) {
             let front = self.gather(low, high);
-            self.settle(front, high, class);
+            self.settle(front, high, drawn);
         } else {
-            self.settle(low, high, class);
+            self.settle(low, high, drawn);
         }
     }
 
     /// Draws up the classes of two patches as one. Both may be taken back, their spans meet or touch, and no third class lies
-    /// on a path from one to the other. None where they aren't two classes of the block.
+    /// on a path from one to the other. None where they aren't two classes of the block. The lists of the higher class go
+    /// behind the lower one's where these have room for them, and rise then: that copies the higher class's numbers alone, when
+    /// the joint is put in place. Else a merge copies the numbers of both, and makes room for as many again.
     pub fn joint(&self, a: PatchNo, b: PatchNo) -> Result<Option<Joint<A>>, OutOfMemory>
     where
         A: Clone,
@@ -266,10 +271,10 @@ impl<A: Allocator> BlockState<A> {
         ensures answer { JoinsBy self.old joint self.new }
     {
         if let Some(joint) = joint {
-            let Joint { low, high, class } = joint;
+            let Joint { low, high, drawn } = joint;
             // A joint has two places, one below the other; a block that changed since it was drawn up may lack them.
             if low < high && high < self.len() {
-                self.join_at(low, high, class);
+                self.join_at(low, high, drawn);
             }
         }
     }

@@ -1,9 +1,10 @@
 //! What a block keeps of a live class.
-ghost use Rattle.std.specs.Prelude.{◌≡◌, ◌||◌, ◌+◌, ◌≤◌, ◌++◌, length, IfOk, IsTrue, IsPermutation, true, false, min, max, replicate, ◌-◌};
+ghost use Rattle.std.specs.Prelude.{◌≡◌, ◌||◌, ◌+◌, ◌≤◌, ◌++◌, length, IfOk, IsTrue, IsPermutation, true, false, [], min, max, replicate, ◌-◌, vec_capacity};
 ghost use Rattle.std.specs.List.{list_any};
 ghost use Rattle.std.specs.List.Sorted.{IsNonDecreasing};
 ghost use Rattle.patch_model.specs.Entry.{is_among};
-ghost use Rattle.patch_view.specs.State.{is_takeable, laid_on, exchanged_with, leaves_taken, meets, names, hardened, departed, departed_among, MayHaveDeparted, merged, IsMerged};
+ghost use Rattle.patch_view.specs.State.{is_takeable, laid_on, exchanged_with, leaves_taken, meets, names, hardened, departed, departed_among, MayHaveDeparted, merged, IsMerged, IsDrawn};
+ghost use Rattle.patch_view.specs.State.{follow_on, has_room_for, with_lists_of, in_its_place, with_lists};
 
 use crate::spans::swap_span;
 use patch_model::{BLOCK, OutOfMemory, PatchNo};
@@ -30,7 +31,8 @@ impl Turn {
     }
 }
 
-/// A live class of the block. The numbers of its members, and those that they name, rise.
+/// A live class of the block. The numbers of its members, and those that they name, rise. Either list takes in as many more
+/// numbers as `room` says without memory.
 #[derive(Drop)]
 pub(crate) struct Class<A: Allocator = Global> {
     name: PatchNo,
@@ -42,10 +44,11 @@ pub(crate) struct Class<A: Allocator = Global> {
     flying: bool,
     hard: bool,
     taken: bool,
+    room: usize,
 }
 
 impl<A: Allocator> Model for Class<A> {
-    ghost use Rattle.std.specs.Prelude.{◌+◌, ◌≤◌, length};
+    ghost use Rattle.std.specs.Prelude.{◌+◌, ◌-◌, ◌≤◌, length, vec_capacity};
     ghost use Rattle.std.specs.List.Sorted.{IsNonDecreasing};
     ghost use Rattle.patch_view.specs.State.{Class as Seen};
 
@@ -61,10 +64,28 @@ impl<A: Allocator> Model for Class<A> {
       flying = c.flying;
       hard = c.hard;
       taken = c.taken;
+      room = c.room;
     } };
 
     ghost invariant = { λ c. (c.start + length c.saved.items ≤ c.stop) × (c.stop ≤ 4096)
-        × IsNonDecreasing c.members.items × IsNonDecreasing c.after.items };
+        × IsNonDecreasing c.members.items × IsNonDecreasing c.after.items
+        × (c.room ≤ vec_capacity c.members - length c.members.items)
+        × (c.room ≤ vec_capacity c.after - length c.after.items) };
+}
+
+/// Two classes as one. A growing one has no lists of its own: in the block, the lower class's have room for the higher one's.
+#[derive(Drop)]
+pub(crate) struct Drawn<A: Allocator = Global> {
+    class: Class<A>,
+    growing: bool,
+}
+
+impl<A: Allocator> Model for Drawn<A> {
+    ghost use Rattle.patch_view.specs.State.{Drawn as Seen};
+
+    ghost Value = { Seen };
+
+    ghost view = { λ d. record { class = d.class; growing = d.growing } };
 }
 
 impl<A: Allocator> Class<A> {
@@ -170,6 +191,7 @@ impl<A: Allocator> Class<A> {
           flying = false;
           hard = false;
           taken = false;
+          room = 0;
         } }
     {
         Class {
@@ -182,42 +204,92 @@ impl<A: Allocator> Class<A> {
             flying: false,
             hard: false,
             taken: false,
+            room: 0,
         }
     }
 
-    /// This class and a higher one as one class: on the bytes that they share it has what this one saved.
-    pub(crate) fn merged(&self, alloc: A, high: &Class<A>) -> Result<Class<A>, OutOfMemory>
+    /// Whether the lists of a higher class can stand behind this one's without memory, in rising order.
+    fn has_room_for(&self, high: &Class<A>) -> bool
+        ensures exact { result ≡ has_room_for self.now high.now }
+        ensures members { IsTrue result → IsNonDecreasing (self.now.members ++ high.now.members) }
+        ensures after { IsTrue result → IsNonDecreasing (self.now.after ++ high.now.after) }
+    {
+        high.members.len() <= self.room
+            && high.after.len() <= self.room
+            && follow_on(&self.members, &high.members)
+            && follow_on(&self.after, &high.after)
+    }
+
+    /// Draws this class and a higher one up as one.
+    pub(crate) fn drawn_up(&self, alloc: A, high: &Class<A>) -> Result<Drawn<A>, OutOfMemory>
+    where
+        A: Clone,
+        ensures { IfOk result (λ drawn. IsDrawn self.now high.now drawn) }
+    {
+        let growing = self.has_room_for(high);
+        let class = if growing {
+            self.merged_without_lists(alloc, high)?
+        } else {
+            self.merged(alloc, high)?
+        };
+        Ok(Drawn { class, growing })
+    }
+
+    /// This class and a higher one as one class: on the bytes that they share it has what this one saved. It has room for as
+    /// many numbers again as either of its lists has.
+    fn merged(&self, alloc: A, high: &Class<A>) -> Result<Class<A>, OutOfMemory>
     where
         A: Clone,
         ensures { IfOk result (λ c. IsMerged self.now high.now c) }
     {
-        let width = self.stop.max(high.stop) - self.start.min(high.start);
-        let members = both_lists(alloc.clone()?, &self.members, &high.members)?;
-        let after = both_lists(alloc.clone()?, &self.after, &high.after)?;
-        let saved = vec![in alloc; 0u8; width]?;
+        let most_members = self.members.len().saturating_add(high.members.len());
+        let most_names = self.after.len().saturating_add(high.after.len());
+        let room = most_members.max(most_names);
+        let members = both_lists(alloc.clone()?, &self.members, &high.members, room)?;
+        let after = both_lists(alloc.clone()?, &self.after, &high.after, room)?;
+        let saved = vec![in alloc; 0u8; self.width_with(high)]?;
         Ok(self.merged_with(high, members, after, saved))
     }
 
-    /// The record of both, with these members, which name these, in whose saved bytes the room is zeros.
+    /// The same but for the lists, which are empty.
+    fn merged_without_lists(&self, alloc: A, high: &Class<A>) -> Result<Class<A>, OutOfMemory>
+    where
+        A: Clone,
+        ensures { IfOk result (λ c. c ≡ merged self.now high.now [] [] c.room) }
+    {
+        let members = Vec::new(alloc.clone()?);
+        let after = Vec::new(alloc.clone()?);
+        let saved = vec![in alloc; 0u8; self.width_with(high)]?;
+        Ok(self.merged_with(high, members, after, saved))
+    }
+
+    fn width_with(&self, high: &Class<A>) -> usize
+        ensures { result ≡ max self.now.stop high.now.stop - min self.now.start high.now.start }
+    {
+        self.stop.max(high.stop) - self.start.min(high.start)
+    }
+
+    /// The record of both, with these members, which name these, and whose saved bytes are written over the zeros.
     fn merged_with(
         &self,
         high: &Class<A>,
         members: Vec<PatchNo, A>,
         after: Vec<PatchNo, A>,
-        room: Vec<u8, A>,
+        zeros: Vec<u8, A>,
     ) -> Class<A>
         requires members { IsNonDecreasing members.items }
         requires after { IsNonDecreasing after.items }
-        requires room { room.items ≡ replicate (max self.now.stop high.now.stop - min self.now.start high.now.start) 0 }
-        ensures { result ≡ merged self.now high.now members.items after.items }
+        requires zeros { zeros.items ≡ replicate (max self.now.stop high.now.stop - min self.now.start high.now.start) 0 }
+        ensures { result ≡ merged self.now high.now members.items after.items result.room }
     {
         let start = self.start.min(high.start);
         let stop = self.stop.max(high.stop);
         let upper = high.start - start;
         let lower = self.start - start;
-        let mut saved = room;
+        let mut saved = zeros;
         saved[upper..upper + high.saved.len()].copy_from_slice(&high.saved);
         saved[lower..lower + self.saved.len()].copy_from_slice(&self.saved);
+        let room = spare(&members).min(spare(&after));
         Class {
             name: lesser(self.name, high.name),
             members,
@@ -228,7 +300,46 @@ impl<A: Allocator> Class<A> {
             flying: false,
             hard: false,
             taken: false,
+            room,
         }
+    }
+
+    /// Becomes what was drawn up of it and a higher class.
+    pub(crate) fn become_both(&mut self, drawn: Drawn<A>, high: &Class<A>)
+        ensures { IsDrawn self.old high.now drawn → self.new ≡ in_its_place self.old high.now drawn }
+    {
+        let Drawn { class, growing } = drawn;
+        if growing {
+            self.take_lists(high);
+            self.take_the_rest(class);
+        } else {
+            *self = class;
+        }
+    }
+
+    /// Takes the members and the names of a higher class in behind its own, where there is room for them.
+    fn take_lists(&mut self, high: &Class<A>)
+        ensures { has_room_for self.old high.now ≡ true → self.new ≡ with_lists_of self.old high.now }
+    {
+        if self.has_room_for(high) {
+            let most = high.members.len().max(high.after.len());
+            put_behind(&mut self.members, &high.members);
+            put_behind(&mut self.after, &high.after);
+            self.room -= most;
+        }
+    }
+
+    /// Becomes another class, but for its lists.
+    fn take_the_rest(&mut self, class: Class<A>)
+        ensures { self.new ≡ with_lists class self.old }
+    {
+        self.name = class.name;
+        self.start = class.start;
+        self.stop = class.stop;
+        self.flying = class.flying;
+        self.hard = class.hard;
+        self.taken = class.taken;
+        self.saved = class.saved;
     }
 
     /// Makes the class hard. Its saved bytes go, and the memory that they took.
@@ -278,34 +389,55 @@ fn is_listed(numbers: &[PatchNo], no: PatchNo) -> bool
     numbers.binary_search(&no).is_ok()
 }
 
-/// The numbers of two lists that rise, rising. They are put in order only where the one list doesn't follow the other.
+/// The numbers of two lists that rise, rising, with room for so many more. They are put in order only where the one list
+/// doesn't follow the other.
 fn both_lists<A: Allocator>(
     alloc: A,
     these: &[PatchNo],
     those: &[PatchNo],
+    room: usize,
 ) -> Result<Vec<PatchNo, A>, OutOfMemory>
     requires these { IsNonDecreasing these.now }
     requires those { IsNonDecreasing those.now }
     ensures all { IfOk result (λ all. IsPermutation (these.now ++ those.now) all.items) }
     ensures rising { IfOk result (λ all. IsNonDecreasing all.items) }
 {
-    let mut all = Vec::with_capacity(alloc, these.len().saturating_add(those.len()))?;
+    let wanted = these.len().saturating_add(those.len()).saturating_add(room);
+    let mut all = Vec::with_capacity(alloc, wanted)?;
     all.extend_from_slice(these)?;
     all.extend_from_slice(those)?;
-    if !is_followed(these, those) {
+    if !follow_on(these, those) {
         sort(&mut all);
     }
     Ok(all)
 }
 
 /// Whether of two lists that rise none of the second has a number below the last of the first.
-fn is_followed(these: &[PatchNo], those: &[PatchNo]) -> bool
-    ensures { IsNonDecreasing these.now → IsNonDecreasing those.now → IsTrue result → IsNonDecreasing (these.now ++ those.now) }
+fn follow_on(these: &[PatchNo], those: &[PatchNo]) -> bool
+    ensures exact { result ≡ follow_on these.now those.now }
+    ensures rising { IsNonDecreasing these.now → IsNonDecreasing those.now → IsTrue result → IsNonDecreasing (these.now ++ those.now) }
 {
     if these.is_empty() || those.is_empty() {
         return true;
     }
     these[these.len() - 1] <= those[0]
+}
+
+/// How many more numbers a list takes without memory.
+fn spare<A: Allocator>(numbers: &Vec<PatchNo, A>) -> usize
+    ensures { result ≡ vec_capacity numbers.now - length numbers.now.items }
+{
+    numbers.capacity().saturating_sub(numbers.len())
+}
+
+/// Puts numbers behind those of a list that has room for them.
+fn put_behind<A: Allocator>(numbers: &mut Vec<PatchNo, A>, more: &[PatchNo])
+    requires { length more.now ≤ vec_capacity numbers.old - length numbers.old.items }
+    ensures items { numbers.new.items ≡ numbers.old.items ++ more.now }
+    ensures capacity { vec_capacity numbers.old ≤ vec_capacity numbers.new }
+{
+    // Never refused, since the room is there.
+    let _ = numbers.extend_from_slice(more);
 }
 
 /// Puts the numbers into rising order.

@@ -277,6 +277,51 @@ fn a_merge_over_a_gap_is_taken_as_one(rt: HostRuntime) -> Result<(), Fail> {
     join_over_a_gap(&rt, rt.alloc(), 2, 0)
 }
 
+// Patches that become one class in turn: its lists are made anew where they are full, where they come second, and where
+// the numbers interleave; else they take in the newest.
+const GROWN: [Line<'static>; 32] = [
+    Line(Deed::Lay(0, 0, &[0xa0], None), &[]),
+    Line(Deed::Lay(1, 1, &[0xa1], Some(0)), &[]),
+    Line(Deed::Join(0, 1), &[]),
+    Line(Deed::Lay(2, 4, &[0xb2], None), &[]),
+    Line(Deed::Lay(3, 2, &[0xa3, 0xa4], Some(2)), &[]),
+    Line(Deed::Draw(3, 1, true), &[]),
+    Line(Deed::Join(3, 1), &[]),
+    Line(Deed::Take(2, Err(DependentApplied(PatchNo(0)))), &[]),
+    Line(Deed::Take(3, Ok(())), &[0, 1, 3]),
+    Line(Deed::Restore, &[]),
+    Line(Deed::Lay(4, 3, &[0xa5], Some(3)), &[]),
+    Line(Deed::JoinBy(0, 4), &[]),
+    Line(Deed::Lay(5, 0, &[0xc1, 0xc2], Some(4)), &[]),
+    Line(Deed::Take(4, Err(DependentApplied(PatchNo(5)))), &[]),
+    Line(Deed::Join(5, 4), &[]),
+    Line(Deed::Take(5, Ok(())), &[0, 1, 3, 4, 5]),
+    Line(Deed::Take(2, Ok(())), &[0, 1, 2, 3, 4, 5]),
+    Line(
+        Deed::Back(1, Err(DependencyTaken(PatchNo(2)))),
+        &[0, 1, 2, 3, 4, 5],
+    ),
+    Line(Deed::Restore, &[]),
+    Line(Deed::Lay(6, 5, &[0xb6], None), &[]),
+    Line(Deed::Join(2, 6), &[]),
+    Line(Deed::Lay(7, 6, &[0xb7], None), &[]),
+    Line(Deed::Join(2, 7), &[]),
+    Line(Deed::Take(6, Err(DependentApplied(PatchNo(0)))), &[]),
+    Line(Deed::Take(0, Ok(())), &[0, 1, 3, 4, 5]),
+    Line(Deed::Take(7, Ok(())), &[0, 1, 2, 3, 4, 5, 6, 7]),
+    Line(Deed::Restore, &[]),
+    Line(Deed::Join(7, 0), &[]),
+    Line(Deed::Take(6, Ok(())), &[0, 1, 2, 3, 4, 5, 6, 7]),
+    Line(Deed::Restore, &[]),
+    Line(Deed::Depart(6), &[]),
+    Line(Deed::Take(2, Err(InFlight)), &[]),
+];
+
+#[test]
+fn a_class_takes_in_the_newest_patch(rt: HostRuntime) -> Result<(), Fail> {
+    walk(&rt, rt.alloc(), &GROWN)
+}
+
 const TWO_OF_THREE_TOGETHER: [Line<'static>; 11] = [
     Line(Deed::Lay(0, 0, &[0xaa], None), &[]),
     Line(Deed::Lay(1, 4, &[0xbb], None), &[]),

@@ -7,13 +7,13 @@ use Rattle.patch_view.proofs.states.BlockState.join_by.Goals.{else-low-high-via-
 
 pub returns-then-high-len-clause-answer : goal.returns-then-high-len-clause-answer
 returns-then-high-len-clause-answer g c h a b e f is r p q may =
-    let drawn : Joint = record { low = c.joint.inside.low; high = c.joint.inside.high; class = c.joint.inside.class } in
+    let drawn : Joint = record { low = c.joint.inside.low; high = c.joint.inside.high; drawn = c.joint.inside.drawn } in
     let of : IsJoint c.args.self.now a b (Some drawn) = joint-as c.args.self.now a b c.args.joint c.in-Some.joint drawn is c.in-Some.is c.joint.view_is in
     joint-joins c.args.self.now c.join_at.new.self h a b e f drawn of r p q may (λ k s m. c.join_at.ensures.answer k of.2 s m)
 
 pub returns-else-low-high-clause-answer : goal.returns-else-low-high-clause-answer
 returns-else-low-high-clause-answer g c h a b e f is r p q may =
-    let drawn : Joint = record { low = c.joint.inside.low; high = c.joint.inside.high; class = c.joint.inside.class } in
+    let drawn : Joint = record { low = c.joint.inside.low; high = c.joint.inside.high; drawn = c.joint.inside.drawn } in
     let of : IsJoint c.args.self.now a b (Some drawn) = joint-as c.args.self.now a b c.args.joint c.in-Some.joint drawn is c.in-Some.is c.joint.view_is in
     let less : c.joint.inside.low < c.joint.inside.high = of.0 in
     let within : c.joint.inside.high < length c.args.self.now.classes = joint-within c.args.self.now a b drawn of in
