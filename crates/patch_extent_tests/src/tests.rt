@@ -1,4 +1,4 @@
-//! Worked appends, resets and reads in both versions, want of memory, and the texts of refusals.
+//! Worked appends, resets and reads in both versions, the limit of live patches, want of memory, and the texts of refusals.
 use patch_cache::Cache;
 use patch_extent::{
     AppendRefusal, Appended, Extents, ExtentsFault, Place, ReadRefusal, ResetRefusal,
@@ -12,6 +12,7 @@ use std::fmt::Debug;
 use std::process::Abort;
 use std::test::Fail;
 
+mod limits;
 mod memory;
 mod names;
 mod walks;
