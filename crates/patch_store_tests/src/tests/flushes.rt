@@ -39,15 +39,26 @@ const TURNS: [(Ask<'static>, Said); 4] = [
     ),
 ];
 
+fn write_all(device: &mut MemDevice, blocks: &[BlockBytes]) -> Result<(), Fail> {
+    let mut number = 0u32;
+    for block in blocks {
+        if device.write(number, block.as_slice()).is_err() {
+            return Err(Fail::from("a device in memory refused a write"));
+        }
+        number = number.saturating_add(1);
+    }
+    Ok(())
+}
+
+fn write_new_disk(alloc: Global, device: &mut MemDevice) -> Result<(), Fail> {
+    let blocks = disk_with(alloc, SMALL, &[])?;
+    write_all(device, &blocks)
+}
+
 // A device that holds a new disk.
 fn new_device(alloc: Global) -> Result<MemDevice, Fail> {
     let mut device = MemDevice::new(alloc, COUNT)?;
-    let blocks = disk_with(alloc, SMALL, &[])?;
-    for at in 0..blocks.len() {
-        if device.write(at as u32, blocks[at].as_slice()).is_err() {
-            return Err(Fail::from("a device in memory refused a write"));
-        }
-    }
+    write_new_disk(alloc, &mut device)?;
     Ok(device)
 }
 
@@ -58,18 +69,27 @@ fn blocks_of<D: Device>(alloc: Global, device: &mut D) -> Result<Vec<BlockBytes>
     }
 }
 
+fn open_again<D: Device>(rt: &impl Abort, alloc: Global, device: &mut D) -> Result<Store, Fail> {
+    let cache = cache_of(rt, alloc, blocks_of(alloc, device)?)?;
+    match Store::open(alloc, cache) {
+        Ok(store) => Ok(store),
+        Err(_) => Err(Fail::from("a flushed disk was not opened")),
+    }
+}
+
+// A key has a value of so many bytes.
+fn has_length(store: &Store, key: &[u8], len: usize) -> bool {
+    match store.get(key) {
+        Ok(Some(value)) => value.len() == len,
+        _ => false,
+    }
+}
+
 // The device's blocks open as the map of the commands.
 fn expect_on_disk<D: Device>(rt: &impl Abort, alloc: Global, device: &mut D) -> Result<(), Fail> {
-    let cache = cache_of(rt, alloc, blocks_of(alloc, device)?)?;
-    let Ok(store) = Store::open(alloc, cache) else {
-        return Err(Fail::from("a flushed disk was not opened"));
-    };
-    expect_value(rt, &store, b"b", Some(&[3, 3]))?;
-    match store.get(b"a") {
-        Ok(Some(value)) => assert_eq!(rt; value.len(), 5000),
-        _ => return Err(Fail::from("a value was lost")),
-    }
-    Ok(())
+    let store = open_again(rt, alloc, device)?;
+    assert!(rt; has_length(&store, b"a", 5000));
+    expect_value(rt, &store, b"b", Some(&[3, 3]))
 }
 
 // Flushes the commands to the device, all of them.

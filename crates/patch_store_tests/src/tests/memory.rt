@@ -72,7 +72,41 @@ fn call_on(
     }
 }
 
-// Calls where only a hole of this size is left. Whether that is refused; then each key has the value that it had.
+// Calls where only a hole of this size is left.
+fn call_in_hole(
+    alloc: Global,
+    heap: &LocalHeap,
+    hole: usize,
+    store: &mut HeapStore<'_>,
+    device: &mut MemDevice,
+    call: Call,
+) -> Result<Result<(), RefusalKind>, OutOfMemory> {
+    let ballast = fill(alloc, heap, hole)?;
+    let answer = call_on(store, device, call);
+    drop(ballast);
+    Ok(answer)
+}
+
+// The same on a device of its own, which has its memory elsewhere.
+fn call_beside(
+    alloc: Global,
+    heap: &LocalHeap,
+    hole: usize,
+    store: &mut HeapStore<'_>,
+    call: Call,
+) -> Result<Result<(), RefusalKind>, OutOfMemory> {
+    let mut device = MemDevice::new(alloc, 51)?;
+    call_in_hole(alloc, heap, hole, store, &mut device, call)
+}
+
+// Each key has the value that it had.
+fn expect_unchanged(rt: &impl Abort, store: &HeapStore<'_>, long: &[u8]) -> Result<(), Fail> {
+    expect_value(rt, store, b"a", Some(b"first"))?;
+    expect_value(rt, store, b"b", Some(long))?;
+    expect_value(rt, store, b"c", None)
+}
+
+// Whether a call is refused where only a hole of this size is left.
 fn is_refused(
     rt: &impl Abort,
     alloc: Global,
@@ -81,42 +115,30 @@ fn is_refused(
     hole: usize,
     call: Call,
 ) -> Result<bool, Fail> {
-    let mut device = MemDevice::new(alloc, 51)?;
     let mut store = furnished(rt, heap, long)?;
-    let ballast = fill(alloc, heap, hole)?;
-    let answer = call_on(&mut store, &mut device, call);
-    drop(ballast);
+    let answer = call_beside(alloc, heap, hole, &mut store, call)?;
     if answer.is_ok() {
         return Ok(false);
     }
     assert_eq!(rt; answer, Err(RefusalKind::OutOfMemory));
-    expect_value(rt, &store, b"a", Some(b"first"))?;
-    expect_value(rt, &store, b"b", Some(long))?;
-    expect_value(rt, &store, b"c", None)?;
+    expect_unchanged(rt, &store, long)?;
     Ok(true)
 }
 
 // Each hole is larger than the one before it, so that one allocation more succeeds now and then, until all do. A flush takes
 // images of whole blocks: its holes grow faster.
-fn refuse_each(
+fn refuse_each_in(
     rt: &impl Abort,
     alloc: Global,
+    heap: &LocalHeap,
+    long: &[u8],
     call: Call,
-    len: usize,
     stride: usize,
 ) -> Result<(), Fail> {
-    let heap = LocalHeap::new(alloc, HEAP)?;
-    let long = vec![in alloc; 7; len]?;
     let mut refused = false;
     for turn in 0..1000usize {
-        let again = is_refused(
-            rt,
-            alloc,
-            &heap,
-            &long,
-            hole_of(turn.saturating_mul(stride)),
-            call,
-        )?;
+        let hole = hole_of(turn.saturating_mul(stride));
+        let again = is_refused(rt, alloc, heap, long, hole, call)?;
         assert_eq!(rt; heap.used(), 0);
         if !again {
             assert!(rt; refused);
@@ -125,6 +147,18 @@ fn refuse_each(
         refused = true;
     }
     Err(Fail::from("refused in the largest hole"))
+}
+
+fn refuse_each(
+    rt: &impl Abort,
+    alloc: Global,
+    call: Call,
+    len: usize,
+    stride: usize,
+) -> Result<(), Fail> {
+    let long = vec![in alloc; 7; len]?;
+    let heap = LocalHeap::new(alloc, HEAP)?;
+    refuse_each_in(rt, alloc, &heap, &long, call, stride)
 }
 
 #[test]

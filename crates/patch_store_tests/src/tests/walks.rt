@@ -33,7 +33,7 @@ const WRITER: WriterNo = WriterNo(0);
 const LONG_KEY: &[u8] = b"xxxxxxxxxxxxxxxxxxxxxxxxxxxxxxxxx";
 
 // 65 keys of one byte each.
-const KEYS: &[u8; 65] = b"0123456789ABCDEFGHIJKLMNOPQRSTUVWXYZabcdefghijklmnopqrstuvwxyz+-*";
+const KEYS: &[u8] = b"0123456789ABCDEFGHIJKLMNOPQRSTUVWXYZabcdefghijklmnopqrstuvwxyz+-*";
 
 // One index block and so many extents.
 fn with_extents(extents: u32) -> Geometry {
@@ -278,14 +278,15 @@ fn values_are_as_long_as_their_extents_allow(rt: HostRuntime) -> Result<(), Fail
 
 // A put for each slot of an index block, one more, and one of a key that has a slot.
 fn puts_of_all_slots(alloc: Global) -> Result<Vec<Turn<'static>>, OutOfMemory> {
-    let mut turns = Vec::with_capacity(alloc, KEYS.len() + 1)?;
-    for at in 0..KEYS.len() {
+    let keys = KEYS;
+    let mut turns = Vec::with_capacity(alloc, 66)?;
+    for at in 0..keys.len() {
         let said = if at < 64 {
             Done
         } else {
             Refused(RefusalKind::IndexFull)
         };
-        turns.push((put(&KEYS[at..at + 1], 0, 0), said))?;
+        turns.push((put(&keys[at..at + 1], 0, 0), said))?;
     }
     turns.push((put(b"0", 0, 0), Done))?;
     Ok(turns)
