@@ -4,6 +4,7 @@ ghost use Rattle.patch_device.specs.Device.{CountsFault, IsOldOrNew, AddsOutcome
 ghost use Rattle.patch_device.specs.SameDevice.{IsSameDevice};
 
 use crate::devices::Device;
+use crate::lasting::Lasting;
 use crate::refusals::DeviceRefusal;
 use patch_model::BLOCK;
 
@@ -145,4 +146,10 @@ impl<D: Device> Device for FaultyDevice<D> {
     ghost last_had = { λ d h. D.last_had (inner_of d) h };
 
     ghost faults_fit = { λ d. faults_of_both_fit (calls_before d) (D.fault_count (inner_of d)) };
+}
+
+impl<D: Lasting> Lasting for FaultyDevice<D> {
+    fn sync(&mut self) -> Result<(), DeviceRefusal> {
+        self.inner.sync()
+    }
 }

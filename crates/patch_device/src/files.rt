@@ -4,6 +4,7 @@ ghost use Rattle.patch_device.specs.Blocks.{FitsFile};
 ghost use Rattle.patch_device.specs.Device.{most_faults};
 
 use crate::devices::Device;
+use crate::lasting::Lasting;
 use crate::refusals::{DeviceRefusal, FileRefusal};
 use patch_model::{BLOCK, MAX_BLOCKS};
 use std::fs;
@@ -157,4 +158,14 @@ impl<F: FileExt + Drop> Device for FileDevice<F> {
     ghost last_had = { λ d h. absurd h };
 
     ghost faults_fit = { λ d. d.faults_fit };
+}
+
+impl<F: FileExt + OpenFile + Drop> Lasting for FileDevice<F> {
+    fn sync(&mut self) -> Result<(), DeviceRefusal> {
+        if self.file.sync_all().is_err() {
+            self.faults = self.faults.saturating_add(1);
+            return Err(DeviceRefusal::Fault);
+        }
+        Ok(())
+    }
 }

@@ -4,6 +4,7 @@
 mod devices;
 mod faulty;
 mod files;
+mod lasting;
 mod loading;
 mod memory;
 mod refusals;
@@ -11,6 +12,7 @@ mod refusals;
 pub use devices::Device;
 pub use faulty::FaultyDevice;
 pub use files::FileDevice;
+pub use lasting::Lasting;
 pub use loading::load;
 pub use memory::MemDevice;
 pub use refusals::{DeviceRefusal, FileRefusal, LoadFault};

@@ -5,6 +5,7 @@ ghost use Rattle.patch_device.specs.Blocks.{AreWhole, zeros};
 ghost use Rattle.patch_device.specs.Writes.{after_writes};
 
 use crate::devices::Device;
+use crate::lasting::Lasting;
 use crate::refusals::DeviceRefusal;
 use patch_model::{BLOCK, BlockBytes, OutOfMemory};
 use std::alloc::{Allocator, Global};
@@ -139,4 +140,11 @@ impl<A: Allocator + Copy> Device for MemDevice<A> {
     ghost last_had = { last_had_law };
 
     ghost faults_fit = { faults_fit_law };
+}
+
+impl<A: Allocator + Copy> Lasting for MemDevice<A> {
+    // Memory has nothing to sync.
+    fn sync(&mut self) -> Result<(), DeviceRefusal> {
+        Ok(())
+    }
 }
