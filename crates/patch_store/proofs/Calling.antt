@@ -1,5 +1,5 @@
 -- Commands that are answered one after another, and the reply to one that reads a key.
-use Rattle.std.proofs.Common.{◌≡◌, ℕ, ◌+◌, ◌<◌, ◌∙◌, inl, Bool, true, false, List, [], ◌∷◌, ◌++◌, length, map, get_or, refl, sym, ap, subst, arith}
+use Rattle.std.proofs.Common.{◌≡◌, ℕ, ◌+◌, ◌<◌, ◌∙◌, inl, false, List, [], ◌∷◌, ◌++◌, length, map, get_or, refl, sym, ap, subst, arith}
 use Rattle.std.proofs.lemmas.List.{append_assoc, append-nil, length-append, length-map}
 use Rattle.std.specs.Prelude.{Option, Some, None, flat_map}
 use Rattle.patch_model.specs.Step.{Step}
@@ -7,8 +7,8 @@ use Rattle.patch_cache.specs.Refusals.{IsCause}
 use Rattle.patch_history.specs.declared.commands.Command.{Command as CodeCommand}
 use Rattle.patch_history.specs.declared.commands.Reply.{Reply as CodeReply}
 use Rattle.patch_history.specs.declared.refusals.GetRefusal.{GetRefusal}
-use Rattle.patch_history.specs.Command.{Command, Reply, Get, Value, Absent, Refused, unless, is_refused}
-use Rattle.patch_history.specs.History.{History, Event, Call, standing_of, steps_in, with_event}
+use Rattle.patch_history.specs.Command.{Command, Get, Value, Absent, Refused, unless, is_refused}
+use Rattle.patch_history.specs.History.{History, Call, standing_of, steps_in}
 use Rattle.patch_history.specs.Laws.{HistoriesExtend}
 use Rattle.patch_history.specs.Refusals.{get_cause}
 use Rattle.patch_history.specs.Refusing.{why_no_key, found}

@@ -1,5 +1,5 @@
 -- The bytes of a frame, as they are copied.
-use Rattle.std.proofs.Common.{◌≡◌, ℕ, zero, suc, ◌+◌, ◌<◌, ◌∙◌, inl, inr, List, [], ◌∷◌, ◌++◌, length, drop, get_or, append-nil, refl, sym, ap, subst, arith}
+use Rattle.std.proofs.Common.{◌≡◌, ℕ, zero, suc, ◌<◌, ◌∙◌, inl, inr, List, [], ◌∷◌, ◌++◌, length, drop, get_or, append-nil, refl, sym, ap, subst, arith}
 use Rattle.std.specs.Prelude.{◌==◌, Ok, Option, Some, None}
 use Rattle.std.specs.List.{range_with_len}
 use Rattle.std.proofs.lemmas.List.{length-map, drop_all}

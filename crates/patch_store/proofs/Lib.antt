@@ -1,7 +1,6 @@
 pub mod Gaining
 pub mod Engaging
 pub mod Writing
-pub mod Slots
 pub mod Values
 pub mod Disks
 pub mod Finding
@@ -22,8 +21,6 @@ pub mod Scanned
 pub mod Opened
 pub mod Calling
 pub mod Reported
-pub mod Lined
-pub mod Ordered
 pub mod Tried
 pub mod Summed
 pub mod Judged

@@ -1,39 +1,19 @@
--- What is reported of slots, one more at a time, and that it is the map.
-use Rattle.std.proofs.Common.{◌≡◌, ℕ, zero, suc, ◌+◌, ◌-◌, ◌<◌, ◌≤◌, ◌∙◌, List, [], ◌∷◌, ◌++◌, length, map, take, get_or, refl, sym, ap, arith}
-use Rattle.std.specs.Prelude.{Option, Some, None, Ok, flat_map}
+-- What is reported of slots is the map.
+use Rattle.std.proofs.Common.{◌≡◌, ℕ, zero, suc, ◌+◌, ◌-◌, ◌<◌, ◌∙◌, List, [], ◌∷◌, ◌++◌, length, map, get_or, refl, sym, ap, arith}
+use Rattle.std.specs.Prelude.{Option, Some, None, flat_map}
 use Rattle.std.specs.List.{range_with_len}
-use Rattle.std.proofs.lemmas.List.{map_more, map-append}
-use Rattle.patch_frame.specs.Frame.{Content, length_of}
+use Rattle.std.proofs.lemmas.List.{map-append}
 use Rattle.patch_frame.specs.Geometry.{slot_count}
 use Rattle.patch_frame.specs.Slot.{SlotFields}
-use Rattle.patch_recovery.specs.Ledger.{Ledger, map_of, entry_of, entry_read, value_in}
+use Rattle.patch_recovery.specs.Ledger.{Ledger, entry_of, entry_read}
 use Rattle.patch_recovery.specs.Right.{IsNamed}
 use Rattle.patch_history.specs.History.{History, standing_of, ledger_of}
 use Rattle.patch_history.specs.Kept.{ShelvesAreKept}
 use Rattle.patch_history.specs.Laws.{HistoriesAreRead}
 use Rattle.patch_history.specs.Shelf.{Shelf}
-use Rattle.patch_store.specs.Checking.{of_slot, of_content, of_slots, bytes_in, live_bytes, ListsMap}
+use Rattle.patch_index.specs.Reporting.{of_slots}
+use Rattle.patch_store.specs.Checking.{of_content, ListsMap}
 use Rattle.patch_store.specs.Meaning.{Store, Represents}
-
-slots_push : (slots : List (Option SlotFields)) (slot : Option SlotFields) → of_slots (slots ++ slot ∷ []) ≡ of_slots slots ++ of_slots (slot ∷ [])
-slots_push [] slot = refl
-slots_push (None ∷ slots) slot = slots_push slots slot
-slots_push (Some f ∷ slots) slot = ap (λ es. of_slot f ∷ es) (slots_push slots slot)
-
-live_push : (slots : List (Option SlotFields)) (slot : Option SlotFields) (extent : ℕ) → live_bytes (slots ++ slot ∷ []) extent ≡ live_bytes slots extent + bytes_in extent slot
-live_push [] slot extent = let n = bytes_in extent slot in omega arith
-live_push (s ∷ slots) slot extent =
-    let rest = live_push slots slot extent in
-    omega (arith, rest)
-
--- the same of the first slots, by what each of them tells
-pub more_slots : {X : Type 0} (f : X → Option SlotFields) (xs : List X) (i : ℕ) (d : X) → i < length xs
-    → of_slots (map f (take (i + 1) xs)) ≡ of_slots (map f (take i xs)) ++ of_slots (f (get_or xs i d) ∷ [])
-more_slots f xs i d less = ap of_slots (map_more f xs i d less) ∙ slots_push (map f (take i xs)) (f (get_or xs i d))
-
-pub more_live : {X : Type 0} (f : X → Option SlotFields) (xs : List X) (i : ℕ) (d : X) (extent : ℕ) → i < length xs
-    → live_bytes (map f (take (i + 1) xs)) extent ≡ live_bytes (map f (take i xs)) extent + bytes_in extent (f (get_or xs i d))
-more_live f xs i d extent less = ap (λ s. live_bytes s extent) (map_more f xs i d less) ∙ live_push (map f (take i xs)) (f (get_or xs i d)) extent
 
 -- what the slots tell is what the map has
 abbrev AreNamed : Ledger → Type 0

@@ -13,14 +13,14 @@ use Rattle.patch_history.specs.Shelf.{Shelf, after_plan}
 use Rattle.patch_history.specs.Standing.{Standing, made_by}
 use Rattle.patch_history.specs.Fitting.{FramesAreThere}
 use Rattle.patch_history.specs.History.{History, standing_of}
-use Rattle.patch_store.specs.declared.entries.Entry.{Entry}
+use Rattle.patch_index.specs.declared.entries.Entry.{Entry}
+use Rattle.patch_index.specs.Index.{fields_of}
+use Rattle.patch_index.specs.Live.{slots_of, AreSaid}
+use Rattle.patch_index.specs.Said.{said_behind}
 use Rattle.patch_store.specs.declared.trials.Trial.{Trial}
-use Rattle.patch_store.specs.Index.{fields_of}
 use Rattle.patch_store.specs.Meaning.{Store, Represents}
 use Rattle.patch_store.specs.Moving.{live_slots}
-use Rattle.patch_store.specs.Live.{slots_of, AreSaid}
 use Rattle.patch_store.specs.Trials.{Alike, Tries, moving_patches}
-use Rattle.patch_store.proofs.Ordered.{said_behind}
 
 -- The next frame.
 

@@ -1,41 +1,17 @@
 -- What a store holds, as it is reported.
-use Rattle.std.specs.Prelude.{ℕ, ◌≡◌, ◌+◌, ◌-◌, ◌==◌, List, [], ◌∷◌, length, map, Option, Some, None, if◌then◌else◌}
+use Rattle.std.specs.Prelude.{ℕ, ◌≡◌, List, length, map}
 use Rattle.std.specs.List.{range_with_len}
 use Rattle.patch_frame.specs.Frame.{Content}
-use Rattle.patch_frame.specs.Slot.{SlotFields}
 use Rattle.patch_recovery.specs.Ledger.{map_of, value_in}
 use Rattle.patch_extent.specs.Extents.{generation_at, offset_at}
 use Rattle.patch_history.specs.History.{History, standing_of, ledger_of}
 use Rattle.patch_history.specs.Shelf.{Shelf}
-use Rattle.patch_store.specs.declared.reports.EntryReport.{EntryReport}
+use Rattle.patch_index.specs.Reporting.{live_bytes}
 use Rattle.patch_store.specs.declared.reports.ExtentReport.{ExtentReport}
-use Rattle.patch_store.specs.Index.{key_of}
 
--- a key with the length of its value, as reported, as a slot says it, and as a map has it
-abbrev pub reported : EntryReport → List ℕ × ℕ
-reported e = (key_of e.key, e.length)
-
-abbrev pub of_slot : SlotFields → List ℕ × ℕ
-of_slot f = (f.key, f.length - 16 - length f.key)
-
+-- a key with the length of its value, as a map has it
 abbrev pub of_content : Content → List ℕ × ℕ
 of_content c = (c.key, length c.value)
-
--- those of the used slots, rising
-abbrev pub of_slots : List (Option SlotFields) → List (List ℕ × ℕ)
-of_slots [] = []
-of_slots (None ∷ slots) = of_slots slots
-of_slots (Some f ∷ slots) = of_slot f ∷ of_slots slots
-
--- how many bytes a slot's frame has in the extent
-abbrev pub bytes_in : ℕ → Option SlotFields → ℕ
-bytes_in extent None = 0
-bytes_in extent (Some f) = if f.extent == extent then f.length else 0
-
--- and all frames that slots name there
-abbrev pub live_bytes : List (Option SlotFields) → (extent : ℕ) → ℕ
-live_bytes [] extent = 0
-live_bytes (slot ∷ slots) extent = bytes_in extent slot + live_bytes slots extent
 
 -- an extent of the shelf
 abbrev pub extent_report : Shelf → ℕ → ExtentReport

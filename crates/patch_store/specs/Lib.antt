@@ -1,4 +1,3 @@
-pub mod Index
 pub mod Meaning
 pub mod Checking
 pub mod Choosing
@@ -15,6 +14,5 @@ pub mod Sending
 pub mod Upgrading
 pub mod Flushing
 pub mod Laws
-pub mod Live
 pub mod Moving
 pub mod Trials

@@ -18,9 +18,9 @@ use Rattle.patch_history.specs.declared.refusals.OpenFault.{OpenFault}
 use Rattle.patch_history.specs.History.{History}
 use Rattle.patch_history.specs.Refusals.{fault_of}
 use Rattle.patch_history.specs.Shelf.{Shelf}
-use Rattle.patch_store.specs.declared.entries.Entry.{Entry}
+use Rattle.patch_index.specs.declared.entries.Entry.{Entry}
+use Rattle.patch_index.specs.Index.{told}
 use Rattle.patch_store.specs.declared.opening.Disk.{Disk}
-use Rattle.patch_store.specs.Index.{told}
 use Rattle.patch_store.specs.Meaning.{Store, Represents}
 
 -- the execution of no steps over these blocks

@@ -1,7 +1,8 @@
 //! What a store holds, as it is reported.
 ghost use Rattle.std.specs.Prelude.{◌≡◌, ◌<◌, map, IfOk};
 ghost use Rattle.patch_history.specs.History.{History, standing_of};
-ghost use Rattle.patch_store.specs.Checking.{reported, extent_report, extent_reports, ListsMap};
+ghost use Rattle.patch_index.specs.Reporting.{reported};
+ghost use Rattle.patch_store.specs.Checking.{extent_report, extent_reports, ListsMap};
 ghost use Rattle.patch_store.specs.Meaning.{Represents};
 
 use crate::reports::{ExtentReport, Report};

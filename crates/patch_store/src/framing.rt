@@ -6,10 +6,9 @@ ghost use Rattle.patch_frame.specs.Slot.{FitsUsed, spelling};
 ghost use Rattle.patch_extent.specs.Answers.{asked};
 ghost use Rattle.patch_extent.specs.Appending.{LaysPatch};
 ghost use Rattle.patch_history.specs.Shelf.{slot_at};
+ghost use Rattle.patch_index.specs.Index.{fields_of};
 ghost use Rattle.patch_store.specs.Framing.{next_fields, names_behind, delete_before as the_delete_before, FillsSlot, AppendsFrame, PutsFrame};
-ghost use Rattle.patch_store.specs.Index.{fields_of};
 
-use crate::entries::{Entry, Key};
 use crate::stores::Store;
 use patch_cache::Cache;
 use patch_frame::{
@@ -18,11 +17,9 @@ use patch_frame::{
 };
 use patch_group::Groups;
 use patch_history::laws as history_laws;
+use patch_index::{Entry, Key, OVERHEAD};
 use patch_model::{BlockNo, OutOfMemory, PatchNo, Undo, WriterNo};
 use std::alloc::Allocator;
-
-/// How many bytes a frame has beside its key and its value.
-pub(crate) const OVERHEAD: u32 = 16;
 
 // The most patches that a slot's patch names: a pointer's, a delete's and the upgrade's.
 const MAX_NAMES: usize = 3;

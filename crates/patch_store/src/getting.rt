@@ -4,22 +4,20 @@ ghost use Rattle.patch_model.specs.Execution.{Execution};
 ghost use Rattle.patch_cache.specs.Meaning.{Represents as IsCacheOf};
 ghost use Rattle.patch_extent.specs.Meaning.{Represents as AreExtentsOf};
 ghost use Rattle.patch_history.specs.History.{History};
+ghost use Rattle.patch_index.specs.Index.{fields_of};
 ghost use Rattle.patch_store.specs.Getting.{IsGot, value_kept};
-ghost use Rattle.patch_store.specs.Index.{fields_of};
 ghost use Rattle.patch_store.specs.Meaning.{Represents};
 
-use crate::entries::Entry;
 use crate::stores::Store;
 use patch_extent::Place;
 use patch_frame::MAX_KEY;
 use patch_history::{GetRefusal, laws as history_laws};
+use patch_index::{Entry, OVERHEAD};
 use patch_model::OutOfMemory;
 use std::alloc::Allocator;
 
-// How many bytes of a frame stand before its key, and how many beside key and value.
+// How many bytes of a frame stand before its key.
 const KEY_START: u32 = 12;
-
-const OVERHEAD: u32 = 16;
 
 impl<A: Allocator + Copy> Store<A> {
     /// The value of a key, if it has one. It is read where the key's slot says, and copied once.

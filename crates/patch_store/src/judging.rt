@@ -7,11 +7,11 @@ ghost use Rattle.patch_store.specs.Meaning.{Represents};
 ghost use Rattle.patch_store.specs.Moving.{live_slots};
 ghost use Rattle.patch_store.specs.Trials.{moving_patches};
 
-use crate::live_slots::LiveSlots;
 use crate::stores::Store;
 use crate::trials::Trial;
 use patch_frame::laws as frame_laws;
 use patch_history::{ReclaimRefusal, laws as history_laws};
+use patch_index::LiveSlots;
 use std::alloc::Allocator;
 
 // The patch of the reset behind the moves.

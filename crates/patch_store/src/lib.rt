@@ -7,27 +7,22 @@
 //! `flushing`, brings all patches to the disk.
 //!
 //! Which slot and which extent a frame takes is said in `choosing`, and how it is put and named in `framing`. Whether an
-//! extent may be reclaimed is said in `judging`: its live slots, which `ordering` puts in order, are tried on a `Trial` of the
-//! extents, as `trying` does it, before any frame moves. `moving` moves them.
+//! extent may be reclaimed is said in `judging`: its live slots are tried on a `Trial` of the extents, as `trying` does it,
+//! before any frame moves. `moving` moves them.
 #![tactic(auto)]
 
 mod checking;
 mod choosing;
 mod deleting;
-mod entries;
 mod flushing;
 mod framing;
 mod getting;
 mod grouping;
-mod indexes;
 mod judging;
-mod keys;
 pub mod laws;
-mod live_slots;
 mod making;
 mod moving;
 mod opening;
-mod ordering;
 mod putting;
 mod reclaiming;
 mod reports;
@@ -39,8 +34,8 @@ mod trials;
 mod trying;
 mod upgrading;
 
-pub use entries::Key;
 pub use flushing::flush;
 pub use making::make;
-pub use reports::{EntryReport, ExtentReport, Report};
+pub use patch_index::{EntryReport, Key};
+pub use reports::{ExtentReport, Report};
 pub use stores::Store;

@@ -1,14 +1,13 @@
 //! How frames are moved out of an extent.
-ghost use Rattle.patch_store.specs.Index.{fields_of};
+ghost use Rattle.patch_index.specs.Index.{fields_of};
 ghost use Rattle.patch_store.specs.Moving.{CopiesFrame, MovesFrame, MovesFrames};
 
-use crate::entries::Entry;
 use crate::laws::laws_below;
-use crate::live_slots::LiveSlots;
 use crate::stores::Store;
 use patch_extent::Place;
 use patch_frame::decode_within;
 use patch_history::laws as history_laws;
+use patch_index::{Entry, LiveSlots};
 use patch_model::OutOfMemory;
 use std::alloc::Allocator;
 

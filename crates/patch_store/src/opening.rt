@@ -9,7 +9,6 @@ ghost use Rattle.patch_group.specs.Groups.{no_groups};
 ghost use Rattle.patch_store.specs.Laws.{ClosedDisksOpen, CrashDisksOpen};
 ghost use Rattle.patch_store.specs.Opening.{unchanged, Opens, KeepsCache, IsDivided, IsFaultOf, IsFirstOf, IsWholeDisk, IsDiskOf, pointer_tests, is_open, shelf_of};
 
-use crate::indexes::Index;
 use crate::laws;
 use crate::scanning::{read_slots, span};
 use crate::stores::Store;
@@ -18,6 +17,7 @@ use patch_extent::{Extents, ExtentsFault};
 use patch_frame::{Geometry, read_superblock};
 use patch_group::Groups;
 use patch_history::OpenFault;
+use patch_index::Index;
 use patch_model::{BLOCK, BlockNo, OutOfMemory, PatchNo};
 use std::alloc::Allocator;
 

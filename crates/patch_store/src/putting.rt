@@ -15,11 +15,11 @@ ghost use Rattle.patch_store.specs.Meaning.{Answers, Represents};
 ghost use Rattle.patch_store.specs.Putting.{IsTarget};
 ghost use Rattle.patch_store.specs.Replies.{reply_to};
 
-use crate::framing::OVERHEAD;
 use crate::stores::Store;
 use patch_extent::touched;
 use patch_frame::{MAX_KEY, encode, laws as frame_laws};
 use patch_history::{PutRefusal, laws as history_laws};
+use patch_index::OVERHEAD;
 use patch_model::{MAX_LIVE, MAX_PATCHES, WriterNo};
 use std::alloc::Allocator;
 

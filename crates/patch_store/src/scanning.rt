@@ -7,11 +7,9 @@ ghost use Rattle.patch_frame.specs.Frame.{frame_at};
 ghost use Rattle.patch_frame.specs.Geometry.{IsFormat, IsGeometry, slot_count, largest_pointer};
 ghost use Rattle.patch_frame.specs.Slot.{used_fields};
 ghost use Rattle.patch_recovery.specs.Ledger.{is_frame_of as holds};
-ghost use Rattle.patch_store.specs.Index.{fields_of};
+ghost use Rattle.patch_index.specs.Index.{fields_of};
 ghost use Rattle.patch_store.specs.Opening.{unchanged, IsSpan, Reads, ReadsSlots, ReadsSlot, ReadsFrame, ReadsPlace};
 
-use crate::entries::{Entry, Key};
-use crate::indexes::Index;
 use patch_cache::Cache;
 use patch_extent::{Extents, Place, ReadRefusal};
 use patch_frame::{
@@ -19,6 +17,7 @@ use patch_frame::{
     read_slot_within, slot_block, slot_start,
 };
 use patch_history::OpenFault;
+use patch_index::{Entry, Index, Key};
 use patch_model::BlockNo;
 use std::alloc::Allocator;
 

@@ -5,11 +5,11 @@ ghost use Rattle.patch_cache.specs.Contents.{drained};
 ghost use Rattle.patch_history.specs.History.{History};
 ghost use Rattle.patch_store.specs.Meaning.{Represents};
 
-use crate::indexes::Index;
 use patch_cache::Cache;
 use patch_extent::Extents;
 use patch_frame::Geometry;
 use patch_group::Groups;
+use patch_index::Index;
 use patch_model::{OutOfMemory, PatchNo, Step};
 use std::alloc::{Allocator, Global};
 use std::marker::Model;

@@ -117,6 +117,12 @@ pub(super) fn go(
     }
 }
 
+// Goes through the commands of these turns, and looks at each reply.
+fn take(rt: &impl Abort, alloc: Global, store: &mut Store, turns: &[Turn<'_>]) -> Result<(), Fail> {
+    let commands = commands_of(alloc, turns)?;
+    go(rt, store, &commands, turns)
+}
+
 // A store on a new disk, behind these commands.
 pub(super) fn behind(
     rt: &impl Abort,
@@ -125,8 +131,7 @@ pub(super) fn behind(
     turns: &[Turn<'_>],
 ) -> Result<Store, Fail> {
     let mut store = open_with(rt, alloc, geometry, &[])?;
-    let commands = commands_of(alloc, turns)?;
-    go(rt, &mut store, &commands, turns)?;
+    take(rt, alloc, &mut store, turns)?;
     Ok(store)
 }
 
@@ -296,4 +301,26 @@ fn puts_of_all_slots(alloc: Global) -> Result<Vec<Turn<'static>>, OutOfMemory> {
 fn an_index_is_full_with_64_keys(rt: HostRuntime) -> Result<(), Fail> {
     let turns = puts_of_all_slots(rt.alloc())?;
     walk(&rt, rt.alloc(), with_extents(2), &turns)
+}
+
+// Two full extents, and one slot, which names a frame of the first.
+const FULL: [Piece<'static>; 3] = [
+    (3, 0, b"FCH1\x01\0\0\0\0\0\0\x01k\x071HCF"),
+    (2, 0, b"\0\0\0\0\0\x01\0\0\0\0\0\0\0\x01\0\0"),
+    (1, 0, b"\x01\x01\0\0\0\0\0\0\0\0\0\0\0\0\0\x12k"),
+];
+
+#[test]
+fn of_two_full_extents_the_one_without_a_frame_is_won_back(rt: HostRuntime) -> Result<(), Fail> {
+    let mut store = open_with(&rt, rt.alloc(), SMALL, &FULL)?;
+    take(
+        &rt,
+        rt.alloc(),
+        &mut store,
+        &[
+            (Reclaim { extent: 0 }, Refused(RefusalKind::NoSpace)),
+            (Reclaim { extent: 1 }, Done),
+            (Get { key: b"k" }, Value { byte: 7, len: 1 }),
+        ],
+    )
 }

@@ -3,7 +3,7 @@ use Rattle.std.proofs.lemmas.List.{length_push}
 use Rattle.std.proofs.lemmas.Result.{err_from_is_err_and}
 use Rattle.patch_frame.specs.Geometry.{slot_count}
 use Rattle.patch_recovery.specs.Reading.{ledger_in, slot_tests}
-use Rattle.patch_store.specs.Index.{told}
+use Rattle.patch_index.specs.Index.{told}
 use Rattle.patch_store.specs.Opening.{nothing, IsFirstOf, index_tests}
 use Rattle.patch_store.proofs.Tested.{fault_among, passed_on}
 use Rattle.patch_store.proofs.Scanned.{scanned_more}

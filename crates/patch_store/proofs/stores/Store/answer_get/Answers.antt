@@ -1,6 +1,6 @@
 use Rattle.std.proofs.Common.{◌∙◌, sym, ap, subst}
 use Rattle.std.specs.Prelude.{Ok}
-use Rattle.patch_history.specs.Command.{Get, Value, Absent, Refused}
+use Rattle.patch_history.specs.Command.{Get, Value, Refused}
 use Rattle.patch_store.specs.Getting.{IsGot}
 use Rattle.patch_store.specs.Meaning.{HasAnswered}
 use Rattle.patch_store.proofs.Calling.{value_so, absent_reply, unread_so}

@@ -1,7 +1,8 @@
+use Rattle.patch_index.specs.Reporting.{of_slots}
 use Rattle.patch_store.proofs.Reported.{listed_so}
-use Rattle.std.proofs.Common.{◌∙◌, sym, ap, subst}
-use Rattle.patch_store.specs.Checking.{extent_reports, of_slots}
-use Rattle.patch_store.specs.Meaning.{Store, Represents}
+use Rattle.std.proofs.Common.{◌∙◌, ap}
+use Rattle.patch_store.specs.Checking.{extent_reports}
+use Rattle.patch_store.specs.Meaning.{Store}
 use Rattle.patch_store.proofs.stores.Store.check.Goals as goal
 
 pub returns-clause-entries : goal.returns-clause-entries

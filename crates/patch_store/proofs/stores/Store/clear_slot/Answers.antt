@@ -1,6 +1,6 @@
 use Rattle.std.proofs.Common.{◌<◌, ◌∙◌, ◌++◌, ◌∷◌, [], refl, length, map, sym, ap, arith}
 use Rattle.patch_history.specs.Shelf.{Shelf}
-use Rattle.patch_store.specs.Index.{fields_of, told}
+use Rattle.patch_index.specs.Index.{fields_of, told}
 use Rattle.patch_store.proofs.Removing.{shelf_cleared, cleared_view, same_left, more_left, left_alike, all_alike}
 use Rattle.patch_store.proofs.stores.Store.clear_slot.Goals as goal
 

@@ -3,8 +3,8 @@ use Rattle.patch_frame.specs.declared.geometries.Geometry.{Geometry}
 use Rattle.patch_frame.specs.Frame.{content}
 use Rattle.patch_frame.specs.Geometry.{IsFormat, value_limit}
 use Rattle.patch_extent.specs.Answers.{IsSettingOf}
+use Rattle.patch_index.specs.Index.{fields_of}
 use Rattle.patch_store.specs.Framing.{setting_of}
-use Rattle.patch_store.specs.Index.{fields_of}
 use Rattle.patch_store.specs.Meaning.{Store}
 use Rattle.patch_store.specs.Moving.{IsCached}
 use Rattle.patch_store.proofs.Copied.{copied_so}

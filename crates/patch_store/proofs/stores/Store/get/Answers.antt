@@ -3,8 +3,8 @@ use Rattle.std.specs.Prelude.{Some}
 use Rattle.patch_extent.specs.Meaning.{Represents as AreExtentsOf}
 use Rattle.patch_history.specs.Shelf.{Shelf}
 use Rattle.patch_history.specs.History.{execution_of}
+use Rattle.patch_index.specs.Index.{fields_of, told}
 use Rattle.patch_store.specs.Getting.{value_bytes}
-use Rattle.patch_store.specs.Index.{fields_of, told}
 use Rattle.patch_store.specs.Meaning.{Store, Represents}
 use Rattle.patch_store.proofs.Finding.{found_so, absent_so, empty_never, key_fits}
 use Rattle.patch_store.proofs.stores.Store.get.Goals as goal

@@ -2,8 +2,8 @@ use Rattle.std.proofs.Common.{◌∙◌, sym, ap, subst}
 use Rattle.std.specs.Prelude.{None, MatchResult}
 use Rattle.patch_frame.specs.Frame.{spelling}
 use Rattle.patch_history.specs.Shelf.{slot_at}
+use Rattle.patch_index.specs.Index.{fields_of, told}
 use Rattle.patch_store.specs.Framing.{framing, IsFramed, IsFramedInPart}
-use Rattle.patch_store.specs.Index.{fields_of, told}
 use Rattle.patch_store.specs.Meaning.{Store, IsWhole}
 use Rattle.patch_store.proofs.Copied.{asked_so, asked_by_slot, used_within, move_known}
 use Rattle.patch_store.proofs.Framed.{none_so}

@@ -4,11 +4,11 @@ use Rattle.std.proofs.lemmas.List.{drop_all}
 use Rattle.patch_history.specs.Choosing.{live_frames}
 use Rattle.patch_history.specs.History.{standing_of}
 use Rattle.patch_history.specs.Shelf.{Shelf}
-use Rattle.patch_store.specs.Index.{told}
+use Rattle.patch_index.specs.Index.{told}
+use Rattle.patch_index.specs.Said.{length-slots_of}
 use Rattle.patch_store.specs.Meaning.{Store}
 use Rattle.patch_store.specs.Moving.{live_slots}
 use Rattle.patch_store.specs.Trials.{Alike}
-use Rattle.patch_store.proofs.Ordered.{length-slots_of}
 use Rattle.patch_store.proofs.Summed.{AreTried, is_read, never_empty, never_past, none_tried, more_tried, no_room_left, all_tried}
 use Rattle.patch_store.proofs.stores.Store.patches_of_moves.Goals as goal
 

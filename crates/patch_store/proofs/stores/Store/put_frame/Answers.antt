@@ -1,4 +1,4 @@
-use Rattle.patch_store.specs.Index.{fields_of}
+use Rattle.patch_index.specs.Index.{fields_of}
 use Rattle.patch_store.proofs.Framed.{none_so, begun_so, appended_so, framed_so}
 use Rattle.patch_store.proofs.stores.Store.put_frame.Goals as goal
 

@@ -1,6 +1,6 @@
 use Rattle.std.proofs.Common.{◌<◌, ◌∙◌, ◌++◌, ◌∷◌, [], refl, length, map, ap, arith}
 use Rattle.patch_history.specs.Shelf.{Shelf, slot_at}
-use Rattle.patch_store.specs.Index.{fields_of}
+use Rattle.patch_index.specs.Index.{fields_of}
 use Rattle.patch_store.specs.Meaning.{Store}
 use Rattle.patch_store.proofs.Framed.{shelf_refilled, filled_view}
 use Rattle.patch_store.proofs.Removing.{same_left, more_left, left_alike, all_alike}

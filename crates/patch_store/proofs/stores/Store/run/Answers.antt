@@ -1,6 +1,6 @@
-use Rattle.std.proofs.Common.{◌≡◌, ◌∙◌, ◌<◌, ◌++◌, ◌∷◌, [], length, map, get_or, ◌+◌, sym, ap, subst, arith}
+use Rattle.std.proofs.Common.{◌≡◌, ◌∙◌, ◌<◌, ◌++◌, ◌∷◌, [], length, get_or, ◌+◌, sym, ap, arith}
 use Rattle.std.proofs.lemmas.List.{length-append, length-map}
-use Rattle.patch_store.specs.Running.{answer_of, commands_of, HasRun}
+use Rattle.patch_store.specs.Running.{answer_of, commands_of}
 use Rattle.patch_store.proofs.Calling.{begun_run, next_run}
 use Rattle.patch_store.proofs.stores.Store.run.Goals as goal
 

@@ -2,7 +2,7 @@ use Rattle.std.proofs.Common.{◌∙◌, ◌+◌, ◌-◌, length, sym, ap, subs
 use Rattle.patch_cache.specs.Meaning.{Represents as IsCacheOf}
 use Rattle.patch_extent.specs.Meaning.{Represents as AreExtentsOf}
 use Rattle.patch_extent.specs.Answers.{cached_bytes}
-use Rattle.patch_store.specs.Index.{fields_of}
+use Rattle.patch_index.specs.Index.{fields_of}
 use Rattle.patch_store.specs.Getting.{value_bytes}
 use Rattle.patch_store.specs.Meaning.{Store}
 use Rattle.patch_store.proofs.stores.Store.value_of.Goals as goal

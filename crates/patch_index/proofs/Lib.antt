@@ -1,0 +1,9 @@
+pub mod Slots
+pub mod Lined
+pub mod Reported
+pub mod Ranked
+pub mod Found
+pub mod Alone
+pub mod Framed
+pub mod Parts
+pub mod Kept

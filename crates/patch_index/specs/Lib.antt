@@ -1,0 +1,5 @@
+pub mod Index
+pub mod Live
+pub mod Reporting
+pub mod Said
+pub mod Orders

@@ -1,0 +1,18 @@
+//! The index of a store: what each slot says, in memory.
+//!
+//! An [`Index`], in `indexes`, has an [`Entry`] for each used slot, with its [`Key`]. The slots of an extent are a
+//! [`LiveSlots`], which `ordering` puts in order of offset; what is reported of a slot is in `reports`.
+#![tactic(auto)]
+
+mod entries;
+mod indexes;
+mod keys;
+mod live_slots;
+mod orders;
+mod reports;
+mod searching;
+
+pub use entries::{Entry, Key, OVERHEAD};
+pub use indexes::Index;
+pub use live_slots::LiveSlots;
+pub use reports::EntryReport;

@@ -1,0 +1,63 @@
+//! The slots whose frames a reclaim moves.
+ghost use Rattle.std.specs.Prelude.{◌≡◌, ◌≤◌, length};
+ghost use Rattle.std.specs.List.{slice_get};
+
+use crate::orders::MAX_SLOTS;
+use std::marker::Model;
+
+/// Slots in a row, in no memory of their own: a reclaim takes none before it is known that nothing stands against it.
+#[derive(Drop)]
+pub struct LiveSlots {
+    numbers: [u16; MAX_SLOTS],
+    count: usize,
+}
+
+impl Model for LiveSlots {
+    ghost use Rattle.std.specs.Prelude.{ℕ, ◌≤◌, List, take};
+
+    ghost Value = { List ℕ };
+
+    ghost view = { λ s. take s.count s.numbers };
+
+    ghost invariant = { λ s. s.count ≤ 1024 };
+}
+
+impl LiveSlots {
+    /// These slots.
+    pub(crate) fn of(slots: &[u16]) -> LiveSlots
+        requires { length slots.now ≤ 1024 }
+        ensures { result ≡ slots.now }
+    {
+        let mut numbers = [0; MAX_SLOTS];
+        numbers[..slots.len()].copy_from_slice(slots);
+        LiveSlots {
+            numbers,
+            count: slots.len(),
+        }
+    }
+
+    /// How many they are.
+    pub fn len(&self) -> usize
+        ensures { result ≡ length self.now }
+    {
+        self.count
+    }
+
+    /// There are no more than an index has.
+    pub fn are_few(&self)
+        ensures { length self.now ≤ 1024 }
+    {
+        let _ = &self.count;
+    }
+
+    /// The slot at a place.
+    pub fn get(&self, at: usize) -> Option<u32>
+        ensures { result ≡ slice_get self.now at }
+    {
+        if at < self.count {
+            Some(u32::from(self.numbers[at]))
+        } else {
+            None
+        }
+    }
+}

@@ -1,0 +1,130 @@
+//! An index of four slots: what it answers after each move.
+use patch_index::{Entry, Index, Key, LiveSlots};
+use patch_model::OutOfMemory;
+use std::alloc::{Allocator, Global};
+use std::process::Abort;
+use std::test::Fail;
+
+const COUNT: u32 = 4;
+
+// A slot that is filled with the frame of a key, or cleared.
+#[derive(Clone, Copy)]
+enum Move<'a> {
+    Fill {
+        slot: u32,
+        key: &'a [u8],
+        extent: u32,
+        offset: u32,
+    },
+    Clear {
+        slot: u32,
+    },
+}
+
+use Move::{Clear, Fill};
+
+// What is answered then: the lowest empty slot, the slot of the key `k`, and the live slots of extent 1.
+#[derive(Clone, Copy)]
+struct Answers<'a> {
+    empty: Option<u32>,
+    slot_of_k: Option<u32>,
+    live: &'a [u32],
+}
+
+// The frame of a value of one byte.
+fn entry(rt: &impl Abort, key: &[u8], extent: u32, offset: u32) -> Entry {
+    assert!(rt; key.len() <= 4 && offset <= 1000);
+    Entry {
+        key: Key::of(key),
+        extent,
+        generation: 0,
+        offset,
+        length: 17 + key.len() as u32,
+    }
+}
+
+fn empty_index<A: Allocator>(alloc: A) -> Result<Index<A>, OutOfMemory> {
+    let mut index = Index::with_room(alloc, COUNT)?;
+    for _ in 0..COUNT {
+        if index.count() < 1024 {
+            index.push(None)?;
+        }
+    }
+    Ok(index)
+}
+
+fn make_move<A: Allocator>(rt: &impl Abort, index: &mut Index<A>, step: Move) {
+    match step {
+        Fill {
+            slot,
+            key,
+            extent,
+            offset,
+        } => {
+            assert!(rt; slot < index.count());
+            index.fill(slot, entry(rt, key, extent, offset));
+        }
+        Clear { slot } => {
+            assert!(rt; slot < index.count());
+            index.clear(slot);
+        }
+    }
+}
+
+fn expect_slots(rt: &impl Abort, got: &LiveSlots, want: &[u32]) {
+    assert_eq!(rt; got.len(), want.len());
+    for at in 0..want.len() {
+        assert_eq!(rt; got.get(at), Some(want[at]));
+    }
+}
+
+fn expect_answers<A: Allocator>(rt: &impl Abort, index: &Index<A>, want: Answers) {
+    assert_eq!(rt; index.empty_slot(), want.empty);
+    assert_eq!(rt; index.slot_of(b"k"), want.slot_of_k);
+    expect_slots(rt, &index.live_slots(1), want.live);
+    assert!(rt; want.live.len() <= 4);
+    assert_eq!(rt; index.live_bytes(1), 18 * want.live.len() as u32);
+}
+
+fn walk(rt: &impl Abort, alloc: Global, steps: &[(Move, Answers)]) -> Result<(), Fail> {
+    let mut index = empty_index(alloc)?;
+    for (step, want) in steps {
+        make_move(rt, &mut index, *step);
+        expect_answers(rt, &index, *want);
+    }
+    Ok(())
+}
+
+fn filled(slot: u32, key: &[u8], extent: u32, offset: u32) -> Move {
+    Fill {
+        slot,
+        key,
+        extent,
+        offset,
+    }
+}
+
+fn told(empty: Option<u32>, slot_of_k: Option<u32>, live: &[u32]) -> Answers {
+    Answers {
+        empty,
+        slot_of_k,
+        live,
+    }
+}
+
+#[test]
+fn slots_are_filled_and_cleared(rt: HostRuntime) -> Result<(), Fail> {
+    let steps = [
+        (filled(0, b"k", 1, 40), told(Some(1), Some(0), &[0])),
+        (filled(2, b"a", 1, 0), told(Some(1), Some(0), &[2, 0])),
+        (filled(1, b"z", 2, 20), told(Some(3), Some(0), &[2, 0])),
+        (filled(3, b"b", 1, 20), told(None, Some(0), &[2, 3, 0])),
+        (Clear { slot: 2 }, told(Some(2), Some(0), &[3, 0])),
+        (filled(0, b"m", 1, 0), told(Some(2), None, &[0, 3])),
+        (filled(3, b"k", 0, 20), told(Some(2), Some(3), &[0])),
+        (filled(1, b"k", 1, 60), told(Some(2), Some(1), &[0, 1])),
+        (Clear { slot: 1 }, told(Some(1), Some(3), &[0])),
+        (Clear { slot: 1 }, told(Some(1), Some(3), &[0])),
+    ];
+    walk(&rt, rt.alloc(), &steps)
+}

@@ -1,8 +1,0 @@
-use Rattle.std.proofs.Common.{◌≡◌, map, take}
-use Rattle.patch_store.specs.Checking.{reported, of_slots}
-use Rattle.patch_store.specs.Index.{told}
-use Rattle.patch_store.proofs.indexes.Index.reports.Given as goal
-
--- those of the slots so far
-abbrev pub invariant-loop-slot : goal.invariant-loop-slot
-invariant-loop-slot g l = map reported l.entries.items ≡ of_slots (map told (take l.slot l.self-inside.slots.items))
