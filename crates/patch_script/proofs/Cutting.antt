@@ -1,6 +1,6 @@
 use Rattle.std.proofs.Common.{◌≡◌, ◌≢◌, ◌<◌, ◌≤◌, ◌==◌, ◌∷◌, [], zero, suc, List, ℕ, Bool, true, false, length, get_or, take, drop, refl, ap, arith, cond}
 use Rattle.std.proofs.lemmas.Bool.Decides.{nat_tests}
-use Rattle.patch_script.specs.Script.{lines_of, onto_first}
+use Rattle.patch_script.specs.Kind.{lines_of, onto_first}
 
 -- no line feed below i
 abbrev pub NoneBelow : List ℕ → ℕ → Type 0

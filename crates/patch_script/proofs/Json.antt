@@ -3,7 +3,7 @@ use Rattle.std.specs.Str.{is_utf8}
 use Rattle.std.proofs.lemmas.Str.{is_utf8-from_IsUtf8, IsUtf8-from_is_utf8}
 use Rattle.serde_json.specs.Data.{Data}
 use Rattle.serde_json.specs.Read.{read}
-use Rattle.patch_script.specs.Form.{json_of}
+use Rattle.patch_script.specs.Kind.{json_of}
 
 pub json_of_value : (bytes : List ℕ) (d : Data) → IsUtf8 bytes → read bytes ≡ Some d → json_of bytes ≡ Some d
 json_of_value bytes d text is = rw (is_utf8-from_IsUtf8 bytes text) is

@@ -1,16 +1,14 @@
 -- What a line says.
-use Rattle.std.specs.Prelude.{ℕ, ◌==◌, ◌||◌, [], List, Bool, false, Option, Some, None, option_map, if◌then◌else◌, codes, bytes_eq}
-use Rattle.std.specs.List.{list_all}
-use Rattle.std.specs.Str.{is_utf8}
+use Rattle.std.specs.Prelude.{ℕ, [], List, Bool, false, Option, Some, None, option_map, if◌then◌else◌, codes, bytes_eq}
 use Rattle.serde_json.specs.Data.{Data}
-use Rattle.serde_json.specs.Find.{as_str, as_bool}
-use Rattle.serde_json.specs.Read.{read}
+use Rattle.serde_json.specs.Find.{as_bool}
 use Rattle.patch_model.specs.declared.patches.Undo.{Undo}
 use Rattle.patch_model.specs.declared.patches.Undo.TheVariants.{Keep, MayDrop}
 use Rattle.patch_script.specs.declared.forms.Line.{Line}
 use Rattle.patch_script.specs.declared.forms.Line.TheVariants.{Patch, Merge, Send, Complete, View, Show, Disk, Group, Engage, Disengage, Depend, Close, Pending, Sync}
 use Rattle.patch_script.specs.declared.forms.Span.{Span}
 use Rattle.patch_script.specs.Field.{◌>>=◌, whole, wholes, positive, writer_number, hex_bytes, needed, optional}
+use Rattle.patch_script.specs.Kind.{line_by}
 
 -- whether undo bytes may be dropped
 abbrev pub undo_of : Bool → Undo
@@ -88,20 +86,6 @@ op_line op line =
     else if bytes_eq op (codes "disk") then option_map Disk (span_of line)
     else group_op_line op line
 
-abbrev pub object_line : Data → Option Line
-object_line line = needed as_str (codes "op") line >>= λ op. op_line op line
-
--- the JSON value of some bytes
-abbrev pub json_of : List ℕ → Option Data
-json_of bytes = if is_utf8 bytes then read bytes else None
-
--- a space, a tab or a carriage return
-abbrev pub is_space : ℕ → Bool
-is_space b = (b == 32) || (b == 9) || (b == 13)
-
-abbrev pub is_blank : List ℕ → Bool
-is_blank bytes = list_all is_space bytes
-
 -- what is on a line: nothing on a blank one
 unfoldable pub line_of : List ℕ → Option (Option Line)
-line_of bytes = if is_blank bytes then Some None else (json_of bytes >>= object_line >>= λ line. Some (Some line))
+line_of bytes = line_by op_line bytes

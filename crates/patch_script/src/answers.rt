@@ -34,8 +34,8 @@ pub enum Answer {
     Refused(Refusal),
 }
 
-/// A word, and bytes in lower case hexadecimal.
-fn push_hex(alloc: Global, out: &mut String, word: &str, bytes: &[u8]) -> Result<(), AllocError>
+/// Writes a word, and bytes in lower case hexadecimal, at the end.
+pub fn push_hex(alloc: Global, out: &mut String, word: &str, bytes: &[u8]) -> Result<(), AllocError>
     ensures { OnOk result (string_bytes out.new ≡ string_bytes out.old ++ (word.now ++ encode_lower bytes.now)) }
 {
     let text = hex::encode(alloc, bytes)?;

@@ -23,6 +23,9 @@ pub enum Name {
     Back,
     Group,
     On,
+    Key,
+    Times,
+    Extent,
 }
 
 impl Name {
@@ -45,6 +48,9 @@ impl Name {
             Name::Back => "back",
             Name::Group => "group",
             Name::On => "on",
+            Name::Key => "key",
+            Name::Times => "times",
+            Name::Extent => "extent",
         }
     }
 
@@ -54,12 +60,18 @@ impl Name {
             Name::Op => {
                 "one of patch, merge, send, complete, view, show, disk, group, engage, disengage, depend, close, pending and sync"
             }
-            Name::Block | Name::Start | Name::A | Name::B | Name::Group | Name::On => {
-                "a whole number from 0 to 4294967295"
-            }
+            Name::Block
+            | Name::Start
+            | Name::A
+            | Name::B
+            | Name::Group
+            | Name::On
+            | Name::Times
+            | Name::Extent => "a whole number from 0 to 4294967295",
             Name::Len => "a whole number from 1 to 4294967295",
             Name::Writer => "a whole number from 0 to 7",
             Name::Hex => "a text of hexadecimal digits, two for each byte",
+            Name::Key => "a text",
             Name::Drop => "true or false",
             Name::After | Name::Take | Name::Back => {
                 "a list of whole numbers from 0 to 4294967295"
@@ -88,4 +100,10 @@ pub enum Defect {
     /// The value is of another kind than it has to be, or out of its range.
     #[error("\"{0}\" is not {wanted}", wanted = .0.wanted())]
     Wrong(Name),
+    /// The line of a store script has an op of another kind than it has to be, or an unknown one.
+    #[error("\"op\" is not one of put, get, delete, reclaim, group, engage, disengage, depend, close, pending and sync")]
+    NoCommand,
+    /// The value of a put would have more bytes than it may, by what is given here.
+    #[error("\"{0}\" makes a value of more than 1048576 bytes")]
+    TooLong(Name),
 }

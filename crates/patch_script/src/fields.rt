@@ -82,6 +82,14 @@ fn as_bytes(alloc: Global, value: &Value, name: Name) -> Result<Bytes, LineError
     }
 }
 
+/// The bytes of a text, in UTF-8.
+fn as_text(alloc: Global, value: &Value, name: Name) -> Result<Bytes, LineError>
+    ensures { Gives result (as_str (view value.now)) }
+{
+    let text = value.as_str().ok_or(wrong(name))?;
+    Ok(Items::from_vec(Vec::from_slice(alloc, text.as_bytes())?))
+}
+
 fn as_numbers(alloc: Global, value: &Value, name: Name) -> Result<Numbers, LineError>
     ensures { Gives result (wholes (view value.now)) }
 {
@@ -110,6 +118,16 @@ pub fn number(line: &Value, name: Name) -> Result<u32, LineError>
     match line.get(name.as_str()) {
         Some(value) => as_whole(value, name),
         None => Err(missing(name)),
+    }
+}
+
+/// A number that may be missing.
+pub fn number_or(line: &Value, name: Name, default: u32) -> Result<u32, LineError>
+    ensures { Gives result (optional whole default (name_of name) (view line.now)) }
+{
+    match line.get(name.as_str()) {
+        Some(value) => as_whole(value, name),
+        None => Ok(default),
     }
 }
 
@@ -157,6 +175,16 @@ pub fn bytes(alloc: Global, line: &Value, name: Name) -> Result<Bytes, LineError
     }
 }
 
+/// The bytes of a text that has to be there, in UTF-8.
+pub fn text(alloc: Global, line: &Value, name: Name) -> Result<Bytes, LineError>
+    ensures { Gives result (needed as_str (name_of name) (view line.now)) }
+{
+    match line.get(name.as_str()) {
+        Some(value) => as_text(alloc, value, name),
+        None => Err(missing(name)),
+    }
+}
+
 /// Numbers that have to be there.
 pub fn numbers(alloc: Global, line: &Value, name: Name) -> Result<Numbers, LineError>
     ensures { Gives result (needed wholes (name_of name) (view line.now)) }
@@ -177,13 +205,13 @@ pub fn numbers_or_none(alloc: Global, line: &Value, name: Name) -> Result<Number
     }
 }
 
-/// The name of what the line asks for.
-pub fn op<'v>(line: &'v Value) -> Result<&'v str, LineError>
+/// The name of what the line asks for; where it isn't a text, that is wrong with it.
+pub fn op<'v>(line: &'v Value, unknown: Defect) -> Result<&'v str, LineError>
     ensures ok { IfOk result (λ op. needed as_str (name_of Op) (view line.now) ≡ Some op.now) }
     ensures err { IfErr result (λ e. Fails e (needed as_str (name_of Op) (view line.now))) }
 {
     match line.get(Name::Op.as_str()) {
-        Some(value) => value.as_str().ok_or(wrong(Name::Op)),
+        Some(value) => value.as_str().ok_or(LineError::Unreadable(unknown)),
         None => Err(missing(Name::Op)),
     }
 }

@@ -1,15 +1,18 @@
-//! Scripts of lines: what each line asks for, and the text of its answer.
+//! Scripts of lines: what each line asks for, and the text of its answer. The lines are of a replay script, or of any
+//! other kind that says how an object of it is read.
 #![tactic(auto)]
 
 mod answers;
 mod defects;
-mod fields;
+pub mod fields;
 mod forms;
+mod kinds;
 mod lines;
 mod reading;
 mod scripts;
 
-pub use answers::{Answer, answer_line};
+pub use answers::{Answer, answer_line, push_hex};
 pub use defects::{Defect, Name};
 pub use forms::{Line, Span};
-pub use scripts::{MAX_BYTES, MAX_LINES, ScriptError, passes_limit, read_script};
+pub use kinds::FromLine;
+pub use scripts::{MAX_BYTES, MAX_LINES, ScriptError, passes_limit, read_lines, read_script};

@@ -1,7 +1,7 @@
 //! The lines of a text.
 ghost use Rattle.std.specs.Prelude.{◌≡◌, ◌<◌, ◌∷◌, length};
 ghost use Rattle.std.specs.Iterator.{YieldsFirstBy, item_count};
-ghost use Rattle.patch_script.specs.Script.{lines_of};
+ghost use Rattle.patch_script.specs.Kind.{lines_of};
 
 /// The lines of a text, each without its line feed. The last one may lack it.
 #[derive(Drop)]

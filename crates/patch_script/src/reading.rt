@@ -1,14 +1,14 @@
-//! The reading of a line.
-ghost use Rattle.std.specs.Prelude.{◌≡◌, IfOk, IfErr, Some};
-ghost use Rattle.patch_script.specs.Gives.{Gives, Fails};
-ghost use Rattle.patch_script.specs.Form.{patch_line, merge_line, view_line, engage_line, disengage_line, depend_line, span_of, group_op_line, op_line, object_line, json_of, is_blank, line_of};
+//! The reading of a line of a replay script.
+ghost use Rattle.patch_script.specs.Gives.{Gives};
+ghost use Rattle.patch_script.specs.Form.{patch_line, merge_line, view_line, engage_line, disengage_line, depend_line, span_of, group_op_line, op_line};
 ghost use Rattle.serde_json.specs.View.{view};
 
 use crate::defects::{Defect, Name};
 use crate::fields::{
-    LineError, bytes, flag, number, numbers, numbers_or_none, op, positive_number, writer, wrong,
+    LineError, bytes, flag, number, numbers, numbers_or_none, positive_number, writer, wrong,
 };
 use crate::forms::{Line, Span};
+use crate::kinds::FromLine;
 use patch_model::{BlockNo, GroupNo, PatchNo, Undo};
 use serde_json::Value;
 use std::alloc::Global;
@@ -121,49 +121,12 @@ fn read_op(alloc: Global, op: &str, line: &Value) -> Result<Line, LineError>
     }
 }
 
-fn read_object(alloc: Global, line: &Value) -> Result<Line, LineError>
-    ensures { Gives result (object_line (view line.now)) }
-{
-    if !line.is_object() {
-        return Err(LineError::Unreadable(Defect::NotAnObject));
-    }
-    read_op(alloc, op(line)?, line)
-}
+impl FromLine for Line {
+    ghost says = { op_line };
 
-/// The JSON value of some bytes.
-#[tactic(auto, using(crate::proofs::Json::json_of_value, crate::proofs::Json::json_of_none))]
-fn read_json(alloc: Global, bytes: &[u8]) -> Result<Value, LineError>
-    ensures ok { IfOk result (λ v. json_of bytes.now ≡ Some (view v)) }
-    ensures err { IfErr result (λ e. Fails e (json_of bytes.now)) }
-{
-    match Value::from_slice(alloc, bytes) {
-        Ok(value) => Ok(value),
-        Err(e) => {
-            if e.is_memory() {
-                Err(LineError::OutOfMemory)
-            } else {
-                Err(LineError::Unreadable(Defect::NotJson))
-            }
-        }
-    }
-}
+    const UNKNOWN_OP: Defect = Defect::Wrong(Name::Op);
 
-fn is_blank_line(bytes: &[u8]) -> bool
-    ensures { result ≡ is_blank bytes.now }
-{
-    bytes
-        .iter()
-        .all(|b| *b == b' ' || *b == b'\t' || *b == b'\r')
-}
-
-/// What is on a line, nothing on a blank one.
-#[tactic(auto, unfolding(crate::specs::Form::line_of))]
-pub fn read_line(alloc: Global, bytes: &[u8]) -> Result<Option<Line>, LineError>
-    ensures { Gives result (line_of bytes.now) }
-{
-    if is_blank_line(bytes) {
-        return Ok(None);
+    fn from_line(alloc: Global, op: &str, line: &Value) -> Result<Line, LineError> {
+        read_op(alloc, op, line)
     }
-    let value = read_json(alloc, bytes)?;
-    Ok(Some(read_object(alloc, &value)?))
 }

@@ -1,12 +1,13 @@
-//! A script: its limits, and what its lines ask for.
+//! Scripts: their limits, and what their lines ask for.
 ghost use Rattle.std.specs.Prelude.{◌≡◌, ◌<◌, ◌+◌, ◌∷◌, ◌≤◌, length, MatchResult};
-ghost use Rattle.patch_script.specs.Script.{lines_of, script_of, Reads, is_too_long};
+ghost use Rattle.patch_script.specs.Kind.{lines_of, lines_by, Reads};
+ghost use Rattle.patch_script.specs.Script.{script_of, is_too_long};
 
 use crate::defects::Defect;
 use crate::fields::LineError;
 use crate::forms::Line;
+use crate::kinds::{FromLine, read_line};
 use crate::lines::Lines;
-use crate::reading::read_line;
 use std::alloc::Global;
 
 /// The most bytes of a script.
@@ -30,16 +31,16 @@ pub fn passes_limit(text: &[u8]) -> bool
     text.len() > MAX_BYTES || Lines::of(text).count() > MAX_LINES
 }
 
-/// What the lines ask for, blank ones nothing.
-pub fn read_script(alloc: Global, text: &[u8]) -> Result<Vec<Line>, ScriptError>
+/// What the lines of a script of any kind ask for, blank ones nothing.
+pub fn read_lines<L: FromLine>(alloc: Global, text: &[u8]) -> Result<Vec<L>, ScriptError>
     requires { length (lines_of text.now) ≤ MAX_LINES }
-    ensures { Reads result (script_of text.now) }
+    ensures { Reads result (lines_by L.says text.now) }
 {
     let mut lines = Vec::new(alloc);
     let mut number = 0;
     for bytes in Lines::of(text) {
         number += 1;
-        match read_line(alloc, bytes) {
+        match read_line::<L>(alloc, bytes) {
             Ok(None) => {}
             Ok(Some(line)) => {
                 if lines.push(line).is_err() {
@@ -56,4 +57,12 @@ pub fn read_script(alloc: Global, text: &[u8]) -> Result<Vec<Line>, ScriptError>
         }
     }
     Ok(lines)
+}
+
+/// What the lines of a replay script ask for, blank ones nothing.
+pub fn read_script(alloc: Global, text: &[u8]) -> Result<Vec<Line>, ScriptError>
+    requires { length (lines_of text.now) ≤ MAX_LINES }
+    ensures { Reads result (script_of text.now) }
+{
+    read_lines::<Line>(alloc, text)
 }

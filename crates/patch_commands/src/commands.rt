@@ -1,0 +1,68 @@
+//! The forms of lines.
+use patch_model::{Bytes, GroupNo, WriterNo};
+
+/// The most bytes of the value that a line puts.
+pub const MAX_VALUE_TEXT: usize = 1_048_576;
+
+/// What a line of a store script asks for, and for which writer.
+#[derive(Debug, Drop)]
+pub enum CommandLine {
+    /// Put a value under a key: the piece, repeated so many times. The value itself is laid out when the line is answered,
+    /// so that those of a whole script don't stand in memory at one time.
+    Put {
+        writer: WriterNo,
+        key: Bytes,
+        piece: Bytes,
+        times: u32,
+    },
+    /// Read the value of a key.
+    Get {
+        writer: WriterNo,
+        key: Bytes,
+    },
+    /// Take a key away.
+    Delete {
+        writer: WriterNo,
+        key: Bytes,
+    },
+    /// Win an extent back.
+    Reclaim {
+        writer: WriterNo,
+        extent: u32,
+    },
+    /// Make a group.
+    Group {
+        writer: WriterNo,
+    },
+    /// Let the writer's patches belong to the group from now on.
+    Engage {
+        writer: WriterNo,
+        group: GroupNo,
+    },
+    /// End that.
+    Disengage {
+        writer: WriterNo,
+        group: GroupNo,
+    },
+    /// Let the group depend on the other.
+    Depend {
+        writer: WriterNo,
+        group: GroupNo,
+        on: GroupNo,
+    },
+    /// Let the group be none from now on.
+    Close {
+        writer: WriterNo,
+        group: GroupNo,
+    },
+    /// Count the patches of the group that aren't on the disk yet.
+    Pending {
+        writer: WriterNo,
+        group: GroupNo,
+    },
+    /// Bring all patches of the group to the disk.
+    Sync {
+        writer: WriterNo,
+        group: GroupNo,
+    },
+}

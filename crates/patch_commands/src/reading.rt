@@ -1,0 +1,129 @@
+//! The reading of a line of a store script.
+ghost use Rattle.std.specs.Prelude.{◌≤◌, length};
+ghost use Rattle.patch_script.specs.Gives.{Gives};
+ghost use Rattle.patch_script.specs.Kind.{lines_of, Reads};
+ghost use Rattle.patch_script.specs.declared.scripts.TheConstants.{MAX_LINES};
+ghost use Rattle.patch_commands.specs.Command.{put_line, depend_line, group_command, writer_command, command_of, commands_of};
+ghost use Rattle.serde_json.specs.View.{view};
+
+use crate::commands::{CommandLine, MAX_VALUE_TEXT};
+use crate::values::is_short_value;
+use patch_model::{GroupNo, WriterNo};
+use patch_script::fields::{LineError, bytes, number, number_or, text, writer};
+use patch_script::{Defect, FromLine, Name, ScriptError, read_lines};
+use serde_json::Value;
+use std::alloc::Global;
+
+/// What makes a value too long: its piece alone, or how often that is repeated.
+fn too_long(piece: &[u8]) -> LineError {
+    let name = if piece.len() > MAX_VALUE_TEXT {
+        Name::Hex
+    } else {
+        Name::Times
+    };
+    LineError::Unreadable(Defect::TooLong(name))
+}
+
+#[tactic(auto, unfolding(crate::specs::Command::put_line))]
+fn read_put(alloc: Global, writer: WriterNo, line: &Value) -> Result<CommandLine, LineError>
+    ensures { Gives result (put_line writer (view line.now)) }
+{
+    let key = text(alloc, line, Name::Key)?;
+    let piece = bytes(alloc, line, Name::Hex)?;
+    let times = number_or(line, Name::Times, 1)?;
+    if !is_short_value(piece.as_slice(), times) {
+        return Err(too_long(piece.as_slice()));
+    }
+    Ok(CommandLine::Put {
+        writer,
+        key,
+        piece,
+        times,
+    })
+}
+
+#[tactic(auto, unfolding(crate::specs::Command::depend_line))]
+fn read_depend(writer: WriterNo, line: &Value) -> Result<CommandLine, LineError>
+    ensures { Gives result (depend_line writer (view line.now)) }
+{
+    let group = GroupNo(number(line, Name::Group)?);
+    let on = GroupNo(number(line, Name::On)?);
+    Ok(CommandLine::Depend { writer, group, on })
+}
+
+#[tactic(auto, unfolding(crate::specs::Command::group_command))]
+fn read_group_command(writer: WriterNo, op: &str, line: &Value) -> Result<CommandLine, LineError>
+    ensures { Gives result (group_command writer op.now (view line.now)) }
+{
+    match op {
+        "group" => Ok(CommandLine::Group { writer }),
+        "engage" => Ok(CommandLine::Engage {
+            writer,
+            group: GroupNo(number(line, Name::Group)?),
+        }),
+        "disengage" => Ok(CommandLine::Disengage {
+            writer,
+            group: GroupNo(number(line, Name::Group)?),
+        }),
+        "depend" => read_depend(writer, line),
+        "close" => Ok(CommandLine::Close {
+            writer,
+            group: GroupNo(number(line, Name::Group)?),
+        }),
+        "pending" => Ok(CommandLine::Pending {
+            writer,
+            group: GroupNo(number(line, Name::Group)?),
+        }),
+        "sync" => Ok(CommandLine::Sync {
+            writer,
+            group: GroupNo(number(line, Name::Group)?),
+        }),
+        _ => Err(LineError::Unreadable(Defect::NoCommand)),
+    }
+}
+
+#[tactic(auto, unfolding(crate::specs::Command::writer_command))]
+fn read_command(
+    alloc: Global,
+    writer: WriterNo,
+    op: &str,
+    line: &Value,
+) -> Result<CommandLine, LineError>
+    ensures { Gives result (writer_command writer op.now (view line.now)) }
+{
+    match op {
+        "put" => read_put(alloc, writer, line),
+        "get" => Ok(CommandLine::Get {
+            writer,
+            key: text(alloc, line, Name::Key)?,
+        }),
+        "delete" => Ok(CommandLine::Delete {
+            writer,
+            key: text(alloc, line, Name::Key)?,
+        }),
+        "reclaim" => Ok(CommandLine::Reclaim {
+            writer,
+            extent: number(line, Name::Extent)?,
+        }),
+        _ => read_group_command(writer, op, line),
+    }
+}
+
+impl FromLine for CommandLine {
+    ghost says = { command_of };
+
+    const UNKNOWN_OP: Defect = Defect::NoCommand;
+
+    #[tactic(auto, unfolding(crate::specs::Command::command_of))]
+    fn from_line(alloc: Global, op: &str, line: &Value) -> Result<CommandLine, LineError> {
+        read_command(alloc, writer(line)?, op, line)
+    }
+}
+
+/// What the lines of a store script ask for, blank ones nothing.
+pub fn read_commands(alloc: Global, text: &[u8]) -> Result<Vec<CommandLine>, ScriptError>
+    requires { length (lines_of text.now) ≤ MAX_LINES }
+    ensures { Reads result (commands_of text.now) }
+{
+    read_lines::<CommandLine>(alloc, text)
+}

@@ -1,0 +1,8 @@
+//! Tests of `patch_commands`: lines of each form, what is wrong with those that aren't readable, limits, and the texts of
+//! replies.
+#![tactic(auto)]
+
+#[cfg(test)]
+mod rows;
+#[cfg(test)]
+mod tests;

@@ -1,0 +1,70 @@
+//! The reading of a line of any kind.
+ghost use Rattle.std.specs.Prelude.{◌≡◌, IfOk, IfErr, List, Option, Some, ℕ};
+ghost use Rattle.patch_script.specs.Gives.{Gives, Fails};
+ghost use Rattle.patch_script.specs.Kind.{object_by, json_of, is_blank, line_by};
+ghost use Rattle.serde_json.specs.Data.{Data};
+ghost use Rattle.serde_json.specs.View.{view};
+
+use crate::defects::Defect;
+use crate::fields::{LineError, op};
+use serde_json::Value;
+use std::alloc::Global;
+
+/// A kind of lines. Each is a JSON object with an op, which is a text.
+pub trait FromLine: Sized + Drop {
+    // What an object with this op asks for, if it is readable.
+    ghost says: { List ℕ → Data → Option Self };
+
+    /// What is wrong with a line whose op isn't one of this kind.
+    const UNKNOWN_OP: Defect;
+
+    /// What the object with this op asks for.
+    fn from_line(alloc: Global, op: &str, line: &Value) -> Result<Self, LineError>
+        ensures { Gives result (says op.now (view line.now)) };
+}
+
+fn read_object<L: FromLine>(alloc: Global, line: &Value) -> Result<L, LineError>
+    ensures { Gives result (object_by L.says (view line.now)) }
+{
+    if !line.is_object() {
+        return Err(LineError::Unreadable(Defect::NotAnObject));
+    }
+    L::from_line(alloc, op(line, L::UNKNOWN_OP)?, line)
+}
+
+/// The JSON value of some bytes.
+#[tactic(auto, using(crate::proofs::Json::json_of_value, crate::proofs::Json::json_of_none))]
+fn read_json(alloc: Global, bytes: &[u8]) -> Result<Value, LineError>
+    ensures ok { IfOk result (λ v. json_of bytes.now ≡ Some (view v)) }
+    ensures err { IfErr result (λ e. Fails e (json_of bytes.now)) }
+{
+    match Value::from_slice(alloc, bytes) {
+        Ok(value) => Ok(value),
+        Err(e) => {
+            if e.is_memory() {
+                Err(LineError::OutOfMemory)
+            } else {
+                Err(LineError::Unreadable(Defect::NotJson))
+            }
+        }
+    }
+}
+
+fn is_blank_line(bytes: &[u8]) -> bool
+    ensures { result ≡ is_blank bytes.now }
+{
+    bytes
+        .iter()
+        .all(|b| *b == b' ' || *b == b'\t' || *b == b'\r')
+}
+
+/// What is on a line, nothing on a blank one.
+pub fn read_line<L: FromLine>(alloc: Global, bytes: &[u8]) -> Result<Option<L>, LineError>
+    ensures { Gives result (line_by L.says bytes.now) }
+{
+    if is_blank_line(bytes) {
+        return Ok(None);
+    }
+    let value = read_json(alloc, bytes)?;
+    Ok(Some(read_object::<L>(alloc, &value)?))
+}
