@@ -10,6 +10,6 @@ mod streams;
 
 pub use cached_disk::CachedDisk;
 pub use cores::Core;
-pub use endings::{BadScript, Status};
-pub use replaying::{replay, replay_over};
+pub use endings::{BadScript, Fault, Status};
+pub use replaying::{read_input, replay, replay_over};
 pub use streams::{MAX_READS, Output, Sink, Source};

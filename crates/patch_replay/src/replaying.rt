@@ -21,7 +21,7 @@ use std::io::Read;
 const CHUNK: usize = 65_536;
 
 /// All that the reader has, or `None` where it is more than a script may have.
-fn read_input<R: Read>(alloc: Global, reader: &mut Source<R>) -> Result<Option<Vec<u8>>, Fault>
+pub fn read_input<R: Read>(alloc: Global, reader: &mut Source<R>) -> Result<Option<Vec<u8>>, Fault>
     ensures found { IfOk result (λ found. IfSome (R.remaining reader.old.inner) (IsInput found)) }
     ensures noted { ReadingIsNoted reader.old reader.new result }
     ensures reads { reader.new.reads ≤ reader.old.reads + MAX_READS }

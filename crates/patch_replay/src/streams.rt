@@ -147,7 +147,7 @@ impl<W: Output> Sink<W> {
     }
 
     /// Writes all of the text.
-    pub(crate) fn write_all(&mut self, text: &[u8]) -> Result<(), Fault>
+    pub fn write_all(&mut self, text: &[u8]) -> Result<(), Fault>
         ensures bytes { OnOk result (Appends (W.contents self.old.inner) (W.contents self.new.inner) text.now) }
         ensures noted { self.new.failed ≡ noted self.old.failed result }
         ensures failed { IfErr result (λ fault. fault ≡ WriteFault) }
@@ -162,7 +162,7 @@ impl<W: Output> Sink<W> {
     }
 
     /// Writes what the writer still keeps back.
-    pub(crate) fn flush(&mut self) -> Result<(), Fault>
+    pub fn flush(&mut self) -> Result<(), Fault>
         ensures bytes { Keeps (W.contents self.old.inner) (W.contents self.new.inner) }
         ensures noted { self.new.failed ≡ noted self.old.failed result }
         ensures failed { IfErr result (λ fault. fault ≡ WriteFault) }
