@@ -1,0 +1,23 @@
+//! A chunk store in a file: how one is made, run on a script, checked and upgraded.
+//!
+//! Each command is a function over any reader, writer and device, and answers how it ended: [`run_script`], [`check_disk`] and
+//! [`upgrade_disk`]. [`make_file`], [`run_file`], [`check_file`] and [`upgrade_file`] do the same by the path of a file. Nothing is
+//! written to a device but by a store's flush.
+#![tactic(auto)]
+
+mod answering;
+mod checking;
+mod endings;
+mod making;
+mod opening;
+mod progress;
+mod reporting;
+mod running;
+mod upgrading;
+
+pub use checking::{check_disk, check_file};
+pub use endings::Status;
+pub use making::make_file;
+pub use progress::{Progress, Quiet, Ticker};
+pub use running::{run_file, run_script};
+pub use upgrading::{upgrade_disk, upgrade_file};

@@ -1,0 +1,74 @@
+//! Makes files that hold an empty store.
+use crate::endings::{Status, Stop, conclude};
+use patch_device::{Device, FileDevice, Lasting};
+use patch_frame::Geometry;
+use patch_model::{BlockBytes, MAX_BLOCKS, RefusalKind, Refuses};
+use patch_replay::{Output, Sink};
+use patch_store::make;
+use std::alloc::Global;
+use std::fs;
+use std::fs::OpenFile;
+use std::os::unix::fs::FileExt;
+use std::rt::Files;
+
+/// The blocks of a new disk.
+fn new_blocks(alloc: Global, geometry: Geometry) -> Result<Vec<BlockBytes>, Stop> {
+    match make(alloc, geometry) {
+        Ok(blocks) => Ok(blocks),
+        Err(refusal) => Err(Stop::Refused(refusal.refusal())),
+    }
+}
+
+/// A new file of so many blocks of zeros, where there is nothing of this name.
+fn new_file<F: FileExt + OpenFile + Drop, R: Files<File = F>>(
+    rt: &R,
+    path: &str,
+    blocks: u32,
+) -> Result<FileDevice<F>, Stop> {
+    match FileDevice::create(rt, path, blocks) {
+        Ok(device) => Ok(device),
+        Err(refusal) => Err(Stop::Refused(refusal.refusal())),
+    }
+}
+
+/// Writes the superblock, the one block of a new disk that isn't zeros, and answers whether that went well.
+fn write_first<D: Lasting>(device: &mut D, blocks: &[BlockBytes]) -> bool {
+    match blocks.first() {
+        Some(superblock) => {
+            device.write(0, superblock.as_slice()).is_ok() && device.sync().is_ok()
+        }
+        None => false,
+    }
+}
+
+fn make_path<F: FileExt + OpenFile + Drop, R: Files<File = F>, W: Output>(
+    rt: &R,
+    alloc: Global,
+    writer: &mut Sink<W>,
+    path: &str,
+    geometry: Geometry,
+) -> Result<(), Stop> {
+    let blocks = new_blocks(alloc, geometry)?;
+    // A disk has no more.
+    let count = blocks.len().min(MAX_BLOCKS) as u32;
+    let made = format!(in alloc; "made {count}\n")?;
+    let mut device = new_file(rt, path, count)?;
+    if !write_first(&mut device, blocks.as_slice()) {
+        let _removed = fs::remove_file(rt, path);
+        return Err(Stop::Refused(RefusalKind::Disk.bare()));
+    }
+    Ok(writer.write_all(made.as_bytes())?)
+}
+
+/// Makes a file that holds an empty store on a disk that is divided so, and writes `made`, with the number of its blocks. What there
+/// is of this name is left as it was; a file that can't be finished is removed.
+pub fn make_file<F: FileExt + OpenFile + Drop, R: Files<File = F>, W: Output>(
+    rt: &R,
+    alloc: Global,
+    writer: &mut Sink<W>,
+    path: &str,
+    geometry: Geometry,
+) -> Status {
+    let made = make_path(rt, alloc, writer, path, geometry);
+    conclude(alloc, writer, made)
+}

@@ -1,0 +1,156 @@
+//! Runs a script on a store.
+ghost use Rattle.std.specs.Prelude.{ℕ, ◌≡◌, List, IfSome};
+ghost use Rattle.patch_files.specs.Reading.{IsParsed, IsRunOf};
+ghost use Rattle.patch_files.specs.declared.endings.Status.TheVariants.{Unreadable};
+ghost use Rattle.patch_replay.specs.Replay.{IsInput};
+ghost use Rattle.patch_replay.specs.declared.endings.BadScript.{BadScript as TheBadScript};
+
+use crate::answering::answer;
+use crate::endings::{Status, Stop, Unread, conclude, refuse};
+use crate::opening::{open_file, open_store, save};
+use crate::progress::Progress;
+use patch_commands::{CommandLine, read_commands};
+use patch_device::Lasting;
+use patch_model::{OutOfMemory, Refuses};
+use patch_replay::{BadScript, Output, Sink, Source, read_input};
+use patch_script::{ScriptError, passes_limit};
+use patch_store::Store;
+use std::alloc::Global;
+use std::fs::OpenFile;
+use std::io::Read;
+use std::os::unix::fs::FileExt;
+use std::rt::Files;
+
+/// The lines of what was read, where that is no more than a script may have.
+fn parse(alloc: Global, input: Option<Vec<u8>>) -> Result<Vec<CommandLine>, Unread>
+    ensures { (text : List ℕ) → IsInput input text → IsParsed text result }
+{
+    let Some(script) = input else {
+        return Err(Unread::Script(BadScript::TooLong));
+    };
+    if passes_limit(script.as_slice()) {
+        return Err(Unread::Script(BadScript::TooLong));
+    }
+    match read_commands(alloc, script.as_slice()) {
+        Ok(lines) => Ok(lines),
+        Err(ScriptError::BadLine { line, defect }) => {
+            Err(Unread::Script(BadScript::BadLine { line, defect }))
+        }
+        Err(ScriptError::OutOfMemory) => {
+            Err(Unread::Stopped(Stop::Refused(OutOfMemory.refusal())))
+        }
+    }
+}
+
+/// All lines of the script that the reader gives.
+fn read_script<R: Read>(alloc: Global, reader: &mut Source<R>) -> Result<Vec<CommandLine>, Unread>
+    ensures { IfSome (R.remaining reader.old.inner) (λ text. IsParsed text result) }
+{
+    match read_input(alloc, reader) {
+        Ok(input) => parse(alloc, input),
+        Err(fault) => Err(Unread::Stopped(Stop::from(fault))),
+    }
+}
+
+/// Answers the lines in order, each by a line of text.
+fn answer_lines<W: Output, D: Lasting, P: Progress>(
+    alloc: Global,
+    writer: &mut Sink<W>,
+    store: &mut Store,
+    device: &mut D,
+    lines: Vec<CommandLine>,
+    progress: &mut P,
+) -> Result<(), Stop> {
+    let all = lines.len();
+    let mut answered = 0usize;
+    for line in lines {
+        let text = answer(alloc, store, device, line)?;
+        writer.write_all(text.as_bytes())?;
+        answered = answered.saturating_add(1);
+        progress.answered(answered, all);
+    }
+    Ok(())
+}
+
+/// Opens the device's store, answers the lines, and brings all that they changed to the device.
+fn run_lines<W: Output, D: Lasting, P: Progress>(
+    alloc: Global,
+    writer: &mut Sink<W>,
+    device: &mut D,
+    lines: Vec<CommandLine>,
+    progress: &mut P,
+) -> Result<(), Stop> {
+    let mut store = open_store(alloc, device)?;
+    answer_lines(alloc, writer, &mut store, device, lines, progress)?;
+    save(&mut store, device)
+}
+
+/// Runs the script that the reader gives on the store of a device, and writes an answer for each of its lines.
+///
+/// All of the script is read and parsed before the store is opened. Blocks go to the device where a line asks for it, and at the end.
+/// A fault is told by a last line, behind the answers of the lines before it; after a fault of the writer nothing more is written.
+pub fn run_script<R: Read, W: Output, D: Lasting, P: Progress>(
+    alloc: Global,
+    reader: &mut Source<R>,
+    writer: &mut Sink<W>,
+    device: &mut D,
+    progress: &mut P,
+) -> Status
+    ensures run { IsRunOf (R.remaining reader.old.inner) (W.contents writer.old.inner) (W.contents writer.new.inner) result }
+    ensures left { (why : TheBadScript) → result ≡ Unreadable why → device.new ≡ device.old }
+{
+    let lines = match read_script(alloc, reader) {
+        Ok(lines) => lines,
+        Err(Unread::Script(why)) => return refuse(alloc, writer, why),
+        Err(Unread::Stopped(stop)) => return conclude(alloc, writer, Err(stop)),
+    };
+    let ran = run_lines(alloc, writer, device, lines, progress);
+    progress.end();
+    conclude(alloc, writer, ran)
+}
+
+/// Opens a file's store, and goes on as with that of a device.
+fn run_lines_on_file<F, H, W, P>(
+    rt: &H,
+    alloc: Global,
+    writer: &mut Sink<W>,
+    path: &str,
+    lines: Vec<CommandLine>,
+    progress: &mut P,
+) -> Result<(), Stop>
+where
+    F: FileExt + OpenFile + Drop,
+    H: Files<File = F>,
+    W: Output,
+    P: Progress,
+{
+    let mut device = open_file(rt, path)?;
+    run_lines(alloc, writer, &mut device, lines, progress)
+}
+
+/// Runs a script on the store of a file, as [`run_script`] does on that of a device. The file is opened when the script is read.
+pub fn run_file<F, H, R, W, P>(
+    rt: &H,
+    alloc: Global,
+    reader: &mut Source<R>,
+    writer: &mut Sink<W>,
+    path: &str,
+    progress: &mut P,
+) -> Status
+where
+    F: FileExt + OpenFile + Drop,
+    H: Files<File = F>,
+    R: Read,
+    W: Output,
+    P: Progress,
+    ensures { IsRunOf (R.remaining reader.old.inner) (W.contents writer.old.inner) (W.contents writer.new.inner) result }
+{
+    let lines = match read_script(alloc, reader) {
+        Ok(lines) => lines,
+        Err(Unread::Script(why)) => return refuse(alloc, writer, why),
+        Err(Unread::Stopped(stop)) => return conclude(alloc, writer, Err(stop)),
+    };
+    let ran = run_lines_on_file(rt, alloc, writer, path, lines, progress);
+    progress.end();
+    conclude(alloc, writer, ran)
+}

@@ -1,0 +1,84 @@
+//! What the tests of commands on disks share: new disks, and runs, checks and upgrades of them.
+use patch_device::{Device, Lasting, MemDevice};
+use patch_files::{Quiet, Status, check_disk, run_script, upgrade_disk};
+use patch_frame::{Format, Geometry};
+use patch_model::BlockBytes;
+use patch_replay::{Sink, Source};
+use patch_store::make;
+use std::alloc::Global;
+use std::process::Abort;
+use std::test::Fail;
+
+mod faults;
+mod files;
+mod scripts;
+mod tickers;
+
+// One index block and two extents: 35 blocks.
+const SMALL: Geometry = Geometry {
+    index: 1,
+    extents: 2,
+    format: Format::One,
+};
+
+const COUNT: u32 = 35;
+
+/// How a command has ended, with its exit status and what it wrote.
+#[derive(Clone, Copy)]
+struct End(Status, u8, &'static str);
+
+const EMPTY_STORE: End = End(Status::Done, 0, "extent 0 0 0 0\nextent 1 0 0 0\nclean\n");
+
+fn write_superblock(device: &mut MemDevice, superblock: &BlockBytes) -> Result<(), Fail> {
+    match device.write(0, superblock.as_slice()) {
+        Ok(()) => Ok(()),
+        Err(_) => Err(Fail::from("a device in memory refused a write")),
+    }
+}
+
+// A device that holds a new disk.
+fn new_device(alloc: Global) -> Result<MemDevice, Fail> {
+    let Ok(blocks) = make(alloc, SMALL) else {
+        return Err(Fail::from("no disk was made"));
+    };
+    let mut device = MemDevice::new(alloc, COUNT)?;
+    match blocks.first() {
+        Some(first) => write_superblock(&mut device, first)?,
+        None => return Err(Fail::from("a disk has no block")),
+    }
+    Ok(device)
+}
+
+fn expect_end(rt: &impl Abort, ended: Status, text: &[u8], end: End) {
+    let End(status, code, want) = end;
+    assert_eq!(rt; ended, status);
+    assert_eq!(rt; ended.code(), code);
+    assert_eq!(rt; text, want.as_bytes());
+}
+
+// A script's run on a device ends so.
+fn expect_run<D: Lasting>(rt: &impl Abort, alloc: Global, device: &mut D, script: &[u8], end: End) {
+    let mut out = Sink::new(Vec::new(alloc));
+    let status = run_script(
+        alloc,
+        &mut Source::new(script),
+        &mut out,
+        device,
+        &mut Quiet,
+    );
+    expect_end(rt, status, out.into_inner().as_slice(), end);
+}
+
+// A check of a device ends so.
+fn expect_check<D: Device>(rt: &impl Abort, alloc: Global, device: &mut D, end: End) {
+    let mut out = Sink::new(Vec::new(alloc));
+    let status = check_disk(alloc, &mut out, device);
+    expect_end(rt, status, out.into_inner().as_slice(), end);
+}
+
+// An upgrade of a device ends so.
+fn expect_upgrade<D: Lasting>(rt: &impl Abort, alloc: Global, device: &mut D, end: End) {
+    let mut out = Sink::new(Vec::new(alloc));
+    let status = upgrade_disk(alloc, &mut out, device);
+    expect_end(rt, status, out.into_inner().as_slice(), end);
+}
