@@ -2,59 +2,233 @@
 ghost use Rattle.std.specs.Prelude.{IfOk};
 ghost use Rattle.patch_tool.specs.Asked.{MayBeAsked};
 
-use clap::{Arg, Command, Error, value_parser};
+use clap::{Arg, ArgMatches, Command, Error, value_parser};
+use patch_frame::{Format, Geometry};
 use patch_model::MAX_BLOCKS;
 use std::alloc::Global;
 
 /// How many blocks there are where the command line doesn't say.
 const DEFAULT_BLOCKS: &str = "8";
 
-// What stands below the options.
-const AFTER_HELP: &str =
-    "docs/SCRIPTS.md has the lines of a script, their answers and the exit statuses.";
+// What stands below the options of the program, and of each command.
+const AFTER_HELP: &str = "\
+fstch COMMAND --help says more of a command. docs/SCRIPTS.md has the lines of scripts, their answers and the exit statuses.";
+
+const AFTER_REPLAY: &str = "\
+Example: fstch replay < examples/overlap.jsonl
+docs/SCRIPTS.md has the lines of a script, their answers and the exit statuses.";
+
+const AFTER_MAKE: &str = "\
+Example: fstch make data.disk --index 1 --extents 16
+makes a disk of 258 blocks, 1 MB, with room for 64 keys.";
+
+const AFTER_RUN: &str = "\
+Example: fstch run data.disk < examples/store.jsonl
+docs/SCRIPTS.md has the lines of a script, their answers and the exit statuses.";
+
+const AFTER_CHECK: &str = "\
+Example: fstch check data.disk
+writes a line for each key, with the length of its value, and one for each extent, and then clean.";
+
+const AFTER_UPGRADE: &str = "\
+Example: fstch upgrade data.disk
+Values may have 65,488 bytes then, in place of 32,768. There is no way back.";
 
 /// What the command line asks for.
 #[derive(Clone, Copy, Debug, PartialEq, Eq)]
-pub enum Request {
+pub enum Request<'a> {
     /// To replay a script on so many blocks.
     Replay { blocks: u32 },
+    /// To make a file that holds an empty store.
+    Make { path: &'a str, geometry: Geometry },
+    /// To run a script on the store of a file.
+    Run { path: &'a str },
+    /// To report what the store of a file holds.
+    Check { path: &'a str },
+    /// To make the store of a file one of version 2.
+    Upgrade { path: &'a str },
 }
 
-fn command<'a>(alloc: Global) -> Result<Command<'a>, Error> {
-    let blocks = Arg::new(alloc, "blocks")
+// The arguments.
+
+fn blocks<'a>(alloc: Global) -> Arg<'a> {
+    Arg::new(alloc, "blocks")
         .long("blocks")
         .value_name("N")
         .help("How many blocks of zeros there are, 1 to 4096")
         .value_parser(value_parser!(u32).range(1..=MAX_BLOCKS as i64))
-        .default_value(DEFAULT_BLOCKS);
-    let replay = Command::new(alloc, "replay")
-        .about(
-            "Replays a script of patches, sends and views from standard input, on blocks of zeros",
-        )
-        .after_help(AFTER_HELP)
-        .arg(blocks)?;
+        .default_value(DEFAULT_BLOCKS)
+}
+
+fn file<'a>(alloc: Global) -> Arg<'a> {
+    Arg::new(alloc, "file")
+        .value_name("FILE")
+        .help("The file of the store")
+        .required(true)
+}
+
+fn index<'a>(alloc: Global) -> Arg<'a> {
+    Arg::new(alloc, "index")
+        .long("index")
+        .value_name("N")
+        .help("How many index blocks there are, 1 to 16, each with room for 64 keys")
+        .value_parser(value_parser!(u32).range(1..=16))
+        .required(true)
+}
+
+fn extents<'a>(alloc: Global) -> Arg<'a> {
+    Arg::new(alloc, "extents")
+        .long("extents")
+        .value_name("M")
+        .help("How many extents there are, 2 to 254")
+        .value_parser(value_parser!(u32).range(2..=254))
+        .required(true)
+}
+
+fn length<'a>(alloc: Global) -> Arg<'a> {
+    Arg::new(alloc, "length")
+        .long("length")
+        .value_name("X")
+        .help("How many blocks an extent has, 16 to 64: makes a disk of version 2")
+        .value_parser(value_parser!(u32).range(16..=64))
+}
+
+// The commands.
+
+fn named<'a>(alloc: Global, name: &'a str, about: &'a str, after_help: &'a str) -> Command<'a> {
+    Command::new(alloc, name)
+        .about(about)
+        .after_help(after_help)
+}
+
+fn replay_command<'a>(alloc: Global) -> Result<Command<'a>, Error> {
+    let about =
+        "Replays a script of patches, sends and views from standard input, on blocks of zeros";
+    Ok(named(alloc, "replay", about, AFTER_REPLAY).arg(blocks(alloc))?)
+}
+
+fn make_command<'a>(alloc: Global) -> Result<Command<'a>, Error> {
+    let about = "Makes a file that holds an empty store, where there is nothing of its name";
+    let command = named(alloc, "make", about, AFTER_MAKE).arg(file(alloc))?;
+    let command = command.arg(index(alloc))?;
+    let command = command.arg(extents(alloc))?;
+    Ok(command.arg(length(alloc))?)
+}
+
+fn run_command<'a>(alloc: Global) -> Result<Command<'a>, Error> {
+    let about =
+        "Runs a script of puts, gets and deletes from standard input on the store of a file";
+    Ok(named(alloc, "run", about, AFTER_RUN).arg(file(alloc))?)
+}
+
+fn check_command<'a>(alloc: Global) -> Result<Command<'a>, Error> {
+    let about = "Opens the store of a file, and reports what it holds; writes nothing to it";
+    Ok(named(alloc, "check", about, AFTER_CHECK).arg(file(alloc))?)
+}
+
+fn upgrade_command<'a>(alloc: Global) -> Result<Command<'a>, Error> {
+    let about = "Makes the store of a file one of version 2, which takes longer values";
+    Ok(named(alloc, "upgrade", about, AFTER_UPGRADE).arg(file(alloc))?)
+}
+
+fn program<'a>(alloc: Global) -> Result<Command<'a>, Error> {
+    let about =
+        "Keeps keys and values in a file that opens after every crash, and replays scripts of patches";
     Ok(
-        Command::new(alloc, "fstch")
-            .about("Replays scripts of patches: each line of the script is answered by a line")
-            .after_help(AFTER_HELP)
+        named(alloc, "fstch", about, AFTER_HELP)
             .version("0.1.0")
             .bin_name("fstch")?
-            .subcommand_required(true)
-            .subcommand(replay)?,
+            .subcommand_required(true),
     )
 }
 
+fn with_replay<'a>(alloc: Global, program: Command<'a>) -> Result<Command<'a>, Error> {
+    Ok(program.subcommand(replay_command(alloc)?)?)
+}
+
+fn with_make<'a>(alloc: Global, program: Command<'a>) -> Result<Command<'a>, Error> {
+    Ok(program.subcommand(make_command(alloc)?)?)
+}
+
+fn with_run<'a>(alloc: Global, program: Command<'a>) -> Result<Command<'a>, Error> {
+    Ok(program.subcommand(run_command(alloc)?)?)
+}
+
+fn with_check<'a>(alloc: Global, program: Command<'a>) -> Result<Command<'a>, Error> {
+    Ok(program.subcommand(check_command(alloc)?)?)
+}
+
+fn with_upgrade<'a>(alloc: Global, program: Command<'a>) -> Result<Command<'a>, Error> {
+    Ok(program.subcommand(upgrade_command(alloc)?)?)
+}
+
+fn command<'a>(alloc: Global) -> Result<Command<'a>, Error> {
+    let program = program(alloc)?;
+    let program = with_make(alloc, program)?;
+    let program = with_run(alloc, program)?;
+    let program = with_check(alloc, program)?;
+    let program = with_upgrade(alloc, program)?;
+    with_replay(alloc, program)
+}
+
+// What was asked for.
+
+/// The file that a command names. There is one, since the parser of the words refuses a command without.
+fn path_in<'a>(matches: &ArgMatches<'a>) -> &'a str {
+    matches.get_str("file").unwrap_or("")
+}
+
+fn geometry_in(matches: &ArgMatches<'_>) -> Geometry {
+    let format = match matches.get_one::<u32>("length") {
+        Some(length) => Format::Two { length },
+        None => Format::One,
+    };
+    Geometry {
+        index: matches.get_one::<u32>("index").unwrap_or(1),
+        extents: matches.get_one::<u32>("extents").unwrap_or(2),
+        format,
+    }
+}
+
+fn replay_in<'a>(matches: &ArgMatches<'_>) -> Request<'a>
+    ensures { MayBeAsked result }
+{
+    // There is a number, since there is a default, and the parser of the words refuses every other one.
+    let blocks = matches.get_one::<u32>("blocks").unwrap_or(1);
+    Request::Replay {
+        blocks: blocks.clamp(1, MAX_BLOCKS as u32),
+    }
+}
+
+fn request_in<'a>(name: &str, matches: &ArgMatches<'a>) -> Request<'a>
+    ensures { MayBeAsked result }
+{
+    match name {
+        "make" => Request::Make {
+            path: path_in(matches),
+            geometry: geometry_in(matches),
+        },
+        "run" => Request::Run {
+            path: path_in(matches),
+        },
+        "check" => Request::Check {
+            path: path_in(matches),
+        },
+        "upgrade" => Request::Upgrade {
+            path: path_in(matches),
+        },
+        _ => replay_in(matches),
+    }
+}
+
 /// What the words ask for. What asks for help is an error too: its text is the help.
-pub fn read(alloc: Global, words: &[String]) -> Result<Request, Error>
+pub fn read<'a>(alloc: Global, words: &'a [String]) -> Result<Request<'a>, Error>
     ensures { IfOk result MayBeAsked }
 {
     let command = command(alloc)?;
     let matches = command.try_get_matches_from(words)?;
-    let blocks = match matches.subcommand() {
-        Some((_, replay)) => replay.get_one::<u32>("blocks"),
-        None => None,
-    };
-    // There is a number, since there is a default, and the parser of the words refuses every other one.
-    let blocks = blocks.unwrap_or(1).clamp(1, MAX_BLOCKS as u32);
-    Ok(Request::Replay { blocks })
+    match matches.subcommand() {
+        Some((name, matches)) => Ok(request_in(name, matches)),
+        None => Ok(Request::Replay { blocks: 1 }),
+    }
 }

@@ -1,4 +1,4 @@
-//! `fstch`: replays scripts of patches.
+//! `fstch`: keeps keys and values in a file, and replays scripts of patches.
 #![tactic(auto)]
 
 mod arguments;
@@ -6,8 +6,10 @@ mod running;
 #[cfg(test)]
 mod tests;
 
+use running::Errors;
 use std::env::Env;
 use std::io;
+use std::io::IsTerminal;
 use std::process::ExitCode;
 
 /// The words of the command line. One that is no UTF-8 text is invalid data.
@@ -18,7 +20,19 @@ fn words(rt: &(impl Env + AllocGlobal)) -> io::Result<Vec<String>> {
 
 fn main(rt: HostRuntime) -> ExitCode {
     let (mut output, mut errors) = (rt.stdout(), rt.stderr());
+    let is_terminal = errors.is_terminal();
     let words = words(&rt);
-    let status = running::run(rt.alloc(), words, rt.reader(), &mut output, &mut errors);
+    let mut errors = Errors {
+        stream: &mut errors,
+        is_terminal,
+    };
+    let status = running::run(
+        &rt,
+        rt.alloc(),
+        words,
+        rt.reader(),
+        &mut output,
+        &mut errors,
+    );
     ExitCode::from(status)
 }

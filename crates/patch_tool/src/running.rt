@@ -1,64 +1,126 @@
-//! What the program does, over any streams.
+//! What the program does, over any streams and files.
 ghost use Rattle.std.specs.Prelude.{◌≡◌, ◌≢◌, ◌<◌, ◌≤◌, IfErr, IfSome};
 ghost use Rattle.std.specs.IoError.{error_kind};
 ghost use Rattle.std.specs.declared.io.ErrorKind.TheVariants.{InvalidData};
+ghost use Rattle.patch_tool.specs.Asked.{MayBeAsked};
 ghost use Rattle.patch_tool.specs.Ending.{HasStarved, IsExitOf};
 
 use crate::arguments;
 use crate::arguments::Request;
 use clap::error::ErrorKind;
+use patch_files::{
+    Quiet, Status as FileStatus, Ticker, check_file, make_file, run_file, upgrade_file,
+};
+use patch_frame::Geometry;
 use patch_model::MAX_BLOCKS;
-use patch_replay::{Sink, Source, Status, replay};
+use patch_replay::{BadScript, Sink, Source, Status, replay};
 use std::alloc::Global;
+use std::fs::OpenFile;
 use std::io;
 use std::io::{BufWriter, Read, Write};
+use std::os::unix::fs::FileExt;
+use std::rt::Files;
 
 /// How the program ends where the command line is wrong, or asks for help.
 const MISUSED: u8 = 2;
 
+/// Standard error, and whether somebody reads it at a terminal.
+#[derive(Drop)]
+pub struct Errors<'a, E> {
+    pub stream: &'a mut E,
+    pub is_terminal: bool,
+}
+
 /// Does what the words of the command line ask for, where they could be read, and answers the exit status.
-pub fn run<R: Read + Drop, W: Write + Drop, E: Write>(
+pub fn run<F, H, R, W, E>(
+    files: &H,
     alloc: Global,
     words: io::Result<Vec<String>>,
     input: R,
     output: &mut W,
-    errors: &mut E,
+    errors: &mut Errors<'_, E>,
 ) -> u8
+where
+    F: FileExt + OpenFile + Drop,
+    H: Files<File = F>,
+    R: Read + Drop,
+    W: Write + Drop,
+    E: Write,
     ensures no_text { IfErr words (λ e. error_kind e ≡ InvalidData → result ≡ 2) }
     ensures starved { IfErr words (λ e. error_kind e ≢ InvalidData → HasStarved W.contents output.old output.new result) }
 {
     match words {
-        Ok(words) => run_words(alloc, words.as_slice(), input, output, errors),
+        Ok(words) => run_words(files, alloc, words.as_slice(), input, output, errors),
         Err(e) if e.kind() == io::ErrorKind::InvalidData => {
-            let _ = errors.write_all(b"fstch: an argument is not UTF-8 text\n");
+            let _ = errors
+                .stream
+                .write_all(b"fstch: an argument is not UTF-8 text\n");
             MISUSED
         }
         Err(_) => out_of_memory(output),
     }
 }
 
-fn run_words<R: Read + Drop, W: Write + Drop, E: Write>(
+fn run_words<F, H, R, W, E>(
+    files: &H,
     alloc: Global,
     words: &[String],
     input: R,
     output: &mut W,
-    errors: &mut E,
-) -> u8 {
+    errors: &mut Errors<'_, E>,
+) -> u8
+where
+    F: FileExt + OpenFile + Drop,
+    H: Files<File = F>,
+    R: Read + Drop,
+    W: Write + Drop,
+    E: Write,
+{
     match arguments::read(alloc, words) {
-        Ok(Request::Replay { blocks }) => run_replay(alloc, input, output, errors, blocks),
+        Ok(request) => run_request(files, alloc, request, input, output, errors),
         Err(e) if e.kind() == ErrorKind::OutOfMemory => out_of_memory(output),
         Err(e) => {
-            let _ = write!(errors, "{e}");
+            let _ = write!(errors.stream, "{e}");
             MISUSED
         }
     }
+}
+
+fn run_request<F, H, R, W, E>(
+    files: &H,
+    alloc: Global,
+    request: Request<'_>,
+    input: R,
+    output: &mut W,
+    errors: &mut Errors<'_, E>,
+) -> u8
+where
+    F: FileExt + OpenFile + Drop,
+    H: Files<File = F>,
+    R: Read + Drop,
+    W: Write + Drop,
+    E: Write,
+    requires { MayBeAsked request }
+{
+    match request {
+        Request::Replay { blocks } => run_replay(alloc, input, output, errors, blocks),
+        Request::Make { path, geometry } => run_make(files, alloc, output, path, geometry),
+        Request::Run { path } => run_script(files, alloc, input, output, errors, path),
+        Request::Check { path } => run_check(files, alloc, output, path),
+        Request::Upgrade { path } => run_upgrade(files, alloc, output, path),
+    }
+}
+
+/// Says in words why no line of a script was answered.
+fn say<E: Write>(errors: &mut Errors<'_, E>, why: BadScript) {
+    let _ = writeln!(errors.stream, "fstch: {why}");
 }
 
 fn run_replay<R: Read + Drop, W: Write + Drop, E: Write>(
     alloc: Global,
     input: R,
     output: &mut W,
-    errors: &mut E,
+    errors: &mut Errors<'_, E>,
     blocks: u32,
 ) -> u8
     requires some { 0 < blocks }
@@ -72,9 +134,78 @@ fn run_replay<R: Read + Drop, W: Write + Drop, E: Write>(
     let mut answers = Sink::new(buffered);
     let status = replay(alloc, &mut script, &mut answers, blocks);
     if let Status::Unreadable(why) = status {
-        let _ = writeln!(errors, "fstch: {why}");
+        say(errors, why);
     }
     status.code()
+}
+
+fn run_make<F: FileExt + OpenFile + Drop, H: Files<File = F>, W: Write + Drop>(
+    files: &H,
+    alloc: Global,
+    output: &mut W,
+    path: &str,
+    geometry: Geometry,
+) -> u8 {
+    let Ok(buffered) = BufWriter::new(alloc, &mut *output) else {
+        return out_of_memory(output);
+    };
+    make_file(files, alloc, &mut Sink::new(buffered), path, geometry).code()
+}
+
+fn run_script<F, H, R, W, E>(
+    files: &H,
+    alloc: Global,
+    input: R,
+    output: &mut W,
+    errors: &mut Errors<'_, E>,
+    path: &str,
+) -> u8
+where
+    F: FileExt + OpenFile + Drop,
+    H: Files<File = F>,
+    R: Read + Drop,
+    W: Write + Drop,
+    E: Write,
+{
+    let Ok(buffered) = BufWriter::new(alloc, &mut *output) else {
+        return out_of_memory(output);
+    };
+    let mut script = Source::new(input);
+    let mut answers = Sink::new(buffered);
+    let status = if errors.is_terminal {
+        let mut ticker = Ticker::new(&mut *errors.stream);
+        run_file(files, alloc, &mut script, &mut answers, path, &mut ticker)
+    } else {
+        run_file(files, alloc, &mut script, &mut answers, path, &mut Quiet)
+    };
+    if let FileStatus::Unreadable(why) = status {
+        say(errors, why);
+    }
+    status.code()
+}
+
+fn run_check<F: FileExt + OpenFile + Drop, H: Files<File = F>, W: Write + Drop>(
+    files: &H,
+    alloc: Global,
+    output: &mut W,
+    path: &str,
+) -> u8 {
+    let Ok(buffered) = BufWriter::new(alloc, &mut *output) else {
+        return out_of_memory(output);
+    };
+    check_file(files, alloc, &mut Sink::new(buffered), path).code()
+}
+
+fn run_upgrade<F: FileExt + OpenFile + Drop, H: Files<File = F>, W: Write + Drop>(
+    files: &H,
+    alloc: Global,
+    output: &mut W,
+    path: &str,
+) -> u8 {
+    let Ok(buffered) = BufWriter::new(alloc, &mut *output) else {
+        return out_of_memory(output);
+    };
+    upgrade_file(files, alloc, &mut Sink::new(buffered), path).code()
 }
 
 /// Tells that memory ran out before the work began.

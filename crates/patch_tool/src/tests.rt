@@ -1,11 +1,14 @@
 //! Runs of the program: what it answers to words and a script.
-use crate::running::run;
+use crate::running::{Errors, run};
 use crate::words;
 use std::alloc::{AllocError, Global};
 use std::env::{Env, FillError};
-use std::io;
+use std::fs::OpenFile;
+use std::os::unix::fs::FileExt;
 use std::process::Abort;
+use std::rt::Files;
 use std::test::Fail;
+use std::{fs, io};
 
 /// A run on these words and this script, how it ends, what it writes, and a part of what it says on standard error.
 #[derive(Clone, Copy)]
@@ -55,6 +58,97 @@ const ROWS: [Row; 17] = [
     ),
 ];
 
+const PUT: &str = r#"{"op":"put","key":"k","hex":"0102"}"#;
+
+const HELD: &str = "entry 6b 2\nextent 0 0 19 19\nextent 1 0 0 0\nclean\n";
+
+/// Commands on one file, in their order.
+const ROWS_OF_FILES: [Row; 17] = [
+    Row("fstch check patch_tool_disk", "", 4, "fault Disk\n", ""),
+    Row("fstch run patch_tool_disk", PUT, 4, "fault Disk\n", ""),
+    Row(
+        "fstch make patch_tool_disk --index 1",
+        "",
+        2,
+        "",
+        "--extents <M>",
+    ),
+    Row("fstch make --index 1 --extents 2", "", 2, "", "<FILE>"),
+    Row(
+        "fstch make patch_tool_disk --index 17 --extents 2",
+        "",
+        2,
+        "",
+        "1..=16",
+    ),
+    Row(
+        "fstch make patch_tool_disk --index 1 --extents 1",
+        "",
+        2,
+        "",
+        "2..=254",
+    ),
+    Row(
+        "fstch make patch_tool_disk --index 1 --extents 2 --length 15",
+        "",
+        2,
+        "",
+        "16..=64",
+    ),
+    Row(
+        "fstch make patch_tool_disk --index 1 --extents 64 --length 64",
+        "",
+        2,
+        "fault Geometry\n",
+        "",
+    ),
+    Row(
+        "fstch make patch_tool_disk --index 1 --extents 2",
+        "",
+        0,
+        "made 35\n",
+        "",
+    ),
+    Row(
+        "fstch make patch_tool_disk --index 1 --extents 2",
+        "",
+        4,
+        "fault Disk\n",
+        "",
+    ),
+    Row(
+        "fstch run patch_tool_disk --writers 2",
+        PUT,
+        2,
+        "",
+        "'--writers'",
+    ),
+    Row(
+        "fstch run patch_tool_disk",
+        "{}",
+        3,
+        "bad line 1\n",
+        "fstch: line 1: \"op\" is missing\n",
+    ),
+    Row("fstch run patch_tool_disk", PUT, 0, "ok\n", ""),
+    Row("fstch check patch_tool_disk", "", 0, HELD, ""),
+    Row("fstch upgrade patch_tool_disk", "", 0, "upgraded\n", ""),
+    Row(
+        "fstch upgrade patch_tool_disk",
+        "",
+        4,
+        "fault AlreadyVersion2\n",
+        "",
+    ),
+    Row(
+        "fstch run --help",
+        "",
+        2,
+        "",
+        "Example: fstch run data.disk",
+    ),
+];
+
 fn push_words(alloc: Global, words: &mut Vec<String>, text: &str) -> Result<(), AllocError> {
     for word in text.split(' ') {
         words.push(String::from_str(alloc, word)?)?;
@@ -69,10 +163,19 @@ fn words_of(alloc: Global, text: &str) -> Result<Vec<String>, AllocError> {
 }
 
 /// A run on these words, with this on standard input, ends so.
-fn expect_run(rt: &impl Abort, alloc: Global, words: io::Result<Vec<String>>, row: &Row) {
+fn expect_run<F: FileExt + OpenFile + Drop, H: Files<File = F> + Abort>(
+    rt: &H,
+    alloc: Global,
+    words: io::Result<Vec<String>>,
+    row: &Row,
+) {
     let Row(name, script, status, output, said) = *row;
     let (mut out, mut errors) = (Vec::new(alloc), Vec::new(alloc));
-    let ended = run(alloc, words, script.as_bytes(), &mut out, &mut errors);
+    let mut stream = Errors {
+        stream: &mut errors,
+        is_terminal: false,
+    };
+    let ended = run(rt, alloc, words, script.as_bytes(), &mut out, &mut stream);
     assert_eq!(rt; ended, status, "{name}");
     assert_eq!(rt; out.as_slice(), output.as_bytes(), "{name}");
     let errors = std::str::from_utf8(&errors).unwrap_or("no text");
@@ -80,12 +183,28 @@ fn expect_run(rt: &impl Abort, alloc: Global, words: io::Result<Vec<String>>, ro
     assert_eq!(rt; errors.is_empty(), said.is_empty(), "{name}: {errors}");
 }
 
+fn expect_each<F: FileExt + OpenFile + Drop, H: Files<File = F> + Abort>(
+    rt: &H,
+    alloc: Global,
+    rows: &[Row],
+) -> Result<(), Fail> {
+    for row in rows {
+        let words = words_of(alloc, row.0)?;
+        expect_run(rt, alloc, Ok(words), row);
+    }
+    Ok(())
+}
+
 #[test]
 fn runs_end_as_they_should(rt: HostRuntime) -> Result<(), Fail> {
-    for row in ROWS.iter() {
-        let words = words_of(rt.alloc(), row.0)?;
-        expect_run(&rt, rt.alloc(), Ok(words), row);
-    }
+    expect_each(&rt, rt.alloc(), &ROWS)
+}
+
+#[test]
+fn a_store_is_made_run_checked_and_upgraded(rt: HostRuntime) -> Result<(), Fail> {
+    let _old = fs::remove_file(&rt, "patch_tool_disk");
+    expect_each(&rt, rt.alloc(), &ROWS_OF_FILES)?;
+    fs::remove_file(&rt, "patch_tool_disk")?;
     Ok(())
 }
 
