@@ -497,13 +497,65 @@ def writer_of(line):
     return line.get("writer", 0)
 
 
-class Model:
+class LineModel:
+    """Answers each line by the method of its op. It keeps groups, which are the same in every kind of script."""
+
+    ops = ("group", "engage", "disengage", "depend", "close")
+
+    def __init__(self):
+        self.groups = Groups()
+
+    def answer(self, line):
+        """The text that a line is answered, without its line feed."""
+        if line["op"] not in self.ops:
+            raise ValueError(f"no line of this kind of script: {line}")
+        try:
+            return getattr(self, line["op"])(line)
+        except Refused as refusal:
+            return f"refused {refusal}"
+
+    def regroup(self, **changed):
+        self.groups = replace(self.groups, **changed)
+
+    def group(self, line):
+        check_group(self.groups)
+        number = self.groups.count
+        self.regroup(count=number + 1)
+        return f"group {number}"
+
+    def engage(self, line):
+        writer, group = writer_of(line), line["group"]
+        check_engage(self.groups, writer, group)
+        self.regroup(engaged=self.groups.engaged | {(writer, group)}, started=self.groups.started | {group})
+        return "ok"
+
+    def disengage(self, line):
+        writer, group = writer_of(line), line["group"]
+        check_disengage(self.groups, writer, group)
+        self.regroup(engaged=self.groups.engaged - {(writer, group)})
+        return "ok"
+
+    def depend(self, line):
+        group, on = line["group"], line["on"]
+        check_depend(self.groups, group, on)
+        self.regroup(orders=self.groups.orders | {(group, on)})
+        return "ok"
+
+    def close(self, line):
+        check_close(self.groups, line["group"])
+        self.regroup(closed=self.groups.closed | {line["group"]})
+        return "ok"
+
+
+class Model(LineModel):
     """Blocks of zeros with their patches, and groups of these, over a disk that is a plain list of blocks."""
 
+    ops = LineModel.ops + ("patch", "merge", "send", "complete", "view", "show", "disk", "pending", "sync")
+
     def __init__(self, blocks):
+        super().__init__()
         self.first = (bytes(BLOCK),) * blocks
         self.state = State((), {}, self.first)
-        self.groups = Groups()
 
     @property
     def blocks(self):
@@ -512,29 +564,6 @@ class Model:
     @property
     def entries(self):
         return self.state.entries
-
-    def answer(self, line):
-        """The text that a line is answered, without its line feed."""
-        by_op = {
-            "patch": self.patch,
-            "merge": self.merge,
-            "send": self.send,
-            "complete": self.complete,
-            "view": self.view,
-            "show": self.show,
-            "disk": self.disk,
-            "group": self.group,
-            "engage": self.engage,
-            "disengage": self.disengage,
-            "depend": self.depend,
-            "close": self.close,
-            "pending": self.pending,
-            "sync": self.sync,
-        }
-        try:
-            return by_op[line["op"]](line)
-        except Refused as refusal:
-            return f"refused {refusal}"
 
     def accept(self, step):
         self.state = step.follow(self.first, self.state)
@@ -587,38 +616,6 @@ class Model:
         return f"disk {self.state.disk[line['block']][span].hex()}"
 
     # Lines of groups.
-
-    def regroup(self, **changed):
-        self.groups = replace(self.groups, **changed)
-
-    def group(self, line):
-        check_group(self.groups)
-        number = self.groups.count
-        self.regroup(count=number + 1)
-        return f"group {number}"
-
-    def engage(self, line):
-        writer, group = writer_of(line), line["group"]
-        check_engage(self.groups, writer, group)
-        self.regroup(engaged=self.groups.engaged | {(writer, group)}, started=self.groups.started | {group})
-        return "ok"
-
-    def disengage(self, line):
-        writer, group = writer_of(line), line["group"]
-        check_disengage(self.groups, writer, group)
-        self.regroup(engaged=self.groups.engaged - {(writer, group)})
-        return "ok"
-
-    def depend(self, line):
-        group, on = line["group"], line["on"]
-        check_depend(self.groups, group, on)
-        self.regroup(orders=self.groups.orders | {(group, on)})
-        return "ok"
-
-    def close(self, line):
-        check_close(self.groups, line["group"])
-        self.regroup(closed=self.groups.closed | {line["group"]})
-        return "ok"
 
     def pending(self, line):
         check_open(self.groups, line["group"])
