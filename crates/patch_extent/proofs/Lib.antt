@@ -7,3 +7,5 @@ pub mod Beginning
 pub mod Bytes
 pub mod Finishing
 pub mod Grouping
+pub mod Rising
+pub mod Emptied

@@ -1,9 +1,10 @@
 -- What is kept of the extents of a disk.
-use Rattle.std.specs.Prelude.{ℕ, ◌≡◌, ◌==◌, if◌then◌else◌, List, length, slice_index_or, slice_set, Some, None}
+use Rattle.std.specs.Prelude.{ℕ, Bool, ◌≡◌, ◌==◌, if◌then◌else◌, List, length, slice_index_or, slice_set, Some, None}
 use Rattle.patch_frame.specs.declared.geometries.Geometry.{Geometry}
 use Rattle.patch_frame.specs.Geometry.{IsGeometry, largest_pointer}
 use Rattle.patch_frame.specs.Pointer.{Fits}
 use Rattle.patch_extent.specs.declared.records.Extent.{Extent}
+use Rattle.patch_extent.specs.Empties.{passing}
 
 -- how the disk is divided, and of each extent its pointer record, the patch of its last reset, and the last patch of its
 -- record, a reset's too
@@ -24,6 +25,14 @@ generation_at s e = (extent_at s e).pointer.generation
 -- how far it is filled
 abbrev pub offset_at : Extents → ℕ → ℕ
 offset_at s e = (extent_at s e).pointer.offset
+
+-- nothing is in it
+abbrev pub is_empty_in : List Extent → ℕ → Bool
+is_empty_in each e = (slice_index_or each e no_extent).pointer.offset == 0
+
+-- the extents whose pointer is 0, rising
+abbrev pub empty_extents : Extents → List ℕ
+empty_extents s = passing (λ e. offset_at s e == 0) s.geometry.extents
 
 -- the disk is divided as one may be, each of its extents is kept, and no pointer lies past its extent
 pub record AreWhole (s : Extents) : Type 0 where

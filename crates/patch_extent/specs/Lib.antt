@@ -1,3 +1,4 @@
+pub mod Empties
 pub mod Extents
 pub mod Planning
 pub mod Writing

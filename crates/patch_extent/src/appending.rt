@@ -117,6 +117,7 @@ impl<A: Allocator + Copy> Extents<A> {
         let record = &mut self.each[extent as usize];
         record.pointer = moved;
         record.point = Some(no);
+        self.empty.take(extent);
         Ok(Appended {
             place: Place {
                 extent,

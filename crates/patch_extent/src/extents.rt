@@ -2,13 +2,14 @@
 ghost use Rattle.std.specs.Prelude.{ℕ, ◌≡◌, ◌<◌, ◌≤◌, length, Err, IfOk, OnErr};
 ghost use Rattle.patch_frame.specs.declared.geometries.Format.TheVariants.{One};
 ghost use Rattle.patch_frame.specs.Geometry.{IsGeometry, block_count};
-ghost use Rattle.patch_extent.specs.Extents.{generation_at, offset_at};
+ghost use Rattle.patch_extent.specs.Extents.{generation_at, offset_at, empty_extents as the_empty_extents};
 ghost use Rattle.patch_frame.specs.Field.{are_zeros};
 ghost use Rattle.patch_recovery.specs.Change.{widened};
 ghost use Rattle.patch_extent.specs.declared.refusals.ExtentsFault.TheVariants.{BadPointer};
 ghost use Rattle.patch_extent.specs.Opening.{AreRecords, IsRecord, IsBadRecord};
 ghost use Rattle.patch_extent.specs.Answers.{IsOpened};
 
+use crate::empties::EmptyExtents;
 use crate::records::Extent;
 use crate::refusals::ExtentsFault;
 use patch_cache::Cache;
@@ -25,16 +26,20 @@ pub struct Extents<A: Allocator + Copy = Global> {
     pub(crate) alloc: A,
     pub(crate) geometry: Geometry,
     pub(crate) each: Vec<Extent, A>,
+    /// Those whose pointer is 0.
+    pub(crate) empty: EmptyExtents,
 }
 
 impl<A: Allocator + Copy> Model for Extents<A> {
-    ghost use Rattle.patch_extent.specs.Extents.{Extents as Kept, AreWhole};
+    ghost use Rattle.std.specs.Prelude.{◌≡◌};
+    ghost use Rattle.patch_extent.specs.Extents.{Extents as Kept, AreWhole, empty_extents as the_empty_extents};
 
     ghost Value = { Kept };
 
     ghost view = { λ s. record { geometry = s.geometry; each = s.each.items } };
 
-    ghost invariant = { λ s. AreWhole (record { geometry = s.geometry; each = s.each.items }) };
+    ghost invariant = { λ s. AreWhole (record { geometry = s.geometry; each = s.each.items })
+        × (s.empty ≡ the_empty_extents (record { geometry = s.geometry; each = s.each.items })) };
 }
 
 impl<A: Allocator + Copy> Extents<A> {
@@ -58,11 +63,20 @@ impl<A: Allocator + Copy> Extents<A> {
         if !is_zeros(&block[POINTER_BYTES * geometry.extents as usize..BLOCK]) {
             return Err(ExtentsFault::BadPointer);
         }
+        let empty = EmptyExtents::of(each.as_slice());
         Ok(Extents {
             alloc,
             geometry,
             each,
+            empty,
         })
+    }
+
+    /// The extents whose pointer is 0, in rising order. They are kept so, and none is looked for.
+    pub fn empty_extents(&self) -> &[u8]
+        ensures { result.now ≡ the_empty_extents self.now }
+    {
+        self.empty.as_slice()
     }
 
     /// The generation of an extent and its write pointer, as the cache has them.

@@ -52,6 +52,7 @@ impl<A: Allocator + Copy> Extents<A> {
             reset: Some(no),
             point: Some(no),
         };
+        self.empty.put(extent);
         Ok(no)
     }
 

@@ -1,6 +1,9 @@
 -- A legal history is that of a store.
 use Rattle.std.proofs.Common.{◌∙◌, ◌++◌, Bool, map, sym, ap, take, ◌≡◌, ℕ, ◌+◌, ◌<◌, ◌^◌, List, [], ◌∷◌, length, refl}
-use Rattle.std.proofs.Common.{arith, subst}
+use Rattle.std.proofs.Common.{◌≤◌, true, false, arith, subst}
+use Rattle.std.specs.Prelude.{◌&&◌, nat_le}
+use Rattle.std.proofs.lemmas.Bool.Decides.{nat_tests}
+use Rattle.patch_frame.specs.declared.pointers.Pointer.{Pointer}
 use Rattle.std.specs.Prelude.{fold, drop, All, ◌-◌}
 use Rattle.std.specs.List.{range_with_len}
 use Rattle.std.proofs.lemmas.List.{length-take, length-drop}
@@ -20,7 +23,7 @@ use Rattle.patch_history.proofs.Calls.{event_stood}
 use Rattle.patch_history.proofs.Events.{Stood}
 use Rattle.patch_history.proofs.Extending.{standings_run}
 use Rattle.patch_history.proofs.Keeping.{holds-opened}
-use Rattle.patch_history.proofs.Places.{find_in}
+use Rattle.patch_history.proofs.Places.{find_in, find_passes}
 use Rattle.std.proofs.lemmas.List.{append_assoc, append-nil, length-append, length-map}
 use Rattle.patch_recovery.specs.Said.{AreMoves}
 use Rattle.patch_history.specs.Closed.{HistoriesMove, marks_in, marks_from, moves_entry}
@@ -36,6 +39,10 @@ use Rattle.patch_frame.specs.declared.geometries.Geometry.{Geometry}
 use Rattle.patch_recovery.specs.Change.{Made, patch_of, patches_of}
 use Rattle.patch_history.specs.History.{execution_of}
 use Rattle.patch_history.specs.Laws.{StandingsAgree}
+
+first_holds : (a b : Bool) → (a && b) ≡ true → a ≡ true
+first_holds true b is = refl
+first_holds false b is = absurd (let g : false ≡ true = is in cc)
 
 module _ (given : Given) where
   pub opened_by : (h : History) → IsLegalHistory h → IsReadAs h.opening h.first
@@ -72,6 +79,10 @@ module _ (given : Given) where
           let found = find_in (may_be_current h.first) (range_with_len 0 h.first.geometry.extents) e at in
           let within = (from_range 0 h.first.geometry.extents e found).1 in
           omega arith;
+      begun = λ e at.
+          let test = find_passes (may_be_current h.first) (range_with_len 0 h.first.geometry.extents) e at in
+          let low : nat_le 1 (h.first.pointer e).offset ≡ true = first_holds _ _ test in
+          grind (arith, nat_tests, low);
       few = first_few h l;
     };
     format = refl;
@@ -161,4 +172,8 @@ module _ (given : Given) where
             let known = stood.good.current e at in
             let extents = stood.good.holds.extents in
             omega (arith, known, extents);
+        begun = λ e at.
+            let known = stood.good.current e at in
+            let extents = stood.good.holds.extents in
+            subst (λ (p : Pointer). 1 ≤ p.offset) (sym (stood.good.holds.shelf.pointer e (omega (arith, known, extents)))) (stood.good.begun e at);
       }

@@ -1,8 +1,9 @@
 -- What is kept of a shelf beside its changes, a change at a time.
-use Rattle.std.proofs.Common.{◌≡◌, ℕ, ◌+◌, ◌<◌, ◌^◌, inl, inr, List, [], ◌∷◌, ◌++◌, length, Option, Some, None}
-use Rattle.std.proofs.Common.{refl, arith}
+use Rattle.std.proofs.Common.{◌≡◌, ℕ, ◌+◌, ◌<◌, ◌≤◌, ◌∙◌, ◌^◌, inl, inr, List, [], ◌∷◌, ◌++◌, length, Option, Some, None}
+use Rattle.std.proofs.Common.{Bool, true, false, refl, sym, ap, arith}
 use Rattle.std.specs.Prelude.{◌==◌}
 use Rattle.std.proofs.lemmas.Bool.{cases_Bool}
+use Rattle.std.proofs.lemmas.Bool.Decides.{nat_tests}
 use Rattle.patch_recovery.specs.Change.{Change, Data, Point, Fill, Clear, Widen, Made}
 use Rattle.patch_recovery.specs.Ledger.{Ledger, after, after_all}
 use Rattle.patch_recovery.specs.Right.{IsRight}
@@ -12,11 +13,13 @@ use Rattle.patch_history.specs.Standing.{onto}
 use Rattle.patch_history.proofs.Keeping.{Holds, holds-change}
 use Rattle.patch_history.proofs.Members.{some_number}
 
--- The shelf is that of the changes, which are well made; the current extent is one of the disk's; generations have 32 bits.
+-- The shelf is that of the changes, which are well made; the current extent is one of the disk's, and begun; generations have 32
+-- bits.
 pub record Good (s : Shelf) (first : Ledger) (made : List Made) : Type 0 where
   pub holds : Holds s first made
   pub well : AreWellMade first made
   pub current : (e : ℕ) → s.current ≡ Some e → e < first.geometry.extents
+  pub begun : (e : ℕ) → s.current ≡ Some e → 1 ≤ ((after_all first made).pointer e).offset
   pub few : (e : ℕ) → e < first.geometry.extents → ((after_all first made).pointer e).generation < 2 ^ 32
 
 pub onto-++ : (p q made : List Made) → onto (p ++ q) made ≡ onto q (onto p made)
@@ -54,6 +57,32 @@ current-change s first made n (Fill slot fields) good right e h = good.current e
 current-change s first made n (Clear slot) good right e h = good.current e h
 current-change s first made n Widen good right e h = good.current e h
 
+not_left : (e x : ℕ) (o : Option ℕ) → not_current e o ≡ Some x → (x == e) ≡ false
+not_left e x None h = absurd (cc)
+not_left e x (Some c) h = elim (cases_Bool (c == e)) [
+  | inl u ↦ absurd (let g : None ≡ Some x = rw u at h in cc)
+  | inr u ↦ (let g : Some c ≡ Some x = rw u at h in let same = some_number c x g in ap (λ k. k == e) (sym same) ∙ u)
+]
+
+begun-change : (s : Shelf) (first : Ledger) (made : List Made) (c : Change) (n : ℕ) → Good s first made
+    → (e : ℕ) → (after_change s n c).current ≡ Some e → 1 ≤ ((after (after_all first made) c).pointer e).offset
+begun-change s first made (Data extent offset bytes) n good e h = good.begun e h
+begun-change s first made (Point extent generation offset) n good e h = elim (cases_Bool (offset == 0)) [
+  | inl u ↦ (
+      let was : not_current extent s.current ≡ Some e = rw u at h in
+      let other = not_left extent e s.current was in
+      rw other (good.begun e (still_current extent e s.current was)))
+  | inr u ↦ (
+      let g : Some extent ≡ Some e = rw u at h in
+      let same = some_number extent e g in
+      let on : (e == extent) ≡ true = grind (arith, nat_tests, same) in
+      let some : 1 ≤ offset = grind (arith, nat_tests, u) in
+      rw on some)
+]
+begun-change s first made (Fill slot fields) n good e h = good.begun e h
+begun-change s first made (Clear slot) n good e h = good.begun e h
+begun-change s first made Widen n good e h = good.begun e h
+
 few-change : (s : Shelf) (first : Ledger) (made : List Made) (c : Change) → Good s first made
     → IsRight (after_all first made) c
     → (e : ℕ) → e < first.geometry.extents → ((after (after_all first made) c).pointer e).generation < 2 ^ 32
@@ -72,6 +101,7 @@ good-change s first made n m e good well = record {
   holds = holds-change s first made n m e good.holds;
   well = (well, good.well);
   current = current-change s first made n m.change good well.right;
+  begun = begun-change s first made m.change n good;
   few = few-change s first made m.change good well.right;
 }
 

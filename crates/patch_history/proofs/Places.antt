@@ -96,6 +96,13 @@ slot_chosen s key j None at h =
     let there = position_at is_none None s.slots j (rw at at h) in
     record { within = there.within; whose = inr (empty_is (slot_at s j) there.passes, position_none (has_key key) None s.slots at) }
 
+pub find_passes : (test : ℕ → Bool) (xs : List ℕ) (x : ℕ) → find test xs ≡ Some x → test x ≡ true
+find_passes test [] x h = absurd (let g : None ≡ Some x = h in cc)
+find_passes test (y ∷ ys) x h = elim (cases_Bool (test y)) [
+  | inl u ↦ (let g : Some y ≡ Some x = rw u at h in ap test (sym (some_number y x g)) ∙ u)
+  | inr u ↦ find_passes test ys x (rw u at h)
+]
+
 pub find_in : (test : ℕ → Bool) (xs : List ℕ) (x : ℕ) → find test xs ≡ Some x → In xs x
 find_in test [] x h = absurd (let g : None ≡ Some x = h in cc)
 find_in test (y ∷ ys) x h = elim (cases_Bool (test y)) [

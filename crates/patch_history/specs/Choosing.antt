@@ -1,11 +1,11 @@
 -- Which slot and which extent are taken.
-use Rattle.std.specs.Prelude.{ℕ, Bool, ◌+◌, ◌==◌, nat_le, if◌then◌else◌, List, [], ◌∷◌, filter, position, is_none}
+use Rattle.std.specs.Prelude.{ℕ, Bool, ◌+◌, ◌==◌, nat_le, if◌then◌else◌, List, [], ◌∷◌, position, is_none}
 use Rattle.std.specs.Prelude.{Option, Some, None}
-use Rattle.std.specs.List.{range_with_len}
 use Rattle.std.specs.Option.{option_or}
 use Rattle.patch_frame.specs.Geometry.{largest_pointer}
 use Rattle.patch_frame.specs.Slot.{SlotFields}
 use Rattle.patch_recovery.specs.Reading.{has_key}
+use Rattle.patch_extent.specs.Extents as extents
 use Rattle.patch_extent.specs.Extents.{offset_at}
 use Rattle.patch_history.specs.Shelf.{Shelf}
 
@@ -32,9 +32,9 @@ current_for s len = elim s.current [
   | None ↦ None
 ]
 
--- the extents whose pointer is 0, rising
+-- the empty extents, rising
 abbrev pub empty_extents : Shelf → List ℕ
-empty_extents s = filter (λ e. offset_at s.extents e == 0) (range_with_len 0 s.extents.geometry.extents)
+empty_extents s = extents.empty_extents s.extents
 
 -- the first of some numbers
 abbrev pub first_of_any : List ℕ → Option ℕ

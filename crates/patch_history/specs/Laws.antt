@@ -1,5 +1,5 @@
 -- Laws of histories.
-use Rattle.std.specs.Prelude.{ℕ, true, ◌≡◌, ◌<◌, List, length, count_by, Some}
+use Rattle.std.specs.Prelude.{ℕ, true, ◌≡◌, ◌≤◌, ◌<◌, List, length, count_by, Some}
 use Rattle.patch_model.specs.Entry.{is_live}
 use Rattle.patch_model.specs.State.{entries_of}
 use Rattle.patch_model.specs.Legal.{IsLegal}
@@ -9,6 +9,7 @@ use Rattle.patch_recovery.specs.Said.{last_said}
 use Rattle.patch_recovery.specs.Store.{IsOfStore}
 use Rattle.patch_recovery.specs.Closed.{Opens, cached_blocks}
 use Rattle.patch_recovery.specs.Lasting.{Tells}
+use Rattle.patch_extent.specs.Extents.{offset_at}
 use Rattle.patch_extent.specs.Meaning as extents
 use Rattle.patch_history.specs.Standing.{made_by, live_of}
 use Rattle.patch_history.specs.History.{History, Event, IsLegalHistory, IsRight, execution_of, standing_of, ledger_of}
@@ -51,13 +52,14 @@ abbrev pub GroupsAreKept : Type 0
 GroupsAreKept = (h : History) → IsLegalHistory h → AreGroupsOf (execution_of h) (standing_of h).groups
 
 -- What a standing says, and the blocks with it: the format; how many patches were made; the frame of each used slot, which
--- has the value of its key in the map; and the current extent, which is one of the disk's.
+-- has the value of its key in the map; and the current extent, which is one of the disk's and not empty.
 pub record Agrees (h : History) : Type 0 where
   pub format : (standing_of h).map.format ≡ (ledger_of h).geometry.format
   pub made : made_by (standing_of h) ≡ length (entries_of (execution_of h))
   pub live : live_of (standing_of h) ≡ count_by is_live (entries_of (execution_of h))
   pub tells : Tells (ledger_of h) (value_in (standing_of h).map.entries)
   pub current : (e : ℕ) → (standing_of h).shelf.current ≡ Some e → e < (ledger_of h).geometry.extents
+  pub begun : (e : ℕ) → (standing_of h).shelf.current ≡ Some e → 1 ≤ offset_at (standing_of h).shelf.extents e
 
 -- so it is in each legal history
 abbrev pub StandingsAgree : Type 0

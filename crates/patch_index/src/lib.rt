@@ -1,7 +1,8 @@
 //! The index of a store: what each slot says, in memory.
 //!
 //! An [`Index`], in `indexes`, has an [`Entry`] for each used slot, with its [`Key`]. The slots of an extent are a
-//! [`LiveSlots`], which `ordering` puts in order of offset; what is reported of a slot is in `reports`.
+//! [`LiveSlots`], a part of one of the orders that `orders` keeps and `searching` looks into; what is reported of a slot is in
+//! `reports`.
 #![tactic(auto)]
 
 mod entries;

@@ -1,15 +1,16 @@
-use Rattle.std.proofs.Common.{◌≡◌, ◌+◌, ◌<◌, ◌++◌, ◌∙◌, [], length, get_or, false, Some, refl, sym, ap, subst, arith}
+use Rattle.std.proofs.Common.{◌≡◌, ◌+◌, ◌<◌, ◌≤◌, ◌++◌, ◌∙◌, [], length, get_or, false, Some, refl, sym, ap, subst, arith}
 use Rattle.std.specs.Prelude.{◌==◌, option_to_list}
 use Rattle.std.specs.List.{range_with_len}
 use Rattle.std.proofs.lemmas.List.{get_or_read}
 use Rattle.std.proofs.lemmas.Result.{MatchResult-from_err}
 use Rattle.patch_model.specs.State.{entries_of}
 use Rattle.patch_frame.specs.declared.pointers.Pointer.{Pointer}
-use Rattle.patch_frame.specs.Geometry.{pointer_block, pointer_start}
-use Rattle.patch_frame.specs.Pointer.{spelling}
+use Rattle.patch_frame.specs.Geometry.{largest_pointer, pointer_block, pointer_start}
+use Rattle.patch_frame.specs.Pointer.{Fits, spelling}
 use Rattle.patch_extent.specs.declared.places.Place.{Place}
 use Rattle.patch_extent.specs.declared.records.Extent.{Extent}
-use Rattle.patch_extent.specs.Extents.{no_extent, extent_at, generation_at, offset_at}
+use Rattle.patch_extent.specs.Extents.{Extents, no_extent, extent_at, generation_at, offset_at}
+use Rattle.patch_extent.proofs.Emptied.{is_empty, still_whole, empties_taken}
 use Rattle.patch_extent.specs.Planning.{touched, parts, names_behind}
 use Rattle.patch_extent.specs.Answers.{setting, asked, AreMade, IsBegun, plan_of}
 use Rattle.patch_extent.specs.Appending.{IsPatched, MergesBehind, IsDone}
@@ -96,3 +97,22 @@ returns-clause-answer g c run h =
     (record { place = record { extent = e; generation = c.index.result.now.pointer.generation; offset = c.index.result.now.pointer.offset; len = length bytes }; pointer_patch = num })
     c.requires.known c.requires.some (record { generation = (h.represents.whole.fits e).generation; offset = c.requires.room }) made patched merged
     (ap (λ (k : Extent). let p : Place = record { extent = e; generation = k.pointer.generation; offset = k.pointer.offset; len = length bytes } in p) at) refl)
+
+pub invariant_of-self : goal.invariant_of-self
+invariant_of-self g c =
+    let s : Extents = record { geometry = c.self.inside.geometry; each = c.self.inside.each.items } in
+    let e = c.args.extent in
+    let bytes = c.args.bytes.now in
+    let x : Extent = record { pointer = record { generation = c.index.result.now.pointer.generation; offset = c.index.result.now.pointer.offset + length c.args.bytes.now }; reset = c.index_mut-record.result.now.reset; point = Some c.in_ok-no.no } in
+    let whole = c.self.invariant.0 in
+    let count = whole.count in
+    let known : e < s.geometry.extents = subst (λ (t : Extents). e < t.geometry.extents) (sym c.self.view_is) c.requires.known in
+    let at : c.index.result.now ≡ extent_at s e = get_or_read s.each e c.index.result.now (omega (arith, known, count)) c.index.ensures no_extent in
+    let room = subst (λ (t : Extents). offset_at t e + length bytes ≤ largest_pointer t.geometry.format) (sym c.self.view_is) c.requires.room in
+    let fits : Fits (largest_pointer s.geometry.format) x.pointer = subst
+    (λ (k : Extent). Fits (largest_pointer s.geometry.format) (record { generation = k.pointer.generation; offset = k.pointer.offset + length bytes }))
+    (sym at) (record { generation = (whole.fits e).generation; offset = room }) in (
+      still_whole s e x whole known fits,
+      empties_taken s e x c.take.new.self whole known (some_offset c.index.result.now.pointer.offset (length bytes) c.requires.some)
+          (c.take.ensures (is_empty s) s.geometry.extents c.self.invariant.1),
+    )

@@ -15,7 +15,7 @@ loop-k-init g c run h = nothing_made run c.args.writer.now (setting c.args.self.
 pub loop-k-preserved : goal.loop-k-preserved
 loop-k-preserved g c run h =
     let s = c.args.self.now in
-    let counted = c.self.invariant.count in
+    let counted = c.self.invariant.0.count in
     let inside : c.args.extent < length c.args.self.now.each = omega (arith, counted) in
     let at = get_or_read c.args.self.now.each c.args.extent c.index.result.now inside (c.index.ensures ∙ ap (λ s. get_or s.each c.args.extent c.index.result.now) c.self.view_is) no_extent in
     let offset : c.index.result.now.pointer.offset ≡ offset_at c.args.self.now c.args.extent = ap (λ k. k.pointer.offset) at in
@@ -31,7 +31,7 @@ loop-k-preserved g c run h =
 
 pub returns : goal.returns
 returns g c run h =
-    let counted = c.self.invariant.count in
+    let counted = c.self.invariant.0.count in
     let inside : c.args.extent < length c.args.self.now.each = omega (arith, counted) in
     let at = get_or_read c.args.self.now.each c.args.extent c.index.result.now inside (c.index.ensures ∙ ap (λ s. get_or s.each c.args.extent c.index.result.now) c.self.view_is) no_extent in
     let offset : c.index.result.now.pointer.offset ≡ offset_at c.args.self.now c.args.extent = ap (λ k. k.pointer.offset) at in

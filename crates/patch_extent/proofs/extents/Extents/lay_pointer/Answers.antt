@@ -5,6 +5,6 @@ use Rattle.patch_extent.proofs.extents.Extents.lay_pointer.Goals as goal
 
 pub write_pointer-record-requires : goal.write_pointer-record-requires
 write_pointer-record-requires g c =
-    let most = most_bytes c.args.self.now.geometry.format (subst (λ s. IsFormat s.geometry.format) c.self.view_is c.self.invariant.geometry.format) in
+    let most = most_bytes c.args.self.now.geometry.format (subst (λ s. IsFormat s.geometry.format) c.self.view_is c.self.invariant.0.geometry.format) in
     let fits = c.requires.fits.offset in
     record { generation = c.requires.fits.generation; offset = omega (arith, most, fits) }

@@ -1,0 +1,8 @@
+use Rattle.std.proofs.Common.{◌≡◌, ◌≤◌, length}
+use Rattle.patch_extent.specs.Empties.{passing}
+use Rattle.patch_extent.specs.Extents.{is_empty_in}
+use Rattle.patch_extent.proofs.empties.EmptyExtents.of.Given as goal
+
+-- the empty ones so far
+abbrev pub invariant-loop-extent : goal.invariant-loop-extent
+invariant-loop-extent l = (l.numbers.items ≡ passing (is_empty_in l.each) l.extent) × (length l.numbers.items ≤ l.extent)
