@@ -8,13 +8,14 @@ use Rattle.patch_history.specs.declared.commands.Command.{Command as CodeCommand
 use Rattle.patch_history.specs.declared.commands.Reply.{Reply as CodeReply}
 use Rattle.patch_history.specs.declared.refusals.GetRefusal.{GetRefusal}
 use Rattle.patch_history.specs.Command.{Command, Get, Value, Absent, Refused, unless, is_refused}
+use Rattle.patch_history.specs.Commands.{command_of, reply_told}
 use Rattle.patch_history.specs.History.{History, Call, standing_of, steps_in}
 use Rattle.patch_history.specs.Laws.{HistoriesExtend}
 use Rattle.patch_history.specs.Refusals.{get_cause}
 use Rattle.patch_history.specs.Refusing.{why_no_key, found}
 use Rattle.patch_recovery.specs.Ledger.{value_in}
 use Rattle.patch_store.specs.Meaning.{Store, Represents, HasAnswered, Answers}
-use Rattle.patch_store.specs.Running.{command_of, answer_of, commands_of, calls, with_calls, HasRun}
+use Rattle.patch_store.specs.Running.{commands_of, calls, with_calls, HasRun}
 use Rattle.patch_store.proofs.Gaining.{answered, refused, right_refused, steps_push}
 
 -- A key that is read.
@@ -52,16 +53,16 @@ none_called (c ∷ commands) = refl
 pub next_called : {A : Type 0} (commands : List (ℕ × CodeCommand A)) (replies : List (CodeReply A)) (each : List (List Step))
     (c : ℕ × CodeCommand A) (reply : CodeReply A) (steps : List Step)
     → length each ≡ length replies → length replies < length commands → get_or commands (length replies) c ≡ c
-    → calls (commands_of commands) (map answer_of (replies ++ reply ∷ [])) (each ++ steps ∷ [])
-    ≡ calls (commands_of commands) (map answer_of replies) each ++ Call c.0 (command_of c.1) (answer_of reply) steps ∷ []
+    → calls (commands_of commands) (map reply_told (replies ++ reply ∷ [])) (each ++ steps ∷ [])
+    ≡ calls (commands_of commands) (map reply_told replies) each ++ Call c.0 (command_of c.1) (reply_told reply) steps ∷ []
 next_called [] replies each c reply steps long within at = absurd (omega (arith, within))
 next_called (d ∷ commands) [] [] c reply steps long within at =
-    ap (λ events. Call d.0 (command_of d.1) (answer_of reply) steps ∷ events) (none_called (commands_of commands))
-    ∙ ap (λ x. Call x.0 (command_of x.1) (answer_of reply) steps ∷ []) at
+    ap (λ events. Call d.0 (command_of d.1) (reply_told reply) steps ∷ events) (none_called (commands_of commands))
+    ∙ ap (λ x. Call x.0 (command_of x.1) (reply_told reply) steps ∷ []) at
 next_called (d ∷ commands) [] (s ∷ each) c reply steps long within at = absurd (omega (arith, long))
 next_called (d ∷ commands) (r ∷ replies) [] c reply steps long within at = absurd (omega (arith, long))
 next_called (d ∷ commands) (r ∷ replies) (s ∷ each) c reply steps long within at =
-    ap (λ events. Call d.0 (command_of d.1) (answer_of r) s ∷ events)
+    ap (λ events. Call d.0 (command_of d.1) (reply_told r) s ∷ events)
     (next_called commands replies each c reply steps (omega (arith, long)) (omega (arith, within)) at)
 
 pub begun_run : (h : History) (commands : List (ℕ × Command)) (s : Store) → Represents s h → HasRun h commands [] s s
@@ -75,21 +76,21 @@ begun_run h commands s was = record {
 pub next_run : {A : Type 0} (h : History) (commands : List (ℕ × CodeCommand A)) (replies : List (CodeReply A))
     (c : ℕ × CodeCommand A) (reply : CodeReply A) (old mid new : Store)
     → length replies < length commands → get_or commands (length replies) c ≡ c
-    → HasRun h (commands_of commands) (map answer_of replies) old mid → Answers c.0 (command_of c.1) (answer_of reply) mid new
-    → HasRun h (commands_of commands) (map answer_of (replies ++ reply ∷ [])) old new
+    → HasRun h (commands_of commands) (map reply_told replies) old mid → Answers c.0 (command_of c.1) (reply_told reply) mid new
+    → HasRun h (commands_of commands) (map reply_told (replies ++ reply ∷ [])) old new
 next_run h commands replies c reply old mid new within at so_far answer =
     let asked = commands_of commands in
-    let before = calls asked (map answer_of replies) so_far.each in
+    let before = calls asked (map reply_told replies) so_far.each in
     let one = answer (with_calls h before) so_far.represents in
-    let event = Call c.0 (command_of c.1) (answer_of reply) one.steps in
-    let long : length so_far.each ≡ length replies = so_far.many ∙ length-map replies answer_of in
-    let is : calls asked (map answer_of (replies ++ reply ∷ [])) (so_far.each ++ one.steps ∷ []) ≡ before ++ event ∷ [] =
+    let event = Call c.0 (command_of c.1) (reply_told reply) one.steps in
+    let long : length so_far.each ≡ length replies = so_far.many ∙ length-map replies reply_told in
+    let is : calls asked (map reply_told (replies ++ reply ∷ [])) (so_far.each ++ one.steps ∷ []) ≡ before ++ event ∷ [] =
     next_called commands replies so_far.each c reply one.steps long within at in
     record {
       each = so_far.each ++ one.steps ∷ [];
       many =
           length-append so_far.each (one.steps ∷ []) ∙ ap (λ n. n + 1) long ∙ sym (length-append replies (reply ∷ []))
-          ∙ sym (length-map (replies ++ reply ∷ []) answer_of);
+          ∙ sym (length-map (replies ++ reply ∷ []) reply_told);
       represents = subst (λ events. Represents new (record h { events = events }))
           (append_assoc h.events before (event ∷ []) ∙ sym (ap (λ events. h.events ++ events) is)) one.gained.represents;
       trace_is =

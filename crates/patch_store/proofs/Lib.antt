@@ -4,7 +4,6 @@ pub mod Writing
 pub mod Values
 pub mod Disks
 pub mod Finding
-pub mod Extents
 pub mod Removing
 pub mod Widening
 pub mod Waving

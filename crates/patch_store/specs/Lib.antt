@@ -1,6 +1,5 @@
 pub mod Meaning
 pub mod Checking
-pub mod Choosing
 pub mod Deleting
 pub mod Framing
 pub mod Given

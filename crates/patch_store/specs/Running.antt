@@ -3,44 +3,20 @@ use Rattle.std.specs.Prelude.{ℕ, ◌≡◌, List, [], ◌∷◌, ◌++◌, len
 use Rattle.patch_model.specs.declared.refusals.OutOfMemory.{OutOfMemory}
 use Rattle.patch_model.specs.Step.{Step}
 use Rattle.patch_history.specs.declared.commands.Command.{Command as CodeCommand}
-use Rattle.patch_history.specs.declared.commands.Command.TheVariants as asked
 use Rattle.patch_history.specs.declared.commands.Reply.{Reply as CodeReply}
-use Rattle.patch_history.specs.declared.commands.Reply.TheVariants as answered
-use Rattle.patch_history.specs.Command.{Command, Put, Get, Delete, Reclaim, Upgrade, Group, Engage, Disengage, Depend}
-use Rattle.patch_history.specs.Command.{CloseGroup, Pending, Reply, Done, Value, Absent, GroupMade, Count, Refused}
+use Rattle.patch_history.specs.Command.{Command, Reply}
+use Rattle.patch_history.specs.Commands.{asked_by, reply_told}
 use Rattle.patch_history.specs.History.{History, Event, Call, steps_in}
 use Rattle.patch_store.specs.Meaning.{Store, Represents}
 
--- the code's
-abbrev pub command_of : {A : Type 0} → CodeCommand A → Command
-command_of (asked.Put key value) = Put key value
-command_of (asked.Get key) = Get key
-command_of (asked.Delete key) = Delete key
-command_of (asked.Reclaim extent) = Reclaim extent
-command_of asked.Upgrade = Upgrade
-command_of asked.Group = Group
-command_of (asked.Engage group) = Engage group
-command_of (asked.Disengage group) = Disengage group
-command_of (asked.Depend group on) = Depend group on
-command_of (asked.CloseGroup group) = CloseGroup group
-command_of (asked.Pending group) = Pending group
-
-abbrev pub answer_of : {A : Type 0} → CodeReply A → Reply
-answer_of answered.Done = Done
-answer_of (answered.Value bytes) = Value bytes
-answer_of answered.Absent = Absent
-answer_of (answered.GroupMade group) = GroupMade group
-answer_of (answered.Count count) = Count count
-answer_of (answered.Refused refusal) = Refused refusal
-
 -- each command with its writer
 abbrev pub commands_of : {A : Type 0} → List (ℕ × CodeCommand A) → List (ℕ × Command)
-commands_of commands = map (λ c. (c.0, command_of c.1)) commands
+commands_of commands = map asked_by commands
 
 -- the replies to a list, whether there was room for all of them or not
 abbrev pub replies_in : {A : Type 0} → Result (Vec (CodeReply A) A) (Vec (CodeReply A) A × OutOfMemory) → List Reply
-replies_in (Ok replies) = map answer_of replies.items
-replies_in (Err stopped) = map answer_of stopped.0.items
+replies_in (Ok replies) = map reply_told replies.items
+replies_in (Err stopped) = map reply_told stopped.0.items
 
 -- the calls of the first commands, one for each reply, with the steps that each took
 abbrev pub calls : List (ℕ × Command) → List Reply → List (List Step) → List Event

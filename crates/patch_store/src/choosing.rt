@@ -1,8 +1,8 @@
 //! Which slot and which extent are taken.
-ghost use Rattle.std.specs.Prelude.{◌≡◌, ◌<◌, IfSome};
-ghost use Rattle.patch_history.specs.Choosing.{slot_for as the_slot_for, has_room as fits_behind, current_for as the_current_for, first_of_any};
+ghost use Rattle.std.specs.Prelude.{◌≡◌, ◌<◌};
+ghost use Rattle.patch_history.specs.Choosing.{slot_for as the_slot_for, has_room as fits_behind, current_for as the_current_for};
 ghost use Rattle.patch_history.specs.Choosing.{extent_for_put as the_extent_for_put, extent_for_move as the_extent_for_move};
-ghost use Rattle.patch_store.specs.Choosing.{empty_from};
+ghost use Rattle.patch_history.specs.Choosing.{empty_extents, first_of_any, first_of_two};
 
 use crate::stores::Store;
 use std::alloc::Allocator;
@@ -23,12 +23,10 @@ impl<A: Allocator + Copy> Store<A> {
     pub(crate) fn extent_for_put(&self, len: u32) -> Option<u32>
         ensures { result ≡ the_extent_for_put self.now.shelf len }
     {
-        if let Some(extent) = self.current_for(len) {
-            return Some(extent);
+        match self.current_for(len) {
+            Some(extent) => Some(extent),
+            None => self.first_of_two(),
         }
-        let first = self.first_empty(0)?;
-        let _kept = self.first_empty(first + 1)?;
-        Some(first)
     }
 
     /// Where a frame goes that is moved: it may take the last empty extent.
@@ -37,7 +35,7 @@ impl<A: Allocator + Copy> Store<A> {
     {
         match self.current_for(len) {
             Some(extent) => Some(extent),
-            None => self.first_empty(0),
+            None => self.first_empty(),
         }
     }
 
@@ -62,17 +60,21 @@ impl<A: Allocator + Copy> Store<A> {
         offset.saturating_add(len) <= self.geometry.format.largest_pointer()
     }
 
-    /// The lowest empty extent from this one on.
-    fn first_empty(&self, first: u32) -> Option<u32>
-        ensures value { result ≡ first_of_any (empty_from self.now.shelf first) }
-        ensures few { IfSome result (λ extent. extent < 254) }
+    /// The lowest empty extent.
+    fn first_empty(&self) -> Option<u32>
+        ensures { result ≡ first_of_any (empty_extents self.now.shelf) }
     {
-        for extent in first..self.geometry.extents {
-            let (_, offset) = self.extents.pointer(extent);
-            if offset == 0 {
-                return Some(extent);
-            }
+        let first = self.extents.empty_extents().first()?;
+        Some(u32::from(*first))
+    }
+
+    /// The lowest of two or more empty extents.
+    fn first_of_two(&self) -> Option<u32>
+        ensures { result ≡ first_of_two (empty_extents self.now.shelf) }
+    {
+        if self.extents.empty_extents().len() < 2 {
+            return None;
         }
-        None
+        self.first_empty()
     }
 }

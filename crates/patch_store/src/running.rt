@@ -1,10 +1,11 @@
 //! How a list of commands is gone through.
 ghost use Rattle.std.specs.Prelude.{ℕ, ◌≡◌, ◌<◌, length, OnOk, OnErr};
 ghost use Rattle.patch_history.specs.Command.{Done, Get};
+ghost use Rattle.patch_history.specs.Commands.{command_of, reply_told};
 ghost use Rattle.patch_store.specs.Laws.{CachedDisksOpen, ClosedDisksOpen, CrashDisksOpen};
 ghost use Rattle.patch_store.specs.Meaning.{Answers};
 ghost use Rattle.patch_store.specs.Replies.{reply_to};
-ghost use Rattle.patch_store.specs.Running.{command_of, answer_of, commands_of, replies_in, RunsAll};
+ghost use Rattle.patch_store.specs.Running.{commands_of, replies_in, RunsAll};
 
 use crate::laws;
 use crate::stores::Store;
@@ -44,7 +45,7 @@ impl<A: Allocator + Copy> Store<A> {
 
     /// Answers one command.
     fn answer(&mut self, writer: WriterNo, command: &Command<A>) -> Reply<A>
-        ensures { Answers writer (command_of command.now) (answer_of result) self.old self.new }
+        ensures { Answers writer (command_of command.now) (reply_told result) self.old self.new }
     {
         match command {
             Command::Put { key, value } => {
@@ -71,7 +72,7 @@ impl<A: Allocator + Copy> Store<A> {
 
     /// Answers the value of a key.
     fn answer_get(&self, key: &[u8]) -> Reply<A>
-        ensures { (writer : ℕ) → Answers writer (Get key.now) (answer_of result) self.now self.now }
+        ensures { (writer : ℕ) → Answers writer (Get key.now) (reply_told result) self.now self.now }
     {
         history_laws::histories_extend();
         match self.get(key) {
@@ -84,7 +85,7 @@ impl<A: Allocator + Copy> Store<A> {
 
 /// The reply to a command that tells nothing where it is done.
 fn done_or_refused<E: Refuses, A: Allocator>(outcome: Result<(), E>) -> Reply<A>
-    ensures { answer_of result ≡ reply_to E.Refuses.cause (λ _. Done) outcome }
+    ensures { reply_told result ≡ reply_to E.Refuses.cause (λ _. Done) outcome }
 {
     match outcome {
         Ok(()) => Reply::Done,

@@ -1,18 +1,20 @@
 //! Extents as some moves would leave them, before any of them is made.
-ghost use Rattle.std.specs.Prelude.{ℕ, ◌≡◌, ◌<◌, ◌≤◌, Some};
+ghost use Rattle.std.specs.Prelude.{◌≤◌};
 
-// The most extents of a disk.
-pub(crate) const MAX_EXTENTS: usize = 254;
+/// An extent, and how far it would be filled.
+#[derive(Clone, Copy)]
+pub(crate) struct Filled {
+    pub(crate) extent: u32,
+    pub(crate) offset: u32,
+}
 
-/// How far each extent would be filled, and which one would be current. It takes no memory.
+/// Which extent would be current, and which would be empty. It takes no memory, and has nothing of the other extents.
 #[derive(Drop)]
-pub(crate) struct Trial {
-    pub(crate) offsets: [u32; MAX_EXTENTS],
-    pub(crate) current: Option<u32>,
-    /// How many extents there are, and how many bytes each of them has.
-    pub(crate) extents: u32,
+pub(crate) struct Trial<'s> {
+    pub(crate) current: Option<Filled>,
+    /// The lowest first.
+    pub(crate) empty: &'s [u8],
+    /// How many bytes an extent has.
     pub(crate) largest: u32,
-    ghost few: { extents ≤ 254 },
     ghost short: { largest ≤ 262144 },
-    ghost known: { (e : ℕ) → current ≡ Some e → e < extents },
 }

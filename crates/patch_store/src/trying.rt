@@ -1,33 +1,35 @@
 //! Whether frames would find room, one after another.
-ghost use Rattle.std.specs.Prelude.{ℕ, ◌≡◌, ◌+◌, ◌<◌, ◌≤◌, slice_index_or, IfSome};
-ghost use Rattle.patch_history.specs.Choosing.{extent_for_move, current_for as the_current_for, empty_extents, first_of_any};
+ghost use Rattle.std.specs.Prelude.{◌≡◌, ◌+◌, ◌<◌, ◌≤◌, Some, IfSome, option_map};
+ghost use Rattle.patch_history.specs.Choosing.{current_for as the_current_for};
 ghost use Rattle.patch_history.specs.History.{History};
 ghost use Rattle.patch_history.specs.Shelf.{Shelf};
 ghost use Rattle.patch_store.specs.Meaning.{Represents};
-ghost use Rattle.patch_store.specs.Trials.{Alike, Tries};
+ghost use Rattle.patch_store.specs.Trials.{Alike, Places, Tries, extent_of};
 
 use crate::putting::MORE_PATCHES;
 use crate::stores::Store;
-use crate::trials::{MAX_EXTENTS, Trial};
+use crate::trials::{Filled, Trial};
 use patch_extent::touched;
 use patch_history::laws as history_laws;
 use std::alloc::Allocator;
 
-impl Trial {
+impl<'s> Trial<'s> {
     /// The extents of a store as they are.
-    pub(crate) fn of<A: Allocator + Copy>(store: &Store<A>) -> Trial
+    pub(crate) fn of<A: Allocator + Copy>(store: &'s Store<A>) -> Trial<'s>
         ensures { (h : History) → Represents store.now h → Alike store.now.shelf result }
     {
         history_laws::shelves_are_kept();
-        let mut offsets = [0; MAX_EXTENTS];
-        for extent in 0..store.geometry.extents {
-            let (_, offset) = store.extents.pointer(extent);
-            offsets[extent as usize] = offset;
-        }
+        history_laws::histories_are_of_stores();
+        let current = match store.current {
+            Some(extent) => {
+                let (_, offset) = store.extents.pointer(extent);
+                Some(Filled { extent, offset })
+            }
+            None => None,
+        };
         Trial {
-            offsets,
-            current: store.current,
-            extents: store.geometry.extents,
+            current,
+            empty: store.extents.empty_extents(),
             largest: store.geometry.format.largest_pointer(),
         }
     }
@@ -39,52 +41,42 @@ impl Trial {
         ensures tried { Tries len result self.old self.new }
         ensures few { IfSome result (λ patches. patches ≤ 66) }
     {
-        let extent = self.extent_for(len)?;
-        let offset = self.offsets[extent as usize];
-        self.offsets[extent as usize] = offset + len;
-        self.current = Some(extent);
+        let Filled { extent, offset } = self.place_for(len)?;
+        self.current = Some(Filled {
+            extent,
+            offset: offset + len,
+        });
         Some(touched(offset, len) + MORE_PATCHES)
     }
 
-    /// Where so many bytes go: to the current extent, or where they don't fit there to the lowest empty one.
-    fn extent_for(&self, len: u32) -> Option<u32>
+    /// Where so many bytes go: to the current extent, or where they don't fit there to the lowest empty one, which is taken.
+    fn place_for(&mut self, len: u32) -> Option<Filled>
         requires { len ≤ 262144 }
-        ensures chosen { (s : Shelf) → Alike s self.now → result ≡ extent_for_move s len }
-        ensures known { IfSome result (λ e. e < self.now.extents) }
-        ensures room { IfSome result (λ e. slice_index_or self.now.offsets e 0 + len ≤ 262144) }
+        ensures placed { (s : Shelf) → Alike s self.old → Places s len result self.new }
+        ensures room { IfSome result (λ place. place.offset + len ≤ 262144) }
     {
-        match self.current_for(len) {
-            Some(extent) => Some(extent),
-            None => self.first_empty(),
+        if let Some(place) = self.current_for(len) {
+            return Some(place);
         }
+        let (first, rest) = self.empty.split_first()?;
+        self.empty = rest;
+        Some(Filled {
+            extent: u32::from(*first),
+            offset: 0,
+        })
     }
 
     /// The current extent, where so many bytes fit.
-    fn current_for(&self, len: u32) -> Option<u32>
-        ensures chosen { (s : Shelf) → Alike s self.now → result ≡ the_current_for s len }
-        ensures known { IfSome result (λ e. e < self.now.extents) }
-        ensures room { IfSome result (λ e. slice_index_or self.now.offsets e 0 + len ≤ 262144) }
+    fn current_for(&self, len: u32) -> Option<Filled>
+        ensures chosen { (s : Shelf) → Alike s self.now → option_map extent_of result ≡ the_current_for s len }
+        ensures same { IfSome result (λ place. self.now.current ≡ Some place) }
+        ensures room { IfSome result (λ place. place.offset + len ≤ 262144) }
     {
-        let extent = self.current?;
-        let offset = self.offsets[extent as usize];
-        if offset.saturating_add(len) <= self.largest {
-            Some(extent)
+        let place = self.current?;
+        if place.offset.saturating_add(len) <= self.largest {
+            Some(place)
         } else {
             None
         }
-    }
-
-    /// The lowest empty extent.
-    fn first_empty(&self) -> Option<u32>
-        ensures chosen { (s : Shelf) → Alike s self.now → result ≡ first_of_any (empty_extents s) }
-        ensures known { IfSome result (λ e. e < self.now.extents) }
-        ensures empty { IfSome result (λ e. slice_index_or self.now.offsets e 0 ≡ 0) }
-    {
-        for extent in 0..self.extents {
-            if self.offsets[extent as usize] == 0 {
-                return Some(extent);
-            }
-        }
-        None
     }
 }

@@ -1,6 +1,7 @@
 use Rattle.std.proofs.Common.{◌≡◌, ◌∙◌, ◌<◌, ◌++◌, ◌∷◌, [], length, get_or, ◌+◌, sym, ap, arith}
 use Rattle.std.proofs.lemmas.List.{length-append, length-map}
-use Rattle.patch_store.specs.Running.{answer_of, commands_of}
+use Rattle.patch_history.specs.Commands.{reply_told}
+use Rattle.patch_store.specs.Running.{commands_of}
 use Rattle.patch_store.proofs.Calling.{begun_run, next_run}
 use Rattle.patch_store.proofs.stores.Store.run.Goals as goal
 
@@ -33,7 +34,7 @@ returns-in-Err-clause-ran g c h was = rw c.reserve.ensures.items (c.loop-asked.i
 pub returns-in-Err-clause-stopped : goal.returns-in-Err-clause-stopped
 returns-in-Err-clause-stopped g c =
     let is = ap length c.reserve.ensures.items in
-    let long = length-map c.reserve.new.self.items answer_of in
+    let long = length-map c.reserve.new.self.items reply_told in
     let many = c.loop-asked.invariant.many in
     omega (arith, is, long, many, c.loop-asked-test.true)
 
@@ -42,6 +43,6 @@ returns-clause-ran g c h was = c.loop-asked.invariant.ran h was
 
 pub returns-clause-all : goal.returns-clause-all
 returns-clause-all g c =
-    let long = length-map c.loop-asked.replies.items answer_of in
+    let long = length-map c.loop-asked.replies.items reply_told in
     let many = c.loop-asked.invariant.many in
     omega (arith, long, many, c.loop-asked-test.false)
