@@ -79,3 +79,8 @@ IsConcluded contents KeepsNothing old new (Err stop.Write) status = (status ≡ 
 IsConcluded contents KeepsNothing old new (Err stop.Read) status = IsToldOrStarved contents KeepsNothing old new unread_text Failed status
 IsConcluded contents KeepsNothing old new (Err (stop.Refused r)) status =
     IsToldOrStarved contents KeepsNothing old new (fault_text r) (status_for r.kind) status
+
+-- a command is done only where nothing stopped it, and then no more is written
+abbrev pub IsDoneBehind : {T : Type 0} → Result T Stop → (old new : Option (List ℕ)) → Type 0
+IsDoneBehind (Ok done) old new = Appends old new []
+IsDoneBehind (Err stop) old new = ⊥

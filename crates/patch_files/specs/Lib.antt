@@ -1,2 +1,4 @@
+pub mod Answering
 pub mod Ending
 pub mod Reading
+pub mod Running

@@ -1,10 +1,19 @@
 //! How a line of a script is answered.
+ghost use Rattle.std.specs.Prelude.{ℕ, List, IfOk, string_bytes};
+ghost use Rattle.patch_device.specs.SameDevice.{IsSameDevice};
+ghost use Rattle.patch_history.specs.Command.{Put};
+ghost use Rattle.patch_history.specs.Commands.{command_of, reply_told};
+ghost use Rattle.patch_history.specs.History.{History};
+ghost use Rattle.patch_commands.specs.Value.{value_of};
+ghost use Rattle.patch_commands.specs.declared.commands.CommandLine.TheVariants.{Sync};
+ghost use Rattle.patch_files.specs.Running.{StandsOn, IsCalled, IsTold, HasAnswered};
+
 use crate::endings::Stop;
 use crate::opening::save;
 use patch_commands::{CommandLine, laid_out, reply_line, synced_line};
 use patch_device::Lasting;
 use patch_history::{Command, Reply};
-use patch_model::{Bytes, GroupNo, OutOfMemory, Refuses, WriterNo};
+use patch_model::{Bytes, GroupNo, OutOfMemory, WriterNo, laws as model_laws};
 use patch_store::Store;
 use std::alloc::Global;
 
@@ -14,12 +23,21 @@ fn answer_command(
     store: &mut Store,
     writer: WriterNo,
     command: Command,
-) -> Result<String, Stop> {
+) -> Result<String, Stop>
+    ensures { (h : History) (contents : List (List ℕ)) → StandsOn store.old h contents
+        → IfOk result (λ text. IsTold h (writer, command_of command) (string_bytes text) store.new contents) }
+{
     let reply = reply_to(store, writer, command)?;
     Ok(reply_line(alloc, &reply)?)
 }
 
-fn reply_to(store: &mut Store, writer: WriterNo, command: Command) -> Result<Reply, OutOfMemory> {
+/// Goes through one command.
+fn reply_to(store: &mut Store, writer: WriterNo, command: Command) -> Result<Reply, OutOfMemory>
+    ensures { (h : History) (contents : List (List ℕ)) → StandsOn store.old h contents
+        → IfOk result (λ reply. IsCalled h (writer, command_of command) (reply_told reply) store.new contents) }
+{
+    model_laws::steps_extend();
+    model_laws::images_stay();
     let Ok(mut replies) = store.run(&[(writer, command)]) else {
         return Err(OutOfMemory);
     };
@@ -37,20 +55,29 @@ fn put(
     key: Bytes,
     piece: &[u8],
     times: u32,
-) -> Result<String, Stop> {
+) -> Result<String, Stop>
+    ensures { (h : History) (contents : List (List ℕ)) → StandsOn store.old h contents
+        → IfOk result (λ text. IsTold h (writer, Put key (value_of piece.now times)) (string_bytes text) store.new contents) }
+{
     let value = laid_out(alloc, piece, times)?;
     answer_command(alloc, store, writer, Command::Put { key, value })
 }
 
-/// Brings all patches to the disk, those of the group among them.
+/// Brings all patches to the disk, those of the group among them. Where there is no such group, nothing is done.
 fn sync<D: Lasting>(
     alloc: Global,
     store: &mut Store,
     device: &mut D,
+    writer: WriterNo,
     group: GroupNo,
-) -> Result<String, Stop> {
-    if let Err(refusal) = store.pending(group) {
-        return Ok(reply_line(alloc, &Reply::Refused(refusal.refusal()))?);
+) -> Result<String, Stop>
+    ensures device { IsSameDevice D.Device device.old device.new }
+    ensures answered { D.is_honest device.old → (h : History) → StandsOn store.old h (D.contents device.old) → IfOk result (λ text.
+        HasAnswered h (Sync writer group) (string_bytes text) store.new (D.contents device.new)) }
+{
+    let reply = reply_to(store, writer, Command::Pending { group })?;
+    if let Reply::Refused(_) = reply {
+        return Ok(reply_line(alloc, &reply)?);
     }
     save(store, device)?;
     Ok(synced_line(alloc)?)
@@ -62,7 +89,11 @@ pub(crate) fn answer<D: Lasting>(
     store: &mut Store,
     device: &mut D,
     line: CommandLine,
-) -> Result<String, Stop> {
+) -> Result<String, Stop>
+    ensures device { IsSameDevice D.Device device.old device.new }
+    ensures answered { D.is_honest device.old → (h : History) → StandsOn store.old h (D.contents device.old) → IfOk result (λ text.
+        HasAnswered h line (string_bytes text) store.new (D.contents device.new)) }
+{
     match line {
         CommandLine::Put {
             writer,
@@ -95,6 +126,6 @@ pub(crate) fn answer<D: Lasting>(
         CommandLine::Pending { writer, group } => {
             answer_command(alloc, store, writer, Command::Pending { group })
         }
-        CommandLine::Sync { writer: _, group } => sync(alloc, store, device, group),
+        CommandLine::Sync { writer, group } => sync(alloc, store, device, writer, group),
     }
 }

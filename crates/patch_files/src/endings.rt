@@ -1,8 +1,8 @@
 //! How a command ends, and why it stops.
-ghost use Rattle.std.specs.Prelude.{◌≡◌, ◌++◌, IfOk, OnOk, string_bytes};
+ghost use Rattle.std.specs.Prelude.{◌≡◌, ◌≢◌, ◌++◌, IfOk, OnOk, string_bytes};
 ghost use Rattle.patch_files.specs.Ending.{exit_of, status_for, status_of, last_line as the_last_line, script_text, fault_words, fault_text};
-ghost use Rattle.patch_files.specs.Ending.{IsRead, IsTold, IsToldOrStarved, IsConcluded};
-ghost use Rattle.patch_files.specs.declared.endings.Status.TheVariants.{Unreadable};
+ghost use Rattle.patch_files.specs.Ending.{IsRead, IsTold, IsToldOrStarved, IsConcluded, IsDoneBehind};
+ghost use Rattle.patch_files.specs.declared.endings.Status.TheVariants.{Done, Unreadable};
 
 use patch_cache::FlushRefusal;
 use patch_model::{OutOfMemory, Refusal, RefusalKind, Refuses};
@@ -59,6 +59,7 @@ impl Stop {
     fn status(self) -> Status
         ensures value { result ≡ status_of self }
         ensures read { IsRead result }
+        ensures stops { result ≢ Done }
     {
         match self {
             Stop::Read | Stop::Write => Status::Failed,
@@ -82,6 +83,7 @@ impl Stop {
 fn status_after(kind: RefusalKind) -> Status
     ensures value { result ≡ status_for kind }
     ensures read { IsRead result }
+    ensures stops { result ≢ Done }
 {
     match kind {
         RefusalKind::Geometry => Status::Misused,
@@ -167,6 +169,7 @@ pub(crate) fn conclude<W: Output>(
 ) -> Status
     ensures concluded { IsConcluded W.contents W.KeepsNothing writer.old writer.new ended result }
     ensures read { IsRead result }
+    ensures done { result ≡ Done → IsDoneBehind ended (W.contents writer.old.inner) (W.contents writer.new.inner) }
 {
     match ended {
         Ok(()) => tell(writer, b"", Status::Done),
@@ -180,7 +183,8 @@ pub(crate) fn conclude<W: Output>(
 
 /// Writes why no line of a script is answered.
 pub(crate) fn refuse<W: Output>(alloc: Global, writer: &mut Sink<W>, why: BadScript) -> Status
-    ensures { IsToldOrStarved W.contents W.KeepsNothing writer.old writer.new (script_text why) (Unreadable why) result }
+    ensures told { IsToldOrStarved W.contents W.KeepsNothing writer.old writer.new (script_text why) (Unreadable why) result }
+    ensures stops { result ≢ Done }
 {
     match script_line(alloc, why) {
         Ok(line) => tell(writer, line.as_bytes(), Status::Unreadable(why)),
@@ -192,6 +196,7 @@ pub(crate) fn refuse<W: Output>(alloc: Global, writer: &mut Sink<W>, why: BadScr
 fn tell<W: Output>(writer: &mut Sink<W>, text: &[u8], status: Status) -> Status
     ensures told { IsTold W.contents W.KeepsNothing writer.old writer.new text.now status result }
     ensures read { IsRead status → IsRead result }
+    ensures done { result ≡ Done → status ≡ Done }
 {
     if writer.write_all(text).is_err() || writer.flush().is_err() {
         return Status::Failed;

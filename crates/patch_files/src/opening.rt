@@ -1,6 +1,10 @@
 //! How the store of a device is opened, and how it is brought to the device.
-ghost use Rattle.std.specs.Prelude.{◌≡◌};
+ghost use Rattle.std.specs.Prelude.{◌≡◌, IfOk, OnOk};
 ghost use Rattle.patch_device.specs.SameDevice.{IsSameDevice};
+ghost use Rattle.patch_cache.specs.Meaning.{Represents as IsCacheOf};
+ghost use Rattle.patch_history.specs.History.{History};
+ghost use Rattle.patch_store.specs.Opening.{unchanged, IsOpened};
+ghost use Rattle.patch_files.specs.Running.{StandsOn, HasSaved};
 
 use crate::endings::Stop;
 use patch_cache::Cache;
@@ -28,6 +32,7 @@ fn read_blocks<D: Device>(alloc: Global, device: &mut D) -> Result<Vec<BlockByte
     ensures device { IsSameDevice D.Device device.old device.new }
     ensures same { D.is_honest device.old → D.contents device.new ≡ D.contents device.old }
     ensures had { D.is_honest device.old → D.had device.new ≡ D.had device.old }
+    ensures gives { D.is_honest device.old → IfOk result (λ blocks. blocks.items ≡ D.contents device.old) }
 {
     match load(alloc, device) {
         Ok(blocks) => Ok(blocks),
@@ -41,6 +46,7 @@ fn open_cache<D: Device>(alloc: Global, device: &mut D) -> Result<Cache, Stop>
     ensures device { IsSameDevice D.Device device.old device.new }
     ensures same { D.is_honest device.old → D.contents device.new ≡ D.contents device.old }
     ensures had { D.is_honest device.old → D.had device.new ≡ D.had device.old }
+    ensures gives { D.is_honest device.old → IfOk result (λ cache. IsCacheOf cache (unchanged (D.contents device.old))) }
 {
     let blocks = read_blocks(alloc, device)?;
     if blocks.is_empty() || blocks.len() > MAX_BLOCKS {
@@ -54,6 +60,7 @@ pub(crate) fn open_store<D: Device>(alloc: Global, device: &mut D) -> Result<Sto
     ensures device { IsSameDevice D.Device device.old device.new }
     ensures same { D.is_honest device.old → D.contents device.new ≡ D.contents device.old }
     ensures had { D.is_honest device.old → D.had device.new ≡ D.had device.old }
+    ensures opened { D.is_honest device.old → IfOk result (λ store. IsOpened (D.contents device.old) store) }
 {
     let cache = open_cache(alloc, device)?;
     match Store::open(alloc, cache) {
@@ -63,7 +70,11 @@ pub(crate) fn open_store<D: Device>(alloc: Global, device: &mut D) -> Result<Sto
 }
 
 /// Brings all patches of the store to the device, and lets them last there. What was written is not kept.
-pub(crate) fn save<D: Lasting>(store: &mut Store, device: &mut D) -> Result<(), Stop> {
+pub(crate) fn save<D: Lasting>(store: &mut Store, device: &mut D) -> Result<(), Stop>
+    ensures device { IsSameDevice D.Device device.old device.new }
+    ensures saved { D.is_honest device.old → (h : History) → StandsOn store.old h (D.contents device.old)
+        → OnOk result (HasSaved h store.new (D.contents device.new)) }
+{
     flush(store, device)?;
     if device.sync().is_err() {
         return Err(Stop::Refused(RefusalKind::Disk.bare()));

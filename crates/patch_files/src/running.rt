@@ -1,7 +1,10 @@
 //! Runs a script on a store.
-ghost use Rattle.std.specs.Prelude.{ℕ, ◌≡◌, List, IfSome};
+ghost use Rattle.std.specs.Prelude.{ℕ, ◌≡◌, List, IfSome, OnOk};
+ghost use Rattle.patch_device.specs.SameDevice.{IsSameDevice};
+ghost use Rattle.patch_history.specs.History.{History};
 ghost use Rattle.patch_files.specs.Reading.{IsParsed, IsRunOf};
-ghost use Rattle.patch_files.specs.declared.endings.Status.TheVariants.{Unreadable};
+ghost use Rattle.patch_files.specs.Running.{StandsOn, HasCome, HasRun, HasRunScript};
+ghost use Rattle.patch_files.specs.declared.endings.Status.TheVariants.{Done, Unreadable};
 ghost use Rattle.patch_replay.specs.Replay.{IsInput};
 ghost use Rattle.patch_replay.specs.declared.endings.BadScript.{BadScript as TheBadScript};
 
@@ -60,7 +63,11 @@ fn answer_lines<W: Output, D: Lasting, P: Progress>(
     device: &mut D,
     lines: Vec<CommandLine>,
     progress: &mut P,
-) -> Result<(), Stop> {
+) -> Result<(), Stop>
+    ensures device { IsSameDevice D.Device device.old device.new }
+    ensures come { D.is_honest device.old → (h : History) → StandsOn store.old h (D.contents device.old) → OnOk result
+        (HasCome h lines.items (W.contents writer.old.inner) (W.contents writer.new.inner) store.new (D.contents device.new)) }
+{
     let all = lines.len();
     let mut answered = 0usize;
     for line in lines {
@@ -79,7 +86,10 @@ fn run_lines<W: Output, D: Lasting, P: Progress>(
     device: &mut D,
     lines: Vec<CommandLine>,
     progress: &mut P,
-) -> Result<(), Stop> {
+) -> Result<(), Stop>
+    ensures { D.is_honest device.old → OnOk result
+        (HasRun lines.items (W.contents writer.old.inner) (W.contents writer.new.inner) (D.contents device.old) (D.contents device.new)) }
+{
     let mut store = open_store(alloc, device)?;
     answer_lines(alloc, writer, &mut store, device, lines, progress)?;
     save(&mut store, device)
@@ -98,6 +108,8 @@ pub fn run_script<R: Read, W: Output, D: Lasting, P: Progress>(
 ) -> Status
     ensures run { IsRunOf (R.remaining reader.old.inner) (W.contents writer.old.inner) (W.contents writer.new.inner) result }
     ensures left { (why : TheBadScript) → result ≡ Unreadable why → device.new ≡ device.old }
+    ensures done { D.is_honest device.old → result ≡ Done → HasRunScript (R.remaining reader.old.inner)
+        (W.contents writer.old.inner) (W.contents writer.new.inner) (D.contents device.old) (D.contents device.new) }
 {
     let lines = match read_script(alloc, reader) {
         Ok(lines) => lines,

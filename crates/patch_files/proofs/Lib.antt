@@ -1,0 +1,4 @@
+pub mod Calling
+pub mod Coming
+pub mod Resting
+pub mod Saving
