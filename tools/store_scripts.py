@@ -377,10 +377,10 @@ def record_edit(disk, extent, generation, filled=None):
 
 
 class CrowdAuthor(Author):
-    """Has as many live patches as there may be: many keys, which move from extent to extent."""
+    """Has as many live patches as there may be: many keys, which are put again and again."""
 
     def some_geometry(self):
-        return Geometry(16, self.random.randint(3, 5))
+        return Geometry(16, self.random.randint(10, 12))
 
     def write(self):
         self.keys = [f"key{number}" for number in range(SLOTS_OF_BLOCK * self.geometry.index)]
@@ -398,14 +398,8 @@ class CrowdAuthor(Author):
 
     def crowding_line(self):
         """A line that makes patches, and not more than there may be."""
-        left = MAX_LIVE - self.model.live
-        large = {"op": "put", "key": self.keys[0], "hex": "5a", "times": 30_000}
-        if left > 4 * len(self.keys):
-            extents = [extent for extent in range(self.geometry.extents) if self.may_reclaim(extent)]
-            return {"op": "reclaim", "extent": extents[0]} if extents else large
-        small = {"op": "put", "key": self.random.choice(self.keys), "hex": "5b"}
-        if left > 4 and is_accepted(self.model.extent_for_put, FRAME + MAX_KEY):
-            return small
+        if MAX_LIVE - self.model.live > 4:
+            return {"op": "put", "key": self.random.choice(self.keys), "hex": "5b"}
         return {"op": "delete", "key": self.disk.used_slots()[0][1].key.decode()}
 
     def sync(self):
