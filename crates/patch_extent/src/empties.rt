@@ -5,7 +5,7 @@ ghost use Rattle.patch_extent.specs.Empties.{passing, AreSome};
 ghost use Rattle.patch_extent.specs.Extents.{is_empty_in};
 
 use crate::records::Extent;
-use arrayvec::ArrayVec;
+use patch_order::Order;
 use std::marker::Model;
 
 // The most extents of a disk.
@@ -14,7 +14,7 @@ const MAX_EXTENTS: usize = 254;
 /// Some extents in rising order, in no memory of their own.
 #[derive(Drop)]
 pub(crate) struct EmptyExtents {
-    numbers: ArrayVec<u8, MAX_EXTENTS>,
+    numbers: Order<MAX_EXTENTS>,
 }
 
 impl Model for EmptyExtents {
@@ -22,7 +22,7 @@ impl Model for EmptyExtents {
 
     ghost Value = { List ℕ };
 
-    ghost view = { λ s. s.numbers.items };
+    ghost view = { λ s. s.numbers };
 }
 
 impl EmptyExtents {
@@ -31,17 +31,18 @@ impl EmptyExtents {
         requires { length each.now ≤ 254 }
         ensures { result ≡ passing (is_empty_in each.now) (length each.now) }
     {
-        let mut numbers = ArrayVec::new();
+        let mut numbers = Order::new();
         for extent in 0..each.len() {
             if each[extent].pointer.offset == 0 {
-                numbers.push(extent as u8);
+                let last = numbers.len();
+                numbers.insert(last, extent as u16);
             }
         }
         EmptyExtents { numbers }
     }
 
     /// The extents.
-    pub(crate) fn as_slice(&self) -> &[u8]
+    pub(crate) fn as_slice(&self) -> &[u16]
         ensures { result.now ≡ self.now }
     {
         self.numbers.as_slice()
@@ -66,7 +67,7 @@ impl EmptyExtents {
     {
         let at = self.place_of(extent);
         if !self.stands_at(extent, at) {
-            self.numbers.insert(at, extent as u8);
+            self.numbers.insert(at, extent as u16);
         }
     }
 
@@ -77,7 +78,7 @@ impl EmptyExtents {
             → IsPartitionPoint (λ e. e < extent) (λ e. extent ≤ e) self.now result }
     {
         self.numbers.as_slice().partition_point(
-            |other: &u8| -> bool
+            |other: &u16| -> bool
                 ensures { result ≡ nat_lt other.now extent }
             { u32::from(*other) < extent },
         )

@@ -73,7 +73,7 @@ impl<A: Allocator + Copy> Extents<A> {
     }
 
     /// The extents whose pointer is 0, in rising order. They are kept so, and none is looked for.
-    pub fn empty_extents(&self) -> &[u8]
+    pub fn empty_extents(&self) -> &[u16]
         ensures { result.now ≡ the_empty_extents self.now }
     {
         self.empty.as_slice()

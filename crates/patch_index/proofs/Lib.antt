@@ -1,5 +1,4 @@
 pub mod Slots
-pub mod Lined
 pub mod Reported
 pub mod Ranked
 pub mod Found

@@ -7,21 +7,24 @@ ghost use Rattle.patch_index.specs.Live.{live_behind};
 
 use crate::entries::Entry;
 use crate::live_slots::LiveSlots;
-use crate::orders::Order;
 use crate::reports::EntryReport;
 use crate::searching::{find_key, live_part, places_of};
 use patch_model::OutOfMemory;
+use patch_order::Order;
 use std::alloc::{Allocator, Global};
 use std::marker::Model;
+
+/// The most slots that an index has.
+pub(crate) const MAX_SLOTS: usize = 1024;
 
 /// The slots of a disk, each empty or with the frame that it names. There are 1,024 at most.
 #[derive(Drop)]
 pub struct Index<A: Allocator = Global> {
     slots: Vec<Option<Entry>, A>,
-    empty: Order,
+    empty: Order<MAX_SLOTS>,
     /// The used slots by their keys, and by the places of their frames.
-    by_key: Order,
-    by_place: Order,
+    by_key: Order<MAX_SLOTS>,
+    by_place: Order<MAX_SLOTS>,
 }
 
 impl<A: Allocator> Model for Index<A> {

@@ -1,7 +1,7 @@
 //! The index of a store: what each slot says, in memory.
 //!
 //! An [`Index`], in `indexes`, has an [`Entry`] for each used slot, with its [`Key`]. The slots of an extent are a
-//! [`LiveSlots`], a part of one of the orders that `orders` keeps and `searching` looks into; what is reported of a slot is in
+//! [`LiveSlots`], a part of one of the orders that `searching` looks into; what is reported of a slot is in
 //! `reports`.
 #![tactic(auto)]
 
@@ -9,7 +9,6 @@ mod entries;
 mod indexes;
 mod keys;
 mod live_slots;
-mod orders;
 mod reports;
 mod searching;
 

@@ -2,7 +2,7 @@
 ghost use Rattle.std.specs.Prelude.{◌≡◌, ◌≤◌, length};
 ghost use Rattle.std.specs.List.{slice_get};
 
-use crate::orders::MAX_SLOTS;
+use crate::indexes::MAX_SLOTS;
 use std::marker::Model;
 
 /// Slots in a row, in no memory of their own: a reclaim takes none before it is known that nothing stands against it.

@@ -13,7 +13,7 @@ pub(crate) struct Filled {
 pub(crate) struct Trial<'s> {
     pub(crate) current: Option<Filled>,
     /// The lowest first.
-    pub(crate) empty: &'s [u8],
+    pub(crate) empty: &'s [u16],
     /// How many bytes an extent has.
     pub(crate) largest: u32,
     ghost short: { largest ≤ 262144 },

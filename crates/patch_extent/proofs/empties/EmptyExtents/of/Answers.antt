@@ -1,7 +1,7 @@
-use Rattle.std.proofs.Common.{◌≡◌, ◌+◌, ◌≤◌, ◌<◌, ◌∙◌, ◌++◌, ◌∷◌, [], Bool, true, false, length, get_or, sym, ap, arith}
-use Rattle.std.specs.Prelude.{◌==◌}
-use Rattle.std.proofs.lemmas.Bool.Decides.{nat_tests}
+use Rattle.std.proofs.Common.{◌≡◌, ◌∙◌, ◌++◌, ◌∷◌, [], true, false, length, get_or, sym, ap, arith}
+use Rattle.std.specs.List.{insert}
 use Rattle.std.proofs.lemmas.List.{get_or_read, length-append}
+use Rattle.std.proofs.lemmas.List.Edits.{insert_end}
 use Rattle.patch_extent.specs.declared.records.Extent.{Extent}
 use Rattle.patch_extent.specs.Extents.{is_empty_in, no_extent}
 use Rattle.patch_extent.proofs.Emptied.{same_number, other_number}
@@ -20,13 +20,14 @@ loop-extent-preserved c =
     elim c.if-each-extent-eq0.branch [
       | then-each-extent-eq0 w ↦
           let on : is_empty_in each e ≡ true = same_number (get_or each e no_extent).pointer.offset 0 (ap (λ (k : Extent). k.pointer.offset) (sym at ∙ c.index-each-extent.is) ∙ w.if-each-extent-eq0.true) in
-          let now = ap (λ v. v.items) w.numbers-is ∙ w.push.ensures.items in
-          let long = ap length now ∙ length-append c.loop-extent.numbers.items (e ∷ []) in
+          let before = c.loop-extent.numbers in
+          let now = w.numbers-is ∙ w.insert.ensures ∙ ap (λ at. insert before at e) w.len-last.ensures ∙ insert_end before e in
+          let long = ap length now ∙ length-append before (e ∷ []) in
           (now ∙ ap (λ xs. xs ++ e ∷ []) so_far ∙ one_passes (is_empty_in each) e on, omega (arith, long, few))
       | else-each-extent-eq0 w ↦
           let off : is_empty_in each e ≡ false = other_number (get_or each e no_extent).pointer.offset 0
           (λ zero. w.if-each-extent-eq0.false (ap (λ (k : Extent). k.pointer.offset) (sym c.index-each-extent.is ∙ at) ∙ zero)) in
-          let now = ap (λ v. v.items) w.numbers-is in
+          let now = w.numbers-is in
           let long = ap length now in
           (now ∙ so_far ∙ one_fails (is_empty_in each) e off, omega (arith, long, few))
     ]

@@ -1,6 +1,6 @@
-use Rattle.std.proofs.Common.{◌≡◌, ◌<◌, ◌≤◌, ◌∙◌, false, true, length, sym, ap, arith}
+use Rattle.std.proofs.Common.{◌∙◌, length, sym, ap, arith}
 use Rattle.std.specs.List.{insert}
-use Rattle.patch_extent.proofs.Rising.{stands, put_in, there_already, room}
+use Rattle.patch_extent.proofs.Rising.{put_in, there_already, room}
 use Rattle.patch_extent.proofs.empties.EmptyExtents.put.Goals as goal
 
 pub insert-requires : goal.insert-requires
@@ -16,7 +16,7 @@ insert-requires c =
 pub returns-then-not-stands_at : goal.returns-then-not-stands_at
 returns-then-not-stands_at c test count high is =
     let at = c.place_of-at.result in
-    c.insert.ensures.items ∙ ap (λ xs. insert xs at c.args.extent) c.self.view_is
+    c.insert.ensures ∙ ap (λ xs. insert xs at c.args.extent) c.self.view_is
     ∙ put_in c.args.self.now test count c.args.extent at high is c.place_of-at.ensures.bound (c.place_of-at.ensures.place test count is)
     (sym c.stands_at.ensures ∙ c.if-not-stands_at.true)
 

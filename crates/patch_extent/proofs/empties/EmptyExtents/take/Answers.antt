@@ -6,7 +6,7 @@ use Rattle.patch_extent.proofs.empties.EmptyExtents.take.Goals as goal
 pub returns-then-stands_at : goal.returns-then-stands_at
 returns-then-stands_at c test count is =
     let at = c.place_of-at.result in
-    c.remove.ensures.items ∙ ap (λ xs. remove xs at) c.self.view_is
+    c.remove.ensures ∙ ap (λ xs. remove xs at) c.self.view_is
     ∙ taken c.args.self.now test count c.args.extent at is (sym c.stands_at.ensures ∙ c.if-stands_at.true)
 
 pub returns-else-stands_at : goal.returns-else-stands_at

@@ -19,8 +19,8 @@ returns-in_default g c =
     ap (λ v. get_or v s None) (sym c.self.view_is) ∙ told_at items s within ∙ ap told (item_is items s c.index.result.now within c.index.ensures ∙ c.in_default.is) in
     sym (ap (set c.args.self.now s) (sym none) ∙ set-get_or c.args.self.now s None)
 
-pub insert-requires-clause-room : goal.insert-requires-clause-room
-insert-requires-clause-room g c =
+pub insert-requires : goal.insert-requires
+insert-requires g c =
     let items = c.self.inside.slots.items in
     let slots = map told items in
     let s = c.args.slot in
@@ -39,7 +39,7 @@ insert-requires-clause-room g c =
     let few = c.self.invariant.0 in
     let same = length-map items told in
     let some = there.0.0 in
-    omega (arith, counted, few, same, some)
+    (omega arith, (places.empty_is.within, omega (arith, counted, few, same, some)))
 
 pub remove-requires : goal.remove-requires
 remove-requires g c =
@@ -57,7 +57,7 @@ remove-requires g c =
     same_places (map told c.as_slice.result.now) slots s f c.as_slice-2.result.now o.empty c.as_slice-3.result.now o.by_key c.as_slice-4.result.now o.by_place at.empty at.by_key at.by_place
     (ap (map told) c.as_slice.ensures.value) c.as_slice-2.ensures c.as_slice-3.ensures c.as_slice-4.ensures c.places_of-places.ensures in
     let there = among_used slots s f o.empty o.by_key o.by_place at.empty at.by_key at.by_place c.self.invariant.1 is places in
-    there.0.0
+    (omega arith, there.0.0)
 
 pub remove-requires-2 : goal.remove-requires-2
 remove-requires-2 g c =
@@ -75,7 +75,7 @@ remove-requires-2 g c =
     same_places (map told c.as_slice.result.now) slots s f c.as_slice-2.result.now o.empty c.as_slice-3.result.now o.by_key c.as_slice-4.result.now o.by_place at.empty at.by_key at.by_place
     (ap (map told) c.as_slice.ensures.value) c.as_slice-2.ensures c.as_slice-3.ensures c.as_slice-4.ensures c.places_of-places.ensures in
     let there = among_used slots s f o.empty o.by_key o.by_place at.empty at.by_key at.by_place c.self.invariant.1 is places in
-    there.1.0
+    (omega arith, there.1.0)
 
 pub invariant_of-self : goal.invariant_of-self
 invariant_of-self g c =

@@ -1,11 +1,11 @@
 use Rattle.std.proofs.Common.{◌≡◌, ◌∙◌, length, sym, ap, arith}
 use Rattle.std.proofs.lemmas.List.{length-take-le}
 use Rattle.std.specs.List.{remove}
-use Rattle.patch_index.proofs.Lined.{take_out}
-use Rattle.patch_index.proofs.orders.Order.remove.Goals as goal
+use Rattle.patch_order.proofs.Lined.{take_out}
+use Rattle.patch_order.proofs.orders.Order.remove.Goals as goal
 
 pub returns : goal.returns
-returns c =
+returns g c =
     let xs = c.self.inside.numbers in
     let n = c.self.inside.count in
     let told = c.self.told in

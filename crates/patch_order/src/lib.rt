@@ -1,0 +1,8 @@
+//! Numbers in an order that its user keeps, in no memory of their own: an [`Order`].
+#![tactic(auto)]
+
+mod orders;
+#[cfg(test)]
+mod tests;
+
+pub use orders::Order;
