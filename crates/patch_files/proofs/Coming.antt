@@ -4,16 +4,15 @@ use Rattle.std.specs.Prelude.{Result, Ok, Err, IfOk, IfSome, OnOk, String, strin
 use Rattle.std.specs.declared.alloc.Global.{Global}
 use Rattle.std.specs.Io.KnownBytes.{Appends}
 use Rattle.std.proofs.lemmas.List.{append-nil}
-use Rattle.patch_model.specs.Step.{Step}
-use Rattle.patch_history.specs.Command.{Command, Reply, is_refused}
-use Rattle.patch_history.specs.History.{History, Call, IsLegalHistory, execution_of, with_event}
+use Rattle.patch_history.specs.Command.{Reply, is_refused}
+use Rattle.patch_history.specs.History.{History}
 use Rattle.patch_store.specs.Meaning.{Store}
 use Rattle.patch_store.specs.Opening.{IsOpened, at_opening}
 use Rattle.patch_commands.specs.Reply.{reply_line, synced_line}
 use Rattle.patch_commands.specs.declared.commands.CommandLine.{CommandLine}
 use Rattle.patch_commands.specs.declared.commands.CommandLine.TheVariants as line
 use Rattle.patch_files.specs.declared.endings.Stop.{Stop}
-use Rattle.patch_files.specs.Answering.{call_of, saves, text_of, with_call, IsSaved, IsAnswered, AreAnswered}
+use Rattle.patch_files.specs.Answering.{call_of, saves, with_call, IsSaved, IsAnswered, AreAnswered}
 use Rattle.patch_files.specs.Ending.{IsDoneBehind}
 use Rattle.patch_files.specs.Reading.{HasLines}
 use Rattle.patch_files.specs.Running.{HasRun, HasRunScript, StandsOn, IsCalled, IsTold, HasSaved, HasAnswered, HasCome}
@@ -25,7 +24,7 @@ twice (Some old) None new a b first second = absurd first
 twice (Some old) (Some mid) None a b first second = absurd second
 twice (Some old) (Some mid) (Some new) a b first second = second ∙ ap (λ (t : List ℕ). t ++ b) first ∙ append_assoc old a b
 
-same : (old : Option (List ℕ)) → Appends old old []
+pub same : (old : Option (List ℕ)) → Appends old old []
 same None = tt
 same (Some old) = sym (append-nil old)
 

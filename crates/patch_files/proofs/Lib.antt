@@ -2,3 +2,5 @@ pub mod Calling
 pub mod Coming
 pub mod Resting
 pub mod Saving
+pub mod Stopping
+pub mod Concluding

@@ -1,8 +1,7 @@
 -- A call begins no write and ends none, so none is under way behind it, and the images of the blocks stay.
-use Rattle.std.proofs.Common.{◌≡◌, ◌≢◌, ◌⊎◌, ℕ, ◌<◌, ◌+◌, ◌∙◌, inl, inr, Bool, true, false, List, [], ◌∷◌, ◌++◌, refl, sym, ap, subst, length, append_assoc}
+use Rattle.std.proofs.Common.{◌≡◌, ◌≢◌, ℕ, ◌+◌, ◌∙◌, inl, inr, Bool, true, false, List, [], ◌∷◌, ◌++◌, refl, sym, ap, subst, append_assoc}
 use Rattle.std.specs.Prelude.{◌==◌, IsFalse, MatchBool, Option, Some, None, option_to_list, if◌then◌else◌, fold, flat_map}
 use Rattle.std.proofs.lemmas.List.{append-nil}
-use Rattle.std.proofs.lemmas.Bool.{cases_Bool}
 use Rattle.std.proofs.lemmas.Grind.{flat_map-append}
 use Rattle.patch_model.specs.Step.{Step, Create, Merge, Send, Complete}
 use Rattle.patch_model.specs.Execution.{Execution, extended, followed_by}
@@ -15,7 +14,7 @@ use Rattle.patch_extent.specs.Extents.{Extents, extent_at}
 use Rattle.patch_extent.specs.Writing.{after_change, merge_behind, merge_with, written, steps_by}
 use Rattle.patch_history.specs.Command.{Command, Reply, is_refused, may_be_cut}
 use Rattle.patch_history.specs.Standing.{Standing, plan_of, made_by}
-use Rattle.patch_history.specs.History.{History, Event, Call, IsAnswered, IsGivenUp, IsWhole, IsCut, IsRight, AreRight, after_event, steps_in, execution_of, with_event}
+use Rattle.patch_history.specs.History.{History, Event, Call, IsWhole, IsCut, IsRight, AreRight, after_event, steps_in, execution_of, with_event}
 
 -- patches and merges
 abbrev pub AreQuiet : List Step → Type 0

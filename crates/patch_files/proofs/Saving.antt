@@ -3,12 +3,12 @@ use Rattle.std.proofs.Common.{◌≡◌, ℕ, ◌∙◌, List, [], ◌∷◌, �
 use Rattle.std.specs.Prelude.{flat_map}
 use Rattle.std.proofs.lemmas.Grind.{flat_map-append}
 use Rattle.patch_model.specs.Step.{Step}
-use Rattle.patch_model.specs.Execution.{Execution, followed_by}
+use Rattle.patch_model.specs.Execution.{followed_by}
 use Rattle.patch_cache.specs.Waves.{HoldImages, IsFlushed}
-use Rattle.patch_history.specs.History.{History, Event, Moved, steps_in, execution_of}
+use Rattle.patch_history.specs.History.{History, Moved, steps_in, execution_of}
 use Rattle.patch_store.specs.Flushing.{HoldCached, HasWritten, with_writes}
 use Rattle.patch_store.specs.Meaning.{Store, Represents}
-use Rattle.patch_files.specs.Running.{StandsOn, HasSaved}
+use Rattle.patch_files.specs.Running.{HasSaved}
 
 steps_of_writes : (steps : List Step) → flat_map steps_in (map Moved steps) ≡ steps
 steps_of_writes [] = refl

@@ -1,5 +1,5 @@
 -- How the lines of a script are answered: each by a call of the store, some with writes behind it.
-use Rattle.std.specs.Prelude.{ℕ, Bool, true, false, ◌≡◌, ◌++◌, not, List, [], ◌∷◌, MatchBool, if◌then◌else◌}
+use Rattle.std.specs.Prelude.{ℕ, Bool, false, ◌≡◌, ◌++◌, not, List, [], ◌∷◌, MatchBool, if◌then◌else◌}
 use Rattle.patch_model.specs.Step.{Step}
 use Rattle.patch_cache.specs.Waves.{IsFlushed}
 use Rattle.patch_history.specs.Command.{Command, Put, Get, Delete, Reclaim, Group, Engage, Disengage, Depend, CloseGroup, Pending, Reply, is_refused}

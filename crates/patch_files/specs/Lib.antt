@@ -2,3 +2,4 @@ pub mod Answering
 pub mod Ending
 pub mod Reading
 pub mod Running
+pub mod Stopping

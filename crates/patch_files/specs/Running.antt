@@ -1,5 +1,5 @@
 -- A script that is run on a store.
-use Rattle.std.specs.Prelude.{ℕ, ◌≡◌, ◌++◌, List, [], Option, Ok, IfSome}
+use Rattle.std.specs.Prelude.{ℕ, ◌≡◌, List, Option, Ok, IfSome}
 use Rattle.std.specs.Io.KnownBytes.{Appends}
 use Rattle.patch_model.specs.Step.{Step}
 use Rattle.patch_cache.specs.Waves.{HoldImages}

@@ -1,5 +1,6 @@
 //! How a line of a script is answered.
-ghost use Rattle.std.specs.Prelude.{ℕ, List, IfOk, string_bytes};
+ghost use Rattle.std.specs.Prelude.{ℕ, ◌≡◌, List, IfOk, IfErr, string_bytes};
+ghost use Rattle.patch_device.specs.Device.{HasRisen};
 ghost use Rattle.patch_device.specs.SameDevice.{IsSameDevice};
 ghost use Rattle.patch_history.specs.Command.{Put};
 ghost use Rattle.patch_history.specs.Commands.{command_of, reply_told};
@@ -7,6 +8,7 @@ ghost use Rattle.patch_history.specs.History.{History};
 ghost use Rattle.patch_commands.specs.Value.{value_of};
 ghost use Rattle.patch_commands.specs.declared.commands.CommandLine.TheVariants.{Sync};
 ghost use Rattle.patch_files.specs.Running.{StandsOn, IsCalled, IsTold, HasAnswered};
+ghost use Rattle.patch_files.specs.Stopping.{starved, IsStop};
 
 use crate::endings::Stop;
 use crate::opening::save;
@@ -24,8 +26,9 @@ fn answer_command(
     writer: WriterNo,
     command: Command,
 ) -> Result<String, Stop>
-    ensures { (h : History) (contents : List (List ℕ)) → StandsOn store.old h contents
+    ensures answered { (h : History) (contents : List (List ℕ)) → StandsOn store.old h contents
         → IfOk result (λ text. IsTold h (writer, command_of command) (string_bytes text) store.new contents) }
+    ensures stops { IfErr result (λ why. why ≡ starved) }
 {
     let reply = reply_to(store, writer, command)?;
     Ok(reply_line(alloc, &reply)?)
@@ -56,8 +59,9 @@ fn put(
     piece: &[u8],
     times: u32,
 ) -> Result<String, Stop>
-    ensures { (h : History) (contents : List (List ℕ)) → StandsOn store.old h contents
+    ensures answered { (h : History) (contents : List (List ℕ)) → StandsOn store.old h contents
         → IfOk result (λ text. IsTold h (writer, Put key (value_of piece.now times)) (string_bytes text) store.new contents) }
+    ensures stops { IfErr result (λ why. why ≡ starved) }
 {
     let value = laid_out(alloc, piece, times)?;
     answer_command(alloc, store, writer, Command::Put { key, value })
@@ -74,6 +78,8 @@ fn sync<D: Lasting>(
     ensures device { IsSameDevice D.Device device.old device.new }
     ensures answered { D.is_honest device.old → (h : History) → StandsOn store.old h (D.contents device.old) → IfOk result (λ text.
         HasAnswered h (Sync writer group) (string_bytes text) store.new (D.contents device.new)) }
+    ensures stops { D.is_honest device.old → (h : History) → StandsOn store.old h (D.contents device.old)
+        → IfErr result (λ why. IsStop why (HasRisen (D.fault_count device.old) (D.fault_count device.new))) }
 {
     let reply = reply_to(store, writer, Command::Pending { group })?;
     if let Reply::Refused(_) = reply {
@@ -93,6 +99,8 @@ pub(crate) fn answer<D: Lasting>(
     ensures device { IsSameDevice D.Device device.old device.new }
     ensures answered { D.is_honest device.old → (h : History) → StandsOn store.old h (D.contents device.old) → IfOk result (λ text.
         HasAnswered h line (string_bytes text) store.new (D.contents device.new)) }
+    ensures stops { D.is_honest device.old → (h : History) → StandsOn store.old h (D.contents device.old)
+        → IfErr result (λ why. IsStop why (HasRisen (D.fault_count device.old) (D.fault_count device.new))) }
 {
     match line {
         CommandLine::Put {

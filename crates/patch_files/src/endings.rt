@@ -122,36 +122,61 @@ fn fault_line(alloc: Global, refusal: Refusal) -> Result<String, AllocError>
 }
 
 impl From<Refusal> for Stop {
+    ghost use Rattle.patch_files.specs.declared.endings.Stop.TheVariants.{Refused};
+
+    ghost from_gives = { λ r e. e ≡ Refused r };
+
     fn from(refusal: Refusal) -> Stop {
         Stop::Refused(refusal)
     }
 }
 
 impl From<OutOfMemory> for Stop {
+    ghost use Rattle.patch_files.specs.Stopping.{starved};
+
+    ghost from_gives = { λ _ e. e ≡ starved };
+
     fn from(refusal: OutOfMemory) -> Stop {
         Stop::Refused(refusal.refusal())
     }
 }
 
 impl From<AllocError> for Stop {
+    ghost use Rattle.patch_files.specs.Stopping.{starved};
+
+    ghost from_gives = { λ _ e. e ≡ starved };
+
     fn from(_: AllocError) -> Stop {
         Stop::from(OutOfMemory)
     }
 }
 
 impl<T: Drop> From<AllocFailed<T>> for Stop {
+    ghost use Rattle.patch_files.specs.Stopping.{starved};
+
+    ghost from_gives = { λ _ e. e ≡ starved };
+
     fn from(_: AllocFailed<T>) -> Stop {
         Stop::from(OutOfMemory)
     }
 }
 
 impl From<FlushRefusal> for Stop {
+    ghost use Rattle.patch_cache.specs.Refusals.{flush_cause};
+    ghost use Rattle.patch_files.specs.declared.endings.Stop.TheVariants.{Refused};
+
+    ghost from_gives = { λ r e. e ≡ Refused (flush_cause r) };
+
     fn from(refusal: FlushRefusal) -> Stop {
         Stop::Refused(refusal.refusal())
     }
 }
 
 impl From<Fault> for Stop {
+    ghost use Rattle.patch_files.specs.Stopping.{stop_of};
+
+    ghost from_gives = { λ r e. e ≡ stop_of r };
+
     fn from(fault: Fault) -> Stop {
         match fault {
             Fault::Read => Stop::Read,

@@ -1,10 +1,12 @@
 //! How the store of a device is opened, and how it is brought to the device.
-ghost use Rattle.std.specs.Prelude.{◌≡◌, IfOk, OnOk};
+ghost use Rattle.std.specs.Prelude.{◌≡◌, IfOk, IfErr, OnOk};
+ghost use Rattle.patch_device.specs.Device.{HasRisen};
 ghost use Rattle.patch_device.specs.SameDevice.{IsSameDevice};
 ghost use Rattle.patch_cache.specs.Meaning.{Represents as IsCacheOf};
 ghost use Rattle.patch_history.specs.History.{History};
 ghost use Rattle.patch_store.specs.Opening.{unchanged, IsOpened};
 ghost use Rattle.patch_files.specs.Running.{StandsOn, HasSaved};
+ghost use Rattle.patch_files.specs.Stopping.{IsNotOpened, IsStop};
 
 use crate::endings::Stop;
 use patch_cache::Cache;
@@ -33,6 +35,7 @@ fn read_blocks<D: Device>(alloc: Global, device: &mut D) -> Result<Vec<BlockByte
     ensures same { D.is_honest device.old → D.contents device.new ≡ D.contents device.old }
     ensures had { D.is_honest device.old → D.had device.new ≡ D.had device.old }
     ensures gives { D.is_honest device.old → IfOk result (λ blocks. blocks.items ≡ D.contents device.old) }
+    ensures stops { IfErr result (λ why. IsStop why (HasRisen (D.fault_count device.old) (D.fault_count device.new))) }
 {
     match load(alloc, device) {
         Ok(blocks) => Ok(blocks),
@@ -47,6 +50,8 @@ fn open_cache<D: Device>(alloc: Global, device: &mut D) -> Result<Cache, Stop>
     ensures same { D.is_honest device.old → D.contents device.new ≡ D.contents device.old }
     ensures had { D.is_honest device.old → D.had device.new ≡ D.had device.old }
     ensures gives { D.is_honest device.old → IfOk result (λ cache. IsCacheOf cache (unchanged (D.contents device.old))) }
+    ensures stops { D.is_honest device.old → IfErr result (λ why.
+        IsStop why (IsNotOpened (D.fault_count device.old) (D.fault_count device.new) (D.contents device.old))) }
 {
     let blocks = read_blocks(alloc, device)?;
     if blocks.is_empty() || blocks.len() > MAX_BLOCKS {
@@ -61,6 +66,8 @@ pub(crate) fn open_store<D: Device>(alloc: Global, device: &mut D) -> Result<Sto
     ensures same { D.is_honest device.old → D.contents device.new ≡ D.contents device.old }
     ensures had { D.is_honest device.old → D.had device.new ≡ D.had device.old }
     ensures opened { D.is_honest device.old → IfOk result (λ store. IsOpened (D.contents device.old) store) }
+    ensures stops { D.is_honest device.old → IfErr result (λ why.
+        IsStop why (IsNotOpened (D.fault_count device.old) (D.fault_count device.new) (D.contents device.old))) }
 {
     let cache = open_cache(alloc, device)?;
     match Store::open(alloc, cache) {
@@ -74,6 +81,8 @@ pub(crate) fn save<D: Lasting>(store: &mut Store, device: &mut D) -> Result<(), 
     ensures device { IsSameDevice D.Device device.old device.new }
     ensures saved { D.is_honest device.old → (h : History) → StandsOn store.old h (D.contents device.old)
         → OnOk result (HasSaved h store.new (D.contents device.new)) }
+    ensures stops { D.is_honest device.old → (h : History) → StandsOn store.old h (D.contents device.old)
+        → IfErr result (λ why. IsStop why (HasRisen (D.fault_count device.old) (D.fault_count device.new))) }
 {
     flush(store, device)?;
     if device.sync().is_err() {

@@ -1,11 +1,14 @@
 //! Runs a script on a store.
-ghost use Rattle.std.specs.Prelude.{ℕ, ◌≡◌, List, IfSome, OnOk};
+ghost use Rattle.std.specs.Prelude.{ℕ, ◌≡◌, List, ◌⊎◌, false, IfSome, IfErr, OnOk};
 ghost use Rattle.patch_device.specs.SameDevice.{IsSameDevice};
 ghost use Rattle.patch_history.specs.History.{History};
+ghost use Rattle.patch_store.specs.Opening.{IsOpened};
 ghost use Rattle.patch_files.specs.Reading.{IsParsed, IsRunOf};
 ghost use Rattle.patch_files.specs.Running.{StandsOn, HasCome, HasRun, HasRunScript};
+ghost use Rattle.patch_files.specs.Stopping.{IsStop, IsUnread, IsBroken, IfFailed, IfStopped, HasComeSome, HasWrittenSome, HasStopped};
 ghost use Rattle.patch_files.specs.declared.endings.Status.TheVariants.{Done, Unreadable};
 ghost use Rattle.patch_replay.specs.Replay.{IsInput};
+ghost use Rattle.patch_replay.specs.Streams.{IsGivenUp};
 ghost use Rattle.patch_replay.specs.declared.endings.BadScript.{BadScript as TheBadScript};
 
 use crate::answering::answer;
@@ -26,7 +29,8 @@ use std::rt::Files;
 
 /// The lines of what was read, where that is no more than a script may have.
 fn parse(alloc: Global, input: Option<Vec<u8>>) -> Result<Vec<CommandLine>, Unread>
-    ensures { (text : List ℕ) → IsInput input text → IsParsed text result }
+    ensures parsed { (text : List ℕ) → IsInput input text → IsParsed text result }
+    ensures stops { IfErr result (λ why. IsUnread why ⊥) }
 {
     let Some(script) = input else {
         return Err(Unread::Script(BadScript::TooLong));
@@ -47,7 +51,8 @@ fn parse(alloc: Global, input: Option<Vec<u8>>) -> Result<Vec<CommandLine>, Unre
 
 /// All lines of the script that the reader gives.
 fn read_script<R: Read>(alloc: Global, reader: &mut Source<R>) -> Result<Vec<CommandLine>, Unread>
-    ensures { IfSome (R.remaining reader.old.inner) (λ text. IsParsed text result) }
+    ensures parsed { IfSome (R.remaining reader.old.inner) (λ text. IsParsed text result) }
+    ensures stops { IfErr result (λ why. IsUnread why (IsGivenUp reader.new)) }
 {
     match read_input(alloc, reader) {
         Ok(input) => parse(alloc, input),
@@ -67,6 +72,10 @@ fn answer_lines<W: Output, D: Lasting, P: Progress>(
     ensures device { IsSameDevice D.Device device.old device.new }
     ensures come { D.is_honest device.old → (h : History) → StandsOn store.old h (D.contents device.old) → OnOk result
         (HasCome h lines.items (W.contents writer.old.inner) (W.contents writer.new.inner) store.new (D.contents device.new)) }
+    ensures some { D.is_honest device.old → (h : History) → StandsOn store.old h (D.contents device.old) → writer.new.failed ≡ false
+        → HasComeSome h lines.items (W.contents writer.old.inner) (W.contents writer.new.inner) }
+    ensures stops { D.is_honest device.old → (h : History) → StandsOn store.old h (D.contents device.old) → IfErr result (λ why. IsStop why
+        (IsBroken writer.new.failed (D.fault_count device.old) (D.fault_count device.new) (D.contents device.old))) }
 {
     let all = lines.len();
     let mut answered = 0usize;
@@ -79,6 +88,26 @@ fn answer_lines<W: Output, D: Lasting, P: Progress>(
     Ok(())
 }
 
+/// Answers the lines, and brings all that they changed to the device.
+fn answer_and_save<W: Output, D: Lasting, P: Progress>(
+    alloc: Global,
+    writer: &mut Sink<W>,
+    store: &mut Store,
+    device: &mut D,
+    lines: Vec<CommandLine>,
+    progress: &mut P,
+) -> Result<(), Stop>
+    ensures run { D.is_honest device.old → (contents : List (List ℕ)) → contents ≡ D.contents device.old → IsOpened contents store.old
+        → OnOk result (HasRun lines.items (W.contents writer.old.inner) (W.contents writer.new.inner) contents (D.contents device.new)) }
+    ensures some { D.is_honest device.old → (contents : List (List ℕ)) → contents ≡ D.contents device.old → IsOpened contents store.old
+        → writer.new.failed ≡ false → HasWrittenSome lines.items (W.contents writer.old.inner) (W.contents writer.new.inner) contents }
+    ensures stops { D.is_honest device.old → (contents : List (List ℕ)) → contents ≡ D.contents device.old → IsOpened contents store.old
+        → IfErr result (λ why. IsStop why (IsBroken writer.new.failed (D.fault_count device.old) (D.fault_count device.new) contents)) }
+{
+    answer_lines(alloc, writer, store, device, lines, progress)?;
+    save(store, device)
+}
+
 /// Opens the device's store, answers the lines, and brings all that they changed to the device.
 fn run_lines<W: Output, D: Lasting, P: Progress>(
     alloc: Global,
@@ -87,12 +116,15 @@ fn run_lines<W: Output, D: Lasting, P: Progress>(
     lines: Vec<CommandLine>,
     progress: &mut P,
 ) -> Result<(), Stop>
-    ensures { D.is_honest device.old → OnOk result
+    ensures run { D.is_honest device.old → OnOk result
         (HasRun lines.items (W.contents writer.old.inner) (W.contents writer.new.inner) (D.contents device.old) (D.contents device.new)) }
+    ensures some { D.is_honest device.old → writer.new.failed ≡ false
+        → HasWrittenSome lines.items (W.contents writer.old.inner) (W.contents writer.new.inner) (D.contents device.old) }
+    ensures stops { D.is_honest device.old → IfErr result (λ why. IsStop why
+        (IsBroken writer.new.failed (D.fault_count device.old) (D.fault_count device.new) (D.contents device.old))) }
 {
     let mut store = open_store(alloc, device)?;
-    answer_lines(alloc, writer, &mut store, device, lines, progress)?;
-    save(&mut store, device)
+    answer_and_save(alloc, writer, &mut store, device, lines, progress)
 }
 
 /// Runs the script that the reader gives on the store of a device, and writes an answer for each of its lines.
@@ -110,6 +142,10 @@ pub fn run_script<R: Read, W: Output, D: Lasting, P: Progress>(
     ensures left { (why : TheBadScript) → result ≡ Unreadable why → device.new ≡ device.old }
     ensures done { D.is_honest device.old → result ≡ Done → HasRunScript (R.remaining reader.old.inner)
         (W.contents writer.old.inner) (W.contents writer.new.inner) (D.contents device.old) (D.contents device.new) }
+    ensures failed { D.is_honest device.old → IfFailed result (IsGivenUp reader.new
+        ⊎ IsBroken writer.new.failed (D.fault_count device.old) (D.fault_count device.new) (D.contents device.old)) }
+    ensures stopped { D.is_honest device.old → writer.new.failed ≡ false → IfStopped result (HasStopped (R.remaining reader.old.inner)
+        (W.contents writer.old.inner) (W.contents writer.new.inner) (D.contents device.old) result) }
 {
     let lines = match read_script(alloc, reader) {
         Ok(lines) => lines,

@@ -4,7 +4,7 @@ use Rattle.patch_files.specs.Running.{IsTold}
 use Rattle.std.proofs.Common.{subst}
 use Rattle.patch_files.proofs.answering.put.Goals as goal
 
-pub returns : goal.returns
-returns c h contents stands =
+pub returns-clause-answered : goal.returns-clause-answered
+returns-clause-answered c h contents stands =
     subst (λ value. IfOk c.answer_command.result (λ text. IsTold h (c.args.writer, Put c.args.key value) (string_bytes text) c.answer_command.new.store contents))
-    c.in_ok-value.ensures (c.answer_command.ensures h contents stands)
+    c.in_ok-value.ensures (c.answer_command.ensures.answered h contents stands)

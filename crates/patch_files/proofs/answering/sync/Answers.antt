@@ -5,6 +5,7 @@ use Rattle.patch_history.specs.Commands.{reply_told}
 use Rattle.patch_commands.specs.Reply.{reply_line}
 use Rattle.patch_files.proofs.Calling.{not_refused}
 use Rattle.patch_files.proofs.Coming.{sync_refused, sync_saved}
+use Rattle.patch_files.proofs.Stopping.{err_so}
 use Rattle.patch_files.proofs.answering.sync.Goals as goal
 
 pub returns-in-Refused-clause-answered : goal.returns-in-Refused-clause-answered
@@ -25,4 +26,10 @@ returns g c = record {
       sync_saved h c.args.writer c.args.group (reply_told reply) (string_bytes c.in_ok-synced_line.field-0) c.reply_to.new.store contents
       c.save.new.store (g.D.Device.contents c.save.new.device) (not_refused reply c.in_default.not-Refused) c.in_ok-synced_line.ensures called
       (c.in_ok-save.ensures.saved honest _ called.stands);
+  stops = λ honest h stands. tt;
 }
+
+pub returns-in_err-save-clause-stops : goal.returns-in_err-save-clause-stops
+returns-in_err-save-clause-stops g c honest h stands =
+    let called = c.in_ok-reply.ensures h (g.D.Device.contents c.args.device.now) stands in
+    err_so c.from_residual-in_err-save.result c.in_err-save.field-0.0 _ _ c.from_residual-in_err-save.ensures.1 (λ risen. risen) (c.in_err-save.ensures.stops honest _ called.stands)

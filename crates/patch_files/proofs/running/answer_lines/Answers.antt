@@ -1,8 +1,9 @@
-use Rattle.std.proofs.Common.{◌++◌, ◌∷◌, ◌∙◌, ◌≡◌, [], ap, sym, subst, append_assoc}
+use Rattle.std.proofs.Common.{inl, inr, ◌++◌, ◌∷◌, ◌∙◌, ◌≡◌, [], ap, sym, subst, append_assoc}
 use Rattle.std.proofs.lemmas.List.{append-nil, nil_from_length}
 use Rattle.patch_device.specs.SameDevice.{same_still, same_both}
 use Rattle.patch_files.specs.Running.{HasCome}
 use Rattle.patch_files.proofs.Coming.{at_first, one_more_line}
+use Rattle.patch_files.proofs.Stopping.{come_some, err_so, broken_write, risen_behind, no_fault}
 use Rattle.patch_files.proofs.running.answer_lines.Goals as goal
 
 pub loop-line-init : goal.loop-line-init
@@ -42,3 +43,28 @@ returns-clause-come g c honest h stands =
     let none : c.loop-line.line-iterator.rest.items ≡ [] = nil_from_length _ (sym c.loop-line.line-iterator.rest.ok.0 ∙ c.in-None.ensures.steps.0) in
     subst (λ lines. HasCome h lines (g.W.Write.contents c.args.writer.now.inner) (g.W.Write.contents c.loop-line.writer.inner) c.loop-line.store (g.D.Device.contents c.loop-line.device))
     (sym (append-nil before.0) ∙ ap (λ xs. before.0 ++ xs) (sym none) ∙ before.1) before.2
+
+pub returns-in_err-text-clause-some : goal.returns-in_err-text-clause-some
+returns-in_err-text-clause-some g c honest h stands fine =
+    let before = c.loop-line.invariant.3 honest h stands in
+    come_some h c.args.lines.items before.0 _ _ _ _ _ before.1 before.2
+
+pub returns-in_err-write_all-clause-some : goal.returns-in_err-write_all-clause-some
+returns-in_err-write_all-clause-some g c honest h stands fine = absurd (no_fault c.write_all.new.self.failed fine c.in_err-write_all.ensures.noted)
+
+pub returns-clause-some : goal.returns-clause-some
+returns-clause-some g c honest h stands fine =
+    let before = c.loop-line.invariant.3 honest h stands in
+    come_some h c.args.lines.items before.0 _ _ _ _ _ before.1 before.2
+
+pub returns-in_err-text-clause-stops : goal.returns-in_err-text-clause-stops
+returns-in_err-text-clause-stops g c honest h stands =
+    let before = c.loop-line.invariant.3 honest h stands in
+    let still = c.loop-line.invariant.2.honesty.0 honest in
+    err_so c.from_residual.result c.in_err-text.field-0.0 _ _ c.from_residual.ensures.1
+    (λ risen. inr (inl (risen_behind g.D.Device _ _ _ (g.met.D.Device.faults_fit c.answer.new.device) c.loop-line.invariant.2 risen)))
+    (c.in_err-text.ensures.stops still before.2.last before.2.stands)
+
+pub returns-in_err-write_all-clause-stops : goal.returns-in_err-write_all-clause-stops
+returns-in_err-write_all-clause-stops g c honest h stands =
+    broken_write c.from_residual-in_err-write_all.result c.in_err-write_all.field-0.0 c.write_all.new.self.failed _ c.from_residual-in_err-write_all.ensures.1 c.in_err-write_all.ensures.failed c.in_err-write_all.ensures.noted

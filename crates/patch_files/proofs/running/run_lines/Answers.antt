@@ -1,17 +1,23 @@
-use Rattle.std.proofs.Common.{subst, sym}
-use Rattle.patch_files.specs.Running.{StandsOn, HasRun}
-use Rattle.patch_store.specs.Opening.{at_opening}
-use Rattle.patch_files.proofs.Calling.{opened_so}
-use Rattle.patch_files.proofs.Coming.{run_so, ok_so}
+use Rattle.std.proofs.Common.{inr, sym}
+use Rattle.patch_files.proofs.Stopping.{none_written, err_so, each_stop_for, broken_behind}
 use Rattle.patch_files.proofs.running.run_lines.Goals as goal
 
-pub returns : goal.returns
-returns g c honest =
-    let contents = g.D.Device.contents in
-    let opened = c.in_ok-store.ensures.opened honest in
-    let h = at_opening (contents c.args.device.now) opened.ledger in
-    let stands = subst (StandsOn _ h) (sym (c.open_store.ensures.same honest)) (opened_so _ _ opened) in
-    let still_honest = c.open_store.ensures.device.honesty.0 honest in
-    let come = c.in_ok-answer_lines.ensures.come still_honest h stands in
-    ok_so c.save.result (run_so c.args.lines.items _ _ _ _ _ _ _ opened _ come)
-    (c.save.ensures.saved (c.answer_lines.ensures.device.honesty.0 still_honest) come.last come.stands)
+pub returns-clause-run : goal.returns-clause-run
+returns-clause-run g c honest =
+    c.answer_and_save.ensures.run (c.open_store.ensures.device.honesty.0 honest) _ (sym (c.open_store.ensures.same honest)) (c.in_ok-store.ensures.opened honest)
+
+pub returns-in_err-store-clause-some : goal.returns-in_err-store-clause-some
+returns-in_err-store-clause-some g c honest fine = none_written c.args.lines.items _ _
+
+pub returns-clause-some : goal.returns-clause-some
+returns-clause-some g c honest =
+    c.answer_and_save.ensures.some (c.open_store.ensures.device.honesty.0 honest) _ (sym (c.open_store.ensures.same honest)) (c.in_ok-store.ensures.opened honest)
+
+pub returns-in_err-store-clause-stops : goal.returns-in_err-store-clause-stops
+returns-in_err-store-clause-stops g c honest =
+    err_so c.from_residual.result c.in_err-store.field-0.0 _ _ c.from_residual.ensures.1 (λ cause. inr cause) (c.in_err-store.ensures.stops honest)
+
+pub returns-clause-stops : goal.returns-clause-stops
+returns-clause-stops g c honest =
+    each_stop_for c.answer_and_save.result _ _ (broken_behind g.D.Device _ _ _ _ _ (g.met.D.Device.faults_fit c.answer_and_save.new.device) c.open_store.ensures.device)
+    (c.answer_and_save.ensures.stops (c.open_store.ensures.device.honesty.0 honest) _ (sym (c.open_store.ensures.same honest)) (c.in_ok-store.ensures.opened honest))
