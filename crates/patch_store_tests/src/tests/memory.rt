@@ -100,10 +100,29 @@ fn call_beside(
 }
 
 // Each key has the value that it had.
-fn expect_unchanged(rt: &impl Abort, store: &HeapStore<'_>, long: &[u8]) -> Result<(), Fail> {
-    expect_value(rt, store, b"a", Some(b"first"))?;
-    expect_value(rt, store, b"b", Some(long))?;
-    expect_value(rt, store, b"c", None)
+fn expect_unchanged(rt: &impl Abort, store: &HeapStore<'_>, long: &[u8]) {
+    expect_value(rt, store, b"a", Some(b"first"));
+    expect_value(rt, store, b"b", Some(long));
+    expect_value(rt, store, b"c", None);
+}
+
+// Whether the call is refused by this store, where only a hole of this size is left.
+fn refuses(
+    rt: &impl Abort,
+    alloc: Global,
+    heap: &LocalHeap,
+    store: &mut HeapStore<'_>,
+    long: &[u8],
+    hole: usize,
+    call: Call,
+) -> Result<bool, OutOfMemory> {
+    let answer = call_beside(alloc, heap, hole, store, call)?;
+    if answer.is_ok() {
+        return Ok(false);
+    }
+    assert_eq!(rt; answer, Err(RefusalKind::OutOfMemory));
+    expect_unchanged(rt, store, long);
+    Ok(true)
 }
 
 // Whether a call is refused where only a hole of this size is left.
@@ -116,13 +135,7 @@ fn is_refused(
     call: Call,
 ) -> Result<bool, Fail> {
     let mut store = furnished(rt, heap, long)?;
-    let answer = call_beside(alloc, heap, hole, &mut store, call)?;
-    if answer.is_ok() {
-        return Ok(false);
-    }
-    assert_eq!(rt; answer, Err(RefusalKind::OutOfMemory));
-    expect_unchanged(rt, &store, long)?;
-    Ok(true)
+    Ok(refuses(rt, alloc, heap, &mut store, long, hole, call)?)
 }
 
 // Each hole is larger than the one before it, so that one allocation more succeeds now and then, until all do. A flush takes

@@ -24,9 +24,9 @@ fn expect_refused(
 ) -> Result<(), Fail> {
     let count = blocks.len();
     let cache = cache_of(rt, alloc, blocks)?;
-    match Store::open(alloc, cache) {
-        Ok(_) => Err(Fail::from("a disk with a fault was opened")),
-        Err((cache, got)) => {
+    match Store::open(alloc, cache).err() {
+        None => Err(Fail::from("a disk with a fault was opened")),
+        Some((cache, got)) => {
             assert_eq!(rt; got, fault);
             assert_eq!(rt; cache.blocks() as usize, count);
             assert!(rt; cache.trace().is_empty());
@@ -52,21 +52,24 @@ fn expect_fault(
 fn a_new_disk_holds_no_key(rt: HostRuntime) -> Result<(), Fail> {
     let store = open_with(&rt, rt.alloc(), SMALL, &[])?;
     assert_eq!(&rt; store.cache().blocks(), 35);
-    expect_value(&rt, &store, b"k", None)
+    expect_value(&rt, &store, b"k", None);
+    Ok(())
 }
 
 #[test]
 fn a_slot_gives_its_key_the_value_of_its_frame(rt: HostRuntime) -> Result<(), Fail> {
     let store = open_with(&rt, rt.alloc(), SMALL, &[FRAME, POINTER, SLOT])?;
-    expect_value(&rt, &store, b"k", Some(&[1, 2]))?;
-    expect_value(&rt, &store, b"l", None)
+    expect_value(&rt, &store, b"k", Some(&[1, 2]));
+    expect_value(&rt, &store, b"l", None);
+    Ok(())
 }
 
 #[test]
 fn a_key_is_deleted_from_an_opened_disk(rt: HostRuntime) -> Result<(), Fail> {
     let mut store = open_with(&rt, rt.alloc(), SMALL, &[FRAME, POINTER, SLOT])?;
     assert!(&rt; store.delete(WriterNo(0), b"k").is_ok());
-    expect_value(&rt, &store, b"k", None)
+    expect_value(&rt, &store, b"k", None);
+    Ok(())
 }
 
 #[test]
@@ -128,20 +131,42 @@ fn a_key_in_two_slots_is_refused(rt: HostRuntime) -> Result<(), Fail> {
     )
 }
 
+type HeapOpened<'a> = Result<Store<&'a LocalHeap>, (Cache<&'a LocalHeap>, OpenFault)>;
+
+// Opens where only a hole of this size is left.
+fn open_in_hole<'a>(
+    alloc: Global,
+    heap: &'a LocalHeap,
+    hole: usize,
+    cache: Cache<&'a LocalHeap>,
+) -> Result<HeapOpened<'a>, OutOfMemory> {
+    let ballast = fill(alloc, heap, hole)?;
+    let answer = Store::open(heap, cache);
+    drop(ballast);
+    Ok(answer)
+}
+
+fn opens<'a>(heap: &'a LocalHeap, cache: Cache<&'a LocalHeap>) -> bool {
+    Store::open(heap, cache).is_ok()
+}
+
+// Opens with memory what was refused for want of it. Whether it was.
+fn open_again<'a>(rt: &impl Abort, heap: &'a LocalHeap, first: HeapOpened<'a>) -> bool {
+    match first.err() {
+        None => false,
+        Some((cache, fault)) => {
+            assert_eq!(rt; fault, OpenFault::OutOfMemory);
+            assert!(rt; opens(heap, cache));
+            true
+        }
+    }
+}
+
 // Opens where only a hole of this size is left, and again with memory where that is refused. Whether it was.
 fn open_twice(rt: &impl Abort, alloc: Global, heap: &LocalHeap, hole: usize) -> Result<bool, Fail> {
     let cache = cache_of(rt, heap, disk_with(heap, SMALL, &[FRAME, POINTER, SLOT])?)?;
-    let ballast = fill(alloc, heap, hole)?;
-    let first = Store::open(heap, cache);
-    drop(ballast);
-    match first {
-        Ok(_) => Ok(false),
-        Err((cache, fault)) => {
-            assert_eq!(rt; fault, OpenFault::OutOfMemory);
-            assert!(rt; Store::open(heap, cache).is_ok());
-            Ok(true)
-        }
-    }
+    let first = open_in_hole(alloc, heap, hole, cache)?;
+    Ok(open_again(rt, heap, first))
 }
 
 // Each hole is larger than the one before it, so that one allocation more succeeds now and then, until all do.
