@@ -28,6 +28,8 @@ REACHED_OF_GROUPS = {
 class GroupAuthor:
     """Writes lines, with groups among them, and looks at the model before each of them."""
 
+    orders_share = 0.1  # how often a script with groups puts more of them in order, in the place of a line
+
     def __init__(self, seed):
         self.random = random.Random(seed)
         self.lines, self.answers = [], []
@@ -35,6 +37,19 @@ class GroupAuthor:
     def ask(self, line):
         self.lines.append(line)
         self.answers.append(self.model.answer(line))
+
+    def ask_some(self, count):
+        for _ in range(count):
+            if self.has_groups and self.chance(self.orders_share):
+                self.ask_order(self.group_with_patches())
+            self.ask(self.line())
+
+    def drawn(self, weights):
+        """A line of an op by these weights."""
+        if self.has_groups:
+            self.weigh_groups(weights)
+        op = self.random.choices(list(weights), list(weights.values()))[0]
+        return {"op": op, **getattr(self, op)()}
 
     def weigh_groups(self, weights):
         """First two groups, and mostly engagements where there is none."""

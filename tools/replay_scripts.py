@@ -106,12 +106,6 @@ class Author(GroupAuthor):
         script = Script(self.model.blocks, tuple(self.lines))
         return script, script.steps_with(self.answers)
 
-    def ask_some(self, count):
-        for _ in range(count):
-            if self.has_groups and self.chance(0.1):
-                self.ask_order(self.group_with_patches())
-            self.ask(self.line())
-
     def line(self):
         """A line of some op: first a few patches and groups, and few completions where nothing is in flight."""
         weights = dict(self.weights)
@@ -119,10 +113,7 @@ class Author(GroupAuthor):
             weights["patch"] *= 6
         if not self.model.state.flights:
             weights["complete"] /= 6
-        if self.has_groups:
-            self.weigh_groups(weights)
-        op = self.random.choices(list(weights), list(weights.values()))[0]
-        return {"op": op, **getattr(self, op)()}
+        return self.drawn(weights)
 
     def send_all(self):
         """A write of each block, so that what has to wait shows."""

@@ -164,6 +164,7 @@ class Author(GroupAuthor):
     """Writes one script, run by run, and looks at the model before each line."""
 
     unreadable_share = 0.1  # how many runs have one beside them with an unreadable line
+    orders_share = 0.07
 
     def __init__(self, seed):
         super().__init__(seed)
@@ -247,20 +248,11 @@ class Author(GroupAuthor):
             self.marked.append({"op": EDIT, **mark})
             self.file_steps.edit(mark)
 
-    def ask_some(self, count):
-        for _ in range(count):
-            if self.has_groups and self.chance(0.07):
-                self.ask_order(self.group_with_patches())
-            self.ask(self.line())
-
     def line(self):
         weights = dict(self.weights)
         if not any(self.may_reclaim(extent) for extent in range(self.disk.geometry.extents)):
             weights["reclaim"] /= 6
-        if self.has_groups:
-            self.weigh_groups(weights)
-        op = self.random.choices(list(weights), list(weights.values()))[0]
-        return {"op": op, **getattr(self, op)()}
+        return self.drawn(weights)
 
     def look_at_all(self):
         for key in sorted(set(self.keys)):
