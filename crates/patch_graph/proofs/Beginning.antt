@@ -3,7 +3,7 @@ use Rattle.std.proofs.Common.{[], refl, arith}
 use Rattle.patch_graph.specs.Meaning.{Represents}
 use Rattle.patch_graph.specs.BlockKeys.{AreListed}
 
-pub begins : Represents (record { made = 0; slots = []; numbers = [] }) []
+pub begins : Represents (record { made = 0; slots = []; numbers = []; tops = [] }) []
 begins = record {
   orderly = record {
     rising = tt;
@@ -21,6 +21,7 @@ begins = record {
   classes = λ key c at. absurd (cc);
   found = λ e i alive. absurd i;
   live = λ n key at. absurd (cc);
+  tops = λ block x f i w. absurd i;
 }
 
 pub lists-nothing : AreListed [] []

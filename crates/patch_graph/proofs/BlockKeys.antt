@@ -1,5 +1,5 @@
 -- What is listed for each block.
-use Rattle.std.proofs.Common.{◌≡◌, ℕ, ◌⊎◌, ◌∙◌, inl, inr, Bool, true, false, List, [], ◌∷◌, ◌++◌, refl, sym, ap, subst, Option, Some, None, filter, rules}
+use Rattle.std.proofs.Common.{◌≡◌, ℕ, length, arith, ◌⊎◌, ◌∙◌, inl, inr, Bool, true, false, List, [], ◌∷◌, ◌++◌, refl, sym, ap, subst, Option, Some, None, filter, rules}
 use Rattle.std.specs.Prelude.{◌≢◌, nat_eq, IsSome, is_some}
 use Rattle.std.specs.Option.{option_map_or}
 use Rattle.std.specs.Map.{lookup}
@@ -106,3 +106,33 @@ listed-fewer s0 s1 old new block kept gone r a = record {
       | inl none ↦ absurd (alive c.0 c.1 c.2 none)
       | inr d ↦ let o = kept key d.0 d.1 in (d.0, d.1, o.2 ∙ ap (λ z. z.block) (class_same o.0 c.0 (sym o.1 ∙ c.1)) ∙ c.2)
     ]
+
+-- where no key is listed for a block, it has no class
+pub no-class : (slots : Slots) (lists : Lists) (block : ℕ) → AreListed slots lists → listed lists block ≡ [] → (key : ℕ) (c : Class) → class_at slots key ≡ Some c → c.block ≢ block
+no-class slots lists block a none key c at of = subst (λ l. In l key) none (subst (λ b. In (listed lists b) key) of (a.complete key c at))
+
+-- a key was listed that has no class, and taken out again
+pub listed-again : (slots : Slots) (old mid new : Lists) (block key : ℕ) → class_at slots key ≡ None → IsRelisted old mid block (listed old block ++ key ∷ [])
+    → IsRelisted mid new block (filter (is_key slots) (listed mid block)) → AreListed slots old → AreListed slots new
+listed-again slots old mid new block key vacant m r a = record {
+  complete = λ k d at. elim (cases_eq d.block block) [
+    | inl e ↦
+        let i = subst (λ b. In (listed old b) k) e (a.complete k d at) in
+        subst (λ b. In (listed new b) k) (sym e) (subst (λ l. In l k) (sym r.here)
+        (In-filter (is_key slots) (listed mid block) k (subst (λ l. In l k) (sym m.here) (In-left (listed old block) (key ∷ []) k i)) (ap is_some at)))
+    | inr o ↦ subst (λ l. In l k) (sym (r.others d.block o ∙ m.others d.block o)) (a.complete k d at)
+  ];
+  sound = λ b k i. elim (cases_eq b block) [
+    | inl e ↦
+        let p = filter-In (is_key slots) (listed mid block) k (subst (λ l. In l k) r.here (subst (λ b. In (listed new b) k) e i)) in
+        elim (last-in (listed old block) key k (subst (λ l. In l k) m.here p.0)) [
+          | inl j ↦ a.sound b k (subst (λ b. In (listed old b) k) (sym e) j)
+          | inr q ↦ let dead : is_key slots k ≡ false = ap is_some (ap (class_at slots) (sym q) ∙ vacant) in absurd (both_ways _ dead p.1)
+        ]
+    | inr o ↦ a.sound b k (subst (λ l. In l k) (r.others b o ∙ m.others b o) i)
+  ];
+}
+
+pub nothing : (l : List ℕ) → length l ≡ 0 → l ≡ []
+nothing [] e = refl
+nothing (x ∷ l) e = absurd (omega arith)

@@ -13,7 +13,7 @@ use Rattle.patch_model.specs.Ready.{IsRising}
 use Rattle.patch_model.specs.Legal.{IsLegalMerge, touch, is_undoable_at, block_of_patch}
 use Rattle.patch_model.specs.Orderly.{IsOrderly}
 use Rattle.patch_model.specs.Member.{In, list_any-at, list_any-from}
-use Rattle.patch_graph.specs.State.{Class, Graph, Slots, Numbers, find, class_at}
+use Rattle.patch_graph.specs.State.{Class, Graph, find, class_at}
 use Rattle.patch_graph.specs.Meaning.{Represents}
 use Rattle.patch_graph.specs.Merging.{merged, merged_name, HasJoined}
 use Rattle.patch_graph.proofs.Facts.{known}
@@ -142,7 +142,7 @@ module _ (g : Graph) (all : List Entry) (r : Represents g all) where
   not-found a b l (inl none) = undoable-found a l.undoable_a none
   not-found a b l (inr none) = undoable-found b l.undoable_b none
 
-  module _ (new : Graph) (made : new.made ≡ g.made) where
+  module _ (new : Graph) (made : new.made ≡ g.made) (tops : new.tops ≡ g.tops) where
     pub merges-to : (keep gone a b : ℕ) (name : Option ℕ) → IsLegalMerge all a b → find g.numbers a ≡ Some keep → find g.numbers b ≡ Some gone → HasJoined keep gone g new
         → name ≡ option_map (λ c. c.name) (class_at new.slots keep) → IsOrderly (merged all a b)
         → Represents new (merged all a b) × (name ≡ Some (merged_name all a b))
@@ -171,8 +171,9 @@ module _ (g : Graph) (all : List Entry) (r : Represents g all) where
           f_begins = leb-true f.0.patch.start (end e.0.patch) f2.1;
         } in
         let lists : map (joined x.0.name y.0.name) all ≡ map (joined (class_of all a) (class_of all b)) all = ap (λ n. map (joined n y.0.name) all) x.2 ∙ ap (λ n. map (joined (class_of all a) n) all) y.2 in
-        let m = merges g.made keep gone x.0 y.0 g.slots new.slots g.numbers new.numbers all r differ x.1 y.1 may is (subst IsOrderly (sym lists) o) in (
-          subst (Represents new) lists (subst (λ n. Represents (record { made = n; slots = new.slots; numbers = new.numbers }) (map (joined x.0.name y.0.name) all)) (sym made) m),
+        let m = merges g.made g.tops keep gone x.0 y.0 g.slots new.slots g.numbers new.numbers all r differ x.1 y.1 may is (subst IsOrderly (sym lists) o) in (
+          subst (Represents new) lists (subst (λ n. Represents (record { made = n; slots = new.slots; numbers = new.numbers; tops = new.tops }) (map (joined x.0.name y.0.name) all)) (sym made)
+              (subst (λ t. Represents (record { made = g.made; slots = new.slots; numbers = new.numbers; tops = t }) (map (joined x.0.name y.0.name) all)) (sym tops) m)),
           named ∙ ap (option_map (λ c. c.name)) is.here ∙ ap (λ n. Some (min n y.0.name)) x.2 ∙ ap (λ n. Some (min (class_of all a) n)) y.2,
         )
       where

@@ -18,3 +18,8 @@ pub mod MergedClasses
 pub mod Legality
 pub mod BlockKeys
 pub mod Entered
+pub mod Spans
+pub mod Tops
+pub mod Laying
+pub mod Remembering
+pub mod Noting

@@ -11,6 +11,8 @@ use Rattle.patch_model.specs.Pile.{covers}
 use Rattle.patch_model.specs.Orderly.{IsOrderly}
 use Rattle.patch_model.specs.Member.{In, list_any-at, list_any-from}
 use Rattle.patch_graph.specs.State.{Class, Graph, Slots, Numbers, find, class_at, leads, leads_at}
+use Rattle.patch_graph.specs.Skyline.{Skylines, top_at, spans_of}
+use Rattle.patch_graph.proofs.Tops.{tops-kept}
 use Rattle.patch_graph.specs.Meaning.{Leads, one, onward, DependsOn, IsClassOf, Represents}
 use Rattle.patch_graph.specs.MarkDurable.{lands, lands_at, AreLanded}
 use Rattle.patch_graph.specs.BlockKeys.{LosesOf}
@@ -49,11 +51,11 @@ gone-of old new numbers rest block set a key c at none = elim (cases_Bool (set k
   | inr t ↦ let same : class_at new key ≡ class_at old key = a.slots key ∙ ap (λ b. if b then None else class_at old key) t in absurd (cc)
 ]
 
-module _ (made block : ℕ) (old new : Slots) (numbers rest : Numbers) (all : List Entry) (set : ℕ → Bool)
-    (r : Represents (record { made = made; slots = old; numbers = numbers }) all)
+module _ (made : ℕ) (tops : Skylines) (block : ℕ) (old new : Slots) (numbers rest : Numbers) (all : List Entry) (set : ℕ → Bool)
+    (r : Represents (record { made = made; slots = old; numbers = numbers; tops = tops }) all)
     (a : AreLanded old new numbers rest block set) (whole : HasLanding old block set) where
   abbrev g : Graph
-  g = record { made = made; slots = old; numbers = numbers }
+  g = record { made = made; slots = old; numbers = numbers; tops = tops }
 
   abbrev f : Entry → Entry
   f e = landed block e
@@ -223,7 +225,7 @@ module _ (made block : ℕ) (old new : Slots) (numbers rest : Numbers) (all : Li
     | inr t ↦ (ap is_durable (sym (stays-same block e t)) ∙ alive, t)
   ]
 
-  pub lands-all : IsOrderly (map f all) → Represents (record { made = made; slots = new; numbers = rest }) (map f all)
+  pub lands-all : IsOrderly (map f all) → Represents (record { made = made; slots = new; numbers = rest; tops = tops }) (map f all)
   lands-all o = record {
     orderly = o;
     numbered = numbered-map f all (patch-landed block) r.numbered;
@@ -243,4 +245,5 @@ module _ (made block : ℕ) (old new : Slots) (numbers rest : Numbers) (all : Li
         let same = class_same p.0 was.0 (sym p.1 ∙ was.2) in
         let stays = same-of k was.0 w.0 was.2 w.1 (sym p.2 ∙ ap (λ z. z.name) same) was.3 in
         (f w.0, In-map f all w.0 w.1, ap (λ p. p.no) (patch-landed block w.0) ∙ w.2, ap is_durable stays ∙ w.3);
+    tops = λ b x. tops-kept f all b x (top_at (spans_of tops b) x) (patch-landed block) (λ e i d. (live-now e d).0) (r.tops b x);
   }

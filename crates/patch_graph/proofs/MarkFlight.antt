@@ -2,7 +2,7 @@
 use Rattle.std.proofs.Common.{◌≡◌, ℕ, ◌+◌, ◌<◌, ◌⊎◌, ◌∙◌, inl, inr, Bool, true, false, List, [], ◌∷◌, length, map, refl, sym, ap, arith, subst, Option, Some, None}
 use Rattle.std.specs.Prelude.{◌==◌, ◌&&◌, ◌≢◌, slice_set, slice_index_or, if◌then◌else◌}
 use Rattle.std.specs.Option.{option_map, option_map_or}
-use Rattle.std.proofs.lemmas.Bool.{cases_Bool, cases_eq, both_ways}
+use Rattle.std.proofs.lemmas.Bool.{cases_Bool, cases_eq, and_parts, and_from, both_ways}
 use Rattle.std.proofs.lemmas.List.{get_or-set_same, get_or-set_other, length-set}
 use Rattle.std.specs.List.{list_any}
 use Rattle.patch_model.specs.declared.patches.Mark.TheVariants.{Flight}
@@ -17,18 +17,21 @@ use Rattle.patch_model.specs.Entries.{has-In, In-has}
 use Rattle.patch_graph.proofs.Steps.{patch-sent, In-map, map-In, length-map, numbered-map}
 use Rattle.patch_graph.specs.State.{Class, Graph, Slots, Numbers, find, class_at, leads, spans}
 use Rattle.patch_graph.proofs.Facts.{known}
+use Rattle.patch_graph.specs.Skyline.{Skylines, top_at, spans_of}
+use Rattle.patch_graph.proofs.Tops.{tops-kept}
 use Rattle.patch_graph.specs.Meaning.{Leads, one, onward, DependsOn, IsClassOf, Represents}
-use Rattle.patch_graph.specs.Marks.{is_marked, HoldsMarked}
+use Rattle.patch_graph.specs.Marks.{is_marked}
 use Rattle.patch_graph.specs.Ready.{picks, IsLargestMet}
+use Rattle.patch_graph.specs.Memo.{taken_of}
 use Rattle.patch_graph.specs.MarkFlight.{flown, flown_at, AreFlown}
-use Rattle.patch_graph.proofs.Places.{place-of}
-use Rattle.patch_graph.proofs.ReadySet.{placed, chosen, chosen_set, chosen-ready, chosen-at, at-chosen, some_same, class_same}
+use Rattle.patch_graph.proofs.Places.{place-of, at-place}
+use Rattle.patch_graph.proofs.ReadySet.{placed, chosen, chosen_set, chosen-ready, chosen-at, at-chosen, some_same, class_same, is_among-In, In-is_among}
 use Rattle.patch_graph.proofs.Settling.{below-slots}
 
 -- so far, of these keys
 pub record ArePartFlown (marks : List Bool) (keys : List ℕ) (old new : Slots) (upto : ℕ) : Type 0 where
   pub done : (i : ℕ) → i < upto → is_marked marks (slice_index_or keys i 0) ≡ true → class_at new (slice_index_or keys i 0) ≡ option_map flown (class_at old (slice_index_or keys i 0))
-  pub either : (key : ℕ) → (class_at new key ≡ class_at old key) ⊎ ((is_marked marks key ≡ true) × (class_at new key ≡ option_map flown (class_at old key)))
+  pub either : (key : ℕ) → (class_at new key ≡ class_at old key) ⊎ ((is_marked marks key ≡ true) × In keys key × (class_at new key ≡ option_map flown (class_at old key)))
   pub long : length new ≡ length old
 
 pub cases_class : (slots : Slots) (key : ℕ) → (class_at slots key ≡ None) ⊎ ((c : Class) × (class_at slots key ≡ Some c))
@@ -66,12 +69,12 @@ flown-twice : (o : Option Class) → option_map flown (option_map flown o) ≡ o
 flown-twice None = refl
 flown-twice (Some c) = refl
 
-pub fly-one : (marks : List Bool) (keys : List ℕ) (old new : Slots) (upto key : ℕ) → slice_index_or keys upto 0 ≡ key → ArePartFlown marks keys old new upto → is_marked marks key ≡ true
+pub fly-one : (marks : List Bool) (keys : List ℕ) (old new : Slots) (upto key : ℕ) → upto < length keys → slice_index_or keys upto 0 ≡ key → ArePartFlown marks keys old new upto → is_marked marks key ≡ true
     → ArePartFlown marks keys old (flown_at new key) (upto + 1)
-fly-one marks keys old new upto key here p t =
+fly-one marks keys old new upto key lt here p t =
     let now : class_at (flown_at new key) key ≡ option_map flown (class_at old key) = flown-here new key ∙ elim (p.either key) [
       | inl e ↦ ap (option_map flown) e
-      | inr e ↦ ap (option_map flown) e.1 ∙ flown-twice (class_at old key)
+      | inr e ↦ ap (option_map flown) e.2 ∙ flown-twice (class_at old key)
     ] in
     record {
       done = λ i h u. elim (cases_eq (slice_index_or keys i 0) key) [
@@ -79,8 +82,8 @@ fly-one marks keys old new upto key here p t =
         | inr d ↦ flown-else new key (slice_index_or keys i 0) d ∙ p.done i (elim (cases_eq i upto) [ inl s ↦ absurd (d (ap (λ j. slice_index_or keys j 0) s ∙ here)) | inr s ↦ omega arith ]) u
       ];
       either = λ k. elim (cases_eq k key) [
-        | inl e ↦ inr (ap (is_marked marks) e ∙ t, ap (class_at (flown_at new key)) e ∙ now ∙ sym (ap (λ k. option_map flown (class_at old k)) e))
-        | inr d ↦ elim (p.either k) [ inl e ↦ inl (flown-else new key k d ∙ e) | inr e ↦ inr (e.0, flown-else new key k d ∙ e.1) ]
+        | inl e ↦ inr (ap (is_marked marks) e ∙ t, subst (In keys) (sym e) (at-place keys upto key lt here), ap (class_at (flown_at new key)) e ∙ now ∙ sym (ap (λ k. option_map flown (class_at old k)) e))
+        | inr d ↦ elim (p.either k) [ inl e ↦ inl (flown-else new key k d ∙ e) | inr e ↦ inr (e.0, e.1, flown-else new key k d ∙ e.2) ]
       ];
       long = flown-long new key ∙ p.long;
     }
@@ -96,14 +99,15 @@ fly-not marks keys old new upto key here p t = record {
   long = p.long;
 }
 
-pub fly-all : (marks : List Bool) (keys : List ℕ) (old new : Slots) (upto : ℕ) → length keys ≡ upto → HoldsMarked marks keys → ArePartFlown marks keys old new upto → AreFlown (is_marked marks) old new
-fly-all marks keys old new upto all held p key = elim (cases_Bool (is_marked marks key)) [
+pub fly-all : (marks : List Bool) (keys : List ℕ) (old new : Slots) (upto : ℕ) → length keys ≡ upto → ArePartFlown marks keys old new upto → AreFlown (taken_of keys marks) old new
+fly-all marks keys old new upto all p key = elim (cases_Bool (taken_of keys marks key)) [
   | inl t ↦
-      let i = place-of keys key (held key t) in
+      let both = and_parts _ _ t in
+      let i = place-of keys key (is_among-In keys key both.1) in
       let b = i.1 in
-      ap (class_at new) (sym i.2) ∙ p.done i.0 (omega arith) (ap (is_marked marks) i.2 ∙ t) ∙ ap (λ k. option_map flown (class_at old k)) i.2
+      ap (class_at new) (sym i.2) ∙ p.done i.0 (omega arith) (ap (is_marked marks) i.2 ∙ both.0) ∙ ap (λ k. option_map flown (class_at old k)) i.2
       ∙ sym (ap (λ b. option_map (λ c. if b then flown c else c) (class_at old key)) t)
-  | inr t ↦ elim (p.either key) [ inl e ↦ e | inr e ↦ absurd (both_ways _ t e.0) ]
+  | inr t ↦ elim (p.either key) [ inl e ↦ e | inr e ↦ absurd (both_ways _ t (and_from _ _ e.0 (In-is_among keys key e.1))) ]
       ∙ sym (ap (λ b. option_map (λ c. if b then flown c else c) (class_at old key)) t ∙ same_map (class_at old key))
 ]
 
@@ -113,34 +117,34 @@ class-sent set e = elim (cases_Bool (has set e)) [ inl u ↦ rw u refl | inr u �
 hard-sent : (set : List Entry) (e : Entry) → (sent set e).hard ≡ e.hard
 hard-sent set e = elim (cases_Bool (has set e)) [ inl u ↦ rw u refl | inr u ↦ rw u refl ]
 
-module _ (made : ℕ) (old new : Slots) (numbers : Numbers) (all : List Entry) (block : ℕ) (marks : List Bool)
-    (r : Represents (record { made = made; slots = old; numbers = numbers }) all)
-    (l : IsLargestMet old numbers (picks old block) (is_marked marks)) (a : AreFlown (is_marked marks) old new) where
+module _ (made : ℕ) (tops : Skylines) (old new : Slots) (numbers : Numbers) (all : List Entry) (block : ℕ) (taken : ℕ → Bool)
+    (r : Represents (record { made = made; slots = old; numbers = numbers; tops = tops }) all)
+    (l : IsLargestMet old numbers (picks old block) taken) (a : AreFlown taken old new) where
   abbrev g : Graph
-  g = record { made = made; slots = old; numbers = numbers }
+  g = record { made = made; slots = old; numbers = numbers; tops = tops }
 
   abbrev set : List Entry
-  set = chosen_set g all r block (is_marked marks) l
+  set = chosen_set g all r block taken l
 
   abbrev f : Entry → Entry
   f e = sent set e
 
   abbrev turned : ℕ → Class → Class
-  turned key c = if is_marked marks key then flown c else c
+  turned key c = if taken key then flown c else c
 
   -- a class's patches are sent where its key is marked
-  sent-where : (key : ℕ) (c : Class) (e : Entry) → class_at old key ≡ Some c → In all e → e.class ≡ c.name → has set e ≡ is_marked marks key
+  sent-where : (key : ℕ) (c : Class) (e : Entry) → class_at old key ≡ Some c → In all e → e.class ≡ c.name → has set e ≡ taken key
   sent-where key c e at i s =
       let there = (r.classes key c at).found e i s in
-      elim (cases_Bool (is_marked marks key)) [
-        | inl t ↦ In-has set e (In-filter (chosen g all r block (is_marked marks) l) all e i (chosen-at g all r block (is_marked marks) l e key there t)) ∙ sym t
+      elim (cases_Bool (taken key)) [
+        | inl t ↦ In-has set e (In-filter (chosen g all r block taken l) all e i (chosen-at g all r block taken l e key there t)) ∙ sym t
         | inr t ↦ elim (cases_Bool (has set e)) [
           | inr u ↦ u ∙ sym t
           | inl u ↦
-              let k = has-In all set e (known g all r).numbers (λ x j. (filter-In (chosen g all r block (is_marked marks) l) all x j).0) i u in
-              let c2 = at-chosen g all r block (is_marked marks) l e (filter-In (chosen g all r block (is_marked marks) l) all e k).1 in
+              let k = has-In all set e (known g all r).numbers (λ x j. (filter-In (chosen g all r block taken l) all x j).0) i u in
+              let c2 = at-chosen g all r block taken l e (filter-In (chosen g all r block taken l) all e k).1 in
               let same = some_same c2.0 key (sym c2.1 ∙ there) in
-              absurd (both_ways _ t (subst (λ z. is_marked marks z ≡ true) same c2.2))
+              absurd (both_ways _ t (subst (λ z. taken z ≡ true) same c2.2))
         ]
       ]
 
@@ -154,13 +158,13 @@ module _ (made : ℕ) (old new : Slots) (numbers : Numbers) (all : List Entry) (
   ]
 
   name-turned : (key : ℕ) (c : Class) → (turned key c).name ≡ c.name
-  name-turned key c = elim (cases_Bool (is_marked marks key)) [ inl t ↦ rw t refl | inr t ↦ rw t refl ]
+  name-turned key c = elim (cases_Bool (taken key)) [ inl t ↦ rw t refl | inr t ↦ rw t refl ]
 
   after-turned : (key : ℕ) (c : Class) → (turned key c).after ≡ c.after
-  after-turned key c = elim (cases_Bool (is_marked marks key)) [ inl t ↦ rw t refl | inr t ↦ rw t refl ]
+  after-turned key c = elim (cases_Bool (taken key)) [ inl t ↦ rw t refl | inr t ↦ rw t refl ]
 
   leads-turned : (key j : ℕ) (c : Class) → leads numbers c j ≡ true → leads numbers (turned key c) j ≡ true
-  leads-turned key j c t = elim (cases_Bool (is_marked marks key)) [ inl u ↦ rw u t | inr u ↦ rw u t ]
+  leads-turned key j c t = elim (cases_Bool (taken key)) [ inl u ↦ rw u t | inr u ↦ rw u t ]
 
   Leads-now : (k j : ℕ) → Leads old numbers k j → Leads new numbers k j
   Leads-now k j (one c at t) = one (turned k c) (class-now k c at) (leads-turned k j c t)
@@ -186,23 +190,23 @@ module _ (made : ℕ) (old new : Slots) (numbers : Numbers) (all : List Entry) (
     | inl t ↦ elim (cases_Bool (has set e)) [
       | inr u ↦ sym (ap (λ b. is_durable (if b then record e { mark = Flight } else e)) u) ∙ d
       | inl u ↦
-          let k = has-In all set e (known g all r).numbers (λ x j. (filter-In (chosen g all r block (is_marked marks) l) all x j).0) i u in
-          let c2 = at-chosen g all r block (is_marked marks) l e (filter-In (chosen g all r block (is_marked marks) l) all e k).1 in
+          let k = has-In all set e (known g all r).numbers (λ x j. (filter-In (chosen g all r block taken l) all x j).0) i u in
+          let c2 = at-chosen g all r block taken l e (filter-In (chosen g all r block taken l) all e k).1 in
           (placed g all r e c2.0 i c2.1).3
     ]
   ]
 
   members-turned : (key : ℕ) (c : Class) (n : ℕ) → is_among c.members n ≡ true → is_among (turned key c).members n ≡ true
-  members-turned key c n t = elim (cases_Bool (is_marked marks key)) [ inl u ↦ rw u t | inr u ↦ rw u t ]
+  members-turned key c n t = elim (cases_Bool (taken key)) [ inl u ↦ rw u t | inr u ↦ rw u t ]
 
   turned-members : (key : ℕ) (c : Class) (n : ℕ) → is_among (turned key c).members n ≡ true → is_among c.members n ≡ true
-  turned-members key c n t = elim (cases_Bool (is_marked marks key)) [ inl u ↦ rw u at t | inr u ↦ rw u at t ]
+  turned-members key c n t = elim (cases_Bool (taken key)) [ inl u ↦ rw u at t | inr u ↦ rw u at t ]
 
   turned-after : (key : ℕ) (c : Class) (n : ℕ) → is_among (turned key c).after n ≡ true → is_among c.after n ≡ true
   turned-after key c n t = subst (λ z. is_among z n ≡ true) (after-turned key c) t
 
   span-turned : (key : ℕ) (c : Class) (x : ℕ) → spans (turned key c) x ≡ spans c x
-  span-turned key c x = elim (cases_Bool (is_marked marks key)) [ inl u ↦ rw u refl | inr u ↦ rw u refl ]
+  span-turned key c x = elim (cases_Bool (taken key)) [ inl u ↦ rw u refl | inr u ↦ rw u refl ]
 
   any-sent : (n x : ℕ) (es : List Entry) → list_any (λ e. e.class == n && covers e.patch x) (map f es) ≡ list_any (λ e. e.class == n && covers e.patch x) es
   any-sent n x [] = refl
@@ -212,7 +216,7 @@ module _ (made : ℕ) (old new : Slots) (numbers : Numbers) (all : List Entry) (
       → ((f e).mark ≡ (turned key c).mark) × ((f e).patch.block ≡ (turned key c).block) × ((f e).hard ≡ (turned key c).hard)
   looks-turned key c e at i s k =
       let w = sent-where key c e at i s in
-      elim (cases_Bool (is_marked marks key)) [ inl u ↦ rw (w, u) (refl, k.1, k.2) | inr u ↦ rw (w, u) k ]
+      elim (cases_Bool (taken key)) [ inl u ↦ rw (w, u) (refl, k.1, k.2) | inr u ↦ rw (w, u) k ]
 
   class-of-now : (key : ℕ) (c : Class) → class_at old key ≡ Some c → IsClassOf (map f all) new numbers key (turned key c)
   class-of-now key c at =
@@ -254,7 +258,7 @@ module _ (made : ℕ) (old new : Slots) (numbers : Numbers) (all : List Entry) (
             (ap (λ p. find numbers p.no) (sym py) ∙ there));
       }
 
-  represents : IsOrderly (map f all) → Represents (record { made = made; slots = new; numbers = numbers }) (map f all)
+  represents : IsOrderly (map f all) → Represents (record { made = made; slots = new; numbers = numbers; tops = tops }) (map f all)
   represents o = record {
     orderly = o;
     numbered = numbered-map f all (patch-sent set) r.numbered;
@@ -265,13 +269,14 @@ module _ (made : ℕ) (old new : Slots) (numbers : Numbers) (all : List Entry) (
         let w = r.found y.0 y.1 (sent-live y.0 (ap is_durable y.2 ∙ alive) y.1) in
         (w.0, turned w.0 w.1, sym (ap (λ z. find numbers z.patch.no) y.2) ∙ ap (λ p. find numbers p.no) (patch-sent set y.0) ∙ w.2, class-now w.0 w.1 w.3, name-turned w.0 w.1 ∙ w.4 ∙ sym (class-sent set y.0) ∙ ap (λ z. z.class) y.2);
     live = λ n k at. let w = r.live n k at in (f w.0, In-map f all w.0 w.1, ap (λ p. p.no) (patch-sent set w.0) ∙ w.2, live-sent w.0 w.3);
+    tops = λ b x. tops-kept f all b x (top_at (spans_of tops b) x) (patch-sent set) (λ e i d. sent-live e d i) (r.tops b x);
   }
 
-  represents-ready : ReadyIsOnly → IsOrderly (map (sent (ready all block)) all) → Represents (record { made = made; slots = new; numbers = numbers }) (map (sent (ready all block)) all)
-  represents-ready only = let is = chosen-ready g all r block (is_marked marks) l only in
-      subst (λ s. IsOrderly (map (sent s) all) → Represents (record { made = made; slots = new; numbers = numbers }) (map (sent s) all)) is represents
+  represents-ready : ReadyIsOnly → IsOrderly (map (sent (ready all block)) all) → Represents (record { made = made; slots = new; numbers = numbers; tops = tops }) (map (sent (ready all block)) all)
+  represents-ready only = let is = chosen-ready g all r block taken l only in
+      subst (λ s. IsOrderly (map (sent s) all) → Represents (record { made = made; slots = new; numbers = numbers; tops = tops }) (map (sent s) all)) is represents
 
-pub flies : ReadyIsOnly → (made : ℕ) (old new : Slots) (numbers : Numbers) (all : List Entry) (block : ℕ) (marks : List Bool)
-    → Represents (record { made = made; slots = old; numbers = numbers }) all → IsLargestMet old numbers (picks old block) (is_marked marks) → AreFlown (is_marked marks) old new
-    → IsOrderly (map (sent (ready all block)) all) → Represents (record { made = made; slots = new; numbers = numbers }) (map (sent (ready all block)) all)
-flies only made old new numbers all block marks r l a o = represents-ready made old new numbers all block marks r l a only o
+pub flies : ReadyIsOnly → (made : ℕ) (tops : Skylines) (old new : Slots) (numbers : Numbers) (all : List Entry) (block : ℕ) (taken : ℕ → Bool)
+    → Represents (record { made = made; slots = old; numbers = numbers; tops = tops }) all → IsLargestMet old numbers (picks old block) taken → AreFlown taken old new
+    → IsOrderly (map (sent (ready all block)) all) → Represents (record { made = made; slots = new; numbers = numbers; tops = tops }) (map (sent (ready all block)) all)
+flies only made tops old new numbers all block taken r l a o = represents-ready made tops old new numbers all block taken r l a only o

@@ -10,6 +10,8 @@ use Rattle.patch_model.specs.Pile.{covers, end}
 use Rattle.patch_model.specs.Orderly.{IsOrderly}
 use Rattle.patch_model.specs.Member.{In, list_any-at, list_any-from}
 use Rattle.patch_graph.specs.State.{Class, Graph, Slots, Numbers, find, class_at, leads, leads_at, spans}
+use Rattle.patch_graph.specs.Skyline.{Skylines, top_at, spans_of}
+use Rattle.patch_graph.proofs.Tops.{tops-kept}
 use Rattle.patch_graph.specs.Meaning.{Leads, one, onward, DependsOn, IsClassOf, Represents}
 use Rattle.patch_graph.specs.Merging.{joined_class, IsJoined}
 use Rattle.patch_graph.proofs.Facts.{known}
@@ -92,12 +94,12 @@ pub record MayMerge (all : List Entry) (c d : Class) : Type 0 where
   pub e_begins : e.patch.start ≤ end f.patch
   pub f_begins : f.patch.start ≤ end e.patch
 
-module _ (made keep gone : ℕ) (c d : Class) (old new : Slots) (numbers rest : Numbers) (all : List Entry)
-    (r : Represents (record { made = made; slots = old; numbers = numbers }) all)
+module _ (made : ℕ) (tops : Skylines) (keep gone : ℕ) (c d : Class) (old new : Slots) (numbers rest : Numbers) (all : List Entry)
+    (r : Represents (record { made = made; slots = old; numbers = numbers; tops = tops }) all)
     (differ : keep ≢ gone) (at_c : class_at old keep ≡ Some c) (at_d : class_at old gone ≡ Some d)
     (may : MayMerge all c d) (a : IsJoined keep gone c d old new numbers rest) where
   abbrev g : Graph
-  g = record { made = made; slots = old; numbers = numbers }
+  g = record { made = made; slots = old; numbers = numbers; tops = tops }
 
   abbrev x : ℕ
   x = c.name
@@ -422,7 +424,7 @@ module _ (made keep gone : ℕ) (c d : Class) (old new : Slots) (numbers rest : 
         | inr q ↦ inr (subst (λ v. spans v p ≡ true) (class_same z d (sym o.0 ∙ ap (class_at old) (one-key g all r k gone z d o.0 at_d q) ∙ at_d)) t)
       ]
 
-  pub merges : IsOrderly (map f all) → Represents (record { made = made; slots = new; numbers = rest }) (map f all)
+  pub merges : IsOrderly (map f all) → Represents (record { made = made; slots = new; numbers = rest; tops = tops }) (map f all)
   merges o = record {
     orderly = o;
     numbered = numbered-map f all (patch-joined x y) r.numbered;
@@ -444,4 +446,5 @@ module _ (made keep gone : ℕ) (c d : Class) (old new : Slots) (numbers rest : 
         let was = find-was n j at in
         let w = r.live n was.0 was.2 in
         (f w.0, In-map f all w.0 w.1, ap (λ p. p.no) (patch-joined x y w.0) ∙ w.2, durable-joined x y w.0 ∙ w.3);
+    tops = λ b p. tops-kept f all b p (top_at (spans_of tops b) p) (patch-joined x y) (λ e i d. sym (durable-joined x y e) ∙ d) (r.tops b p);
   }

@@ -1,6 +1,6 @@
 -- One more patch.
 use Rattle.std.proofs.Common.{◌≡◌, ℕ, ◌+◌, ◌<◌, ◌≤◌, ◌⊎◌, ◌∙◌, inl, inr, Bool, true, false, not, List, [], ◌∷◌, ◌++◌, length, max, min, refl, sym, ap, arith, subst, Option, Some, None, length-append}
-use Rattle.std.specs.Prelude.{◌==◌, ◌&&◌, ◌||◌, ◌≢◌, nat_le, nat_lt, if◌then◌else◌}
+use Rattle.std.specs.Prelude.{◌==◌, ◌&&◌, ◌||◌, ◌≢◌, nat_le, nat_lt}
 use Rattle.std.specs.Option.{option_map_or}
 use Rattle.std.specs.List.{list_all, list_any}
 use Rattle.std.proofs.lemmas.Bool.{cases_Bool, cases_eq, cases_lt, and_parts, and_from, and_left, or_cases, or_left, or_right, both_ways, eqb-true, eq-eqb, ne_eqb, ltb-true, lt-ltb, leb-true, le-leb, false_from_ne_true}
@@ -14,43 +14,13 @@ use Rattle.patch_model.specs.Orderly.{IsOrderly, IsNumbered}
 use Rattle.patch_model.specs.Member.{In, In-from_Contains, Contains-from_In, list_all-at, list_all-from, list_any-at, list_any-from}
 use Rattle.patch_model.specs.declared.patches.Undo.{Undo}
 use Rattle.patch_model.specs.declared.patches.Undo.TheVariants.{Keep, MayDrop}
-use Rattle.patch_graph.specs.State.{Class, Graph, Slots, find, class_at, leads, leads_at, spans}
+use Rattle.patch_graph.specs.State.{Class, Graph, find, class_at, leads, leads_at, spans}
 use Rattle.patch_graph.proofs.Facts.{IsOrdered, ordered, known}
-use Rattle.patch_graph.specs.BlockKeys.{HoldsKeys}
-use Rattle.patch_graph.specs.Meaning.{Leads, one, onward, DependsOn, IsClassOf, Represents}
-use Rattle.patch_graph.specs.Adding.{overlaps, overlap_at, overlapped, dependencies, lets_drop, is_hard, new_class, IsAdded, HasAdded, IsPatch}
+use Rattle.patch_graph.specs.declared.skyline.Span.{Span}
+use Rattle.patch_graph.specs.Skyline.{has_byte, top_at, spans_of, IsTopWithin, IsLaidOn}
+use Rattle.patch_graph.specs.Meaning.{Leads, one, onward, DependsOn, IsClassOf, wrote, IsLast, IsTop, Represents}
+use Rattle.patch_graph.specs.Adding.{AreDependencies, lets_drop, is_hard, new_class, IsAdded, HasAdded, IsPatch}
 use Rattle.patch_graph.proofs.ReadySet.{placed, cases_found, some_same, class_same, In-left, In-right, In-parts, is_among-In, In-is_among}
-
-overlap-here : (slots : Slots) (block start stop key : ℕ) (c : Class) → class_at slots key ≡ Some c → overlaps block start stop c ≡ true → In (overlap_at slots block start stop key) c.name
-overlap-here slots block start stop key c at t =
-    let f : Option Class → List ℕ = λ o. option_map_or (λ c. if overlaps block start stop c then c.name ∷ [] else []) o [] in
-    let e : f (class_at slots key) ≡ c.name ∷ [] = ap f at ∙ ap (λ b. if b then c.name ∷ [] else []) t in
-    subst (λ l. In l c.name) (sym e) (inl refl)
-
--- the names of overlapping classes
-pub overlapped-from : (slots : Slots) (block start stop : ℕ) (keys : List ℕ) (key : ℕ) (c : Class) → In keys key → class_at slots key ≡ Some c → overlaps block start stop c ≡ true → In (overlapped slots block start stop keys) c.name
-overlapped-from slots block start stop [] key c h at t = absurd h
-overlapped-from slots block start stop (k ∷ ks) key c (inl e) at t =
-    In-left (overlap_at slots block start stop k) (overlapped slots block start stop ks) c.name (overlap-here slots block start stop k c (ap (class_at slots) e ∙ at) t)
-overlapped-from slots block start stop (k ∷ ks) key c (inr h) at t =
-    In-right (overlap_at slots block start stop k) (overlapped slots block start stop ks) c.name (overlapped-from slots block start stop ks key c h at t)
-
-overlap-there : (slots : Slots) (block start stop key n : ℕ) → In (overlap_at slots block start stop key) n → (c : Class) × (class_at slots key ≡ Some c) × (overlaps block start stop c ≡ true) × (c.name ≡ n)
-overlap-there slots block start stop key n =
-    elim (class_at slots key) as (λ o. In (option_map_or (λ c. if overlaps block start stop c then c.name ∷ [] else []) o []) n → (c : Class) × (o ≡ Some c) × (overlaps block start stop c ≡ true) × (c.name ≡ n)) [
-      | Some c ↦ λ i. elim (cases_Bool (overlaps block start stop c)) [
-        | inl t ↦ elim (subst (λ b. In (if b then c.name ∷ [] else []) n) t i) [ inl e ↦ (c, refl, t, e) | inr j ↦ absurd j ]
-        | inr t ↦ let none : ⊥ = subst (λ b. In (if b then c.name ∷ [] else []) n) t i in absurd none
-      ]
-      | None ↦ λ i. absurd i
-    ]
-
-pub from-overlapped : (slots : Slots) (block start stop : ℕ) (keys : List ℕ) (n : ℕ) → In (overlapped slots block start stop keys) n → (key : ℕ) × (c : Class) × (class_at slots key ≡ Some c) × (overlaps block start stop c ≡ true) × (c.name ≡ n)
-from-overlapped slots block start stop [] n i = absurd i
-from-overlapped slots block start stop (k ∷ ks) n i = elim (In-parts (overlap_at slots block start stop k) (overlapped slots block start stop ks) n i) [
-  | inl j ↦ let r = overlap-there slots block start stop k n j in (k, r.0, r.1, r.2, r.3)
-  | inr j ↦ from-overlapped slots block start stop ks n j
-]
 
 shares : (p q : Patch) (x : ℕ) → p.block ≡ q.block → covers p x ≡ true → covers q x ≡ true → shares_byte p q ≡ true
 shares p q x same a b =
@@ -208,71 +178,25 @@ module _ (g h : Graph) (all : List Entry) (p : Patch) (key : ℕ) (c : Class) (r
         ];
       }
 
-  -- the key at which a class's name is found
-  found-name : (k : ℕ) (d : Class) → class_at g.slots k ≡ Some d → find g.numbers d.name ≡ Some k
-  found-name k d at =
-      let w = r.classes k d at in
-      let f = (known g all r).named w.some.0 w.some.1 in
-      let name : f.0.patch.no ≡ d.name = f.2 ∙ w.some.2 in
-      subst (λ n. find g.numbers n ≡ Some k) name (w.found f.0 f.1 (f.3 ∙ w.some.2))
-
-  some-span : (k : ℕ) (d : Class) → class_at g.slots k ≡ Some d → d.start < d.stop
-  some-span k d at =
-      let w = r.classes k d at in
-      let f = w.some.0 in
-      let full = (known g all r).filled f w.some.1 in
-      let t : spans d f.patch.start ≡ true = w.span f.patch.start ∙ list_any-from (λ y. y.class == d.name && covers y.patch f.patch.start) all f w.some.1
-      (and_from _ _ (eq-eqb f.class d.name w.some.2) (covers-from f.patch f.patch.start (omega arith) full)) in
-      let both = and_parts (nat_le d.start f.patch.start) (nat_lt f.patch.start d.stop) t in
-      let a1 : d.start ≤ f.patch.start = leb-true d.start f.patch.start both.0 in
-      let a2 : f.patch.start < d.stop = ltb-true f.patch.start d.stop both.1 in
-      omega arith
-
-  module _ (block start stop : ℕ) (keys : List ℕ) (after : List ℕ) (undo : Undo) (hard : Bool) (is : IsPatch p g.made block start stop after undo) (enough : HoldsKeys g.slots block keys) where
-    abbrev deps : List ℕ
-    deps = dependencies g.slots block start stop after keys
-
+  module _ (block start stop : ℕ) (deps : List ℕ) (after : List ℕ) (undo : Undo) (hard : Bool) (is : IsPatch p g.made block start stop after undo)
+      (are : AreDependencies (spans_of g.tops block) start stop after deps) where
     abbrev added : Class
     added = new_class g.made block start stop deps hard
+
+    abbrev top : Span
+    top = record { start = start; stop = stop; no = g.made }
 
     wide : start < stop
     wide = let f = o.filled e new-in in let a1 = is.start_is in let a2 = is.end_is in omega arith
 
-    meets : (k : ℕ) (d : Class) → class_at g.slots k ≡ Some d → overlaps block start stop d ≡ true → (f : Entry) × In all f × (f.class ≡ d.name) × (shares_byte p f.patch ≡ true)
-    meets k d at t =
-        let w = r.classes k d at in
-        let t2 = and_parts (d.block == block && nat_lt d.start stop) (nat_lt start d.stop) t in
-        let t3 = and_parts (d.block == block) (nat_lt d.start stop) t2.0 in
-        let b1 : d.start < stop = ltb-true d.start stop t3.1 in
-        let b2 : start < d.stop = ltb-true start d.stop t2.1 in
-        let x = common start stop d.start d.stop b2 b1 wide (some-span k d at) in
-        let on : spans d x.0 ≡ true = and_from _ _ (le-leb d.start x.0 x.3) (lt-ltb x.0 d.stop x.4) in
-        let f = list_any-at (λ y. y.class == d.name && covers y.patch x.0) all (sym (w.span x.0) ∙ on) in
-        let f2 = and_parts (f.0.class == d.name) (covers f.0.patch x.0) f.2 in
-        let same : f.0.class ≡ d.name = eqb-true f.0.class d.name f2.0 in
-        let on_block : p.block ≡ f.0.patch.block = is.block_is ∙ sym (eqb-true d.block block t3.0) ∙ sym (w.looks f.0 f.1 same).1 in
-        let s1 = is.start_is in let s2 = is.end_is in let x1 = x.1 in let x2 = x.2 in
-        (f.0, f.1, same, shares p f.0.patch x.0 on_block (covers-from p x.0 (omega arith) (omega arith)) f2.1)
-
-    -- the class of a live patch that shares a byte overlaps
-    overlapping : (f : Entry) (j : ℕ) → In all f → shares_byte p f.patch ≡ true → find g.numbers f.patch.no ≡ Some j → (d : Class) × (class_at g.slots j ≡ Some d) × (d.name ≡ f.class) × (overlaps block start stop d ≡ true)
-    overlapping f j i t at =
-        let q = placed g all r f j i at in
-        let d = q.0 in
-        let w = r.classes j d q.1 in
-        let t3 = and_parts (p.block == f.patch.block) (nat_lt (max p.start f.patch.start) (min (end p) (end f.patch))) t in
-        let both_sides : max p.start f.patch.start < min (end p) (end f.patch) = ltb-true (max p.start f.patch.start) (min (end p) (end f.patch)) t3.1 in
-        let b1 : p.start < end f.patch = omega arith in
-        let b2 : f.patch.start < end p = omega arith in
-        let full = o.filled e new-in in
-        let x = common p.start (end p) f.patch.start (end f.patch) b1 b2 full ((known g all r).filled f i) in
-        let on : spans d x.0 ≡ true = w.span x.0 ∙ list_any-from (λ y. y.class == d.name && covers y.patch x.0) all f i (and_from _ _ (eq-eqb f.class d.name (sym q.2)) (covers-from f.patch x.0 x.3 x.4)) in
-        let both = and_parts (nat_le d.start x.0) (nat_lt x.0 d.stop) on in
-        let a1 : d.start ≤ x.0 = leb-true d.start x.0 both.0 in
-        let a2 : x.0 < d.stop = ltb-true x.0 d.stop both.1 in
-        let s1 = is.start_is in let s2 = is.end_is in let x1 = x.1 in let x2 = x.2 in
-        let on_block : d.block ≡ block = sym (w.looks f i (sym q.2)).1 ∙ sym (eqb-true p.block f.patch.block t3.0) ∙ is.block_is in
-        (d, q.1, q.2, and_from _ _ (and_from _ _ (eq-eqb d.block block on_block) (lt-ltb d.start stop (omega arith))) (lt-ltb start d.stop (omega arith)))
+    -- the patch that wrote a byte of the span last
+    last-at : (n : ℕ) → IsTopWithin (spans_of g.tops block) start stop n → (f : Entry) × In all f × (f.patch.no ≡ n) × (shares_byte p f.patch ≡ true)
+    last-at n w =
+        let l = subst (IsTop all block w.0) w.3 (r.tops block w.0) in
+        let t = and_parts (l.e.patch.block == block) (covers l.e.patch w.0) l.wrote_it in
+        let on_block : p.block ≡ l.e.patch.block = is.block_is ∙ sym (eqb-true l.e.patch.block block t.0) in
+        let s1 = is.start_is in let s2 = is.end_is in let w1 = w.1 in let w2 = w.2 in
+        (l.e, l.inside, l.number, shares p l.e.patch w.0 on_block (covers-from p w.0 (omega arith) (omega arith)) t.1)
 
     after-below : (n : ℕ) → In after n → n < g.made
     after-below n i =
@@ -280,43 +204,100 @@ module _ (g h : Graph) (all : List Entry) (p : Patch) (key : ℕ) (c : Class) (r
         let m : n < p.no = l in omega arith
 
     deps-below : (n : ℕ) → In deps n → n < g.made
-    deps-below n i = elim (In-parts after (overlapped g.slots block start stop keys) n i) [
+    deps-below n i = elim (are.only n i) [
       | inl j ↦ after-below n j
-      | inr j ↦
-          let q = from-overlapped g.slots block start stop keys n j in
-          let w = r.classes q.0 q.1 q.2 in
-          let b = class_below w.some.0 w.some.1 in
-          let s = w.some.2 in let t = q.4 in omega arith
+      | inr w ↦ let f = last-at n w in let b = below f.0 f.1 in let s = f.2 in omega arith
     ]
 
     -- what a number of the list says: its class, where that is live, has a patch on which the new one depends directly
     deps-sound : (n j : ℕ) (d : Class) → In deps n → find g.numbers n ≡ Some j → class_at g.slots j ≡ Some d → (f : Entry) × In all f × (f.class ≡ d.name) × (depends_directly p f.patch ≡ true)
-    deps-sound n j d i there at = elim (In-parts after (overlapped g.slots block start stop keys) n i) [
+    deps-sound n j d i there at = elim (are.only n i) [
       | inl k ↦
           let l = r.live n j there in
-          let q = placed g all r l.0 j l.1 (ap (find g.numbers) l.2 ∙ there) in
-          let same : q.0 ≡ d = class_same q.0 d (sym q.1 ∙ at) in
-          (l.0, l.1, sym q.2 ∙ ap (λ z. z.name) same, or_left (is_among p.after l.0.patch.no) _ (subst (λ l2. is_among l2 l.0.patch.no ≡ true) (sym is.after_is) (In-is_among after l.0.patch.no (subst (λ m. In after m) (sym l.2) k))))
-      | inr k ↦
-          let q = from-overlapped g.slots block start stop keys n k in
-          let named : find g.numbers n ≡ Some q.0 = subst (λ m. find g.numbers m ≡ Some q.0) q.4 (found-name q.0 q.1 q.2) in
-          let key_same : q.0 ≡ j = some_same q.0 j (sym named ∙ there) in
-          let same : q.1 ≡ d = class_same q.1 d (sym q.2 ∙ ap (class_at g.slots) key_same ∙ at) in
-          let f = meets q.0 q.1 q.2 q.3 in
+          (l.0, l.1, of l.0 l.1 l.2, or_left (is_among p.after l.0.patch.no) _ (subst (λ l2. is_among l2 l.0.patch.no ≡ true) (sym is.after_is) (In-is_among after l.0.patch.no (subst (λ m. In after m) (sym l.2) k))))
+      | inr w ↦
+          let f = last-at n w in
           let b = below f.0 f.1 in
-          (f.0, f.1, f.2 ∙ ap (λ z. z.name) same, or_right (is_among p.after f.0.patch.no) _ (and_from _ _ (lt-ltb f.0.patch.no p.no (omega arith)) f.3))
+          (f.0, f.1, of f.0 f.1 f.2, or_right (is_among p.after f.0.patch.no) _ (and_from _ _ (lt-ltb f.0.patch.no p.no (omega arith)) f.3))
     ]
+      where
+        of : (f : Entry) → In all f → f.patch.no ≡ n → f.class ≡ d.name
+        of f k s = let q = placed g all r f j k (ap (find g.numbers) s ∙ there) in sym q.2 ∙ ap (λ z. z.name) (class_same q.0 d (sym q.1 ∙ at))
 
-    -- and each live class with such a patch has a number in the list
-    deps-complete : (f : Entry) (j : ℕ) → In all f → depends_directly p f.patch ≡ true → find g.numbers f.patch.no ≡ Some j → (n : ℕ) × In deps n × (find g.numbers n ≡ Some j)
-    deps-complete f j i t there = elim (or_cases (is_among p.after f.patch.no) (nat_lt f.patch.no p.no && shares_byte p f.patch) t) [
-      | inl named ↦ (f.patch.no, In-left after (overlapped g.slots block start stop keys) f.patch.no (is_among-In after f.patch.no (subst (λ l. is_among l f.patch.no ≡ true) is.after_is named)), there)
+    -- the number is that of the patch f, or of one that depends directly on it
+    record IsAbove (f : Entry) (n : ℕ) : Type 0 where
+      pub e : Entry
+      pub inside : In all e
+      pub number : e.patch.no ≡ n
+      pub alive : is_durable e ≡ false
+      pub above : (e ≡ f) ⊎ (depends_directly e.patch f.patch ≡ true)
+
+    -- each live patch on which the new one depends directly has such a number in the list
+    deps-above : (f : Entry) → In all f → is_durable f ≡ false → depends_directly p f.patch ≡ true → (n : ℕ) × In deps n × IsAbove f n
+    deps-above f i alive t = elim (or_cases (is_among p.after f.patch.no) (nat_lt f.patch.no p.no && shares_byte p f.patch) t) [
+      | inl named ↦ (f.patch.no, are.named f.patch.no (is_among-In after f.patch.no (subst (λ l. is_among l f.patch.no ≡ true) is.after_is named)), record { e = f; inside = i; number = refl; alive = alive; above = inl refl })
       | inr shared ↦
-          let q = overlapping f j i (and_parts (nat_lt f.patch.no p.no) (shares_byte p f.patch) shared).1 there in
-          let same_block = and_parts (q.0.block == block) (nat_lt q.0.start stop) (and_parts (q.0.block == block && nat_lt q.0.start stop) (nat_lt start q.0.stop) q.3).0 in
-          let low = enough j q.0 q.1 (eqb-true q.0.block block same_block.0) in
-          (q.0.name, In-right after (overlapped g.slots block start stop keys) q.0.name (overlapped-from g.slots block start stop keys j q.0 low q.1 q.3), found-name j q.0 q.1)
+          let both = and_parts (p.block == f.patch.block) (nat_lt (max p.start f.patch.start) (min (end p) (end f.patch))) (and_parts (nat_lt f.patch.no p.no) (shares_byte p f.patch) shared).1 in
+          let common_bytes : max p.start f.patch.start < min (end p) (end f.patch) = ltb-true (max p.start f.patch.start) (min (end p) (end f.patch)) both.1 in
+          by-byte (max p.start f.patch.start) (omega arith) (omega arith) (covers-from f.patch (max p.start f.patch.start) (omega arith) (omega arith))
+          (sym (eqb-true p.block f.patch.block both.0) ∙ is.block_is)
     ]
+      where
+        by-byte : (x : ℕ) → p.start ≤ x → x < end p → covers f.patch x ≡ true → f.patch.block ≡ block → (n : ℕ) × In deps n × IsAbove f n
+        by-byte x low high on of = elim (cases_top (top_at (spans_of g.tops block) x)) [
+          | inl none ↦ absurd (both_ways _ alive (subst (IsTop all block x) none (r.tops block x) f i wrote_it))
+          | inr n ↦
+              let l = subst (IsTop all block x) n.1 (r.tops block x) in
+              let s1 = is.start_is in let s2 = is.end_is in
+              (n.0, are.last n.0 (x, omega arith, omega arith, n.1), higher n.0 l)
+        ]
+          where
+            wrote_it : wrote block x f ≡ true
+            wrote_it = and_from _ _ (eq-eqb f.patch.block block of) on
+
+            cases_top : (t : Option ℕ) → (t ≡ None) ⊎ ((n : ℕ) × (t ≡ Some n))
+            cases_top (Some n) = inr (n, refl)
+            cases_top None = inl refl
+
+            higher : (n : ℕ) → IsLast all block x n → IsAbove f n
+            higher n l = elim (cases_eq l.e.patch.no f.patch.no) [
+              | inl s ↦ let same = (known g all r).numbers l.e f l.inside i s in
+                  record { e = l.e; inside = l.inside; number = l.number; alive = ap is_durable same ∙ alive; above = inl same }
+              | inr other ↦
+                  let over = l.last f i wrote_it in
+                  let s = l.number in
+                  let w = and_parts (l.e.patch.block == block) (covers l.e.patch x) l.wrote_it in
+                  let depends : depends_directly l.e.patch f.patch ≡ true =
+                  or_right (is_among l.e.patch.after f.patch.no) _ (and_from _ _ (lt-ltb f.patch.no l.e.patch.no (omega arith)) (shares l.e.patch f.patch x (eqb-true l.e.patch.block block w.0 ∙ sym of) w.1 on)) in
+                  record {
+                    e = l.e;
+                    inside = l.inside;
+                    number = l.number;
+                    alive = false_from_ne_true _ (λ d. both_ways _ alive ((known g all r).durable l.e f l.inside i depends d));
+                    above = inr depends;
+                  }
+            ]
+
+    -- so a number of the list has its class, or one from which a chain leads there
+    deps-complete : (f : Entry) (j : ℕ) → In all f → depends_directly p f.patch ≡ true → find g.numbers f.patch.no ≡ Some j
+        → (n : ℕ) × In deps n × (k : ℕ) × (find g.numbers n ≡ Some k) × ((k ≡ j) ⊎ Leads g.slots g.numbers k j)
+    deps-complete f j i t there =
+        let alive = (placed g all r f j i there).3 in
+        let a = deps-above f i alive t in
+        let u = a.2 in
+        let b = r.found u.e u.inside u.alive in (
+          a.0,
+          a.1,
+          b.0,
+          ap (find g.numbers) (sym u.number) ∙ b.2,
+          elim u.above [
+            | inl same ↦ inl (some_same b.0 j (sym b.2 ∙ ap (λ z. find g.numbers z.patch.no) same ∙ there))
+            | inr depends ↦ elim (cases_eq f.class b.1.name) [
+              | inl s ↦ inl (some_same b.0 j (sym ((r.classes b.0 b.1 b.3).found f i s) ∙ there))
+              | inr other ↦ inr ((r.classes b.0 b.1 b.3).complete u.e f j u.inside i (sym b.4) other depends there)
+            ]
+          ],
+        )
 
     drop-at : (n : ℕ) → lets_drop g.slots g.numbers block n ≡ true → (j : ℕ) (d : Class) → find g.numbers n ≡ Some j → class_at g.slots j ≡ Some d → (d.hard && d.block == block) ≡ true
     drop-at n t j d there at =
@@ -340,12 +321,20 @@ module _ (g h : Graph) (all : List Entry) (p : Patch) (key : ℕ) (c : Class) (r
       | inl u ↦ elim (cases_Bool (is_durable f)) [
         | inl v ↦ rw (u, v) refl
         | inr v ↦
-            let b = r.found f i v in
-            let n = deps-complete f b.0 i u b.2 in
-            let z = drop-at n.0 (list_all-at (lets_drop g.slots g.numbers block) deps n.0 t n.1) b.0 b.1 n.2 b.3 in
+            let n = deps-above f i v u in
+            let up = n.2 in
+            let b = r.found up.e up.inside up.alive in
+            let z = drop-at n.0 (list_all-at (lets_drop g.slots g.numbers block) deps n.0 t n.1) b.0 b.1 (ap (find g.numbers) (sym up.number) ∙ b.2) b.3 in
             let z2 = and_parts b.1.hard (b.1.block == block) z in
-            let looks = (r.classes b.0 b.1 b.3).looks f i (sym b.4) in
-            let good : (f.hard && f.patch.block == p.block) ≡ true = and_from _ _ (looks.2 ∙ z2.0) (eq-eqb f.patch.block p.block (looks.1 ∙ eqb-true b.1.block block z2.1 ∙ sym is.block_is)) in
+            let looks = (r.classes b.0 b.1 b.3).looks up.e up.inside (sym b.4) in
+            let of_block : up.e.patch.block ≡ p.block = looks.1 ∙ eqb-true b.1.block block z2.1 ∙ sym is.block_is in
+            let good : (f.hard && f.patch.block == p.block) ≡ true = elim up.above [
+              | inl same ↦ and_from _ _ (ap (λ q. q.hard) (sym same) ∙ looks.2 ∙ z2.0) (eq-eqb f.patch.block p.block (ap (λ q. q.patch.block) (sym same) ∙ of_block))
+              | inr depends ↦ elim ((r.orderly.under up.e f (Contains-from_In all up.e up.inside) (Contains-from_In all f i) depends).hard (looks.2 ∙ z2.0)) [
+                | inl d ↦ absurd (both_ways _ v d)
+                | inr h ↦ and_from _ _ h.0 (eq-eqb f.patch.block p.block (h.1 ∙ of_block))
+              ]
+            ] in
             or_right (not (depends_directly p f.patch) || is_durable f) _ good
       ]
     ])
@@ -413,9 +402,48 @@ module _ (g h : Graph) (all : List Entry) (p : Patch) (key : ℕ) (c : Class) (r
               | inl jy ↦
                   let t : depends_directly p y.patch ≡ true = subst (λ z. depends_directly z.patch y.patch ≡ true) n depends in
                   let v = deps-complete y j jy t (sym (find-same y.patch.no (below y jy)) ∙ there) in
-                  one added (a.here ∙ ap (λ z. Some z) c_is) (list_any-from (leads_at h.numbers j) deps v.0 v.1 (ap (λ q. option_map_or (λ k. k == j) q false) (find-more v.0 j v.2) ∙ eq-eqb j j refl))
+                  let k = v.2 in
+                  let first : leads h.numbers added k ≡ true = list_any-from (leads_at h.numbers k) deps v.0 v.1 (ap (λ q. option_map_or (λ m. m == k) q false) (find-more v.0 k v.3) ∙ eq-eqb k k refl) in
+                  elim v.4 [
+                    | inl e ↦ subst (Leads h.slots h.numbers key) e (one added (a.here ∙ ap (λ z. Some z) c_is) first)
+                    | inr l ↦ onward added (a.here ∙ ap (λ z. Some z) c_is) first (Leads-more k j l)
+                  ]
             ];
       }
+
+      laid : IsLaidOn g.tops h.tops block top
+      laid = subst (λ z. IsLaidOn g.tops h.tops z.block (record { start = z.start; stop = z.stop; no = g.made })) c_is a.laid
+
+      -- where the new patch didn't write, who did last is as it was
+      more-top : (b x : ℕ) (t : Option ℕ) → (wrote b x e ≡ true → ⊥) → IsTop all b x t → IsTop more b x t
+      more-top b x (Some n) off t = record {
+        e = t.e;
+        inside = old-in t.e t.inside;
+        number = t.number;
+        wrote_it = t.wrote_it;
+        last = λ f i w. elim (split f i) [ inl j ↦ t.last f j w | inr s ↦ absurd (off (subst (λ z. wrote b x z ≡ true) s w)) ];
+      }
+      more-top b x None off t = λ f i w. elim (split f i) [ inl j ↦ t f j w | inr s ↦ absurd (off (subst (λ z. wrote b x z ≡ true) s w)) ]
+
+      within : (x : ℕ) → covers p x ≡ has_byte top x
+      within x = ap (λ z. nat_le z x && nat_lt x (end p)) is.start_is ∙ ap (λ z. nat_le start x && nat_lt x z) is.end_is
+
+      new-tops : (b x : ℕ) → IsTop more b x (top_at (spans_of h.tops b) x)
+      new-tops b x = elim (cases_eq b block) [
+        | inr other ↦ subst (λ z. IsTop more b x (top_at z x)) (sym (laid.others b other))
+            (more-top b x (top_at (spans_of g.tops b) x) (λ w. other (sym (eqb-true p.block b (and_parts (p.block == b) (covers p x) w).0) ∙ is.block_is)) (r.tops b x))
+        | inl s ↦ subst (λ z. IsTop more z x (top_at (spans_of h.tops z) x)) (sym s) (elim (cases_Bool (has_byte top x)) [
+          | inl t ↦ subst (IsTop more block x) (sym (laid.here.here x t)) (record {
+            e = e;
+            inside = new-in;
+            number = no;
+            wrote_it = and_from _ _ (eq-eqb p.block block is.block_is) (within x ∙ t);
+            last = λ f i w. elim (split f i) [ inl j ↦ let l = below f j in omega arith | inr n ↦ let l : f.patch.no ≡ g.made = ap (λ z. z.patch.no) n ∙ no in omega arith ];
+          })
+          | inr t ↦ subst (IsTop more block x) (sym (laid.here.beside x t))
+              (more-top block x (top_at (spans_of g.tops block) x) (λ w. both_ways _ t (sym (within x) ∙ (and_parts (p.block == block) (covers p x) w).1)) (r.tops block x))
+        ])
+      ]
 
       represents : Represents h more
       represents = record {
@@ -436,12 +464,13 @@ module _ (g h : Graph) (all : List Entry) (p : Patch) (key : ℕ) (c : Class) (r
           | inl s ↦ (e, new-in, no ∙ sym s, refl)
           | inr other ↦ let l = r.live n k (sym (a.rest n other) ∙ at) in (l.0, old-in l.0 l.1, l.2, l.3)
         ];
+        tops = new-tops;
       }
 
 pub adds : (g h : Graph) (all : List Entry) (p : Patch) (block start stop : ℕ) (after : List ℕ) (undo : Undo) (hard : Bool)
     → Represents g all → IsPatch p g.made block start stop after undo → IsOrderly (all ++ fresh all p ∷ []) → HasAdded g h block start stop undo after hard
     → Represents h (all ++ fresh all p ∷ []) × (hard ≡ is_made_hard all p)
 adds g h all p block start stop after undo hard r is o a = (
-  represents g h all p a.key (new_class g.made block start stop (dependencies g.slots block start stop after a.keys) hard) r a.added is.no o block start stop a.keys after undo hard is a.enough a.hard_is refl,
-  a.hard_is ∙ hard-same g h all p a.key (new_class g.made block start stop (dependencies g.slots block start stop after a.keys) hard) r a.added is.no o block start stop a.keys after undo hard is a.enough,
+  represents g h all p a.key (new_class g.made block start stop a.deps hard) r a.added is.no o block start stop a.deps after undo hard is a.are a.hard_is refl,
+  a.hard_is ∙ hard-same g h all p a.key (new_class g.made block start stop a.deps hard) r a.added is.no o block start stop a.deps after undo hard is a.are,
 )

@@ -12,7 +12,7 @@ use Rattle.patch_model.specs.Ready.{ready, IsWritable, IsLargestWritable, IsRisi
 use Rattle.patch_model.specs.Member.{In, In-from_Contains, Contains-from_In, In-filter, filter-In, list_all-at, list_all-from, list_any-at, list_any-from}
 use Rattle.patch_model.specs.Entries.{rising-filter}
 use Rattle.patch_graph.specs.State.{Class, Graph, Slots, Numbers, find, class_at, leads, leads_at}
-use Rattle.patch_graph.specs.Marks.{is_marked, HoldsMarked}
+use Rattle.patch_graph.specs.Marks.{is_marked}
 use Rattle.patch_graph.specs.Ready.{is_candidate, picks, is_met_at, AreMet, IsWithin, IsLargestMet, gathered, members_at, AreRising, IsArranged}
 use Rattle.patch_graph.proofs.Facts.{known}
 use Rattle.patch_graph.specs.declared.classes.LiveClass.{LiveClass}
@@ -273,30 +273,30 @@ is_among-In ns n t = let r = list_any-at (λ m. m == n) ns t in subst (λ m. In 
 pub In-is_among : (ns : List ℕ) (n : ℕ) → In ns n → is_among ns n ≡ true
 In-is_among ns n i = list_any-from (λ m. m == n) ns n i (eq-eqb n n refl)
 
-pub ready_numbers : ReadyIsOnly → (g : Graph) (all : List Entry) (block : ℕ) (keys : List ℕ) (marks : List Bool) (ns : List ℕ) → Represents g all → HoldsMarked marks keys
-    → IsLargestMet g.slots g.numbers (picks g.slots block) (is_marked marks)
+pub ready_numbers : ReadyIsOnly → (g : Graph) (all : List Entry) (block : ℕ) (keys : List ℕ) (marks : List Bool) (taken : ℕ → Bool) (ns : List ℕ) → Represents g all → ((key : ℕ) → In keys key → is_marked marks key ≡ taken key)
+    → ((key : ℕ) → taken key ≡ true → In keys key) → IsLargestMet g.slots g.numbers (picks g.slots block) taken
     → IsArranged (gathered g.slots marks keys) ns → ns ≡ map (λ e. e.patch.no) (ready all block)
-ready_numbers only g all block keys marks ns r held l a =
-    let set = chosen_set g all r block (is_marked marks) l in
-    let is = chosen-ready g all r block (is_marked marks) l only in
+ready_numbers only g all block keys marks taken ns r same held l a =
+    let set = chosen_set g all r block taken l in
+    let is = chosen-ready g all r block taken l only in
     subst (λ s. ns ≡ map (λ e. e.patch.no) s) is (numbers_same ns (map (λ e. e.patch.no) set) a.rising
-    (rising-map set (rising-filter (chosen g all r block (is_marked marks) l) all (known g all r).rising))
+    (rising-map set (rising-filter (chosen g all r block taken l) all (known g all r).rising))
     (λ n i.
     let p = from-gathered g.slots marks keys n (a.no_more n i) in
     let m = members-from g.slots marks p.0 n p.2 in
     let k = r.classes p.0 m.0 m.1 in
     let e = k.only n (In-is_among m.0.members n m.3) in
     let at = k.found e.0 e.1 e.3 in
-    subst (λ j. In (map (λ e. e.patch.no) set) j) e.2 (In-map set e.0 (In-filter (chosen g all r block (is_marked marks) l) all e.0 e.1 (chosen-at g all r block (is_marked marks) l e.0 p.0 at m.2))))
+    subst (λ j. In (map (λ e. e.patch.no) set) j) e.2 (In-map set e.0 (In-filter (chosen g all r block taken l) all e.0 e.1 (chosen-at g all r block taken l e.0 p.0 at (sym (same p.0 p.1) ∙ m.2)))))
     (λ n i.
     let e = map-In set n i in
-    let f = filter-In (chosen g all r block (is_marked marks) l) all e.0 e.1 in
-    let c = at-chosen g all r block (is_marked marks) l e.0 f.1 in
+    let f = filter-In (chosen g all r block taken l) all e.0 e.1 in
+    let c = at-chosen g all r block taken l e.0 f.1 in
     let p = placed g all r e.0 c.0 f.0 c.1 in
     let k = r.classes c.0 p.0 p.1 in
     let m = is_among-In p.0.members e.0.patch.no (k.members e.0 f.0 (sym p.2)) in
     a.kept n (gathered-from g.slots marks keys c.0 n (held c.0 c.2)
-    (members-to g.slots marks c.0 n p.0 p.1 c.2 (subst (λ j. In p.0.members j) e.2 m)))))
+    (members-to g.slots marks c.0 n p.0 p.1 (same c.0 (held c.0 c.2) ∙ c.2) (subst (λ j. In p.0.members j) e.2 m)))))
 
 not_empty : (es : List Entry) (e : Entry) → In es e → es ≡ [] → ⊥
 not_empty es e i none = subst (λ l. In l e) none i
@@ -305,32 +305,32 @@ some_in : (es : List Entry) → (es ≡ [] → ⊥) → (e : Entry) × In es e
 some_in [] h = absurd (h refl)
 some_in (e ∷ es) h = (e, inl refl)
 
-picked_class : (slots : Slots) (block key : ℕ) → picks slots block key ≡ true → (c : Class) × (class_at slots key ≡ Some c)
+pub picked_class : (slots : Slots) (block key : ℕ) → picks slots block key ≡ true → (c : Class) × (class_at slots key ≡ Some c)
 picked_class slots block key = elim (class_at slots key) as (λ o. option_map_or (is_candidate block) o false ≡ true → (c : Class) × (o ≡ Some c)) [
   | Some c ↦ λ t. (c, refl)
   | None ↦ λ t. absurd (cc)
 ]
 
 -- some class is marked where some patch is ready
-pub any_is_ready : ReadyIsOnly → (g : Graph) (all : List Entry) (block : ℕ) (keys : List ℕ) (marks : List Bool) → Represents g all → HoldsMarked marks keys
-    → IsLargestMet g.slots g.numbers (picks g.slots block) (is_marked marks)
+pub any_is_ready : ReadyIsOnly → (g : Graph) (all : List Entry) (block : ℕ) (keys : List ℕ) (marks : List Bool) (taken : ℕ → Bool) → Represents g all → ((key : ℕ) → In keys key → is_marked marks key ≡ taken key)
+    → ((key : ℕ) → taken key ≡ true → In keys key) → IsLargestMet g.slots g.numbers (picks g.slots block) taken
     → IsTrue (list_any (is_marked marks) keys) ↔ (ready all block ≢ [])
-any_is_ready only g all block keys marks r held l =
-    let set = chosen_set g all r block (is_marked marks) l in
-    let is = chosen-ready g all r block (is_marked marks) l only in
+any_is_ready only g all block keys marks taken r same held l =
+    let set = chosen_set g all r block taken l in
+    let is = chosen-ready g all r block taken l only in
     subst (λ s. IsTrue (list_any (is_marked marks) keys) ↔ (s ≢ [])) is (
       (λ t.
           let found = list_any-at (is_marked marks) keys t in
-          let k : (key : ℕ) × (is_marked marks key ≡ true) = (found.0, found.2) in
+          let k : (key : ℕ) × (taken key ≡ true) = (found.0, sym (same found.0 found.1) ∙ found.2) in
           let c = picked_class g.slots block k.0 (l.inside k.0 k.1) in
           let some = (r.classes k.0 c.0 c.1).some in
           let at = (r.classes k.0 c.0 c.1).found some.0 some.1 some.2 in
-          not_empty set some.0 (In-filter (chosen g all r block (is_marked marks) l) all some.0 some.1 (chosen-at g all r block (is_marked marks) l some.0 k.0 at k.1))),
+          not_empty set some.0 (In-filter (chosen g all r block taken l) all some.0 some.1 (chosen-at g all r block taken l some.0 k.0 at k.1))),
       (λ h.
           let e = some_in set h in
-          let f = filter-In (chosen g all r block (is_marked marks) l) all e.0 e.1 in
-          let c = at-chosen g all r block (is_marked marks) l e.0 f.1 in
-          list_any-from (is_marked marks) keys c.0 (held c.0 c.2) c.2),
+          let f = filter-In (chosen g all r block taken l) all e.0 e.1 in
+          let c = at-chosen g all r block taken l e.0 f.1 in
+          let i = held c.0 c.2 in list_any-from (is_marked marks) keys c.0 i (same c.0 i ∙ c.2)),
     )
 
 -- a number that isn't live

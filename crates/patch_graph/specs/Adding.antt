@@ -1,5 +1,5 @@
 -- What one more patch adds.
-use Rattle.std.specs.Prelude.{ℕ, Bool, true, false, ◌≡◌, ◌≢◌, ◌+◌, ◌==◌, ◌&&◌, nat_lt, if◌then◌else◌, List, [], ◌∷◌, ◌++◌, Some, None}
+use Rattle.std.specs.Prelude.{ℕ, Bool, true, false, ◌≡◌, ◌≢◌, ◌⊎◌, ◌+◌, ◌==◌, ◌&&◌, List, [], ◌∷◌, ◌++◌, Some, None}
 use Rattle.std.specs.List.{list_all}
 use Rattle.std.specs.Option.{option_map_or}
 use Rattle.patch_model.specs.Patch.{Patch}
@@ -10,25 +10,18 @@ use Rattle.patch_model.specs.Pile.{end}
 use Rattle.patch_model.specs.declared.patches.Mark.TheVariants.{Memory}
 use Rattle.patch_model.specs.declared.patches.Undo.{Undo}
 use Rattle.patch_model.specs.declared.patches.Undo.TheVariants.{Keep, MayDrop}
-use Rattle.patch_graph.specs.BlockKeys.{HoldsKeys}
+use Rattle.patch_model.specs.Member.{In}
+use Rattle.patch_graph.specs.Skyline.{IsTopWithin, IsLaidOn, spans_of}
+use Rattle.patch_graph.specs.declared.skyline.Span.{Span}
 use Rattle.patch_graph.specs.declared.graphs.Added.{Added}
 use Rattle.patch_graph.specs.Meaning.{Represents}
 use Rattle.patch_graph.specs.State.{Class, Graph, Slots, Numbers, find, class_at}
 
-abbrev pub overlaps : ℕ → ℕ → ℕ → Class → Bool
-overlaps block start stop c = c.block == block && nat_lt c.start stop && nat_lt start c.stop
-
--- the name of the class at the key, if it overlaps
-abbrev pub overlap_at : Slots → ℕ → ℕ → ℕ → ℕ → List ℕ
-overlap_at slots block start stop key = option_map_or (λ c. if overlaps block start stop c then c.name ∷ [] else []) (class_at slots key) []
-
--- of these keys
-abbrev pub overlapped : Slots → ℕ → ℕ → ℕ → List ℕ → List ℕ
-overlapped slots block start stop [] = []
-overlapped slots block start stop (key ∷ keys) = overlap_at slots block start stop key ++ overlapped slots block start stop keys
-
-abbrev pub dependencies : Slots → ℕ → ℕ → ℕ → List ℕ → List ℕ → List ℕ
-dependencies slots block start stop after keys = after ++ overlapped slots block start stop keys
+-- the numbers that a patch of this span names, and those that wrote a byte of it last
+pub record AreDependencies (tops : List Span) (start stop : ℕ) (after deps : List ℕ) : Type 0 where
+  pub named : (n : ℕ) → In after n → In deps n
+  pub last : (n : ℕ) → IsTopWithin tops start stop n → In deps n
+  pub only : (n : ℕ) → In deps n → In after n ⊎ IsTopWithin tops start stop n
 
 -- the number isn't live, or that of a hard class of the block
 abbrev pub lets_drop : Slots → Numbers → ℕ → ℕ → Bool
@@ -45,25 +38,26 @@ new_class number block start stop deps hard =
 -- the graph with one more class
 pub record IsAdded (old new : Graph) (key : ℕ) (c : Class) : Type 0 where
   pub made : new.made ≡ old.made + 1
+  pub laid : IsLaidOn old.tops new.tops c.block (record { start = c.start; stop = c.stop; no = old.made })
   pub vacant : class_at old.slots key ≡ None
   pub here : class_at new.slots key ≡ Some c
   pub others : (k : ℕ) → k ≢ key → class_at new.slots k ≡ class_at old.slots k
   pub number : find new.numbers old.made ≡ Some key
   pub rest : (n : ℕ) → n ≢ old.made → find new.numbers n ≡ find old.numbers n
 
--- the class of one more patch, where these keys were looked at
+-- the class of one more patch
 pub record IsDrawnUp (g : Graph) (block start stop : ℕ) (undo : Undo) (after : List ℕ) (c : Class) : Type 0 where
-  pub keys : List ℕ
-  pub enough : HoldsKeys g.slots block keys
-  pub is : c ≡ (let deps = dependencies g.slots block start stop after keys in new_class g.made block start stop deps (is_hard g.slots g.numbers block undo deps))
+  pub deps : List ℕ
+  pub are : AreDependencies (spans_of g.tops block) start stop after deps
+  pub is : c ≡ new_class g.made block start stop deps (is_hard g.slots g.numbers block undo deps)
 
--- what was added, at some key, where these keys were looked at
+-- what was added, at some key
 pub record HasAdded (old new : Graph) (block start stop : ℕ) (undo : Undo) (after : List ℕ) (hard : Bool) : Type 0 where
   pub key : ℕ
-  pub keys : List ℕ
-  pub enough : HoldsKeys old.slots block keys
-  pub hard_is : hard ≡ is_hard old.slots old.numbers block undo (dependencies old.slots block start stop after keys)
-  pub added : IsAdded old new key (new_class old.made block start stop (dependencies old.slots block start stop after keys) hard)
+  pub deps : List ℕ
+  pub are : AreDependencies (spans_of old.tops block) start stop after deps
+  pub hard_is : hard ≡ is_hard old.slots old.numbers block undo deps
+  pub added : IsAdded old new key (new_class old.made block start stop deps hard)
 
 -- a patch of this number, span and order
 pub record IsPatch (p : Patch) (number block start stop : ℕ) (after : List ℕ) (undo : Undo) : Type 0 where

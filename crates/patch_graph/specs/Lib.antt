@@ -1,4 +1,5 @@
 pub mod State
+pub mod Skyline
 pub mod Marks
 pub mod Ready
 pub mod Meaning
@@ -10,3 +11,4 @@ pub mod MarkDurable
 pub mod Merging
 pub mod BlockKeys
 pub mod Showing
+pub mod Memo

@@ -1,5 +1,5 @@
 -- Which patches a graph represents.
-use Rattle.std.specs.Prelude.{ℕ, true, false, ◌≡◌, ◌≢◌, ◌⊎◌, ◌<◌, ◌==◌, ◌&&◌, List, length, Some}
+use Rattle.std.specs.Prelude.{ℕ, Bool, true, false, ◌≡◌, ◌≢◌, ◌⊎◌, ◌<◌, ◌≤◌, ◌==◌, ◌&&◌, List, length, Option, Some, None}
 use Rattle.std.specs.List.{list_any}
 use Rattle.patch_model.specs.declared.patches.Mark.{Mark}
 use Rattle.patch_model.specs.Member.{In}
@@ -8,6 +8,7 @@ use Rattle.patch_model.specs.Dependency.{depends_directly}
 use Rattle.patch_model.specs.Pile.{covers}
 use Rattle.patch_model.specs.Orderly.{IsOrderly, IsNumbered}
 use Rattle.patch_graph.specs.State.{Class, Graph, Slots, Numbers, find, class_at, leads, spans}
+use Rattle.patch_graph.specs.Skyline.{top_at, spans_of}
 
 -- a chain of classes, each of which depends directly on the next
 pub data Leads (slots : Slots) (numbers : Numbers) : ℕ → ℕ → Type 0 where
@@ -38,7 +39,24 @@ pub record IsClassOf (all : List Entry) (slots : Slots) (numbers : Numbers) (key
   pub complete : (e f : Entry) (j : ℕ) → In all e → In all f → e.class ≡ c.name → f.class ≢ c.name → depends_directly e.patch f.patch ≡ true
       → find numbers f.patch.no ≡ Some j → Leads slots numbers key j
 
--- the graph's classes are the live ones of the patches
+-- the patch wrote the byte of the block
+abbrev pub wrote : ℕ → ℕ → Entry → Bool
+wrote block x e = e.patch.block == block && covers e.patch x
+
+-- of the patches that wrote the byte of the block, the last one has this number
+pub record IsLast (all : List Entry) (block x n : ℕ) : Type 0 where
+  pub e : Entry
+  pub inside : In all e
+  pub number : e.patch.no ≡ n
+  pub wrote_it : wrote block x e ≡ true
+  pub last : (f : Entry) → In all f → wrote block x f ≡ true → f.patch.no ≤ n
+
+-- the number of the last patch that wrote the byte of the block; there may be none where each that did is durable
+abbrev pub IsTop : List Entry → ℕ → ℕ → Option ℕ → Type 0
+IsTop all block x (Some n) = IsLast all block x n
+IsTop all block x None = (f : Entry) → In all f → wrote block x f ≡ true → is_durable f ≡ true
+
+-- the graph's classes are the live ones of the patches, and its skylines show who wrote each byte last
 pub record Represents (g : Graph) (all : List Entry) : Type 0 where
   pub orderly : IsOrderly all
   pub numbered : IsNumbered all
@@ -46,6 +64,11 @@ pub record Represents (g : Graph) (all : List Entry) : Type 0 where
   pub classes : (key : ℕ) (c : Class) → class_at g.slots key ≡ Some c → IsClassOf all g.slots g.numbers key c
   pub found : (e : Entry) → In all e → is_durable e ≡ false → (key : ℕ) × (c : Class) × (find g.numbers e.patch.no ≡ Some key) × (class_at g.slots key ≡ Some c) × (c.name ≡ e.class)
   pub live : (n key : ℕ) → find g.numbers n ≡ Some key → (e : Entry) × In all e × (e.patch.no ≡ n) × (is_durable e ≡ false)
+  pub tops : (block x : ℕ) → IsTop all block x (top_at (spans_of g.tops block) x)
+
+-- all patches that the one graph represents are those of the other
+abbrev pub StandsForSame : Graph → Graph → Type 0
+StandsForSame old new = (all : List Entry) → Represents old all → Represents new all
 
 -- the patch of this number is durable, or wasn't made
 abbrev pub IsNotLive : List Entry → ℕ → Type 0

@@ -4,6 +4,7 @@ use Rattle.std.specs.List.{list_any}
 use Rattle.std.specs.Map.{lookup}
 use Rattle.std.specs.Option.{option_map_or}
 use Rattle.patch_model.specs.declared.patches.Mark.{Mark}
+use Rattle.patch_graph.specs.Skyline.{Skylines}
 
 -- a live class: its name, its patches' numbers, its block, its mark, whether it is hard, its span, and the numbers
 -- that its patches depend on
@@ -23,11 +24,12 @@ Slots = List (Option Class)
 abbrev pub Numbers : Type 0
 Numbers = List (ℕ × ℕ)
 
--- how many patches were made, the classes by key, and the key of each live number
+-- how many patches were made, the classes by key, the key of each live number, and which patch wrote each byte of a block last
 pub record Graph : Type 0 where
   pub made : ℕ
   pub slots : Slots
   pub numbers : Numbers
+  pub tops : Skylines
 
 -- the key of the class of a live number
 abbrev pub find : Numbers → ℕ → Option ℕ

@@ -1,18 +1,23 @@
 //! What a new patch depends on, and how its class comes to the others.
-ghost use Rattle.std.specs.Prelude.{◌≡◌, ◌<◌, ◌≤◌, ◌+◌, ◌++◌, length, IfOk, OnOk, OnErr};
+ghost use Rattle.std.specs.Prelude.{◌≡◌, ◌<◌, ◌≤◌, ◌+◌, ◌++◌, length, map, IfOk, OnOk, OnErr};
 ghost use Rattle.std.specs.List.{list_all};
 ghost use Rattle.std.specs.Option.{option_map_or};
 ghost use Rattle.std.specs.Prelude.{◌&&◌, ◌==◌, false};
 ghost use Rattle.indexmap.specs.IndexMap.{spare};
 ghost use Rattle.slab.specs.Slab.{HasRoomFor};
 ghost use Rattle.patch_graph.specs.State.{class_at};
-ghost use Rattle.patch_graph.specs.Adding.{overlap_at, dependencies, lets_drop, is_hard, IsAdded};
+ghost use Rattle.patch_graph.specs.Adding.{AreDependencies, lets_drop, is_hard, IsAdded};
 ghost use Rattle.patch_graph.specs.BlockKeys.{AreListed};
+ghost use Rattle.patch_graph.specs.Marks.{AreClear};
+ghost use Rattle.patch_graph.specs.Skyline.{spans_of};
 
-use crate::block_keys::{BlockKeys, list};
+use crate::block_keys::{BlockKeys, list, unlist};
 use crate::classes::Class;
+use crate::memo::Memo;
 use crate::register::{Classes, Keys, Register, enter};
 use crate::scratch::Scratch;
+use crate::skyline::Span;
+use crate::skylines::{lay, tops};
 use patch_model::{BlockNo, MAX_PATCHES, PatchNo, Undo};
 use std::alloc::{AllocError, Allocator};
 
@@ -34,26 +39,18 @@ fn make_room<A: Allocator + Copy>(
     scratch.grow(classes.capacity())
 }
 
-/// Adds the name of the class at the key, if it has a byte of the block between these.
-fn add_overlap<A: Allocator>(
-    register: &Register<A>,
-    block: BlockNo,
-    start: usize,
-    stop: usize,
-    key: usize,
-    all: &mut Vec<PatchNo, A>,
-) -> Result<(), AllocError>
-    ensures { OnOk result (all.new.items ≡ all.old.items ++ overlap_at register.now.slots block start stop key) }
+/// Puts the numbers of the spans behind the others.
+fn push_numbers<A: Allocator>(spans: &[Span], all: &mut Vec<PatchNo, A>) -> Result<(), AllocError>
+    ensures { OnOk result (all.new.items ≡ all.old.items ++ map (λ s. s.no) spans.now) }
 {
-    if let Some(class) = register.class_at(key) {
-        if class.overlaps(block, start, stop) {
-            all.push(class.name)?;
-        }
+    for span in spans {
+        all.push(span.no)?;
     }
     Ok(())
 }
 
-/// The numbers that a patch of this span names, and the classes that it overlaps, of these keys.
+/// The numbers that a patch of this span names, and of each of its bytes the patch that wrote it last. Each earlier one that
+/// wrote it is one on which that depends, directly or through others.
 pub fn dependencies<A: Allocator>(
     alloc: A,
     register: &Register<A>,
@@ -61,14 +58,12 @@ pub fn dependencies<A: Allocator>(
     start: usize,
     stop: usize,
     after: &[PatchNo],
-    keys: &[usize],
 ) -> Result<Vec<PatchNo, A>, AllocError>
-    ensures { IfOk result (λ all. all.items ≡ dependencies register.now.slots block start stop after.now keys.now) }
+    requires { start < stop }
+    ensures { IfOk result (λ all. AreDependencies (spans_of register.now.tops block) start stop after.now all.items) }
 {
     let mut all = Vec::from_slice(alloc, after)?;
-    for key in keys {
-        add_overlap(register, block, start, stop, *key, &mut all)?;
-    }
+    push_numbers(tops(&register.skylines, block, start, stop), &mut all)?;
     Ok(all)
 }
 
@@ -115,23 +110,38 @@ pub fn is_hard<A: Allocator>(
     }
 }
 
-/// Puts in a new patch's class, lists its key for its block, and makes room for searches through one class more.
+/// Puts in a new patch's class, lists its key for its block, lays its span on the block's skyline, and makes room for searches
+/// through one class more.
 pub fn insert<A: Allocator + Copy>(
     alloc: A,
     register: &mut Register<A>,
     lists: &mut BlockKeys<A>,
     scratch: &mut Scratch<A>,
+    memo: &mut Memo<A>,
     class: Class<A>,
 ) -> Result<usize, AllocError>
-    requires { register.old.made < MAX_PATCHES }
+    requires numbers { register.old.made < MAX_PATCHES }
+    requires some { class.start < class.stop }
     ensures inserted { IfOk result (λ key. IsAdded register.old register.new key class) }
     ensures room { length register.old.slots ≤ scratch.old → length register.new.slots ≤ scratch.new }
     ensures listed { AreListed register.old.slots lists.old.entries → AreListed register.new.slots lists.new.entries }
+    ensures memo { length register.old.slots ≤ length memo.old.ready → length register.new.slots ≤ length memo.new.ready }
+    ensures unknown { AreClear memo.old.known → AreClear memo.new.known }
     ensures refused { OnErr result (register.new ≡ register.old) }
 {
     make_room(&mut register.classes, &mut register.keys, scratch)?;
+    memo.grow(register.classes.capacity())?;
     let no = PatchNo(register.made);
+    let top = Span {
+        start: class.start,
+        stop: class.stop,
+        no,
+    };
     list(alloc, lists, class.block, register.classes.vacant_key())?;
+    if let Err(error) = lay(alloc, &mut register.skylines, class.block, top) {
+        unlist(lists, register, class.block);
+        return Err(error);
+    }
     let key = register.classes.insert_reserved(class);
     // No key is past the capacity, and the room is as large.
     let _count = register.classes.capacity();

@@ -1,8 +1,10 @@
 //! Which keys are those of a block's classes.
 ghost use Rattle.std.specs.Prelude.{◌≡◌, ◌∷◌, ◌++◌, [], filter, IfOk, OnOk, OnErr};
-ghost use Rattle.patch_graph.specs.BlockKeys.{listed, is_key, HasListed, HasPushed, HasUnlisted, KeepsListed};
+ghost use Rattle.patch_graph.specs.BlockKeys.{listed, is_key, AreListed, HasListed, HasPushed, HasUnlisted, KeepsListed};
+ghost use Rattle.patch_graph.specs.Meaning.{StandsForSame};
 
 use crate::register::Register;
+use crate::skylines::empty;
 use indexmap::IndexMap;
 use patch_model::BlockNo;
 use std::alloc::{AllocError, Allocator, Global};
@@ -112,5 +114,21 @@ pub fn unlist<A: Allocator>(lists: &mut BlockKeys<A>, register: &Register<A>, bl
 {
     if let Some(list) = lists.get_mut(&block) {
         list.keep_live(register);
+    }
+}
+
+/// Empties the skyline of a block that has no class: all its patches are durable.
+pub fn empty_unlisted<A: Allocator>(
+    lists: &BlockKeys<A>,
+    register: &mut Register<A>,
+    block: BlockNo,
+)
+    requires { AreListed register.old.slots lists.now.entries }
+    ensures same { StandsForSame register.old register.new }
+    ensures made { register.new.made ≡ register.old.made }
+    ensures slots { register.new.slots ≡ register.old.slots }
+{
+    if listed(lists, block).is_empty() {
+        empty(&mut register.skylines, block);
     }
 }

@@ -1,7 +1,7 @@
 //! Live classes.
 ghost use Rattle.std.specs.Prelude.{◌≡◌, IfOk};
 ghost use Rattle.patch_graph.specs.Showing.{shown};
-ghost use Rattle.patch_graph.specs.Adding.{new_class, overlaps};
+ghost use Rattle.patch_graph.specs.Adding.{new_class};
 ghost use Rattle.patch_graph.specs.Ready.{is_candidate};
 
 use patch_model::{BlockNo, Mark, PatchNo};
@@ -91,13 +91,6 @@ impl<A: Allocator> Class<A> {
             start: self.start,
             stop: self.stop,
         }
-    }
-
-    /// Whether it has a byte of the block between these.
-    pub fn overlaps(&self, block: BlockNo, start: usize, stop: usize) -> bool
-        ensures { result ≡ overlaps block start stop self.now }
-    {
-        self.block == block && self.start < stop && start < self.stop
     }
 
     /// Whether it is in memory and of the block: a send takes it if all that it depends on lets it.

@@ -11,12 +11,13 @@ ghost use Rattle.patch_graph.specs.Merging.{Merges};
 ghost use Rattle.patch_graph.specs.Adding.{Adds, HasAdded, IsDrawnUp};
 
 use crate::adding::{dependencies, insert, is_hard};
-use crate::block_keys::{BlockKeys, listed, unlist};
+use crate::block_keys::{BlockKeys, empty_unlisted, listed, unlist};
 use crate::classes::{Class, LiveClass};
 use crate::mark_durable::land;
 use crate::mark_flight::fly_ready;
+use crate::memo::Memo;
 use crate::merging;
-use crate::queries::{between, is_any_ready, numbers_ready, reaches};
+use crate::queries::{between, is_any_taken, numbers_ready, numbers_taken, reaches};
 use crate::register::Register;
 use crate::scratch::Scratch;
 use patch_model::{BlockNo, MAX_PATCHES, Mark, OutOfMemory, PatchNo, Undo};
@@ -40,18 +41,21 @@ pub struct Graph<A: Allocator + Copy = Global> {
     register: Register<A>,
     lists: BlockKeys<A>,
     scratch: Scratch<A>,
+    memo: Memo<A>,
 }
 
 impl<A: Allocator + Copy> Model for Graph<A> {
     ghost use Rattle.std.specs.Prelude.{◌≤◌, length};
     ghost use Rattle.patch_graph.specs.State.{Graph as Seen};
     ghost use Rattle.patch_graph.specs.BlockKeys.{AreListed};
+    ghost use Rattle.patch_graph.specs.Memo.{IsMemo};
 
     ghost Value = { Seen };
 
     ghost view = { λ g. g.register };
 
-    ghost invariant = { λ g. (length g.register.slots ≤ g.scratch) × AreListed g.register.slots g.lists.entries };
+    ghost invariant = { λ g. (length g.register.slots ≤ g.scratch) × AreListed g.register.slots g.lists.entries
+        × IsMemo g.register.slots g.register.numbers g.lists.entries g.memo };
 }
 
 impl<A: Allocator + Copy> Graph<A> {
@@ -64,6 +68,7 @@ impl<A: Allocator + Copy> Graph<A> {
             register: Register::new(alloc),
             lists: BlockKeys::new(alloc),
             scratch: Scratch::new(alloc),
+            memo: Memo::new(alloc),
         }
     }
 
@@ -76,6 +81,26 @@ impl<A: Allocator + Copy> Graph<A> {
 
     /// The patches that a send of the block takes, rising.
     pub fn ready<B: Allocator>(
+        &mut self,
+        alloc: B,
+        block: BlockNo,
+    ) -> Result<Vec<PatchNo, B>, OutOfMemory>
+        ensures answer { IfOk result (λ numbers. AreReady self.old block numbers.items) }
+        ensures same { self.new ≡ self.old }
+    {
+        let numbers = numbers_taken(
+            alloc,
+            &self.register,
+            &self.lists,
+            block,
+            &mut self.scratch,
+            &mut self.memo,
+        )?;
+        Ok(numbers)
+    }
+
+    /// `ready`, by a search whatever is known.
+    pub(crate) fn ready_anew<B: Allocator>(
         &mut self,
         alloc: B,
         block: BlockNo,
@@ -98,16 +123,17 @@ impl<A: Allocator + Copy> Graph<A> {
         ensures answer { TellsReady self.old block result }
         ensures same { self.new ≡ self.old }
     {
-        is_any_ready(
+        is_any_taken(
             &self.register,
+            &self.lists,
             block,
-            listed(&self.lists, block),
             &mut self.scratch,
+            &mut self.memo,
         )
     }
 
     /// Adds a patch of the bytes from `start` to `stop`, in memory and a class of its own. It depends on the patches that
-    /// it names and on each class that it overlaps. It is hard if it may drop its undo bytes and each patch that it depends
+    /// it names and on those that wrote a byte of its span before. It is hard if it may drop its undo bytes and each patch that it depends
     /// on is durable or a hard one of its block. That is Featherstitch's hard patches, by a rule of our own that a send never
     /// has to revert one: in a block without a flight all hard patches are ready.
     pub fn add(
@@ -138,18 +164,21 @@ impl<A: Allocator + Copy> Graph<A> {
         after: &[PatchNo],
         undo: Undo,
     ) -> Result<bool, AllocError>
-        requires { self.old.made < MAX_PATCHES }
+        requires numbers { self.old.made < MAX_PATCHES }
+        requires span { start < stop }
         ensures made { OnOk result (self.new.made ≡ self.old.made + 1) }
         ensures done { IfOk result (λ hard. HasAdded self.old self.new block start stop undo after.now hard) }
         ensures refused { OnErr result (self.new ≡ self.old) }
     {
         let class = self.drawn_up(block, start, stop, after, undo)?;
         let hard = class.hard;
+        self.memo.forget();
         insert(
             self.alloc,
             &mut self.register,
             &mut self.lists,
             &mut self.scratch,
+            &mut self.memo,
             class,
         )?;
         Ok(hard)
@@ -164,10 +193,10 @@ impl<A: Allocator + Copy> Graph<A> {
         after: &[PatchNo],
         undo: Undo,
     ) -> Result<Class<A>, AllocError>
+        requires { start < stop }
         ensures { IfOk result (IsDrawnUp self.now block start stop undo after.now) }
     {
-        let keys = listed(&self.lists, block);
-        let deps = dependencies(self.alloc, &self.register, block, start, stop, after, keys)?;
+        let deps = dependencies(self.alloc, &self.register, block, start, stop, after)?;
         let hard = is_hard(&self.register, block, undo, deps.as_slice());
         Class::alone(
             self.alloc,
@@ -186,6 +215,7 @@ impl<A: Allocator + Copy> Graph<A> {
         ensures made { self.new.made ≡ self.old.made }
         ensures refused { OnErr result (self.new ≡ self.old) }
     {
+        self.memo.forget();
         let name = merging::merge(self.alloc, &mut self.register, &mut self.lists, a, b)?;
         Ok(name)
     }
@@ -205,8 +235,13 @@ impl<A: Allocator + Copy> Graph<A> {
         ensures answer { PutsInFlight self.old self.new block }
         ensures made { self.new.made ≡ self.old.made }
     {
-        let keys = listed(&self.lists, block);
-        fly_ready(&mut self.register, block, keys, &mut self.scratch);
+        fly_ready(
+            &mut self.register,
+            &self.lists,
+            block,
+            &mut self.scratch,
+            &mut self.memo,
+        );
     }
 
     /// Makes durable what is in flight of the block, and forgets it.
@@ -214,9 +249,11 @@ impl<A: Allocator + Copy> Graph<A> {
         ensures answer { MakesDurable self.old self.new block }
         ensures made { self.new.made ≡ self.old.made }
     {
+        self.memo.forget();
         let keys = listed(&self.lists, block);
         land(&mut self.register, block, keys);
         unlist(&mut self.lists, &self.register, block);
+        empty_unlisted(&self.lists, &mut self.register, block);
     }
 
     /// Whether the class of the one live patch depends on that of the other, directly or through others. No class reaches

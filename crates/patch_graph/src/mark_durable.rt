@@ -39,6 +39,7 @@ fn forget<A: Allocator>(keys: &mut Keys<A>, members: &[PatchNo])
 fn land_at<A: Allocator>(register: &mut Register<A>, block: BlockNo, key: usize)
     ensures landed { HasLanded register.old register.new block (λ k. k == key) }
     ensures made { register.new.made ≡ register.old.made }
+    ensures tops { register.new.tops ≡ register.old.tops }
 {
     if lands_at(register, block, key) {
         if let Some(class) = register.classes.try_remove(key) {
@@ -51,6 +52,7 @@ fn land_at<A: Allocator>(register: &mut Register<A>, block: BlockNo, key: usize)
 fn land_exactly<A: Allocator>(register: &mut Register<A>, block: BlockNo, keys: &[usize])
     ensures landed { HasLanded register.old register.new block (is_among keys.now) }
     ensures made { register.new.made ≡ register.old.made }
+    ensures tops { register.new.tops ≡ register.old.tops }
 {
     for key in keys {
         land_at(register, block, *key);

@@ -1,11 +1,13 @@
 //! Classes put in flight.
 ghost use Rattle.std.specs.Prelude.{◌≡◌, ◌≤◌, ℕ, Bool, length};
-ghost use Rattle.patch_graph.specs.Marks.{is_marked, HoldsMarked};
-ghost use Rattle.patch_graph.specs.BlockKeys.{HoldsKeys};
+ghost use Rattle.patch_graph.specs.BlockKeys.{AreListed};
+ghost use Rattle.patch_graph.specs.Memo.{taken_of, IsMemo};
 ghost use Rattle.patch_graph.specs.MarkFlight.{flown_at, AreFlown, PutsInFlight};
 
-use crate::marks::{clear, is_marked};
-use crate::ready::mark_ready;
+use crate::block_keys::{BlockKeys, listed};
+use crate::marks::is_marked;
+use crate::memo::Memo;
+use crate::queries::remember;
 use crate::register::{Classes, Register};
 use crate::scratch::Scratch;
 use patch_model::{BlockNo, Mark, laws};
@@ -20,10 +22,9 @@ fn fly<A: Allocator>(classes: &mut Classes<A>, key: usize)
     }
 }
 
-/// Puts the marked classes in flight, which are of these keys.
+/// Puts in flight the classes of these keys that are marked.
 pub fn fly_marked<A: Allocator>(classes: &mut Classes<A>, keys: &[usize], marks: &[bool])
-    requires { HoldsMarked marks.now keys.now }
-    ensures flown { AreFlown (is_marked marks.now) classes.old.slots classes.new.slots }
+    ensures flown { AreFlown (taken_of keys.now marks.now) classes.old.slots classes.new.slots }
     ensures length { length classes.new.slots ≡ length classes.old.slots }
 {
     for key in keys {
@@ -33,24 +34,27 @@ pub fn fly_marked<A: Allocator>(classes: &mut Classes<A>, keys: &[usize], marks:
     }
 }
 
-/// Puts in flight what a send of the block takes, of these keys.
+/// Puts in flight what a send of the block takes.
 pub fn fly_ready<A: Allocator>(
     register: &mut Register<A>,
+    lists: &BlockKeys<A>,
     block: BlockNo,
-    keys: &[usize],
     scratch: &mut Scratch<A>,
+    memo: &mut Memo<A>,
 )
     requires fits { length register.old.slots ≤ scratch.old }
-    requires complete { HoldsKeys register.old.slots block keys.now }
+    requires listed { AreListed register.old.slots lists.now.entries }
+    requires memo { IsMemo register.old.slots register.old.numbers lists.now.entries memo.old }
     ensures answer { PutsInFlight register.old register.new block }
     ensures scratch { scratch.new ≡ scratch.old }
+    ensures memo { IsMemo register.new.slots register.new.numbers lists.now.entries memo.new }
     ensures made { register.new.made ≡ register.old.made }
     ensures length { length register.new.slots ≡ length register.old.slots }
     ensures kept { (set : ℕ → Bool) × AreFlown set register.old.slots register.new.slots }
 {
     laws::ready_is_largest();
-    let marks = scratch.marks.as_mut_slice();
-    mark_ready(register, block, keys, marks);
-    fly_marked(&mut register.classes, keys, marks);
-    clear(keys, marks);
+    remember(register, lists, block, scratch, memo);
+    let keys = listed(lists, block);
+    fly_marked(&mut register.classes, keys, memo.ready());
+    memo.drop_keys(keys);
 }

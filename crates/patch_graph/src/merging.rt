@@ -116,6 +116,7 @@ fn join<A: Allocator + Copy>(
     ensures joined { OnOk result (HasJoined keep gone register.old register.new) }
     ensures refused { OnErr result (register.new ≡ register.old) }
     ensures made { register.new.made ≡ register.old.made }
+    ensures tops { register.new.tops ≡ register.old.tops }
     ensures length { length register.new.slots ≡ length register.old.slots }
     ensures listed { AreListed register.old.slots lists.old.entries → AreListed register.new.slots lists.new.entries }
 {

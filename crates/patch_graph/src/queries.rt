@@ -2,11 +2,14 @@
 ghost use Rattle.std.specs.Prelude.{◌≡◌, ◌≤◌, false, None, length, IfOk};
 ghost use Rattle.patch_graph.specs.Ready.{AreReady, TellsReady};
 ghost use Rattle.patch_graph.specs.Between.{LacksAKey, TellsLeastBetween, TellsReach, is_newest};
-ghost use Rattle.patch_graph.specs.BlockKeys.{HoldsKeys};
+ghost use Rattle.patch_graph.specs.BlockKeys.{HoldsKeys, AreListed};
+ghost use Rattle.patch_graph.specs.Memo.{IsMemo, TellsTaken};
 ghost use Rattle.patch_graph.specs.Marks.{AreClear};
 
 use crate::between::{copy_without, least_name};
+use crate::block_keys::{BlockKeys, listed};
 use crate::marks::{any_marked, clear, is_marked};
+use crate::memo::Memo;
 use crate::ready::{mark_ready, marked_numbers, settle};
 use crate::register::Register;
 use crate::scratch::Scratch;
@@ -14,7 +17,7 @@ use crate::searching::search;
 use patch_model::{BlockNo, PatchNo, laws};
 use std::alloc::{AllocError, Allocator};
 
-/// The numbers that a send of the block takes, rising.
+/// The numbers that a send of the block takes, rising, by a search.
 pub fn numbers_ready<A: Allocator, B: Allocator>(
     alloc: B,
     register: &Register<A>,
@@ -35,24 +38,70 @@ pub fn numbers_ready<A: Allocator, B: Allocator>(
     found
 }
 
-/// Whether a send of the block takes any patch.
-pub fn is_any_ready<A: Allocator>(
+/// Has the memo know what a send of the block takes, by a search if it doesn't.
+pub fn remember<A: Allocator>(
     register: &Register<A>,
+    lists: &BlockKeys<A>,
     block: BlockNo,
-    keys: &[usize],
     scratch: &mut Scratch<A>,
+    memo: &mut Memo<A>,
+)
+    requires fits { length register.now.slots ≤ scratch.old }
+    requires listed { AreListed register.now.slots lists.now.entries }
+    requires memo { IsMemo register.now.slots register.now.numbers lists.now.entries memo.old }
+    ensures scratch { scratch.new ≡ scratch.old }
+    ensures memo { IsMemo register.now.slots register.now.numbers lists.now.entries memo.new }
+    ensures taken { TellsTaken register.now.slots register.now.numbers lists.now.entries block memo.new.ready }
+{
+    let keys = listed(lists, block);
+    if memo.knows(keys) {
+        return;
+    }
+    let marks = scratch.marks.as_mut_slice();
+    mark_ready(register, block, keys, marks);
+    memo.note(keys, marks);
+    clear(keys, marks);
+}
+
+/// The numbers that a send of the block takes, rising.
+pub fn numbers_taken<A: Allocator, B: Allocator>(
+    alloc: B,
+    register: &Register<A>,
+    lists: &BlockKeys<A>,
+    block: BlockNo,
+    scratch: &mut Scratch<A>,
+    memo: &mut Memo<A>,
+) -> Result<Vec<PatchNo, B>, AllocError>
+    requires fits { length register.now.slots ≤ scratch.old }
+    requires listed { AreListed register.now.slots lists.now.entries }
+    requires memo { IsMemo register.now.slots register.now.numbers lists.now.entries memo.old }
+    ensures scratch { scratch.new ≡ scratch.old }
+    ensures memo { IsMemo register.now.slots register.now.numbers lists.now.entries memo.new }
+    ensures answer { IfOk result (λ numbers. AreReady register.now block numbers.items) }
+{
+    laws::ready_is_largest();
+    remember(register, lists, block, scratch, memo);
+    marked_numbers(alloc, register, listed(lists, block), memo.ready())
+}
+
+/// Whether a send of the block takes any patch.
+pub fn is_any_taken<A: Allocator>(
+    register: &Register<A>,
+    lists: &BlockKeys<A>,
+    block: BlockNo,
+    scratch: &mut Scratch<A>,
+    memo: &mut Memo<A>,
 ) -> bool
     requires fits { length register.now.slots ≤ scratch.old }
-    requires complete { HoldsKeys register.now.slots block keys.now }
+    requires listed { AreListed register.now.slots lists.now.entries }
+    requires memo { IsMemo register.now.slots register.now.numbers lists.now.entries memo.old }
     ensures scratch { scratch.new ≡ scratch.old }
+    ensures memo { IsMemo register.now.slots register.now.numbers lists.now.entries memo.new }
     ensures answer { TellsReady register.now block result }
 {
     laws::ready_is_largest();
-    let marks = scratch.marks.as_mut_slice();
-    mark_ready(register, block, keys, marks);
-    let any = any_marked(keys, marks);
-    clear(keys, marks);
-    any
+    remember(register, lists, block, scratch, memo);
+    any_marked(listed(lists, block), memo.ready())
 }
 
 /// `reaches`, on marks and a queue.

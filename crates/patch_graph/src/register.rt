@@ -7,6 +7,7 @@ ghost use Rattle.patch_graph.specs.Showing.{shown};
 ghost use Rattle.patch_graph.specs.BlockKeys.{is_key};
 
 use crate::classes::{Class, LiveClass};
+use crate::skylines::Skylines;
 use indexmap::IndexMap;
 use patch_model::{Mark, PatchNo};
 use slab::Slab;
@@ -20,12 +21,13 @@ pub type Classes<A> = Slab<Class<A>, A>;
 /// The key of each live patch's class.
 pub type Keys<A> = IndexMap<PatchNo, usize, BuildHasherDefault<FoldHasher>, A>;
 
-/// How many patches were made, the live classes by their keys, and the key of each live patch's class.
+/// How many patches were made, the live classes by their keys, the key of each live patch's class, and the skyline of each block.
 #[derive(Drop)]
 pub struct Register<A: Allocator = Global> {
     pub made: u32,
     pub classes: Classes<A>,
     pub keys: Keys<A>,
+    pub skylines: Skylines<A>,
 }
 
 impl<A: Allocator> Model for Register<A> {
@@ -33,18 +35,19 @@ impl<A: Allocator> Model for Register<A> {
 
     ghost Value = { Seen };
 
-    ghost view = { λ r. record { made = r.made; slots = r.classes.slots; numbers = r.keys.entries } };
+    ghost view = { λ r. record { made = r.made; slots = r.classes.slots; numbers = r.keys.entries; tops = r.skylines.entries } };
 }
 
 impl<A: Allocator + Copy> Register<A> {
     /// No patch yet.
     pub fn new(alloc: A) -> Register<A>
-        ensures { result ≡ record { made = 0; slots = []; numbers = [] } }
+        ensures { result ≡ record { made = 0; slots = []; numbers = []; tops = [] } }
     {
         Register {
             made: 0,
             classes: Classes::new(alloc),
             keys: Keys::new(alloc),
+            skylines: Skylines::new(alloc),
         }
     }
 }

@@ -53,7 +53,7 @@ impl<A: Allocator> Scratch<A> {
 }
 
 /// Makes a row of marks this long, if it is shorter.
-fn lengthen<A: Allocator>(marks: &mut Vec<bool, A>, count: usize) -> Result<(), AllocError>
+pub fn lengthen<A: Allocator>(marks: &mut Vec<bool, A>, count: usize) -> Result<(), AllocError>
     ensures enough { OnOk result (count ≤ length marks.new.items) }
     ensures kept { length marks.old.items ≤ length marks.new.items }
     ensures bounded { length marks.new.items ≤ max (length marks.old.items) count }

@@ -5,12 +5,13 @@ use Rattle.patch_graph.proofs.Forgetting.{landed-none, landed-more, among-more, 
 use Rattle.patch_graph.proofs.mark_durable.land_exactly.Goals as goal
 
 pub loop-key-init : goal.loop-key-init
-loop-key-init g c = (landed-none _ _ _ _ (λ k. refl), refl)
+loop-key-init g c = (landed-none _ _ _ _ (λ k. refl), refl, refl)
 
 pub loop-key-preserved : goal.loop-key-preserved
 loop-key-preserved g c = (
   landed-more _ _ _ _ _ _ _ _ _ _ c.loop-key.invariant.0 c.land_at.ensures.landed (among-more c.args.keys.now c.loop-key.key-index (omega arith)),
   c.land_at.ensures.made ∙ c.loop-key.invariant.1,
+  c.land_at.ensures.tops ∙ c.loop-key.invariant.2,
 )
 
 pub returns-clause-landed : goal.returns-clause-landed

@@ -8,9 +8,9 @@ loop-key-init g c = part-none _ _ _
 
 pub loop-key-preserved : goal.loop-key-preserved
 loop-key-preserved g c = elim c.if-is_marked.branch [
-  | then-is_marked w ↦ rw (w.classes-is, w.fly.ensures) (fly-one _ _ _ _ _ _ refl c.loop-key.invariant (sym c.is_marked.ensures ∙ w.if-is_marked.true))
+  | then-is_marked w ↦ rw (w.classes-is, w.fly.ensures) (fly-one _ _ _ _ _ _ (omega arith) refl c.loop-key.invariant (sym c.is_marked.ensures ∙ w.if-is_marked.true))
   | else-is_marked w ↦ rw w.classes-is (fly-not _ _ _ _ _ _ refl c.loop-key.invariant (sym c.is_marked.ensures ∙ w.if-is_marked.false))
 ]
 
 pub returns-clause-flown : goal.returns-clause-flown
-returns-clause-flown g c = fly-all _ _ _ _ _ (omega arith) c.requires c.loop-key.invariant
+returns-clause-flown g c = fly-all _ _ _ _ _ (omega arith) c.loop-key.invariant

@@ -10,7 +10,7 @@ pub returns-in_ok-absorb_at-clause-joined : goal.returns-in_ok-absorb_at-clause-
 returns-in_ok-absorb_at-clause-joined g c =
     let members : c.as_slice.result.now ≡ c.in-Some.other.members = c.as_slice.ensures.value ∙ ap (λ (z : Class). z.members) c.other.view_is in
     let there : class_at c.args.register.now.slots c.args.gone ≡ Some c.in-Some.other = sym c.in_ok-other.ensures ∙ c.in-Some.is in
-    subst (λ (z : Graph). HasJoined c.args.keep c.args.gone z (record { made = c.register.inside.made; slots = c.try_remove.new.self.slots; numbers = c.redirect.new.keys.entries })) c.register.view_is
+    subst (λ (z : Graph). HasJoined c.args.keep c.args.gone z (record { made = c.register.inside.made; slots = c.try_remove.new.self.slots; numbers = c.redirect.new.keys.entries; tops = c.register.inside.skylines.entries })) c.register.view_is
     (λ x y differ at at2. joins-at _ _ _ _ _ c.args.keep c.args.gone x y c.in-Some.other differ at at2
     (subst (λ (z : Graph). class_at z.slots c.args.gone ≡ Some c.in-Some.other) (sym c.register.view_is) there) c.in_ok-absorb_at.ensures.joined
     c.try_remove.ensures.updates

@@ -11,12 +11,12 @@ returns-in_default-find-clause-answer g c all r l o = absurd (not-found c.args.r
 
 pub returns-in_ok-join-clause-answer : goal.returns-in_ok-join-clause-answer
 returns-in_ok-join-clause-answer g c all r l o =
-    let m = merges-swapped c.args.register.now all r c.join.new.register c.in_ok-join.ensures.made c.in-Some-find.second c.in-Some.first c.args.a c.args.b
+    let m = merges-swapped c.args.register.now all r c.join.new.register c.in_ok-join.ensures.made c.in_ok-join.ensures.tops c.in-Some-find.second c.in-Some.first c.args.a c.args.b
     c.name_at.result l (sym c.in-Some.ensures) (sym c.in-Some-find.ensures) c.in_ok-join.ensures.joined c.name_at.ensures o in
     (m.0, c.unwrap_or.ensures ∙ ap (λ (n : Option ℕ). unwrap_or n c.args.a) m.1)
 
 pub returns-in_ok-join-2-clause-answer : goal.returns-in_ok-join-2-clause-answer
 returns-in_ok-join-2-clause-answer g c all r l o =
-    let m = merges-to c.args.register.now all r c.join-else-members_at.new.register c.in_ok-join-2.ensures.made c.in-Some.first c.in-Some-find.second c.args.a c.args.b
+    let m = merges-to c.args.register.now all r c.join-else-members_at.new.register c.in_ok-join-2.ensures.made c.in_ok-join-2.ensures.tops c.in-Some.first c.in-Some-find.second c.args.a c.args.b
     c.name_at-else-members_at.result l (sym c.in-Some.ensures) (sym c.in-Some-find.ensures) c.in_ok-join-2.ensures.joined c.name_at-else-members_at.ensures o in
     (m.0, c.unwrap_or-else-members_at.ensures ∙ ap (λ (n : Option ℕ). unwrap_or n c.args.a) m.1)

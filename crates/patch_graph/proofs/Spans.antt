@@ -1,0 +1,449 @@
+-- Spans of a skyline, and one more laid over them.
+use Rattle.std.proofs.Common.{◌≡◌, ◌≢◌, ℕ, zero, suc, ◌+◌, ◌-◌, ◌<◌, ◌≤◌, ◌⊎◌, ◌∙◌, inl, inr, true, false, List, [], ◌∷◌, ◌++◌, length, max, take, drop, refl, sym, ap, subst, arith, Option, Some, None}
+use Rattle.std.specs.Prelude.{nat_le, nat_lt, slice_index_or, slice_set}
+use Rattle.std.specs.List.{AllWithin, insert, slice_range, remove_range}
+use Rattle.std.specs.List.Sorted.{IsPartitionedBy, IsPartitionPoint}
+use Rattle.std.proofs.Math.Seq.{drop-cons}
+use Rattle.std.proofs.lemmas.Bool.{cases_Bool, cases_lt, and_parts, and_from, lt-ltb, le-leb, ltb-true, leb-true, false_from_ne_true, both_ways}
+use Rattle.std.proofs.lemmas.List.{take-append-drop, take-set, take_more_set, drop-set, drop-set-lt}
+use Rattle.patch_model.specs.Member.{In}
+use Rattle.patch_graph.specs.declared.skyline.Span.{Span}
+use Rattle.patch_graph.specs.Skyline.{has_byte, top_at, AreApart, IsCutAt, IsSameSkyline, IsLaid, IsTopWithin, AreTops}
+use Rattle.patch_graph.proofs.ReadySet.{In-left, In-right, In-parts}
+
+-- The bytes of one span.
+
+has-byte : (s : Span) (x : ℕ) → s.start ≤ x → x < s.stop → has_byte s x ≡ true
+has-byte s x low high = and_from _ _ (le-leb s.start x low) (lt-ltb x s.stop high)
+
+byte-of : (s : Span) (x : ℕ) → has_byte s x ≡ true → (s.start ≤ x) × (x < s.stop)
+byte-of s x t = let p = and_parts (nat_le s.start x) (nat_lt x s.stop) t in (leb-true s.start x p.0, ltb-true x s.stop p.1)
+
+no-byte : (s : Span) (x : ℕ) → (s.stop ≤ x) ⊎ (x < s.start) → has_byte s x ≡ false
+no-byte s x off = false_from_ne_true _ (λ t. let p = byte-of s x t in let a = p.0 in let b = p.1 in elim off [ inl h ↦ omega arith | inr h ↦ omega arith ])
+
+-- Who wrote a byte last, in a list and its parts.
+
+none-at : (ss : List Span) (x : ℕ) → ((s : Span) → In ss s → has_byte s x ≡ false) → top_at ss x ≡ None
+none-at [] x off = refl
+none-at (s ∷ ss) x off = let h = off s (inl refl) in rw h (none-at ss x (λ t i. off t (inr i)))
+
+top-behind : (front rear : List Span) (x : ℕ) → ((s : Span) → In front s → has_byte s x ≡ false) → top_at (front ++ rear) x ≡ top_at rear x
+top-behind [] rear x off = refl
+top-behind (s ∷ front) rear x off = let h = off s (inl refl) in rw h (top-behind front rear x (λ t i. off t (inr i)))
+
+top-before : (front rear : List Span) (x : ℕ) → ((s : Span) → In rear s → has_byte s x ≡ false) → top_at (front ++ rear) x ≡ top_at front x
+top-before [] rear x off = none-at rear x off
+top-before (s ∷ front) rear x off = elim (cases_Bool (has_byte s x)) [ inl t ↦ rw t refl | inr t ↦ rw t (top-before front rear x off) ]
+
+-- the two lists agree where what stands before them does
+top-after : (front rear cs : List Span) (x : ℕ) → top_at rear x ≡ top_at cs x → top_at (front ++ rear) x ≡ top_at (front ++ cs) x
+top-after [] rear cs x same = same
+top-after (s ∷ front) rear cs x same = elim (cases_Bool (has_byte s x)) [ inl t ↦ rw t refl | inr t ↦ rw t (top-after front rear cs x same) ]
+
+-- the span that shows a byte
+top-in : (ss : List Span) (x n : ℕ) → top_at ss x ≡ Some n → (s : Span) × In ss s × (has_byte s x ≡ true) × (s.no ≡ n)
+top-in [] x n at = absurd (cc)
+top-in (s ∷ ss) x n at = elim (cases_Bool (has_byte s x)) [
+  | inl t ↦ (s, inl refl, t, let h : ◌≡◌ {A = Option ℕ} (Some s.no) (Some n) = rw t at at in cc)
+  | inr t ↦ let r = top-in ss x n (rw t at at) in (r.0, inr r.1, r.2, r.3)
+]
+
+apart-each : (ss : List Span) → AreApart ss → (s : Span) → In ss s → s.start < s.stop
+apart-each [] a s i = absurd i
+apart-each (t ∷ ss) a s (inl e) = subst (λ z. z.start < z.stop) e a.0
+apart-each (t ∷ ss) a s (inr i) = apart-each ss a.2 s i
+
+top-of : (ss : List Span) → AreApart ss → (s : Span) (x : ℕ) → In ss s → has_byte s x ≡ true → top_at ss x ≡ Some s.no
+top-of [] a s x i t = absurd i
+top-of (u ∷ ss) a s x (inl e) t = let h : has_byte u x ≡ true = ap (λ z. has_byte z x) e ∙ t in rw h (ap (λ z. Some z.no) e)
+top-of (u ∷ ss) a s x (inr i) t =
+    let p = (byte-of s x t).0 in
+    let q = a.1 s i in
+    let h = no-byte u x (inl (omega (arith, p, q))) in
+    rw h (top-of ss a.2 s x i t)
+
+-- Parts of spans that are apart.
+
+apart-first : (front rear : List Span) → AreApart (front ++ rear) → AreApart front
+apart-first [] rear a = tt
+apart-first (s ∷ front) rear a = (a.0, (λ t i. a.1 t (In-left front rear t i)), apart-first front rear a.2)
+
+apart-last : (front rear : List Span) → AreApart (front ++ rear) → AreApart rear
+apart-last [] rear a = a
+apart-last (s ∷ front) rear a = apart-last front rear a.2
+
+apart-cross : (front rear : List Span) → AreApart (front ++ rear) → (s t : Span) → In front s → In rear t → s.stop ≤ t.start
+apart-cross [] rear a s t i j = absurd i
+apart-cross (u ∷ front) rear a s t (inl e) j = subst (λ z. z.stop ≤ t.start) e (a.1 t (In-right front rear t j))
+apart-cross (u ∷ front) rear a s t (inr i) j = apart-cross front rear a.2 s t i j
+
+apart-join : (front rear : List Span) → AreApart front → AreApart rear → ((s t : Span) → In front s → In rear t → s.stop ≤ t.start) → AreApart (front ++ rear)
+apart-join [] rear a b c = b
+apart-join (s ∷ front) rear a b c = (
+  a.0,
+  (λ t i. elim (In-parts front rear t i) [ inl j ↦ a.1 t j | inr j ↦ c s t (inl refl) j ]),
+  apart-join front rear a.2 b (λ u t i j. c u t (inr i) j),
+)
+
+-- Places in them.
+
+index-in : (ss : List Span) (k : ℕ) (d : Span) → k < length ss → In ss (slice_index_or ss k d)
+index-in [] k d h = absurd (omega arith)
+index-in (s ∷ ss) zero d h = inl refl
+index-in (s ∷ ss) (suc k) d h = inr (index-in ss k d (omega arith))
+
+in-index : (ss : List Span) (s : Span) → In ss s → (k : ℕ) × (k < length ss) × ((d : Span) → slice_index_or ss k d ≡ s)
+in-index [] s i = absurd i
+in-index (t ∷ ss) s (inl e) = (0, omega arith, λ d. e)
+in-index (t ∷ ss) s (inr i) = let r = in-index ss s i in let h = r.1 in (suc r.0, omega (arith, h), r.2)
+
+pub starts-rise : (ss : List Span) → AreApart ss → (i j : ℕ) (d : Span) → i ≤ j → j < length ss → (slice_index_or ss i d).start ≤ (slice_index_or ss j d).start
+starts-rise [] a i j d low h = absurd (omega arith)
+starts-rise (s ∷ ss) a zero zero d low h = omega arith
+starts-rise (s ∷ ss) a zero (suc j) d low h = let p = a.0 in let q = a.1 (slice_index_or ss j d) (index-in ss j d (omega arith)) in omega (arith, p, q)
+starts-rise (s ∷ ss) a (suc i) zero d low h = absurd (omega arith)
+starts-rise (s ∷ ss) a (suc i) (suc j) d low h = starts-rise ss a.2 i j d (omega arith) (omega arith)
+
+pub stops-rise : (ss : List Span) → AreApart ss → (i j : ℕ) (d : Span) → i ≤ j → j < length ss → (slice_index_or ss i d).stop ≤ (slice_index_or ss j d).stop
+stops-rise [] a i j d low h = absurd (omega arith)
+stops-rise (s ∷ ss) a zero zero d low h = omega arith
+stops-rise (s ∷ ss) a zero (suc j) d low h =
+    let i = index-in ss j d (omega arith) in
+    let p = apart-each ss a.2 (slice_index_or ss j d) i in
+    let q = a.1 (slice_index_or ss j d) i in
+    omega (arith, p, q)
+stops-rise (s ∷ ss) a (suc i) zero d low h = absurd (omega arith)
+stops-rise (s ∷ ss) a (suc i) (suc j) d low h = stops-rise ss a.2 i j d (omega arith) (omega arith)
+
+pub parted-starts : (ss : List Span) (at : ℕ) → AreApart ss → IsPartitionedBy (λ s. nat_lt s.start at) ss
+parted-starts ss at a i j d low within t =
+    let r = starts-rise ss a i j d low within in
+    let h = ltb-true (slice_index_or ss j d).start at t in
+    lt-ltb (slice_index_or ss i d).start at (omega (arith, r, h))
+
+pub parted-stops : (ss : List Span) (at : ℕ) → AreApart ss → IsPartitionedBy (λ s. nat_le s.stop at) ss
+parted-stops ss at a i j d low within t =
+    let r = stops-rise ss a i j d low within in
+    let h = leb-true (slice_index_or ss j d).stop at t in
+    le-leb (slice_index_or ss i d).stop at (omega (arith, r, h))
+
+before-all : (P : Span → Type 0) (ss : List Span) (i : ℕ) → AllWithin P ss 0 i → (s : Span) → In (take i ss) s → P s
+before-all P ss zero a s h = absurd h
+before-all P [] (suc i) a s h = absurd h
+before-all P (t ∷ ss) (suc i) a s (inl e) = subst P e (a 0 s (omega arith) (omega arith))
+before-all P (t ∷ ss) (suc i) a s (inr h) = before-all P ss i (λ k d low high. a (suc k) d (omega arith) (omega arith)) s h
+
+behind-all : (P : Span → Type 0) (ss : List Span) (i : ℕ) → AllWithin P ss i (length ss) → (s : Span) → In (drop i ss) s → P s
+behind-all P [] zero a s h = absurd h
+behind-all P [] (suc i) a s h = absurd h
+behind-all P (t ∷ ss) zero a s (inl e) = subst P e (a 0 s (omega arith) (omega arith))
+behind-all P (t ∷ ss) zero a s (inr h) = behind-all P ss zero (λ k d low high. a (suc k) d (omega arith) (omega arith)) s h
+behind-all P (t ∷ ss) (suc i) a s h = behind-all P ss i (λ k d low high. a (suc k) d (omega arith) (omega arith)) s h
+
+-- so many of the spans begin before the byte, or end before it
+abbrev pub Begun : List Span → ℕ → ℕ → Type 0
+Begun ss at i = IsPartitionPoint (λ s. s.start < at) (λ s. at ≤ s.start) ss i
+
+abbrev pub Ended : List Span → ℕ → ℕ → Type 0
+Ended ss at i = IsPartitionPoint (λ s. s.stop ≤ at) (λ s. at < s.stop) ss i
+
+begun-before : (ss : List Span) (at i : ℕ) → Begun ss at i → (s : Span) → In (take i ss) s → s.start < at
+begun-before ss at i p = before-all (λ s. s.start < at) ss i p.0
+
+begun-behind : (ss : List Span) (at i : ℕ) → Begun ss at i → (s : Span) → In (drop i ss) s → at ≤ s.start
+begun-behind ss at i p = behind-all (λ s. at ≤ s.start) ss i p.1
+
+pub begun-by : (ss : List Span) (at i : ℕ) → IsPartitionPoint (λ s. nat_lt s.start at ≡ true) (λ s. nat_lt s.start at ≡ false) ss i → Begun ss at i
+begun-by ss at i p = (
+  (λ k d low h. ltb-true (slice_index_or ss k d).start at (p.0 k d low h)),
+  (λ k d low h. elim (cases_lt (slice_index_or ss k d).start at) [ inl l ↦ absurd (both_ways _ (p.1 k d low h) (lt-ltb (slice_index_or ss k d).start at l)) | inr l ↦ l ]),
+)
+
+pub ended-by : (ss : List Span) (at i : ℕ) → IsPartitionPoint (λ s. nat_le s.stop at ≡ true) (λ s. nat_le s.stop at ≡ false) ss i → Ended ss at i
+ended-by ss at i p = (
+  (λ k d low h. leb-true (slice_index_or ss k d).stop at (p.0 k d low h)),
+  (λ k d low h. elim (cases_lt at (slice_index_or ss k d).stop) [ inl l ↦ l | inr l ↦ absurd (both_ways _ (p.1 k d low h) (le-leb (slice_index_or ss k d).stop at l)) ]),
+)
+
+-- Where a span is cut.
+
+-- the list at a place
+split-at : (ss : List Span) (i : ℕ) (d : Span) → i < length ss → ss ≡ take i ss ++ slice_index_or ss i d ∷ drop (i + 1) ss
+split-at ss i d h =
+    let next : suc i ≡ i + 1 = omega arith in
+    sym (take-append-drop i ss) ∙ ap (λ z. take i ss ++ z) (drop-cons ss i d h) ∙ ap (λ n. take i ss ++ slice_index_or ss i d ∷ drop n ss) next
+
+append-one : (front : List Span) (s : Span) (rear : List Span) → (front ++ s ∷ []) ++ rear ≡ front ++ s ∷ rear
+append-one [] s rear = refl
+append-one (t ∷ front) s rear = ap (λ z. t ∷ z) (append-one front s rear)
+
+pub record IsCut (old new : List Span) (at : ℕ) : Type 0 where
+  pub same : IsSameSkyline old new
+  pub apart : AreApart new
+  pub cut : IsCutAt at new
+  pub keeps : (other : ℕ) → IsCutAt other old → IsCutAt other new
+
+cut-two : (front rear : List Span) (s : Span) (at : ℕ) → AreApart (front ++ s ∷ rear) → s.start < at → at < s.stop
+    → IsCut (front ++ s ∷ rear) (front ++ record s { stop = at } ∷ record s { start = at } ∷ rear) at
+cut-two front rear s at a low high = record {
+  same = λ x. top-after front (record s { stop = at } ∷ record s { start = at } ∷ rear) (s ∷ rear) x (halves x);
+  apart = apart-join front (record s { stop = at } ∷ record s { start = at } ∷ rear) (apart-first front (s ∷ rear) a)
+      (low, (λ t i. elim i [ inl e ↦ subst (λ z. at ≤ z.start) e (omega arith) | inr j ↦ let q = b.1 t j in omega (arith, q, high) ]), (high, b.1, b.2))
+      (λ u t i j. let c = apart-cross front (s ∷ rear) a u s i (inl refl) in elim j [
+        | inl e ↦ subst (λ z. u.stop ≤ z.start) e c
+        | inr k ↦ elim k [
+          | inl e ↦ subst (λ z. u.stop ≤ z.start) e (omega (arith, c, low))
+          | inr l ↦ apart-cross front (s ∷ rear) a u t i (inr l)
+        ]
+      ]);
+  cut = λ t i. elim (In-parts front (record s { stop = at } ∷ record s { start = at } ∷ rear) t i) [
+    | inl j ↦ let c = apart-cross front (s ∷ rear) a t s j (inl refl) in inl (omega (arith, c, low))
+    | inr j ↦ elim j [
+      | inl e ↦ inl (subst (λ z. z.stop ≤ at) e (omega arith))
+      | inr k ↦ elim k [
+        | inl e ↦ inr (subst (λ z. at ≤ z.start) e (omega arith))
+        | inr l ↦ let q = b.1 t l in inr (omega (arith, q, high))
+      ]
+    ]
+  ];
+  keeps = λ other k t i. elim (In-parts front (record s { stop = at } ∷ record s { start = at } ∷ rear) t i) [
+    | inl j ↦ k t (In-left front (s ∷ rear) t j)
+    | inr j ↦
+        let own = k s (In-right front (s ∷ rear) s (inl refl)) in
+        elim j [
+          | inl e ↦ subst (λ z. (z.stop ≤ other) ⊎ (other ≤ z.start)) e (elim own [ inl h ↦ inl (omega (arith, h, high)) | inr h ↦ inr h ])
+          | inr m ↦ elim m [
+            | inl e ↦ subst (λ z. (z.stop ≤ other) ⊎ (other ≤ z.start)) e (elim own [ inl h ↦ inl h | inr h ↦ inr (omega (arith, h, low)) ])
+            | inr l ↦ k t (In-right front (s ∷ rear) t (inr l))
+          ]
+        ]
+  ];
+}
+  where
+    b : AreApart (s ∷ rear)
+    b = apart-last front (s ∷ rear) a
+
+    halves : (x : ℕ) → top_at (record s { stop = at } ∷ record s { start = at } ∷ rear) x ≡ top_at (s ∷ rear) x
+    halves x = elim (cases_Bool (has_byte s x)) [
+      | inl t ↦
+          let p = (byte-of s x t).0 in let q = (byte-of s x t).1 in
+          elim (cases_lt x at) [
+            | inl l ↦ let h = has-byte (record s { stop = at }) x p l in rw (h, t) refl
+            | inr l ↦
+                let h = no-byte (record s { stop = at }) x (inl l) in
+                let k = has-byte (record s { start = at }) x l q in
+                rw (h, k, t) refl
+          ]
+      | inr t ↦
+          let h : has_byte (record s { stop = at }) x ≡ false = false_from_ne_true _ (λ u. let p = byte-of (record s { stop = at }) x u in let y = p.0 in let z = p.1 in both_ways _ t (has-byte s x y (omega (arith, z, high)))) in
+          let k : has_byte (record s { start = at }) x ≡ false = false_from_ne_true _ (λ u. let p = byte-of (record s { start = at }) x u in let y = p.0 in let z = p.1 in both_ways _ t (has-byte s x (omega (arith, y, low)) z)) in
+          rw (h, k, t) refl
+    ]
+
+-- the span before the place lies across the byte's beginning, and was cut
+cuts : (ss : List Span) (at i : ℕ) (s d : Span) → AreApart ss → Begun ss at (i + 1) → i < length ss → slice_index_or ss i d ≡ s → at < s.stop
+    → IsCut ss (insert (slice_set ss i (record s { stop = at })) (i + 1) (record s { start = at })) at
+cuts ss at i s d a p h is high =
+    let low : s.start < at = subst (λ z. z.start < at) is (p.0 i d (omega arith) (omega arith)) in
+    let whole : ss ≡ take i ss ++ s ∷ drop (i + 1) ss = split-at ss i d h ∙ ap (λ z. take i ss ++ z ∷ drop (i + 1) ss) is in
+    let parts = subst AreApart whole a in
+    let now : insert (slice_set ss i (record s { stop = at })) (i + 1) (record s { start = at }) ≡ take i ss ++ record s { stop = at } ∷ record s { start = at } ∷ drop (i + 1) ss =
+    ap (λ z. z ++ record s { start = at } ∷ drop (i + 1) (slice_set ss i (record s { stop = at }))) (take_more_set ss i (record s { stop = at }) h)
+    ∙ ap (λ z. (take i ss ++ record s { stop = at } ∷ []) ++ record s { start = at } ∷ z) (drop-set-lt (i + 1) ss i (record s { stop = at }) (omega arith))
+    ∙ append-one (take i ss) (record s { stop = at }) (record s { start = at } ∷ drop (i + 1) ss) in
+    let c = cut-two (take i ss) (drop (i + 1) ss) s at parts low high in
+    subst (λ z. IsCut z (insert (slice_set ss i (record s { stop = at })) (i + 1) (record s { start = at })) at) (sym whole)
+    (subst (λ z. IsCut (take i ss ++ s ∷ drop (i + 1) ss) z at) (sym now) c)
+
+pub cuts-behind : (ss new : List Span) (at behind : ℕ) (s : Span) → AreApart ss → Begun ss at behind → behind ≢ 0 → behind ≤ length ss → s ≡ slice_index_or ss (behind - 1) s → at < s.stop
+    → new ≡ insert (slice_set ss (behind - 1) (record s { stop = at })) behind (record s { start = at }) → IsCut ss new at
+cuts-behind ss new at behind s a p some within is high now =
+    let e : behind ≡ behind - 1 + 1 = omega arith in
+    subst (λ z. IsCut ss z at) (sym now)
+    (subst (λ n. IsCut ss (insert (slice_set ss (behind - 1) (record s { stop = at })) n (record s { start = at })) at) (sym e)
+    (cuts ss at (behind - 1) s s a (subst (Begun ss at) e p) (omega arith) (sym is) high))
+
+-- or it ends before
+cut-not : (ss : List Span) (at i : ℕ) (s d : Span) → AreApart ss → Begun ss at (i + 1) → i < length ss → slice_index_or ss i d ≡ s → s.stop ≤ at → IsCutAt at ss
+cut-not ss at i s d a p h is high t j =
+    let low : s.start < at = subst (λ z. z.start < at) is (p.0 i d (omega arith) (omega arith)) in
+    let whole : ss ≡ take i ss ++ s ∷ drop (i + 1) ss = split-at ss i d h ∙ ap (λ z. take i ss ++ z ∷ drop (i + 1) ss) is in
+    elim (In-parts (take i ss) (s ∷ drop (i + 1) ss) t (subst (λ z. In z t) whole j)) [
+      | inl k ↦ let c = apart-cross (take i ss) (s ∷ drop (i + 1) ss) (subst AreApart whole a) t s k (inl refl) in inl (omega (arith, c, low))
+      | inr k ↦ elim k [
+        | inl e ↦ inl (subst (λ z. z.stop ≤ at) e high)
+        | inr l ↦ inr (begun-behind ss at (i + 1) p t l)
+      ]
+    ]
+
+pub cut-not-behind : (ss : List Span) (at behind : ℕ) (s : Span) → AreApart ss → Begun ss at behind → behind ≢ 0 → behind ≤ length ss → s ≡ slice_index_or ss (behind - 1) s → s.stop ≤ at → IsCutAt at ss
+cut-not-behind ss at behind s a p some within is low =
+    let e : behind ≡ behind - 1 + 1 = omega arith in
+    cut-not ss at (behind - 1) s s a (subst (Begun ss at) e p) (omega arith) (sym is) low
+
+-- or there is none
+cut-none : (ss : List Span) (at : ℕ) → Begun ss at 0 → IsCutAt at ss
+cut-none ss at p t i = inr (begun-behind ss at 0 p t i)
+
+pub cut-none-behind : (ss : List Span) (at behind : ℕ) → Begun ss at behind → behind ≡ 0 → IsCutAt at ss
+cut-none-behind ss at behind p none = cut-none ss at (subst (Begun ss at) none p)
+
+-- A span in the place of those that it covers.
+
+pub record IsCovered (old new : List Span) (top : Span) : Type 0 where
+  pub laid : IsLaid old new top
+  pub apart : AreApart new
+
+covered : (ss : List Span) (top : Span) (first last : ℕ) → AreApart ss → IsCutAt top.start ss → IsCutAt top.stop ss → top.start < top.stop
+    → Begun ss top.start first → Begun ss top.stop last → IsCovered ss (take first ss ++ top ∷ drop last ss) top
+covered ss top first last a cut_start cut_stop some p q = record {
+  laid = record {
+    here = λ x t. let b = byte-of top x t in let low = b.0 in
+        top-behind (take first ss) (top ∷ drop last ss) x (λ s i. let e = ends s i in no-byte s x (inl (omega (arith, e, low)))) ∙ (rw t refl);
+    beside = λ x t. elim (cases_lt x top.start) [
+      | inl l ↦
+          top-before (take first ss) (top ∷ drop last ss) x (λ s i. elim i [
+            | inl e ↦ subst (λ z. has_byte z x ≡ false) e t
+            | inr j ↦ let b = behind s j in no-byte s x (inr (omega (arith, b, l, some)))
+          ])
+          ∙ sym (ap (λ z. top_at z x) (sym (take-append-drop first ss)) ∙ top-before (take first ss) (drop first ss) x (λ s i. let b = begun-behind ss top.start first p s i in no-byte s x (inr (omega (arith, b, l)))))
+      | inr l ↦
+          let high : top.stop ≤ x = elim (cases_lt x top.stop) [ inl h ↦ absurd (both_ways _ t (has-byte top x l h)) | inr h ↦ h ] in
+          top-behind (take first ss) (top ∷ drop last ss) x (λ s i. let e = ends s i in no-byte s x (inl (omega (arith, e, l)))) ∙ (rw t refl)
+          ∙ sym (ap (λ z. top_at z x) (sym (take-append-drop last ss)) ∙ top-behind (take last ss) (drop last ss) x (λ s i. let e = ends-last s i in no-byte s x (inl (omega (arith, e, high)))))
+    ];
+  };
+  apart = apart-join (take first ss) (top ∷ drop last ss) (apart-first (take first ss) (drop first ss) (subst AreApart (sym (take-append-drop first ss)) a))
+      (some, behind, apart-last (take last ss) (drop last ss) (subst AreApart (sym (take-append-drop last ss)) a))
+      (λ s t i j. let e = ends s i in elim j [
+        | inl k ↦ subst (λ z. s.stop ≤ z.start) k e
+        | inr k ↦ let b = behind t k in omega (arith, e, b, some)
+      ]);
+}
+  where
+    in-first : (i : ℕ) (s : Span) → In (take i ss) s → In ss s
+    in-first i s j = subst (λ z. In z s) (take-append-drop i ss) (In-left (take i ss) (drop i ss) s j)
+
+    ends : (s : Span) → In (take first ss) s → s.stop ≤ top.start
+    ends s i = let l = begun-before ss top.start first p s i in elim (cut_start s (in-first first s i)) [ inl h ↦ h | inr h ↦ absurd (omega (arith, l, h)) ]
+
+    ends-last : (s : Span) → In (take last ss) s → s.stop ≤ top.stop
+    ends-last s i = let l = begun-before ss top.stop last q s i in elim (cut_stop s (in-first last s i)) [ inl h ↦ h | inr h ↦ absurd (omega (arith, l, h)) ]
+
+    behind : (s : Span) → In (drop last ss) s → top.stop ≤ s.start
+    behind s i = begun-behind ss top.stop last q s i
+
+-- the one place isn't behind the other
+pub in-order : (ss : List Span) (a b i j : ℕ) → a < b → i ≤ length ss → Begun ss a i → Begun ss b j → i ≤ j
+in-order ss a b i j less within p q = elim (cases_lt j i) [
+  | inr h ↦ h
+  | inl h ↦
+      let x : Span = record { start = 0; stop = 0; no = 0 } in
+      let low = p.0 j x (omega arith) h in
+      let high = q.1 j x (omega arith) (omega (arith, h, within)) in
+      absurd (omega (arith, low, high, less))
+]
+
+pub covers-none : (ss : List Span) (top : Span) (first last : ℕ) → AreApart ss → IsCutAt top.start ss → IsCutAt top.stop ss → top.start < top.stop
+    → Begun ss top.start first → Begun ss top.stop last → first ≡ last → IsCovered ss (insert ss first top) top
+covers-none ss top first last a cut_start cut_stop some p q same =
+    subst (λ n. IsCovered ss (take first ss ++ top ∷ drop n ss) top) (sym same) (covered ss top first last a cut_start cut_stop some p q)
+
+pub covers-one : (ss : List Span) (top : Span) (first last : ℕ) → AreApart ss → IsCutAt top.start ss → IsCutAt top.stop ss → top.start < top.stop
+    → Begun ss top.start first → Begun ss top.stop last → first < length ss → last ≡ first + 1 → IsCovered ss (slice_set ss first top) top
+covers-one ss top first last a cut_start cut_stop some p q within next =
+    let now : slice_set ss first top ≡ take first ss ++ top ∷ drop last ss =
+    sym (take-append-drop first (slice_set ss first top)) ∙ ap (λ z. z ++ drop first (slice_set ss first top)) (take-set ss first top)
+    ∙ ap (λ z. take first ss ++ z) (drop-set ss first top within) ∙ ap (λ n. take first ss ++ top ∷ drop n ss) (sym next) in
+    subst (λ z. IsCovered ss z top) (sym now) (covered ss top first last a cut_start cut_stop some p q)
+
+pub covers-many : (ss : List Span) (top : Span) (first last : ℕ) → AreApart ss → IsCutAt top.start ss → IsCutAt top.stop ss → top.start < top.stop
+    → Begun ss top.start first → Begun ss top.stop last → first < length ss → first + 1 < last → IsCovered ss (remove_range (slice_set ss first top) (first + 1) last) top
+covers-many ss top first last a cut_start cut_stop some p q within more =
+    let now : remove_range (slice_set ss first top) (first + 1) last ≡ take first ss ++ top ∷ drop last ss =
+    ap (λ z. z ++ drop last (slice_set ss first top)) (take_more_set ss first top within)
+    ∙ ap (λ z. (take first ss ++ top ∷ []) ++ z) (drop-set-lt last ss first top (omega arith))
+    ∙ append-one (take first ss) top (drop last ss) in
+    subst (λ z. IsCovered ss z top) (sym now) (covered ss top first last a cut_start cut_stop some p q)
+
+-- Which spans have a byte between two places.
+
+in-between : (ss : List Span) (i n k : ℕ) (d : Span) → i ≤ k → k < i + n → k < length ss → In (take n (drop i ss)) (slice_index_or ss k d)
+in-between [] i n k d low high within = absurd (omega arith)
+in-between (s ∷ ss) zero zero k d low high within = absurd (omega arith)
+in-between (s ∷ ss) zero (suc n) zero d low high within = inl refl
+in-between (s ∷ ss) zero (suc n) (suc k) d low high within = inr (in-between ss zero n k d (omega arith) (omega arith) (omega arith))
+in-between (s ∷ ss) (suc i) n zero d low high within = absurd (omega arith)
+in-between (s ∷ ss) (suc i) n (suc k) d low high within = in-between ss i n k d (omega arith) (omega arith) (omega arith)
+
+record IsAt (ss : List Span) (i n : ℕ) (s : Span) : Type 0 where
+  pub k : ℕ
+  pub low : i ≤ k
+  pub high : k < i + n
+  pub within : k < length ss
+  pub is : (d : Span) → slice_index_or ss k d ≡ s
+
+at-between : (ss : List Span) (i n : ℕ) (s : Span) → In (take n (drop i ss)) s → IsAt ss i n s
+at-between [] zero zero s h = absurd h
+at-between [] zero (suc n) s h = absurd h
+at-between [] (suc i) zero s h = absurd h
+at-between [] (suc i) (suc n) s h = absurd h
+at-between (t ∷ ss) zero zero s h = absurd h
+at-between (t ∷ ss) zero (suc n) s (inl e) = record { k = 0; low = omega arith; high = omega arith; within = omega arith; is = λ d. e }
+at-between (t ∷ ss) zero (suc n) s (inr h) =
+    let r = at-between ss zero n s h in let a = r.high in let b = r.within in
+    record { k = suc r.k; low = omega arith; high = omega (arith, a); within = omega (arith, b); is = r.is }
+at-between (t ∷ ss) (suc i) n s h =
+    let r = at-between ss i n s h in let a = r.high in let b = r.within in let c = r.low in
+    record { k = suc r.k; low = omega (arith, c); high = omega (arith, a); within = omega (arith, b); is = r.is }
+
+record IsShown (ss : List Span) (first last n : ℕ) : Type 0 where
+  pub s : Span
+  pub number : s.no ≡ n
+  pub k : ℕ
+  pub low : first ≤ k
+  pub high : k < last
+  pub within : k < length ss
+  pub is : (d : Span) → slice_index_or ss k d ≡ s
+
+shown-at : (ss : List Span) (start stop first last n : ℕ) → Ended ss start first → Begun ss stop last → IsTopWithin ss start stop n → IsShown ss first last n
+shown-at ss start stop first last n p q w =
+    let t = top-in ss w.0 n w.3 in
+    let b = byte-of t.0 w.0 t.2 in
+    let b1 = b.0 in let b2 = b.1 in let w1 = w.1 in let w2 = w.2 in
+    let k = in-index ss t.0 t.1 in
+    record {
+      s = t.0;
+      number = t.3;
+      k = k.0;
+      low = elim (cases_lt k.0 first) [ inr h ↦ h | inl h ↦ let e = subst (λ z. z.stop ≤ start) (k.2 t.0) (p.0 k.0 t.0 (omega arith) h) in absurd (omega (arith, e, b2, w1)) ];
+      high = elim (cases_lt k.0 last) [ inl h ↦ h | inr h ↦ let e = subst (λ z. stop ≤ z.start) (k.2 t.0) (q.1 k.0 t.0 h k.1) in absurd (omega (arith, e, b1, w2)) ];
+      within = k.1;
+      is = k.2;
+    }
+
+pub tops-some : (ss : List Span) (start stop first last : ℕ) → AreApart ss → start < stop → Ended ss start first → Begun ss stop last → first < last → AreTops ss start stop (slice_range ss first last)
+tops-some ss start stop first last a wide p q some = record {
+  each = λ n w.
+      let r = shown-at ss start stop first last n p q w in
+      let low = r.low in let high = r.high in
+      (r.s, subst (λ z. In (slice_range ss first last) z) (r.is r.s) (in-between ss first (last - first) r.k r.s low (omega (arith, low, high, some)) r.within), r.number);
+  only = λ s i.
+      let r = at-between ss first (last - first) s i in
+      let low = r.low in let high = r.high in
+      let after : start < s.stop = subst (λ z. start < z.stop) (r.is s) (p.1 r.k s low r.within) in
+      let before : s.start < stop = subst (λ z. z.start < stop) (r.is s) (q.0 r.k s (omega arith) (omega (arith, high, low, some))) in
+      let inside = subst (λ z. In ss z) (r.is s) (index-in ss r.k s r.within) in
+      let full = apart-each ss a s inside in
+      (max s.start start, omega arith, omega (arith, before, wide), top-of ss a s (max s.start start) inside (has-byte s (max s.start start) (omega arith) (omega (arith, full, after))));
+}
+
+pub tops-none : (ss : List Span) (start stop first last : ℕ) → Ended ss start first → Begun ss stop last → last ≤ first → AreTops ss start stop []
+tops-none ss start stop first last p q none = record {
+  each = λ n w. let r = shown-at ss start stop first last n p q w in let low = r.low in let high = r.high in absurd (omega (arith, low, high, none));
+  only = λ s i. absurd i;
+}
+
+pub no-tops : (start stop : ℕ) → AreTops [] start stop []
+no-tops start stop = record { each = λ n w. absurd (let e = w.3 in cc); only = λ s i. absurd i }

@@ -1,0 +1,162 @@
+//! Which patch wrote each byte of a block last.
+ghost use Rattle.std.specs.Prelude.{ℕ, ◌≡◌, ◌<◌, ◌≤◌, ◌+◌, ◌∷◌, [], length, nat_lt, nat_le, vec_len, vec_capacity, IfOk, OnOk, OnErr};
+ghost use Rattle.std.specs.List.{remove_range};
+ghost use Rattle.std.specs.List.Sorted.{IsPartitionPoint};
+ghost use Rattle.patch_graph.specs.Skyline.{top_at, AreApart, IsCutAt, IsSameSkyline, IsLaid, AreTops};
+
+use patch_model::PatchNo;
+use std::alloc::{AllocError, Allocator, Global};
+use std::marker::Model;
+
+/// Bytes that one patch wrote last, from the first to the one after the last.
+#[derive(Clone, Copy, Debug, PartialEq, Eq)]
+pub struct Span {
+    pub start: usize,
+    pub stop: usize,
+    pub no: PatchNo,
+}
+
+/// The skyline of a block: spans in rising order, none of which overlap, with the number of the patch that wrote these
+/// bytes last. A patch keeps its number when its class is merged, sent or done, so none of these touches it.
+#[derive(Drop)]
+pub struct Skyline<A: Allocator = Global> {
+    spans: Vec<Span, A>,
+}
+
+impl<A: Allocator> Model for Skyline<A> {
+    ghost use Rattle.std.specs.Prelude.{List};
+    ghost use Rattle.patch_graph.specs.Skyline.{AreApart};
+    ghost use Rattle.patch_graph.specs.declared.skyline.Span.{Span as Seen};
+
+    ghost Value = { List Seen };
+
+    ghost view = { λ s. s.spans.items };
+
+    ghost invariant = { λ s. AreApart s.spans.items };
+}
+
+impl<A: Allocator> Skyline<A> {
+    /// One span, which has a byte.
+    pub fn of(alloc: A, top: Span) -> Result<Skyline<A>, AllocError>
+        requires { top.start < top.stop }
+        ensures { IfOk result (λ line. line ≡ top ∷ []) }
+    {
+        let spans = Vec::from_slice(alloc, &[top])?;
+        Ok(Skyline { spans })
+    }
+
+    /// Lays a span over the others, which has a byte.
+    pub fn lay(&mut self, top: Span) -> Result<(), AllocError>
+        requires { top.start < top.stop }
+        ensures laid { OnOk result (IsLaid self.old self.new top) }
+        ensures refused { OnErr result (self.new ≡ self.old) }
+    {
+        self.spans.reserve(3)?;
+        cut(&mut self.spans, top.start);
+        cut(&mut self.spans, top.stop);
+        cover(&mut self.spans, top);
+        Ok(())
+    }
+
+    /// The spans that have a byte between these.
+    pub fn tops(&self, start: usize, stop: usize) -> &[Span]
+        requires { start < stop }
+        ensures { AreTops self.now start stop result.now }
+    {
+        let spans = self.spans.as_slice();
+        let first = ended(spans, start);
+        let last = begun(spans, stop);
+        if first < last {
+            &spans[first..last]
+        } else {
+            &[]
+        }
+    }
+
+    /// Leaves none, and the room for them.
+    pub fn clear(&mut self)
+        ensures { self.new ≡ [] }
+    {
+        self.spans.clear();
+    }
+}
+
+/// How many of the spans begin before the byte.
+fn begun(spans: &[Span], at: usize) -> usize
+    requires { AreApart spans.now }
+    ensures within { result ≤ length spans.now }
+    ensures place { IsPartitionPoint (λ s. s.start < at) (λ s. at ≤ s.start) spans.now result }
+{
+    spans.partition_point(
+        |span: &Span| -> bool
+            ensures { result ≡ nat_lt span.now.start at }
+        { span.start < at },
+    )
+}
+
+/// How many of the spans end before the byte.
+fn ended(spans: &[Span], at: usize) -> usize
+    requires { AreApart spans.now }
+    ensures within { result ≤ length spans.now }
+    ensures place { IsPartitionPoint (λ s. s.stop ≤ at) (λ s. at < s.stop) spans.now result }
+{
+    spans.partition_point(
+        |span: &Span| -> bool
+            ensures { result ≡ nat_le span.now.stop at }
+        { span.stop <= at },
+    )
+}
+
+/// Makes two of the span that the byte lies within, if it isn't the first of it.
+fn cut<A: Allocator>(spans: &mut Vec<Span, A>, at: usize)
+    requires apart { AreApart spans.old.items }
+    requires room { vec_len spans.old < vec_capacity spans.old }
+    ensures same { IsSameSkyline spans.old.items spans.new.items }
+    ensures apart { AreApart spans.new.items }
+    ensures cut { IsCutAt at spans.new.items }
+    ensures kept { (other : ℕ) → IsCutAt other spans.old.items → IsCutAt other spans.new.items }
+    ensures room { vec_len spans.new ≤ vec_len spans.old + 1 }
+    ensures capacity { vec_capacity spans.new ≡ vec_capacity spans.old }
+{
+    let behind = begun(spans.as_slice(), at);
+    if behind == 0 {
+        return;
+    }
+    let span = spans[behind - 1];
+    if at < span.stop {
+        spans[behind - 1] = Span { stop: at, ..span };
+        let rest = Span { start: at, ..span };
+        spans.insert(behind, rest).unwrap();
+    }
+}
+
+/// Puts a span in the place of those between its ends, where no span lies across either.
+fn cover<A: Allocator>(spans: &mut Vec<Span, A>, top: Span)
+    requires apart { AreApart spans.old.items }
+    requires cut_start { IsCutAt top.start spans.old.items }
+    requires cut_stop { IsCutAt top.stop spans.old.items }
+    requires some { top.start < top.stop }
+    requires room { vec_len spans.old < vec_capacity spans.old }
+    ensures laid { IsLaid spans.old.items spans.new.items top }
+    ensures apart { AreApart spans.new.items }
+{
+    let first = begun(spans.as_slice(), top.start);
+    let last = begun(spans.as_slice(), top.stop);
+    if first == last {
+        spans.insert(first, top).unwrap();
+        return;
+    }
+    spans[first] = top;
+    if first + 1 < last {
+        take_out(spans, first + 1, last);
+    }
+}
+
+/// Takes out the spans from a place on to another.
+fn take_out<A: Allocator>(spans: &mut Vec<Span, A>, start: usize, stop: usize)
+    requires order { start ≤ stop }
+    requires within { stop ≤ vec_len spans.old }
+    ensures { spans.new.items ≡ remove_range spans.old.items start stop }
+{
+    drop(spans.drain(start..stop));
+}
