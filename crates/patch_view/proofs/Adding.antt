@@ -1,10 +1,9 @@
 -- One more patch.
 use Rattle.std.proofs.Common.{◌≡◌, ℕ, ◌+◌, ◌-◌, ◌<◌, ◌≤◌, ◌⊎◌, ◌∙◌, true, false, not, inl, inr, Bool, List, [], ◌∷◌, ◌++◌, length, map, take, drop, get_or, refl, sym, ap, arith, subst}
-use Rattle.std.specs.Prelude.{◌==◌, ◌&&◌, ◌||◌, ◌≢◌, nat_lt, filter, slice_index_or, slice_range, IsPermutation}
+use Rattle.std.specs.Prelude.{◌==◌, ◌&&◌, ◌||◌, ◌≢◌, nat_lt, filter, slice_index_or, slice_range}
 use Rattle.std.specs.List.{list_any, list_all}
 use Rattle.std.proofs.lemmas.Bool.{cases_Bool, cases_lt, and_parts, and_left, and_right, and_from, or_left, or_right, or_cases, eqb-true, eq-eqb, ne_eqb, ltb-true, not_from_false, not-true, not-false, cond-false, false_from_ne_true}
 use Rattle.std.proofs.lemmas.List.{get_or_append_left, get_or_push, length_push, places}
-use Rattle.std.proofs.lemmas.List.Sorted.{list_any-IsPermutation}
 use Rattle.std.proofs.lemmas.List.Folds.{list_any-append}
 use Rattle.std.specs.Cmp.{both_ways as same_bool}
 use Rattle.patch_model.specs.Marked.{memory-not_durable}
@@ -14,9 +13,9 @@ use Rattle.patch_model.specs.Entry.{Entry, is_durable, is_memory, is_among}
 use Rattle.patch_model.specs.Member.{In, list_any-at, list_any-from}
 use Rattle.patch_model.specs.History.{History, without}
 use Rattle.patch_view.proofs.Sets.{class_depends_on, none-held, never-from, ordered_on}
-use Rattle.patch_view.specs.History.{IsCoherent, IsNext, laid, class_covers, comes_before, below}
-use Rattle.patch_view.specs.State.{Class, Block, class_at, no_class, new_class, with_laid}
-use Rattle.patch_view.specs.Meaning.{IsClassOf, Represents}
+use Rattle.patch_view.specs.History.{IsCoherent, IsNext, laid, class_covers, class_names, comes_before, below}
+use Rattle.patch_view.specs.State.{Class, Block, class_at, no_class, new_class, with_laid, KeepsNames}
+use Rattle.patch_view.specs.Meaning.{IsClassOf, NamesLive, Represents}
 use Rattle.patch_model.specs.Laying.{covers-from}
 use Rattle.patch_view.proofs.Chain.{same_byte, covering, before-at, before-from, range-at, length-by}
 
@@ -96,6 +95,10 @@ name-older h e c next known =
     let low : q.0.class ≤ q.0.patch.no = next.coherent.class_first q.0 (In-left h.entries (e ∷ []) q.0 q.1) in
     let newer : q.0.patch.no < e.patch.no = next.newest q.0 q.1 in omega arith
 
+-- what an old class names doesn't change
+names-laid : (h : History) (e : Entry) (c n : ℕ) → e.class ≢ c → class_names (laid h e) c n ≡ class_names h c n
+names-laid h e c n apart = any-push (λ f. f.class == c && is_among f.patch.after n) h.entries e (and_left _ (is_among e.patch.after n) (ne_eqb _ _ apart))
+
 -- an old class's record
 pub old-class : (h : History) (e : Entry) (c : Class) → IsCoherent h → IsNext h e → e.class ≡ e.patch.no → IsClassOf h [] c → IsClassOf (laid h e) [] c
 old-class h e c o next own r =
@@ -105,7 +108,7 @@ old-class h e c o next own r =
       known = any-push (λ f. f.class == c.name) h.entries e (ne_eqb _ _ apart) ∙ r.known;
       named_by_member = r.named_by_member;
       members = λ n. r.members n ∙ sym (any-push (λ f. f.patch.no == n && f.class == c.name) h.entries e (and_right (e.patch.no == n) _ (ne_eqb _ _ apart)));
-      after = λ n. r.after n ∙ sym (any-push (λ f. f.class == c.name && is_among f.patch.after n) h.entries e (and_left _ (is_among e.patch.after n) (ne_eqb _ _ apart)));
+      after = λ n t. names-laid h e c.name n apart ∙ r.after n t;
       marked = λ f i is. elim (In-push h.entries e f i) [ inl old ↦ r.marked f old is | inr same ↦ absurd (apart (ap (λ z. z.class) same ∙ is)) ];
       span = λ x. r.span x ∙ sym (covers-laid h e c.name x apart);
       flag = r.flag;
@@ -144,9 +147,9 @@ covers-new h e x next own = same_bool _ _
 
 -- the new class's record
 pub own-class : (b : Block) (h : History) (e : Entry) → Represents b [] h → IsNext h e → e.class ≡ e.patch.no → is_memory e ≡ true
-    → (all : List ℕ) → IsPermutation e.patch.after all
+    → (all : List ℕ) → KeepsNames b e.patch.after all
     → (c : Class) → c ≡ new_class b e.patch.no e.patch.start e.patch.bytes all e.hard → IsClassOf (laid h e) [] c
-own-class b h e r next own memory all same c is =
+own-class b h e r next own memory all names c is =
     let last = In-last h.entries e in
     let fits : end e.patch ≤ 4096 = next.coherent.fits e last in
     let some : 0 < length e.patch.bytes = next.coherent.some e last in
@@ -161,12 +164,7 @@ own-class b h e r next own memory all same c is =
           let p = and_parts _ _ q.2 in
           let same : e ≡ q.0 = in_new h e q.0 next own q.1 (eqb-true _ _ p.1 ∙ sym own) in
           or_left _ false (eq-eqb _ _ (ap (λ z. z.patch.no) same ∙ eqb-true _ _ p.0)));
-      after = λ n. sym (list_any-IsPermutation (λ m. m == n) e.patch.after all same) ∙ same_bool _ _
-          (λ t. list_any-from (λ f. f.class == e.patch.no && is_among f.patch.after n) (laid h e).entries e last (and_from _ _ (eq-eqb _ _ own) t))
-          (λ t. let q = list_any-at _ (laid h e).entries t in
-          let p = and_parts _ _ q.2 in
-          let new : e ≡ q.0 = in_new h e q.0 next own q.1 (eqb-true _ _ p.0 ∙ sym own) in
-          ap (λ f. is_among f.patch.after n) new ∙ p.1);
+      after = λ n t. list_any-from (λ f. f.class == e.patch.no && is_among f.patch.after n) (laid h e).entries e last (and_from _ _ (eq-eqb _ _ own) (names.from n t));
       marked = λ f i of. let same : e ≡ f = in_new h e f next own i (of ∙ sym own) in
           subst (λ z. (is_durable z ≡ false) × (is_memory z ≡ true) × (z.hard ≡ e.hard)) same (memory-live e memory, memory, refl);
       span = λ x. sym (covers-new h e x next own);
@@ -223,10 +221,55 @@ at_new cs c i e = get_or_push cs c no_class i (sym e)
 which : (cs : List Class) (c : Class) (i : ℕ) → i < length (cs ++ c ∷ []) → (i < length cs) ⊎ (i ≡ length cs)
 which cs c i h = let l = length_push cs c in elim (cases_lt i (length cs)) [ inl w ↦ inl w | inr p ↦ inr (omega arith) ]
 
+-- what the new class names, its patch names
+new-names : (h : History) (e : Entry) (n : ℕ) → IsNext h e → e.class ≡ e.patch.no → class_names (laid h e) e.patch.no n ≡ true → is_among e.patch.after n ≡ true
+new-names h e n next own t =
+    let q = list_any-at (λ f. f.class == e.patch.no && is_among f.patch.after n) (laid h e).entries t in
+    let p = and_parts (q.0.class == e.patch.no) (is_among q.0.patch.after n) q.2 in
+    let new : e ≡ q.0 = in_new h e q.0 next own q.1 (eqb-true _ _ p.0 ∙ sym own) in
+    ap (λ f. is_among f.patch.after n) new ∙ p.1
+
+-- no class names the new patch
+never-named : (h : History) (e : Entry) (c n : ℕ) → IsNext h e → n ≡ e.patch.no → class_names (laid h e) c n ≡ true → ⊥
+never-named h e c n next is t =
+    let q = list_any-at (λ f. f.class == c && is_among f.patch.after n) (laid h e).entries t in
+    let p = and_parts (q.0.class == c) (is_among q.0.patch.after n) q.2 in
+    let later : n < q.0.patch.no = next.coherent.named_earlier q.0 n q.1 p.1 in
+    elim (In-push h.entries e q.0 q.1) [
+      | inl old ↦ let newer : q.0.patch.no < e.patch.no = next.newest q.0 old in absurd (omega arith)
+      | inr same ↦ let one : e.patch.no ≡ q.0.patch.no = ap (λ z. z.patch.no) same in absurd (omega arith)
+    ]
+
+-- the records know what they have to of the numbers
+lays-named : (b : Block) (h : History) (e : Entry) (c : Class) → Represents b [] h → IsNext h e → e.class ≡ e.patch.no → KeepsNames b e.patch.after c.after
+    → c.name ≡ e.patch.no → c.members ≡ e.patch.no ∷ [] → (new : Block) → new.classes ≡ b.classes ++ c ∷ [] → NamesLive new (laid h e)
+lays-named b h e c r next own names name members new is i j n h_i h_j on goes =
+    let w_i : i < length (b.classes ++ c ∷ []) = rw is at h_i in
+    let w_j : j < length (b.classes ++ c ∷ []) = rw is at h_j in
+    let here : (k : ℕ) → k ≡ length b.classes → class_at new k ≡ c = (λ k q. ap (λ cs. slice_index_or cs k no_class) is ∙ at_new b.classes c k q) in
+    let there : (k : ℕ) → k < length b.classes → class_at new k ≡ class_at b k = (λ k w. ap (λ cs. slice_index_or cs k no_class) is ∙ at_old b.classes c k w) in
+    elim (which b.classes c j w_j) [
+      | inr new_j ↦
+          let one : is_among (e.patch.no ∷ []) n ≡ true = ap (λ ms. is_among ms n) (sym members) ∙ ap (λ d. is_among d.members n) (sym (here j new_j)) ∙ on in
+          absurd (never-named h e (class_at new i).name n next (sym (eqb-true _ _ (one-among e.patch.no n one))) goes)
+      | inl old_j ↦
+          let member : is_among (class_at b j).members n ≡ true = ap (λ d. is_among d.members n) (sym (there j old_j)) ∙ on in
+          elim (which b.classes c i w_i) [
+            | inl old_i ↦
+                let older : (class_at b i).name < e.patch.no = name-older h e (class_at b i).name next (r.classes i old_i).known in
+                let apart : e.class ≢ (class_at b i).name = (λ q. absurd (omega arith)) in
+                ap (λ d. is_among d.after n) (there i old_i) ∙ r.named i j n old_i old_j member
+                (sym (names-laid h e (class_at b i).name n apart) ∙ ap (λ d. class_names (laid h e) d.name n) (sym (there i old_i)) ∙ goes)
+            | inr new_i ↦
+                ap (λ d. is_among d.after n) (here i new_i) ∙ names.live j n member
+                (new-names h e n next own (ap (λ (k : ℕ). class_names (laid h e) k n) (sym name) ∙ ap (λ d. class_names (laid h e) d.name n) (sym (here i new_i)) ∙ goes))
+          ]
+    ]
+
 pub lays : (b : Block) (h : History) (e : Entry) → Represents b [] h → IsNext h e → e.class ≡ e.patch.no → is_memory e ≡ true
-    → (all : List ℕ) → IsPermutation e.patch.after all
+    → (all : List ℕ) → KeepsNames b e.patch.after all
     → Represents (with_laid b e.patch.no e.patch.start e.patch.bytes all e.hard) [] (laid h e)
-lays b h e r next own memory all same =
+lays b h e r next own memory all names =
     let c : Class = new_class b e.patch.no e.patch.start e.patch.bytes all e.hard in
     let apart : (i : ℕ) → i < length b.classes → e.class ≢ (class_at b i).name = (λ i w q.
     let older : (class_at b i).name < e.patch.no = name-older h e (class_at b i).name next (r.classes i w).known in absurd (omega arith)) in
@@ -238,7 +281,7 @@ lays b h e r next own memory all same =
           ∙ sym (pile-in h.first h.entries e (λ f. not (is_among [] f.class)) refl);
       classes = λ i lt. elim (which b.classes c i lt) [
         | inl w ↦ rw (at_old b.classes c i w) (old-class h e (class_at b i) r.coherent next own (r.classes i w))
-        | inr w ↦ own-class b h e r next own memory all same _ (at_new b.classes c i w)
+        | inr w ↦ own-class b h e r next own memory all names _ (at_new b.classes c i w)
       ];
       complete = λ f i low. list_any-append (λ d. d.name == f.class) b.classes (c ∷ []) ∙ (elim (In-push h.entries e f i) [
         | inl old ↦ or_left _ _ (r.complete f old low)
@@ -254,6 +297,7 @@ lays b h e r next own memory all same =
           | inr v ↦ w ∙ sym v
         ]
       ];
+      named = lays-named b h e c r next own names refl refl (with_laid b e.patch.no e.patch.start e.patch.bytes all e.hard) refl;
       ordered = λ i j less h_j. elim (which b.classes c j h_j) [
         | inl v ↦ let w : i < length b.classes = omega arith in rw (at_old b.classes c i w, at_old b.classes c j v)
             (never-from (laid h e) _ _ (depends-old h e (class_at b i).name (class_at b j).name (apart i w) (apart j v) ∙ ordered_on r i j less v))

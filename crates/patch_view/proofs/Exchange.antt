@@ -11,6 +11,7 @@ use Rattle.patch_view.proofs.Sets.{IsUpper, holds-from}
 use Rattle.patch_model.specs.Dependency.{class_depends}
 use Rattle.patch_view.specs.History.{IsCoherent, class_covers, top, below}
 use Rattle.patch_view.specs.State.{Class, Block, class_at, no_class, spans, may_be_taken, exchanged_with, exchanged_at, leaves_taken}
+use Rattle.patch_view.proofs.Naming.{like_named}
 use Rattle.patch_view.specs.Meaning.{IsClassOf, Represents}
 use Rattle.patch_view.proofs.Chain.{IsStep, below-without, top-without, off-without, exchanged-bytes, range-at, length-by}
 
@@ -111,6 +112,15 @@ own-kept h from to turn bytes c r step is size may =
           ∙ ap (λ z. get_or z x 0) is ∙ step.saves x (sym (r.span x) ∙ on);
     }
 
+-- a field that an exchange keeps
+field-kept : {X : Type 0} (f : Class → X) (b : Block) (at i : ℕ) (turn : Turn) → at < length b.classes
+    → f (exchanged_with (class_at b at) b.bytes turn) ≡ f (class_at b at) → f (class_at (exchanged_at b at turn) i) ≡ f (class_at b i)
+field-kept f b at i turn within same = elim (cases_eq i at) [
+  | inl e ↦ ap (λ (k : ℕ). f (class_at (exchanged_at b at turn) k)) e ∙ ap f (get_or-set_same b.classes at (exchanged_with (class_at b at) b.bytes turn) no_class within)
+      ∙ same ∙ ap (λ (k : ℕ). f (class_at b k)) (sym e)
+  | inr ne ↦ ap f (get_or-set_other b.classes at i (exchanged_with (class_at b at) b.bytes turn) no_class ne)
+]
+
 -- one class exchanged: bytes and records are those of the other set
 pub exchanged-represents : (b : Block) (from to : List ℕ) (h : History) (at : ℕ) (turn : Turn) → Represents b from h → at < length b.classes
     → may_be_taken (class_at b at) ≡ true → IsExchange h (class_at b at).name from to (leaves_taken turn)
@@ -137,6 +147,13 @@ exchanged-represents b from to h at turn r within may step =
       complete = λ e i low. names-set b.classes at e.class (exchanged_with (class_at b at) b.bytes turn) within refl ∙ r.complete e i low;
       distinct = λ i j h_i h_j same. r.distinct i j (rw same_length at h_i) (rw same_length at h_j)
           (sym (name-kept b at i turn within) ∙ same ∙ name-kept b at j turn within);
+      named = like_named b (exchanged_at b at turn) h h (λ i h_i. (
+        i,
+        rw same_length at h_i,
+        field-kept (λ c. c.name) b at i turn within refl,
+        field-kept (λ c. c.members) b at i turn within refl,
+        field-kept (λ c. c.after) b at i turn within refl,
+      )) (λ c n. refl) r.named;
       ordered = λ i j less h_j.
           ap (λ n. class_depends h.entries n (class_at (exchanged_at b at turn) j).name) (name-kept b at i turn within)
           ∙ ap (λ n. class_depends h.entries (class_at b i).name n) (name-kept b at j turn within)

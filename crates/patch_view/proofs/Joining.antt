@@ -17,7 +17,7 @@ use Rattle.patch_model.specs.Member.{In, list_any-from, map-In}
 use Rattle.patch_model.specs.History.{History, pile_of, without}
 use Rattle.patch_model.specs.Kept.{hard-joined, mark-joined, patch-joined}
 use Rattle.patch_view.proofs.Sets.{class_depends_on, class_depends-apart, none-held, never-from, ordered_on}
-use Rattle.patch_view.specs.History.{IsCoherent, with_joined, class_covers, comes_before, below, top}
+use Rattle.patch_view.specs.History.{IsCoherent, with_joined, class_covers, class_names, comes_before, below, top}
 use Rattle.patch_view.specs.State.{Class, Block, class_at, no_class, spans, may_be_taken, merged, IsMerged, settled_at, laid_over}
 use Rattle.patch_view.specs.Meaning.{IsClassOf, Represents}
 use Rattle.patch_view.proofs.Chain.{same_byte, covering, before-at, before-from, later_depends, laid-before, laid-inside, laid-behind}
@@ -304,6 +304,19 @@ orderly-joined h c d o soft = record {
       ∙ o.durable_first r.0 s.0 r.1 s.1 goes (ap marks_durable (sym (mark-joined c d r.0)) ∙ ap is_durable r.2 ∙ t);
 }
 
+-- what another class names doesn't change
+names-apart : (h : History) (c d k n : ℕ) → k ≢ c → k ≢ d → class_names (with_joined h c d) k n ≡ class_names h k n
+names-apart h c d k n not_c not_d = any-map (joined c d) (λ e. e.class == k && is_among e.patch.after n) (λ e. e.class == k && is_among e.patch.after n) h.entries
+    (λ e. ap (λ z. z && is_among (joined c d e).patch.after n) (joined-other c d k e not_c not_d) ∙ ap (λ z. e.class == k && is_among z.after n) (patch-joined c d e))
+
+-- the merged class names what both name
+names-merged : (h : History) (c d n : ℕ) → class_names (with_joined h c d) (min c d) n ≡ (class_names h c n || class_names h d n)
+names-merged h c d n =
+    any-map (joined c d) (λ e. e.class == min c d && is_among e.patch.after n) (λ e. (e.class == c || e.class == d) && is_among e.patch.after n) h.entries
+    (λ e. ap (λ z. z && is_among (joined c d e).patch.after n) (joined-merged c d e) ∙ ap (λ z. (e.class == c || e.class == d) && is_among z.after n) (patch-joined c d e))
+    ∙ any-either (λ e. (e.class == c || e.class == d) && is_among e.patch.after n) (λ e. e.class == c && is_among e.patch.after n)
+    (λ e. e.class == d && is_among e.patch.after n) h.entries (λ e. or_and (e.class == c) (e.class == d) (is_among e.patch.after n))
+
 -- another class's record doesn't change
 pub apart-class : (h : History) (c d : ℕ) (k : Class) → IsClassOf h [] k → k.name ≢ c → k.name ≢ d → IsClassOf (with_joined h c d) [] k
 apart-class h c d k r not_c not_d = record {
@@ -311,8 +324,7 @@ apart-class h c d k r not_c not_d = record {
   named_by_member = r.named_by_member;
   members = λ n. r.members n ∙ sym (any-map (joined c d) (λ e. e.patch.no == n && e.class == k.name) (λ e. e.patch.no == n && e.class == k.name) h.entries
       (λ e. ap (λ z. z.no == n && (joined c d e).class == k.name) (patch-joined c d e) ∙ ap (λ z. e.patch.no == n && z) (joined-other c d k.name e not_c not_d)));
-  after = λ n. r.after n ∙ sym (any-map (joined c d) (λ e. e.class == k.name && is_among e.patch.after n) (λ e. e.class == k.name && is_among e.patch.after n) h.entries
-      (λ e. ap (λ z. z && is_among (joined c d e).patch.after n) (joined-other c d k.name e not_c not_d) ∙ ap (λ z. e.class == k.name && is_among z.after n) (patch-joined c d e)));
+  after = λ n t. names-apart h c d k.name n not_c not_d ∙ r.after n t;
   marked = λ y i of. let q = map-In (joined c d) h.entries y i in
       let is : q.0.class ≡ k.name = eqb-true _ _ (sym (joined-other c d k.name q.0 not_c not_d) ∙ eq-eqb _ _ (ap (λ z. z.class) q.2 ∙ of)) in
       let old = r.marked q.0 q.1 is in (
@@ -390,6 +402,9 @@ merged-saved h low high ms us space x o rl rh may_l may_h two none on =
           ∙ sym (below-second h low.name high.name x o (sym (rl.span x) ∙ u))
     ]
 
+after-merged : (low high : Class) (us : List ℕ) (n : ℕ) → IsPermutation (low.after ++ high.after) us → is_among us n ≡ (is_among low.after n || is_among high.after n)
+after-merged low high us n pa = sym (list_any-IsPermutation (λ k. k == n) (low.after ++ high.after) us pa) ∙ list_any-append (λ k. k == n) low.after high.after
+
 -- the merged class's record
 merged-class_of : (h : History) (low high : Class) (ms us : List ℕ) (space : ℕ) → IsPermutation (low.members ++ high.members) ms → IsPermutation (low.after ++ high.after) us → IsCoherent h → IsClassOf h [] low → IsClassOf h [] high → may_be_taken low ≡ true → may_be_taken high ≡ true
     → low.name ≢ high.name → class_depends_on h low.name high.name ≡ false → low.start ≤ high.stop → high.start ≤ low.stop
@@ -413,15 +428,10 @@ merged-class_of h low high ms us space pm pa o rl rh may_l may_h two none near_a
           (λ e. ap (λ z. z.no == n && (joined low.name high.name e).class == min low.name high.name) (patch-joined low.name high.name e) ∙ ap (λ z. e.patch.no == n && z) (joined-merged low.name high.name e))
           ∙ any-either (λ e. e.patch.no == n && (e.class == low.name || e.class == high.name)) (λ e. e.patch.no == n && e.class == low.name) (λ e. e.patch.no == n && e.class == high.name) h.entries
           (λ e. and_or (e.patch.no == n) (e.class == low.name) (e.class == high.name)));
-      after = λ n. sym (list_any-IsPermutation (λ k. k == n) (low.after ++ high.after) us pa) ∙ list_any-append (λ k. k == n) low.after high.after
-          ∙ ap (λ z. z || is_among high.after n) (rl.after n) ∙ ap (λ z. list_any (λ e. e.class == low.name && is_among e.patch.after n) h.entries || z) (rh.after n)
-          ∙ sym (any-map (joined low.name high.name) (λ e. e.class == min low.name high.name && is_among e.patch.after n)
-          (λ e. (e.class == low.name || e.class == high.name) && is_among e.patch.after n) h.entries
-          (λ e. ap (λ z. z && is_among (joined low.name high.name e).patch.after n) (joined-merged low.name high.name e)
-          ∙ ap (λ z. (e.class == low.name || e.class == high.name) && is_among z.after n) (patch-joined low.name high.name e))
-          ∙ any-either (λ e. (e.class == low.name || e.class == high.name) && is_among e.patch.after n) (λ e. e.class == low.name && is_among e.patch.after n)
-          (λ e. e.class == high.name && is_among e.patch.after n) h.entries
-          (λ e. or_and (e.class == low.name) (e.class == high.name) (is_among e.patch.after n)));
+      after = λ n t. names-merged h low.name high.name n ∙ (elim (or_cases (is_among low.after n) (is_among high.after n) (sym (after-merged low high us n pa) ∙ t)) [
+        | inl u ↦ or_left _ (class_names h high.name n) (rl.after n u)
+        | inr u ↦ or_right (class_names h low.name n) _ (rh.after n u)
+      ]);
       marked = λ y i of. let q = map-In (joined low.name high.name) h.entries y i in
           let is : (q.0.class == low.name || q.0.class == high.name) ≡ true = sym (joined-merged low.name high.name q.0) ∙ eq-eqb _ _ (ap (λ z. z.class) q.2 ∙ of) in
           let old : (is_durable q.0 ≡ false) × (is_memory q.0 ≡ true) × (q.0.hard ≡ false) = elim (or_cases (q.0.class == low.name) (q.0.class == high.name) is) [
@@ -472,6 +482,27 @@ joined_place b low high i c less within =
           inl (e, s, at_ ∙ ap (λ k. slice_index_or (slice_set b.classes low c) k no_class) s ∙ get_or-set_same b.classes low c no_class (omega arith))
       | inr ne ↦ let s : stood high i ≢ low = (λ q. elim (stood_is high i) [ inl t ↦ omega arith | inr t ↦ omega arith ]) in
           inr (s, ne, at_ ∙ get_or-set_other b.classes low (stood high i) c no_class s)
+    ]
+
+-- a member of a class was one of a class before
+was-member : (b : Block) (low high j n : ℕ) (ms us : List ℕ) (space : ℕ) → low < high → high < length b.classes
+    → IsPermutation ((class_at b low).members ++ (class_at b high).members) ms
+    → j < length (settled_at b low high (merged (class_at b low) (class_at b high) ms us space)).classes
+    → is_among (class_at (settled_at b low high (merged (class_at b low) (class_at b high) ms us space)) j).members n ≡ true
+    → (k : ℕ) × (k < length b.classes) × (is_among (class_at b k).members n ≡ true)
+was-member b low high j n ms us space less within pm h_j on =
+    let c : Class = merged (class_at b low) (class_at b high) ms us space in
+    let l : length (slice_set b.classes low c) ≡ length b.classes = length-set b.classes low c in
+    let w_set : high < length (slice_set b.classes low c) = omega arith in
+    let lr : length (settled_at b low high c).classes + 1 ≡ length (slice_set b.classes low c) = length-remove (slice_set b.classes low c) high w_set in
+    elim (joined_place b low high j c less within) [
+      | inl s ↦
+          let both : is_among ms n ≡ true = ap (λ d. is_among d.members n) (sym s.2) ∙ on in
+          elim (or_cases (is_among (class_at b low).members n) (is_among (class_at b high).members n) (sym (among-merged (class_at b low) (class_at b high) ms n pm) ∙ both)) [
+            | inl u ↦ (low, omega arith, u)
+            | inr u ↦ (high, within, u)
+          ]
+      | inr s ↦ (stood high j, elim (stood_is high j) [ inl u ↦ omega arith | inr u ↦ omega arith ], ap (λ d. is_among d.members n) (sym s.2) ∙ on)
     ]
 
 joins_of : (b : Block) (h : History) (low high : ℕ) (ms us : List ℕ) (space : ℕ) → Represents b [] h → MayJoinAt b h low high
@@ -537,6 +568,24 @@ joins_of b h low high ms us space r m pm pa =
               elim (stood_is high i) [ inl u ↦ elim (stood_is high j) [ inl v ↦ omega arith | inr v ↦ omega arith ] | inr u ↦ elim (stood_is high j) [ inl v ↦ omega arith | inr v ↦ omega arith ] ]
         ]
       ];
+      named = λ i j n h_i h_j on goes.
+          let k = was-member b low high j n ms us space less within pm h_j on in
+          elim (at_ i) [
+            | inl s ↦
+                let either : (class_names h (class_at b low).name n || class_names h (class_at b high).name n) ≡ true =
+                sym (names-merged h (class_at b low).name (class_at b high).name n)
+                ∙ ap (λ d. class_names (with_joined h (class_at b low).name (class_at b high).name) d.name n) (sym s.2) ∙ goes in
+                ap (λ d. is_among d.after n) s.2 ∙ after-merged (class_at b low) (class_at b high) us n pa
+                ∙ (elim (or_cases (class_names h (class_at b low).name n) (class_names h (class_at b high).name n) either) [
+                  | inl u ↦ or_left _ (is_among (class_at b high).after n) (r.named low k.0 n w_low k.1 k.2 u)
+                  | inr u ↦ or_right (is_among (class_at b low).after n) _ (r.named high k.0 n within k.1 k.2 u)
+                ])
+            | inr s ↦
+                let goes_on : class_names h (class_at b (stood high i)).name n ≡ true =
+                sym (names-apart h (class_at b low).name (class_at b high).name (class_at b (stood high i)).name n (not_low i h_i s.0) (not_high i h_i))
+                ∙ ap (λ d. class_names (with_joined h (class_at b low).name (class_at b high).name) d.name n) (sym s.2) ∙ goes in
+                ap (λ d. is_among d.after n) s.2 ∙ r.named (stood high i) k.0 n (w i h_i) k.1 k.2 goes_on
+          ];
       ordered = λ i j lt h_j.
           let h_i : i < length (settled_at b low high c).classes = omega arith in
           let lts : stood high i < stood high j = elim (stood_is high i) [ inl u ↦ elim (stood_is high j) [ inl v ↦ omega arith | inr v ↦ omega arith ] | inr u ↦ elim (stood_is high j) [ inl v ↦ omega arith | inr v ↦ omega arith ] ] in

@@ -1,5 +1,6 @@
 pub mod Sets
 pub mod Numbers
+pub mod Naming
 pub mod Chain
 pub mod Steps
 pub mod Exchange
@@ -20,6 +21,9 @@ pub mod Gathering
 pub mod Settling
 pub mod Lawful
 pub mod Sweeping
+pub mod Imaging
 pub mod Together
 pub mod Leaving
 pub mod Clear
+pub mod Taken
+pub mod Apart

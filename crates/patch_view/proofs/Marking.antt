@@ -15,8 +15,9 @@ use Rattle.patch_model.specs.Dependency.{depends_directly}
 use Rattle.patch_model.specs.Member.{In, map-In}
 use Rattle.patch_model.specs.History.{History, without}
 use Rattle.patch_view.proofs.Sets.{class_depends_on, none-held, never-from, ordered_on}
-use Rattle.patch_view.specs.History.{IsCoherent, MayLand, re_marked, with_mark, class_covers, comes_before, below, top}
+use Rattle.patch_view.specs.History.{IsCoherent, MayLand, re_marked, with_mark, class_covers, class_names, comes_before, below, top}
 use Rattle.patch_view.specs.State.{Class, Block, class_at, no_class, may_be_taken, place_of, departed, departed_at, landed_at}
+use Rattle.patch_view.proofs.Naming.{like_named}
 use Rattle.patch_view.specs.Meaning.{IsClassOf, Represents}
 use Rattle.patch_view.specs.Answers.{IsPatch}
 use Rattle.patch_view.proofs.Steps.{record_of}
@@ -111,6 +112,11 @@ orderly-changed f h m marks o = record {
       ap is_memory (sym s.2) ∙ marks.durable_first r.0 s.0 r.1 s.1 goes (ap is_durable r.2 ∙ t);
 }
 
+-- what a class names doesn't change
+pub names-changed : (f : Entry → Entry) (h : History) → IsMarking f → (c n : ℕ) → class_names (changed f h) c n ≡ class_names h c n
+names-changed f h m c n = any-map f (λ e. e.class == c && is_among e.patch.after n) (λ e. e.class == c && is_among e.patch.after n) h.entries
+    (λ e. ap (λ z. z == c && is_among (f e).patch.after n) (m.class e) ∙ ap (λ z. e.class == c && is_among z.after n) (m.patch e))
+
 -- a class's record, with other marks
 pub re-class : (f : Entry → Entry) (h : History) (c : Class) (flying : Bool) (saved : List ℕ) → IsMarking f → IsClassOf h [] c
     → ((e : Entry) → In h.entries e → e.class ≡ c.name → (is_durable (f e) ≡ false) × (is_memory (f e) ≡ not flying))
@@ -122,8 +128,7 @@ re-class f h c flying saved m r marks keeps = record {
   named_by_member = r.named_by_member;
   members = λ n. r.members n ∙ sym (any-map f (λ e. e.patch.no == n && e.class == c.name) (λ e. e.patch.no == n && e.class == c.name) h.entries
       (λ e. ap (λ z. z.no == n && (f e).class == c.name) (m.patch e) ∙ ap (λ z. e.patch.no == n && z == c.name) (m.class e)));
-  after = λ n. r.after n ∙ sym (any-map f (λ e. e.class == c.name && is_among e.patch.after n) (λ e. e.class == c.name && is_among e.patch.after n) h.entries
-      (λ e. ap (λ z. z == c.name && is_among (f e).patch.after n) (m.class e) ∙ ap (λ z. e.class == c.name && is_among z.after n) (m.patch e)));
+  after = λ n t. names-changed f h m c.name n ∙ r.after n t;
   marked = λ y i of. let q = map-In f h.entries y i in
       let is : q.0.class ≡ c.name = sym (m.class q.0) ∙ ap (λ z. z.class) q.2 ∙ of in
       let new = marks q.0 q.1 is in
@@ -239,6 +244,8 @@ departs b h at r within =
             | inr out ↦ r.complete q.0 q.1 (ap is_durable (sym (marked-out Flight (class_at b at).name q.0 out) ∙ q.2) ∙ low)
           ]);
       distinct = λ i j h_i h_j same. r.distinct i j (rw same_length at h_i) (rw same_length at h_j) (sym (name-kept i) ∙ same ∙ name-kept j);
+      named = like_named b (departed_at b at) h H (λ i h_i. (i, rw same_length at h_i, name-kept i, kept-flown (λ c. c.members) b at i within refl, kept-flown (λ c. c.after) b at i within refl))
+          (names-changed (re_marked Flight (class_at b at).name) h m) r.named;
       ordered = λ i j less h_j.
           let w_j : j < length b.classes = rw same_length at h_j in
           never-from (with_mark h Flight (class_at b at).name) _ _
@@ -298,6 +305,9 @@ lands b h at r within may =
       distinct = λ i j h_i h_j same.
           let e : stood at i ≡ stood at j = r.distinct (stood at i) (stood at j) (w i h_i) (w j h_j) (ap (λ c. c.name) (sym (at_ i)) ∙ same ∙ ap (λ c. c.name) (at_ j)) in
           elim (stood_is at i) [ inl s ↦ elim (stood_is at j) [ inl t ↦ omega arith | inr t ↦ omega arith ] | inr s ↦ elim (stood_is at j) [ inl t ↦ omega arith | inr t ↦ omega arith ] ];
+      named = like_named b (landed_at b at) h (with_mark h Durable (class_at b at).name)
+          (λ i h_i. (stood at i, w i h_i, ap (λ c. c.name) (at_ i), ap (λ c. c.members) (at_ i), ap (λ c. c.after) (at_ i)))
+          (names-changed (re_marked Durable (class_at b at).name) h m) r.named;
       ordered = λ i j less h_j.
           let h_i : i < length (landed_at b at).classes = omega arith in
           let lt : stood at i < stood at j = elim (stood_is at i) [

@@ -11,6 +11,7 @@ use Rattle.patch_view.proofs.Resting.{linked_as}
 use Rattle.patch_view.specs.State.{Class, Block, class_at, no_class, follows, moved_down}
 use Rattle.patch_view.specs.Meaning.{IsClassOf, Represents}
 use Rattle.patch_view.proofs.Steps.{record_of}
+use Rattle.patch_view.proofs.Naming.{like_named}
 
 -- where what stands at a place now stood
 abbrev pub came : ℕ → ℕ → ℕ → ℕ
@@ -120,6 +121,8 @@ moves b taken h front k r down within free =
               | inr more ↦ elim (came_facts front k j i down more) [ inl s ↦ absurd (omega arith) | inr s ↦ absurd (omega arith) ]
             ]
           ];
+      named = like_named b (moved_down b front k) h h (λ i h_i.
+          (came front k i, w i h_i, ap (λ c. c.name) (at_ i), ap (λ c. c.members) (at_ i), ap (λ c. c.after) (at_ i))) (λ c n. refl) r.named;
       ordered = λ i j less h_j.
           rw (at_ i, at_ j) (elim (came_facts front k i j down less) [
             | inl s ↦ r.ordered (came front k i) (came front k j) s (w j h_j)

@@ -50,7 +50,7 @@ hardens b now number start bytes after l =
     let c : Class = new_class b number start bytes l.all false in
     record {
       all = l.all;
-      same = l.same;
+      names = l.names;
       is = let e = l.is in
           rw (e, pushed_is b.classes c, pushed_at b.classes c)
           (ap (λ z. let m : Block = record { bytes = (with_laid b number start bytes l.all true).bytes; classes = z } in m)
@@ -63,7 +63,7 @@ pub laid_represents : (b now : Block) (h : History) (number block start : ℕ) (
     → Represents now [] (laid h (made number block start bytes after undo hard))
 laid_represents b now h number block start bytes after undo hard l r next =
     let e = l.is in
-    rw e (lays b h (made number block start bytes after undo hard) r next refl refl l.all l.same)
+    rw e (lays b h (made number block start bytes after undo hard) r next refl refl l.all l.names)
 
 pub hardened_represents : (b now : Block) (h : History) (number block start : ℕ) (bytes after : List ℕ) (undo : Undo)
     → IsLaid b number start bytes after false now → Represents b [] h → IsNext h (made number block start bytes after undo true)

@@ -9,7 +9,7 @@ use Rattle.patch_model.specs.Entry.{is_among}
 use Rattle.patch_model.specs.Dependency.{shares_byte, class_depends}
 use Rattle.patch_model.specs.Member.{list_any-at, list_any-from}
 use Rattle.patch_model.specs.History.{History}
-use Rattle.patch_view.specs.History.{IsCoherent}
+use Rattle.patch_view.specs.History.{IsCoherent, class_names}
 use Rattle.patch_view.specs.State.{Class, Block, class_at, names, meets, follows}
 use Rattle.patch_view.specs.Meaning.{IsClassOf, Represents}
 use Rattle.patch_view.proofs.Sets.{class_depends_on, class_depends-apart, ordered_on}
@@ -21,7 +21,7 @@ use Rattle.patch_view.proofs.Exchange.{spans-at, spans-from}
 pub names-depends : (h : History) (t u : List ℕ) (c d : Class) → IsClassOf h t c → IsClassOf h u d → names c d ≡ true → class_depends_on h c.name d.name ≡ true
 names-depends h t u c d r s on =
     let q = list_any-at (λ n. is_among d.members n) c.after on in
-    let e = list_any-at (λ g. g.class == c.name && is_among g.patch.after q.0) h.entries (sym (r.after q.0) ∙ list_any-from (λ m. m == q.0) c.after q.0 q.1 (eq-eqb q.0 q.0 refl)) in
+    let e = list_any-at (λ g. g.class == c.name && is_among g.patch.after q.0) h.entries (r.after q.0 (list_any-from (λ m. m == q.0) c.after q.0 q.1 (eq-eqb q.0 q.0 refl))) in
     let p = and_parts (e.0.class == c.name) (is_among e.0.patch.after q.0) e.2 in
     let f = list_any-at (λ g. g.patch.no == q.0 && g.class == d.name) h.entries (sym (s.members q.0) ∙ q.2) in
     let v = and_parts (f.0.patch.no == q.0) (f.0.class == d.name) f.2 in
@@ -49,17 +49,17 @@ meets-depends h t u c d o r s apart on =
     ]
 
 -- one that depends on another meets it or names a member of it
-pub depends-rests : (h : History) (t u : List ℕ) (c d : Class) → IsCoherent h → IsClassOf h t c → IsClassOf h u d → class_depends_on h c.name d.name ≡ true
+pub depends-rests : (h : History) (t u : List ℕ) (c d : Class) → IsCoherent h → IsClassOf h t c → IsClassOf h u d
+    → ((n : ℕ) → is_among d.members n ≡ true → class_names h c.name n ≡ true → is_among c.after n ≡ true) → class_depends_on h c.name d.name ≡ true
     → (meets c d || names c d) ≡ true
-depends-rests h t u c d o r s on =
+depends-rests h t u c d o r s named on =
     let k = Link-some h.entries c.name d.name on in
     elim (or_cases (is_among k.from.patch.after k.to.patch.no) (nat_lt k.to.patch.no k.from.patch.no && shares_byte k.from.patch k.to.patch) k.depends) [
       | inl v ↦
-          let named : is_among c.after k.to.patch.no ≡ true = r.after k.to.patch.no
-          ∙ list_any-from (λ g. g.class == c.name && is_among g.patch.after k.to.patch.no) h.entries k.from k.in_from (and_from _ _ (eq-eqb _ _ k.name_from) v) in
+          let goes : class_names h c.name k.to.patch.no ≡ true = list_any-from (λ g. g.class == c.name && is_among g.patch.after k.to.patch.no) h.entries k.from k.in_from (and_from _ _ (eq-eqb _ _ k.name_from) v) in
           let member : is_among d.members k.to.patch.no ≡ true = s.members k.to.patch.no
           ∙ list_any-from (λ g. g.patch.no == k.to.patch.no && g.class == d.name) h.entries k.to k.in_to (and_from _ _ (eq-eqb k.to.patch.no k.to.patch.no refl) (eq-eqb _ _ k.name_to)) in
-          let q = list_any-at (λ m. m == k.to.patch.no) c.after named in
+          let q = list_any-at (λ m. m == k.to.patch.no) c.after (named k.to.patch.no member goes) in
           or_right (meets c d) _ (list_any-from (λ n. is_among d.members n) c.after q.0 q.1 (ap (is_among d.members) (eqb-true _ _ q.2) ∙ member))
       | inr v ↦
           let p = and_parts (nat_lt k.to.patch.no k.from.patch.no) (shares_byte k.from.patch k.to.patch) v in
@@ -75,10 +75,11 @@ depends-rests h t u c d o r s on =
           or_left _ (names c d) (and_from _ _ (lt-ltb c.start d.stop (omega (arith, in_c, in_d))) (lt-ltb d.start c.stop (omega (arith, in_c, in_d))))
     ]
 
-pub rests-depends : (h : History) (t u : List ℕ) (c d : Class) → IsCoherent h → IsClassOf h t c → IsClassOf h u d → c.name ≢ d.name
+pub rests-depends : (h : History) (t u : List ℕ) (c d : Class) → IsCoherent h → IsClassOf h t c → IsClassOf h u d
+    → ((n : ℕ) → is_among d.members n ≡ true → class_names h c.name n ≡ true → is_among c.after n ≡ true) → c.name ≢ d.name
     → class_depends_on h d.name c.name ≡ false → (meets c d || names c d) ≡ class_depends_on h c.name d.name
-rests-depends h t u c d o r s apart never = elim (cases_Bool (class_depends_on h c.name d.name)) [
-  | inl on ↦ depends-rests h t u c d o r s on ∙ sym on
+rests-depends h t u c d o r s named apart never = elim (cases_Bool (class_depends_on h c.name d.name)) [
+  | inl on ↦ depends-rests h t u c d o r s named on ∙ sym on
   | inr off ↦ false_from_ne_true _ (λ on. elim (or_cases (meets c d) (names c d) on) [
     | inl m ↦ elim (meets-depends h t u c d o r s apart m) [ inl v ↦ both_ways _ off v | inr v ↦ both_ways _ never v ]
     | inr n ↦ both_ways _ off (names-depends h t u c d r s n)
@@ -92,7 +93,7 @@ linked {b} {taken} {h} r i j h_i h_j apart = elim (cases_order j i) [
   | inl same ↦ absurd (apart (ap (λ k. (class_at b k).name) (sym same)))
   | inr o ↦ elim o [
     | inl below ↦ ap (λ z. z && (meets (class_at b i) (class_at b j) || names (class_at b i) (class_at b j))) (lt-ltb j i below)
-        ∙ rests-depends h taken taken (class_at b i) (class_at b j) r.coherent (r.classes i h_i) (r.classes j h_j) apart (ordered_on r j i below h_i)
+        ∙ rests-depends h taken taken (class_at b i) (class_at b j) r.coherent (r.classes i h_i) (r.classes j h_j) (λ n on goes. r.named i j n h_i h_j on goes) apart (ordered_on r j i below h_i)
     | inr above ↦ and_left _ _ (le-ltb j i (omega arith)) ∙ sym (ordered_on r i j above h_j)
   ]
 ]

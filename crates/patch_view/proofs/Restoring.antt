@@ -138,4 +138,5 @@ opens first long = record {
   complete = λ e i. absurd i;
   distinct = λ i j lt. absurd (omega arith);
   ordered = λ i j less lt. absurd (omega arith);
+  named = λ i j n lt. absurd (omega arith);
 }

@@ -33,6 +33,7 @@ renamed b names others h r same = record {
   complete = r.complete;
   distinct = r.distinct;
   ordered = r.ordered;
+  named = r.named;
 }
 
 -- the records of classes from the place n on that may be taken are taken

@@ -10,7 +10,7 @@ use Rattle.patch_model.specs.Marked.{memory-not_durable}
 use Rattle.patch_model.specs.declared.patches.Mark.{Mark}
 use Rattle.patch_model.specs.declared.patches.Mark.TheVariants.{Memory, Flight, Durable}
 use Rattle.patch_model.specs.Entry.{Entry, is_durable, is_memory, is_flight, is_among, marks_memory, marks_durable, marks_flight}
-use Rattle.patch_model.specs.Member.{In, In-from_Contains, Contains-from_In, In-filter, list_any-from, map-In}
+use Rattle.patch_model.specs.Member.{In, In-from_Contains, Contains-from_In, In-filter, filter-In, list_any-from, map-In}
 use Rattle.patch_model.specs.History.{History}
 use Rattle.patch_model.specs.Orderly.{IsOrderlyBlock}
 use Rattle.patch_model.specs.Ready.{has}
@@ -21,7 +21,8 @@ use Rattle.patch_view.specs.Meaning.{IsClassOf, Represents}
 use Rattle.patch_view.proofs.Sets.{class_depends_on, none-held, never-from, ordered_on}
 use Rattle.patch_view.proofs.Steps.{record_of}
 use Rattle.patch_view.proofs.Lawful.{flight_may_land}
-use Rattle.patch_view.proofs.Marking.{IsMarking, AreMarks, changed, any-map, depends-changed, without-changed, orderly-changed, re-class}
+use Rattle.patch_view.proofs.Marking.{IsMarking, AreMarks, changed, any-map, depends-changed, without-changed, orderly-changed, names-changed, re-class}
+use Rattle.patch_view.proofs.Naming.{like_named}
 
 -- Put in flight.
 
@@ -108,6 +109,12 @@ departed-class h numbers set c may r = elim (cases_Bool (is_among numbers c.name
 same-name : (numbers : List ℕ) (c : Class) → (departed_among numbers c).name ≡ c.name
 same-name numbers c = elim (cases_Bool (is_among numbers c.name)) [ inl t ↦ rw t refl | inr t ↦ rw t refl ]
 
+same-members : (numbers : List ℕ) (c : Class) → (departed_among numbers c).members ≡ c.members
+same-members numbers c = elim (cases_Bool (is_among numbers c.name)) [ inl t ↦ rw t refl | inr t ↦ rw t refl ]
+
+same-after : (numbers : List ℕ) (c : Class) → (departed_among numbers c).after ≡ c.after
+same-after numbers c = elim (cases_Bool (is_among numbers c.name)) [ inl t ↦ rw t refl | inr t ↦ rw t refl ]
+
 pub departs_together : (b : Block) (h : History) (numbers : List ℕ) (set : List Entry) → Represents b [] h → MayDepart h numbers set
     → Represents (with_departed b numbers) [] (changed (sent set) h)
 departs_together b h numbers set r may =
@@ -136,6 +143,9 @@ departs_together b h numbers set r may =
           let w_i : i < length b.classes = rw long at h_i in
           let w_j : j < length b.classes = rw long at h_j in
           r.distinct i j w_i w_j (sym (name_ i w_i) ∙ same ∙ name_ j w_j);
+      named = like_named b new h H (λ i h_i. let w : i < length b.classes = rw long at h_i in
+          (i, w, name_ i w, ap (λ c. c.members) (at_ i w) ∙ same-members numbers (class_at b i), ap (λ c. c.after) (at_ i w) ∙ same-after numbers (class_at b i)))
+          (names-changed (sent set) h m) r.named;
       ordered = λ i j less h_j.
           let w_j : j < length b.classes = rw long at h_j in
           let w_i : i < length b.classes = omega arith in
@@ -238,6 +248,12 @@ lands_together b h block r o =
               | inr more ↦ absurd (pairs j i no_class (omega arith) h_i (sym same))
             ]
           ];
+      named = like_named b (with_landed b) h H (λ i w.
+          let c : Class = class_at (with_landed b) i in
+          let inside = filter-In stays b.classes c (In-from_Contains (filter stays b.classes) c (Contains-get_or (filter stays b.classes) i no_class w)) in
+          let k = Contains-from_In b.classes c inside.0 in
+          let same : c ≡ class_at b k.0 = sym (get_or_default b.classes k.0 no_class c k.1 ∙ k.2) in
+          (k.0, k.1, ap (λ d. d.name) same, ap (λ d. d.members) same, ap (λ d. d.after) same)) (names-changed (landed block) h m) r.named;
       ordered = λ i j less h_j. never-from H _ _
           (depends-changed (landed block) h (class_at (with_landed b) i).name (class_at (with_landed b) j).name m
           ∙ AllPairs-filter (λ c d. class_depends_on h c.name d.name ≡ false) stays b.classes order i j no_class less h_j);

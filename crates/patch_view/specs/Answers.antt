@@ -72,6 +72,11 @@ abbrev pub TakesAll : Block → Block → Type 0
 TakesAll old new =
     (h : History) (taken : List ℕ) → Represents old taken h → HoldsDependents h (undoable_classes h) → Represents new (undoable_classes h) h
 
+-- these are the block's bytes without its undoable classes, if together they hold their dependents
+abbrev pub ShowsTaken : Block → List ℕ → Type 0
+ShowsTaken b bytes =
+    (h : History) (taken : List ℕ) → Represents b taken h → HoldsDependents h (undoable_classes h) → bytes ≡ without h (undoable_classes h)
+
 -- nothing is taken any more
 abbrev pub PutsAllBack : Block → Block → Type 0
 PutsAllBack old new = (h : History) (taken : List ℕ) → Represents old taken h → Represents new [] h

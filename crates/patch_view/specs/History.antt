@@ -29,6 +29,10 @@ made number block start bytes after undo hard =
 abbrev pub class_covers : History → ℕ → ℕ → Bool
 class_covers h c x = list_any (λ e. e.class == c && covers e.patch x) h.entries
 
+-- a patch of the class names the number
+abbrev pub class_names : History → ℕ → ℕ → Bool
+class_names h c n = list_any (λ e. e.class == c && is_among e.patch.after n) h.entries
+
 -- the patch was made before each patch of the class that changes the byte
 abbrev pub comes_before : History → ℕ → ℕ → Entry → Bool
 comes_before h c x e = list_all (λ f. not (f.class == c && covers f.patch x) || nat_lt e.patch.no f.patch.no) h.entries

@@ -1,4 +1,6 @@
 pub mod History
+pub mod Places
+pub mod Members
 pub mod State
 pub mod Meaning
 pub mod Refusal

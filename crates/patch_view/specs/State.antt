@@ -3,10 +3,12 @@ use Rattle.std.specs.Prelude.{ℕ, Bool, true, false, ◌≡◌, ◌==◌, ◌<�
 use Rattle.std.specs.List.{list_any, remove, insert}
 use Rattle.patch_model.specs.Entry.{is_among}
 use Rattle.patch_view.specs.declared.classes.Turn.{Turn}
+use Rattle.patch_view.specs.declared.places.Places.{Places}
+use Rattle.patch_view.specs.declared.members.Members.{Members}
 use Rattle.patch_view.specs.declared.classes.Turn.TheVariants.{Take, PutBack}
 
 -- a live class: its name and members, its span, the bytes that the block would have there in the other state, the numbers
--- that its members name, whether it is in flight, whether it is hard, whether it is taken back, and how many more members and
+-- that its members name, of those that were live in the block, whether it is in flight, whether it is hard, whether it is taken back, and how many more members and
 -- names it can take in without memory
 pub record Class : Type 0 where
   pub name : ℕ
@@ -26,6 +28,19 @@ pub record Block : Type 0 where
 
 abbrev pub no_class : Class
 no_class = record { name = 0; members = []; start = 0; stop = 0; saved = []; after = []; flying = false; hard = false; taken = false; room = 0 }
+
+-- each class that is taken stands at one of these places
+abbrev pub TakenWithin : Places → List Class → Type 0
+TakenWithin p cs = (i : ℕ) → (slice_index_or cs i no_class).taken ≡ true → (p.from ≤ i) × (i < p.to)
+
+-- no number is a member of two classes, and none is above the newest
+pub record AreApart (newest : ℕ) (cs : List Class) : Type 0 where
+  pub upto : (i n : ℕ) → is_among (slice_index_or cs i no_class).members n ≡ true → n ≤ newest
+  pub once : (i j n : ℕ) → is_among (slice_index_or cs i no_class).members n ≡ true → is_among (slice_index_or cs j no_class).members n ≡ true → i ≡ j
+
+-- that is so, where it is known
+abbrev pub KnownApart : Members → List Class → Type 0
+KnownApart m cs = m.are_apart ≡ true → AreApart m.newest cs
 
 abbrev pub class_at : Block → ℕ → Class
 class_at b at = slice_index_or b.classes at no_class
@@ -56,6 +71,10 @@ place_of b number = position (λ c. is_among c.members number) b.classes
 abbrev pub hinders : Turn → Block → ℕ → ℕ → Bool
 hinders Take b at k = not (class_at b k).taken && follows b k at
 hinders PutBack b at k = (class_at b k).taken && follows b at k
+
+-- each class that keeps it so stands at one of these places
+abbrev pub HinderWithin : Turn → Block → ℕ → Places → Type 0
+HinderWithin turn b at p = (k : ℕ) → hinders turn b at k ≡ true → (p.from ≤ k) × (k < p.to)
 
 -- among the first n places, the least name of a class at one that passes
 abbrev pub IsLeastBelow : (ℕ → Bool) → Block → ℕ → Option ℕ → Type 0
@@ -100,6 +119,10 @@ swept_to (suc n) b =
     let at = length b.classes - suc n in
     if is_takeable (class_at r at) then exchanged_at r at Take else r
 
+-- the bytes without the class, where it may be taken and isn't
+abbrev pub uncovered : Class → List ℕ → List ℕ
+uncovered c bytes = if is_takeable c then laid_on c bytes else bytes
+
 -- what a view leaves of a record as it is: all but the saved bytes, and that the class is taken
 abbrev pub outline_of : Class → Class
 outline_of c = record c { saved = []; taken = false }
@@ -129,10 +152,15 @@ with_laid b number start bytes after hard = record {
   classes = b.classes ++ new_class b number start bytes after hard ∷ [];
 }
 
--- the block has one more class, which names these, in any order
+-- numbers of a list, and among them each that is a member of one of the block's classes
+pub record KeepsNames (b : Block) (after kept : List ℕ) : Type 0 where
+  pub from : (n : ℕ) → is_among kept n ≡ true → is_among after n ≡ true
+  pub live : (i n : ℕ) → is_among (class_at b i).members n ≡ true → is_among after n ≡ true → is_among kept n ≡ true
+
+-- the block has one more class, which names such of these as are live in the block, and perhaps more of them
 pub record IsLaid (old : Block) (number start : ℕ) (bytes after : List ℕ) (hard : Bool) (new : Block) : Type 0 where
   pub all : List ℕ
-  pub same : IsPermutation after all
+  pub names : KeepsNames old after all
   pub is : new ≡ with_laid old number start bytes all hard
 
 -- the place of the newest class
@@ -216,6 +244,10 @@ pub record IsMerged (low high c : Class) : Type 0 where
   pub members : IsPermutation (low.members ++ high.members) c.members
   pub after : IsPermutation (low.after ++ high.after) c.after
   pub is : c ≡ merged low high c.members c.after c.room
+
+-- each member of a class is one of two others
+abbrev pub MembersOf : Class → Class → Class → Type 0
+MembersOf c low high = (n : ℕ) → is_among c.members n ≡ true → (is_among low.members n || is_among high.members n) ≡ true
 
 -- where both lists rise, no number of the second is below one of the first
 abbrev pub follow_on : List ℕ → List ℕ → Bool

@@ -7,13 +7,15 @@ ghost use Rattle.patch_model.specs.History.{History};
 ghost use Rattle.patch_model.specs.Orderly.{IsOrderlyBlock};
 ghost use Rattle.patch_model.specs.State.{landed};
 ghost use Rattle.patch_view.specs.State.{follows, with_laid, IsLaid, without_newest, with_newest_hard, departed_at, landed_at, with_departed, HasDeparted};
-ghost use Rattle.patch_view.specs.State.{with_one_departed, with_one_landed, with_landed, moved_down, IsJoint, IsJointAt, has_places};
+ghost use Rattle.patch_view.specs.State.{with_one_departed, with_one_landed, with_landed, moved_down, IsJoint, IsJointAt, has_places, KeepsNames};
 ghost use Rattle.patch_view.specs.History.{unpatched, MayLand, with_mark};
 ghost use Rattle.patch_view.specs.Meaning.{Represents, IsGathered};
 ghost use Rattle.patch_view.specs.Answers.{IsPatch};
 ghost use Rattle.patch_view.specs.Changes.{Lays, Unlays, Hardens, Settles, JoinsPlaces, JoinsBy, Joins, DepartsEach};
 
 use crate::classes::{Class, Drawn, Turn, sort};
+use crate::members::Members;
+use crate::places::Places;
 use crate::spans::swap_span;
 use crate::states::BlockState;
 use patch_model::{BLOCK, BlockBytes, OutOfMemory, PatchNo};
@@ -44,6 +46,8 @@ impl<A: Allocator> BlockState<A> {
         BlockState {
             bytes: first.into_vec(),
             classes: Vec::new(alloc),
+            taken: Places::none(),
+            members: Members::none(),
         }
     }
 
@@ -81,9 +85,37 @@ impl<A: Allocator> BlockState<A> {
         ensures done { OnOk result (IsLaid self.old no start bytes.now after.now false self.new) }
         ensures refused { OnErr result (self.new ≡ self.old) }
     {
-        let mut all = Vec::from_slice(self.bytes.allocator().clone()?, after)?;
-        sort(all.as_mut_slice());
-        self.lay_with(no, start, bytes, all)
+        let named = self.names_of(after)?;
+        self.lay_with(no, start, bytes, named)
+    }
+
+    /// Those of these numbers that may be members of the block's classes, rising. Where there are none it takes no memory.
+    fn names_of(&self, after: &[PatchNo]) -> Result<Vec<PatchNo, A>, OutOfMemory>
+    where
+        A: Clone,
+        ensures kept { IfOk result (λ kept. KeepsNames self.now after.now kept.items) }
+        ensures rising { IfOk result (λ kept. IsNonDecreasing kept.items) }
+    {
+        let mut kept = self.kept_of(after)?;
+        if kept.len() < 2 {
+            return Ok(kept);
+        }
+        sort(kept.as_mut_slice());
+        Ok(kept)
+    }
+
+    fn kept_of(&self, after: &[PatchNo]) -> Result<Vec<PatchNo, A>, OutOfMemory>
+    where
+        A: Clone,
+        ensures { IfOk result (λ kept. KeepsNames self.now after.now kept.items) }
+    {
+        let mut kept = Vec::new(self.bytes.allocator().clone()?);
+        for no in after {
+            if self.may_have(*no) {
+                kept.push(*no)?;
+            }
+        }
+        Ok(kept)
     }
 
     /// Lays a patch that names these.
@@ -107,6 +139,7 @@ impl<A: Allocator> BlockState<A> {
         let mut saved = Vec::from_slice(self.bytes.allocator().clone()?, bytes)?;
         swap_span(self.bytes.as_mut_slice(), start, saved.as_mut_slice());
         let class = Class::new(no, members, start, stop, saved, all);
+        self.members = self.members.with(no, self.classes.is_empty());
         // Never refused: the room for it was made above.
         self.classes.push(class).unwrap();
         Ok(())
@@ -166,6 +199,7 @@ impl<A: Allocator> BlockState<A> {
     {
         let passed = &mut self.classes[front..k + 1];
         passed.rotate_right(1);
+        self.taken = self.taken.spread(self.classes.len());
     }
 
     /// Whether the class at `k` depends directly on one from `front` up to it.
@@ -222,7 +256,10 @@ impl<A: Allocator> BlockState<A> {
     {
         let upper = self.classes.remove(high);
         let lower = &mut self.classes[low];
-        lower.become_both(drawn, &upper);
+        let are_of_both = lower.become_both(drawn, &upper);
+        let is_taken = lower.is_taken();
+        self.members = self.members.unless_other(!are_of_both);
+        self.taken = self.taken.spread_over(self.classes.len(), is_taken);
     }
 
     /// Puts the record of the classes at two places in place of both. Where the higher one depends on none between them, as the
@@ -341,6 +378,7 @@ impl<A: Allocator> BlockState<A> {
             → Represents self.new [] (record h { entries = map (landed block) h.entries }) }
     {
         self.classes.retain(|class| !class.is_flying());
+        self.taken = self.taken.spread(self.classes.len());
     }
 
     fn land_at(&mut self, at: usize)
@@ -348,5 +386,6 @@ impl<A: Allocator> BlockState<A> {
         ensures { self.new ≡ landed_at self.old at }
     {
         let _gone = self.classes.remove(at);
+        self.taken = self.taken.spread(self.classes.len());
     }
 }

@@ -1,10 +1,10 @@
 //! What a block keeps of a live class.
 ghost use Rattle.std.specs.Prelude.{◌≡◌, ◌||◌, ◌+◌, ◌≤◌, ◌++◌, length, IfOk, IsTrue, IsPermutation, true, false, [], min, max, replicate, ◌-◌, vec_capacity};
-ghost use Rattle.std.specs.List.{list_any};
+ghost use Rattle.std.specs.List.{list_any, list_all};
 ghost use Rattle.std.specs.List.Sorted.{IsNonDecreasing};
 ghost use Rattle.patch_model.specs.Entry.{is_among};
-ghost use Rattle.patch_view.specs.State.{is_takeable, laid_on, exchanged_with, leaves_taken, meets, names, hardened, departed, departed_among, MayHaveDeparted, merged, IsMerged, IsDrawn};
-ghost use Rattle.patch_view.specs.State.{follow_on, has_room_for, with_lists_of, in_its_place, with_lists};
+ghost use Rattle.patch_view.specs.State.{is_takeable, uncovered, laid_on, exchanged_with, leaves_taken, meets, names, hardened, departed, departed_among, MayHaveDeparted, merged, IsMerged, IsDrawn};
+ghost use Rattle.patch_view.specs.State.{follow_on, has_room_for, with_lists_of, in_its_place, with_lists, MembersOf};
 
 use crate::spans::swap_span;
 use patch_model::{BLOCK, OutOfMemory, PatchNo};
@@ -304,22 +304,38 @@ impl<A: Allocator> Class<A> {
         }
     }
 
-    /// Becomes what was drawn up of it and a higher class.
-    pub(crate) fn become_both(&mut self, drawn: Drawn<A>, high: &Class<A>)
-        ensures { IsDrawn self.old high.now drawn → self.new ≡ in_its_place self.old high.now drawn }
+    /// Becomes what was drawn up of it and a higher class. Answers whether each of its members is then one of the two's, as it
+    /// is where the record was drawn up of them.
+    pub(crate) fn become_both(&mut self, drawn: Drawn<A>, high: &Class<A>) -> bool
+        ensures drawn { IsDrawn self.old high.now drawn → self.new ≡ in_its_place self.old high.now drawn }
+        ensures members { IsTrue result → MembersOf self.new self.old high.now }
     {
         let Drawn { class, growing } = drawn;
         if growing {
             self.take_lists(high);
             self.take_the_rest(class);
+            true
         } else {
+            let are_of_both = class.has_members_of(self, high);
             *self = class;
+            are_of_both
         }
+    }
+
+    /// Whether each member is one of two other classes.
+    fn has_members_of(&self, low: &Class<A>, high: &Class<A>) -> bool
+        ensures { result
+            ≡ list_all (λ n. is_among low.now.members n || is_among high.now.members n) self.now.members }
+    {
+        self.members
+            .iter()
+            .all(|n| low.includes(*n) || high.includes(*n))
     }
 
     /// Takes the members and the names of a higher class in behind its own, where there is room for them.
     fn take_lists(&mut self, high: &Class<A>)
-        ensures { has_room_for self.old high.now ≡ true → self.new ≡ with_lists_of self.old high.now }
+        ensures room { has_room_for self.old high.now ≡ true → self.new ≡ with_lists_of self.old high.now }
+        ensures no_room { has_room_for self.old high.now ≡ false → self.new ≡ self.old }
     {
         if self.has_room_for(high) {
             let most = high.members.len().max(high.after.len());
@@ -365,6 +381,17 @@ impl<A: Allocator> Class<A> {
     {
         if is_listed(numbers, self.name) {
             self.depart();
+        }
+    }
+
+    /// Lays the saved bytes on a copy of the block's, where the class may be taken and isn't.
+    pub(crate) fn uncover(&self, copy: &mut [u8])
+        requires { length copy.old ≡ BLOCK }
+        ensures { copy.new ≡ uncovered self.now copy.old }
+    {
+        if self.is_takeable() {
+            let stop = self.start + self.saved.len();
+            copy[self.start..stop].copy_from_slice(&self.saved);
         }
     }
 

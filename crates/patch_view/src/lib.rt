@@ -8,6 +8,8 @@
 mod changes;
 mod classes;
 pub mod laws;
+mod members;
+mod places;
 mod refusals;
 mod spans;
 mod states;

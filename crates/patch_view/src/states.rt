@@ -1,17 +1,24 @@
 //! One block's bytes and the records of its live classes.
 //!
 //! Where a call has two layers, `x_exactly` does the work on the records, and `x` says what it means for the block's history.
-ghost use Rattle.std.specs.Prelude.{◌≡◌, ◌<◌, length, [], OnErr};
+ghost use Rattle.std.specs.Prelude.{◌≡◌, ◌<◌, length, [], Some, IfSome, IsFalse, OnErr, ℕ, false};
+ghost use Rattle.patch_model.specs.Entry.{is_among};
 ghost use Rattle.patch_model.specs.History.{History, cached as the_cached};
-ghost use Rattle.patch_view.specs.State.{Block, is_takeable, swept_to, class_at, exchanged_at, follows, hinders, place_of, restored_to, outline, IsLeast};
+ghost use Rattle.patch_view.specs.State.{Block, is_takeable, uncovered, swept_to, class_at, exchanged_at, follows, hinders, HinderWithin, place_of, restored_to, outline, IsLeast};
+ghost use Rattle.patch_view.specs.Places.{IsRange};
 ghost use Rattle.patch_view.specs.Meaning.{Represents};
-ghost use Rattle.patch_view.specs.Answers.{AnswersTake, AcceptsTake, AnswersPutBack, AcceptsPutBack, TakesAll, PutsAllBack, IsAsBefore, Shows, TellsClear};
+ghost use Rattle.patch_view.specs.Answers.{AnswersTake, AcceptsTake, AnswersPutBack, AcceptsPutBack, TakesAll, ShowsTaken, PutsAllBack, IsAsBefore, Shows, TellsClear};
 
 use crate::classes::{Class, Turn};
+use crate::members::Members;
+use crate::places::Places;
 use crate::refusals::{PutBackRefusal, TakeRefusal};
 use patch_model::{BLOCK, PatchNo};
 use std::alloc::{Allocator, Global};
 use std::marker::Model;
+
+/// So many records are asked one after another whether they have a number.
+const FEW: usize = 16;
 
 /// One block's bytes, and a record of each live class: its members, its span, what its members name, whether it is in
 /// flight, and the bytes that a take or a put back exchanges (a hard class and one in flight keep none).
@@ -24,24 +31,59 @@ use std::marker::Model;
 pub struct BlockState<A: Allocator = Global> {
     pub(crate) bytes: Vec<u8, A>,
     pub(crate) classes: Vec<Class<A>, A>,
+    /// Outside of these places no class is taken.
+    pub(crate) taken: Places,
+    /// Where they are known to be apart, a record that has a number is the only one.
+    pub(crate) members: Members,
 }
 
 impl<A: Allocator> Model for BlockState<A> {
     ghost use Rattle.std.specs.Prelude.{◌≡◌, length};
-    ghost use Rattle.patch_view.specs.State.{Block};
+    ghost use Rattle.patch_view.specs.State.{Block, TakenWithin, KnownApart};
 
     ghost Value = { Block };
 
     ghost view = { λ s. record { bytes = s.bytes.items; classes = s.classes.items } };
 
-    ghost invariant = { λ s. length s.bytes.items ≡ 4096 };
+    ghost invariant = { λ s. (length s.bytes.items ≡ 4096) × TakenWithin s.taken s.classes.items × KnownApart s.members s.classes.items };
 }
 
 impl<A: Allocator> BlockState<A> {
+    /// The place of the record that has this number among its members. Mostly that is the last one whose name isn't above the
+    /// number, since names rise with the places but for what merges and moves did; else each record is asked.
     pub(crate) fn place_of(&self, no: PatchNo) -> Option<usize>
         ensures { result ≡ place_of self.now no }
     {
-        self.classes.iter().position(|class| class.includes(no))
+        match self.place_by_name(no) {
+            Some(at) => Some(at),
+            None => self.classes.iter().position(|class| class.includes(no)),
+        }
+    }
+
+    fn place_by_name(&self, no: PatchNo) -> Option<usize>
+        ensures { IfSome result (λ at. place_of self.now no ≡ Some at) }
+    {
+        if !self.members.are_apart {
+            return None;
+        }
+        let behind = self.classes.partition_point(|class| class.name() <= no);
+        if behind == 0 {
+            return None;
+        }
+        let at = behind - 1;
+        let class = &self.classes[at];
+        class.includes(no).then_some(at)
+    }
+
+    /// Whether some record may have this number among its members. Where there are many records, and the number's isn't found
+    /// at once, it is taken to be there.
+    pub(crate) fn may_have(&self, no: PatchNo) -> bool
+        ensures { IsFalse result → (i : ℕ) → is_among (class_at self.now i).members no ≡ false }
+    {
+        if self.len() > FEW && self.place_by_name(no).is_none() {
+            return true;
+        }
+        self.place_of(no).is_some()
     }
 
     pub(crate) fn len(&self) -> usize
@@ -104,13 +146,29 @@ impl<A: Allocator> BlockState<A> {
         }
     }
 
+    /// Where the classes stand that may keep this one from being taken, or from going back.
+    fn reach(&self, turn: Turn, at: usize) -> Places
+        requires { at < length self.now.classes }
+        ensures fits { IsRange result (length self.now.classes) }
+        ensures all { HinderWithin turn self.now at result }
+    {
+        match turn {
+            Turn::Take => Places {
+                from: at + 1,
+                to: self.len(),
+            },
+            Turn::PutBack => self.taken.below(at),
+        }
+    }
+
     /// The least name of a class that keeps this one from being taken, or from going back.
     fn hindrance(&self, turn: Turn, at: usize) -> Option<PatchNo>
         requires { at < length self.now.classes }
         ensures { IsLeast (hinders turn self.now at) self.now result }
     {
+        let reach = self.reach(turn, at);
         let mut least: Option<PatchNo> = None;
-        for other in 0..self.len() {
+        for other in reach.from..reach.to {
             if self.hinders_at(turn, at, other) {
                 let name = self.name_at(other);
                 least = match least {
@@ -208,6 +266,38 @@ impl<A: Allocator> BlockState<A> {
         }
     }
 
+    /// Takes every class that is in memory and not hard from a copy of the block's bytes, in one pass downwards over the
+    /// records: what a send writes that leaves them behind. The block stays as it is, and no memory is taken. The condition is that
+    /// together they hold their dependents.
+    pub fn take_all_from(&self, copy: &mut [u8])
+        requires { copy.old ≡ self.now.bytes }
+        ensures answer { ShowsTaken self.now copy.new }
+        ensures length { length copy.new ≡ BLOCK }
+    {
+        self.take_all_from_exactly(copy);
+    }
+
+    fn take_all_from_exactly(&self, copy: &mut [u8])
+        requires { copy.old ≡ self.now.bytes }
+        ensures exact { copy.new ≡ (swept_to (length self.now.classes) self.now).bytes }
+        ensures length { length copy.new ≡ BLOCK }
+    {
+        let _ = &self.bytes;
+        for passed in 0..self.len() {
+            self.uncover_at(self.len() - 1 - passed, copy);
+        }
+    }
+
+    fn uncover_at(&self, at: usize, copy: &mut [u8])
+        requires within { at < length self.now.classes }
+        requires length { length copy.old ≡ BLOCK }
+        ensures exact { copy.new ≡ uncovered (class_at self.now at) copy.old }
+        ensures length { length copy.new ≡ BLOCK }
+    {
+        let class = &self.classes[at];
+        class.uncover(copy);
+    }
+
     fn is_takeable_at(&self, at: usize) -> bool
         requires { at < length self.now.classes }
         ensures { result ≡ is_takeable (class_at self.now at) }
@@ -216,8 +306,9 @@ impl<A: Allocator> BlockState<A> {
         class.is_takeable()
     }
 
-    /// Puts every class back, in one pass upwards over the records: bytes and records are as before the first take. It is how
-    /// a cache's view ends; none of the calls that change the records comes between the first take and it.
+    /// Puts every class back, in one pass upwards over the records from the lowest that is taken to the highest: bytes and
+    /// records are as before the first take. It is how a cache's view ends; none of the calls that change the records comes
+    /// between the first take and it.
     pub fn put_all_back(&mut self)
         ensures answer { PutsAllBack self.old self.new }
         ensures outline { outline self.new ≡ outline self.old }
@@ -229,11 +320,13 @@ impl<A: Allocator> BlockState<A> {
     fn put_all_back_exactly(&mut self)
         ensures { self.new ≡ restored_to (length self.old.classes) self.old }
     {
-        for at in 0..self.len() {
+        let taken = self.taken.below(self.len());
+        for at in taken.from..taken.to {
             if self.is_taken_at(at) {
                 self.exchange_at(at, Turn::PutBack);
             }
         }
+        self.taken = Places::none();
     }
 
     /// The block's bytes with all its patches, where nothing is taken.
@@ -267,5 +360,6 @@ impl<A: Allocator> BlockState<A> {
     {
         let class = &mut self.classes[at];
         class.exchange(self.bytes.as_mut_slice(), turn);
+        self.taken = self.taken.with(at, at + 1);
     }
 }

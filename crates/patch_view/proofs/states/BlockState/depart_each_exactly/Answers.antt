@@ -1,7 +1,9 @@
-use Rattle.std.proofs.Common.{◌<◌, ◌∙◌, set, length, ap, sym, arith}
+use Rattle.std.proofs.Common.{◌<◌, ◌∙◌, set, length, ap, sym, subst, arith}
 use Rattle.std.proofs.lemmas.List.{with_items_is}
 use Rattle.std.proofs.lemmas.List.Edits.{map_over_more}
-use Rattle.patch_view.specs.State.{departed_among}
+use Rattle.patch_view.specs.State.{departed_among, TakenWithin, KnownApart}
+use Rattle.patch_view.proofs.Taken.{departed_within}
+use Rattle.patch_view.proofs.Apart.{departed_apart}
 use Rattle.patch_view.proofs.Together.{more_departed, has_departed}
 use Rattle.patch_view.proofs.states.BlockState.depart_each_exactly.Goals as goal
 
@@ -22,3 +24,18 @@ returns-clause-named g c =
     has_departed c.args.numbers.now c.args.self.now c.self.inside.bytes.items c.self.inside.classes.items c.deref_mut-class-items.result.now c.loop-class.class-items _
     c.loop-class.class-index c.self.view_is c.deref_mut-class-items.ensures.value
     (with_items_is c.self.inside.classes c.loop-class.class-items (d.long ∙ c.deref_mut-class-items.ensures.len)) d
+
+pub invariant_of-self : goal.invariant_of-self
+invariant_of-self g c =
+    let d = c.loop-class.invariant.1 in
+    let first = c.deref_mut-class-items.ensures.value in
+    let same = with_items_is c.self.inside.classes c.loop-class.class-items (d.long ∙ c.deref_mut-class-items.ensures.len) in
+    let t : TakenWithin c.self.inside.taken c.deref_mut-class-items.result.now =
+    subst (TakenWithin c.self.inside.taken) (sym first) c.self.invariant.1 in (
+      c.self.invariant.0,
+      subst (TakenWithin c.self.inside.taken) (sym same)
+          (departed_within c.args.numbers.now c.deref_mut-class-items.result.now c.loop-class.class-items c.loop-class.class-index c.self.inside.taken d t),
+      subst (KnownApart c.self.inside.members) (sym same)
+          (departed_apart c.args.numbers.now c.deref_mut-class-items.result.now c.loop-class.class-items c.loop-class.class-index c.self.inside.members d
+          (subst (KnownApart c.self.inside.members) (sym first) c.self.invariant.2)),
+    )

@@ -1,8 +1,10 @@
-use Rattle.std.proofs.Common.{ap, ◌∙◌, ◌<◌, length, get_or}
+use Rattle.std.proofs.Common.{◌≤◌, arith, ap, sym, subst, ◌∙◌, ◌<◌, length, get_or}
 use Rattle.std.proofs.lemmas.List.{with_items_is}
 use Rattle.std.specs.List.{insert, remove}
-use Rattle.patch_view.specs.State.{Block, no_class, moved_down}
+use Rattle.patch_view.specs.State.{Block, no_class, moved_down, TakenWithin, KnownApart}
 use Rattle.patch_view.proofs.Moving.{length-moved}
+use Rattle.patch_view.proofs.Taken.{moved_within}
+use Rattle.patch_view.proofs.Apart.{moved_apart}
 use Rattle.patch_view.proofs.Rotating.{moved_down-by_turn}
 use Rattle.patch_view.proofs.states.BlockState.move_down.Goals as goal
 
@@ -16,3 +18,20 @@ returns g c =
     ap (λ cs. let b : Block = record { bytes = c.self.inside.bytes.items; classes = cs } in b)
     (with_items_is c.self.inside.classes _ long ∙ turn ∙ ap (λ cs. insert (remove cs c.args.k) c.args.front (get_or cs c.args.k no_class)) e)
     ∙ ap (λ b. moved_down b c.args.front c.args.k) v
+
+pub invariant_of-self : goal.invariant_of-self
+invariant_of-self g c =
+    let e = c.deref_mut.ensures.value in
+    let within : c.args.k < length c.deref_mut.result.now = rw (e ∙ ap (λ b. b.classes) c.self.view_is) c.requires.within in
+    let turn = moved_down-by_turn c.deref_mut.result.now c.rotate_right.new.self c.args.front c.args.k no_class c.requires.down within c.rotate_right.ensures.after in
+    let long = ap length turn ∙ length-moved c.deref_mut.result.now (get_or c.deref_mut.result.now c.args.k no_class) c.args.front c.args.k c.requires.down within ∙ c.deref_mut.ensures.len in
+    let now = with_items_is c.self.inside.classes _ long ∙ turn in
+    let t : TakenWithin c.self.inside.taken c.deref_mut.result.now = subst (TakenWithin c.self.inside.taken) (sym e) c.self.invariant.1 in
+    let s = c.spread-self-inside.ensures in
+    let l = c.len.ensures in
+    let fits : length c.deref_mut.result.now ≤ c.self.inside.classes.len = omega (arith, c.deref_mut.ensures.len) in (
+      c.self.invariant.0,
+      rw (s, l, now) (moved_within c.deref_mut.result.now c.args.front c.args.k c.self.inside.taken c.self.inside.classes.len fits c.requires.down within t),
+      rw now (moved_apart c.deref_mut.result.now c.args.front c.args.k c.self.inside.members c.requires.down within
+          (subst (KnownApart c.self.inside.members) (sym e) c.self.invariant.2)),
+    )

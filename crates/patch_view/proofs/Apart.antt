@@ -1,0 +1,259 @@
+-- Classes of which no two have a common member.
+use Rattle.std.proofs.Common.{◌≡◌, ◌≢◌, ℕ, zero, suc, ◌+◌, ◌<◌, ◌≤◌, ◌⊎◌, ◌∙◌, true, false, not, inl, inr, List, [], ◌∷◌, ◌++◌, length, filter, take, get_or, set, get_or-set_same, get_or-set_other, refl, sym, ap, arith, subst, Bool, Option, Some, None}
+use Rattle.std.specs.Prelude.{is_some, ◌==◌, ◌&&◌, ◌||◌, nat_lt, if◌then◌else◌}
+use Rattle.std.specs.List.{insert, remove, list_all}
+use Rattle.std.proofs.lemmas.Bool.{cases_Bool, cases_eq, cases_lt, cases_order, both_ways, and_parts, or_cases, eqb-true, ltb-true}
+use Rattle.std.proofs.lemmas.List.{length-set, get_or_past, get_or_default, get_or_append_left, get_or_push, get_or-take, length_push, places}
+use Rattle.std.proofs.lemmas.List.Edits.{length-remove, get_or-remove_below}
+use Rattle.std.proofs.lemmas.List.Quantifiers.{position-Some}
+use Rattle.patch_model.specs.Entry.{is_among}
+use Rattle.patch_model.specs.Member.{list_any-at, list_all-at}
+use Rattle.patch_view.specs.declared.members.Members.{Members}
+use Rattle.patch_view.specs.Members.{with_member, unless_other}
+use Rattle.patch_view.specs.State.{Class, Block, class_at, no_class, place_of, AreApart, KnownApart, MembersOf}
+use Rattle.patch_view.proofs.Answering.{position-None}
+use Rattle.patch_view.proofs.Marking.{stood, stood_is, at_stood}
+use Rattle.patch_view.proofs.Moving.{came, came_is, at_came}
+use Rattle.patch_view.proofs.Together.{HaveDeparted}
+
+-- each member came from some class, and none of those went to two
+kept_apart : (old new : List Class) (newest : ℕ) (From : ℕ → ℕ → Type 0)
+    → ((i n : ℕ) → is_among (get_or new i no_class).members n ≡ true → (k : ℕ) × From i k × (is_among (get_or old k no_class).members n ≡ true))
+    → ((i j k : ℕ) → From i k → From j k → i ≡ j)
+    → AreApart newest old → AreApart newest new
+kept_apart old new newest From came_from one a = record {
+  upto = λ i n on. let k = came_from i n on in a.upto k.0 n k.2;
+  once = λ i j n on also.
+      let k = came_from i n on in
+      let m = came_from j n also in
+      one i j m.0 (subst (λ (z : ℕ). From i z) (a.once k.0 m.0 n k.2 m.2) k.1) m.1;
+}
+
+none_among : (cs : List Class) (i n : ℕ) → length cs ≤ i → is_among (get_or cs i no_class).members n ≡ false
+none_among cs i n past = ap (λ c. is_among c.members n) (get_or_past cs i no_class past)
+
+pub member_inside : (cs : List Class) (i n : ℕ) → is_among (get_or cs i no_class).members n ≡ true → i < length cs
+member_inside cs i n on = elim (cases_lt i (length cs)) [
+  | inl w ↦ w
+  | inr past ↦ absurd (both_ways _ (none_among cs i n past) on)
+]
+
+-- each class came from a place of its own, or has the members of the one there
+places_apart : (old new : List Class) (newest : ℕ) (f : ℕ → ℕ)
+    → ((i : ℕ) → i < length new → (get_or new i no_class).members ≡ (get_or old (f i) no_class).members)
+    → ((i j : ℕ) → f i ≡ f j → i ≡ j) → AreApart newest old → AreApart newest new
+places_apart old new newest f same one a = kept_apart old new newest (λ i k. k ≡ f i)
+    (λ i n on. (f i, refl, ap (λ ms. is_among ms n) (sym (same i (member_inside new i n on))) ∙ on))
+    (λ i j k e d. one i j (sym e ∙ d)) a
+
+-- the same members at each place
+pub same_apart : (old new : List Class) (m : Members) → ((i : ℕ) → i < length new → (get_or new i no_class).members ≡ (get_or old i no_class).members)
+    → KnownApart m old → KnownApart m new
+same_apart old new m same a known = places_apart old new m.newest (λ i. i) same (λ i j e. e) (a known)
+
+pub set_apart : (cs : List Class) (c : Class) (at : ℕ) (m : Members) → c.members ≡ (get_or cs at no_class).members → KnownApart m cs → KnownApart m (set cs at c)
+set_apart cs c at m is a =
+    same_apart cs (set cs at c) m (λ i w. elim (cases_eq i at) [
+      | inl e ↦ let l = length-set cs at c in
+          rw e (ap (λ d. d.members) (get_or-set_same cs at c no_class (omega arith)) ∙ is)
+      | inr ne ↦ ap (λ d. d.members) (get_or-set_other cs at i c no_class ne)
+    ]) a
+
+pub taken_apart : (cs : List Class) (n : ℕ) (m : Members) → KnownApart m cs → KnownApart m (take n cs)
+taken_apart cs n m a = same_apart cs (take n cs) m (λ i w. let within : i < n = grind (arith, places) in ap (λ c. c.members) (get_or-take n cs i no_class within)) a
+
+pub departed_apart : (numbers : List ℕ) (first now : List Class) (k : ℕ) (m : Members) → HaveDeparted numbers first now k → KnownApart m first → KnownApart m now
+departed_apart numbers first now k m d a = same_apart first now m (λ i w. elim (d.each i) [
+  | inl e ↦ ap (λ c. c.members) e
+  | inr e ↦ ap (λ c. c.members) e.1
+]) a
+
+stood_once : (at i j : ℕ) → stood at i ≡ stood at j → i ≡ j
+stood_once at i j e = elim (stood_is at i) [
+  | inl s ↦ elim (stood_is at j) [ inl t ↦ omega arith | inr t ↦ omega arith ]
+  | inr s ↦ elim (stood_is at j) [ inl t ↦ omega arith | inr t ↦ omega arith ]
+]
+
+pub removed_apart : (cs : List Class) (at : ℕ) (m : Members) → at < length cs → KnownApart m cs → KnownApart m (remove cs at)
+removed_apart cs at m within a known = places_apart cs (remove cs at) m.newest (stood at) (λ i w. ap (λ c. c.members) (at_stood cs at i within)) (stood_once at) (a known)
+
+came_once : (front k i j : ℕ) → front ≤ k → came front k i ≡ came front k j → i ≡ j
+came_once front k i j down e = elim (came_is front k i) [
+  | inl s ↦ elim (came_is front k j) [ inl t ↦ omega arith | inr o ↦ elim o [ inl t ↦ omega arith | inr o ↦ elim o [ inl t ↦ omega arith | inr t ↦ omega arith ] ] ]
+  | inr p ↦ elim p [
+    | inl s ↦ elim (came_is front k j) [ inl t ↦ omega arith | inr o ↦ elim o [ inl t ↦ omega arith | inr o ↦ elim o [ inl t ↦ omega arith | inr t ↦ omega arith ] ] ]
+    | inr p ↦ elim p [
+      | inl s ↦ elim (came_is front k j) [ inl t ↦ omega arith | inr o ↦ elim o [ inl t ↦ omega arith | inr o ↦ elim o [ inl t ↦ omega arith | inr t ↦ omega arith ] ] ]
+      | inr s ↦ elim (came_is front k j) [ inl t ↦ omega arith | inr o ↦ elim o [ inl t ↦ omega arith | inr o ↦ elim o [ inl t ↦ omega arith | inr t ↦ omega arith ] ] ]
+    ]
+  ]
+]
+
+pub moved_apart : (cs : List Class) (front k : ℕ) (m : Members) → front ≤ k → k < length cs → KnownApart m cs
+    → KnownApart m (insert (remove cs k) front (get_or cs k no_class))
+moved_apart cs front k m down within a known =
+    let b : Block = record { bytes = []; classes = cs } in
+    places_apart cs (insert (remove cs k) front (get_or cs k no_class)) m.newest (came front k) (λ i w. ap (λ c. c.members) (at_came b front k i down within))
+    (λ i j. came_once front k i j down) (a known)
+
+-- where the element at a place of a filtered list stood
+abbrev stayed : (Class → Bool) → List Class → ℕ → ℕ
+stayed q [] i = i
+stayed q (c ∷ cs) zero = if q c then 0 else suc (stayed q cs zero)
+stayed q (c ∷ cs) (suc i) = if q c then suc (stayed q cs i) else suc (stayed q cs (suc i))
+
+stayed_at : (q : Class → Bool) (cs : List Class) (i : ℕ) → get_or (filter q cs) i no_class ≡ get_or cs (stayed q cs i) no_class
+stayed_at q [] i = refl
+stayed_at q (c ∷ cs) zero = elim (cases_Bool (q c)) [ inl t ↦ rw t refl | inr f ↦ rw f (stayed_at q cs zero) ]
+stayed_at q (c ∷ cs) (suc i) = elim (cases_Bool (q c)) [ inl t ↦ rw t (stayed_at q cs i) | inr f ↦ rw f (stayed_at q cs (suc i)) ]
+
+stayed_less : (q : Class → Bool) (cs : List Class) (i j : ℕ) → i < j → stayed q cs i < stayed q cs j
+stayed_less q [] i j less = less
+stayed_less q (c ∷ cs) i zero less = absurd (omega arith)
+stayed_less q (c ∷ cs) zero (suc j) less = elim (cases_Bool (q c)) [
+  | inl t ↦ rw t (omega arith)
+  | inr f ↦ let l = stayed_less q cs zero (suc j) less in rw f (omega arith)
+]
+stayed_less q (c ∷ cs) (suc i) (suc j) less = elim (cases_Bool (q c)) [
+  | inl t ↦ let l = stayed_less q cs i j (omega arith) in rw t (omega arith)
+  | inr f ↦ let l = stayed_less q cs (suc i) (suc j) less in rw f (omega arith)
+]
+
+stayed_once : (q : Class → Bool) (cs : List Class) (i j : ℕ) → stayed q cs i ≡ stayed q cs j → i ≡ j
+stayed_once q cs i j e = elim (cases_order i j) [
+  | inl same ↦ same
+  | inr o ↦ elim o [
+    | inl less ↦ let l = stayed_less q cs i j less in absurd (omega arith)
+    | inr more ↦ let l = stayed_less q cs j i more in absurd (omega arith)
+  ]
+]
+
+pub filtered_apart : (q : Class → Bool) (cs : List Class) (m : Members) → KnownApart m cs → KnownApart m (filter q cs)
+filtered_apart q cs m a known = places_apart cs (filter q cs) m.newest (stayed q cs) (λ i w. ap (λ c. c.members) (stayed_at q cs i)) (stayed_once q cs) (a known)
+
+pushed_member : (cs : List Class) (c : Class) (number i n : ℕ) → c.members ≡ number ∷ [] → is_among (get_or (cs ++ c ∷ []) i no_class).members n ≡ true
+    → (is_among (get_or cs i no_class).members n ≡ true) ⊎ ((i ≡ length cs) × (n ≡ number))
+pushed_member cs c number i n is on =
+    let w = member_inside (cs ++ c ∷ []) i n on in
+    let l = length_push cs c in
+    elim (cases_lt i (length cs)) [
+      | inl before ↦ inl (ap (λ d. is_among d.members n) (sym (get_or_append_left cs (c ∷ []) no_class i before)) ∙ on)
+      | inr behind ↦
+          let e : length cs ≡ i = omega arith in
+          let among : is_among (number ∷ []) n ≡ true = ap (λ ms. is_among ms n) (sym is) ∙ ap (λ d. is_among d.members n) (sym (get_or_push cs c no_class i e)) ∙ on in
+          inr (sym e, elim (or_cases (number == n) false among) [ inl q ↦ sym (eqb-true _ _ q) | inr q ↦ absurd (cc) ])
+    ]
+
+pushed_apart : (cs : List Class) (c : Class) (number : ℕ) → c.members ≡ number ∷ []
+    → ((i n : ℕ) → is_among (get_or cs i no_class).members n ≡ true → n < number)
+    → ((i j n : ℕ) → is_among (get_or cs i no_class).members n ≡ true → is_among (get_or cs j no_class).members n ≡ true → i ≡ j)
+    → AreApart number (cs ++ c ∷ [])
+pushed_apart cs c number is low one = record {
+  upto = λ i n on. elim (pushed_member cs c number i n is on) [
+    | inl old ↦ let l = low i n old in omega arith
+    | inr new ↦ let e : n ≡ number = new.1 in omega arith
+  ];
+  once = λ i j n on also. elim (pushed_member cs c number i n is on) [
+    | inl old ↦ elim (pushed_member cs c number j n is also) [
+      | inl older ↦ one i j n old older
+      | inr new ↦ let l = low i n old in let e : n ≡ number = new.1 in absurd (omega arith)
+    ]
+    | inr new ↦ elim (pushed_member cs c number j n is also) [
+      | inl old ↦ let l = low j n old in let e : n ≡ number = new.1 in absurd (omega arith)
+      | inr newer ↦ new.0 ∙ sym newer.0
+    ]
+  ];
+}
+
+-- a class more
+pub laid_apart : (cs : List Class) (c : Class) (m : Members) (number : ℕ) (only : Bool) → c.members ≡ number ∷ [] → only ≡ (length cs == 0) → KnownApart m cs
+    → KnownApart (with_member m number only) (cs ++ c ∷ [])
+laid_apart cs c m number only is first a known = elim (or_cases only (m.are_apart && nat_lt m.newest number) known) [
+  | inl t ↦
+      let none : length cs ≡ 0 = eqb-true _ _ (sym first ∙ t) in
+      pushed_apart cs c number is (λ i n on. let w = member_inside cs i n on in absurd (omega arith)) (λ i j n on also. let w = member_inside cs i n on in absurd (omega arith))
+  | inr t ↦
+      let p = and_parts m.are_apart (nat_lt m.newest number) t in
+      let r = a p.0 in
+      let up : m.newest < number = ltb-true _ _ p.1 in
+      pushed_apart cs c number is (λ i n on. let l = r.upto i n on in omega arith) r.once
+]
+
+double_not : (b : Bool) → not (not b) ≡ true → b ≡ true
+double_not true e = refl
+double_not false e = absurd (cc)
+
+-- what came from neither of the two places
+neither : (low high j k : ℕ) → low < high → j ≢ low → k ≡ stood high j → (k ≡ low) ⊎ (k ≡ high) → ⊥
+neither low high j k less ne is or_ = elim (stood_is high j) [
+  | inl s ↦ elim or_ [ inl e ↦ absurd (ne (omega arith)) | inr e ↦ absurd (omega arith) ]
+  | inr s ↦ elim or_ [ inl e ↦ absurd (omega arith) | inr e ↦ absurd (omega arith) ]
+]
+
+-- where a member came from when two classes became one
+abbrev FromBoth : ℕ → ℕ → ℕ → ℕ → Type 0
+FromBoth low high i k = ((i ≡ low) × ((k ≡ low) ⊎ (k ≡ high))) ⊎ ((i ≢ low) × (k ≡ stood high i))
+
+from_once : (low high i j k : ℕ) → low < high → FromBoth low high i k → FromBoth low high j k → i ≡ j
+from_once low high i j k less (inl f) (inl g) = f.0 ∙ sym g.0
+from_once low high i j k less (inl f) (inr g) = absurd (neither low high j k less g.0 g.1 f.1)
+from_once low high i j k less (inr f) (inl g) = absurd (neither low high i k less f.0 f.1 g.1)
+from_once low high i j k less (inr f) (inr g) = stood_once high i j (sym f.1 ∙ g.1)
+
+-- two classes as one
+pub settled_apart : (cs rest : List Class) (low high : ℕ) (lower upper both : Class) (m : Members) (of : Bool) → low < high → high < length cs
+    → upper ≡ get_or cs high upper → rest ≡ remove cs high → lower ≡ get_or rest low lower
+    → (of ≡ true → MembersOf both lower upper) → KnownApart m cs → KnownApart (unless_other m (not of)) (set rest low both)
+settled_apart cs rest low high lower upper both m of less within upper_is rest_is lower_is members a known =
+    let p = and_parts m.are_apart (not (not of)) known in
+    let is_of = members (double_not of p.1) in
+    let w_low : low < length cs = omega arith in
+    let u : upper ≡ get_or cs high no_class = upper_is ∙ get_or_default cs high upper no_class within in
+    let l : lower ≡ get_or cs low no_class = lower_is ∙ ap (λ ds. get_or ds low lower) rest_is
+    ∙ get_or-remove_below cs high lower low less within ∙ get_or_default cs low lower no_class w_low in
+    let long : length rest + 1 ≡ length cs = ap (λ ds. length ds + 1) rest_is ∙ length-remove cs high within in
+    kept_apart cs (set rest low both) m.newest (FromBoth low high) (λ i n on. elim (cases_eq i low) [
+      | inl e ↦
+          let here : is_among both.members n ≡ true =
+          ap (λ c. is_among c.members n) (sym (get_or-set_same rest low both no_class (omega arith)) ∙ ap (λ (z : ℕ). get_or (set rest low both) z no_class) (sym e)) ∙ on in
+          elim (or_cases (is_among lower.members n) (is_among upper.members n) (is_of n here)) [
+            | inl t ↦ (low, inl (e, inl refl), ap (λ c. is_among c.members n) (sym l) ∙ t)
+            | inr t ↦ (high, inl (e, inr refl), ap (λ c. is_among c.members n) (sym u) ∙ t)
+          ]
+      | inr ne ↦ (
+        stood high i,
+        inr (ne, refl),
+        ap (λ c. is_among c.members n) (sym (at_stood cs high i within) ∙ ap (λ ds. get_or ds i no_class) (sym rest_is) ∙ sym (get_or-set_other rest low i both no_class ne)) ∙ on,
+      )
+    ]) (λ i j k f g. from_once low high i j k less f g) (a p.0)
+
+some_or_none : (o : Option ℕ) → ((i : ℕ) × (o ≡ Some i)) ⊎ (o ≡ None)
+some_or_none None = inr refl
+some_or_none (Some i) = inl (i, refl)
+
+-- what has the number is the only one
+pub found_apart : (b : Block) (m : Members) (at number : ℕ) → KnownApart m b.classes → m.are_apart ≡ true → is_among (class_at b at).members number ≡ true
+    → place_of b number ≡ Some at
+found_apart b m at number a known on = elim (some_or_none (place_of b number)) [
+  | inl o ↦
+      let p = position-Some (λ c. is_among c.members number) b.classes o.0 no_class o.1 in
+      o.1 ∙ ap Some ((a known).once o.0 at number p.1 on)
+  | inr o ↦ absurd (both_ways _ (position-None (λ c. is_among c.members number) b.classes at no_class o (member_inside b.classes at number on)) on)
+]
+
+pub all_of : (c low high : Class) → list_all (λ n. is_among low.members n || is_among high.members n) c.members ≡ true → MembersOf c low high
+all_of c low high all n on =
+    let q = list_any-at (λ m. m == n) c.members on in
+    let e : q.0 ≡ n = eqb-true _ _ q.2 in
+    ap (λ m. is_among low.members m || is_among high.members m) (sym e) ∙ list_all-at (λ m. is_among low.members m || is_among high.members m) c.members q.0 all q.1
+
+-- no record has a number that isn't found
+pub none_has : (b : Block) (number : ℕ) → place_of b number ≡ None → (i : ℕ) → is_among (class_at b i).members number ≡ false
+none_has b number none i = elim (cases_lt i (length b.classes)) [
+  | inl w ↦ position-None (λ c. is_among c.members number) b.classes i no_class none w
+  | inr past ↦ none_among b.classes i number past
+]
+
+pub not_some : (o : Option ℕ) → is_some o ≡ false → o ≡ None
+not_some None e = refl
+not_some (Some i) e = absurd (cc)

@@ -1,0 +1,18 @@
+use Rattle.std.proofs.Common.{◌<◌, ◌≤◌, length, sym, subst, arith}
+use Rattle.std.specs.List.{remove}
+use Rattle.patch_view.proofs.Taken.{removed_within}
+use Rattle.patch_view.proofs.Apart.{removed_apart}
+use Rattle.patch_view.proofs.states.BlockState.land_at.Goals as goal
+
+pub invariant_of-self : goal.invariant_of-self
+invariant_of-self g c =
+    let within : c.args.at < length c.self.inside.classes.items = subst (λ z. c.args.at < length z.classes) (sym c.self.view_is) c.requires in
+    let e = c.spread-self-inside.ensures in
+    let l = c.len.ensures in
+    let gone = c.remove-gone.ensures.items in
+    let fits : length c.remove-gone.new.self.items ≤ c.remove-gone.new.self.len = omega (arith, c.remove-gone.new.self.ok.0) in
+    let fits_too : length (remove c.self.inside.classes.items c.args.at) ≤ c.remove-gone.new.self.len = rw gone at fits in (
+      c.self.invariant.0,
+      rw (e, l, gone) (removed_within c.self.inside.classes.items c.args.at c.self.inside.taken c.remove-gone.new.self.len fits_too within c.self.invariant.1),
+      rw gone (removed_apart c.self.inside.classes.items c.args.at c.self.inside.members within c.self.invariant.2),
+    )

@@ -1,0 +1,44 @@
+//! What is known of the members of a block's records.
+ghost use Rattle.std.specs.Prelude.{◌≡◌};
+ghost use Rattle.patch_view.specs.Members.{no_members, with_member, unless_other};
+
+use patch_model::PatchNo;
+
+/// Whether the members of the records are known to be apart: no number is a member of two records, and none is above the
+/// newest.
+#[derive(Clone, Copy)]
+pub(crate) struct Members {
+    pub(crate) are_apart: bool,
+    pub(crate) newest: PatchNo,
+}
+
+impl Members {
+    pub(crate) fn none() -> Members
+        ensures { result ≡ no_members }
+    {
+        Members {
+            are_apart: true,
+            newest: PatchNo(0),
+        }
+    }
+
+    /// With a record more, whose one member is this; it may be the only record.
+    pub(crate) fn with(self, no: PatchNo, is_only: bool) -> Members
+        ensures { result ≡ with_member self no is_only }
+    {
+        Members {
+            are_apart: is_only || (self.are_apart && self.newest < no),
+            newest: no,
+        }
+    }
+
+    /// With members of a record changed to some that were its own or another's that is gone, or to others.
+    pub(crate) fn unless_other(self, are_others: bool) -> Members
+        ensures { result ≡ unless_other self are_others }
+    {
+        Members {
+            are_apart: self.are_apart && !are_others,
+            newest: self.newest,
+        }
+    }
+}
