@@ -145,4 +145,5 @@ with_graph c taken run graph same s = record {
   graph = subst (λ g. IsGraphOf g (entries_of run)) (sym same) s.graph;
   sends = s.sends;
   live = s.live;
+  waiting = s.waiting;
 }

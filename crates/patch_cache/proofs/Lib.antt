@@ -1,3 +1,5 @@
+pub mod BlockSets
+pub mod Waiting
 pub mod Opening
 pub mod GivingUp
 pub mod Permitting

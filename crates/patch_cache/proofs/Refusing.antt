@@ -1,9 +1,10 @@
 -- The causes against a write of a block.
-use Rattle.std.proofs.Common.{◌≡◌, ◌<◌, ◌∙◌, inl, subst, ℕ, true, false, List, [], ◌∷◌, Option, Some, None, length, refl, sym}
+use Rattle.std.proofs.Common.{◌≡◌, ◌<◌, ◌≤◌, ◌∙◌, inl, subst, ℕ, true, false, List, [], ◌∷◌, Option, Some, None, length, refl, sym}
 use Rattle.std.specs.Prelude.{◌≢◌, ◌==◌, is_some, Contains}
 use Rattle.std.specs.List.{list_all}
+use Rattle.std.specs.Option.{option_map}
 use Rattle.std.proofs.Math.Dec.{eqb-suc-zero}
-use Rattle.std.proofs.lemmas.Bool.{lt-leb, eq-eqb, and_parts}
+use Rattle.std.proofs.lemmas.Bool.{le-leb, lt-leb, eq-eqb, and_parts}
 use Rattle.patch_model.specs.declared.refusals.RefusalKind.TheVariants as kind
 use Rattle.patch_model.specs.declared.patches.Mark.{Mark}
 use Rattle.patch_model.specs.declared.patches.Mark.TheVariants.{Memory, Flight, Durable}
@@ -22,6 +23,9 @@ pub has_one : (run : Execution) (block : ℕ) (w : Option Write) → IsWriteOf r
 has_one run block None is = is
 has_one run block (Some write) is =
     list_any-from (λ f. f.0 == block) (state_of run).flights (block, write.sequence) (In-from_Contains _ _ is.0) (eq-eqb block block refl)
+
+pub beyond : (run : Execution) (block : ℕ) → length run.first ≤ block → why_not_sent run block ≡ Some (bare kind.NoSuchBlock)
+beyond run block past = rw (le-leb (length run.first) block past) refl
 
 pub already : (run : Execution) (block : ℕ) → block < length run.first → has_flight (state_of run) block ≡ true
     → why_not_sent run block ≡ Some (bare kind.AlreadyInFlight)
@@ -51,6 +55,10 @@ something run block known still some = by (ready (entries_of run) block) refl
 pub is_none : {X : Type 0} → (o : Option X) → is_some o ≡ false → o ≡ None
 is_none None h = refl
 is_none (Some x) h = absurd (cc)
+
+pub not_told : {X Y : Type 0} (tell : X → Y) (o : Option X) → is_some o ≡ true → option_map tell o ≡ None → ⊥
+not_told tell None some none = absurd (cc)
+not_told tell (Some x) some none = absurd (cc)
 
 apart : (m : Mark) → marks_memory m ≡ true → marks_durable m ≡ true → ⊥
 apart Memory a b = absurd (cc)

@@ -39,6 +39,7 @@ shows_alike c s t run same r = record {
   graph = r.graph;
   sends = r.sends;
   live = r.live;
+  waiting = r.waiting;
 }
 
 only_here : (block n : ℕ) (names : List ℕ) → n ≡ block → only_of block names n ≡ names
@@ -82,6 +83,7 @@ in_place c block b names now run h r at = record {
   graph = r.graph;
   sends = r.sends;
   live = r.live;
+  waiting = r.waiting;
 }
 
 -- the block is lent from its place of the cache, which showed what it shows now
@@ -214,6 +216,18 @@ durable_stays c block number names run r m =
     let at : slice_get (entries_of run) number ≡ Some p.0 = p.1 in
     let t : is_durable p.0 ≡ true = ap marks_durable p.2 in
     let some : why_not_taken_of run block names number ≡ Some (bare kind.Durable) = rw (at, t, why_not_taken_of) refl in
+    rw (some, with_move) refl
+
+none_at : (es : List Entry) (n : ℕ) → length es ≤ n → slice_get es n ≡ None
+none_at [] n h = refl
+none_at (x ∷ xs) zero h = absurd (omega arith)
+none_at (x ∷ xs) (suc n) h = none_at xs n (omega arith)
+
+-- a patch that wasn't made can't be taken
+pub unmade_stays : (block number : ℕ) (names : List ℕ) (run : Execution) → length (entries_of run) ≤ number → with_move run block names (Take number) ≡ Err (bare kind.Unknown)
+unmade_stays block number names run past =
+    let none : slice_get (entries_of run) number ≡ None = none_at (entries_of run) number past in
+    let some : why_not_taken_of run block names number ≡ Some (bare kind.Unknown) = rw (none, why_not_taken_of) refl in
     rw (some, with_move) refl
 
 -- of a patch that isn't on the disk the block alone decides

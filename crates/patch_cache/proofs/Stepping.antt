@@ -17,6 +17,8 @@ use Rattle.patch_graph.specs.State.{Graph}
 use Rattle.patch_graph.specs.Meaning.{Represents as IsGraphOf}
 use Rattle.patch_cache.specs.Contents.{Contents, Write, no_block}
 use Rattle.patch_cache.specs.Meaning.{Represents, IsWriteOf}
+use Rattle.patch_cache.specs.Waiting.{IsWithBlock}
+use Rattle.patch_cache.proofs.Waiting.{kept_waiting}
 
 -- the step lets the writes be, and the blocks but for one
 pub record StepsOn (run : Execution) (step : Step) (block : ℕ) : Type 0 where
@@ -43,10 +45,10 @@ block_stays blocks block state run next b h elsewhere here was = elim (cases_eq 
 ]
 
 -- the cache after it
-pub stepped : (c : Contents) (run : Execution) (step : Step) (block place : ℕ) (state : Block) (graph : Graph) (live : ℕ) (trace : List Step) → place ≡ block → Represents c run → StepsOn run step block
-    → block < length run.first → IsBlockOf state [] (history_of (extended run step) block) → IsGraphOf graph (entries_of (extended run step)) → live ≡ count_by is_live (entries_of (extended run step))
-    → Represents (record { blocks = slice_set c.blocks place state; writes = c.writes; graph = graph; sends = c.sends; live = live; trace = trace }) (extended run step)
-stepped c run step block place state graph live trace there was on h here holds counted = record {
+pub stepped : (c : Contents) (run : Execution) (step : Step) (block place : ℕ) (state : Block) (graph : Graph) (live : ℕ) (trace : List Step) (waiting : List ℕ) → place ≡ block → Represents c run → StepsOn run step block
+    → IsWithBlock place c.waiting waiting → block < length run.first → IsBlockOf state [] (history_of (extended run step) block) → IsGraphOf graph (entries_of (extended run step)) → live ≡ count_by is_live (entries_of (extended run step))
+    → Represents (record { blocks = slice_set c.blocks place state; writes = c.writes; graph = graph; sends = c.sends; live = live; trace = trace; waiting = waiting }) (extended run step)
+stepped c run step block place state graph live trace waiting there was on more h here holds counted = record {
   legal = on.legal;
   count = length-set c.blocks place state ∙ was.count;
   blocks = λ b k.
@@ -56,6 +58,7 @@ stepped c run step block place state graph live trace there was on h here holds 
   graph = holds;
   sends = was.sends ∙ sym on.sends;
   live = counted;
+  waiting = kept_waiting run step block c.waiting waiting on.flights on.elsewhere (subst (λ (n : ℕ). IsWithBlock n c.waiting waiting) there more) was.waiting;
 }
 
 -- the block at a place, as it is lent

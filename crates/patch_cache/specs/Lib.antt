@@ -1,4 +1,6 @@
+pub mod BlockSets
 pub mod Contents
+pub mod Waiting
 pub mod Meaning
 pub mod Opening
 pub mod Refusals

@@ -110,8 +110,10 @@ impl<A: Allocator + Copy> Cache<A> {
             undo,
         };
         self.trace.reserve(self.under_way + 1)?;
-        let state = &mut self.blocks[block.0 as usize];
+        let at = block.0 as usize;
+        let state = &mut self.blocks[at];
         let no = lay_on(state, &mut self.graph, block, start, bytes, after, undo)?;
+        self.waiting.insert(at);
         self.live += 1;
         self.trace.push_reserved(step);
         Ok(no)

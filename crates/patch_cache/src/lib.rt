@@ -6,6 +6,7 @@
 #![tactic(auto)]
 
 mod asks;
+mod block_sets;
 mod caches;
 mod completing;
 mod creating;

@@ -105,6 +105,7 @@ impl<A: Allocator + Copy> Cache<A> {
             sequence,
             numbers: noted,
         });
+        self.waiting.remove(at);
         self.under_way += 1;
         self.sends = sequence.saturating_add(1);
         self.trace.push_reserved(Step::Send { block });
@@ -117,16 +118,13 @@ impl<A: Allocator + Copy> Cache<A> {
     }
 }
 
-/// Copies the block's bytes without the patches that are in memory, which are put back afterwards.
-fn copy_image<A: Allocator>(state: &mut BlockState<A>, image: &mut Vec<u8, A>)
+/// Copies the block's bytes without the patches that are in memory.
+fn copy_image<A: Allocator>(state: &BlockState<A>, image: &mut Vec<u8, A>)
     requires empty { vec_len image.old ≡ 0 }
     requires room { BLOCK ≤ vec_capacity image.old }
     ensures long { length image.new.items ≡ BLOCK }
-    ensures copied { (h : History) → IsBlockOf state.old [] h → HoldsDependents h (undoable_classes h) → image.new.items ≡ without h (undoable_classes h) }
-    ensures restored { (h : History) → IsBlockOf state.old [] h → HoldsDependents h (undoable_classes h) → IsBlockOf state.new [] h }
+    ensures copied { (h : History) → IsBlockOf state.now [] h → HoldsDependents h (undoable_classes h) → image.new.items ≡ without h (undoable_classes h) }
 {
-    let mut view = state.view();
-    view.take_all();
-    image.extend_from_slice(view.bytes()).unwrap();
-    view.restore();
+    image.extend_from_slice(state.bytes()).unwrap();
+    state.take_all_from(image.as_mut_slice());
 }

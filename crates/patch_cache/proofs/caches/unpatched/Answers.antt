@@ -3,6 +3,13 @@ use Rattle.patch_cache.specs.Opening.{AreUnpatched}
 use Rattle.patch_cache.proofs.Opening.{one_more}
 use Rattle.patch_cache.proofs.caches.unpatched.Goals as goal
 
+pub loop-block-init : goal.loop-block-init
+loop-block-init g c = (
+  tt,
+  tt,
+  ([], c.into_iter-block-iterator.ensures.into_iter_gives.0, subst (λ xs. AreUnpatched xs []) (sym c.in_ok-states.ensures.items) tt),
+)
+
 pub loop-block-preserved : goal.loop-block-preserved
 loop-block-preserved g c =
     let before = c.loop-block.invariant.2 in (

@@ -1,5 +1,5 @@
 use Rattle.std.proofs.Common.{◌≡◌, ◌<◌, ◌+◌, ◌∙◌, ℕ, List, [], Some, ◌-◌, ◌^◌, min, length, get_or, map, refl, sym, ap, subst, arith}
-use Rattle.std.specs.Prelude.{count_by}
+use Rattle.std.specs.Prelude.{◌==◌, ◌&&◌, not, count_by}
 use Rattle.std.specs.List.Sorted.{IsNonDecreasing}
 use Rattle.std.proofs.lemmas.List.{get_or_read_under}
 use Rattle.patch_model.specs.Entry.{Entry, is_live}
@@ -16,6 +16,8 @@ use Rattle.patch_graph.specs.Meaning.{Represents as IsGraphOf}
 use Rattle.patch_cache.specs.Contents.{Contents, no_block}
 use Rattle.patch_cache.specs.Meaning.{Represents, IsWriteOf}
 use Rattle.patch_cache.proofs.Departing.{may_depart}
+use Rattle.patch_cache.specs.BlockSets.{holds as is_in}
+use Rattle.patch_cache.proofs.Waiting.{sent_waiting}
 use Rattle.patch_cache.proofs.Writing.{IsStepOf, stepped, sent_here, sent_other}
 use Rattle.patch_cache.proofs.caches.Cache.begin.Goals as goal
 
@@ -53,7 +55,6 @@ returns-clause-begun g c = λ run at may.
     (c.blocks_are_coherent.ensures.coherent h block (c.executions_are_orderly.ensures.blocks run block at.legal lawful.0))
     (c.blocks_are_coherent.ensures.coherent after block (c.executions_are_orderly.ensures.blocks next block legal lawful.0))
     (c.sends_leave.ensures.holds run block at.legal lawful.1.0) in
-    let restored : IsBlockOf c.copy_image.new.state [] after = c.copy_image.ensures.restored after flies holds.0 in
     let copied : c.from_vec-2.result ≡ image after = c.from_vec-2.ensures ∙ c.copy_image.ensures.copied after flies holds.0 ∙ holds.1 in
     let graph : IsGraphOf c.mark_flight.new.self (entries_of next) = subst (IsGraphOf c.mark_flight.new.self) (sym entries)
     (c.mark_flight.ensures.answer all seen.graph (subst IsOrderly entries (c.executions_are_orderly.ensures.patches next legal))) in
@@ -74,6 +75,8 @@ returns-clause-begun g c = λ run at may.
       writes = λ other w differ. sent_other run block other w state differ (c.flights_are_ready.ensures.sent_elsewhere run block other (λ e. differ (sym e)));
     } in (
       record { block_is = refl; sequence_is = seen.sends; numbers_are = c.from_vec.ensures ∙ numbers; image_is = copied },
-      stepped run (Send block) _ c.block.inside.0 block c.copy_image.new.state _ c.mark_flight.new.self c.saturating_add-self-inside.result c.self.inside.live _
-          c.block.view_is seen c.self.invariant.0 is restored write graph sends counted,
+      stepped run (Send block) _ c.block.inside.0 block c.depart_each.new.self _ c.mark_flight.new.self c.saturating_add-self-inside.result c.self.inside.live _ _
+          c.block.view_is seen c.self.invariant.0 is flies write graph sends counted
+          (sent_waiting run block _ _ state (λ other differ. c.steps_change_blocks.ensures.sent_elsewhere run block other differ)
+          (λ n. c.remove.ensures n ∙ ap (λ (k : ℕ). not (n == k) && is_in c.self.inside.waiting n) place) seen.waiting),
     )

@@ -36,4 +36,4 @@ returns-clause-made g c = λ run at why.
     let made = c.in_ok-no.ensures.laid run (record { run_legal = at.legal; on_block = here; in_graph = seen.graph; legal = lawful }) in
     let one = c.live_are_counted.ensures.made run a.block a.start a.bytes.now a.after.now a.undo in
     let live = seen.live in
-    (why, made.number_is, stepped _ run step a.block c.block.inside.0 _ _ _ _ c.block.view_is seen on lawful.known made.on_block made.in_graph (omega (arith, one, live)))
+    (why, made.number_is, stepped _ run step a.block c.block.inside.0 _ _ _ _ _ c.block.view_is seen on c.insert.ensures lawful.known made.on_block made.in_graph (omega (arith, one, live)))

@@ -35,4 +35,4 @@ returns-clause-merged g c = λ run at may.
     let known : block < length run.first = let inside = c.requires.known in let many = at.count in omega (arith, inside, many, of_a) in
     let here = lent _ block c.block.inside.0 _ run place c.index_mut-state.ensures.value seen known in
     let made = c.in_ok-name.ensures.merged run (record { run_legal = at.legal; legal = lawful; on_block = here; in_graph = seen.graph }) in
-    (lawful, made.name_is, stepped _ run step block c.block.inside.0 _ _ _ _ place seen on known made.on_block made.in_graph (seen.live ∙ sym (c.live_are_counted.ensures.merged run a b)))
+    (lawful, made.name_is, stepped _ run step block c.block.inside.0 _ _ _ _ _ place seen on c.insert.ensures known made.on_block made.in_graph (seen.live ∙ sym (c.live_are_counted.ensures.merged run a b)))

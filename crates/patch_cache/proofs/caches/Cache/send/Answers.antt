@@ -18,6 +18,7 @@ returns-in_ok-begin-in-None-clause-sent g c = λ run at.
       sends = c.self.inside.sends;
       live = c.self.inside.live;
       trace = map step_of c.self.inside.trace.items;
+      waiting = c.self.inside.waiting;
     } in
     let same : with_graph c.self.inside.graph ≡ c.args.self.now = c.self.view_is ∙ c.in-None.ensures.same in
     let seen : Represents (with_graph c.self.inside.graph) run = subst (λ (v : Contents). Represents v run) (sym same) at in

@@ -16,7 +16,7 @@ use Rattle.patch_cache.specs.Refusals.{take_cause}
 use Rattle.patch_cache.specs.Viewing.{with_move}
 use Rattle.patch_cache.specs.declared.asks.Move.TheVariants.{Take}
 use Rattle.patch_cache.specs.declared.refusals.TakeRefusal.{TakeRefusal}
-use Rattle.patch_cache.proofs.Showing.{durable_stays, durable_is_left, not_made, started, taken, take_is_refused, as_was, still_a_view}
+use Rattle.patch_cache.proofs.Showing.{unmade_stays, durable_stays, durable_is_left, not_made, started, taken, take_is_refused, as_was, still_a_view}
 use Rattle.patch_cache.proofs.caches.Cache.take_of.Goals as goal
 
 durable : (m : Mark) → true ≡ sameb the_type m Durable → m ≡ Durable
@@ -66,6 +66,11 @@ returns-clause-accepted g c = λ run names at.
     let before = started c.args.self.now _ c.args.block c.block.inside.0 c.index_mut-state.result.now names run
     (record { same = c.self.view_is; place_is = c.block.view_is; known = c.requires; value = c.index_mut-state.ensures.value }) at in
     c.in_ok-take.ensures.accepted (history_of run c.args.block) names before
+
+pub returns-in_default-clause-answer : goal.returns-in_default-clause-answer
+returns-in_default-clause-answer g c = λ run names at.
+    let there = subst (λ (v : Contents). ShowsWithout v c.args.block names run) (sym c.self.view_is) at in
+    unmade_stays c.args.block c.args.no names run (c.in_default.ensures (entries_of run) there.graph)
 
 pub returns-then-eq-clause-answer : goal.returns-then-eq-clause-answer
 returns-then-eq-clause-answer g c = λ run names at.

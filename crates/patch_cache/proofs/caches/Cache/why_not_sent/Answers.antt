@@ -1,4 +1,4 @@
-use Rattle.std.proofs.Common.{◌≡◌, [], ◌<◌, ◌∙◌, ℕ, true, false, None, length, get_or, sym, ap, arith, subst}
+use Rattle.std.proofs.Common.{◌≡◌, [], ◌<◌, ◌≤◌, ◌∙◌, ℕ, true, false, None, length, get_or, sym, ap, arith, subst}
 use Rattle.std.specs.Prelude.{is_some}
 use Rattle.std.proofs.lemmas.Bool.{both_ways}
 use Rattle.std.proofs.lemmas.List.{get_or_read_under}
@@ -8,8 +8,15 @@ use Rattle.patch_cache.specs.Contents.{Contents, no_block, block_at, write_at}
 use Rattle.patch_model.specs.History.{history_of}
 use Rattle.patch_view.specs.State.{Block}
 use Rattle.patch_view.specs.Meaning.{Represents as IsBlockOf}
-use Rattle.patch_cache.proofs.Refusing.{has_one, already, nothing, none_ready, something, is_none}
+use Rattle.patch_cache.proofs.Refusing.{beyond, has_one, already, nothing, none_ready, something, is_none}
 use Rattle.patch_cache.proofs.caches.Cache.why_not_sent.Goals as goal
+
+pub returns-then-at-len-clause-cause : goal.returns-then-at-len-clause-cause
+returns-then-at-len-clause-cause g c = λ run at.
+    let past : length run.first ≤ c.args.block =
+    let above = c.if-at-len.true in let len = c.len.ensures in let count = at.count in let same : length c.self.inside.blocks.items ≡ length c.args.self.now.blocks = ap (λ (v : Contents). length v.blocks) c.self.view_is in
+    let long = c.self.inside.blocks.ok.0 in let place : c.block.inside.0 ≡ c.args.block = c.block.view_is in omega arith in
+    sym (beyond run c.args.block past)
 
 pub returns-then-is_some-clause-cause : goal.returns-then-is_some-clause-cause
 returns-then-is_some-clause-cause g c = λ run at.
