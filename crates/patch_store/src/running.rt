@@ -1,6 +1,6 @@
 //! How a list of commands is gone through.
-ghost use Rattle.std.specs.Prelude.{ℕ, ◌≡◌, ◌<◌, length, OnOk, OnErr};
-ghost use Rattle.patch_history.specs.Command.{Done, Get};
+ghost use Rattle.std.specs.Prelude.{ℕ, List, ◌≡◌, ◌<◌, length, OnOk, OnErr};
+ghost use Rattle.patch_history.specs.Command.{Done, Get, Value};
 ghost use Rattle.patch_history.specs.Commands.{command_of, reply_told};
 ghost use Rattle.patch_store.specs.Laws.{CachedDisksOpen, ClosedDisksOpen, CrashDisksOpen};
 ghost use Rattle.patch_store.specs.Meaning.{Answers};
@@ -43,9 +43,10 @@ impl<A: Allocator + Copy> Store<A> {
         Ok(replies)
     }
 
-    /// Answers one command.
-    fn answer(&mut self, writer: WriterNo, command: &Command<A>) -> Reply<A>
-        ensures { Answers writer (command_of command.now) (reply_told result) self.old self.new }
+    /// Answers one command of a writer. Where it runs out of memory the reply says so.
+    pub fn answer(&mut self, writer: WriterNo, command: &Command<A>) -> Reply<A>
+        ensures answer { Answers writer (command_of command.now) (reply_told result) self.old self.new }
+        ensures read { (bytes : List ℕ) → reply_told result ≡ Value bytes → self.new ≡ self.old }
     {
         match command {
             Command::Put { key, value } => {

@@ -25,7 +25,7 @@ loop-asked-preserved g c =
     let item = ap (λ n. get_or c.args.commands.now n c.asked-item.result) at ∙ sym c.asked-item.is in
     record {
       many = ap length pushed ∙ length-append replies (reply ∷ []) ∙ ap (λ n. n + 1) at;
-      ran = λ h was. rw pushed (next_run h c.args.commands.now replies c.asked-item.result reply _ _ _ within item (before.ran h was) c.answer-reply.ensures);
+      ran = λ h was. rw pushed (next_run h c.args.commands.now replies c.asked-item.result reply _ _ _ within item (before.ran h was) c.answer-reply.ensures.answer);
     }
 
 pub returns-in-Err-clause-ran : goal.returns-in-Err-clause-ran
