@@ -1,0 +1,4 @@
+pub mod Keeping
+pub mod Lengths
+pub mod Told
+pub mod Calls

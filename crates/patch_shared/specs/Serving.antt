@@ -1,0 +1,44 @@
+-- What is said of those who serve.
+use Rattle.std.specs.Prelude.{ℕ, ◌≡◌, Result, Ok, Err, Option, Some, None}
+use Rattle.patch_cache.specs.Waves.{HasGivenUp}
+use Rattle.patch_device.specs.declared.devices.Device.{Ghosts}
+use Rattle.patch_shared.specs.declared.faults.Cause.{Cause}
+use Rattle.patch_shared.specs.declared.faults.Cause.TheVariants as cause
+use Rattle.patch_shared.specs.declared.faults.ServeFault.{ServeFault}
+use Rattle.patch_shared.specs.declared.serving.Finished.{Finished}
+use Rattle.patch_shared.specs.declared.working.End.{End}
+use Rattle.patch_shared.specs.declared.working.End.TheVariants as end
+use Rattle.patch_shared.specs.Kept.{Book, book_with}
+
+-- the device gave up only where it had so many faults
+abbrev pub RisesIf : Cause → ℕ → ℕ → Type 0
+RisesIf (cause.DeviceGaveUp block) before now = HasGivenUp before now
+RisesIf cause.Disagreed before now = Unit {0}
+RisesIf (cause.ReadBack block) before now = Unit {0}
+RisesIf cause.NoThread before now = Unit {0}
+RisesIf cause.OutOfMemory before now = Unit {0}
+
+abbrev pub RisesIfGivenUp : {T : Type 0} → Result T Cause → ℕ → ℕ → Type 0
+RisesIfGivenUp (Ok done) before now = Unit {0}
+RisesIfGivenUp (Err why) before now = RisesIf why before now
+
+abbrev pub RisesAtEnd : End → ℕ → ℕ → Type 0
+RisesAtEnd end.Done before now = Unit {0}
+RisesAtEnd (end.GaveUp block) before now = HasGivenUp before now
+RisesAtEnd end.Strange before now = Unit {0}
+
+-- Where the device gave up it comes back, with so many faults more; with another cause none does.
+abbrev pub IsGivenBack : {D : Type 0} → Ghosts D → ℕ → Cause → Option D → Type 0
+IsGivenBack {D = D} g before (cause.DeviceGaveUp block) back = (device : D) × (back ≡ Some device) × HasGivenUp before (g.fault_count device)
+IsGivenBack g before cause.Disagreed back = back ≡ None
+IsGivenBack g before (cause.ReadBack block) back = back ≡ None
+IsGivenBack g before cause.NoThread back = back ≡ None
+IsGivenBack g before cause.OutOfMemory back = back ≡ None
+
+-- so it is of a fault that was met with this device
+abbrev pub IsFaultWith : {D : Type 0} → Ghosts D → (device : D) → ServeFault D → Type 0
+IsFaultWith g device fault = IsGivenBack g (g.fault_count device) fault.cause fault.device
+
+-- the book that the threads had, of whose store the steps are
+abbrev pub book_of : {D : Type 0} → Finished D → Book
+book_of f = book_with f.store f.book

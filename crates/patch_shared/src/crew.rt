@@ -1,0 +1,176 @@
+//! The threads that share a book: how they are started, and joined.
+ghost use Rattle.std.specs.Prelude.{ℕ, ◌≡◌, ◌+◌, ◌≤◌, length, vec_len, IfOk, IfErr, IfSome, sum_by};
+ghost use Rattle.patch_device.specs.SameDevice.{IsSameDevice};
+ghost use Rattle.patch_shared.specs.Serving.{RisesAtEnd};
+
+use crate::bells::Bell;
+use crate::desks::{Desk, Tally};
+use crate::faults::Cause;
+use crate::gates::Gate;
+use crate::working::{Completed, Flushed, Seat, Written, complete_all, flush_all, write_all};
+use patch_device::Device;
+use patch_history::{Command, Reply};
+use patch_model::WriterNo;
+use std::alloc::Global;
+use std::snapshot::Snapshot;
+use std::sync::ledger::{Ledger, Share};
+use std::sync::{Mutex, Wait};
+use std::thread;
+use std::thread::{Promise, Threads};
+
+/// What came back from the threads.
+#[derive(Drop)]
+pub struct Joined<D: Device, C: Ledger, S: Ledger, T: Ledger> {
+    pub written: Vec<Written<C>>,
+    pub flushed: Flushed<S>,
+    pub completed: Completed<D, T>,
+}
+
+/// The completer hands back the device that it was given.
+#[derive(Drop)]
+pub struct KeepsDevice<D: Device>(Snapshot<D>);
+
+impl<D: Device, T: Ledger> Promise<Completed<D, T>> for KeepsDevice<D> {
+    ghost use Rattle.patch_device.specs.SameDevice.{IsSameDevice};
+    ghost use Rattle.patch_shared.specs.Serving.{RisesAtEnd};
+
+    ghost kept_by = { λ p r. IsSameDevice D.Device p.0.value r.device
+        × RisesAtEnd r.end (D.fault_count p.0.value) (D.fault_count r.device) };
+}
+
+/// A seat for each writer.
+pub(crate) fn seats<C: Ledger>(
+    alloc: Global,
+    all: &mut Share<C>,
+    writers: usize,
+) -> Option<Vec<Seat<C>>>
+    requires few { writers ≤ 8 }
+    requires parts { all.old.parts ≡ writers }
+    requires none { all.old.amount ≡ 0 }
+    ensures seats { IfSome result (λ seats. vec_len seats ≡ writers) }
+    ensures spent { IfSome result (λ seats. (all.new.parts ≡ 0) × (all.new.amount ≡ 0)) }
+{
+    let mut seats = Vec::new(alloc);
+    for n in 0..writers {
+        let share = all.split_off(1, 0);
+        seats
+            .push(Seat::new(WriterNo(n as u8), Tally::new(share)))
+            .ok()?;
+    }
+    Some(seats)
+}
+
+/// Puts the writers' shares together. None where a writer did not finish, or memory runs out.
+pub(crate) fn gathered<C: Ledger>(
+    alloc: Global,
+    written: Vec<Written<C>>,
+    all: &mut Share<C>,
+) -> Option<Vec<Vec<Reply>>>
+    ensures lists { IfSome result (λ lists. vec_len lists ≡ vec_len written) }
+    ensures parts { IfSome result (λ lists. all.new.parts ≡ all.old.parts + vec_len written) }
+    ensures amount { IfSome result (λ lists. all.new.amount ≡ all.old.amount + sum_by (λ list. vec_len list) lists.items) }
+{
+    let mut lists = Vec::new(alloc);
+    for one in written {
+        let Written {
+            replies,
+            tally,
+            whole,
+        } = one;
+        if !whole {
+            return None;
+        }
+        all.merge(tally.into_share());
+        if lists.push(replies).is_err() {
+            return None;
+        }
+    }
+    Some(lists)
+}
+
+/// Starts the threads, and joins them.
+pub(crate) fn run_threads<
+    D: Device + Drop + Send,
+    G: Gate + Sync,
+    C: Ledger + Send + Sync,
+    S: Ledger + Send + Sync,
+    T: Ledger + Send + Sync,
+    R: Threads + Wait + Sync,
+>(
+    rt: &R,
+    alloc: Global,
+    desk: &Mutex<Desk<C, S, T>>,
+    device: D,
+    jobs: &[Vec<Command>],
+    gate: &G,
+    seats: Vec<Seat<C>>,
+    sends: Tally<S>,
+    completions: Tally<T>,
+    blocks: usize,
+) -> Result<Joined<D, C, S, T>, Cause>
+    ensures device { IfOk result (λ j. IsSameDevice D.Device device j.completed.device) }
+    ensures gave_up { IfOk result (λ j. RisesAtEnd j.completed.end (D.fault_count device) (D.fault_count j.completed.device)) }
+    ensures other { IfErr result (λ cause. (block : ℕ) → cause ≡ Cause.DeviceGaveUp block → ⊥) }
+{
+    let bell = Bell::new(jobs.len());
+    let bell = &bell;
+    let Ok((to, from)) = crossbeam_channel::bounded(alloc, blocks) else {
+        return Err(Cause::OutOfMemory);
+    };
+    thread::scope(
+        thread::scope_env(),
+        rt,
+        move |scope| -> Result<Joined<D, C, S, T>, Cause>
+            ensures device { IfOk result (λ j. IsSameDevice D.Device device j.completed.device
+                × RisesAtEnd j.completed.end (D.fault_count device) (D.fault_count j.completed.device)) }
+            ensures other { IfErr result (λ cause. (block : ℕ) → cause ≡ Cause.DeviceGaveUp block → ⊥) }
+        {
+            let promise = KeepsDevice(Snapshot::of(&device));
+            let Ok(completer) = scope.spawn_with(promise, move || {
+                complete_all(rt, desk, bell, gate, from, device, completions)
+            }) else {
+                return Err(Cause::NoThread);
+            };
+            let Ok(flusher) = scope.spawn(move || flush_all(rt, desk, bell, gate, to, sends)) else {
+                return Err(Cause::NoThread);
+            };
+            let mut writers = Vec::new(alloc);
+            let mut whole = writers.reserve(jobs.len()).is_ok();
+            let mut place = 0;
+            for seat in seats {
+                if !whole || place >= jobs.len() {
+                    break;
+                }
+                let mine = jobs[place].as_slice();
+                match scope.spawn(move || write_all(rt, alloc, desk, bell, gate, mine, seat)) {
+                    Ok(writer) => {
+                        if writers.push(writer).is_err() {
+                            whole = false;
+                        }
+                    }
+                    Err(_) => whole = false,
+                }
+                place += 1;
+            }
+            if !whole {
+                bell.stop(rt);
+            }
+            let mut written = Vec::new(alloc);
+            for writer in writers {
+                if written.push(writer.join(rt)).is_err() {
+                    whole = false;
+                }
+            }
+            let flushed = flusher.join(rt);
+            let completed = completer.join(rt);
+            if !whole {
+                return Err(Cause::NoThread);
+            }
+            Ok(Joined {
+                written,
+                flushed,
+                completed,
+            })
+        },
+    )
+}
