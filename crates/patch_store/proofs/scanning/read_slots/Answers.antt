@@ -1,10 +1,10 @@
-use Rattle.std.proofs.Common.{◌+◌, ◌∙◌, length, ap, arith}
+use Rattle.std.proofs.Common.{◌≡◌, ◌+◌, ◌∙◌, length, ap, subst, arith}
 use Rattle.std.proofs.lemmas.List.{length_push}
 use Rattle.std.proofs.lemmas.Result.{err_from_is_err_and}
 use Rattle.patch_frame.specs.Geometry.{slot_count}
 use Rattle.patch_recovery.specs.Reading.{ledger_in, slot_tests}
 use Rattle.patch_index.specs.Index.{told}
-use Rattle.patch_store.specs.Opening.{nothing, IsFirstOf, index_tests}
+use Rattle.patch_store.specs.Opening.{nothing, AreScanned, IsFirstOf, index_tests}
 use Rattle.patch_store.proofs.Tested.{fault_among, passed_on}
 use Rattle.patch_store.proofs.Scanned.{scanned_more}
 use Rattle.patch_store.proofs.scanning.read_slots.Goals as goal
@@ -28,3 +28,9 @@ loop-slot-preserved g c = (
       scanned_more (ledger_in c.args.geometry blocks) blocks c.loop-slot.index c.push.new.self c.loop-slot.slot (told c.in_ok-entry.entry) scanned
       (c.in_ok-entry.ensures blocks cache extents scanned.say) c.in-Ok-push.ensures.pushed,
 )
+
+pub returns-clause-read : goal.returns-clause-read
+returns-clause-read g c = λ blocks cache extents.
+    let scanned = c.loop-slot.invariant.1 blocks cache extents in
+    let last : c.loop-slot.slot ≡ slot_count c.args.geometry = let done = c.loop-slot-test.false in let count = c.slot_count-count.ensures in omega arith in
+    subst (λ n. AreScanned (ledger_in c.args.geometry blocks) blocks c.loop-slot.index n) last scanned
