@@ -1,3 +1,4 @@
 pub mod Command
 pub mod Reply
+pub mod Shared
 pub mod Value

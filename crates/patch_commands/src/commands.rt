@@ -1,4 +1,7 @@
 //! The forms of lines.
+ghost use Rattle.std.specs.Prelude.{◌≡◌};
+ghost use Rattle.patch_commands.specs.Shared.{writer_of, is_sync as the_is_sync};
+
 use patch_model::{Bytes, GroupNo, WriterNo};
 
 /// The most bytes of the value that a line puts.
@@ -65,4 +68,32 @@ pub enum CommandLine {
         writer: WriterNo,
         group: GroupNo,
     },
+}
+
+impl CommandLine {
+    /// The writer who asks for it.
+    pub fn writer(&self) -> WriterNo
+        ensures { result ≡ writer_of self.now }
+    {
+        match self {
+            CommandLine::Put { writer, .. }
+            | CommandLine::Get { writer, .. }
+            | CommandLine::Delete { writer, .. }
+            | CommandLine::Reclaim { writer, .. }
+            | CommandLine::Group { writer }
+            | CommandLine::Engage { writer, .. }
+            | CommandLine::Disengage { writer, .. }
+            | CommandLine::Depend { writer, .. }
+            | CommandLine::Close { writer, .. }
+            | CommandLine::Pending { writer, .. }
+            | CommandLine::Sync { writer, .. } => *writer,
+        }
+    }
+
+    /// Whether it is a sync.
+    pub fn is_sync(&self) -> bool
+        ensures { result ≡ the_is_sync self.now }
+    {
+        matches!(self, CommandLine::Sync { .. })
+    }
 }

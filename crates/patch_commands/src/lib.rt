@@ -8,6 +8,6 @@ mod values;
 
 pub use commands::{CommandLine, MAX_VALUE_TEXT};
 pub use patch_script::ScriptError;
-pub use reading::read_commands;
+pub use reading::{read_commands, read_shared_commands};
 pub use replies::{reply_line, synced_line};
 pub use values::laid_out;

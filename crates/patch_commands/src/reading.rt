@@ -4,13 +4,14 @@ ghost use Rattle.patch_script.specs.Gives.{Gives};
 ghost use Rattle.patch_script.specs.Kind.{lines_of, Reads};
 ghost use Rattle.patch_script.specs.declared.scripts.TheConstants.{MAX_LINES};
 ghost use Rattle.patch_commands.specs.Command.{put_line, depend_line, group_command, writer_command, command_of, commands_of};
+ghost use Rattle.patch_commands.specs.Shared.{shared_command, shared_commands};
 ghost use Rattle.serde_json.specs.View.{view};
 
 use crate::commands::{CommandLine, MAX_VALUE_TEXT};
 use crate::values::is_short_value;
 use patch_model::{GroupNo, WriterNo};
 use patch_script::fields::{LineError, bytes, number, number_or, text, writer};
-use patch_script::{Defect, FromLine, Name, ScriptError, read_lines};
+use patch_script::{Defect, LineReader, Name, ScriptError, read_lines};
 use serde_json::Value;
 use std::alloc::Global;
 
@@ -109,14 +110,50 @@ fn read_command(
     }
 }
 
-impl FromLine for CommandLine {
-    ghost says = { command_of };
+#[tactic(auto, unfolding(crate::specs::Command::command_of))]
+fn read_any(alloc: Global, op: &str, line: &Value) -> Result<CommandLine, LineError>
+    ensures { Gives result (command_of op.now (view line.now)) }
+{
+    read_command(alloc, writer(line)?, op, line)
+}
+
+/// Reads the lines of a store script.
+struct AnyLines;
+
+impl LineReader for AnyLines {
+    type Line = CommandLine;
+
+    ghost says = { λ _. command_of };
 
     const UNKNOWN_OP: Defect = Defect::NoCommand;
 
-    #[tactic(auto, unfolding(crate::specs::Command::command_of))]
-    fn from_line(alloc: Global, op: &str, line: &Value) -> Result<CommandLine, LineError> {
-        read_command(alloc, writer(line)?, op, line)
+    fn read(&self, alloc: Global, op: &str, line: &Value) -> Result<CommandLine, LineError> {
+        read_any(alloc, op, line)
+    }
+}
+
+/// Reads the lines of a store script of so many writers on threads.
+#[derive(Clone, Copy)]
+struct SharedLines {
+    writers: u32,
+}
+
+impl LineReader for SharedLines {
+    type Line = CommandLine;
+
+    ghost says = { λ reader. shared_command reader.writers };
+
+    const UNKNOWN_OP: Defect = Defect::NoCommand;
+
+    fn read(&self, alloc: Global, op: &str, line: &Value) -> Result<CommandLine, LineError> {
+        let line = read_any(alloc, op, line)?;
+        if line.writer().0 as u32 >= self.writers {
+            return Err(LineError::Unreadable(Defect::NoSuchWriter));
+        }
+        if line.is_sync() {
+            return Err(LineError::Unreadable(Defect::NoSync));
+        }
+        Ok(line)
     }
 }
 
@@ -125,5 +162,17 @@ pub fn read_commands(alloc: Global, text: &[u8]) -> Result<Vec<CommandLine>, Scr
     requires { length (lines_of text.now) ≤ MAX_LINES }
     ensures { Reads result (commands_of text.now) }
 {
-    read_lines::<CommandLine>(alloc, text)
+    read_lines(alloc, &AnyLines, text)
+}
+
+/// The same of a script of so many writers on threads: a line of another writer is unreadable, and so is a sync.
+pub fn read_shared_commands(
+    alloc: Global,
+    text: &[u8],
+    writers: u32,
+) -> Result<Vec<CommandLine>, ScriptError>
+    requires { length (lines_of text.now) ≤ MAX_LINES }
+    ensures { Reads result (shared_commands writers text.now) }
+{
+    read_lines(alloc, &SharedLines { writers }, text)
 }

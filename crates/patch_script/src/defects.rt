@@ -106,4 +106,10 @@ pub enum Defect {
     /// The value of a put would have more bytes than it may, by what is given here.
     #[error("\"{0}\" makes a value of more than 1048576 bytes")]
     TooLong(Name),
+    /// The script is one of fewer writers.
+    #[error("\"writer\" is not below the number of writers")]
+    NoSuchWriter,
+    /// The script is one of writers on threads, which have no sync.
+    #[error("\"op\" is sync, which writers on threads don't have")]
+    NoSync,
 }

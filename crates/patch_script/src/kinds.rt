@@ -10,26 +10,29 @@ use crate::fields::{LineError, op};
 use serde_json::Value;
 use std::alloc::Global;
 
-/// A kind of lines. Each is a JSON object with an op, which is a text.
-pub trait FromLine: Sized + Drop {
+/// A reader of lines of one kind. Each is a JSON object with an op, which is a text.
+pub trait LineReader {
+    /// What a line asks for.
+    type Line: Drop;
+
     // What an object with this op asks for, if it is readable.
-    ghost says: { List ℕ → Data → Option Self };
+    ghost says: { Self → List ℕ → Data → Option Self.Line };
 
     /// What is wrong with a line whose op isn't one of this kind.
     const UNKNOWN_OP: Defect;
 
     /// What the object with this op asks for.
-    fn from_line(alloc: Global, op: &str, line: &Value) -> Result<Self, LineError>
-        ensures { Gives result (says op.now (view line.now)) };
+    fn read(&self, alloc: Global, op: &str, line: &Value) -> Result<Self::Line, LineError>
+        ensures { Gives result (says self.now op.now (view line.now)) };
 }
 
-fn read_object<L: FromLine>(alloc: Global, line: &Value) -> Result<L, LineError>
-    ensures { Gives result (object_by L.says (view line.now)) }
+fn read_object<K: LineReader>(alloc: Global, reader: &K, line: &Value) -> Result<K::Line, LineError>
+    ensures { Gives result (object_by (K.says reader.now) (view line.now)) }
 {
     if !line.is_object() {
         return Err(LineError::Unreadable(Defect::NotAnObject));
     }
-    L::from_line(alloc, op(line, L::UNKNOWN_OP)?, line)
+    reader.read(alloc, op(line, K::UNKNOWN_OP)?, line)
 }
 
 /// The JSON value of some bytes.
@@ -59,12 +62,16 @@ fn is_blank_line(bytes: &[u8]) -> bool
 }
 
 /// What is on a line, nothing on a blank one.
-pub fn read_line<L: FromLine>(alloc: Global, bytes: &[u8]) -> Result<Option<L>, LineError>
-    ensures { Gives result (line_by L.says bytes.now) }
+pub fn read_line<K: LineReader>(
+    alloc: Global,
+    reader: &K,
+    bytes: &[u8],
+) -> Result<Option<K::Line>, LineError>
+    ensures { Gives result (line_by (K.says reader.now) bytes.now) }
 {
     if is_blank_line(bytes) {
         return Ok(None);
     }
     let value = read_json(alloc, bytes)?;
-    Ok(Some(read_object::<L>(alloc, &value)?))
+    Ok(Some(read_object(alloc, reader, &value)?))
 }

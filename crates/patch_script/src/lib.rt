@@ -14,5 +14,5 @@ mod scripts;
 pub use answers::{Answer, answer_line, push_hex};
 pub use defects::{Defect, Name};
 pub use forms::{Line, Span};
-pub use kinds::FromLine;
+pub use kinds::LineReader;
 pub use scripts::{MAX_BYTES, MAX_LINES, ScriptError, passes_limit, read_lines, read_script};

@@ -8,7 +8,7 @@ use crate::fields::{
     LineError, bytes, flag, number, numbers, numbers_or_none, positive_number, writer, wrong,
 };
 use crate::forms::{Line, Span};
-use crate::kinds::FromLine;
+use crate::kinds::LineReader;
 use patch_model::{BlockNo, GroupNo, PatchNo, Undo};
 use serde_json::Value;
 use std::alloc::Global;
@@ -121,12 +121,17 @@ fn read_op(alloc: Global, op: &str, line: &Value) -> Result<Line, LineError>
     }
 }
 
-impl FromLine for Line {
-    ghost says = { op_line };
+/// Reads the lines of a replay script.
+pub(crate) struct ReplayLines;
+
+impl LineReader for ReplayLines {
+    type Line = Line;
+
+    ghost says = { λ _. op_line };
 
     const UNKNOWN_OP: Defect = Defect::Wrong(Name::Op);
 
-    fn from_line(alloc: Global, op: &str, line: &Value) -> Result<Line, LineError> {
+    fn read(&self, alloc: Global, op: &str, line: &Value) -> Result<Line, LineError> {
         read_op(alloc, op, line)
     }
 }

@@ -6,8 +6,9 @@ ghost use Rattle.patch_script.specs.Script.{script_of, is_too_long};
 use crate::defects::Defect;
 use crate::fields::LineError;
 use crate::forms::Line;
-use crate::kinds::{FromLine, read_line};
+use crate::kinds::{LineReader, read_line};
 use crate::lines::Lines;
+use crate::reading::ReplayLines;
 use std::alloc::Global;
 
 /// The most bytes of a script.
@@ -31,16 +32,20 @@ pub fn passes_limit(text: &[u8]) -> bool
     text.len() > MAX_BYTES || Lines::of(text).count() > MAX_LINES
 }
 
-/// What the lines of a script of any kind ask for, blank ones nothing.
-pub fn read_lines<L: FromLine>(alloc: Global, text: &[u8]) -> Result<Vec<L>, ScriptError>
+/// What the lines of a script ask for as this reader reads them, blank ones nothing.
+pub fn read_lines<K: LineReader>(
+    alloc: Global,
+    reader: &K,
+    text: &[u8],
+) -> Result<Vec<K::Line>, ScriptError>
     requires { length (lines_of text.now) ≤ MAX_LINES }
-    ensures { Reads result (lines_by L.says text.now) }
+    ensures { Reads result (lines_by (K.says reader.now) text.now) }
 {
     let mut lines = Vec::new(alloc);
     let mut number = 0;
     for bytes in Lines::of(text) {
         number += 1;
-        match read_line::<L>(alloc, bytes) {
+        match read_line(alloc, reader, bytes) {
             Ok(None) => {}
             Ok(Some(line)) => {
                 if lines.push(line).is_err() {
@@ -64,5 +69,5 @@ pub fn read_script(alloc: Global, text: &[u8]) -> Result<Vec<Line>, ScriptError>
     requires { length (lines_of text.now) ≤ MAX_LINES }
     ensures { Reads result (script_of text.now) }
 {
-    read_lines::<Line>(alloc, text)
+    read_lines(alloc, &ReplayLines, text)
 }

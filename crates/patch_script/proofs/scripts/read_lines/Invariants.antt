@@ -5,6 +5,6 @@ use Rattle.patch_script.proofs.scripts.read_lines.Given as goal
 abbrev pub invariant-loop-bytes : goal.invariant-loop-bytes
 invariant-loop-bytes g l = record {
   counted : l.number ≡ length l.yielded;
-  joined : behind l.lines.items (lines_from g.L.FromLine.says (l.number + 1) (lines_of l.bytes-iterator.0.now)) ≡ lines_by g.L.FromLine.says l.text;
+  joined : behind l.lines.items (lines_from (g.K.LineReader.says l.reader) (l.number + 1) (lines_of l.bytes-iterator.0.now)) ≡ lines_by (g.K.LineReader.says l.reader) l.text;
   left : l.number + length (lines_of l.bytes-iterator.0.now) ≡ length (lines_of l.text);
 }
