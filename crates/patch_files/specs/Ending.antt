@@ -36,6 +36,7 @@ IsRead OutOfMemory = Unit {0}
 abbrev pub status_for : RefusalKind → Status
 status_for kind.Geometry = Misused
 status_for kind.OutOfMemory = OutOfMemory
+status_for kind.NoThread = OutOfMemory
 status_for _ = Failed
 
 abbrev pub status_of : Stop → Status

@@ -19,6 +19,7 @@ pub enum Status {
     Unreadable(BadScript),
     /// The disk, the reader or the writer failed, or the disk holds no store.
     Failed,
+    /// There was no memory, or a thread couldn't be started.
     OutOfMemory,
 }
 
@@ -87,7 +88,7 @@ fn status_after(kind: RefusalKind) -> Status
 {
     match kind {
         RefusalKind::Geometry => Status::Misused,
-        RefusalKind::OutOfMemory => Status::OutOfMemory,
+        RefusalKind::OutOfMemory | RefusalKind::NoThread => Status::OutOfMemory,
         _ => Status::Failed,
     }
 }

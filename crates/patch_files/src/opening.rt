@@ -5,7 +5,9 @@ ghost use Rattle.patch_device.specs.SameDevice.{IsSameDevice};
 ghost use Rattle.patch_cache.specs.Meaning.{Represents as IsCacheOf};
 ghost use Rattle.patch_history.specs.History.{History};
 ghost use Rattle.patch_store.specs.Opening.{unchanged, IsOpened};
+ghost use Rattle.patch_shared.specs.Kept.{IsNew};
 ghost use Rattle.patch_files.specs.Running.{StandsOn, HasSaved};
+ghost use Rattle.patch_files.specs.Serving.{IsUntouched};
 ghost use Rattle.patch_files.specs.Stopping.{IsNotOpened, IsStop};
 
 use crate::endings::Stop;
@@ -49,6 +51,7 @@ fn open_cache<D: Device>(alloc: Global, device: &mut D) -> Result<Cache, Stop>
     ensures device { IsSameDevice D.Device device.old device.new }
     ensures same { D.is_honest device.old → D.contents device.new ≡ D.contents device.old }
     ensures had { D.is_honest device.old → D.had device.new ≡ D.had device.old }
+    ensures untouched { IfOk result IsUntouched }
     ensures gives { D.is_honest device.old → IfOk result (λ cache. IsCacheOf cache (unchanged (D.contents device.old))) }
     ensures stops { D.is_honest device.old → IfErr result (λ why.
         IsStop why (IsNotOpened (D.fault_count device.old) (D.fault_count device.new) (D.contents device.old))) }
@@ -65,6 +68,7 @@ pub(crate) fn open_store<D: Device>(alloc: Global, device: &mut D) -> Result<Sto
     ensures device { IsSameDevice D.Device device.old device.new }
     ensures same { D.is_honest device.old → D.contents device.new ≡ D.contents device.old }
     ensures had { D.is_honest device.old → D.had device.new ≡ D.had device.old }
+    ensures new { IfOk result IsNew }
     ensures opened { D.is_honest device.old → IfOk result (λ store. IsOpened (D.contents device.old) store) }
     ensures stops { D.is_honest device.old → IfErr result (λ why.
         IsStop why (IsNotOpened (D.fault_count device.old) (D.fault_count device.new) (D.contents device.old))) }

@@ -1,13 +1,13 @@
 //! Runs a script on a store.
-ghost use Rattle.std.specs.Prelude.{ℕ, ◌≡◌, List, ◌⊎◌, false, IfSome, IfErr, OnOk};
+ghost use Rattle.std.specs.Prelude.{ℕ, ◌≡◌, List, ◌⊎◌, false, IfErr, OnOk};
 ghost use Rattle.patch_device.specs.SameDevice.{IsSameDevice};
 ghost use Rattle.patch_history.specs.History.{History};
 ghost use Rattle.patch_store.specs.Opening.{IsOpened};
-ghost use Rattle.patch_files.specs.Reading.{IsParsed, IsRunOf};
+ghost use Rattle.patch_commands.specs.Command.{commands_of};
+ghost use Rattle.patch_files.specs.Reading.{IsRunOf};
 ghost use Rattle.patch_files.specs.Running.{StandsOn, HasCome, HasRun, HasRunScript};
-ghost use Rattle.patch_files.specs.Stopping.{IsStop, IsUnread, IsBroken, IfFailed, IfStopped, HasComeSome, HasWrittenSome, HasStopped};
+ghost use Rattle.patch_files.specs.Stopping.{IsStop, IsBroken, IfFailed, IfStopped, HasComeSome, HasWrittenSome, HasStopped};
 ghost use Rattle.patch_files.specs.declared.endings.Status.TheVariants.{Done, Unreadable};
-ghost use Rattle.patch_replay.specs.Replay.{IsInput};
 ghost use Rattle.patch_replay.specs.Streams.{IsGivenUp};
 ghost use Rattle.patch_replay.specs.declared.endings.BadScript.{BadScript as TheBadScript};
 
@@ -15,50 +15,16 @@ use crate::answering::answer;
 use crate::endings::{Status, Stop, Unread, conclude, refuse};
 use crate::opening::{open_file, open_store, save};
 use crate::progress::Progress;
-use patch_commands::{CommandLine, read_commands};
+use crate::reading::read_script;
+use patch_commands::CommandLine;
 use patch_device::Lasting;
-use patch_model::{OutOfMemory, Refuses};
-use patch_replay::{BadScript, Output, Sink, Source, read_input};
-use patch_script::{ScriptError, passes_limit};
+use patch_replay::{Output, Sink, Source};
 use patch_store::Store;
 use std::alloc::Global;
 use std::fs::OpenFile;
 use std::io::Read;
 use std::os::unix::fs::FileExt;
 use std::rt::Files;
-
-/// The lines of what was read, where that is no more than a script may have.
-fn parse(alloc: Global, input: Option<Vec<u8>>) -> Result<Vec<CommandLine>, Unread>
-    ensures parsed { (text : List ℕ) → IsInput input text → IsParsed text result }
-    ensures stops { IfErr result (λ why. IsUnread why ⊥) }
-{
-    let Some(script) = input else {
-        return Err(Unread::Script(BadScript::TooLong));
-    };
-    if passes_limit(script.as_slice()) {
-        return Err(Unread::Script(BadScript::TooLong));
-    }
-    match read_commands(alloc, script.as_slice()) {
-        Ok(lines) => Ok(lines),
-        Err(ScriptError::BadLine { line, defect }) => {
-            Err(Unread::Script(BadScript::BadLine { line, defect }))
-        }
-        Err(ScriptError::OutOfMemory) => {
-            Err(Unread::Stopped(Stop::Refused(OutOfMemory.refusal())))
-        }
-    }
-}
-
-/// All lines of the script that the reader gives.
-fn read_script<R: Read>(alloc: Global, reader: &mut Source<R>) -> Result<Vec<CommandLine>, Unread>
-    ensures parsed { IfSome (R.remaining reader.old.inner) (λ text. IsParsed text result) }
-    ensures stops { IfErr result (λ why. IsUnread why (IsGivenUp reader.new)) }
-{
-    match read_input(alloc, reader) {
-        Ok(input) => parse(alloc, input),
-        Err(fault) => Err(Unread::Stopped(Stop::from(fault))),
-    }
-}
 
 /// Answers the lines in order, each by a line of text.
 fn answer_lines<W: Output, D: Lasting, P: Progress>(
@@ -138,7 +104,7 @@ pub fn run_script<R: Read, W: Output, D: Lasting, P: Progress>(
     device: &mut D,
     progress: &mut P,
 ) -> Status
-    ensures run { IsRunOf (R.remaining reader.old.inner) (W.contents writer.old.inner) (W.contents writer.new.inner) result }
+    ensures run { IsRunOf commands_of (R.remaining reader.old.inner) (W.contents writer.old.inner) (W.contents writer.new.inner) result }
     ensures left { (why : TheBadScript) → result ≡ Unreadable why → device.new ≡ device.old }
     ensures done { D.is_honest device.old → result ≡ Done → HasRunScript (R.remaining reader.old.inner)
         (W.contents writer.old.inner) (W.contents writer.new.inner) (D.contents device.old) (D.contents device.new) }
@@ -147,7 +113,7 @@ pub fn run_script<R: Read, W: Output, D: Lasting, P: Progress>(
     ensures stopped { D.is_honest device.old → writer.new.failed ≡ false → IfStopped result (HasStopped (R.remaining reader.old.inner)
         (W.contents writer.old.inner) (W.contents writer.new.inner) (D.contents device.old) result) }
 {
-    let lines = match read_script(alloc, reader) {
+    let lines = match read_script(alloc, reader, None) {
         Ok(lines) => lines,
         Err(Unread::Script(why)) => return refuse(alloc, writer, why),
         Err(Unread::Stopped(stop)) => return conclude(alloc, writer, Err(stop)),
@@ -191,9 +157,9 @@ where
     R: Read,
     W: Output,
     P: Progress,
-    ensures { IsRunOf (R.remaining reader.old.inner) (W.contents writer.old.inner) (W.contents writer.new.inner) result }
+    ensures { IsRunOf commands_of (R.remaining reader.old.inner) (W.contents writer.old.inner) (W.contents writer.new.inner) result }
 {
-    let lines = match read_script(alloc, reader) {
+    let lines = match read_script(alloc, reader, None) {
         Ok(lines) => lines,
         Err(Unread::Script(why)) => return refuse(alloc, writer, why),
         Err(Unread::Stopped(stop)) => return conclude(alloc, writer, Err(stop)),

@@ -13,6 +13,7 @@ mod faults;
 mod files;
 mod scripts;
 mod tickers;
+mod writers;
 
 // One index block and two extents: 35 blocks.
 const SMALL: Geometry = Geometry {
