@@ -1,13 +1,17 @@
 -- What a command line may ask for.
-use Rattle.std.specs.Prelude.{◌<◌, ◌≤◌}
+use Rattle.std.specs.Prelude.{ℕ, ◌<◌, ◌≤◌, IfSome}
 use Rattle.patch_model.specs.declared.limits.TheConstants.{MAX_BLOCKS}
 use Rattle.patch_tool.specs.declared.arguments.Request.{Request}
 use Rattle.patch_tool.specs.declared.arguments.Request.TheVariants.{Replay, Make, Run, Check, Upgrade}
 
--- a replay has some blocks, and no more than a disk may have
+-- so many writers may have a thread each
+abbrev pub AreWriters : ℕ → Type 0
+AreWriters n = (0 < n) × (n ≤ 8)
+
+-- a replay has some blocks, and no more than a disk may have; a run has no more writers than may be
 abbrev pub MayBeAsked : Request → Type 0
 MayBeAsked (Replay blocks) = (0 < blocks) × (blocks ≤ MAX_BLOCKS)
 MayBeAsked (Make path geometry) = Unit {0}
-MayBeAsked (Run path) = Unit {0}
+MayBeAsked (Run path writers) = IfSome writers AreWriters
 MayBeAsked (Check path) = Unit {0}
 MayBeAsked (Upgrade path) = Unit {0}

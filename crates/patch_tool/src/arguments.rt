@@ -1,6 +1,6 @@
 //! The command line.
-ghost use Rattle.std.specs.Prelude.{IfOk};
-ghost use Rattle.patch_tool.specs.Asked.{MayBeAsked};
+ghost use Rattle.std.specs.Prelude.{IfOk, IfSome};
+ghost use Rattle.patch_tool.specs.Asked.{AreWriters, MayBeAsked};
 
 use clap::{Arg, ArgMatches, Command, Error, value_parser};
 use patch_frame::{Format, Geometry};
@@ -24,6 +24,7 @@ makes a disk of 258 blocks, 1 MB, with room for 64 keys.";
 
 const AFTER_RUN: &str = "\
 Example: fstch run data.disk < examples/store.jsonl
+With --writers each writer's lines run on a thread of its own. The answers are those of writer 0, then of writer 1, and so on.
 docs/SCRIPTS.md has the lines of a script, their answers and the exit statuses.";
 
 const AFTER_CHECK: &str = "\
@@ -38,15 +39,28 @@ Values may have 65,488 bytes then, in place of 32,768. There is no way back.";
 #[derive(Clone, Copy, Debug, PartialEq, Eq)]
 pub enum Request<'a> {
     /// To replay a script on so many blocks.
-    Replay { blocks: u32 },
+    Replay {
+        blocks: u32,
+    },
     /// To make a file that holds an empty store.
-    Make { path: &'a str, geometry: Geometry },
+    Make {
+        path: &'a str,
+        geometry: Geometry,
+    },
     /// To run a script on the store of a file.
-    Run { path: &'a str },
+    Run {
+        path: &'a str,
+        /// How many writers have a thread each; `None` where one thread answers all lines.
+        writers: Option<u32>,
+    },
     /// To report what the store of a file holds.
-    Check { path: &'a str },
+    Check {
+        path: &'a str,
+    },
     /// To make the store of a file one of version 2.
-    Upgrade { path: &'a str },
+    Upgrade {
+        path: &'a str,
+    },
 }
 
 // The arguments.
@@ -93,6 +107,16 @@ fn length<'a>(alloc: Global) -> Arg<'a> {
         .value_parser(value_parser!(u32).range(16..=64))
 }
 
+fn writers<'a>(alloc: Global) -> Arg<'a> {
+    Arg::new(alloc, "writers")
+        .long("writers")
+        .value_name("N")
+        .help(
+            "How many writers have a thread each, 1 to 8; without it one thread answers all lines",
+        )
+        .value_parser(value_parser!(u32).range(1..=8))
+}
+
 // The commands.
 
 fn named<'a>(alloc: Global, name: &'a str, about: &'a str, after_help: &'a str) -> Command<'a> {
@@ -118,7 +142,8 @@ fn make_command<'a>(alloc: Global) -> Result<Command<'a>, Error> {
 fn run_command<'a>(alloc: Global) -> Result<Command<'a>, Error> {
     let about =
         "Runs a script of puts, gets and deletes from standard input on the store of a file";
-    Ok(named(alloc, "run", about, AFTER_RUN).arg(file(alloc))?)
+    let command = named(alloc, "run", about, AFTER_RUN).arg(file(alloc))?;
+    Ok(command.arg(writers(alloc))?)
 }
 
 fn check_command<'a>(alloc: Global) -> Result<Command<'a>, Error> {
@@ -190,6 +215,14 @@ fn geometry_in(matches: &ArgMatches<'_>) -> Geometry {
     }
 }
 
+fn writers_in(matches: &ArgMatches<'_>) -> Option<u32>
+    ensures { IfSome result AreWriters }
+{
+    // The parser of the words refuses every other number.
+    let writers = matches.get_one::<u32>("writers")?;
+    Some(writers.clamp(1, 8))
+}
+
 fn replay_in<'a>(matches: &ArgMatches<'_>) -> Request<'a>
     ensures { MayBeAsked result }
 {
@@ -210,6 +243,7 @@ fn request_in<'a>(name: &str, matches: &ArgMatches<'a>) -> Request<'a>
         },
         "run" => Request::Run {
             path: path_in(matches),
+            writers: writers_in(matches),
         },
         "check" => Request::Check {
             path: path_in(matches),

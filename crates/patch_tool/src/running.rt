@@ -2,14 +2,14 @@
 ghost use Rattle.std.specs.Prelude.{◌≡◌, ◌≢◌, ◌<◌, ◌≤◌, IfErr, IfSome};
 ghost use Rattle.std.specs.IoError.{error_kind};
 ghost use Rattle.std.specs.declared.io.ErrorKind.TheVariants.{InvalidData};
-ghost use Rattle.patch_tool.specs.Asked.{MayBeAsked};
+ghost use Rattle.patch_tool.specs.Asked.{AreWriters, MayBeAsked};
 ghost use Rattle.patch_tool.specs.Ending.{HasStarved, IsExitOf};
 
 use crate::arguments;
 use crate::arguments::Request;
 use clap::error::ErrorKind;
 use patch_files::{
-    Quiet, Status as FileStatus, Ticker, check_file, make_file, run_file, upgrade_file,
+    Quiet, Status as FileStatus, Ticker, check_file, make_file, run_file, serve_file, upgrade_file,
 };
 use patch_frame::Geometry;
 use patch_model::MAX_BLOCKS;
@@ -20,6 +20,8 @@ use std::io;
 use std::io::{BufWriter, Read, Write};
 use std::os::unix::fs::FileExt;
 use std::rt::Files;
+use std::sync::Wait;
+use std::thread::Threads;
 
 /// How the program ends where the command line is wrong, or asks for help.
 const MISUSED: u8 = 2;
@@ -41,8 +43,8 @@ pub fn run<F, H, R, W, E>(
     errors: &mut Errors<'_, E>,
 ) -> u8
 where
-    F: FileExt + OpenFile + Drop,
-    H: Files<File = F>,
+    F: FileExt + OpenFile + Drop + Send,
+    H: Files<File = F> + Threads + Wait + Sync,
     R: Read + Drop,
     W: Write + Drop,
     E: Write,
@@ -70,8 +72,8 @@ fn run_words<F, H, R, W, E>(
     errors: &mut Errors<'_, E>,
 ) -> u8
 where
-    F: FileExt + OpenFile + Drop,
-    H: Files<File = F>,
+    F: FileExt + OpenFile + Drop + Send,
+    H: Files<File = F> + Threads + Wait + Sync,
     R: Read + Drop,
     W: Write + Drop,
     E: Write,
@@ -95,8 +97,8 @@ fn run_request<F, H, R, W, E>(
     errors: &mut Errors<'_, E>,
 ) -> u8
 where
-    F: FileExt + OpenFile + Drop,
-    H: Files<File = F>,
+    F: FileExt + OpenFile + Drop + Send,
+    H: Files<File = F> + Threads + Wait + Sync,
     R: Read + Drop,
     W: Write + Drop,
     E: Write,
@@ -105,7 +107,14 @@ where
     match request {
         Request::Replay { blocks } => run_replay(alloc, input, output, errors, blocks),
         Request::Make { path, geometry } => run_make(files, alloc, output, path, geometry),
-        Request::Run { path } => run_script(files, alloc, input, output, errors, path),
+        Request::Run {
+            path,
+            writers: None,
+        } => run_script(files, alloc, input, output, errors, path),
+        Request::Run {
+            path,
+            writers: Some(writers),
+        } => run_writers(files, alloc, input, output, errors, path, writers),
         Request::Check { path } => run_check(files, alloc, output, path),
         Request::Upgrade { path } => run_upgrade(files, alloc, output, path),
     }
@@ -178,6 +187,35 @@ where
     } else {
         run_file(files, alloc, &mut script, &mut answers, path, &mut Quiet)
     };
+    if let FileStatus::Unreadable(why) = status {
+        say(errors, why);
+    }
+    status.code()
+}
+
+fn run_writers<F, H, R, W, E>(
+    files: &H,
+    alloc: Global,
+    input: R,
+    output: &mut W,
+    errors: &mut Errors<'_, E>,
+    path: &str,
+    writers: u32,
+) -> u8
+where
+    F: FileExt + OpenFile + Drop + Send,
+    H: Files<File = F> + Threads + Wait + Sync,
+    R: Read + Drop,
+    W: Write + Drop,
+    E: Write,
+    requires { AreWriters writers }
+{
+    let Ok(buffered) = BufWriter::new(alloc, &mut *output) else {
+        return out_of_memory(output);
+    };
+    let mut script = Source::new(input);
+    let mut answers = Sink::new(buffered);
+    let status = serve_file(files, alloc, &mut script, &mut answers, path, writers);
     if let FileStatus::Unreadable(why) = status {
         say(errors, why);
     }

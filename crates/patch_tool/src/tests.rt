@@ -7,7 +7,9 @@ use std::fs::OpenFile;
 use std::os::unix::fs::FileExt;
 use std::process::Abort;
 use std::rt::Files;
+use std::sync::Wait;
 use std::test::Fail;
+use std::thread::Threads;
 use std::{fs, io};
 
 /// A run on these words and this script, how it ends, what it writes, and a part of what it says on standard error.
@@ -60,10 +62,15 @@ const ROWS: [Row; 17] = [
 
 const PUT: &str = r#"{"op":"put","key":"k","hex":"0102"}"#;
 
-const HELD: &str = "entry 6b 2\nextent 0 0 19 19\nextent 1 0 0 0\nclean\n";
+const OF_A_THIRD: &str = r#"{"op":"get","key":"a"}
+{"op":"put","key":"k","hex":"0102","writer":2}"#;
+
+const OF_A_SYNC: &str = r#"{"op":"sync","group":0}"#;
+
+const HELD: &str = "entry 6b 2\nextent 0 0 38 19\nextent 1 0 0 0\nclean\n";
 
 /// Commands on one file, in their order.
-const ROWS_OF_FILES: [Row; 17] = [
+const ROWS_OF_FILES: [Row; 21] = [
     Row("fstch check patch_tool_disk", "", 4, "fault Disk\n", ""),
     Row("fstch run patch_tool_disk", PUT, 4, "fault Disk\n", ""),
     Row(
@@ -117,11 +124,39 @@ const ROWS_OF_FILES: [Row; 17] = [
         "",
     ),
     Row(
-        "fstch run patch_tool_disk --writers 2",
+        "fstch run patch_tool_disk --writers 0",
         PUT,
         2,
         "",
-        "'--writers'",
+        "'--writers <N>'",
+    ),
+    Row(
+        "fstch run patch_tool_disk --writers 9",
+        PUT,
+        2,
+        "",
+        "'--writers <N>'",
+    ),
+    Row(
+        "fstch run patch_tool_disk --writers 2",
+        OF_A_THIRD,
+        3,
+        "bad line 2\n",
+        "fstch: line 2: \"writer\" is not below the number of writers\n",
+    ),
+    Row(
+        "fstch run patch_tool_disk --writers 8",
+        OF_A_SYNC,
+        3,
+        "bad line 1\n",
+        "fstch: line 1: \"op\" is sync, which writers on threads don't have\n",
+    ),
+    Row(
+        "fstch run patch_tool_disk --writers 3",
+        OF_A_THIRD,
+        0,
+        "none\nok\n",
+        "",
     ),
     Row(
         "fstch run patch_tool_disk",
@@ -163,12 +198,10 @@ fn words_of(alloc: Global, text: &str) -> Result<Vec<String>, AllocError> {
 }
 
 /// A run on these words, with this on standard input, ends so.
-fn expect_run<F: FileExt + OpenFile + Drop, H: Files<File = F> + Abort>(
-    rt: &H,
-    alloc: Global,
-    words: io::Result<Vec<String>>,
-    row: &Row,
-) {
+fn expect_run<
+    F: FileExt + OpenFile + Drop + Send,
+    H: Files<File = F> + Threads + Wait + Abort + Sync,
+>(rt: &H, alloc: Global, words: io::Result<Vec<String>>, row: &Row) {
     let Row(name, script, status, output, said) = *row;
     let (mut out, mut errors) = (Vec::new(alloc), Vec::new(alloc));
     let mut stream = Errors {
@@ -183,11 +216,10 @@ fn expect_run<F: FileExt + OpenFile + Drop, H: Files<File = F> + Abort>(
     assert_eq!(rt; errors.is_empty(), said.is_empty(), "{name}: {errors}");
 }
 
-fn expect_each<F: FileExt + OpenFile + Drop, H: Files<File = F> + Abort>(
-    rt: &H,
-    alloc: Global,
-    rows: &[Row],
-) -> Result<(), Fail> {
+fn expect_each<
+    F: FileExt + OpenFile + Drop + Send,
+    H: Files<File = F> + Threads + Wait + Abort + Sync,
+>(rt: &H, alloc: Global, rows: &[Row]) -> Result<(), Fail> {
     for row in rows {
         let words = words_of(alloc, row.0)?;
         expect_run(rt, alloc, Ok(words), row);
