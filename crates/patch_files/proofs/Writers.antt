@@ -12,7 +12,7 @@ use Rattle.patch_device.specs.declared.devices.Device.{Ghosts}
 use Rattle.patch_device.specs.SameDevice.{IsSameDevice, same_both}
 use Rattle.patch_history.specs.declared.commands.Command.{Command as CodeCommand}
 use Rattle.patch_history.specs.declared.commands.Reply.{Reply as CodeReply}
-use Rattle.patch_history.specs.Command.{Command, Reply}
+use Rattle.patch_history.specs.Command.{Command}
 use Rattle.patch_history.specs.Commands.{command_of, reply_told}
 use Rattle.patch_store.specs.Flushing.{HoldCached}
 use Rattle.patch_store.specs.Meaning.{Store}

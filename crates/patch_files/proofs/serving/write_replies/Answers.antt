@@ -1,4 +1,4 @@
-use Rattle.std.proofs.Common.{◌∙◌, ap}
+use Rattle.std.proofs.Common.{◌∙◌}
 use Rattle.patch_files.proofs.Writers.{line_of, writes_none, writes_more, writes_all, replies_written}
 use Rattle.patch_files.proofs.serving.write_replies.Goals as goal
 
