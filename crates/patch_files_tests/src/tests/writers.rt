@@ -2,7 +2,6 @@
 ghost use Rattle.std.specs.Prelude.{◌<◌, ◌≤◌};
 
 use super::*;
-use patch_device::FaultyDevice;
 use patch_files::{Served, serve_script};
 use patch_replay::BadScript;
 use patch_script::Defect;
@@ -120,28 +119,6 @@ fn writers_have_no_sync(rt: HostRuntime) -> Result<(), Fail> {
     let defect = Defect::NoSync;
     let why = BadScript::BadLine { line: 3, defect };
     expect_unread(&rt, rt.alloc(), OF_A_SYNC, why, "bad line 3\n")
-}
-
-// Fails one call of a device more, the first one that the other leaves.
-fn failing<D: Device>(device: D) -> FaultyDevice<D> {
-    FaultyDevice::new(device, COUNT as u64, false)
-}
-
-// A device that fails the call behind the reads of its blocks four times.
-fn failing_often<D: Device>(
-    device: D,
-) -> FaultyDevice<FaultyDevice<FaultyDevice<FaultyDevice<D>>>> {
-    failing(failing(failing(failing(device))))
-}
-
-#[test]
-fn a_device_that_gives_up_comes_back(rt: HostRuntime) -> Result<(), Fail> {
-    let device = failing_often(failing_often(new_device(rt.alloc())?));
-    let end = End(Status::Failed, 4, "fault DeviceGaveUp 3\n");
-    let put = r#"{"op":"put","key":"k","hex":"01"}"#;
-    let mut device = expect_served(&rt, rt.alloc(), device, 1, put, end)?;
-    expect_check(&rt, rt.alloc(), &mut device, EMPTY_STORE);
-    Ok(())
 }
 
 #[test]
