@@ -1,5 +1,5 @@
 -- A script that is run on a store.
-use Rattle.std.specs.Prelude.{ℕ, ◌≡◌, List, Option, Ok, IfSome}
+use Rattle.std.specs.Prelude.{ℕ, ◌≡◌, List, Option, Result, Ok, OnOk, IfSome}
 use Rattle.std.specs.Io.KnownBytes.{Appends}
 use Rattle.patch_model.specs.Step.{Step}
 use Rattle.patch_cache.specs.Waves.{HoldImages}
@@ -9,9 +9,10 @@ use Rattle.patch_history.specs.Command.{Command, Reply}
 use Rattle.patch_history.specs.History.{History, IsLegalHistory, execution_of}
 use Rattle.patch_store.specs.Flushing.{StandsStill, HoldCached}
 use Rattle.patch_store.specs.Meaning.{Store}
-use Rattle.patch_store.specs.Opening.{at_opening}
+use Rattle.patch_store.specs.Opening.{IsOpened, at_opening}
 use Rattle.patch_commands.specs.Reply.{reply_line}
 use Rattle.patch_commands.specs.declared.commands.CommandLine.{CommandLine}
+use Rattle.patch_files.specs.declared.endings.Stop.{Stop}
 use Rattle.patch_files.specs.Answering.{with_call, IsSaved, IsAnswered, AreAnswered}
 use Rattle.patch_files.specs.Reading.{HasLines}
 
@@ -40,6 +41,14 @@ HasRunScript input old new contents contents_now =
 pub record StandsOn (store : Store) (h : History) (contents : List (List ℕ)) : Type 0 where
   pub still : StandsStill store h
   pub images : HoldImages (execution_of h) contents
+
+-- this is said of each history at whose end the store stands on the blocks
+abbrev pub OfEachPast : Store → List (List ℕ) → (History → Type 0) → Type 0
+OfEachPast store contents Said = (past : History) → StandsOn store past contents → Said past
+
+-- this is said of the blocks, if the store was opened on them
+abbrev pub OnceOpened : Store → List (List ℕ) → (List (List ℕ) → Type 0) → Type 0
+OnceOpened store blocks Said = (contents : List (List ℕ)) → contents ≡ blocks → IsOpened contents store → Said contents
 
 -- a call was made and answered
 pub record IsCalled (h : History) (call : ℕ × Command) (reply : Reply) (store : Store) (contents : List (List ℕ)) : Type 0 where
@@ -72,3 +81,14 @@ pub record HasCome (h : History) (lines : List CommandLine) (old new : Option (L
   pub last : History
   pub answers : AreAnswered h lines text last
   pub stands : StandsOn store last contents
+
+-- where all lines are answered, the answers follow each history at whose end the store stands on the blocks
+abbrev pub ComesOn : {T : Type 0} → Result T Stop → (store store_now : Store) → (contents contents_now : List (List ℕ)) → List CommandLine
+    → (old new : Option (List ℕ)) → Type 0
+ComesOn result store store_now contents contents_now lines old new =
+    OfEachPast store contents (λ past. OnOk result (HasCome past lines old new store_now contents_now))
+
+-- where the store was opened on the blocks, and all is done, the script has run
+abbrev pub RunsOpened : {T : Type 0} → Result T Stop → Store → (blocks blocks_now : List (List ℕ)) → List CommandLine
+    → (old new : Option (List ℕ)) → Type 0
+RunsOpened result store blocks blocks_now lines old new = OnceOpened store blocks (λ contents. OnOk result (HasRun lines old new contents blocks_now))

@@ -1,5 +1,5 @@
 -- A script of several writers, each served on a thread of its own.
-use Rattle.std.specs.Prelude.{ℕ, ◌≡◌, ◌==◌, List, [], Option, IfSome, length, map, filter, flat_map, sum_by}
+use Rattle.std.specs.Prelude.{ℕ, ◌≡◌, ◌==◌, List, [], Option, MatchOption, IfSome, length, map, filter, flat_map, sum_by}
 use Rattle.std.specs.List.{range_with_len}
 use Rattle.std.specs.Io.KnownBytes.{Appends}
 use Rattle.patch_cache.specs.Contents.{Contents}
@@ -12,6 +12,8 @@ use Rattle.patch_shared.specs.Telling.{AreTold, IsSettled}
 use Rattle.patch_commands.specs.Reply.{reply_line}
 use Rattle.patch_commands.specs.Shared.{writer_of, shared_commands}
 use Rattle.patch_commands.specs.declared.commands.CommandLine.{CommandLine}
+use Rattle.patch_files.specs.declared.endings.Status.{Status}
+use Rattle.patch_files.specs.declared.endings.Status.TheVariants.{Done}
 use Rattle.patch_files.specs.Answering.{call_of}
 use Rattle.patch_files.specs.Reading.{HasLinesBy}
 
@@ -50,6 +52,12 @@ abbrev pub HasServedScript : (writers : ℕ) (input old new : Option (List ℕ))
 HasServedScript writers input old new contents contents_now =
     IfSome input (λ text. (lines : List CommandLine) × HasLinesBy (shared_commands writers) text lines
     × HasServed writers lines old new contents contents_now)
+
+-- where all was done, the writers of the script were served, and the device comes back
+abbrev pub ServesOn : {D : Type 0} → (D → List (List ℕ)) → Status → Option D → (writers : ℕ) → (input old new : Option (List ℕ))
+    → (opening : List (List ℕ)) → Type 0
+ServesOn contents status back writers input old new opening =
+    status ≡ Done → MatchOption back ⊥ (λ device. HasServedScript writers input old new opening (contents device))
 
 -- the cache of some blocks, to which nothing has happened
 pub record IsUntouched (cache : Contents) : Type 0 where

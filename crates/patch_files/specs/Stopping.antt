@@ -1,5 +1,5 @@
 -- A run that stops: for what cause, and what it has answered by then.
-use Rattle.std.specs.Prelude.{ℕ, ◌≡◌, ◌<◌, ◌++◌, ◌⊎◌, Bool, true, List, [], Option, Ok, Err, IfSome, length}
+use Rattle.std.specs.Prelude.{ℕ, ◌≡◌, ◌<◌, ◌++◌, ◌⊎◌, Bool, true, false, List, [], Option, Result, Ok, Err, IfErr, IfSome, length}
 use Rattle.std.specs.Io.KnownBytes.{Appends}
 use Rattle.patch_device.specs.Device.{HasRisen}
 use Rattle.patch_model.specs.declared.refusals.RefusalKind.TheVariants as kind
@@ -9,6 +9,7 @@ use Rattle.patch_recovery.specs.Reading.{Fault as Test, reading}
 use Rattle.patch_replay.specs.declared.endings.Fault.{Fault}
 use Rattle.patch_replay.specs.declared.endings.Fault.TheVariants as fault
 use Rattle.patch_history.specs.History.{History, IsLegalHistory}
+use Rattle.patch_store.specs.Meaning.{Store}
 use Rattle.patch_store.specs.Opening.{at_opening}
 use Rattle.patch_commands.specs.declared.commands.CommandLine.{CommandLine}
 use Rattle.patch_files.specs.declared.endings.Status.{Status}
@@ -20,6 +21,7 @@ use Rattle.patch_files.specs.declared.endings.Unread.TheVariants.{Script, Stoppe
 use Rattle.patch_files.specs.Answering.{AreAnswered}
 use Rattle.patch_files.specs.Ending.{status_of, last_line}
 use Rattle.patch_files.specs.Reading.{HasLines}
+use Rattle.patch_files.specs.Running.{OnceOpened}
 
 -- there was no memory
 abbrev pub starved : Stop
@@ -51,6 +53,10 @@ IsNotOpened faults faults_now contents = HasRisen faults faults_now ⊎ HoldNoSt
 -- why lines are not all answered: that, or the writer
 abbrev pub IsBroken : (failed : Bool) (faults faults_now : ℕ) (contents : List (List ℕ)) → Type 0
 IsBroken failed faults faults_now contents = (failed ≡ true) ⊎ IsNotOpened faults faults_now contents
+
+-- where the lines are not all answered, it is told why
+abbrev pub TellsWhyItStops : {T : Type 0} → Result T Stop → (failed : Bool) → (faults faults_now : ℕ) → (contents : List (List ℕ)) → Type 0
+TellsWhyItStops result failed faults faults_now contents = IfErr result (λ why. IsStop why (IsBroken failed faults faults_now contents))
 
 -- A run that fails has this cause. No run is told as misused.
 abbrev pub IfFailed : Status → Type 0 → Type 0
@@ -93,6 +99,10 @@ pub record HasStopped (input old new : Option (List ℕ)) (contents : List (List
   pub ends : status_of why ≡ status
   pub written : Appends old new (text ++ last_line why)
 
+-- a run that stops so has told what it has answered, and why
+abbrev pub TellsWhatItAnswered : (input old new : Option (List ℕ)) → (contents : List (List ℕ)) → Status → Type 0
+TellsWhatItAnswered input old new contents status = IfStopped status (HasStopped input old new contents status)
+
 -- On the way.
 
 -- behind the history some first lines were answered, and their text written
@@ -105,3 +115,7 @@ pub record HasComeSome (h : History) (lines : List CommandLine) (old new : Optio
   pub last : History
   pub answers : AreAnswered h first text last
   pub legal : IsLegalHistory last
+
+-- where the store was opened on the blocks, and the writer is well, some first lines were answered, and their text written
+abbrev pub RunsSomeWay : Store → (blocks : List (List ℕ)) → (failed : Bool) → List CommandLine → (old new : Option (List ℕ)) → Type 0
+RunsSomeWay store blocks failed lines old new = OnceOpened store blocks (λ contents. failed ≡ false → HasWrittenSome lines old new contents)

@@ -1,12 +1,10 @@
 //! Runs a script on a store.
-ghost use Rattle.std.specs.Prelude.{ℕ, ◌≡◌, List, ◌⊎◌, false, IfErr, OnOk};
+ghost use Rattle.std.specs.Prelude.{◌≡◌, ◌⊎◌, false, OnOk};
 ghost use Rattle.patch_device.specs.SameDevice.{IsSameDevice};
-ghost use Rattle.patch_history.specs.History.{History};
-ghost use Rattle.patch_store.specs.Opening.{IsOpened};
 ghost use Rattle.patch_commands.specs.Command.{commands_of};
 ghost use Rattle.patch_files.specs.Reading.{IsRunOf};
-ghost use Rattle.patch_files.specs.Running.{StandsOn, HasCome, HasRun, HasRunScript};
-ghost use Rattle.patch_files.specs.Stopping.{IsStop, IsBroken, IfFailed, IfStopped, HasComeSome, HasWrittenSome, HasStopped};
+ghost use Rattle.patch_files.specs.Running.{OfEachPast, OnceOpened, ComesOn, RunsOpened, HasRun, HasRunScript};
+ghost use Rattle.patch_files.specs.Stopping.{IsBroken, IfFailed, HasComeSome, HasWrittenSome, RunsSomeWay, TellsWhyItStops, TellsWhatItAnswered};
 ghost use Rattle.patch_files.specs.declared.endings.Status.TheVariants.{Done, Unreadable};
 ghost use Rattle.patch_replay.specs.Streams.{IsGivenUp};
 ghost use Rattle.patch_replay.specs.declared.endings.BadScript.{BadScript as TheBadScript};
@@ -36,12 +34,12 @@ fn answer_lines<W: Output, D: Lasting, P: Progress>(
     progress: &mut P,
 ) -> Result<(), Stop>
     ensures device { IsSameDevice D.Device device.old device.new }
-    ensures come { D.is_honest device.old → (h : History) → StandsOn store.old h (D.contents device.old) → OnOk result
-        (HasCome h lines.items (W.contents writer.old.inner) (W.contents writer.new.inner) store.new (D.contents device.new)) }
-    ensures some { D.is_honest device.old → (h : History) → StandsOn store.old h (D.contents device.old) → writer.new.failed ≡ false
-        → HasComeSome h lines.items (W.contents writer.old.inner) (W.contents writer.new.inner) }
-    ensures stops { D.is_honest device.old → (h : History) → StandsOn store.old h (D.contents device.old) → IfErr result (λ why. IsStop why
-        (IsBroken writer.new.failed (D.fault_count device.old) (D.fault_count device.new) (D.contents device.old))) }
+    ensures come { D.is_honest device.old → ComesOn result store.old store.new (D.contents device.old) (D.contents device.new)
+        lines.items (W.contents writer.old.inner) (W.contents writer.new.inner) }
+    ensures some { D.is_honest device.old → OfEachPast store.old (D.contents device.old) (λ past. writer.new.failed ≡ false
+        → HasComeSome past lines.items (W.contents writer.old.inner) (W.contents writer.new.inner)) }
+    ensures stops { D.is_honest device.old → OfEachPast store.old (D.contents device.old) (λ _.
+        TellsWhyItStops result writer.new.failed (D.fault_count device.old) (D.fault_count device.new) (D.contents device.old)) }
 {
     let all = lines.len();
     let mut answered = 0usize;
@@ -63,12 +61,12 @@ fn answer_and_save<W: Output, D: Lasting, P: Progress>(
     lines: Vec<CommandLine>,
     progress: &mut P,
 ) -> Result<(), Stop>
-    ensures run { D.is_honest device.old → (contents : List (List ℕ)) → contents ≡ D.contents device.old → IsOpened contents store.old
-        → OnOk result (HasRun lines.items (W.contents writer.old.inner) (W.contents writer.new.inner) contents (D.contents device.new)) }
-    ensures some { D.is_honest device.old → (contents : List (List ℕ)) → contents ≡ D.contents device.old → IsOpened contents store.old
-        → writer.new.failed ≡ false → HasWrittenSome lines.items (W.contents writer.old.inner) (W.contents writer.new.inner) contents }
-    ensures stops { D.is_honest device.old → (contents : List (List ℕ)) → contents ≡ D.contents device.old → IsOpened contents store.old
-        → IfErr result (λ why. IsStop why (IsBroken writer.new.failed (D.fault_count device.old) (D.fault_count device.new) contents)) }
+    ensures run { D.is_honest device.old → RunsOpened result store.old (D.contents device.old) (D.contents device.new)
+        lines.items (W.contents writer.old.inner) (W.contents writer.new.inner) }
+    ensures some { D.is_honest device.old → RunsSomeWay store.old (D.contents device.old) writer.new.failed
+        lines.items (W.contents writer.old.inner) (W.contents writer.new.inner) }
+    ensures stops { D.is_honest device.old → OnceOpened store.old (D.contents device.old)
+        (TellsWhyItStops result writer.new.failed (D.fault_count device.old) (D.fault_count device.new)) }
 {
     answer_lines(alloc, writer, store, device, lines, progress)?;
     save(store, device)
@@ -86,8 +84,8 @@ fn run_lines<W: Output, D: Lasting, P: Progress>(
         (HasRun lines.items (W.contents writer.old.inner) (W.contents writer.new.inner) (D.contents device.old) (D.contents device.new)) }
     ensures some { D.is_honest device.old → writer.new.failed ≡ false
         → HasWrittenSome lines.items (W.contents writer.old.inner) (W.contents writer.new.inner) (D.contents device.old) }
-    ensures stops { D.is_honest device.old → IfErr result (λ why. IsStop why
-        (IsBroken writer.new.failed (D.fault_count device.old) (D.fault_count device.new) (D.contents device.old))) }
+    ensures stops { D.is_honest device.old
+        → TellsWhyItStops result writer.new.failed (D.fault_count device.old) (D.fault_count device.new) (D.contents device.old) }
 {
     let mut store = open_store(alloc, device)?;
     answer_and_save(alloc, writer, &mut store, device, lines, progress)
@@ -110,8 +108,8 @@ pub fn run_script<R: Read, W: Output, D: Lasting, P: Progress>(
         (W.contents writer.old.inner) (W.contents writer.new.inner) (D.contents device.old) (D.contents device.new) }
     ensures failed { D.is_honest device.old → IfFailed result (IsGivenUp reader.new
         ⊎ IsBroken writer.new.failed (D.fault_count device.old) (D.fault_count device.new) (D.contents device.old)) }
-    ensures stopped { D.is_honest device.old → writer.new.failed ≡ false → IfStopped result (HasStopped (R.remaining reader.old.inner)
-        (W.contents writer.old.inner) (W.contents writer.new.inner) (D.contents device.old) result) }
+    ensures stopped { D.is_honest device.old → writer.new.failed ≡ false → TellsWhatItAnswered (R.remaining reader.old.inner)
+        (W.contents writer.old.inner) (W.contents writer.new.inner) (D.contents device.old) result }
 {
     let lines = match read_script(alloc, reader, None) {
         Ok(lines) => lines,

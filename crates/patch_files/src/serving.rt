@@ -7,7 +7,7 @@ ghost use Rattle.patch_shared.specs.Kept.{IsFresh, IsNew};
 ghost use Rattle.patch_shared.specs.Telling.{commands_in, replies_in};
 ghost use Rattle.patch_commands.specs.Shared.{shared_commands};
 ghost use Rattle.patch_files.specs.Reading.{IsRunOf};
-ghost use Rattle.patch_files.specs.Serving.{jobs_by, replies_text, all_text, HasServed, HasServedScript};
+ghost use Rattle.patch_files.specs.Serving.{jobs_by, replies_text, all_text, HasServed, ServesOn};
 ghost use Rattle.patch_files.specs.declared.endings.Status.TheVariants.{Done, Unreadable};
 ghost use Rattle.patch_replay.specs.declared.endings.BadScript.{BadScript as TheBadScript};
 
@@ -192,9 +192,8 @@ pub fn serve_script<R: Read, W: Output, D: Lasting + Drop + Send, T: Threads + W
         (W.contents writer.old.inner) (W.contents writer.new.inner) result.status }
     ensures left { (why : TheBadScript) → result.status ≡ Unreadable why → result.device ≡ Some device }
     ensures device { result.status ≡ Done → MatchOption result.device ⊥ (IsSameDevice D.Device device) }
-    ensures done { D.is_honest device → result.status ≡ Done → MatchOption result.device ⊥ (λ now.
-        HasServedScript writers (R.remaining reader.old.inner) (W.contents writer.old.inner) (W.contents writer.new.inner)
-        (D.contents device) (D.contents now)) }
+    ensures done { D.is_honest device → ServesOn D.contents result.status result.device writers
+        (R.remaining reader.old.inner) (W.contents writer.old.inner) (W.contents writer.new.inner) (D.contents device) }
 {
     let lines = match read_script(alloc, reader, Some(writers)) {
         Ok(lines) => lines,
