@@ -23,6 +23,7 @@ use std::time::{Clock, Duration};
 
 mod books;
 mod gates;
+mod serving;
 
 // One index block and two extents: 35 blocks.
 const SMALL: Geometry = Geometry {
