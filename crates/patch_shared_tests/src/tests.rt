@@ -22,6 +22,7 @@ use std::thread::Threads;
 use std::time::{Clock, Duration};
 
 mod books;
+mod devices;
 mod gates;
 mod serving;
 
