@@ -15,13 +15,14 @@ use patch_store::{Store, make};
 use std::alloc::{Allocator, Global};
 use std::process::Abort;
 use std::sync::Wait;
-use std::sync::atomic::{AtomicBool, AtomicU32, Ordering};
+use std::sync::atomic::{AtomicBool, AtomicU64, Ordering};
 use std::test::Fail;
 use std::thread;
 use std::thread::Threads;
 use std::time::{Clock, Duration};
 
 mod books;
+mod crashes;
 mod devices;
 mod gates;
 mod serving;
@@ -151,7 +152,7 @@ const TURNS: u32 = 1_000_000;
 #[derive(Drop)]
 struct Turn {
     turns: u32,
-    came: AtomicU32,
+    came: AtomicU64,
     late: AtomicBool,
 }
 
@@ -159,7 +160,7 @@ impl Turn {
     fn new(turns: u32) -> Turn {
         Turn {
             turns,
-            came: AtomicU32::new(0),
+            came: AtomicU64::new(0),
             late: AtomicBool::new(false),
         }
     }
@@ -170,7 +171,7 @@ impl Turn {
     }
 
     // Waits until it has come about so often, unless some thread was late for it before.
-    fn wait(&self, rt: &impl Clock, times: u32) {
+    fn wait(&self, rt: &impl Clock, times: u64) {
         for _ in 0..self.turns {
             if self.came.load(Ordering::SeqCst) >= times || self.is_late() {
                 return;
