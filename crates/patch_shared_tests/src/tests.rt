@@ -260,7 +260,8 @@ fn serve_all<D: Device + Drop + Send, G: Gate + Sync, R: Threads + Wait + Abort 
     jobs: Vec<Vec<Command>>,
     gate: &G,
 ) -> Result<Outcome<D>, ServeFault<D>> {
-    assert!(rt; !jobs.is_empty() && jobs.len() <= 8);
+    assert!(rt; !jobs.is_empty());
+    assert!(rt; jobs.len() <= 8);
     let Ok(store) = new_store(alloc) else {
         return Err(out_of_memory());
     };

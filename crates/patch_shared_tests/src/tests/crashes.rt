@@ -98,11 +98,7 @@ fn advance(rt: &impl Abort, store: &Store, rounds: &mut [u8; 4]) {
 }
 
 // A new disk is opened, and again after each of these writes. At last all keys are at these rounds.
-fn follow<'a>(
-    rt: &impl Abort,
-    alloc: Global,
-    writes: impl Iterator<Item = &'a (u32, BlockBytes)>,
-) -> Result<[u8; 4], Fail> {
+fn follow(rt: &impl Abort, alloc: Global, writes: &[(u32, BlockBytes)]) -> Result<[u8; 4], Fail> {
     let mut disk = new_device(alloc)?;
     let mut rounds = [0; 4];
     advance(rt, &opened(alloc, &mut disk)?, &mut rounds);
@@ -126,7 +122,8 @@ fn each_crash_leaves_what_was_put_last_or_before(rt: HostRuntime) -> Result<(), 
     assert!(&rt; !gate.written.is_late());
     expect_settled(&rt, alloc, &mut outcome);
     let writes = outcome.device.writes();
-    let rounds = follow(&rt, alloc, writes.iter().skip(COUNT as usize))?;
+    assert!(&rt; writes.len() >= COUNT as usize);
+    let rounds = follow(&rt, alloc, &writes[COUNT as usize..])?;
     assert_eq!(&rt; rounds, [ROUNDS; 4]);
     Ok(())
 }

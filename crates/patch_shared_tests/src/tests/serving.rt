@@ -45,31 +45,34 @@ fn long_jobs(alloc: Global) -> Result<Vec<Vec<Command>>, OutOfMemory> {
     Ok(jobs)
 }
 
-// What the writer is told at this place of its list.
-fn is_told_at(reply: &Reply, n: u8, at: usize) -> bool {
+// Whether the reply at this place is there, and is this.
+fn is_told_at(replies: &[Reply], at: usize, told: &Told<'_>) -> bool {
+    at < replies.len() && is_told(&replies[at], told)
+}
+
+// Whether the two replies from this place on are those of a round.
+fn are_of_round(replies: &[Reply], at: usize, n: u8, round: u8) -> bool {
+    is_told_at(replies, at, &Told::Done)
+        && is_told_at(replies, at.saturating_add(1), &Told::Value(&[n, round]))
+}
+
+fn expect_long_job(rt: &impl Abort, replies: &[Reply], n: u8) {
     let deletion = ROUNDS as usize * 2;
-    if at == deletion {
-        return is_told(reply, &Told::Done);
+    assert_eq!(rt; replies.len(), deletion + 3);
+    for round in 0..ROUNDS {
+        assert!(rt;
+            are_of_round(replies, round as usize * 2, n, round),
+            "round {round} of writer {n}"
+        );
     }
-    let place = if at < deletion { at } else { at - 1 };
-    if place % 2 == 0 {
-        is_told(reply, &Told::Done)
-    } else {
-        is_told(reply, &Told::Value(&[n, (place / 2) as u8]))
-    }
+    assert!(rt; is_told_at(replies, deletion, &Told::Done));
+    assert!(rt; are_of_round(replies, deletion + 1, n, ROUNDS));
 }
 
 fn expect_long_replies(rt: &impl Abort, replies: &[Vec<Reply>]) {
     assert_eq!(rt; replies.len(), 8);
-    for n in 0..replies.len() {
-        let told = replies[n].as_slice();
-        assert_eq!(rt; told.len(), ROUNDS as usize * 2 + 3);
-        for at in 0..told.len() {
-            assert!(rt;
-                is_told_at(&told[at], n as u8, at),
-                "reply {at} to writer {n}"
-            );
-        }
+    for n in 0..8u8 {
+        expect_long_job(rt, replies[n as usize].as_slice(), n);
     }
 }
 
