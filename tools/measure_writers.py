@@ -57,7 +57,7 @@ def writes(program, folder, pattern, script, writers):
     """How many blocks a run writes to a new file."""
     new_file(program, folder, pattern)
     words = ["strace", "-f", "-e", "trace=pwrite64", "-P", FILE, "-o", "log", program, *words_of(writers)]
-    subprocess.run(words, cwd=folder, check=True, input=script, stdout=subprocess.DEVNULL)
+    subprocess.run(words, cwd=folder, check=True, input=script, stdout=subprocess.DEVNULL, stderr=subprocess.DEVNULL)
     with open(f"{folder}/log", encoding="utf-8", errors="replace") as log:
         return sum("pwrite64(" in line for line in log)
 
