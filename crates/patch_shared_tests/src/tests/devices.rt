@@ -264,18 +264,28 @@ fn a_read_refused_eight_times_ends_the_run(rt: HostRuntime) -> Result<(), Fail> 
     expect_gave_up(&rt, rt.alloc(), eight, 0, WRITES + TRIES)
 }
 
+// The call behind so many others fails, once.
+fn once(passed: u64, lands: bool) -> Plan {
+    Plan {
+        kind: Kind::All,
+        passed,
+        refused: 1,
+        lands,
+    }
+}
+
 #[test]
 fn each_call_may_fail_once(rt: HostRuntime) -> Result<(), Fail> {
-    for lands in [false, true] {
-        for passed in 0..CALLS {
-            let plan = Plan {
-                kind: Kind::All,
-                passed,
-                refused: 1,
-                lands,
-            };
-            expect_borne(&rt, rt.alloc(), plan)?;
-        }
+    for passed in 0..CALLS {
+        expect_borne(&rt, rt.alloc(), once(passed, false))?;
+    }
+    Ok(())
+}
+
+#[test]
+fn each_write_may_land_and_fail_once(rt: HostRuntime) -> Result<(), Fail> {
+    for passed in 0..WRITES {
+        expect_borne(&rt, rt.alloc(), once(passed, true))?;
     }
     Ok(())
 }
