@@ -3,8 +3,9 @@ use Rattle.std.proofs.Common.{◌≡◌, ℕ, ◌∙◌, inl, inr, Bool, List, �
 use Rattle.patch_model.specs.declared.patches.Undo.{Undo}
 use Rattle.patch_graph.specs.State.{Class, Graph}
 use Rattle.patch_model.specs.Member.{In, In-map, map-In}
-use Rattle.patch_graph.specs.declared.skyline.Span.{Span}
-use Rattle.patch_graph.specs.Skyline.{spans_of, AreTops, IsTopWithin}
+use Rattle.patch_skyline.specs.declared.skylines.Span.{Span}
+use Rattle.patch_graph.specs.Skyline.{spans_of}
+use Rattle.patch_skyline.specs.Skyline.{AreTops, IsTopWithin}
 use Rattle.patch_graph.proofs.ReadySet.{In-left, In-right, In-parts}
 use Rattle.patch_graph.specs.Adding.{AreDependencies, is_hard, new_class, IsAdded, IsDrawnUp, HasAdded}
 

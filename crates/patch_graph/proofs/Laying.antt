@@ -4,8 +4,9 @@ use Rattle.std.specs.Prelude.{◌≢◌, nat_eq}
 use Rattle.std.specs.Option.{option_map_or}
 use Rattle.std.specs.Map.{lookup}
 use Rattle.std.proofs.lemmas.Bool.{ne_eqb}
-use Rattle.patch_graph.specs.declared.skyline.Span.{Span}
-use Rattle.patch_graph.specs.Skyline.{Skylines, spans_of, IsLaid, IsLaidOn, HasLaidOn, IsRespanned}
+use Rattle.patch_skyline.specs.declared.skylines.Span.{Span}
+use Rattle.patch_graph.specs.Skyline.{Skylines, spans_of, IsLaidOn, HasLaidOn, IsRespanned}
+use Rattle.patch_skyline.specs.Skyline.{IsLaid}
 
 pub spans-some : (lines : Skylines) (block : ℕ) (ss : List Span) → lookup (nat_eq block) lines ≡ Some ss → spans_of lines block ≡ ss
 spans-some lines block ss at = ap (λ o. option_map_or (λ l. l) o []) at

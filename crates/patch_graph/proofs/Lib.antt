@@ -18,7 +18,6 @@ pub mod MergedClasses
 pub mod Legality
 pub mod BlockKeys
 pub mod Entered
-pub mod Spans
 pub mod Tops
 pub mod Laying
 pub mod Remembering

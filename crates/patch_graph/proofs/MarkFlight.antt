@@ -17,7 +17,8 @@ use Rattle.patch_model.specs.Entries.{has-In, In-has}
 use Rattle.patch_graph.proofs.Steps.{patch-sent, In-map, map-In, length-map, numbered-map}
 use Rattle.patch_graph.specs.State.{Class, Graph, Slots, Numbers, find, class_at, leads, spans}
 use Rattle.patch_graph.proofs.Facts.{known}
-use Rattle.patch_graph.specs.Skyline.{Skylines, top_at, spans_of}
+use Rattle.patch_graph.specs.Skyline.{Skylines, spans_of}
+use Rattle.patch_skyline.specs.Skyline.{top_at}
 use Rattle.patch_graph.proofs.Tops.{tops-kept}
 use Rattle.patch_graph.specs.Meaning.{Leads, one, onward, DependsOn, IsClassOf, Represents}
 use Rattle.patch_graph.specs.Marks.{is_marked}

@@ -10,7 +10,8 @@ use Rattle.patch_model.specs.Pile.{covers, end}
 use Rattle.patch_model.specs.Orderly.{IsOrderly}
 use Rattle.patch_model.specs.Member.{In, list_any-at, list_any-from}
 use Rattle.patch_graph.specs.State.{Class, Graph, Slots, Numbers, find, class_at, leads, leads_at, spans}
-use Rattle.patch_graph.specs.Skyline.{Skylines, top_at, spans_of}
+use Rattle.patch_graph.specs.Skyline.{Skylines, spans_of}
+use Rattle.patch_skyline.specs.Skyline.{top_at}
 use Rattle.patch_graph.proofs.Tops.{tops-kept}
 use Rattle.patch_graph.specs.Meaning.{Leads, one, onward, DependsOn, IsClassOf, Represents}
 use Rattle.patch_graph.specs.Merging.{joined_class, IsJoined}

@@ -16,8 +16,9 @@ use Rattle.patch_model.specs.declared.patches.Undo.{Undo}
 use Rattle.patch_model.specs.declared.patches.Undo.TheVariants.{Keep, MayDrop}
 use Rattle.patch_graph.specs.State.{Class, Graph, find, class_at, leads, leads_at, spans}
 use Rattle.patch_graph.proofs.Facts.{IsOrdered, ordered, known}
-use Rattle.patch_graph.specs.declared.skyline.Span.{Span}
-use Rattle.patch_graph.specs.Skyline.{has_byte, top_at, spans_of, IsTopWithin, IsLaidOn}
+use Rattle.patch_skyline.specs.declared.skylines.Span.{Span}
+use Rattle.patch_graph.specs.Skyline.{spans_of, IsLaidOn}
+use Rattle.patch_skyline.specs.Skyline.{has_byte, top_at, IsTopWithin}
 use Rattle.patch_graph.specs.Meaning.{Leads, one, onward, DependsOn, IsClassOf, wrote, IsLast, IsTop, Represents}
 use Rattle.patch_graph.specs.Adding.{AreDependencies, lets_drop, is_hard, new_class, IsAdded, HasAdded, IsPatch}
 use Rattle.patch_graph.proofs.ReadySet.{placed, cases_found, some_same, class_same, In-left, In-right, In-parts, is_among-In, In-is_among}

@@ -6,7 +6,8 @@ use Rattle.patch_model.specs.Pile.{covers}
 use Rattle.patch_model.specs.Entry.{Entry, is_durable}
 use Rattle.patch_model.specs.Member.{In}
 use Rattle.patch_graph.specs.State.{Class, Slots, Numbers, class_at}
-use Rattle.patch_graph.specs.Skyline.{Skylines, top_at, spans_of, IsEmptied}
+use Rattle.patch_graph.specs.Skyline.{Skylines, spans_of, IsEmptied}
+use Rattle.patch_skyline.specs.Skyline.{top_at}
 use Rattle.patch_graph.specs.Meaning.{IsTop, Represents}
 use Rattle.patch_graph.proofs.Steps.{In-map, map-In}
 

@@ -11,8 +11,9 @@ use Rattle.patch_model.specs.declared.patches.Mark.TheVariants.{Memory}
 use Rattle.patch_model.specs.declared.patches.Undo.{Undo}
 use Rattle.patch_model.specs.declared.patches.Undo.TheVariants.{Keep, MayDrop}
 use Rattle.patch_model.specs.Member.{In}
-use Rattle.patch_graph.specs.Skyline.{IsTopWithin, IsLaidOn, spans_of}
-use Rattle.patch_graph.specs.declared.skyline.Span.{Span}
+use Rattle.patch_graph.specs.Skyline.{IsLaidOn, spans_of}
+use Rattle.patch_skyline.specs.Skyline.{IsTopWithin}
+use Rattle.patch_skyline.specs.declared.skylines.Span.{Span}
 use Rattle.patch_graph.specs.declared.graphs.Added.{Added}
 use Rattle.patch_graph.specs.Meaning.{Represents}
 use Rattle.patch_graph.specs.State.{Class, Graph, Slots, Numbers, find, class_at}

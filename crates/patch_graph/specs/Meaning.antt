@@ -8,7 +8,8 @@ use Rattle.patch_model.specs.Dependency.{depends_directly}
 use Rattle.patch_model.specs.Pile.{covers}
 use Rattle.patch_model.specs.Orderly.{IsOrderly, IsNumbered}
 use Rattle.patch_graph.specs.State.{Class, Graph, Slots, Numbers, find, class_at, leads, spans}
-use Rattle.patch_graph.specs.Skyline.{top_at, spans_of}
+use Rattle.patch_graph.specs.Skyline.{spans_of}
+use Rattle.patch_skyline.specs.Skyline.{top_at}
 
 -- a chain of classes, each of which depends directly on the next
 pub data Leads (slots : Slots) (numbers : Numbers) : ℕ → ℕ → Type 0 where

@@ -16,7 +16,7 @@ use crate::classes::Class;
 use crate::memo::Memo;
 use crate::register::{Classes, Keys, Register, enter};
 use crate::scratch::Scratch;
-use crate::skyline::Span;
+use patch_skyline::Span;
 use crate::skylines::{lay, tops};
 use patch_model::{BlockNo, MAX_PATCHES, PatchNo, Undo};
 use std::alloc::{AllocError, Allocator};

@@ -18,7 +18,6 @@ mod ready;
 mod register;
 mod scratch;
 mod searching;
-mod skyline;
 mod skylines;
 
 pub use classes::LiveClass;

@@ -1,8 +1,9 @@
 //! The skyline of each block.
 ghost use Rattle.std.specs.Prelude.{◌≡◌, ◌<◌, IfOk, OnOk, OnErr};
-ghost use Rattle.patch_graph.specs.Skyline.{spans_of, AreTops, IsLaidOn, HasLaidOn, IsEmptied};
+ghost use Rattle.patch_graph.specs.Skyline.{spans_of, IsLaidOn, HasLaidOn, IsEmptied};
+ghost use Rattle.patch_skyline.specs.Skyline.{AreTops};
 
-use crate::skyline::{Skyline, Span};
+use patch_skyline::{Skyline, Span};
 use indexmap::IndexMap;
 use patch_model::BlockNo;
 use std::alloc::{AllocError, Allocator};

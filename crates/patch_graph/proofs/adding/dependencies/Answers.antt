@@ -1,5 +1,5 @@
 use Rattle.std.proofs.Common.{subst, ap, ◌∙◌, ◌++◌, List, map, ℕ}
-use Rattle.patch_graph.specs.declared.skyline.Span.{Span}
+use Rattle.patch_skyline.specs.declared.skylines.Span.{Span}
 use Rattle.patch_graph.specs.State.{Graph}
 use Rattle.patch_graph.specs.Skyline.{spans_of}
 use Rattle.patch_graph.specs.Adding.{AreDependencies}

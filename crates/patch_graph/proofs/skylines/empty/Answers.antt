@@ -1,5 +1,5 @@
 use Rattle.std.proofs.Common.{sym, ◌∙◌, ap, [], List, Some}
-use Rattle.patch_graph.specs.declared.skyline.Span.{Span}
+use Rattle.patch_skyline.specs.declared.skylines.Span.{Span}
 use Rattle.patch_graph.proofs.BlockKeys.{is_some-from}
 use Rattle.patch_graph.proofs.Laying.{respanned}
 use Rattle.patch_graph.proofs.skylines.empty.Goals as goal

@@ -1,7 +1,7 @@
 use Rattle.std.proofs.Common.{ap, subst, sym, ◌∙◌, List, Some, None, ◌≡◌}
 use Rattle.std.specs.Prelude.{nat_eq}
 use Rattle.std.specs.Map.{lookup}
-use Rattle.patch_graph.specs.declared.skyline.Span.{Span}
+use Rattle.patch_skyline.specs.declared.skylines.Span.{Span}
 use Rattle.patch_graph.specs.Skyline.{Skylines, IsLaidOn}
 use Rattle.patch_graph.proofs.Laying.{laid-first, laid-not}
 use Rattle.patch_graph.proofs.skylines.lay.Goals as goal

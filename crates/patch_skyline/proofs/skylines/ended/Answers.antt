@@ -1,9 +1,9 @@
 use Rattle.std.proofs.Common.{rules, of_calls}
 use Rattle.std.specs.Prelude.{nat_le}
 use Rattle.std.proofs.lemmas.Fn.{always_returns_same}
-use Rattle.patch_graph.specs.declared.skyline.Span.{Span}
-use Rattle.patch_graph.proofs.Spans.{parted-stops, ended-by}
-use Rattle.patch_graph.proofs.skyline.ended.Goals as goal
+use Rattle.patch_skyline.specs.declared.skylines.Span.{Span}
+use Rattle.patch_skyline.proofs.Spans.{parted-stops, ended-by}
+use Rattle.patch_skyline.proofs.skylines.ended.Goals as goal
 
 pub returns-clause-place : goal.returns-clause-place
 returns-clause-place c = ended-by c.args.spans.now c.args.at c.partition_point.result

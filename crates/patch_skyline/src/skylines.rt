@@ -2,13 +2,13 @@
 ghost use Rattle.std.specs.Prelude.{ℕ, ◌≡◌, ◌<◌, ◌≤◌, ◌+◌, ◌∷◌, [], length, nat_lt, nat_le, vec_len, vec_capacity, IfOk, OnOk, OnErr};
 ghost use Rattle.std.specs.List.{remove_range};
 ghost use Rattle.std.specs.List.Sorted.{IsPartitionPoint};
-ghost use Rattle.patch_graph.specs.Skyline.{top_at, AreApart, IsCutAt, IsSameSkyline, IsLaid, AreTops};
+ghost use Rattle.patch_skyline.specs.Skyline.{top_at, AreApart, IsCutAt, IsSameSkyline, IsLaid, AreTops};
 
 use patch_model::PatchNo;
 use std::alloc::{AllocError, Allocator, Global};
 use std::marker::Model;
 
-/// Bytes that one patch wrote last, from the first to the one after the last.
+/// Bytes that one patch wrote last, from the first to the one after the last, and the number of that patch.
 #[derive(Clone, Copy, Debug, PartialEq, Eq)]
 pub struct Span {
     pub start: usize,
@@ -25,8 +25,8 @@ pub struct Skyline<A: Allocator = Global> {
 
 impl<A: Allocator> Model for Skyline<A> {
     ghost use Rattle.std.specs.Prelude.{List};
-    ghost use Rattle.patch_graph.specs.Skyline.{AreApart};
-    ghost use Rattle.patch_graph.specs.declared.skyline.Span.{Span as Seen};
+    ghost use Rattle.patch_skyline.specs.Skyline.{AreApart};
+    ghost use Rattle.patch_skyline.specs.declared.skylines.Span.{Span as Seen};
 
     ghost Value = { List Seen };
 
@@ -36,6 +36,15 @@ impl<A: Allocator> Model for Skyline<A> {
 }
 
 impl<A: Allocator> Skyline<A> {
+    /// No span. It takes no memory.
+    pub fn new(alloc: A) -> Skyline<A>
+        ensures { result ≡ [] }
+    {
+        Skyline {
+            spans: Vec::new(alloc),
+        }
+    }
+
     /// One span, which has a byte.
     pub fn of(alloc: A, top: Span) -> Result<Skyline<A>, AllocError>
         requires { top.start < top.stop }

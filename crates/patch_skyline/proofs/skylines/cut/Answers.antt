@@ -1,7 +1,7 @@
 use Rattle.std.proofs.Common.{◌≤◌, subst, List, length}
-use Rattle.patch_graph.specs.declared.skyline.Span.{Span}
-use Rattle.patch_graph.proofs.Spans.{Begun, cuts-behind, cut-not-behind, cut-none-behind}
-use Rattle.patch_graph.proofs.skyline.cut.Goals as goal
+use Rattle.patch_skyline.specs.declared.skylines.Span.{Span}
+use Rattle.patch_skyline.proofs.Spans.{Begun, cuts-behind, cut-not-behind, cut-none-behind}
+use Rattle.patch_skyline.proofs.skylines.cut.Goals as goal
 
 pub returns-then-behind-eq0-clause-cut : goal.returns-then-behind-eq0-clause-cut
 returns-then-behind-eq0-clause-cut g c =

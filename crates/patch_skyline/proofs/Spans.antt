@@ -7,9 +7,24 @@ use Rattle.std.proofs.Math.Seq.{drop-cons}
 use Rattle.std.proofs.lemmas.Bool.{cases_Bool, cases_lt, and_parts, and_from, lt-ltb, le-leb, ltb-true, leb-true, false_from_ne_true, both_ways}
 use Rattle.std.proofs.lemmas.List.{take-append-drop, take-set, take_more_set, drop-set, drop-set-lt}
 use Rattle.patch_model.specs.Member.{In}
-use Rattle.patch_graph.specs.declared.skyline.Span.{Span}
-use Rattle.patch_graph.specs.Skyline.{has_byte, top_at, AreApart, IsCutAt, IsSameSkyline, IsLaid, IsTopWithin, AreTops}
-use Rattle.patch_graph.proofs.ReadySet.{In-left, In-right, In-parts}
+use Rattle.patch_skyline.specs.declared.skylines.Span.{Span}
+use Rattle.patch_skyline.specs.Skyline.{has_byte, top_at, AreApart, IsCutAt, IsSameSkyline, IsLaid, IsTopWithin, AreTops}
+
+-- Members of lists that are put together.
+
+In-left : {X : Type 0} → (xs ys : List X) (x : X) → In xs x → In (xs ++ ys) x
+In-left [] ys x i = absurd i
+In-left (y ∷ xs) ys x (inl e) = inl e
+In-left (y ∷ xs) ys x (inr i) = inr (In-left xs ys x i)
+
+In-right : {X : Type 0} → (xs ys : List X) (x : X) → In ys x → In (xs ++ ys) x
+In-right [] ys x i = i
+In-right (y ∷ xs) ys x i = inr (In-right xs ys x i)
+
+In-parts : {X : Type 0} → (xs ys : List X) (x : X) → In (xs ++ ys) x → In xs x ⊎ In ys x
+In-parts [] ys x i = inr i
+In-parts (y ∷ xs) ys x (inl e) = inl (inl e)
+In-parts (y ∷ xs) ys x (inr i) = elim (In-parts xs ys x i) [ inl j ↦ inl (inr j) | inr j ↦ inr j ]
 
 -- The bytes of one span.
 

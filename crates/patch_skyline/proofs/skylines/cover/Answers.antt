@@ -1,8 +1,8 @@
 use Rattle.std.proofs.Common.{◌≤◌, subst, sym, List, length, arith}
-use Rattle.patch_graph.specs.declared.skyline.Span.{Span}
-use Rattle.patch_graph.specs.Skyline.{AreApart, IsLaid}
-use Rattle.patch_graph.proofs.Spans.{Begun, in-order, covers-none, covers-one, covers-many}
-use Rattle.patch_graph.proofs.skyline.cover.Goals as goal
+use Rattle.patch_skyline.specs.declared.skylines.Span.{Span}
+use Rattle.patch_skyline.specs.Skyline.{AreApart, IsLaid}
+use Rattle.patch_skyline.proofs.Spans.{Begun, in-order, covers-none, covers-one, covers-many}
+use Rattle.patch_skyline.proofs.skylines.cover.Goals as goal
 
 pub returns-then-first-last-clause-laid : goal.returns-then-first-last-clause-laid
 returns-then-first-last-clause-laid g c =

@@ -1,9 +1,9 @@
 use Rattle.std.proofs.Common.{◌∙◌, subst, sym, List, []}
 use Rattle.std.specs.List.{slice_range}
-use Rattle.patch_graph.specs.declared.skyline.Span.{Span}
-use Rattle.patch_graph.specs.Skyline.{AreTops, AreApart}
-use Rattle.patch_graph.proofs.Spans.{tops-some, tops-none}
-use Rattle.patch_graph.proofs.skyline.Skyline.tops.Goals as goal
+use Rattle.patch_skyline.specs.declared.skylines.Span.{Span}
+use Rattle.patch_skyline.specs.Skyline.{AreTops, AreApart}
+use Rattle.patch_skyline.proofs.Spans.{tops-some, tops-none}
+use Rattle.patch_skyline.proofs.skylines.Skyline.tops.Goals as goal
 
 pub returns-then-first-last : goal.returns-then-first-last
 returns-then-first-last g c =
