@@ -1,7 +1,9 @@
 //! How patches are made, and join groups.
 ghost use Rattle.std.specs.Prelude.{◌≡◌, ◌≢◌, ◌<◌, ◌++◌, ◌∷◌, ℕ, [], Some, None, length, map, IfOk, IfErr, OnOk, OnErr};
 ghost use Rattle.patch_model.specs.Execution.{Execution, extended};
+ghost use Rattle.patch_model.specs.Refusing.{why_not_made};
 ghost use Rattle.patch_model.specs.State.{entries_of};
+ghost use Rattle.patch_model.specs.Step.{Create};
 ghost use Rattle.patch_cache.specs.Meaning.{Represents};
 ghost use Rattle.patch_cache.specs.Refusals.{create_cause};
 ghost use Rattle.patch_group.specs.Groups.{AreApart, with_patch, after_of, entered, patch_of, why_not_patched, IsCauseOf};
@@ -69,22 +71,51 @@ impl<A: Allocator + Copy> Groups<A> {
         ensures refused { OnErr result (self.new ≡ self.old) }
         ensures refused_cache { OnErr result (cache.new ≡ cache.old) }
     {
-        let names = self.names_of(writer, after)?;
+        let before = self.after_of(writer)?;
+        if before.is_empty() {
+            return self.create_naming(cache, writer, block, start, bytes, after, undo);
+        }
+        let names = self.both(after, before.as_slice())?;
+        self.create_naming(cache, writer, block, start, bytes, names.as_slice(), undo)
+    }
+
+    /// Makes a patch of this writer that names just these.
+    fn create_naming(
+        &mut self,
+        cache: &mut Cache<A>,
+        writer: WriterNo,
+        block: BlockNo,
+        start: usize,
+        bytes: &[u8],
+        names: &[PatchNo],
+        undo: Undo,
+    ) -> Result<PatchNo, CreateRefusal>
+        ensures made { (run : Execution) → Represents cache.old run → OnOk result
+            (Represents cache.new (extended run (Create block start bytes.now names.now undo))) }
+        ensures number { (run : Execution) → Represents cache.old run → IfOk result (λ no. no ≡ length (entries_of run)) }
+        ensures allowed { (run : Execution) → Represents cache.old run
+            → OnOk result (why_not_made (length run.first) (entries_of run) block start bytes.now names.now ≡ None) }
+        ensures joined { IfOk result (λ no. self.new ≡ with_patch self.old (Some writer) no) }
+        ensures cause { (run : Execution) → Represents cache.old run → IfErr result (λ refusal.
+            IsCauseOf (why_not_made (length run.first) (entries_of run) block start bytes.now names.now) (create_cause refusal)) }
+        ensures trace { OnOk result (cache.new.trace ≡ cache.old.trace ++ Create block start bytes.now names.now undo ∷ []) }
+        ensures refused { OnErr result (self.new ≡ self.old) }
+        ensures refused_cache { OnErr result (cache.new ≡ cache.old) }
+    {
         make_room(&mut self.groups, self.engaged.as_slice(), writer)?;
-        let no = cache.create(block, start, bytes, names.as_slice(), undo)?;
+        let no = cache.create(block, start, bytes, names, undo)?;
         enter(&mut self.groups, self.engaged.as_slice(), writer, no);
         Ok(no)
     }
 
-    /// What a patch of the writer names.
-    fn names_of(&self, writer: WriterNo, after: &[PatchNo]) -> Result<Vec<PatchNo, A>, OutOfMemory>
-        ensures { IfOk result (λ names. names.items ≡ after.now ++ after_of self.now writer) }
+    /// The one numbers and the others behind them.
+    fn both(&self, these: &[PatchNo], those: &[PatchNo]) -> Result<Vec<PatchNo, A>, OutOfMemory>
+        ensures { IfOk result (λ all. all.items ≡ these.now ++ those.now) }
     {
-        let before = self.after_of(writer)?;
-        let mut names = Vec::with_capacity(self.alloc, after.len())?;
-        names.extend_from_slice(after)?;
-        names.extend_from_slice(before.as_slice())?;
-        Ok(names)
+        let mut all = Vec::with_capacity(self.alloc, these.len())?;
+        all.extend_from_slice(these)?;
+        all.extend_from_slice(those)?;
+        Ok(all)
     }
 }
 
