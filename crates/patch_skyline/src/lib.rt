@@ -2,5 +2,7 @@
 #![tactic(auto)]
 
 mod skylines;
+#[cfg(test)]
+mod tests;
 
 pub use skylines::{Skyline, Span};
