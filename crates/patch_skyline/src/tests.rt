@@ -7,31 +7,34 @@ use std::test::Fail;
 /// How many bytes the block of these tests has.
 const BYTES: usize = 64;
 
-/// The patch that wrote each byte last.
-type Writers = [Option<PatchNo>; BYTES];
+/// Who wrote the byte last.
+fn writer_at(line: &Skyline, at: usize) -> Option<PatchNo> {
+    let from = at.min(BYTES);
+    match line.tops(from, from + 1).first() {
+        Some(span) => Some(span.no),
+        None => None,
+    }
+}
+
+/// Whether these are the last writers, byte by byte.
+fn agrees(line: &Skyline, writers: &[Option<PatchNo>]) -> bool {
+    for (at, writer) in writers.iter().enumerate() {
+        if writer_at(line, at) != *writer {
+            return false;
+        }
+    }
+    true
+}
 
 /// Notes the span's patch as the last writer of its bytes.
-fn note(writers: &mut Writers, top: &Span) {
-    for at in top.start.min(BYTES)..top.stop.min(BYTES) {
+fn note(writers: &mut [Option<PatchNo>], top: &Span) {
+    for at in top.start.min(writers.len())..top.stop.min(writers.len()) {
         writers[at] = Some(top.no);
     }
 }
 
-/// Whether just the spans' patches wrote a byte from `start` on last, before `stop`.
-fn agree(writers: &Writers, spans: &[Span], start: usize, stop: usize) -> bool {
-    let written = &writers[start.min(BYTES)..stop.min(BYTES).max(start.min(BYTES))];
-    let all_told = written.iter().all(|writer| match writer {
-        Some(no) => spans.iter().any(|span| span.no == *no),
-        None => true,
-    });
-    let none_invented = spans.iter().all(|span| written
-        .iter()
-        .any(|writer| *writer == Some(span.no)));
-    all_told && none_invented
-}
-
-/// A skyline of two hundred spans whose places follow a fixed row of numbers: whether it agrees with the writers noted, wherever it is asked.
-fn compare(line: &mut Skyline, writers: &mut Writers) -> Result<bool, AllocError> {
+/// Lays two hundred spans, whose places follow a fixed row of numbers. Whether the skyline agreed with the writers noted each time.
+fn lay_many(line: &mut Skyline, writers: &mut [Option<PatchNo>]) -> Result<bool, AllocError> {
     let mut row: u32 = 7;
     let mut agreed = true;
     for number in 0..200 {
@@ -43,9 +46,9 @@ fn compare(line: &mut Skyline, writers: &mut Writers) -> Result<bool, AllocError
             stop,
             no: PatchNo(number),
         };
-        agreed = agreed && agree(writers, line.tops(start, stop), start, stop);
         line.lay(top)?;
         note(writers, &top);
+        agreed = agreed && agrees(line, writers);
     }
     Ok(agreed)
 }
@@ -54,9 +57,8 @@ fn compare(line: &mut Skyline, writers: &mut Writers) -> Result<bool, AllocError
 fn spans_tell_the_last_writers(rt: HostRuntime) -> Result<(), Fail> {
     let mut line = Skyline::new(rt.alloc());
     let mut writers = [None; BYTES];
-    assert!(rt; line.tops(0, BYTES).is_empty());
-    assert_eq!(rt; compare(&mut line, &mut writers), Ok(true));
-    assert!(rt; agree(&writers, line.tops(0, BYTES), 0, BYTES));
+    assert!(rt; agrees(&line, writers.as_slice()));
+    assert!(rt; lay_many(&mut line, writers.as_mut_slice())?);
     line.clear();
     assert!(rt; line.tops(0, BYTES).is_empty());
     Ok(())
@@ -70,7 +72,8 @@ fn one_span_is_the_only_top(rt: HostRuntime) -> Result<(), Fail> {
         no: PatchNo(3),
     };
     let line = Skyline::of(rt.alloc(), top)?;
-    assert_eq!(rt; line.tops(7, 20), [top].as_slice());
+    assert_eq!(rt; line.tops(7, 20).len(), 1);
+    assert_eq!(rt; writer_at(&line, 7), Some(PatchNo(3)));
     assert!(rt; line.tops(8, 20).is_empty());
     assert!(rt; line.tops(0, 4).is_empty());
     Ok(())
