@@ -65,10 +65,3 @@ settled cs rest low high lower upper both drawn less within upper_is rest_is low
     ap (λ z. in_its_place z upper drawn) l ∙ ap (λ z. in_its_place (slice_index_or cs low no_class) z drawn) u in
     ap (λ ds. slice_set ds low both) rest_is ∙ ap (λ z. slice_set (remove cs high) low z) (became here ∙ place)
     ∙ set-remove cs low high (in_its_place (slice_index_or cs low no_class) (slice_index_or cs high no_class) drawn) less
-
--- the room that numbers leave which were put behind others
-pub room-left : (room most space space_now : ℕ) (xs more now : List ℕ) → now ≡ xs ++ more → room ≤ space - length xs → space ≤ space_now
-    → length more ≤ most → room - most ≤ space_now - length now
-room-left room most space space_now xs more now is had grown fits =
-    let l : length now ≡ length xs + length more = ap length is ∙ length-append xs more in
-    omega (arith, l)

@@ -8,3 +8,5 @@ pub mod Answers
 pub mod Changes
 pub mod View
 pub mod Laws
+pub mod NumberLists
+pub mod Held

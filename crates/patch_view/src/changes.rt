@@ -13,8 +13,9 @@ ghost use Rattle.patch_view.specs.Meaning.{Represents, IsGathered};
 ghost use Rattle.patch_view.specs.Answers.{IsPatch};
 ghost use Rattle.patch_view.specs.Changes.{Lays, Unlays, Hardens, Settles, JoinsPlaces, JoinsBy, Joins, DepartsEach};
 
-use crate::classes::{Class, Drawn, Turn, sort};
+use crate::classes::{Class, Drawn, Turn};
 use crate::members::Members;
+use crate::number_lists::NumberList;
 use crate::places::Places;
 use crate::spans::swap_span;
 use crate::states::BlockState;
@@ -89,30 +90,27 @@ impl<A: Allocator> BlockState<A> {
         self.lay_with(no, start, bytes, named)
     }
 
-    /// Those of these numbers that may be members of the block's classes, rising. Where there are none it takes no memory.
-    fn names_of(&self, after: &[PatchNo]) -> Result<Vec<PatchNo, A>, OutOfMemory>
+    /// Those of these numbers that may be members of the block's classes, rising. No more than two take no memory.
+    fn names_of(&self, after: &[PatchNo]) -> Result<NumberList<A>, OutOfMemory>
     where
         A: Clone,
         ensures kept { IfOk result (λ kept. KeepsNames self.now after.now kept.items) }
         ensures rising { IfOk result (λ kept. IsNonDecreasing kept.items) }
     {
         let mut kept = self.kept_of(after)?;
-        if kept.len() < 2 {
-            return Ok(kept);
-        }
-        sort(kept.as_mut_slice());
+        kept.sort();
         Ok(kept)
     }
 
-    fn kept_of(&self, after: &[PatchNo]) -> Result<Vec<PatchNo, A>, OutOfMemory>
+    fn kept_of(&self, after: &[PatchNo]) -> Result<NumberList<A>, OutOfMemory>
     where
         A: Clone,
         ensures { IfOk result (λ kept. KeepsNames self.now after.now kept.items) }
     {
-        let mut kept = Vec::new(self.bytes.allocator().clone()?);
+        let mut kept = NumberList::none();
         for no in after {
             if self.may_have(*no) {
-                kept.push(*no)?;
+                kept.push(self.bytes.allocator(), *no)?;
             }
         }
         Ok(kept)
@@ -124,7 +122,7 @@ impl<A: Allocator> BlockState<A> {
         no: PatchNo,
         start: usize,
         bytes: &[u8],
-        all: Vec<PatchNo, A>,
+        all: NumberList<A>,
     ) -> Result<(), OutOfMemory>
     where
         A: Clone,
@@ -135,10 +133,9 @@ impl<A: Allocator> BlockState<A> {
     {
         self.classes.reserve(1)?;
         let stop = start + bytes.len();
-        let members = Vec::from_slice(self.bytes.allocator().clone()?, &[no])?;
         let mut saved = Vec::from_slice(self.bytes.allocator().clone()?, bytes)?;
         swap_span(self.bytes.as_mut_slice(), start, saved.as_mut_slice());
-        let class = Class::new(no, members, start, stop, saved, all);
+        let class = Class::new(no, start, stop, saved, all);
         self.members = self.members.with(no, self.classes.is_empty());
         // Never refused: the room for it was made above.
         self.classes.push(class).unwrap();

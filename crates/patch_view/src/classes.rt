@@ -1,11 +1,12 @@
 //! What a block keeps of a live class.
-ghost use Rattle.std.specs.Prelude.{◌≡◌, ◌||◌, ◌+◌, ◌≤◌, ◌++◌, length, IfOk, IsTrue, IsPermutation, true, false, [], min, max, replicate, ◌-◌, vec_capacity};
+ghost use Rattle.std.specs.Prelude.{◌≡◌, ◌||◌, ◌+◌, ◌≤◌, ◌++◌, ◌∷◌, length, IfOk, IsTrue, IsPermutation, true, false, [], min, max, replicate, ◌-◌};
 ghost use Rattle.std.specs.List.{list_any, list_all};
 ghost use Rattle.std.specs.List.Sorted.{IsNonDecreasing};
 ghost use Rattle.patch_model.specs.Entry.{is_among};
 ghost use Rattle.patch_view.specs.State.{is_takeable, uncovered, laid_on, exchanged_with, leaves_taken, meets, names, hardened, departed, departed_among, MayHaveDeparted, merged, IsMerged, IsDrawn};
 ghost use Rattle.patch_view.specs.State.{follow_on, has_room_for, with_lists_of, in_its_place, with_lists, MembersOf};
 
+use crate::number_lists::{NumberList, sort};
 use crate::spans::swap_span;
 use patch_model::{BLOCK, OutOfMemory, PatchNo};
 use std::alloc::{Allocator, Global};
@@ -36,11 +37,11 @@ impl Turn {
 #[derive(Drop)]
 pub(crate) struct Class<A: Allocator = Global> {
     name: PatchNo,
-    members: Vec<PatchNo, A>,
+    members: NumberList<A>,
     start: usize,
     stop: usize,
     saved: Vec<u8, A>,
-    after: Vec<PatchNo, A>,
+    after: NumberList<A>,
     flying: bool,
     hard: bool,
     taken: bool,
@@ -48,7 +49,7 @@ pub(crate) struct Class<A: Allocator = Global> {
 }
 
 impl<A: Allocator> Model for Class<A> {
-    ghost use Rattle.std.specs.Prelude.{◌+◌, ◌-◌, ◌≤◌, length, vec_capacity};
+    ghost use Rattle.std.specs.Prelude.{◌+◌, ◌≤◌, length};
     ghost use Rattle.std.specs.List.Sorted.{IsNonDecreasing};
     ghost use Rattle.patch_view.specs.State.{Class as Seen};
 
@@ -69,8 +70,7 @@ impl<A: Allocator> Model for Class<A> {
 
     ghost invariant = { λ c. (c.start + length c.saved.items ≤ c.stop) × (c.stop ≤ 4096)
         × IsNonDecreasing c.members.items × IsNonDecreasing c.after.items
-        × (c.room ≤ vec_capacity c.members - length c.members.items)
-        × (c.room ≤ vec_capacity c.after - length c.after.items) };
+        × (c.room ≤ c.members.spare) × (c.room ≤ c.after.spare) };
 }
 
 /// Two classes as one. A growing one has no lists of its own: in the block, the lower class's have room for the higher one's.
@@ -123,7 +123,7 @@ impl<A: Allocator> Class<A> {
     pub(crate) fn includes(&self, no: PatchNo) -> bool
         ensures { result ≡ is_among self.now.members no }
     {
-        is_listed(&self.members, no)
+        is_listed(self.members.as_slice(), no)
     }
 
     fn includes_any(&self, numbers: &[PatchNo]) -> bool
@@ -135,7 +135,7 @@ impl<A: Allocator> Class<A> {
     fn names(&self, no: PatchNo) -> bool
         ensures { result ≡ is_among self.now.after no }
     {
-        is_listed(&self.after, no)
+        is_listed(self.after.as_slice(), no)
     }
 
     fn names_any(&self, numbers: &[PatchNo]) -> bool
@@ -162,28 +162,26 @@ impl<A: Allocator> Class<A> {
         ensures { result ≡ names self.now other.now }
     {
         if self.after.len() <= other.members.len() {
-            other.includes_any(&self.after)
+            other.includes_any(self.after.as_slice())
         } else {
-            self.names_any(&other.members)
+            self.names_any(other.members.as_slice())
         }
     }
 
     /// The record of a class of one undoable patch, in memory and applied.
     pub(crate) fn new(
         no: PatchNo,
-        members: Vec<PatchNo, A>,
         start: usize,
         stop: usize,
         saved: Vec<u8, A>,
-        after: Vec<PatchNo, A>,
+        after: NumberList<A>,
     ) -> Class<A>
         requires long { start + length saved.items ≤ stop }
         requires fits { stop ≤ BLOCK }
-        requires members { IsNonDecreasing members.items }
         requires after { IsNonDecreasing after.items }
         ensures { result ≡ record {
           name = no;
-          members = members.items;
+          members = no ∷ [];
           start = start;
           stop = stop;
           saved = saved.items;
@@ -196,7 +194,7 @@ impl<A: Allocator> Class<A> {
     {
         Class {
             name: no,
-            members,
+            members: NumberList::one(no),
             start,
             stop,
             saved,
@@ -216,8 +214,8 @@ impl<A: Allocator> Class<A> {
     {
         high.members.len() <= self.room
             && high.after.len() <= self.room
-            && follow_on(&self.members, &high.members)
-            && follow_on(&self.after, &high.after)
+            && follow_on(self.members.as_slice(), high.members.as_slice())
+            && follow_on(self.after.as_slice(), high.after.as_slice())
     }
 
     /// Draws this class and a higher one up as one.
@@ -245,8 +243,10 @@ impl<A: Allocator> Class<A> {
         let most_members = self.members.len().saturating_add(high.members.len());
         let most_names = self.after.len().saturating_add(high.after.len());
         let room = most_members.max(most_names);
-        let members = both_lists(alloc.clone()?, &self.members, &high.members, room)?;
-        let after = both_lists(alloc.clone()?, &self.after, &high.after, room)?;
+        let (these, those) = (self.members.as_slice(), high.members.as_slice());
+        let members = NumberList::from_vec(both_lists(alloc.clone()?, these, those, room)?);
+        let (these, those) = (self.after.as_slice(), high.after.as_slice());
+        let after = NumberList::from_vec(both_lists(alloc.clone()?, these, those, room)?);
         let saved = vec![in alloc; 0u8; self.width_with(high)]?;
         Ok(self.merged_with(high, members, after, saved))
     }
@@ -257,10 +257,8 @@ impl<A: Allocator> Class<A> {
         A: Clone,
         ensures { IfOk result (λ c. c ≡ merged self.now high.now [] [] c.room) }
     {
-        let members = Vec::new(alloc.clone()?);
-        let after = Vec::new(alloc.clone()?);
         let saved = vec![in alloc; 0u8; self.width_with(high)]?;
-        Ok(self.merged_with(high, members, after, saved))
+        Ok(self.merged_with(high, NumberList::none(), NumberList::none(), saved))
     }
 
     fn width_with(&self, high: &Class<A>) -> usize
@@ -273,8 +271,8 @@ impl<A: Allocator> Class<A> {
     fn merged_with(
         &self,
         high: &Class<A>,
-        members: Vec<PatchNo, A>,
-        after: Vec<PatchNo, A>,
+        members: NumberList<A>,
+        after: NumberList<A>,
         zeros: Vec<u8, A>,
     ) -> Class<A>
         requires members { IsNonDecreasing members.items }
@@ -289,7 +287,7 @@ impl<A: Allocator> Class<A> {
         let mut saved = zeros;
         saved[upper..upper + high.saved.len()].copy_from_slice(&high.saved);
         saved[lower..lower + self.saved.len()].copy_from_slice(&self.saved);
-        let room = spare(&members).min(spare(&after));
+        let room = members.spare().min(after.spare());
         Class {
             name: lesser(self.name, high.name),
             members,
@@ -327,7 +325,8 @@ impl<A: Allocator> Class<A> {
         ensures { result
             ≡ list_all (λ n. is_among low.now.members n || is_among high.now.members n) self.now.members }
     {
-        self.members
+        let members = self.members.as_slice();
+        members
             .iter()
             .all(|n| low.includes(*n) || high.includes(*n))
     }
@@ -339,8 +338,8 @@ impl<A: Allocator> Class<A> {
     {
         if self.has_room_for(high) {
             let most = high.members.len().max(high.after.len());
-            put_behind(&mut self.members, &high.members);
-            put_behind(&mut self.after, &high.after);
+            self.members.put_behind(high.members.as_slice());
+            self.after.put_behind(high.after.as_slice());
             self.room -= most;
         }
     }
@@ -448,31 +447,6 @@ fn follow_on(these: &[PatchNo], those: &[PatchNo]) -> bool
         return true;
     }
     these[these.len() - 1] <= those[0]
-}
-
-/// How many more numbers a list takes without memory.
-fn spare<A: Allocator>(numbers: &Vec<PatchNo, A>) -> usize
-    ensures { result ≡ vec_capacity numbers.now - length numbers.now.items }
-{
-    numbers.capacity().saturating_sub(numbers.len())
-}
-
-/// Puts numbers behind those of a list that has room for them.
-fn put_behind<A: Allocator>(numbers: &mut Vec<PatchNo, A>, more: &[PatchNo])
-    requires { length more.now ≤ vec_capacity numbers.old - length numbers.old.items }
-    ensures items { numbers.new.items ≡ numbers.old.items ++ more.now }
-    ensures capacity { vec_capacity numbers.old ≤ vec_capacity numbers.new }
-{
-    // Never refused, since the room is there.
-    let _ = numbers.extend_from_slice(more);
-}
-
-/// Puts the numbers into rising order.
-pub(crate) fn sort(numbers: &mut [PatchNo])
-    ensures same { IsPermutation numbers.old numbers.new }
-    ensures rising { IsNonDecreasing numbers.new }
-{
-    numbers.sort_unstable();
 }
 
 fn lesser(a: PatchNo, b: PatchNo) -> PatchNo

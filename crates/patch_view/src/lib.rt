@@ -9,6 +9,7 @@ mod changes;
 mod classes;
 pub mod laws;
 mod members;
+mod number_lists;
 mod places;
 mod refusals;
 mod spans;

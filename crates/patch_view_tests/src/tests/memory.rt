@@ -45,6 +45,40 @@ fn memory_is_given_back(rt: HostRuntime) -> Result<(), Fail> {
     give_memory_back(&rt, &heap, &mut block)
 }
 
+// Lays a patch that names these, and makes it hard.
+fn lay_hard(
+    block: &mut BlockState<&LocalHeap>,
+    no: u32,
+    after: &[PatchNo],
+) -> Result<(), OutOfMemory> {
+    block.lay(PatchNo(no), 0, &[1; 500], after)?;
+    block.harden();
+    Ok(())
+}
+
+// The lists of a patch with no more than two names take no memory, and those of one with three do.
+fn keep_few_numbers(
+    rt: &impl Abort,
+    heap: &LocalHeap,
+    block: &mut BlockState<&LocalHeap>,
+) -> Result<(), Fail> {
+    lay_hard(block, 0, &[])?;
+    let one = heap.used();
+    lay_hard(block, 1, &[PatchNo(0)])?;
+    lay_hard(block, 2, &[PatchNo(1), PatchNo(0)])?;
+    assert_eq!(rt; heap.used(), one);
+    lay_hard(block, 3, &[PatchNo(2), PatchNo(1), PatchNo(0)])?;
+    assert!(rt; one < heap.used());
+    Ok(())
+}
+
+#[test]
+fn few_numbers_take_no_memory(rt: HostRuntime) -> Result<(), Fail> {
+    let heap = LocalHeap::new(rt.alloc(), 16384)?;
+    let mut block = bare(&heap)?;
+    keep_few_numbers(&rt, &heap, &mut block)
+}
+
 fn lay_two_that_touch(block: &mut BlockState<&LocalHeap>) -> Result<(), OutOfMemory> {
     block.lay(PatchNo(0), 0, &[1; 500], &[])?;
     block.lay(PatchNo(1), 400, &[2; 500], &[])

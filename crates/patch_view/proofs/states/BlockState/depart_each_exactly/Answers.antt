@@ -1,7 +1,8 @@
-use Rattle.std.proofs.Common.{◌<◌, ◌∙◌, set, length, ap, sym, subst, arith}
+use Rattle.std.proofs.Common.{◌≡◌, ◌<◌, ◌≤◌, ◌++◌, ◌∙◌, map, take, drop, set, length, ap, sym, subst, arith}
+use Rattle.std.proofs.lemmas.Grind.{common_steps}
 use Rattle.std.proofs.lemmas.List.{with_items_is}
 use Rattle.std.proofs.lemmas.List.Edits.{map_over_more}
-use Rattle.patch_view.specs.State.{departed_among, TakenWithin, KnownApart}
+use Rattle.patch_view.specs.State.{Block, departed_among, with_departed, TakenWithin, KnownApart}
 use Rattle.patch_view.proofs.Taken.{departed_within}
 use Rattle.patch_view.proofs.Apart.{departed_apart}
 use Rattle.patch_view.proofs.Together.{more_departed, has_departed}
@@ -17,6 +18,19 @@ loop-class-preserved g c =
       more_departed c.args.numbers.now c.deref_mut-class-items.result.now c.loop-class.class-items c.loop-class.class-index c.class-item.result _ within
           c.depart_among.ensures.named c.loop-class.invariant.1,
     )
+
+pub returns-clause-exact : goal.returns-clause-exact
+returns-clause-exact g c rising =
+    let d = c.loop-class.invariant.1 in
+    let f = departed_among c.args.numbers.now in
+    let first = c.deref_mut-class-items.ensures.value in
+    let over = c.loop-class-test.false in
+    let long : length c.deref_mut-class-items.result.now ≤ c.loop-class.class-index = omega (arith, d.long) in
+    let all : map f (take c.loop-class.class-index c.deref_mut-class-items.result.now) ++ drop c.loop-class.class-index c.deref_mut-class-items.result.now
+    ≡ map f c.deref_mut-class-items.result.now = grind (arith, common_steps) in
+    ap (λ cs. let b : Block = record { bytes = c.self.inside.bytes.items; classes = cs } in b)
+    (with_items_is c.self.inside.classes c.loop-class.class-items (d.long ∙ c.deref_mut-class-items.ensures.len) ∙ c.loop-class.invariant.0 rising ∙ all ∙ ap (map f) first)
+    ∙ ap (λ b. with_departed b c.args.numbers.now) c.self.view_is
 
 pub returns-clause-named : goal.returns-clause-named
 returns-clause-named g c =

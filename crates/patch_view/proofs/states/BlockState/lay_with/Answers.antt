@@ -12,7 +12,7 @@ invariant_of-self-2 g c =
     ∙ c.swap_span.auto.buffer ∙ ap length c.as_mut_slice.ensures.value ∙ c.self.invariant.0 in
     let items : c.push.new.self.items ≡ c.self.inside.classes.items ++ c.new-class.result ∷ [] = search rules in
     let off : c.new-class.result.taken ≡ false = ap (λ (k : Class). k.taken) c.new-class.ensures in
-    let one : c.new-class.result.members ≡ c.args.no ∷ [] = ap (λ (k : Class). k.members) c.new-class.ensures ∙ c.in_ok-members.ensures.items in
+    let one : c.new-class.result.members ≡ c.args.no ∷ [] = ap (λ (k : Class). k.members) c.new-class.ensures in
     let first : c.is_empty.result ≡ (length c.self.inside.classes.items == 0) = search rules in
     let w = c.with-self-inside.ensures in (
       bytes,

@@ -1,4 +1,6 @@
-use Rattle.std.proofs.Common.{◌-◌, ap, ◌∙◌, length}
+use Rattle.std.proofs.Common.{◌-◌, ap, ◌∙◌, length, rules, arith}
+use Rattle.std.proofs.lemmas.Grind.{common_steps}
+use Rattle.patch_view.proofs.states.BlockState.unlay_exactly.Goals.{in-Many-2, in-Nothing-2}
 use Rattle.std.proofs.lemmas.List.{with_items_is}
 use Rattle.patch_view.proofs.Apart.{taken_apart}
 use Rattle.patch_view.proofs.Taken.{front_within}
@@ -13,3 +15,6 @@ invariant_of-self g c =
       rw rest (front_within c.self.inside.classes.items (c.self.inside.classes.len - 1) c.self.inside.taken c.self.invariant.1),
       rw rest (taken_apart c.self.inside.classes.items (c.self.inside.classes.len - 1) c.self.inside.members c.self.invariant.2),
     )
+
+pub returns-in-Some : goal.returns-in-Some
+returns-in-Some g c = elim c.match-class-2.branch [ in-Many-2 w ↦ rw w.self-is (grind (arith, common_steps)) | in-Nothing-2 w ↦ rw w.self-is (grind (arith, common_steps)) ]
