@@ -22,6 +22,10 @@ joined_class c d = record c {
 abbrev pub absorbed_at : Slots → ℕ → Class → Slots
 absorbed_at slots key d = option_map_or (λ c. slice_set slots key (Some (joined_class c d))) (class_at slots key) slots
 
+-- with this class at the key, if there is one
+abbrev pub replaced_at : Slots → ℕ → Class → Slots
+replaced_at slots key d = option_map_or (λ c. slice_set slots key (Some d)) (class_at slots key) slots
+
 -- the numbers that are among these lead to the key, and the others where they led
 abbrev pub AreRedirected : List ℕ → ℕ → Numbers → Numbers → Type 0
 AreRedirected members key old new = (n : ℕ) → find new n ≡ (if is_among members n then option_map (λ k. key) (find old n) else find old n)

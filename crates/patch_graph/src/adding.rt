@@ -14,6 +14,7 @@ ghost use Rattle.patch_graph.specs.Skyline.{spans_of};
 use crate::block_keys::{BlockKeys, list, unlist};
 use crate::classes::Class;
 use crate::memo::Memo;
+use crate::number_list::NumberList;
 use crate::register::{Classes, Keys, Register, enter};
 use crate::scratch::Scratch;
 use patch_skyline::Span;
@@ -40,8 +41,8 @@ fn make_room<A: Allocator + Copy>(
 }
 
 /// Puts the numbers of the spans behind the others.
-fn push_numbers<A: Allocator>(spans: &[Span], all: &mut Vec<PatchNo, A>) -> Result<(), AllocError>
-    ensures { OnOk result (all.new.items ≡ all.old.items ++ map (λ s. s.no) spans.now) }
+fn push_numbers<A: Allocator>(spans: &[Span], all: &mut NumberList<A>) -> Result<(), AllocError>
+    ensures { OnOk result (all.new ≡ all.old ++ map (λ s. s.no) spans.now) }
 {
     for span in spans {
         all.push(span.no)?;
@@ -58,11 +59,11 @@ pub fn dependencies<A: Allocator>(
     start: usize,
     stop: usize,
     after: &[PatchNo],
-) -> Result<Vec<PatchNo, A>, AllocError>
+) -> Result<NumberList<A>, AllocError>
     requires { start < stop }
-    ensures { IfOk result (λ all. AreDependencies (spans_of register.now.tops block) start stop after.now all.items) }
+    ensures { IfOk result (λ all. AreDependencies (spans_of register.now.tops block) start stop after.now all) }
 {
-    let mut all = Vec::from_slice(alloc, after)?;
+    let mut all = NumberList::from_slice(alloc, after)?;
     push_numbers(tops(&register.skylines, block, start, stop), &mut all)?;
     Ok(all)
 }

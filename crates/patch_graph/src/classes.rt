@@ -1,11 +1,12 @@
 //! Live classes.
-ghost use Rattle.std.specs.Prelude.{◌≡◌, IfOk};
+ghost use Rattle.std.specs.Prelude.{◌≡◌};
 ghost use Rattle.patch_graph.specs.Showing.{shown};
 ghost use Rattle.patch_graph.specs.Adding.{new_class};
 ghost use Rattle.patch_graph.specs.Ready.{is_candidate};
 
+use crate::number_list::NumberList;
 use patch_model::{BlockNo, Mark, PatchNo};
-use std::alloc::{AllocError, Allocator, Global};
+use std::alloc::{Allocator, Global};
 use std::marker::Model;
 
 /// A live class: its members are of one block, alike in mark and hardness, and its span has no gap.
@@ -13,7 +14,7 @@ use std::marker::Model;
 pub struct Class<A: Allocator = Global> {
     /// The least of its members.
     pub name: PatchNo,
-    pub members: Vec<PatchNo, A>,
+    pub members: NumberList<A>,
     pub block: BlockNo,
     pub mark: Mark,
     pub hard: bool,
@@ -21,7 +22,7 @@ pub struct Class<A: Allocator = Global> {
     pub start: usize,
     pub stop: usize,
     /// Patches of the classes that it depends on directly, live or not; some of them may be its own by now.
-    pub after: Vec<PatchNo, A>,
+    pub after: NumberList<A>,
 }
 
 impl<A: Allocator> Model for Class<A> {
@@ -31,13 +32,13 @@ impl<A: Allocator> Model for Class<A> {
 
     ghost view = { λ c. record {
       name = c.name;
-      members = c.members.items;
+      members = c.members;
       block = c.block;
       mark = c.mark;
       hard = c.hard;
       start = c.start;
       stop = c.stop;
-      after = c.after.items;
+      after = c.after;
     } };
 }
 
@@ -62,21 +63,38 @@ impl<A: Allocator> Class<A> {
         block: BlockNo,
         start: usize,
         stop: usize,
-        after: Vec<PatchNo, A>,
+        after: NumberList<A>,
         hard: bool,
-    ) -> Result<Class<A>, AllocError>
-        ensures { IfOk result (λ class. class ≡ new_class no block start stop after.items hard) }
+    ) -> Class<A>
+        ensures { result ≡ new_class no block start stop after hard }
     {
-        Ok(Class {
+        Class {
             name: no,
-            members: Vec::from_slice(alloc, &[no])?,
+            members: NumberList::of(alloc, no),
             block,
             mark: Mark::Memory,
             hard,
             start,
             stop,
             after,
-        })
+        }
+    }
+
+    /// A class of no patch, which takes no memory.
+    pub fn bare(alloc: A) -> Class<A>
+    where
+        A: Copy,
+    {
+        Class {
+            name: PatchNo(0),
+            members: NumberList::new(alloc),
+            block: BlockNo(0),
+            mark: Mark::Durable,
+            hard: false,
+            start: 0,
+            stop: 0,
+            after: NumberList::new(alloc),
+        }
     }
 
     /// What is shown of it.

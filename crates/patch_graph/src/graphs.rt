@@ -198,7 +198,7 @@ impl<A: Allocator + Copy> Graph<A> {
     {
         let deps = dependencies(self.alloc, &self.register, block, start, stop, after)?;
         let hard = is_hard(&self.register, block, undo, deps.as_slice());
-        Class::alone(
+        Ok(Class::alone(
             self.alloc,
             PatchNo(self.register.made()),
             block,
@@ -206,7 +206,7 @@ impl<A: Allocator + Copy> Graph<A> {
             stop,
             deps,
             hard,
-        )
+        ))
     }
 
     /// Makes one class of the classes of two patches, where that is legal. Its name.

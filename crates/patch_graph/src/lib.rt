@@ -13,6 +13,7 @@ mod marks;
 mod memo;
 mod merging;
 mod notes;
+mod number_list;
 mod queries;
 mod ready;
 mod register;

@@ -2,7 +2,7 @@
 ghost use Rattle.std.specs.Prelude.{◌≡◌, ◌≢◌, ℕ, List, Some, length, min, IfOk, OnOk, OnErr};
 ghost use Rattle.std.specs.Option.{option_map};
 ghost use Rattle.patch_graph.specs.State.{class_at, find};
-ghost use Rattle.patch_graph.specs.Merging.{joined_class, absorbed_at, AreRedirected, HasJoined, Merges};
+ghost use Rattle.patch_graph.specs.Merging.{joined_class, absorbed_at, replaced_at, AreRedirected, HasJoined, Merges};
 ghost use Rattle.patch_graph.specs.BlockKeys.{AreListed};
 
 use crate::block_keys::{BlockKeys, unlist};
@@ -10,38 +10,7 @@ use crate::classes::Class;
 use crate::register::{Classes, Keys, Register};
 use patch_model::PatchNo;
 use std::alloc::{AllocError, Allocator};
-
-/// The same class again.
-fn copy<A: Allocator>(class: &Class<A>, alloc: A) -> Result<Class<A>, AllocError>
-where
-    A: Copy,
-    ensures { IfOk result (λ copy. copy ≡ class.now) }
-{
-    Ok(Class {
-        name: class.name,
-        members: Vec::from_slice(alloc, class.members.as_slice())?,
-        block: class.block,
-        mark: class.mark,
-        hard: class.hard,
-        start: class.start,
-        stop: class.stop,
-        after: Vec::from_slice(alloc, class.after.as_slice())?,
-    })
-}
-
-/// The class at a key again.
-fn copy_at<A: Allocator + Copy>(
-    alloc: A,
-    register: &Register<A>,
-    key: usize,
-) -> Result<Option<Class<A>>, AllocError>
-    ensures { IfOk result (λ copy. copy ≡ class_at register.now.slots key) }
-{
-    match register.class_at(key) {
-        Some(class) => Ok(Some(copy(class, alloc)?)),
-        None => Ok(None),
-    }
-}
+use std::mem;
 
 /// The lesser number.
 fn lesser(a: PatchNo, b: PatchNo) -> PatchNo
@@ -55,16 +24,12 @@ fn absorb<A: Allocator>(class: &mut Class<A>, other: &Class<A>) -> Result<(), Al
     ensures joined { OnOk result (class.new ≡ joined_class class.old other.now) }
     ensures refused { OnErr result (class.new ≡ class.old) }
 {
-    class.members.reserve(other.members.len())?;
-    class.after.reserve(other.after.len())?;
-    class
-        .members
-        .extend_from_slice(other.members.as_slice())
-        .unwrap();
-    class
-        .after
-        .extend_from_slice(other.after.as_slice())
-        .unwrap();
+    let count = class.members.len();
+    class.members.extend_from_slice(other.members.as_slice())?;
+    if let Err(error) = class.after.extend_from_slice(other.after.as_slice()) {
+        class.members.truncate(count);
+        return Err(error);
+    }
     class.name = lesser(class.name, other.name);
     class.start = class.start.min(other.start);
     class.stop = class.stop.max(other.stop);
@@ -105,6 +70,21 @@ fn redirect<A: Allocator>(keys: &mut Keys<A>, members: &[PatchNo], key: usize)
     }
 }
 
+/// Puts a class in the place of the one at the key, if there is one, and gives that.
+fn replace_at<A: Allocator>(
+    classes: &mut Classes<A>,
+    key: usize,
+    class: Class<A>,
+) -> Option<Class<A>>
+    ensures was { result ≡ class_at classes.old.slots key }
+    ensures put { classes.new.slots ≡ replaced_at classes.old.slots key class }
+{
+    match classes.get_mut(key) {
+        Some(place) => Some(mem::replace(place, class)),
+        None => None,
+    }
+}
+
 /// Puts the class at the key `gone` into that at the key `keep`.
 fn join<A: Allocator + Copy>(
     alloc: A,
@@ -120,8 +100,13 @@ fn join<A: Allocator + Copy>(
     ensures length { length register.new.slots ≡ length register.old.slots }
     ensures listed { AreListed register.old.slots lists.old.entries → AreListed register.new.slots lists.new.entries }
 {
-    if let Some(other) = copy_at(alloc, register, gone)? {
-        absorb_at(&mut register.classes, keep, &other)?;
+    // The class is out of the way while the other one takes in its patches, so nothing of it is copied.
+    let bare = Class::bare(alloc);
+    if let Some(other) = replace_at(&mut register.classes, gone, bare) {
+        if let Err(error) = absorb_at(&mut register.classes, keep, &other) {
+            replace_at(&mut register.classes, gone, other);
+            return Err(error);
+        }
         register.classes.try_remove(gone);
         redirect(&mut register.keys, other.members.as_slice(), keep);
         unlist(lists, register, other.block);

@@ -26,7 +26,11 @@ fn is_met_at<A: Allocator>(register: &Register<A>, marks: &[bool], no: PatchNo) 
 fn is_met<A: Allocator>(register: &Register<A>, class: &Class<A>, marks: &[bool]) -> bool
     ensures { result ≡ is_met register.now.numbers (is_marked marks.now) class.now }
 {
-    class.after.iter().all(|no| is_met_at(register, marks, *no))
+    class
+        .after
+        .as_slice()
+        .iter()
+        .all(|no| is_met_at(register, marks, *no))
 }
 
 /// Whether the class at a key is in memory and of the block.

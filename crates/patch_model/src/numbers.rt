@@ -6,7 +6,7 @@ use std::fmt;
 use std::marker::Model;
 
 /// A patch, by its place in the order of making: the first one made is 0.
-#[derive(Clone, Copy, Debug, PartialEq, Eq, PartialOrd, Ord, Hash)]
+#[derive(Clone, Copy, Debug, Default, PartialEq, Eq, PartialOrd, Ord, Hash)]
 pub struct PatchNo(pub u32);
 
 impl Model for PatchNo {
