@@ -7,6 +7,7 @@ pub mod Searches
 pub mod Reaching
 pub mod MarkFlight
 pub mod LeastBetween
+pub mod LeavesBetween
 pub mod Facts
 pub mod Steps
 pub mod Beginning

@@ -1,5 +1,6 @@
 -- What lies on the paths from one class to another.
-use Rattle.std.specs.Prelude.{ℕ, Bool, IsTrue, ◌↔◌, true, not, ◌+◌, ◌<◌, ◌≡◌, ◌≢◌, ◌≤◌, ◌⊎◌, ◌==◌, ◌&&◌, false, nat_lt, if◌then◌else◌, List, slice_index_or, Option, Some, None}
+use Rattle.std.specs.Prelude.{ℕ, Bool, IsTrue, ◌↔◌, true, not, ◌+◌, ◌<◌, ◌≡◌, ◌≢◌, ◌≤◌, ◌⊎◌, ◌==◌, ◌&&◌, ◌||◌, false, is_none, nat_lt, if◌then◌else◌, List, slice_index_or, Option, Some, None}
+use Rattle.std.specs.List.{list_all}
 use Rattle.std.specs.Option.{option_map, option_map_or}
 use Rattle.patch_model.specs.Entry.{Entry}
 use Rattle.patch_model.specs.Dependency.{Path, LiesBetween}
@@ -33,6 +34,22 @@ AreWithout to marks dead_ends = (key : ℕ) → is_marked dead_ends key ≡ (is_
 -- the class at the key has the last number that was made
 abbrev pub is_newest : Slots → ℕ → ℕ → Bool
 is_newest slots key made = option_map_or (λ c. c.name + 1 == made) (class_at slots key) false
+
+-- none of the numbers leads to a class
+abbrev pub are_gone : Numbers → List ℕ → Bool
+are_gone numbers = list_all (λ n. is_none (find numbers n))
+
+-- the class at the key depends on no live one
+abbrev pub is_leaf : Slots → Numbers → ℕ → Bool
+is_leaf slots numbers key = option_map_or (λ c. are_gone numbers c.after) (class_at slots key) true
+
+-- the number leads to one of the two keys, to none, or to a class that depends on no live one
+abbrev pub ends_at : Slots → Numbers → ℕ → ℕ → ℕ → Bool
+ends_at slots numbers from to n = option_map_or (λ k. k == from || (k == to || is_leaf slots numbers k)) (find numbers n) true
+
+-- the class at the one key depends directly on no class but that at the other and such as depend on no live one
+abbrev pub rests_on_leaves : Slots → Numbers → ℕ → ℕ → Bool
+rests_on_leaves slots numbers from to = option_map_or (λ c. list_all (ends_at slots numbers from to) c.after) (class_at slots from) true
 
 -- no two classes depend on each other
 abbrev pub HasNoRing : List Entry → Type 0

@@ -17,9 +17,9 @@ use crate::memo::Memo;
 use crate::number_list::NumberList;
 use crate::register::{Classes, Keys, Register, enter};
 use crate::scratch::Scratch;
-use patch_skyline::Span;
 use crate::skylines::{lay, tops};
 use patch_model::{BlockNo, MAX_PATCHES, PatchNo, Undo};
+use patch_skyline::Span;
 use std::alloc::{AllocError, Allocator};
 
 /// Makes room for one more class, and for searches through it.

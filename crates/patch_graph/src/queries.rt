@@ -6,7 +6,7 @@ ghost use Rattle.patch_graph.specs.BlockKeys.{HoldsKeys, AreListed};
 ghost use Rattle.patch_graph.specs.Memo.{IsMemo, TellsTaken};
 ghost use Rattle.patch_graph.specs.Marks.{AreClear};
 
-use crate::between::{copy_without, least_name};
+use crate::between::{copy_without, least_name, rests_on_leaves};
 use crate::block_keys::{BlockKeys, listed};
 use crate::marks::{any_marked, clear, is_marked};
 use crate::memo::Memo;
@@ -201,6 +201,9 @@ fn between_exactly<A: Allocator>(
         return None;
     }
     if is_newest(register, to) {
+        return None;
+    }
+    if rests_on_leaves(register, from, to) {
         return None;
     }
     let count = search(register, from, to, marks, queue);

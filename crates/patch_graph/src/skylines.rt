@@ -3,9 +3,9 @@ ghost use Rattle.std.specs.Prelude.{◌≡◌, ◌<◌, IfOk, OnOk, OnErr};
 ghost use Rattle.patch_graph.specs.Skyline.{spans_of, IsLaidOn, HasLaidOn, IsEmptied};
 ghost use Rattle.patch_skyline.specs.Skyline.{AreTops};
 
-use patch_skyline::{Skyline, Span};
 use indexmap::IndexMap;
 use patch_model::BlockNo;
+use patch_skyline::{Skyline, Span};
 use std::alloc::{AllocError, Allocator};
 use std::hash::{BuildHasherDefault, FoldHasher};
 

@@ -1,6 +1,7 @@
 use Rattle.std.proofs.Common.{sym, arith, ◌∙◌, ◌<◌, length}
 use Rattle.patch_graph.proofs.Reaching.{has-keys, is_found, is_low}
 use Rattle.patch_graph.proofs.LeastBetween.{between_is, newest_is, without-held}
+use Rattle.patch_graph.proofs.LeavesBetween.{leaves_is}
 use Rattle.patch_graph.proofs.Places.{turned-held}
 use Rattle.patch_graph.proofs.queries.between_exactly.Goals as goal
 
@@ -17,6 +18,10 @@ returns-then-from-marks-clause-answer g c all x y r no_ring la lb =
 
 pub returns-then-is_newest-clause-answer : goal.returns-then-is_newest-clause-answer
 returns-then-is_newest-clause-answer g c all x y r no_ring la lb = newest_is _ all c.args.b x y c.in-Some-find.to r lb (sym c.in-Some-find.ensures) (sym c.is_newest.ensures ∙ c.if-is_newest.true)
+
+pub returns-then-rests_on_leaves-clause-answer : goal.returns-then-rests_on_leaves-clause-answer
+returns-then-rests_on_leaves-clause-answer g c all x y r no_ring la lb =
+    leaves_is _ all c.args.a c.args.b x y c.in-Some.from c.in-Some-find.to r no_ring la lb (sym c.in-Some.ensures) (sym c.in-Some-find.ensures) (sym c.rests_on_leaves.ensures ∙ c.if-rests_on_leaves.true)
 
 pub copy_without-requires-clause-held : goal.copy_without-requires-clause-held
 copy_without-requires-clause-held g c key t = turned-held _ _ key c.reverse.ensures.permutation (c.search-count.ensures.held key t)
