@@ -1,0 +1,2 @@
+pub mod Lengthening
+pub mod Entries

@@ -1,0 +1,9 @@
+//! Which key belongs to each of some numbers, looked up by the number itself: a [`Table`] in pages.
+#![tactic(auto)]
+
+mod pages;
+mod tables;
+#[cfg(test)]
+mod tests;
+
+pub use tables::Table;
