@@ -1,6 +1,6 @@
 -- Classes of which no two have a common member.
 use Rattle.std.proofs.Common.{◌≡◌, ◌≢◌, ℕ, zero, suc, ◌+◌, ◌<◌, ◌≤◌, ◌⊎◌, ◌∙◌, true, false, not, inl, inr, List, [], ◌∷◌, ◌++◌, length, filter, take, get_or, set, get_or-set_same, get_or-set_other, refl, sym, ap, arith, subst, Bool, Option, Some, None}
-use Rattle.std.specs.Prelude.{is_some, ◌==◌, ◌&&◌, ◌||◌, nat_lt, if◌then◌else◌}
+use Rattle.std.specs.Prelude.{is_some, ◌==◌, ◌&&◌, nat_lt, if◌then◌else◌}
 use Rattle.std.specs.List.{insert, remove, list_all}
 use Rattle.std.proofs.lemmas.Bool.{cases_Bool, cases_eq, cases_lt, cases_order, both_ways, and_parts, or_cases, eqb-true, ltb-true}
 use Rattle.std.proofs.lemmas.List.{length-set, get_or_past, get_or_default, get_or_append_left, get_or_push, get_or-take, length_push, places}
@@ -97,17 +97,17 @@ moved_apart cs front k m down within a known =
     (λ i j. came_once front k i j down) (a known)
 
 -- where the element at a place of a filtered list stood
-abbrev stayed : (Class → Bool) → List Class → ℕ → ℕ
+abbrev pub stayed : (Class → Bool) → List Class → ℕ → ℕ
 stayed q [] i = i
 stayed q (c ∷ cs) zero = if q c then 0 else suc (stayed q cs zero)
 stayed q (c ∷ cs) (suc i) = if q c then suc (stayed q cs i) else suc (stayed q cs (suc i))
 
-stayed_at : (q : Class → Bool) (cs : List Class) (i : ℕ) → get_or (filter q cs) i no_class ≡ get_or cs (stayed q cs i) no_class
+pub stayed_at : (q : Class → Bool) (cs : List Class) (i : ℕ) → get_or (filter q cs) i no_class ≡ get_or cs (stayed q cs i) no_class
 stayed_at q [] i = refl
 stayed_at q (c ∷ cs) zero = elim (cases_Bool (q c)) [ inl t ↦ rw t refl | inr f ↦ rw f (stayed_at q cs zero) ]
 stayed_at q (c ∷ cs) (suc i) = elim (cases_Bool (q c)) [ inl t ↦ rw t (stayed_at q cs i) | inr f ↦ rw f (stayed_at q cs (suc i)) ]
 
-stayed_less : (q : Class → Bool) (cs : List Class) (i j : ℕ) → i < j → stayed q cs i < stayed q cs j
+pub stayed_less : (q : Class → Bool) (cs : List Class) (i j : ℕ) → i < j → stayed q cs i < stayed q cs j
 stayed_less q [] i j less = less
 stayed_less q (c ∷ cs) i zero less = absurd (omega arith)
 stayed_less q (c ∷ cs) zero (suc j) less = elim (cases_Bool (q c)) [
@@ -179,7 +179,7 @@ laid_apart cs c m number only is first a known = elim (or_cases only (m.are_apar
       pushed_apart cs c number is (λ i n on. let l = r.upto i n on in omega arith) r.once
 ]
 
-double_not : (b : Bool) → not (not b) ≡ true → b ≡ true
+pub double_not : (b : Bool) → not (not b) ≡ true → b ≡ true
 double_not true e = refl
 double_not false e = absurd (cc)
 
@@ -241,11 +241,11 @@ found_apart b m at number a known on = elim (some_or_none (place_of b number)) [
   | inr o ↦ absurd (both_ways _ (position-None (λ c. is_among c.members number) b.classes at no_class o (member_inside b.classes at number on)) on)
 ]
 
-pub all_of : (c low high : Class) → list_all (λ n. is_among low.members n || is_among high.members n) c.members ≡ true → MembersOf c low high
-all_of c low high all n on =
-    let q = list_any-at (λ m. m == n) c.members on in
+pub all-among : (p : ℕ → Bool) (ns : List ℕ) → list_all p ns ≡ true → (n : ℕ) → is_among ns n ≡ true → p n ≡ true
+all-among p ns all n on =
+    let q = list_any-at (λ m. m == n) ns on in
     let e : q.0 ≡ n = eqb-true _ _ q.2 in
-    ap (λ m. is_among low.members m || is_among high.members m) (sym e) ∙ list_all-at (λ m. is_among low.members m || is_among high.members m) c.members q.0 all q.1
+    ap p (sym e) ∙ list_all-at p ns q.0 all q.1
 
 -- no record has a number that isn't found
 pub none_has : (b : Block) (number : ℕ) → place_of b number ≡ None → (i : ℕ) → is_among (class_at b i).members number ≡ false
@@ -257,3 +257,7 @@ none_has b number none i = elim (cases_lt i (length b.classes)) [
 pub not_some : (o : Option ℕ) → is_some o ≡ false → o ≡ None
 not_some None e = refl
 not_some (Some i) e = absurd (cc)
+
+-- where less is known
+pub less_apart : (m : Members) (others : Bool) (cs : List Class) → KnownApart m cs → KnownApart (unless_other m others) cs
+less_apart m others cs a known = a (and_parts m.are_apart (not others) known).0

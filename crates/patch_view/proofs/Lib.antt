@@ -27,3 +27,4 @@ pub mod Leaving
 pub mod Clear
 pub mod Taken
 pub mod Apart
+pub mod Covering

@@ -69,7 +69,7 @@ at_came b front k i down within = elim (came_is front k i) [
 ]
 
 -- places are kept apart, and one comes before another as it did, but for the class that was moved
-came_facts : (front k i j : ℕ) → front ≤ k → i < j
+pub came_facts : (front k i j : ℕ) → front ≤ k → i < j
     → (came front k i < came front k j) ⊎ ((came front k i ≡ k) × (front ≤ came front k j) × (came front k j < k))
 came_facts front k i j down less = elim (came_is front k i) [
   | inl s ↦ elim (came_is front k j) [ inl t ↦ inl (omega arith) | inr o ↦ elim o [ inl t ↦ inl (omega arith) | inr o ↦ elim o [ inl t ↦ inl (omega arith) | inr t ↦ inl (omega arith) ] ] ]
@@ -82,7 +82,7 @@ came_facts front k i j down less = elim (came_is front k i) [
   ]
 ]
 
-came_within : (front k i n : ℕ) → front ≤ k → k < n → i < n → came front k i < n
+pub came_within : (front k i n : ℕ) → front ≤ k → k < n → i < n → came front k i < n
 came_within front k i n down within h = elim (came_is front k i) [ inl s ↦ omega arith | inr o ↦ elim o [ inl s ↦ omega arith | inr o ↦ elim o [ inl s ↦ omega arith | inr s ↦ omega arith ] ] ]
 
 -- each class is somewhere

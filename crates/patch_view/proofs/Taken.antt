@@ -45,6 +45,17 @@ set_within cs c at p t i on = elim (cases_Bool (nat_lt p.from p.to)) [
   ])
 ]
 
+-- with another class at a place, taken where the one there was
+pub kept_within : (cs : List Class) (c : Class) (at : ℕ) (p : Places) → c.taken ≡ (get_or cs at no_class).taken → TakenWithin p cs → TakenWithin p (set cs at c)
+kept_within cs c at p same t i on = elim (cases_eq i at) [
+  | inl e ↦
+      let w = taken_inside (set cs at c) i on in
+      let l = length-set cs at c in
+      let here : get_or (set cs at c) i no_class ≡ c = rw e (get_or-set_same cs at c no_class (omega arith)) in
+      t i (ap (λ (z : ℕ). (get_or cs z no_class).taken) e ∙ sym same ∙ ap (λ d. d.taken) (sym here) ∙ on)
+  | inr ne ↦ t i (ap (λ d. d.taken) (sym (get_or-set_other cs at i c no_class ne)) ∙ on)
+]
+
 -- with one class more that isn't
 pub pushed_within : (cs : List Class) (c : Class) (p : Places) → c.taken ≡ false → TakenWithin p cs → TakenWithin p (cs ++ c ∷ [])
 pushed_within cs c p off t i on =

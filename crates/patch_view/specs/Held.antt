@@ -1,5 +1,5 @@
 -- Where a list of numbers keeps them.
-use Rattle.std.specs.Prelude.{List, [], ◌-◌, length, vec_capacity}
+use Rattle.std.specs.Prelude.{[], ◌-◌, length, vec_capacity}
 use Rattle.patch_view.specs.NumberLists.{NumberList}
 use Rattle.patch_view.specs.declared.number_lists.Held.{Held}
 use Rattle.patch_view.specs.declared.number_lists.Held.TheVariants.{Nothing, One, Two, Many}

@@ -10,3 +10,4 @@ pub mod View
 pub mod Laws
 pub mod NumberLists
 pub mod Held
+pub mod Rests

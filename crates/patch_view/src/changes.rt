@@ -13,13 +13,15 @@ ghost use Rattle.patch_view.specs.Meaning.{Represents, IsGathered};
 ghost use Rattle.patch_view.specs.Answers.{IsPatch};
 ghost use Rattle.patch_view.specs.Changes.{Lays, Unlays, Hardens, Settles, JoinsPlaces, JoinsBy, Joins, DepartsEach};
 
-use crate::classes::{Class, Drawn, Turn};
+use crate::classes::{Class, Drawn};
 use crate::members::Members;
 use crate::number_lists::NumberList;
 use crate::places::Places;
+use crate::rests::laid_over;
 use crate::spans::swap_span;
 use crate::states::BlockState;
 use patch_model::{BLOCK, BlockBytes, OutOfMemory, PatchNo};
+use patch_skyline::Span;
 use std::alloc::{Allocator, Global};
 use std::marker::Model;
 
@@ -49,6 +51,7 @@ impl<A: Allocator> BlockState<A> {
             classes: Vec::new(alloc),
             taken: Places::none(),
             members: Members::none(),
+            rests: None,
         }
     }
 
@@ -135,8 +138,12 @@ impl<A: Allocator> BlockState<A> {
         let stop = start + bytes.len();
         let mut saved = Vec::from_slice(self.bytes.allocator().clone()?, bytes)?;
         swap_span(self.bytes.as_mut_slice(), start, saved.as_mut_slice());
+        let is_only = self.classes.is_empty();
+        let rests = self.rests.take();
+        let top = Span { start, stop, no };
+        self.rests = laid_over(rests, self.bytes.allocator(), is_only, top, all.as_slice());
+        self.members = self.members.with(no, is_only);
         let class = Class::new(no, start, stop, saved, all);
-        self.members = self.members.with(no, self.classes.is_empty());
         // Never refused: the room for it was made above.
         self.classes.push(class).unwrap();
         Ok(())
@@ -154,8 +161,8 @@ impl<A: Allocator> BlockState<A> {
     fn unlay_exactly(&mut self)
         ensures { self.new ≡ without_newest self.old }
     {
-        if let Some(mut class) = self.classes.pop() {
-            class.exchange(self.bytes.as_mut_slice(), Turn::Take);
+        if let Some(class) = self.classes.pop() {
+            class.leave(self.bytes.as_mut_slice());
         }
     }
 
@@ -188,10 +195,11 @@ impl<A: Allocator> BlockState<A> {
         }
     }
 
-    /// Moves the class at `k` down to the place `front`.
+    /// Moves the class at `k` down to the place `front`, past classes on which it doesn't depend.
     fn move_down(&mut self, front: usize, k: usize)
         requires down { front ≤ k }
         requires within { k < length self.old.classes }
+        requires free { (m : ℕ) → front ≤ m → m < k → follows self.old k m ≡ false }
         ensures { self.new ≡ moved_down self.old front k }
     {
         let passed = &mut self.classes[front..k + 1];
@@ -244,18 +252,21 @@ impl<A: Allocator> BlockState<A> {
         Ok(Joint { low, high, drawn })
     }
 
-    /// Puts the record that was drawn up of the classes at two places in the place of the lower one.
-    fn settle(&mut self, low: usize, high: usize, drawn: Drawn<A>)
+    /// Puts the record that was drawn up of the classes at two places in the place of the lower one. It is free to go there
+    /// where the higher one depends on none between them.
+    fn settle(&mut self, low: usize, high: usize, drawn: Drawn<A>, is_free: bool)
         requires less { low < high }
         requires within { high < length self.old.classes }
+        requires free { IsTrue is_free → (m : ℕ) → low < m → m < high → follows self.old high m ≡ false }
         ensures bytes { self.new.bytes ≡ self.old.bytes }
         ensures settled { Settles self.old low high drawn self.new }
     {
         let upper = self.classes.remove(high);
         let lower = &mut self.classes[low];
-        let are_of_both = lower.become_both(drawn, &upper);
+        let is_of_both = lower.become_both(drawn, &upper);
         let is_taken = lower.is_taken();
-        self.members = self.members.unless_other(!are_of_both);
+        let known = self.members.unless_other(!is_of_both);
+        self.members = known.unless_other(!is_free);
         self.taken = self.taken.spread_over(self.classes.len(), is_taken);
     }
 
@@ -269,9 +280,10 @@ impl<A: Allocator> BlockState<A> {
     {
         if self.follows_any(low + 1, high) {
             let front = self.gather(low, high);
-            self.settle(front, high, drawn);
+            let is_free = !self.follows_any(front + 1, high);
+            self.settle(front, high, drawn, is_free);
         } else {
-            self.settle(low, high, drawn);
+            self.settle(low, high, drawn, true);
         }
     }
 

@@ -1,12 +1,14 @@
 //! What a block keeps of a live class.
-ghost use Rattle.std.specs.Prelude.{◌≡◌, ◌||◌, ◌+◌, ◌≤◌, ◌++◌, ◌∷◌, length, IfOk, IsTrue, IsPermutation, true, false, [], min, max, replicate, ◌-◌};
+ghost use Rattle.std.specs.Prelude.{ℕ, ◌≡◌, ◌||◌, ◌+◌, ◌≤◌, ◌++◌, ◌∷◌, length, IfOk, IsTrue, IsPermutation, true, false, [], min, max, replicate, ◌-◌};
 ghost use Rattle.std.specs.List.{list_any, list_all};
 ghost use Rattle.std.specs.List.Sorted.{IsNonDecreasing};
 ghost use Rattle.patch_model.specs.Entry.{is_among};
 ghost use Rattle.patch_view.specs.State.{is_takeable, uncovered, laid_on, exchanged_with, leaves_taken, meets, names, hardened, departed, departed_among, MayHaveDeparted, merged, IsMerged, IsDrawn};
-ghost use Rattle.patch_view.specs.State.{follow_on, has_room_for, with_lists_of, in_its_place, with_lists, MembersOf};
+ghost use Rattle.patch_view.specs.State.{spans, follow_on, has_room_for, with_lists_of, in_its_place, with_lists};
+ghost use Rattle.patch_view.specs.Rests.{IsFree, IsUnion, HasListsOf};
 
-use crate::number_lists::{NumberList, sort};
+use crate::number_lists::{NumberList, is_listed, sort};
+use crate::rests::Rests;
 use crate::spans::swap_span;
 use patch_model::{BLOCK, OutOfMemory, PatchNo};
 use std::alloc::{Allocator, Global};
@@ -149,6 +151,13 @@ impl<A: Allocator> Class<A> {
         ensures { result ≡ (meets self.now other.now || names self.now other.now) }
     {
         self.meets(other) || self.names_some_of(other)
+    }
+
+    /// Whether it is known that nothing in the block rests on it.
+    pub(crate) fn is_told_free(&self, rests: &Rests<A>) -> bool
+        ensures { IsTrue result → IsFree rests.now self.now.members self.now.start self.now.stop }
+    {
+        rests.tell_free(self.members.as_slice(), self.start, self.stop)
     }
 
     fn meets(&self, other: &Class<A>) -> bool
@@ -302,25 +311,48 @@ impl<A: Allocator> Class<A> {
         }
     }
 
-    /// Becomes what was drawn up of it and a higher class. Answers whether each of its members is then one of the two's, as it
-    /// is where the record was drawn up of them.
+    /// Becomes what was drawn up of it and a higher class. Answers whether it then has the bytes of both, and none but their
+    /// members and names, as it has where the record was drawn up of them.
     pub(crate) fn become_both(&mut self, drawn: Drawn<A>, high: &Class<A>) -> bool
         ensures drawn { IsDrawn self.old high.now drawn → self.new ≡ in_its_place self.old high.now drawn }
-        ensures members { IsTrue result → MembersOf self.new self.old high.now }
+        ensures of_both { IsTrue result → IsUnion self.new self.old high.now }
     {
         let Drawn { class, growing } = drawn;
         if growing {
+            let has_their_span = class.has_span_of(self, high);
             self.take_lists(high);
             self.take_the_rest(class);
-            true
+            has_their_span
         } else {
-            let are_of_both = class.has_members_of(self, high);
+            let is_of_both = class.is_union_of(self, high);
             *self = class;
-            are_of_both
+            is_of_both
         }
     }
 
-    /// Whether each member is one of two other classes.
+    fn is_union_of(&self, low: &Class<A>, high: &Class<A>) -> bool
+        ensures { IsTrue result → IsUnion self.now low.now high.now }
+    {
+        self.has_span_of(low, high) && self.has_lists_of(low, high)
+    }
+
+    /// Whether its bytes are those of two other classes.
+    fn has_span_of(&self, low: &Class<A>, high: &Class<A>) -> bool
+        ensures { IsTrue result → (x : ℕ) → spans self.now x ≡ (spans low.now x || spans high.now x) }
+    {
+        if low.start > high.stop || high.start > low.stop {
+            return false;
+        }
+        self.start == low.start.min(high.start) && self.stop == low.stop.max(high.stop)
+    }
+
+    /// Whether each member is one of two other classes, and each name one of theirs.
+    fn has_lists_of(&self, low: &Class<A>, high: &Class<A>) -> bool
+        ensures { IsTrue result → HasListsOf self.now low.now high.now }
+    {
+        self.has_members_of(low, high) && self.has_names_of(low, high)
+    }
+
     fn has_members_of(&self, low: &Class<A>, high: &Class<A>) -> bool
         ensures { result
             ≡ list_all (λ n. is_among low.now.members n || is_among high.now.members n) self.now.members }
@@ -329,6 +361,14 @@ impl<A: Allocator> Class<A> {
         members
             .iter()
             .all(|n| low.includes(*n) || high.includes(*n))
+    }
+
+    fn has_names_of(&self, low: &Class<A>, high: &Class<A>) -> bool
+        ensures { result
+            ≡ list_all (λ n. is_among low.now.after n || is_among high.now.after n) self.now.after }
+    {
+        let names = self.after.as_slice();
+        names.iter().all(|n| low.names(*n) || high.names(*n))
     }
 
     /// Takes the members and the names of a higher class in behind its own, where there is room for them.
@@ -394,6 +434,14 @@ impl<A: Allocator> Class<A> {
         }
     }
 
+    /// Leaves the block as it would be without the class, which is gone then.
+    pub(crate) fn leave(mut self, bytes: &mut [u8])
+        requires { length bytes.old ≡ 4096 }
+        ensures { bytes.new ≡ laid_on self bytes.old }
+    {
+        self.exchange(bytes, Turn::Take);
+    }
+
     /// Exchanges the saved bytes with the block's, and marks the class.
     pub(crate) fn exchange(&mut self, bytes: &mut [u8], turn: Turn)
         requires { length bytes.old ≡ 4096 }
@@ -405,14 +453,6 @@ impl<A: Allocator> Class<A> {
         swap_span(bytes, start, saved);
         self.taken = turn.leaves_taken();
     }
-}
-
-/// Whether the number is in a list that rises.
-fn is_listed(numbers: &[PatchNo], no: PatchNo) -> bool
-    ensures found { IsTrue result → is_among numbers.now no ≡ true }
-    ensures exact { IsNonDecreasing numbers.now → result ≡ is_among numbers.now no }
-{
-    numbers.binary_search(&no).is_ok()
 }
 
 /// The numbers of two lists that rise, rising, with room for so many more. They are put in order only where the one list

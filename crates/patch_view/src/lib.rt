@@ -12,6 +12,7 @@ mod members;
 mod number_lists;
 mod places;
 mod refusals;
+mod rests;
 mod spans;
 mod states;
 mod views;

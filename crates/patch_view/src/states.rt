@@ -13,6 +13,7 @@ use crate::classes::{Class, Turn};
 use crate::members::Members;
 use crate::places::Places;
 use crate::refusals::{PutBackRefusal, TakeRefusal};
+use crate::rests::Rests;
 use patch_model::{BLOCK, PatchNo};
 use std::alloc::{Allocator, Global};
 use std::marker::Model;
@@ -35,17 +36,21 @@ pub struct BlockState<A: Allocator = Global> {
     pub(crate) taken: Places,
     /// Where they are known to be apart, a record that has a number is the only one.
     pub(crate) members: Members,
+    /// Where they are known, and the members to be apart, a class is told at once on which nothing rests.
+    pub(crate) rests: Option<Rests<A>>,
 }
 
 impl<A: Allocator> Model for BlockState<A> {
     ghost use Rattle.std.specs.Prelude.{◌≡◌, length};
     ghost use Rattle.patch_view.specs.State.{Block, TakenWithin, KnownApart};
+    ghost use Rattle.patch_view.specs.Rests.{KnownRests};
 
     ghost Value = { Block };
 
     ghost view = { λ s. record { bytes = s.bytes.items; classes = s.classes.items } };
 
-    ghost invariant = { λ s. (length s.bytes.items ≡ 4096) × TakenWithin s.taken s.classes.items × KnownApart s.members s.classes.items };
+    ghost invariant = { λ s. (length s.bytes.items ≡ 4096) × TakenWithin s.taken s.classes.items × KnownApart s.members s.classes.items
+        × KnownRests s.members s.rests s.classes.items };
 }
 
 impl<A: Allocator> BlockState<A> {
@@ -155,9 +160,28 @@ impl<A: Allocator> BlockState<A> {
         match turn {
             Turn::Take => Places {
                 from: at + 1,
-                to: self.len(),
+                to: if self.may_be_rested_on(at) {
+                    self.len()
+                } else {
+                    at + 1
+                },
             },
             Turn::PutBack => self.taken.below(at),
+        }
+    }
+
+    /// Whether a class may depend directly on the one at this place. Where it is known that none does, no record is looked at.
+    fn may_be_rested_on(&self, at: usize) -> bool
+        requires { at < length self.now.classes }
+        ensures { IsFalse result → (k : ℕ) → follows self.now k at ≡ false }
+    {
+        if !self.members.are_apart {
+            return true;
+        }
+        let class = &self.classes[at];
+        match &self.rests {
+            Some(rests) => !class.is_told_free(rests),
+            None => true,
         }
     }
 
@@ -181,7 +205,8 @@ impl<A: Allocator> BlockState<A> {
     }
 
     /// Takes the class of this patch back, whose number is any member's. The bytes are then the block's without it and
-    /// without what was taken before. It looks at the records one after another, exchanges the span's bytes, and takes no memory.
+    /// without what was taken before. It looks at the records one after another, unless the class wrote all of its bytes last and
+    /// none of its patches is named; it exchanges the span's bytes, and takes no memory.
     /// It is public for the views of a cache, which put all back at their end; elsewhere a [`view`](BlockState::view) does it.
     pub fn take(&mut self, no: PatchNo) -> Result<(), TakeRefusal>
         ensures answer { AnswersTake self.old no self.new result }

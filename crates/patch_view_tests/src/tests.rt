@@ -6,6 +6,7 @@ use std::process::Abort;
 
 mod memory;
 mod names;
+mod rests;
 mod walks;
 
 // A block of zeros.

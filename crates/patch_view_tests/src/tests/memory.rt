@@ -63,12 +63,12 @@ fn keep_few_numbers(
     block: &mut BlockState<&LocalHeap>,
 ) -> Result<(), Fail> {
     lay_hard(block, 0, &[])?;
-    let one = heap.used();
     lay_hard(block, 1, &[PatchNo(0)])?;
+    let two = heap.used();
     lay_hard(block, 2, &[PatchNo(1), PatchNo(0)])?;
-    assert_eq!(rt; heap.used(), one);
+    assert_eq!(rt; heap.used(), two);
     lay_hard(block, 3, &[PatchNo(2), PatchNo(1), PatchNo(0)])?;
-    assert!(rt; one < heap.used());
+    assert!(rt; two < heap.used());
     Ok(())
 }
 

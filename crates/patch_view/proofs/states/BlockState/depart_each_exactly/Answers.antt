@@ -6,6 +6,8 @@ use Rattle.patch_view.specs.State.{Block, departed_among, with_departed, TakenWi
 use Rattle.patch_view.proofs.Taken.{departed_within}
 use Rattle.patch_view.proofs.Apart.{departed_apart}
 use Rattle.patch_view.proofs.Together.{more_departed, has_departed}
+use Rattle.patch_view.proofs.Covering.{departed_rests}
+use Rattle.patch_view.specs.Rests.{KnownRests}
 use Rattle.patch_view.proofs.states.BlockState.depart_each_exactly.Goals as goal
 
 pub loop-class-preserved : goal.loop-class-preserved
@@ -52,4 +54,7 @@ invariant_of-self g c =
       subst (KnownApart c.self.inside.members) (sym same)
           (departed_apart c.args.numbers.now c.deref_mut-class-items.result.now c.loop-class.class-items c.loop-class.class-index c.self.inside.members d
           (subst (KnownApart c.self.inside.members) (sym first) c.self.invariant.2)),
+      subst (KnownRests c.self.inside.members c.self.inside.rests) (sym same)
+          (departed_rests c.args.numbers.now c.deref_mut-class-items.result.now c.loop-class.class-items c.loop-class.class-index c.self.inside.members c.self.inside.rests d
+          (subst (KnownRests c.self.inside.members c.self.inside.rests) (sym first) c.self.invariant.3)),
     )

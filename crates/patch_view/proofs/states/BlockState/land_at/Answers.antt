@@ -2,6 +2,7 @@ use Rattle.std.proofs.Common.{◌<◌, ◌≤◌, length, sym, subst, arith}
 use Rattle.std.specs.List.{remove}
 use Rattle.patch_view.proofs.Taken.{removed_within}
 use Rattle.patch_view.proofs.Apart.{removed_apart}
+use Rattle.patch_view.proofs.Covering.{removed_rests}
 use Rattle.patch_view.proofs.states.BlockState.land_at.Goals as goal
 
 pub invariant_of-self : goal.invariant_of-self
@@ -15,4 +16,5 @@ invariant_of-self g c =
       c.self.invariant.0,
       rw (e, l, gone) (removed_within c.self.inside.classes.items c.args.at c.self.inside.taken c.remove-gone.new.self.len fits_too within c.self.invariant.1),
       rw gone (removed_apart c.self.inside.classes.items c.args.at c.self.inside.members within c.self.invariant.2),
+      rw gone (removed_rests c.self.inside.classes.items c.args.at c.self.inside.members c.self.inside.rests within c.self.invariant.3),
     )

@@ -4,6 +4,7 @@ use Rattle.patch_view.specs.State.{Class, Block, with_landed}
 use Rattle.patch_view.proofs.Together.{lands_together}
 use Rattle.patch_view.proofs.Taken.{filtered_within}
 use Rattle.patch_view.proofs.Apart.{filtered_apart}
+use Rattle.patch_view.proofs.Covering.{filtered_rests}
 use Rattle.patch_view.proofs.states.BlockState.land_each.Goals as goal
 
 pub returns-clause-exact : goal.returns-clause-exact
@@ -23,4 +24,5 @@ invariant_of-self g c =
       c.self.invariant.0,
       rw (e, l, kept) (filtered_within (λ k. not k.flying) c.self.inside.classes.items c.self.inside.taken c.retain.new.self.len long c.self.invariant.1),
       rw kept (filtered_apart (λ k. not k.flying) c.self.inside.classes.items c.self.inside.members c.self.invariant.2),
+      rw kept (filtered_rests (λ k. not k.flying) c.self.inside.classes.items c.self.inside.members c.self.inside.rests c.self.invariant.3),
     )

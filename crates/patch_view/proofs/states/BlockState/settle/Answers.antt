@@ -1,19 +1,20 @@
-use Rattle.std.proofs.Common.{ap, subst, sym, ◌<◌, ◌≤◌, length, slice_set, arith}
+use Rattle.std.proofs.Common.{◌≡◌, [], false, not, ap, subst, sym, ◌<◌, ◌≤◌, length, slice_set, arith}
 use Rattle.patch_view.proofs.Taken.{settled_within}
-use Rattle.patch_view.proofs.Apart.{settled_apart}
-use Rattle.patch_view.specs.State.{Block}
+use Rattle.patch_view.proofs.Apart.{settled_apart, less_apart}
+use Rattle.patch_view.proofs.Covering.{settled_rests}
+use Rattle.patch_view.specs.State.{Block, follows}
 use Rattle.patch_view.specs.Changes.{Settles}
 use Rattle.patch_view.proofs.Settling.{settled}
 use Rattle.patch_view.proofs.states.BlockState.settle.Goals as goal
 
 pub returns-clause-settled : goal.returns-clause-settled
 returns-clause-settled g c =
-    let now : Block = record { bytes = c.self.inside.bytes.items; classes = slice_set c.remove-upper.new.self.items c.args.low c.become_both-are_of_both.new.self } in
+    let now : Block = record { bytes = c.self.inside.bytes.items; classes = slice_set c.remove-upper.new.self.items c.args.low c.become_both-is_of_both.new.self } in
     subst (λ z. Settles z c.args.low c.args.high c.args.drawn now) c.self.view_is (λ is.
     ap (λ ds. let b : Block = record { bytes = c.self.inside.bytes.items; classes = ds } in b)
     (settled c.self.inside.classes.items c.remove-upper.new.self.items c.args.low c.args.high c.index_mut-lower.result.now c.remove-upper.result
-    c.become_both-are_of_both.new.self c.args.drawn c.requires.less (subst (λ z. c.args.high < length z.classes) (sym c.self.view_is) c.requires.within)
-    c.remove-upper.ensures.value c.remove-upper.ensures.items c.index_mut-lower.ensures.value c.become_both-are_of_both.ensures.drawn is))
+    c.become_both-is_of_both.new.self c.args.drawn c.requires.less (subst (λ z. c.args.high < length z.classes) (sym c.self.view_is) c.requires.within)
+    c.remove-upper.ensures.value c.remove-upper.ensures.items c.index_mut-lower.ensures.value c.become_both-is_of_both.ensures.drawn is))
 
 pub invariant_of-self : goal.invariant_of-self
 invariant_of-self g c =
@@ -21,12 +22,18 @@ invariant_of-self g c =
     let l = c.len.ensures in
     let k = c.is_taken-is_taken.ensures in
     let u = c.unless_other-self-inside.ensures in
+    let v = c.unless_other-known.ensures in
     let within : c.args.high < length c.self.inside.classes.items = subst (λ z. c.args.high < length z.classes) (sym c.self.view_is) c.requires.within in
     let fits : length c.remove-upper.new.self.items ≤ c.remove-upper.new.self.len = omega (arith, c.remove-upper.new.self.ok.0) in (
       c.self.invariant.0,
-      rw (e, l, k) (settled_within c.self.inside.classes.items c.remove-upper.new.self.items c.args.low c.args.high c.become_both-are_of_both.new.self c.self.inside.taken
+      rw (e, l, k) (settled_within c.self.inside.classes.items c.remove-upper.new.self.items c.args.low c.args.high c.become_both-is_of_both.new.self c.self.inside.taken
           c.remove-upper.new.self.len c.remove-upper.ensures.items within fits c.self.invariant.1),
-      rw u (settled_apart c.self.inside.classes.items c.remove-upper.new.self.items c.args.low c.args.high c.index_mut-lower.result.now c.remove-upper.result
-          c.become_both-are_of_both.new.self c.self.inside.members c.become_both-are_of_both.result c.requires.less within
-          c.remove-upper.ensures.value c.remove-upper.ensures.items c.index_mut-lower.ensures.value c.become_both-are_of_both.ensures.members c.self.invariant.2),
+      rw u (less_apart c.unless_other-known.result (not c.args.is_free) _ (rw v (settled_apart c.self.inside.classes.items c.remove-upper.new.self.items c.args.low c.args.high
+          c.index_mut-lower.result.now c.remove-upper.result c.become_both-is_of_both.new.self c.self.inside.members c.become_both-is_of_both.result c.requires.less within
+          c.remove-upper.ensures.value c.remove-upper.ensures.items c.index_mut-lower.ensures.value (λ t. (c.become_both-is_of_both.ensures.of_both t).lists.members) c.self.invariant.2))),
+      rw (u, v) (settled_rests c.self.inside.classes.items c.remove-upper.new.self.items c.args.low c.args.high c.index_mut-lower.result.now c.remove-upper.result
+          c.become_both-is_of_both.new.self c.self.inside.members c.become_both-is_of_both.result c.args.is_free c.self.inside.rests c.requires.less within
+          c.remove-upper.ensures.value c.remove-upper.ensures.items c.index_mut-lower.ensures.value c.become_both-is_of_both.ensures.of_both
+          (λ t m from to. subst (λ cs. follows (record { bytes = []; classes = cs }) c.args.high m ≡ false) (sym (ap (λ b. b.classes) c.self.view_is)) (c.requires.free t m from to))
+          c.self.invariant.3),
     )

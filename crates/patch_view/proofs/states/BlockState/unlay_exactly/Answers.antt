@@ -1,6 +1,5 @@
-use Rattle.std.proofs.Common.{◌-◌, ap, ◌∙◌, length, rules, arith}
-use Rattle.std.proofs.lemmas.Grind.{common_steps}
-use Rattle.patch_view.proofs.states.BlockState.unlay_exactly.Goals.{in-Many-2, in-Nothing-2}
+use Rattle.std.proofs.Common.{◌-◌, ap, ◌∙◌, length}
+use Rattle.patch_view.proofs.Covering.{taken_rests}
 use Rattle.std.proofs.lemmas.List.{with_items_is}
 use Rattle.patch_view.proofs.Apart.{taken_apart}
 use Rattle.patch_view.proofs.Taken.{front_within}
@@ -8,13 +7,11 @@ use Rattle.patch_view.proofs.states.BlockState.unlay_exactly.Goals as goal
 
 pub invariant_of-self : goal.invariant_of-self
 invariant_of-self g c =
-    let bytes = ap length (with_items_is c.self.inside.bytes c.exchange.new.bytes (c.exchange.auto.bytes ∙ c.as_mut_slice.ensures.len))
-    ∙ c.exchange.auto.bytes ∙ ap length c.as_mut_slice.ensures.value ∙ c.self.invariant.0 in
+    let bytes = ap length (with_items_is c.self.inside.bytes c.leave.new.bytes (c.leave.auto.bytes ∙ c.as_mut_slice.ensures.len))
+    ∙ c.leave.auto.bytes ∙ ap length c.as_mut_slice.ensures.value ∙ c.self.invariant.0 in
     let rest = c.in-Some.ensures.rest in (
       bytes,
       rw rest (front_within c.self.inside.classes.items (c.self.inside.classes.len - 1) c.self.inside.taken c.self.invariant.1),
       rw rest (taken_apart c.self.inside.classes.items (c.self.inside.classes.len - 1) c.self.inside.members c.self.invariant.2),
+      rw rest (taken_rests c.self.inside.classes.items (c.self.inside.classes.len - 1) c.self.inside.members c.self.inside.rests c.self.invariant.3),
     )
-
-pub returns-in-Some : goal.returns-in-Some
-returns-in-Some g c = elim c.match-class-2.branch [ in-Many-2 w ↦ rw w.self-is (grind (arith, common_steps)) | in-Nothing-2 w ↦ rw w.self-is (grind (arith, common_steps)) ]

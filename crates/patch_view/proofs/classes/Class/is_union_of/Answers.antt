@@ -1,0 +1,4 @@
+use Rattle.patch_view.proofs.classes.Class.is_union_of.Goals as goal
+
+pub returns-then-has_span_of : goal.returns-then-has_span_of
+returns-then-has_span_of g c t = record { lists = c.has_lists_of.ensures t; spans = c.has_span_of.ensures c.if-has_span_of.true }

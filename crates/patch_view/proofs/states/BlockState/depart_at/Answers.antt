@@ -1,0 +1,25 @@
+use Rattle.std.proofs.Common.{◌<◌, ◌∙◌, length, ap, sym, subst}
+use Rattle.std.proofs.lemmas.List.{get_or_default}
+use Rattle.patch_view.specs.State.{Class, no_class}
+use Rattle.patch_view.proofs.Taken.{kept_within}
+use Rattle.patch_view.proofs.Apart.{set_apart}
+use Rattle.patch_view.proofs.Covering.{IsLike, like_there, set_rests}
+use Rattle.patch_view.proofs.states.BlockState.depart_at.Goals as goal
+
+pub invariant_of-self : goal.invariant_of-self
+invariant_of-self g c =
+    let within : c.args.at < length c.self.inside.classes.items = subst (λ z. c.args.at < length z.classes) (sym c.self.view_is) c.requires in
+    let is = c.depart.ensures in
+    let like : IsLike c.depart.new.self c.index_mut-class.result.now = record {
+      members = ap (λ (k : Class). k.members) is;
+      after = ap (λ (k : Class). k.after) is;
+      start = ap (λ (k : Class). k.start) is;
+      stop = ap (λ (k : Class). k.stop) is;
+    } in
+    let was = c.index_mut-class.ensures.value ∙ get_or_default c.self.inside.classes.items c.args.at c.index_mut-class.result.now no_class within in
+    let there = like_there c.self.inside.classes.items c.args.at c.index_mut-class.result.now c.depart.new.self within c.index_mut-class.ensures.value like in (
+      c.self.invariant.0,
+      kept_within c.self.inside.classes.items c.depart.new.self c.args.at c.self.inside.taken (ap (λ (k : Class). k.taken) is ∙ ap (λ (k : Class). k.taken) was) c.self.invariant.1,
+      set_apart c.self.inside.classes.items c.depart.new.self c.args.at c.self.inside.members there.members c.self.invariant.2,
+      set_rests c.self.inside.classes.items c.depart.new.self c.args.at c.self.inside.members c.self.inside.rests there c.self.invariant.3,
+    )

@@ -1,0 +1,170 @@
+//! What tells at once that no class of a block rests on another.
+ghost use Rattle.std.specs.Prelude.{ℕ, ◌≡◌, ◌<◌, ◌∷◌, [], length, slice_index_or, true, Some, IfSome, IfOk, OnOk, IsTrue};
+ghost use Rattle.std.specs.List.{list_any};
+ghost use Rattle.std.specs.List.Sorted.{IsNonDecreasing};
+ghost use Rattle.patch_model.specs.Entry.{is_among};
+ghost use Rattle.patch_skyline.specs.declared.skylines.Span.{Span as Top};
+ghost use Rattle.patch_view.specs.Rests.{IsLaidOver, IsLaidOn, IsFree, HasTopsOf, begun, no_rests, Gains};
+
+use crate::number_lists::is_listed;
+use patch_model::{OutOfMemory, PatchNo};
+use patch_skyline::{Skyline, Span};
+use std::alloc::{Allocator, Global};
+use std::marker::Model;
+
+/// Which patch wrote each byte of the block last, and the numbers that the block's classes name. Patches that are gone may
+/// be among them.
+#[derive(Drop)]
+pub(crate) struct Rests<A: Allocator = Global> {
+    skyline: Skyline<A>,
+    named: Vec<PatchNo, A>,
+}
+
+impl<A: Allocator> Model for Rests<A> {
+    ghost use Rattle.std.specs.List.Sorted.{IsNonDecreasing};
+    ghost use Rattle.patch_view.specs.Rests.{Rests as Seen};
+
+    ghost Value = { Seen };
+
+    ghost view = { λ r. record { tops = r.skyline; named = r.named.items } };
+
+    ghost invariant = { λ r. IsNonDecreasing r.named.items };
+}
+
+impl<A: Allocator> Rests<A> {
+    fn none(alloc: &A) -> Result<Rests<A>, OutOfMemory>
+    where
+        A: Clone,
+        ensures { IfOk result (λ r. r ≡ no_rests) }
+    {
+        Ok(Rests {
+            skyline: Skyline::new(alloc.clone()?),
+            named: Vec::new(alloc.clone()?),
+        })
+    }
+
+    fn clear(&mut self)
+        ensures { self.new ≡ no_rests }
+    {
+        self.skyline.clear();
+        self.named.clear();
+    }
+
+    fn lay(&mut self, top: Span, names: &[PatchNo]) -> Result<(), OutOfMemory>
+        requires { top.start < top.stop }
+        ensures { OnOk result (IsLaidOver self.old self.new top names.now) }
+    {
+        add_all(&mut self.named, names)?;
+        self.skyline.lay(top)?;
+        Ok(())
+    }
+
+    /// Whether nothing rests on a class of these members and these bytes, where the block's records have no others of them:
+    /// the class wrote each byte last, and none of its members is named.
+    pub(crate) fn tell_free(&self, members: &[PatchNo], start: usize, stop: usize) -> bool
+        ensures { IsTrue result → IsFree self.now members.now start stop }
+    {
+        if start >= stop {
+            return false;
+        }
+        if self.name_any(members) {
+            return false;
+        }
+        self.have_tops_of(members, start, stop)
+    }
+
+    fn name_any(&self, members: &[PatchNo]) -> bool
+        ensures { result ≡ list_any (λ n. is_among self.now.named n) members.now }
+    {
+        let named = self.named.as_slice();
+        members.iter().any(|n| is_listed(named, *n))
+    }
+
+    fn have_tops_of(&self, members: &[PatchNo], start: usize, stop: usize) -> bool
+        requires { start < stop }
+        ensures { IsTrue result → HasTopsOf self.now members.now start stop }
+    {
+        are_of(self.skyline.tops(start, stop), members)
+    }
+}
+
+/// Whether each of the spans is one of these patches'.
+fn are_of(tops: &[Span], members: &[PatchNo]) -> bool
+    ensures { IsTrue result → (k : ℕ) (d : Top) → k < length tops.now → is_among members.now (slice_index_or tops.now k d).no ≡ true }
+{
+    for top in tops {
+        if !is_listed(members, top.no) {
+            return false;
+        }
+    }
+    true
+}
+
+/// What is known after a patch was laid that names these; it may be the block's only one. Nothing is, where the patch has no
+/// byte, or where there is no memory for it.
+pub(crate) fn laid_over<A: Allocator + Clone>(
+    rests: Option<Rests<A>>,
+    alloc: &A,
+    is_only: bool,
+    top: Span,
+    names: &[PatchNo],
+) -> Option<Rests<A>>
+    ensures { IfSome result (λ r. IsLaidOn (begun is_only rests) r top names.now) }
+{
+    if top.start >= top.stop {
+        return None;
+    }
+    let mut begun = begin(rests, alloc, is_only)?;
+    match begun.lay(top, names) {
+        Ok(()) => Some(begun),
+        Err(_) => None,
+    }
+}
+
+fn begin<A: Allocator + Clone>(
+    rests: Option<Rests<A>>,
+    alloc: &A,
+    is_only: bool,
+) -> Option<Rests<A>>
+    ensures { IfSome result (λ r. begun is_only rests ≡ Some r) }
+{
+    match rests {
+        Some(mut rests) => {
+            if is_only {
+                rests.clear();
+            }
+            Some(rests)
+        }
+        None => {
+            if is_only {
+                Rests::none(alloc).ok()
+            } else {
+                None
+            }
+        }
+    }
+}
+
+/// Adds numbers to some that rise.
+fn add_all<A: Allocator>(numbers: &mut Vec<PatchNo, A>, more: &[PatchNo]) -> Result<(), OutOfMemory>
+    requires rising { IsNonDecreasing numbers.old.items }
+    ensures rising { IsNonDecreasing numbers.new.items }
+    ensures gained { OnOk result (Gains numbers.old.items more.now numbers.new.items) }
+{
+    for no in more {
+        add(numbers, *no)?;
+    }
+    Ok(())
+}
+
+fn add<A: Allocator>(numbers: &mut Vec<PatchNo, A>, no: PatchNo) -> Result<(), OutOfMemory>
+    requires rising { IsNonDecreasing numbers.old.items }
+    ensures rising { IsNonDecreasing numbers.new.items }
+    ensures gained { OnOk result (Gains numbers.old.items (no ∷ []) numbers.new.items) }
+{
+    match numbers.binary_search(&no) {
+        Ok(_) => {}
+        Err(at) => numbers.insert(at, no)?,
+    }
+    Ok(())
+}
