@@ -3,7 +3,7 @@ ghost use Rattle.std.specs.Prelude.{◌≡◌, ◌<◌, ◌≤◌, ◌+◌, ◌+
 ghost use Rattle.std.specs.List.{list_all};
 ghost use Rattle.std.specs.Option.{option_map_or};
 ghost use Rattle.std.specs.Prelude.{◌&&◌, ◌==◌, false};
-ghost use Rattle.indexmap.specs.IndexMap.{spare};
+ghost use Rattle.patch_table.specs.Table.{HasRoomAt, entries_of};
 ghost use Rattle.slab.specs.Slab.{HasRoomFor};
 ghost use Rattle.patch_graph.specs.State.{class_at};
 ghost use Rattle.patch_graph.specs.Adding.{AreDependencies, lets_drop, is_hard, IsAdded};
@@ -26,17 +26,18 @@ use std::alloc::{AllocError, Allocator};
 fn make_room<A: Allocator + Copy>(
     classes: &mut Classes<A>,
     keys: &mut Keys<A>,
+    no: PatchNo,
     scratch: &mut Scratch<A>,
 ) -> Result<(), AllocError>
     ensures classes { OnOk result (HasRoomFor classes.new 1) }
-    ensures keys { OnOk result (0 < spare keys.new) }
+    ensures keys { OnOk result (HasRoomAt keys.new no) }
     ensures searches { OnOk result (classes.new.capacity ≤ scratch.new) }
     ensures same_classes { classes.new.slots ≡ classes.old.slots }
-    ensures same_keys { keys.new.entries ≡ keys.old.entries }
+    ensures same_keys { entries_of keys.new ≡ entries_of keys.old }
     ensures kept { scratch.old ≤ scratch.new }
 {
     classes.reserve(1)?;
-    keys.reserve(1)?;
+    keys.reserve(no.0)?;
     scratch.grow(classes.capacity())
 }
 
@@ -130,9 +131,9 @@ pub fn insert<A: Allocator + Copy>(
     ensures unknown { AreClear memo.old.known → AreClear memo.new.known }
     ensures refused { OnErr result (register.new ≡ register.old) }
 {
-    make_room(&mut register.classes, &mut register.keys, scratch)?;
-    memo.grow(register.classes.capacity())?;
     let no = PatchNo(register.made);
+    make_room(&mut register.classes, &mut register.keys, no, scratch)?;
+    memo.grow(register.classes.capacity())?;
     let top = Span {
         start: class.start,
         stop: class.stop,

@@ -1,7 +1,9 @@
 //! Classes made durable.
-ghost use Rattle.std.specs.Prelude.{◌≡◌, ◌==◌, length};
+ghost use Rattle.std.specs.Prelude.{◌≡◌, ◌≢◌, ◌==◌, ℕ, None, length};
+ghost use Rattle.patch_graph.specs.State.{find};
 ghost use Rattle.patch_model.specs.Entry.{is_among};
 ghost use Rattle.patch_graph.specs.BlockKeys.{HoldsKeys, LosesOf, LosesOnly};
+ghost use Rattle.patch_table.specs.Table.{entries_of};
 ghost use Rattle.patch_graph.specs.MarkDurable.{lands, lands_at, AreForgotten, HasLanded, MakesDurable};
 
 use crate::classes::Class;
@@ -26,12 +28,20 @@ fn lands_at<A: Allocator>(register: &Register<A>, block: BlockNo, key: usize) ->
     }
 }
 
+/// Takes the key of a number away.
+fn forget_one<A: Allocator>(keys: &mut Keys<A>, no: PatchNo)
+    ensures here { find (entries_of keys.new) no ≡ None }
+    ensures others { (n : ℕ) → n ≢ no → find (entries_of keys.new) n ≡ find (entries_of keys.old) n }
+{
+    keys.remove(no.0);
+}
+
 /// Takes the keys of these numbers away.
 fn forget<A: Allocator>(keys: &mut Keys<A>, members: &[PatchNo])
-    ensures { AreForgotten members.now keys.old.entries keys.new.entries (length members.now) }
+    ensures { AreForgotten members.now (entries_of keys.old) (entries_of keys.new) (length members.now) }
 {
     for no in members {
-        keys.swap_remove(no);
+        forget_one(keys, *no);
     }
 }
 

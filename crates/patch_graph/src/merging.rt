@@ -1,6 +1,7 @@
 //! Two classes made one.
 ghost use Rattle.std.specs.Prelude.{◌≡◌, ◌≢◌, ℕ, List, Some, length, min, IfOk, OnOk, OnErr};
 ghost use Rattle.std.specs.Option.{option_map};
+ghost use Rattle.patch_table.specs.Table.{entries_of};
 ghost use Rattle.patch_graph.specs.State.{class_at, find};
 ghost use Rattle.patch_graph.specs.Merging.{joined_class, absorbed_at, replaced_at, AreRedirected, HasJoined, Merges};
 ghost use Rattle.patch_graph.specs.BlockKeys.{AreListed};
@@ -53,17 +54,15 @@ fn absorb_at<A: Allocator>(
 
 /// Has a number lead to another key, if it leads to one.
 fn redirect_one<A: Allocator>(keys: &mut Keys<A>, no: PatchNo, key: usize)
-    ensures here { find keys.new.entries no ≡ option_map (λ k. key) (find keys.old.entries no) }
-    ensures others { (n : ℕ) → n ≢ no → find keys.new.entries n ≡ find keys.old.entries n }
+    ensures here { find (entries_of keys.new) no ≡ option_map (λ k. key) (find (entries_of keys.old) no) }
+    ensures others { (n : ℕ) → n ≢ no → find (entries_of keys.new) n ≡ find (entries_of keys.old) n }
 {
-    if let Some(place) = keys.get_mut(&no) {
-        *place = key;
-    }
+    keys.change(no.0, key);
 }
 
 /// Has these numbers lead to another key.
 fn redirect<A: Allocator>(keys: &mut Keys<A>, members: &[PatchNo], key: usize)
-    ensures { AreRedirected members.now key keys.old.entries keys.new.entries }
+    ensures { AreRedirected members.now key (entries_of keys.old) (entries_of keys.new) }
 {
     for no in members {
         redirect_one(keys, *no, key);

@@ -1,6 +1,6 @@
 //! The register of the live classes: where each is found.
-ghost use Rattle.std.specs.Prelude.{◌≡◌, ◌≢◌, ◌<◌, ℕ, [], Some};
-ghost use Rattle.indexmap.specs.IndexMap.{spare};
+ghost use Rattle.std.specs.Prelude.{◌≡◌, ◌≢◌, ℕ, [], Some};
+ghost use Rattle.patch_table.specs.Table.{HasRoomAt, entries_of};
 ghost use Rattle.std.specs.Option.{option_map, option_copied};
 ghost use Rattle.patch_graph.specs.State.{find, class_at};
 ghost use Rattle.patch_graph.specs.Showing.{shown};
@@ -8,18 +8,17 @@ ghost use Rattle.patch_graph.specs.BlockKeys.{is_key};
 
 use crate::classes::{Class, LiveClass};
 use crate::skylines::Skylines;
-use indexmap::IndexMap;
 use patch_model::{Mark, PatchNo};
+use patch_table::Table;
 use slab::Slab;
 use std::alloc::{Allocator, Global};
-use std::hash::{BuildHasherDefault, FoldHasher};
 use std::marker::Model;
 
 /// Classes by their keys.
 pub type Classes<A> = Slab<Class<A>, A>;
 
 /// The key of each live patch's class.
-pub type Keys<A> = IndexMap<PatchNo, usize, BuildHasherDefault<FoldHasher>, A>;
+pub type Keys<A> = Table<A>;
 
 /// How many patches were made, the live classes by their keys, the key of each live patch's class, and the skyline of each block.
 #[derive(Drop)]
@@ -31,11 +30,12 @@ pub struct Register<A: Allocator = Global> {
 }
 
 impl<A: Allocator> Model for Register<A> {
+    ghost use Rattle.patch_table.specs.Table.{entries_of};
     ghost use Rattle.patch_graph.specs.State.{Graph as Seen};
 
     ghost Value = { Seen };
 
-    ghost view = { λ r. record { made = r.made; slots = r.classes.slots; numbers = r.keys.entries; tops = r.skylines.entries } };
+    ghost view = { λ r. record { made = r.made; slots = r.classes.slots; numbers = entries_of r.keys; tops = r.skylines.entries } };
 }
 
 impl<A: Allocator + Copy> Register<A> {
@@ -64,7 +64,7 @@ impl<A: Allocator> Register<A> {
     pub fn find(&self, no: PatchNo) -> Option<usize>
         ensures { result ≡ find self.now.numbers no }
     {
-        self.keys.get(&no).copied()
+        self.keys.get(no.0)
     }
 
     /// The class at a key.
@@ -114,9 +114,9 @@ impl<A: Allocator> Register<A> {
 
 /// Notes the key of a patch's class, where there is room for one more.
 pub fn enter<A: Allocator + Copy>(keys: &mut Keys<A>, no: PatchNo, key: usize)
-    requires { 0 < spare keys.old }
-    ensures here { find keys.new.entries no ≡ Some key }
-    ensures others { (n : ℕ) → n ≢ no → find keys.new.entries n ≡ find keys.old.entries n }
+    requires { HasRoomAt keys.old no }
+    ensures here { find (entries_of keys.new) no ≡ Some key }
+    ensures others { (n : ℕ) → n ≢ no → find (entries_of keys.new) n ≡ find (entries_of keys.old) n }
 {
-    keys.insert(no, key).unwrap();
+    keys.put(no.0, key);
 }

@@ -1,4 +1,5 @@
 use Rattle.std.proofs.Common.{sym, ap, subst, ◌∙◌, Some, ◌≡◌, ℕ, List, filter}
+use Rattle.patch_table.specs.Table.{entries_of}
 use Rattle.patch_graph.specs.State.{Class, Graph, Slots, class_at}
 use Rattle.patch_graph.specs.Merging.{AreRedirected, HasJoined, replaced_at}
 use Rattle.patch_graph.specs.BlockKeys.{listed, is_key, AreListed, IsRelisted}
@@ -12,7 +13,7 @@ returns-in-Err-clause-refused g c =
     let there : class_at slots c.args.gone ≡ Some c.in-Some.other = sym c.in-Some.ensures.was in
     let back : c.replace_at-in-Err.new.classes.slots ≡ slots = c.replace_at-in-Err.ensures.put ∙ ap (λ (s : Slots). replaced_at s c.args.gone c.in-Some.other) (c.in-Err.ensures.refused ∙ c.in-Some.ensures.put)
     ∙ put-back slots c.args.gone c.in-Some.other c.bare-bare.result there in
-    ap (λ (s : Slots). record { made = c.register.inside.made; slots = s; numbers = c.register.inside.keys.entries; tops = c.register.inside.skylines.entries }) back ∙ c.register.view_is
+    ap (λ (s : Slots). record { made = c.register.inside.made; slots = s; numbers = (entries_of c.register.inside.keys); tops = c.register.inside.skylines.entries }) back ∙ c.register.view_is
 
 pub returns-in-Err-clause-listed : goal.returns-in-Err-clause-listed
 returns-in-Err-clause-listed g c l =
@@ -28,10 +29,10 @@ returns-in_default-absorb_at-clause-joined g c =
     let members : c.as_slice.result.now ≡ c.in-Some.other.members = c.as_slice.ensures ∙ ap (λ (z : Class). z.members) c.other.view_is in
     let there : class_at slots c.args.gone ≡ Some c.in-Some.other = sym c.in-Some.ensures.was in
     let but = subst (λ (s : Slots). IsSameBut c.args.gone slots s) (sym c.in-Some.ensures.put) (replaced-but slots c.args.gone c.bare-bare.result) in
-    subst (λ (z : Graph). HasJoined c.args.keep c.args.gone z (record { made = c.register.inside.made; slots = c.try_remove.new.self.slots; numbers = c.redirect.new.keys.entries; tops = c.register.inside.skylines.entries })) c.register.view_is
+    subst (λ (z : Graph). HasJoined c.args.keep c.args.gone z (record { made = c.register.inside.made; slots = c.try_remove.new.self.slots; numbers = (entries_of c.redirect.new.keys); tops = c.register.inside.skylines.entries })) c.register.view_is
     (λ x y differ at at2. joins-at slots c.replace_at.new.classes.slots c.absorb_at.new.classes c.try_remove.new.self c.args.keep c.args.gone c.in-Some.other but there
     c.in_default-absorb_at.ensures.joined c.try_remove.ensures.updates _ _ x y differ at at2
-    (subst (λ (l : List ℕ). AreRedirected l c.args.keep c.register.inside.keys.entries c.redirect.new.keys.entries) members c.redirect.ensures))
+    (subst (λ (l : List ℕ). AreRedirected l c.args.keep (entries_of c.register.inside.keys) (entries_of c.redirect.new.keys)) members c.redirect.ensures))
 
 pub returns-in_default-absorb_at-clause-listed : goal.returns-in_default-absorb_at-clause-listed
 returns-in_default-absorb_at-clause-listed g c l =
