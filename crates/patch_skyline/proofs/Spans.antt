@@ -5,7 +5,7 @@ use Rattle.std.specs.List.{AllWithin, insert, slice_range, remove_range}
 use Rattle.std.specs.List.Sorted.{IsPartitionedBy, IsPartitionPoint}
 use Rattle.std.proofs.Math.Seq.{drop-cons}
 use Rattle.std.proofs.lemmas.Bool.{cases_Bool, cases_lt, and_parts, and_from, lt-ltb, le-leb, ltb-true, leb-true, false_from_ne_true, both_ways}
-use Rattle.std.proofs.lemmas.List.{take-append-drop, take-set, take_more_set, drop-set, drop-set-lt}
+use Rattle.std.proofs.lemmas.List.{take-append-drop, take-set, take_more, take_more_set, drop-set, drop-set-lt}
 use Rattle.patch_model.specs.Member.{In}
 use Rattle.patch_skyline.specs.declared.skylines.Span.{Span}
 use Rattle.patch_skyline.specs.Skyline.{has_byte, top_at, AreApart, IsCutAt, IsSameSkyline, IsLaid, IsTopWithin, AreTops}
@@ -181,6 +181,35 @@ ended-by ss at i p = (
   (λ k d low h. elim (cases_lt at (slice_index_or ss k d).stop) [ inl l ↦ l | inr l ↦ absurd (both_ways _ (p.1 k d low h) (le-leb (slice_index_or ss k d).stop at l)) ]),
 )
 
+-- where the last one does, all do
+all-begun : (ss : List Span) (at : ℕ) → AreApart ss → ((n : ℕ) → n + 1 ≡ length ss → (d : Span) → (slice_index_or ss n d).start < at) → (k : ℕ) (d : Span) → k < length ss → (slice_index_or ss k d).start < at
+all-begun [] at a last k d h = absurd (omega arith)
+all-begun (s ∷ []) at a last zero d h = last 0 (omega arith) d
+all-begun (s ∷ []) at a last (suc k) d h = absurd (omega arith)
+all-begun (s ∷ t ∷ ss) at a last zero d h =
+    let low = a.0 in
+    let next = a.1 t (inl refl) in
+    let high = all-begun (t ∷ ss) at a.2 (λ n e. last (suc n) (omega (arith, e))) zero d (omega arith) in
+    omega (arith, low, next, high)
+all-begun (s ∷ t ∷ ss) at a last (suc k) d h = all-begun (t ∷ ss) at a.2 (λ n e. last (suc n) (omega (arith, e))) k d (omega arith)
+
+all-ended : (ss : List Span) (at : ℕ) → AreApart ss → ((n : ℕ) → n + 1 ≡ length ss → (d : Span) → (slice_index_or ss n d).stop ≤ at) → (k : ℕ) (d : Span) → k < length ss → (slice_index_or ss k d).stop ≤ at
+all-ended [] at a last k d h = absurd (omega arith)
+all-ended (s ∷ []) at a last zero d h = last 0 (omega arith) d
+all-ended (s ∷ []) at a last (suc k) d h = absurd (omega arith)
+all-ended (s ∷ t ∷ ss) at a last zero d h =
+    let next = a.1 t (inl refl) in
+    let low = a.2.0 in
+    let high = all-ended (t ∷ ss) at a.2 (λ n e. last (suc n) (omega (arith, e))) zero d (omega arith) in
+    omega (arith, low, next, high)
+all-ended (s ∷ t ∷ ss) at a last (suc k) d h = all-ended (t ∷ ss) at a.2 (λ n e. last (suc n) (omega (arith, e))) k d (omega arith)
+
+pub begun-all : (ss : List Span) (at : ℕ) → AreApart ss → ((n : ℕ) → n + 1 ≡ length ss → (d : Span) → (slice_index_or ss n d).start < at) → Begun ss at (length ss)
+begun-all ss at a last = ((λ k d low h. all-begun ss at a last k d h), (λ k d low h. absurd (omega (arith, low, h))))
+
+pub ended-all : (ss : List Span) (at : ℕ) → AreApart ss → ((n : ℕ) → n + 1 ≡ length ss → (d : Span) → (slice_index_or ss n d).stop ≤ at) → Ended ss at (length ss)
+ended-all ss at a last = ((λ k d low h. all-ended ss at a last k d h), (λ k d low h. absurd (omega (arith, low, h))))
+
 -- Where a span is cut.
 
 -- the list at a place
@@ -310,9 +339,12 @@ pub record IsCovered (old new : List Span) (top : Span) : Type 0 where
   pub laid : IsLaid old new top
   pub apart : AreApart new
 
-covered : (ss : List Span) (top : Span) (first last : ℕ) → AreApart ss → IsCutAt top.start ss → IsCutAt top.stop ss → top.start < top.stop
-    → Begun ss top.start first → Begun ss top.stop last → IsCovered ss (take first ss ++ top ∷ drop last ss) top
-covered ss top first last a cut_start cut_stop some p q = record {
+-- between those that end before it and those that begin behind it
+laid-between : (ss : List Span) (top : Span) (first last : ℕ) → AreApart ss → top.start < top.stop
+    → ((s : Span) → In (take first ss) s → s.stop ≤ top.start) → ((s : Span) → In (drop first ss) s → top.start ≤ s.start)
+    → ((s : Span) → In (take last ss) s → s.stop ≤ top.stop) → ((s : Span) → In (drop last ss) s → top.stop ≤ s.start)
+    → IsCovered ss (take first ss ++ top ∷ drop last ss) top
+laid-between ss top first last a some ends from ends-last behind = record {
   laid = record {
     here = λ x t. let b = byte-of top x t in let low = b.0 in
         top-behind (take first ss) (top ∷ drop last ss) x (λ s i. let e = ends s i in no-byte s x (inl (omega (arith, e, low)))) ∙ (rw t refl);
@@ -322,7 +354,7 @@ covered ss top first last a cut_start cut_stop some p q = record {
             | inl e ↦ subst (λ z. has_byte z x ≡ false) e t
             | inr j ↦ let b = behind s j in no-byte s x (inr (omega (arith, b, l, some)))
           ])
-          ∙ sym (ap (λ z. top_at z x) (sym (take-append-drop first ss)) ∙ top-before (take first ss) (drop first ss) x (λ s i. let b = begun-behind ss top.start first p s i in no-byte s x (inr (omega (arith, b, l)))))
+          ∙ sym (ap (λ z. top_at z x) (sym (take-append-drop first ss)) ∙ top-before (take first ss) (drop first ss) x (λ s i. let b = from s i in no-byte s x (inr (omega (arith, b, l)))))
       | inr l ↦
           let high : top.stop ≤ x = elim (cases_lt x top.stop) [ inl h ↦ absurd (both_ways _ t (has-byte top x l h)) | inr h ↦ h ] in
           top-behind (take first ss) (top ∷ drop last ss) x (λ s i. let e = ends s i in no-byte s x (inl (omega (arith, e, l)))) ∙ (rw t refl)
@@ -336,6 +368,10 @@ covered ss top first last a cut_start cut_stop some p q = record {
         | inr k ↦ let b = behind t k in omega (arith, e, b, some)
       ]);
 }
+
+covered : (ss : List Span) (top : Span) (first last : ℕ) → AreApart ss → IsCutAt top.start ss → IsCutAt top.stop ss → top.start < top.stop
+    → Begun ss top.start first → Begun ss top.stop last → IsCovered ss (take first ss ++ top ∷ drop last ss) top
+covered ss top first last a cut_start cut_stop some p q = laid-between ss top first last a some ends (begun-behind ss top.start first p) ends-last (begun-behind ss top.stop last q)
   where
     in-first : (i : ℕ) (s : Span) → In (take i ss) s → In ss s
     in-first i s j = subst (λ z. In z s) (take-append-drop i ss) (In-left (take i ss) (drop i ss) s j)
@@ -346,8 +382,70 @@ covered ss top first last a cut_start cut_stop some p q = record {
     ends-last : (s : Span) → In (take last ss) s → s.stop ≤ top.stop
     ends-last s i = let l = begun-before ss top.stop last q s i in elim (cut_stop s (in-first last s i)) [ inl h ↦ h | inr h ↦ absurd (omega (arith, l, h)) ]
 
-    behind : (s : Span) → In (drop last ss) s → top.stop ≤ s.start
-    behind s i = begun-behind ss top.stop last q s i
+-- the span at a place, and those behind it
+drop-at : (ss : List Span) (i : ℕ) (d : Span) → i < length ss → drop i ss ≡ slice_index_or ss i d ∷ drop (i + 1) ss
+drop-at ss i d h = let next : suc i ≡ i + 1 = omega arith in drop-cons ss i d h ∙ ap (λ n. slice_index_or ss i d ∷ drop n ss) next
+
+drop-none : (ss : List Span) (i : ℕ) → length ss ≤ i → drop i ss ≡ []
+drop-none [] zero h = refl
+drop-none [] (suc i) h = refl
+drop-none (s ∷ ss) zero h = absurd (omega arith)
+drop-none (s ∷ ss) (suc i) h = drop-none ss i (omega arith)
+
+-- those from a place on begin where the first of them does, or later
+from-first : (s : Span) (ss : List Span) → AreApart (s ∷ ss) → (t : Span) → In (s ∷ ss) t → s.start ≤ t.start
+from-first s ss a t (inl e) = subst (λ z. s.start ≤ z.start) e (omega arith)
+from-first s ss a t (inr i) = let low = a.0 in let high = a.1 t i in omega (arith, low, high)
+
+apart-from : (ss : List Span) (i : ℕ) → AreApart ss → AreApart (drop i ss)
+apart-from ss i a = apart-last (take i ss) (drop i ss) (subst AreApart (sym (take-append-drop i ss)) a)
+
+-- where there is a gap, it is put there
+pub laid-free : (ss : List Span) (top : Span) (i : ℕ) → AreApart ss → top.start < top.stop → Ended ss top.start i
+    → ((d : Span) → i < length ss → top.stop ≤ (slice_index_or ss i d).start) → IsCovered ss (insert ss i top) top
+laid-free ss top i a some p free = laid-between ss top i i a some ends (λ s j. let b = behind s j in omega (arith, b, some)) (λ s j. let e = ends s j in omega (arith, e, some)) behind
+  where
+    ends : (s : Span) → In (take i ss) s → s.stop ≤ top.start
+    ends = before-all (λ s. s.stop ≤ top.start) ss i p.0
+
+    behind : (s : Span) → In (drop i ss) s → top.stop ≤ s.start
+    behind s j = elim (cases_lt i (length ss)) [
+      | inl h ↦
+          let e = drop-at ss i top h in
+          let b = from-first (slice_index_or ss i top) (drop (i + 1) ss) (subst AreApart e (apart-from ss i a)) s (subst (λ z. In z s) e j) in
+          let f = free top h in
+          omega (arith, b, f)
+      | inr h ↦ absurd (subst (λ z. In z s) (drop-none ss i h) j)
+    ]
+
+-- one that has just its bytes gives it its place
+pub laid-same : (ss : List Span) (top s : Span) (i : ℕ) → AreApart ss → top.start < top.stop → Ended ss top.start i → i < length ss → slice_index_or ss i s ≡ s
+    → s.start ≡ top.start → s.stop ≡ top.stop → IsCovered ss (slice_set ss i top) top
+laid-same ss top s i a some p within is low high = subst (λ z. IsCovered ss z top) (sym now) (laid-between ss top i (i + 1) a some ends from ends-last behind)
+  where
+    now : slice_set ss i top ≡ take i ss ++ top ∷ drop (i + 1) ss
+    now = sym (take-append-drop i (slice_set ss i top)) ∙ ap (λ z. z ++ drop i (slice_set ss i top)) (take-set ss i top) ∙ ap (λ z. take i ss ++ z) (drop-set ss i top within)
+
+    whole : drop i ss ≡ s ∷ drop (i + 1) ss
+    whole = drop-at ss i s within ∙ ap (λ z. z ∷ drop (i + 1) ss) is
+
+    apart : AreApart (s ∷ drop (i + 1) ss)
+    apart = subst AreApart whole (apart-from ss i a)
+
+    ends : (t : Span) → In (take i ss) t → t.stop ≤ top.start
+    ends = before-all (λ t. t.stop ≤ top.start) ss i p.0
+
+    from : (t : Span) → In (drop i ss) t → top.start ≤ t.start
+    from t j = let b = from-first s (drop (i + 1) ss) apart t (subst (λ z. In z t) whole j) in omega (arith, b, low)
+
+    ends-last : (t : Span) → In (take (i + 1) ss) t → t.stop ≤ top.stop
+    ends-last t j = elim (In-parts (take i ss) (s ∷ []) t (subst (λ z. In z t) (take_more ss i s within ∙ ap (λ z. take i ss ++ z ∷ []) is) j)) [
+      | inl k ↦ let e = ends t k in omega (arith, e, some)
+      | inr k ↦ elim k [ inl e ↦ subst (λ z. z.stop ≤ top.stop) e (omega (arith, high)) | inr n ↦ absurd n ]
+    ]
+
+    behind : (t : Span) → In (drop (i + 1) ss) t → top.stop ≤ t.start
+    behind t j = let b = apart.1 t j in omega (arith, b, high)
 
 -- the one place isn't behind the other
 pub in-order : (ss : List Span) (a b i j : ℕ) → a < b → i ≤ length ss → Begun ss a i → Begun ss b j → i ≤ j

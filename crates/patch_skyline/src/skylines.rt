@@ -61,9 +61,7 @@ impl<A: Allocator> Skyline<A> {
         ensures refused { OnErr result (self.new ≡ self.old) }
     {
         self.spans.reserve(3)?;
-        cut(&mut self.spans, top.start);
-        cut(&mut self.spans, top.stop);
-        cover(&mut self.spans, top);
+        put(&mut self.spans, top);
         Ok(())
     }
 
@@ -90,8 +88,50 @@ impl<A: Allocator> Skyline<A> {
     }
 }
 
-/// How many of the spans begin before the byte.
+/// Lays a span over the others. Most are laid where there is none, or where just one was laid before.
+fn put<A: Allocator>(spans: &mut Vec<Span, A>, top: Span)
+    requires apart { AreApart spans.old.items }
+    requires some { top.start < top.stop }
+    requires room { vec_len spans.old + 3 ≤ vec_capacity spans.old }
+    ensures laid { IsLaid spans.old.items spans.new.items top }
+    ensures apart { AreApart spans.new.items }
+{
+    let first = ended(spans.as_slice(), top.start);
+    if first == spans.len() {
+        spans.insert(first, top).unwrap();
+        return;
+    }
+    let span = spans[first];
+    if top.stop <= span.start {
+        spans.insert(first, top).unwrap();
+        return;
+    }
+    if span.start == top.start && span.stop == top.stop {
+        spans[first] = top;
+        return;
+    }
+    cut(spans, top.start);
+    cut(spans, top.stop);
+    cover(spans, top);
+}
+
+/// How many of the spans begin before the byte. Where all do, it looks at the last one alone.
 fn begun(spans: &[Span], at: usize) -> usize
+    requires { AreApart spans.now }
+    ensures within { result ≤ length spans.now }
+    ensures place { IsPartitionPoint (λ s. s.start < at) (λ s. at ≤ s.start) spans.now result }
+{
+    match spans.last() {
+        Some(last) => if last.start < at {
+            spans.len()
+        } else {
+            begun_before(spans, at)
+        },
+        None => 0,
+    }
+}
+
+fn begun_before(spans: &[Span], at: usize) -> usize
     requires { AreApart spans.now }
     ensures within { result ≤ length spans.now }
     ensures place { IsPartitionPoint (λ s. s.start < at) (λ s. at ≤ s.start) spans.now result }
@@ -103,8 +143,23 @@ fn begun(spans: &[Span], at: usize) -> usize
     )
 }
 
-/// How many of the spans end before the byte.
+/// How many of the spans end before the byte. Where all do, it looks at the last one alone.
 fn ended(spans: &[Span], at: usize) -> usize
+    requires { AreApart spans.now }
+    ensures within { result ≤ length spans.now }
+    ensures place { IsPartitionPoint (λ s. s.stop ≤ at) (λ s. at < s.stop) spans.now result }
+{
+    match spans.last() {
+        Some(last) => if last.stop <= at {
+            spans.len()
+        } else {
+            ended_before(spans, at)
+        },
+        None => 0,
+    }
+}
+
+fn ended_before(spans: &[Span], at: usize) -> usize
     requires { AreApart spans.now }
     ensures within { result ≤ length spans.now }
     ensures place { IsPartitionPoint (λ s. s.stop ≤ at) (λ s. at < s.stop) spans.now result }

@@ -1,10 +1,13 @@
-use Rattle.std.proofs.Common.{rules, of_calls}
-use Rattle.std.specs.Prelude.{nat_le}
-use Rattle.std.proofs.lemmas.Fn.{always_returns_same}
+use Rattle.std.proofs.Common.{◌≡◌, ◌-◌, ◌≤◌, length, subst, arith}
+use Rattle.std.specs.Prelude.{slice_index_or}
 use Rattle.patch_skyline.specs.declared.skylines.Span.{Span}
-use Rattle.patch_skyline.proofs.Spans.{parted-stops, ended-by}
+use Rattle.patch_skyline.proofs.Spans.{ended-all}
 use Rattle.patch_skyline.proofs.skylines.ended.Goals as goal
 
-pub returns-clause-place : goal.returns-clause-place
-returns-clause-place c = ended-by c.args.spans.now c.args.at c.partition_point.result
-    (c.partition_point.ensures.partitioned (λ (s : Span). nat_le s.stop c.args.at) (always_returns_same _ _ _ (λ a r f k. search (rules, of_calls))) (parted-stops c.args.spans.now c.args.at c.requires))
+pub returns-then-last-at-clause-place : goal.returns-then-last-at-clause-place
+returns-then-last-at-clause-place c =
+    let ss = c.args.spans.now in
+    let at = c.args.at in
+    ended-all ss at c.requires (λ n e d.
+    let last : length ss - 1 ≡ n = omega (arith, e) in
+    subst (λ m. (slice_index_or ss m d).stop ≤ at) last (subst (λ (s : Span). s.stop ≤ at) (c.in-Some.ensures.item.3.1 d) c.if-last-at.true))
