@@ -7,6 +7,7 @@ use Rattle.std.proofs.lemmas.List.{get_or-set_same, get_or-set_other, length-set
 use Rattle.patch_model.specs.Entry.{Entry, is_live, is_among}
 use Rattle.patch_model.specs.Dependency.{Path, LiesBetween, shares_byte, one as one_path, onward as onward_path}
 use Rattle.patch_model.specs.Member.{list_any-at, list_any-from}
+use Rattle.patch_model.proofs.Rings.{Path-append}
 use Rattle.patch_graph.specs.State.{Class, Graph, Slots, find, class_at}
 use Rattle.patch_graph.specs.Marks.{is_marked, AreClear, HoldsMarked}
 use Rattle.patch_graph.specs.Ready.{Escapes, out, on, IsLargestMet}
@@ -17,7 +18,7 @@ use Rattle.patch_graph.proofs.Facts.{known}
 use Rattle.patch_graph.proofs.Places.{place-of}
 use Rattle.patch_graph.proofs.Settling.{marked_below}
 use Rattle.patch_graph.proofs.ReadySet.{closed, placed, class_same}
-use Rattle.patch_graph.proofs.Reaching.{marked-step, marked-path, Leads-path, path-leads, from-depends, one-key}
+use Rattle.patch_graph.proofs.Reaching.{reaches_is, marked-step, marked-path, Leads-path, path-leads, from-depends, one-key}
 
 -- so far, where the copy was clear at first
 pub record IsPartWithout (to : ℕ) (marks : List Bool) (keys : List ℕ) (old rest : List Bool) (upto : ℕ) : Type 0 where
@@ -245,6 +246,16 @@ between_is g all a b x y from to keys marks old rest o r no_ring low la lb fa fb
     let qa = placed g all r la.0 from la.1 (ap (find g.numbers) la.2 ∙ fa) in
     let qb = placed g all r lb.0 to lb.1 (ap (find g.numbers) lb.2 ∙ fb) in
     least-lies g all r x y from to qa.0 qb.0 keys marks old rest low no_ring held qa.1 qb.1 (qa.2 ∙ la.4) (qb.2 ∙ lb.4) s w l o least
+
+-- where the one class isn't reached from the other, nothing lies between
+pub unreached_is : (g : Graph) (all : List Entry) (a b x y from to : ℕ) (marks : List Bool) → Represents g all → length g.slots ≤ length marks → IsLiveClass all a x → IsLiveClass all b y
+    → find g.numbers a ≡ Some from → find g.numbers b ≡ Some to → IsReachable g.slots g.numbers from to marks → is_marked marks to ≡ false → IsLeastBetween all x y None
+unreached_is g all a b x y from to marks r low la lb fa fb s off m between =
+    let qa = placed g all r la.0 from la.1 (ap (find g.numbers) la.2 ∙ fa) in
+    let qb = placed g all r lb.0 to lb.1 (ap (find g.numbers) lb.2 ∙ fb) in
+    let differ : from ≡ to → ⊥ = λ e. both_ways _ off (ap (is_marked marks) (sym e) ∙ s.first) in
+    let other : x ≡ y → ⊥ = λ e. differ (one-key g all r from to qa.0 qb.0 qa.1 qb.1 ((qa.2 ∙ la.4) ∙ e ∙ sym (qb.2 ∙ lb.4))) in
+    both_ways _ off ((reaches_is g all a b x y from to marks r low la lb differ fa fb s).1 (other, Path-append between.from between.to))
 
 -- a path's last step
 last-step : (all : List Entry) (a b : ℕ) → Path all a b → (m : ℕ) × DependsOn all m b

@@ -208,6 +208,10 @@ fn between_exactly<A: Allocator>(
     }
     let count = search(register, from, to, marks, queue);
     let found = &mut queue[..count];
+    if !is_marked(marks, to) {
+        clear(found, marks);
+        return None;
+    }
     found.reverse();
     copy_without(found, marks, dead_ends, to);
     settle(register, found, dead_ends);
