@@ -41,6 +41,12 @@ count_cons w ws = sum_by-cons (λ y. cond (is_some y) 1 0) w ws
 counted : {X : Type 0} → (w : Option X) (old new : List (Option X)) → count_by is_some new ≡ count_by is_some old + 1 → count_by is_some (w ∷ new) ≡ count_by is_some (w ∷ old) + 1
 counted w old new h = rw (count_cons w new, count_cons w old) (omega arith)
 
+-- one more, where none was
+pub one_more : {X : Type 0} → (ws : List (Option X)) (i : ℕ) (x : X) → i < length ws → get_or ws i None ≡ None → count_by is_some (set ws i (Some x)) ≡ count_by is_some ws + 1
+one_more [] i x within none = absurd (omega arith)
+one_more (w ∷ ws) zero x within none = rw (count_cons (Some x) ws, count_cons w ws, none) (omega arith)
+one_more (w ∷ ws) (suc i) x within none = counted w ws (set ws i (Some x)) (one_more ws i x (omega arith) none)
+
 -- one less, where one was
 pub one_less : {X : Type 0} → (ws : List (Option X)) (i : ℕ) (x : X) → slice_get ws i ≡ Some (Some x) → count_by is_some (set ws i None) + 1 ≡ count_by is_some ws
 one_less [] i x at = absurd (cc)

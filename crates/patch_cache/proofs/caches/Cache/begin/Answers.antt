@@ -1,7 +1,8 @@
-use Rattle.std.proofs.Common.{◌≡◌, ◌<◌, ◌+◌, ◌∙◌, ℕ, List, [], Some, ◌-◌, ◌^◌, min, length, get_or, map, refl, sym, ap, subst, arith}
-use Rattle.std.specs.Prelude.{◌==◌, ◌&&◌, not, count_by}
+use Rattle.std.proofs.Common.{◌≡◌, ◌<◌, ◌≤◌, ◌++◌, ◌∷◌, ◌+◌, ◌∙◌, ℕ, List, [], None, Some, ◌-◌, ◌^◌, min, length, get_or, map, refl, sym, ap, subst, arith}
+use Rattle.std.specs.Prelude.{◌==◌, ◌&&◌, not, count_by, slice_index_or}
 use Rattle.std.specs.List.Sorted.{IsNonDecreasing}
-use Rattle.std.proofs.lemmas.List.{get_or_read_under}
+use Rattle.std.proofs.lemmas.List.{get_or_read_under, length-append, length-set, map-append}
+use Rattle.patch_model.specs.StepOf.{step_of}
 use Rattle.patch_model.specs.Entry.{Entry, is_live}
 use Rattle.patch_model.specs.Execution.{Execution, extended}
 use Rattle.patch_model.specs.History.{History, HoldsDependents, history_of, image, without}
@@ -17,6 +18,7 @@ use Rattle.patch_cache.specs.Contents.{Contents, no_block}
 use Rattle.patch_cache.specs.Meaning.{Represents, IsWriteOf}
 use Rattle.patch_cache.proofs.Departing.{may_depart}
 use Rattle.patch_cache.specs.BlockSets.{holds as is_in}
+use Rattle.patch_cache.proofs.Underway.{one_more}
 use Rattle.patch_cache.proofs.Waiting.{sent_waiting}
 use Rattle.patch_cache.proofs.Writing.{IsStepOf, stepped, sent_here, sent_other}
 use Rattle.patch_cache.proofs.caches.Cache.begin.Goals as goal
@@ -79,4 +81,27 @@ returns-clause-begun g c = λ run at may.
           c.block.view_is seen c.self.invariant.0 is flies write graph sends counted
           (sent_waiting run block _ _ state (λ other differ. c.steps_change_blocks.ensures.sent_elsewhere run block other differ)
           (λ n. c.remove.ensures n ∙ ap (λ (k : ℕ). not (n == k) && is_in c.self.inside.waiting n) place) seen.waiting),
+    )
+
+pub returns-clause-trace : goal.returns-clause-trace
+returns-clause-trace g c =
+    ap (map step_of) (rw c.reserve.ensures.items at c.push_reserved.ensures.items) ∙ map-append step_of c.self.inside.trace.items _
+    ∙ ap (λ (v : Contents). v.trace ++ Send c.args.block ∷ []) c.self.view_is
+
+pub invariant_of-self-2 : goal.invariant_of-self-2
+invariant_of-self-2 g c =
+    let ws = c.self.inside.writes.items in
+    let place : c.block.inside.0 ≡ c.args.block = c.block.view_is in
+    let many : length c.self.inside.blocks.items ≡ length c.args.self.now.blocks = ap (λ (v : Contents). length v.blocks) c.self.view_is in
+    let same : length ws ≡ length c.self.inside.blocks.items = c.self.invariant.0 in
+    let within : c.block.inside.0 < length ws = omega (arith, place, many, same, c.requires.known) in
+    let none = ap (λ n. slice_index_or ws n None) place ∙ ap (λ (v : Contents). slice_index_or v.writes c.args.block None) c.self.view_is ∙ c.requires.not_under_way in
+    let blocks = length-set c.self.inside.blocks.items c.block.inside.0 c.depart_each.new.self in
+    let longer : length c.push_reserved.new.self.items ≡ length c.reserve.new.self.items + 1 = ap length c.push_reserved.ensures.items ∙ length-append c.reserve.new.self.items _ in
+    let room = c.push_reserved.ensures.capacity in
+    let made = c.in_ok-reserve.ensures.ok in (
+      length-set ws c.block.inside.0 (Some _) ∙ same ∙ sym blocks,
+      subst (λ (n : ℕ). n ≤ 4096) (sym blocks) c.self.invariant.1,
+      ap (λ n. n + 1) c.self.invariant.2 ∙ sym (one_more ws c.block.inside.0 _ within none),
+      omega arith,
     )

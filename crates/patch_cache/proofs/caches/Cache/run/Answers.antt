@@ -1,5 +1,5 @@
 use Rattle.std.proofs.Common.{◌≡◌, ◌∙◌, ◌<◌, ◌++◌, ◌∷◌, [], length, map, get_or, append_assoc, ◌+◌, refl, sym, ap, subst, arith}
-use Rattle.std.proofs.lemmas.List.{length-append, map-append, append-nil}
+use Rattle.std.proofs.lemmas.List.{length-append, length-map, map-append, append-nil}
 use Rattle.patch_model.specs.Execution.{Execution}
 use Rattle.patch_cache.specs.Asks.{ask_of, answer_of, after_all, step_added, steps_added}
 use Rattle.patch_cache.specs.Running.{RunsOn, CountsFaults, CountFaults, IsCrashSafe, HaveWritten}
@@ -86,3 +86,13 @@ returns-in-Err-clause-written g c run on honest =
     let device = g.D.Device in
     subst (λ answers. HaveWritten run (map ask_of c.args.asks.now) (map answer_of answers) (device.contents c.args.device.now) (device.contents c.loop-ask.device)) (sym c.reserve.ensures.items)
     (c.loop-ask.invariant.written run on honest)
+
+pub returns-in-Err-clause-stopped : goal.returns-in-Err-clause-stopped
+returns-in-Err-clause-stopped g c =
+    let long : length (map answer_of c.reserve.new.self.items) ≡ c.loop-ask.ask-index = length-map c.reserve.new.self.items answer_of ∙ ap length c.reserve.ensures.items ∙ c.loop-ask.invariant.many in
+    omega (arith, long, c.loop-ask-test.true)
+
+pub returns-clause-all : goal.returns-clause-all
+returns-clause-all g c =
+    let long : length (map answer_of c.loop-ask.answers.items) ≡ c.loop-ask.ask-index = length-map c.loop-ask.answers.items answer_of ∙ c.loop-ask.invariant.many in
+    omega (arith, long, c.loop-ask-test.false, c.loop-ask.auto.ask-index-end)
