@@ -1,0 +1,12 @@
+pub mod Counts
+pub mod Places
+pub mod Waits
+pub mod Keeping
+pub mod Listings
+pub mod Passing
+pub mod Flights
+pub mod Launching
+pub mod Landings
+pub mod Landed
+pub mod Arranging
+pub mod ReadySets

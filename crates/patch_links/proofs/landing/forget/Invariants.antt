@@ -1,0 +1,5 @@
+use Rattle.patch_links.specs.MarkDurable.{AreForgotten}
+use Rattle.patch_links.proofs.landing.forget.Given as goal
+
+abbrev pub invariant-loop-no : goal.invariant-loop-no
+invariant-loop-no g l = AreForgotten l.members l.initial.keys.entries l.keys.entries l.no-index

@@ -1,0 +1,9 @@
+pub mod State
+pub mod Waiting
+pub mod Lists
+pub mod Standing
+pub mod Ready
+pub mod MarkFlight
+pub mod MarkDurable
+pub mod Merging
+pub mod Adding

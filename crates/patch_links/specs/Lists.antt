@@ -1,0 +1,82 @@
+-- The keys of a block's classes that are ready, and of those in flight.
+use Rattle.std.specs.Prelude.{ℕ, Bool, ◌≡◌, ◌≢◌, ◌≤◌, ◌-◌, ◌==◌, ◌&&◌, ◌∷◌, ◌++◌, nat_eq, if◌then◌else◌, take, List, [], length, count_by, false}
+use Rattle.std.specs.Option.{option_map_or}
+use Rattle.std.specs.Map.{lookup}
+use Rattle.patch_model.specs.Entry.{marks_flight}
+use Rattle.patch_links.specs.State.{Node, Nodes, is_at}
+use Rattle.patch_links.specs.Waiting.{of_block, ready_in, is_due}
+
+-- of a block: the keys of the classes that nothing keeps out of its ready set, of which so many are in it, those of its
+-- classes in flight, how many classes it has, and how many keys there is room for
+pub record OfBlock : Type 0 where
+  pub ready : List ℕ
+  pub done : ℕ
+  pub flying : List ℕ
+  pub count : ℕ
+  pub room_ready : ℕ
+  pub room_flying : ℕ
+
+abbrev pub Blocks : Type 0
+Blocks = List (ℕ × OfBlock)
+
+abbrev pub nothing : OfBlock
+nothing = record { ready = []; done = 0; flying = []; count = 0; room_ready = 0; room_flying = 0 }
+
+-- what is kept of the block
+abbrev pub of_at : Blocks → ℕ → OfBlock
+of_at blocks block = option_map_or (λ o. o) (lookup (nat_eq block) blocks) nothing
+
+-- how often the key stands in the list
+abbrev pub times : List ℕ → ℕ → ℕ
+times keys key = count_by (λ k. k == key) keys
+
+abbrev pub once : Bool → ℕ
+once b = if b then 1 else 0
+
+-- the list holds each key whose node passes just once, and nothing else
+abbrev pub HoldsJust : (Node → Bool) → Nodes → List ℕ → Type 0
+HoldsJust test nodes keys = (key : ℕ) → times keys key ≡ once (is_at test nodes key)
+
+abbrev pub due_in : ℕ → Node → Bool
+due_in block x = x.class.block == block && is_due x
+
+abbrev pub flying_in : ℕ → Node → Bool
+flying_in block x = x.class.block == block && marks_flight x.class.mark
+
+-- how many of the block's classes there are
+abbrev pub classes_of : ℕ → Nodes → ℕ
+classes_of block nodes = count_by (λ o. option_map_or (of_block block) o false) nodes
+
+-- the lists are those of the block's classes, and each has room for all of them
+pub record IsListed (block : ℕ) (nodes : Nodes) (of : OfBlock) : Type 0 where
+  pub due : HoldsJust (due_in block) nodes of.ready
+  pub ready : HoldsJust (ready_in block) nodes (take of.done of.ready)
+  pub flying : HoldsJust (flying_in block) nodes of.flying
+  pub counted : of.count ≡ classes_of block nodes
+  pub within : of.done ≤ length of.ready
+  pub room_ready : of.count ≤ of.room_ready
+  pub room_flying : of.count ≤ of.room_flying
+
+-- each block's lists are those of its classes
+abbrev pub AreListed : Nodes → Blocks → Type 0
+AreListed nodes blocks = (block : ℕ) → IsListed block nodes (of_at blocks block)
+
+-- each class that nothing keeps out is in its block's ready set
+abbrev pub IsSettled : OfBlock → Type 0
+IsSettled of = of.done ≡ length of.ready
+
+abbrev pub AreSettled : Blocks → Type 0
+AreSettled blocks = (block : ℕ) → IsSettled (of_at blocks block)
+
+abbrev pub pushed : OfBlock → ℕ → OfBlock
+pushed of key = record of { ready = of.ready ++ key ∷ [] }
+
+-- one block's lists were changed
+pub record ChangesOf (block : ℕ) (old new : Blocks) (of : OfBlock) : Type 0 where
+  pub here : of_at new block ≡ of
+  pub others : (other : ℕ) → other ≢ block → of_at new other ≡ of_at old other
+
+-- the last of the keys in flight was taken out
+pub record LosesFlying (old new : OfBlock) (key : ℕ) : Type 0 where
+  pub was : old.flying ≡ new.flying ++ key ∷ []
+  pub changed : new ≡ record old { flying = new.flying; count = old.count - 1 }

@@ -1,0 +1,119 @@
+//! The live classes of all blocks.
+ghost use Rattle.std.specs.Prelude.{◌≡◌, [], IfOk, is_some};
+ghost use Rattle.std.specs.Option.{option_copied};
+ghost use Rattle.patch_links.specs.State.{find, class_at};
+ghost use Rattle.patch_links.specs.Ready.{AreReady, TellsReady, TellsEmpty};
+ghost use Rattle.patch_links.specs.MarkFlight.{HasFlown};
+ghost use Rattle.patch_links.specs.MarkDurable.{HasLanded};
+
+use crate::asking::{count, numbers, ready_keys};
+use crate::flying::fly;
+use crate::landing::land;
+use crate::lists::Blocks;
+use crate::nodes::{Class, Keys, Nodes, find};
+use patch_model::{BlockNo, PatchNo};
+use std::alloc::{AllocError, Allocator, Global};
+use std::marker::Model;
+
+/// The live classes of all blocks: which of them may be sent with their block is always known.
+#[derive(Drop)]
+pub struct Links<A: Allocator = Global> {
+    /// No number of a patch has reached this one.
+    made: u64,
+    nodes: Nodes<A>,
+    keys: Keys<A>,
+    blocks: Blocks<A>,
+    alloc: A,
+}
+
+impl<A: Allocator> Model for Links<A> {
+    ghost use Rattle.patch_links.specs.State.{Links as Seen, slots_of};
+    ghost use Rattle.patch_links.specs.Standing.{AreBelow, Stands};
+
+    ghost Value = { Seen };
+
+    ghost view = { λ l. record { made = l.made; slots = slots_of l.nodes.slots; numbers = l.keys.entries } };
+
+    ghost invariant = { λ l. Stands l.nodes.slots l.keys.entries l.blocks.entries × AreBelow l.made l.nodes.slots };
+}
+
+impl<A: Allocator + Copy> Links<A> {
+    /// No class yet.
+    pub fn new(alloc: A) -> Links<A>
+        ensures { result ≡ record { made = 0; slots = []; numbers = [] } }
+    {
+        Links {
+            made: 0,
+            nodes: Nodes::new(alloc),
+            keys: Keys::new(alloc),
+            blocks: Blocks::new(alloc),
+            alloc,
+        }
+    }
+}
+
+impl<A: Allocator> Links<A> {
+    /// The key of a live patch's class.
+    pub fn find(&self, no: PatchNo) -> Option<usize>
+        ensures { result ≡ find self.now.numbers no }
+    {
+        find(&self.keys, no)
+    }
+
+    /// The class at a key.
+    pub fn class_at(&self, key: usize) -> Option<&Class<A>>
+        ensures { option_copied result ≡ class_at self.now.slots key }
+    {
+        match self.nodes.get(key) {
+            Some(node) => Some(&node.class),
+            None => None,
+        }
+    }
+
+    /// Whether there is a class at a key.
+    pub fn contains(&self, key: usize) -> bool
+        ensures { result ≡ is_some (class_at self.now.slots key) }
+    {
+        self.nodes.get(key).is_some()
+    }
+
+    /// Whether the block has no class.
+    pub fn is_empty_of(&self, block: BlockNo) -> bool
+        ensures { TellsEmpty self.now.slots block result }
+    {
+        count(&self.blocks, block) == 0
+    }
+
+    /// Whether any class may be sent with the block.
+    pub fn any_ready(&self, block: BlockNo) -> bool
+        ensures { TellsReady self.now.slots self.now.numbers block result }
+    {
+        !ready_keys(&self.blocks, block).is_empty()
+    }
+
+    /// The numbers of all that may be sent with the block, rising.
+    pub fn ready<B: Allocator>(
+        &self,
+        alloc: B,
+        block: BlockNo,
+    ) -> Result<Vec<PatchNo, B>, AllocError>
+        ensures { IfOk result (λ all. AreReady self.now.slots self.now.numbers block all.items) }
+    {
+        numbers(alloc, &self.nodes, ready_keys(&self.blocks, block))
+    }
+
+    /// Puts in flight all that may be sent with the block.
+    pub fn fly(&mut self, block: BlockNo)
+        ensures { HasFlown block self.old self.new }
+    {
+        fly(&mut self.nodes, &self.keys, &mut self.blocks, block);
+    }
+
+    /// Forgets all that is in flight of the block.
+    pub fn land(&mut self, block: BlockNo)
+        ensures landed { HasLanded block self.old self.new }
+        ensures made { self.new.made ≡ self.old.made }
+    {
+        land(&mut self.nodes, &mut self.keys, &mut self.blocks, block);
+    }
+}

@@ -1,0 +1,150 @@
+//! Which of each block's classes are ready, and which in flight.
+ghost use Rattle.std.specs.Prelude.{◌≡◌, ◌≢◌, ◌<◌, ◌≤◌, ◌+◌, ◌-◌, ◌==◌, ◌++◌, ◌∷◌, [], ℕ, length, filter, not, slice_index_or, Some, None, IfOk, OnOk, OnErr, IsSome, IfSome, IfNone, take};
+ghost use Rattle.patch_links.specs.Lists.{of_at, pushed, ChangesOf, LosesFlying};
+
+use indexmap::IndexMap;
+use patch_model::BlockNo;
+use std::alloc::{AllocError, Allocator, Global};
+use std::hash::{BuildHasherDefault, FoldHasher};
+use std::marker::Model;
+
+/// Keys of a block's classes. A class in memory that waits for others is in no list.
+#[derive(Drop)]
+pub struct OfBlock<A: Allocator = Global> {
+    /// Of the classes that nothing keeps out of the ready set.
+    ready: Vec<usize, A>,
+    /// So many of them are in it; the others are still to come.
+    done: usize,
+    /// Of the classes in flight.
+    flying: Vec<usize, A>,
+    /// How many classes the block has; each list has room for so many keys.
+    count: usize,
+}
+
+impl<A: Allocator> Model for OfBlock<A> {
+    ghost use Rattle.std.specs.Prelude.{vec_capacity};
+    ghost use Rattle.patch_links.specs.Lists.{OfBlock as Seen};
+
+    ghost Value = { Seen };
+
+    ghost view = { λ o. record {
+      ready = o.ready.items;
+      done = o.done;
+      flying = o.flying.items;
+      count = o.count;
+      room_ready = vec_capacity o.ready;
+      room_flying = vec_capacity o.flying;
+    } };
+}
+
+/// The lists of each block.
+pub type Blocks<A> = IndexMap<BlockNo, OfBlock<A>, BuildHasherDefault<FoldHasher>, A>;
+
+impl<A: Allocator + Copy> OfBlock<A> {
+    /// Of a block without classes.
+    pub fn new(alloc: A) -> OfBlock<A>
+        ensures ready { result.ready ≡ [] }
+        ensures done { result.done ≡ 0 }
+        ensures flying { result.flying ≡ [] }
+        ensures count { result.count ≡ 0 }
+    {
+        OfBlock {
+            ready: Vec::new(alloc),
+            done: 0,
+            flying: Vec::new(alloc),
+            count: 0,
+        }
+    }
+}
+
+impl<A: Allocator> OfBlock<A> {
+    /// Whether a key of the first list is not in the ready set yet.
+    pub fn has_next(&self) -> bool
+        ensures { result ≡ not (self.now.done == length self.now.ready) }
+    {
+        self.done != self.ready.len()
+    }
+
+    /// The first of these, which comes into the set.
+    pub fn next(&mut self) -> usize
+        requires { self.old.done < length self.old.ready }
+        ensures key { result ≡ slice_index_or self.old.ready self.old.done 0 }
+        ensures counted { self.new ≡ record self.old { done = self.old.done + 1 } }
+    {
+        let key = self.ready[self.done];
+        self.done += 1;
+        key
+    }
+
+    /// One more key for the ready set, still to come into it.
+    pub fn push(&mut self, key: usize)
+        requires { length self.old.ready < self.old.room_ready }
+        ensures { self.new ≡ pushed self.old key }
+    {
+        self.ready.push_reserved(key);
+    }
+
+    /// The keys of the ready set.
+    pub fn ready(&self) -> &[usize]
+        ensures { result.now ≡ self.now.ready }
+    {
+        self.ready.as_slice()
+    }
+
+    /// How many classes the block has.
+    pub fn count(&self) -> usize
+        ensures { result ≡ self.now.count }
+    {
+        self.count
+    }
+
+    /// All ready classes are in flight.
+    pub fn fly(&mut self)
+        requires { length self.old.flying + length self.old.ready ≤ self.old.room_flying }
+        ensures ready { self.new.ready ≡ [] }
+        ensures done { self.new.done ≡ 0 }
+        ensures flying { self.new.flying ≡ self.old.flying ++ self.old.ready }
+        ensures count { self.new.count ≡ self.old.count }
+        ensures room_ready { self.new.room_ready ≡ self.old.room_ready }
+        ensures room_flying { self.old.room_flying ≤ self.new.room_flying }
+    {
+        self.flying.append(&mut self.ready).unwrap();
+        self.done = 0;
+    }
+
+    /// Takes one of the classes in flight out, if there is one.
+    pub fn land(&mut self) -> Option<usize>
+        ensures none { IfNone result ((self.new ≡ self.old) × (self.old.flying ≡ [])) }
+        ensures some { IfSome result (λ key. LosesFlying self.old self.new key) }
+    {
+        match self.flying.pop() {
+            Some(key) => {
+                self.count = self.count.saturating_sub(1);
+                Some(key)
+            }
+            None => None,
+        }
+    }
+
+    /// Makes room for one class more.
+    pub fn grow(&mut self) -> Result<(), AllocError>
+        ensures same { self.new ≡ record self.old { room_ready = self.new.room_ready; room_flying = self.new.room_flying } }
+        ensures ready { self.old.room_ready ≤ self.new.room_ready }
+        ensures flying { self.old.room_flying ≤ self.new.room_flying }
+        ensures room { OnOk result ((self.old.count < self.new.room_ready) × (self.old.count < self.new.room_flying)) }
+    {
+        let Some(count) = self.count.checked_add(1) else {
+            return Err(AllocError);
+        };
+        self.ready.reserve(count.saturating_sub(self.ready.len()))?;
+        self.flying.reserve(count.saturating_sub(self.flying.len()))
+    }
+
+    /// One class more.
+    pub fn add(&mut self)
+        requires { self.old.count < self.old.room_ready }
+        ensures { self.new ≡ record self.old { count = self.old.count + 1 } }
+    {
+        self.count += 1;
+    }
+}

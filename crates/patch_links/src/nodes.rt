@@ -1,0 +1,185 @@
+//! Live classes by their keys, and what is kept beside each.
+ghost use Rattle.std.specs.Prelude.{◌≡◌, ◌&&◌, ◌==◌, None, slice_get, length, nat_lt};
+ghost use Rattle.std.specs.Option.{option_map, option_map_or, option_copied};
+ghost use Rattle.patch_links.specs.State.{find, node_at, is_at, changed_at};
+ghost use Rattle.patch_links.specs.Waiting.{of_block, ready_in, is_due, lowered, raised, readied, unreadied, followers_at};
+
+use indexmap::IndexMap;
+use patch_model::{BlockNo, Mark, PatchNo};
+use slab::Slab;
+use std::alloc::{Allocator, Global};
+use std::hash::{BuildHasherDefault, FoldHasher};
+use std::marker::Model;
+
+/// A live class: its members are of one block, alike in mark and hardness, and its span has no gap.
+#[derive(Drop)]
+pub struct Class<A: Allocator = Global> {
+    /// The least of its members.
+    pub name: PatchNo,
+    pub members: Vec<PatchNo, A>,
+    pub block: BlockNo,
+    pub mark: Mark,
+    pub hard: bool,
+    /// Its span, from the first byte to the one after the last.
+    pub start: usize,
+    pub stop: usize,
+    /// Patches of the classes that it depends on directly, live or not; some of them may be its own by now.
+    pub after: Vec<PatchNo, A>,
+}
+
+impl<A: Allocator> Model for Class<A> {
+    ghost use Rattle.patch_links.specs.State.{Class as Seen};
+
+    ghost Value = { Seen };
+
+    ghost view = { λ c. record {
+      name = c.name;
+      members = c.members.items;
+      block = c.block;
+      mark = c.mark;
+      hard = c.hard;
+      start = c.start;
+      stop = c.stop;
+      after = c.after.items;
+    } };
+}
+
+/// A class and its part in the ready set.
+#[derive(Drop)]
+pub struct Node<A: Allocator = Global> {
+    pub class: Class<A>,
+    /// Whether its block's ready set has it.
+    pub ready: bool,
+    /// How many of the numbers that it depends on keep it out of there.
+    pub waits: usize,
+    /// A number of each class that depends on it, for each time that it does. Those that lead nowhere any more, or to the
+    /// class itself, are skipped.
+    pub followers: Vec<PatchNo, A>,
+}
+
+impl<A: Allocator> Model for Node<A> {
+    ghost use Rattle.std.specs.Prelude.{vec_capacity};
+    ghost use Rattle.patch_links.specs.State.{Node as Seen};
+
+    ghost Value = { Seen };
+
+    ghost view = { λ x. record {
+      class = x.class;
+      ready = x.ready;
+      waits = x.waits;
+      followers = x.followers.items;
+      room = vec_capacity x.followers;
+    } };
+}
+
+/// Classes by their keys.
+pub type Nodes<A> = Slab<Node<A>, A>;
+
+/// The key of each live patch's class.
+pub type Keys<A> = IndexMap<PatchNo, usize, BuildHasherDefault<FoldHasher>, A>;
+
+/// The key of a live patch's class.
+pub fn find<A: Allocator>(keys: &Keys<A>, no: PatchNo) -> Option<usize>
+    ensures { result ≡ find keys.now.entries no }
+{
+    keys.get(&no).copied()
+}
+
+/// The block of the class at a key.
+pub fn block_at<A: Allocator>(nodes: &Nodes<A>, key: usize) -> Option<BlockNo>
+    ensures { result ≡ option_map (λ x. x.class.block) (node_at nodes.now.slots key) }
+{
+    match nodes.get(key) {
+        Some(node) => Some(node.class.block),
+        None => None,
+    }
+}
+
+/// Whether there is a class of the block at a key.
+pub fn is_of<A: Allocator>(nodes: &Nodes<A>, block: BlockNo, key: usize) -> bool
+    ensures { result ≡ is_at (of_block block) nodes.now.slots key }
+{
+    match nodes.get(key) {
+        Some(node) => node.class.block == block,
+        None => false,
+    }
+}
+
+/// Whether the block's ready set has the class at a key.
+pub fn is_ready<A: Allocator>(nodes: &Nodes<A>, block: BlockNo, key: usize) -> bool
+    ensures { result ≡ is_at (ready_in block) nodes.now.slots key }
+{
+    match nodes.get(key) {
+        Some(node) => node.class.block == block && node.ready,
+        None => false,
+    }
+}
+
+/// Whether the class at a key is in memory, and nothing keeps it out of its block's ready set.
+pub fn is_due<A: Allocator>(nodes: &Nodes<A>, key: usize) -> bool
+    ensures { result ≡ is_at is_due nodes.now.slots key }
+{
+    match nodes.get(key) {
+        Some(node) => matches!(node.class.mark, Mark::Memory) && node.waits == 0,
+        None => false,
+    }
+}
+
+/// How many followers the class at a key has.
+pub fn follower_count<A: Allocator>(nodes: &Nodes<A>, key: usize) -> usize
+    ensures { result ≡ length (followers_at nodes.now.slots key) }
+{
+    match nodes.get(key) {
+        Some(node) => node.followers.len(),
+        None => 0,
+    }
+}
+
+/// A follower of the class at a key.
+pub fn follower_at<A: Allocator>(nodes: &Nodes<A>, key: usize, place: usize) -> Option<PatchNo>
+    ensures { result ≡ slice_get (followers_at nodes.now.slots key) place }
+{
+    match nodes.get(key) {
+        Some(node) => node.followers.as_slice().get(place).copied(),
+        None => None,
+    }
+}
+
+/// One number less keeps the class at a key out.
+pub fn lower<A: Allocator>(nodes: &mut Nodes<A>, key: usize)
+    ensures { nodes.new.slots ≡ changed_at lowered nodes.old.slots key }
+{
+    if let Some(node) = nodes.get_mut(key) {
+        node.waits = node.waits.saturating_sub(1);
+    }
+}
+
+/// One number more keeps the class at a key out.
+pub fn raise<A: Allocator>(nodes: &mut Nodes<A>, key: usize)
+    ensures { nodes.new.slots ≡ changed_at raised nodes.old.slots key }
+{
+    if let Some(node) = nodes.get_mut(key) {
+        // Always so: what keeps a class out is among what it depends on.
+        if node.waits < node.class.after.len() {
+            node.waits += 1;
+        }
+    }
+}
+
+/// Has the ready set have the class at a key.
+pub fn put_ready<A: Allocator>(nodes: &mut Nodes<A>, key: usize)
+    ensures { nodes.new.slots ≡ changed_at readied nodes.old.slots key }
+{
+    if let Some(node) = nodes.get_mut(key) {
+        node.ready = true;
+    }
+}
+
+/// Has it have that class no more.
+pub fn take_ready<A: Allocator>(nodes: &mut Nodes<A>, key: usize)
+    ensures { nodes.new.slots ≡ changed_at unreadied nodes.old.slots key }
+{
+    if let Some(node) = nodes.get_mut(key) {
+        node.ready = false;
+    }
+}
