@@ -93,3 +93,12 @@ times-In (k ∷ keys) key (inl e) =
 times-In (k ∷ keys) key (inr i) =
     let a = count-cons (λ j. j == key) k keys in
     let rest = times-In keys key i in omega arith
+
+-- two tests that agree on what is in the list
+pub count-same-in : {X : Type 0} → (p q : X → Bool) (xs : List X) → ((x : X) → In xs x → p x ≡ q x) → count_by p xs ≡ count_by q xs
+count-same-in p q [] same = refl
+count-same-in p q (x ∷ xs) same =
+    let rest = count-same-in p q xs (λ y i. same y (inr i)) in
+    let a = count-cons p x xs in
+    let b = count-cons q x xs in
+    let one : once (p x) ≡ once (q x) = ap once (same x (inl refl)) in omega arith

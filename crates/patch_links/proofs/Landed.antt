@@ -35,7 +35,7 @@ class-alike test old new k e = sym (by (node_at new k)) ∙ ap (λ o. option_map
     by None = refl
     by (Some x) = refl
 
-class-bare : (old new : Nodes) (k : ℕ) → option_map bare (node_at new k) ≡ option_map bare (node_at old k) → class_in new k ≡ class_in old k
+pub class-bare : (old new : Nodes) (k : ℕ) → option_map bare (node_at new k) ≡ option_map bare (node_at old k) → class_in new k ≡ class_in old k
 class-bare old new k e = sym (by (node_at new k)) ∙ ap (option_map (λ x. x.class)) e ∙ by (node_at old k)
   where
     by : (o : Option Node) → option_map (λ x. x.class) (option_map bare o) ≡ option_map (λ x. x.class) o

@@ -262,7 +262,6 @@ module _ (block key : ℕ) (nodes rest : Nodes) (numbers now : Numbers) (x : Nod
   alike-left b d =
       let off : (x.class.block == b) ≡ false = ne_eqb x.class.block b (λ e. d (sym e ∙ eqb-true x.class.block block parts.0)) in
       record {
-        long = gone-long;
         due = test-left (due_in b) (and_left _ _ off);
         ready = test-left (ready_in b) (and_left _ _ off);
         flying = test-left (flying_in b) (and_left _ _ off);

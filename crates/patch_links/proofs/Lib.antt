@@ -10,3 +10,5 @@ pub mod Landings
 pub mod Landed
 pub mod Arranging
 pub mod ReadySets
+pub mod Rooms
+pub mod Newcomers

@@ -10,12 +10,11 @@ use Rattle.patch_links.specs.Waiting.{of_block, ready_in, is_due, lowered, readi
 use Rattle.patch_links.specs.Lists.{OfBlock, times, once, due_in, flying_in, classes_of, IsListed, pushed}
 use Rattle.patch_links.specs.Standing.{KeepsPlain}
 use Rattle.patch_links.proofs.Counts.{count-cons, count-append, count-last, once-le, once-most, once-true, once-false}
-use Rattle.patch_links.proofs.Places.{is-at, at-is, changed-here, changed-else, changed-long, is-changed, count-alike, fits}
+use Rattle.patch_links.proofs.Places.{is-at, at-is, changed-here, changed-else, changed-long, is-changed, count-alike, count-free, fits}
 use Rattle.patch_links.proofs.Keeping.{plain-test}
 
 -- nothing changed that the lists tell of
 pub record AreAlike (block : ℕ) (old new : Nodes) : Type 0 where
-  pub long : length new ≡ length old
   pub due : (key : ℕ) → is_at (due_in block) new key ≡ is_at (due_in block) old key
   pub ready : (key : ℕ) → is_at (ready_in block) new key ≡ is_at (ready_in block) old key
   pub flying : (key : ℕ) → is_at (flying_in block) new key ≡ is_at (flying_in block) old key
@@ -26,7 +25,7 @@ listed-alike block old new of a l = record {
   due = λ k. l.due k ∙ sym (ap once (a.due k));
   ready = λ k. l.ready k ∙ sym (ap once (a.ready k));
   flying = λ k. l.flying k ∙ sym (ap once (a.flying k));
-  counted = l.counted ∙ sym (count-alike (of_block block) old new a.long a.of);
+  counted = l.counted ∙ sym (count-free (of_block block) old new a.of);
   within = l.within;
   room_ready = l.room_ready;
   room_flying = l.room_flying;
@@ -36,7 +35,6 @@ listed-alike block old new of a l = record {
 pub alike-others : (block other : ℕ) (old new : Nodes) → KeepsPlain old new → ((key : ℕ) → is_at (of_block block) old key ≡ false → node_at new key ≡ node_at old key) → other ≢ block
     → AreAlike other old new
 alike-others block other old new k rest apart = record {
-  long = k.long;
   due = λ key. by key (λ x. is_due x);
   ready = λ key. by key (λ x. x.ready);
   flying = λ key. by key (λ x. marks_flight x.class.mark);
@@ -86,7 +84,6 @@ lowered-same block nodes of key t f l =
       | inr u ↦ sym (ap (λ b. not b && is_at is_due (changed_at lowered nodes key) key) u) ∙ f ∙ sym (d.0 ∙ u)
     ] in
     listed-alike block nodes (changed_at lowered nodes key) of (record {
-      long = changed-long lowered nodes key;
       due = λ k. elim (cases_eq k key) [ inl e ↦ rw e here | inr n ↦ ap (λ o. option_map_or (due_in block) o false) (changed-else lowered nodes key k n) ];
       ready = λ k. is-changed (ready_in block) lowered nodes key k (λ x. refl);
       flying = λ k. is-changed (flying_in block) lowered nodes key k (λ x. refl);

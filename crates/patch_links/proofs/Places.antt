@@ -140,3 +140,22 @@ count-key test (o ∷ nodes) h = elim (cases_Bool (passes test o)) [
       let z : once (passes test o) ≡ 0 = ap once t in
       let r = count-key test nodes (omega arith) in (suc r.0, r.1)
 ]
+
+-- the same, however long the nodes are
+pub count-free : (test : Node → Bool) (old new : Nodes) → ((key : ℕ) → is_at test new key ≡ is_at test old key) → count_by (passes test) new ≡ count_by (passes test) old
+count-free test [] [] same = refl
+count-free test [] (y ∷ new) same =
+    let rest = count-free test [] new (λ key. same (suc key)) in
+    let b = count-cons (passes test) y new in
+    let one : once (passes test y) ≡ 0 = ap once (same 0) in
+    let none : count_by (passes test) [] ≡ 0 = refl in omega arith
+count-free test (x ∷ old) [] same =
+    let rest = count-free test old [] (λ key. same (suc key)) in
+    let a = count-cons (passes test) x old in
+    let one : once (passes test x) ≡ 0 = ap once (sym (same 0)) in
+    let none : count_by (passes test) [] ≡ 0 = refl in omega arith
+count-free test (x ∷ old) (y ∷ new) same =
+    let rest = count-free test old new (λ key. same (suc key)) in
+    let a = count-cons (passes test) x old in
+    let b = count-cons (passes test) y new in
+    let one : once (passes test y) ≡ once (passes test x) = ap once (same 0) in omega arith

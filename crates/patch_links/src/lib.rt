@@ -2,6 +2,7 @@
 //! ready set. Each step changes the counts that it touches, and no others.
 #![tactic(auto)]
 
+mod adding;
 mod admitting;
 mod asking;
 mod counting;

@@ -1,11 +1,13 @@
 //! The live classes of all blocks.
-ghost use Rattle.std.specs.Prelude.{◌≡◌, [], IfOk, is_some};
+ghost use Rattle.std.specs.Prelude.{◌≡◌, [], IfOk, OnErr, is_some};
 ghost use Rattle.std.specs.Option.{option_copied};
 ghost use Rattle.patch_links.specs.State.{find, class_at};
 ghost use Rattle.patch_links.specs.Ready.{AreReady, TellsReady, TellsEmpty};
+ghost use Rattle.patch_links.specs.Adding.{IsNew, IsAdded};
 ghost use Rattle.patch_links.specs.MarkFlight.{HasFlown};
 ghost use Rattle.patch_links.specs.MarkDurable.{HasLanded};
 
+use crate::adding::add;
 use crate::asking::{count, numbers, ready_keys};
 use crate::flying::fly;
 use crate::landing::land;
@@ -49,6 +51,24 @@ impl<A: Allocator + Copy> Links<A> {
             blocks: Blocks::new(alloc),
             alloc,
         }
+    }
+
+    /// Puts in the class of a new patch. Its key.
+    pub fn add(&mut self, class: Class<A>) -> Result<usize, AllocError>
+        requires { IsNew self.old.made class }
+        ensures added { IfOk result (λ key. IsAdded self.old self.new key class) }
+        ensures refused { OnErr result (self.new ≡ self.old) }
+    {
+        let made = u64::from(class.name.0) + 1;
+        let key = add(
+            self.alloc,
+            &mut self.nodes,
+            &mut self.keys,
+            &mut self.blocks,
+            class,
+        )?;
+        self.made = made;
+        Ok(key)
     }
 }
 

@@ -1,0 +1,6 @@
+use Rattle.std.proofs.Common.{take, ◌≡◌}
+use Rattle.patch_links.specs.Adding.{AreFollowed}
+use Rattle.patch_links.proofs.adding.follow_all.Given as goal
+
+abbrev pub invariant-loop-no : goal.invariant-loop-no
+invariant-loop-no g l = AreFollowed l.keys.entries l.follower (take l.no-index l.after) l.initial.nodes.slots l.nodes.slots × (l.nodes.capacity ≡ l.initial.nodes.capacity)

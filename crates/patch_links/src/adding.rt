@@ -1,0 +1,297 @@
+//! One more class.
+ghost use Rattle.std.specs.Prelude.{◌≡◌, ◌≢◌, ◌<◌, ◌≤◌, ◌+◌, ℕ, [], true, false, length, Some, IfOk, OnOk, OnErr};
+ghost use Rattle.std.specs.Map.{lookup};
+ghost use Rattle.std.specs.Prelude.{nat_eq, None};
+ghost use Rattle.indexmap.specs.IndexMap.{spare};
+ghost use Rattle.slab.specs.Slab.{HasRoomFor};
+ghost use Rattle.patch_links.specs.State.{changed_at, find, slots_of};
+ghost use Rattle.patch_links.specs.Waiting.{AreCounted, AreLinked};
+ghost use Rattle.patch_links.specs.Lists.{IsListed, IsSettled, AreListed, AreSettled};
+ghost use Rattle.patch_links.specs.Standing.{AreBelow, KeepsBare, KeepsOwed, KeepsRest, Stands};
+ghost use Rattle.patch_links.specs.Adding.{followed, followed_to, AreFollowed, AreFound, HasLists, HasPut, HasRoom, HasRoomForAll, HasRoomTo, IsEnlisting, IsJoining, IsNewClass, IsRoomier, KeepsLists};
+
+use crate::admitting::admit_all;
+use crate::counting::count_unmet;
+use crate::lists::{Blocks, OfBlock};
+use crate::nodes::{Class, Keys, Node, Nodes, find, is_due};
+use patch_model::{BlockNo, PatchNo};
+use std::alloc::{AllocError, Allocator};
+
+/// Makes room for so many more followers of the class.
+fn reserve_in<A: Allocator>(node: &mut Node<A>, more: usize) -> Result<(), AllocError>
+    ensures same { node.new ≡ record node.old { room = node.new.room } }
+    ensures grows { node.old.room ≤ node.new.room }
+    ensures room { OnOk result (length node.old.followers + more ≤ node.new.room) }
+{
+    node.followers.reserve(more)
+}
+
+/// The same of the class at the key.
+fn reserve_at<A: Allocator>(nodes: &mut Nodes<A>, key: usize, more: usize) -> Result<(), AllocError>
+    ensures roomier { IsRoomier nodes.old.slots nodes.new.slots }
+    ensures room { OnOk result (HasRoom more key nodes.new.slots) }
+{
+    match nodes.get_mut(key) {
+        Some(node) => reserve_in(node, more),
+        None => Ok(()),
+    }
+}
+
+/// The same of the class that the number leads to.
+fn reserve_to<A: Allocator>(
+    nodes: &mut Nodes<A>,
+    keys: &Keys<A>,
+    no: PatchNo,
+    more: usize,
+) -> Result<(), AllocError>
+    ensures roomier { IsRoomier nodes.old.slots nodes.new.slots }
+    ensures room { OnOk result (HasRoomTo keys.now.entries more no nodes.new.slots) }
+{
+    match find(keys, no) {
+        Some(key) => reserve_at(nodes, key, more),
+        None => Ok(()),
+    }
+}
+
+/// The same of the classes that these numbers lead to, for as many as there are numbers.
+fn reserve_all<A: Allocator>(
+    nodes: &mut Nodes<A>,
+    keys: &Keys<A>,
+    after: &[PatchNo],
+) -> Result<(), AllocError>
+    ensures roomier { IsRoomier nodes.old.slots nodes.new.slots }
+    ensures room { OnOk result (HasRoomForAll keys.now.entries (length after.now) after.now nodes.new.slots) }
+{
+    let more = after.len();
+    for no in after {
+        reserve_to(nodes, keys, *no, more)?;
+    }
+    Ok(())
+}
+
+/// One more follower of the class at the key.
+fn follow_at<A: Allocator>(nodes: &mut Nodes<A>, key: usize, follower: PatchNo)
+    requires { HasRoom 1 key nodes.old.slots }
+    ensures followed { nodes.new.slots ≡ changed_at (followed follower) nodes.old.slots key }
+    ensures capacity { nodes.new.capacity ≡ nodes.old.capacity }
+{
+    if let Some(node) = nodes.get_mut(key) {
+        node.followers.push_reserved(follower);
+    }
+}
+
+/// The same of the class that the number leads to.
+fn follow_to<A: Allocator>(nodes: &mut Nodes<A>, keys: &Keys<A>, no: PatchNo, follower: PatchNo)
+    requires { HasRoomTo keys.now.entries 1 no nodes.old.slots }
+    ensures followed { nodes.new.slots ≡ followed_to keys.now.entries follower nodes.old.slots no }
+    ensures capacity { nodes.new.capacity ≡ nodes.old.capacity }
+{
+    if let Some(key) = find(keys, no) {
+        follow_at(nodes, key, follower);
+    }
+}
+
+/// The same of the classes that these numbers lead to.
+fn follow_all<A: Allocator>(
+    nodes: &mut Nodes<A>,
+    keys: &Keys<A>,
+    after: &[PatchNo],
+    follower: PatchNo,
+)
+    requires { HasRoomForAll keys.now.entries (length after.now) after.now nodes.old.slots }
+    ensures followed { AreFollowed keys.now.entries follower after.now nodes.old.slots nodes.new.slots }
+    ensures capacity { nodes.new.capacity ≡ nodes.old.capacity }
+{
+    for no in after {
+        follow_to(nodes, keys, *no, follower);
+    }
+}
+
+/// Room for one more class of the block. Whether there is a place for its lists.
+fn grow_lists<A: Allocator>(blocks: &mut Blocks<A>, block: BlockNo) -> Result<bool, AllocError>
+    ensures kept { KeepsLists blocks.old.entries blocks.new.entries }
+    ensures found { IfOk result (λ found. AreFound block blocks.old.entries blocks.new.entries found) }
+{
+    match blocks.get_mut(&block) {
+        Some(list) => {
+            list.grow()?;
+            Ok(true)
+        }
+        None => Ok(false),
+    }
+}
+
+/// Makes room for the keys of one more class of the block.
+fn make_lists<A: Allocator + Copy>(
+    alloc: A,
+    blocks: &mut Blocks<A>,
+    block: BlockNo,
+) -> Result<(), AllocError>
+    ensures kept { KeepsLists blocks.old.entries blocks.new.entries }
+    ensures room { OnOk result (HasLists block blocks.new.entries) }
+{
+    if !grow_lists(blocks, block)? {
+        let mut list = OfBlock::new(alloc);
+        list.grow()?;
+        blocks.insert(block, list)?;
+    }
+    Ok(())
+}
+
+/// One more class of the block, at the key.
+fn enlist_key<A: Allocator>(nodes: &Nodes<A>, list: &mut OfBlock<A>, block: BlockNo, key: usize)
+    requires { IsJoining block key nodes.now.slots list.old }
+    ensures { IsListed block nodes.now.slots list.new }
+{
+    list.add();
+    if is_due(nodes, key) {
+        list.push(key);
+    }
+}
+
+/// The same, and all come into the ready set that nothing keeps out.
+fn enlist_in<A: Allocator>(
+    nodes: &mut Nodes<A>,
+    keys: &Keys<A>,
+    list: &mut OfBlock<A>,
+    block: BlockNo,
+    key: usize,
+)
+    requires joining { IsJoining block key nodes.old.slots list.old }
+    requires linked { AreLinked nodes.old.slots keys.now.entries }
+    ensures listed { IsListed block nodes.new.slots list.new }
+    ensures settled { IsSettled list.new }
+    ensures rest { KeepsRest block nodes.old.slots nodes.new.slots }
+    ensures owed { KeepsOwed keys.now.entries nodes.old.slots nodes.new.slots }
+{
+    enlist_key(nodes, list, block, key);
+    admit_all(nodes, keys, list, block);
+}
+
+/// One more class of the block, at the key, in the block's lists.
+fn enlist<A: Allocator>(
+    nodes: &mut Nodes<A>,
+    keys: &Keys<A>,
+    blocks: &mut Blocks<A>,
+    block: BlockNo,
+    key: usize,
+)
+    requires enlisting { IsEnlisting block key nodes.old.slots blocks.old.entries }
+    requires linked { AreLinked nodes.old.slots keys.now.entries }
+    requires counted { AreCounted nodes.old.slots keys.now.entries }
+    ensures listed { AreListed nodes.new.slots blocks.new.entries }
+    ensures settled { AreSettled blocks.new.entries }
+    ensures bare { KeepsBare nodes.old.slots nodes.new.slots }
+    ensures counted { AreCounted nodes.new.slots keys.now.entries }
+{
+    match blocks.get_mut(&block) {
+        Some(list) => enlist_in(nodes, keys, list, block, key),
+        None => {}
+    }
+}
+
+/// Notes the key of a patch's class, where there is room for one more.
+fn enter<A: Allocator + Copy>(keys: &mut Keys<A>, no: PatchNo, key: usize)
+    requires { 0 < spare keys.old }
+    ensures here { find keys.new.entries no ≡ Some key }
+    ensures others { (n : ℕ) → n ≢ no → find keys.new.entries n ≡ find keys.old.entries n }
+{
+    keys.insert(no, key).unwrap();
+}
+
+/// What the class depends on.
+fn after<A: Allocator>(class: &Class<A>) -> &[PatchNo]
+    ensures { result.now ≡ class.now.after }
+{
+    class.after.as_slice()
+}
+
+/// The class before anything depends on it, outside of the ready set.
+fn alone<A: Allocator>(alloc: A, class: Class<A>, waits: usize) -> Node<A>
+where
+    A: Copy,
+    ensures class { result.class ≡ class }
+    ensures ready { result.ready ≡ false }
+    ensures waits { result.waits ≡ waits }
+    ensures followers { result.followers ≡ [] }
+{
+    Node {
+        class,
+        ready: false,
+        waits,
+        followers: Vec::new(alloc),
+    }
+}
+
+/// Makes room for the class.
+fn make_room<A: Allocator + Copy>(
+    alloc: A,
+    nodes: &mut Nodes<A>,
+    keys: &mut Keys<A>,
+    blocks: &mut Blocks<A>,
+    class: &Class<A>,
+) -> Result<(), AllocError>
+    ensures roomier { IsRoomier nodes.old.slots nodes.new.slots }
+    ensures keys { keys.new.entries ≡ keys.old.entries }
+    ensures kept { KeepsLists blocks.old.entries blocks.new.entries }
+    ensures nodes { OnOk result (HasRoomFor nodes.new 1) }
+    ensures numbers { OnOk result (0 < spare keys.new) }
+    ensures followers { OnOk result (HasRoomForAll keys.new.entries (length class.now.after) class.now.after nodes.new.slots) }
+    ensures lists { OnOk result (HasLists class.now.block blocks.new.entries) }
+{
+    reserve_all(nodes, keys, after(class))?;
+    make_lists(alloc, blocks, class.block)?;
+    keys.reserve(1)?;
+    nodes.reserve(1)
+}
+
+/// Puts in the class of a new patch, for which there is room. Its key.
+fn put_in<A: Allocator + Copy>(
+    alloc: A,
+    nodes: &mut Nodes<A>,
+    keys: &mut Keys<A>,
+    blocks: &mut Blocks<A>,
+    class: Class<A>,
+) -> usize
+    requires nodes { HasRoomFor nodes.old 1 }
+    requires numbers { 0 < spare keys.old }
+    requires followers { HasRoomForAll keys.old.entries (length class.after) class.after nodes.old.slots }
+    requires lists { HasLists class.block blocks.old.entries }
+    requires stands { Stands nodes.old.slots keys.old.entries blocks.old.entries }
+    requires below { AreBelow class.name nodes.old.slots }
+    requires fresh { IsNewClass class }
+    ensures put { HasPut (slots_of nodes.old.slots) (slots_of nodes.new.slots) keys.old.entries keys.new.entries result class }
+    ensures stands { Stands nodes.new.slots keys.new.entries blocks.new.entries }
+    ensures below { AreBelow (class.name + 1) nodes.new.slots }
+{
+    let no = class.name;
+    let block = class.block;
+    follow_all(nodes, keys, after(&class), no);
+    let key = nodes.vacant_key();
+    let waits = count_unmet(nodes, keys, key, block, after(&class));
+    nodes.insert_reserved(alone(alloc, class, waits));
+    enter(keys, no, key);
+    enlist(nodes, keys, blocks, block, key);
+    key
+}
+
+/// Puts in the class of a new patch. Its key.
+pub fn add<A: Allocator + Copy>(
+    alloc: A,
+    nodes: &mut Nodes<A>,
+    keys: &mut Keys<A>,
+    blocks: &mut Blocks<A>,
+    class: Class<A>,
+) -> Result<usize, AllocError>
+    requires stands { Stands nodes.old.slots keys.old.entries blocks.old.entries }
+    requires below { AreBelow class.name nodes.old.slots }
+    requires fresh { IsNewClass class }
+    ensures put { IfOk result (λ key. HasPut (slots_of nodes.old.slots) (slots_of nodes.new.slots) keys.old.entries keys.new.entries key class) }
+    ensures stands { Stands nodes.new.slots keys.new.entries blocks.new.entries }
+    ensures below { OnOk result (AreBelow (class.name + 1) nodes.new.slots) }
+    ensures refused { OnErr result (IsRoomier nodes.old.slots nodes.new.slots) }
+    ensures numbers { OnErr result (keys.new.entries ≡ keys.old.entries) }
+{
+    make_room(alloc, nodes, keys, blocks, &class)?;
+    Ok(put_in(alloc, nodes, keys, blocks, class))
+}
