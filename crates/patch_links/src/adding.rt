@@ -1,7 +1,9 @@
 //! One more class.
-ghost use Rattle.std.specs.Prelude.{◌≡◌, ◌≢◌, ◌<◌, ◌≤◌, ◌+◌, ℕ, [], true, false, length, Some, IfOk, OnOk, OnErr};
+ghost use Rattle.std.specs.Prelude.{◌≡◌, ◌≢◌, ◌<◌, ◌≤◌, ◌+◌, ◌∷◌, ℕ, [], true, false, length, Some, IfOk, OnOk, OnErr};
 ghost use Rattle.std.specs.Map.{lookup};
-ghost use Rattle.std.specs.Prelude.{nat_eq, None};
+ghost use Rattle.std.specs.Prelude.{nat_eq, nat_lt, None};
+ghost use Rattle.std.specs.List.{list_all};
+ghost use Rattle.patch_model.specs.declared.patches.Mark.TheVariants.{Memory};
 ghost use Rattle.indexmap.specs.IndexMap.{spare};
 ghost use Rattle.slab.specs.Slab.{HasRoomFor};
 ghost use Rattle.patch_links.specs.State.{changed_at, find, slots_of};
@@ -14,7 +16,7 @@ use crate::admitting::admit_all;
 use crate::counting::count_unmet;
 use crate::lists::{Blocks, OfBlock};
 use crate::nodes::{Class, Keys, Node, Nodes, find, is_due};
-use patch_model::{BlockNo, PatchNo};
+use patch_model::{BlockNo, Mark, PatchNo};
 use std::alloc::{AllocError, Allocator};
 
 /// Makes room for so many more followers of the class.
@@ -204,6 +206,47 @@ fn after<A: Allocator>(class: &Class<A>) -> &[PatchNo]
     ensures { result.now ≡ class.now.after }
 {
     class.after.as_slice()
+}
+
+/// Whether the class is in memory.
+fn is_in_memory<A: Allocator>(class: &Class<A>) -> bool
+    ensures { result ≡ true → class.now.mark ≡ Memory }
+{
+    match class.mark {
+        Mark::Memory => true,
+        _ => false,
+    }
+}
+
+/// Whether the class is of one patch.
+fn is_of_one<A: Allocator>(class: &Class<A>) -> bool
+    ensures { result ≡ true → class.now.members ≡ class.now.name ∷ [] }
+{
+    match class.members.as_slice() {
+        [no] => *no == class.name,
+        _ => false,
+    }
+}
+
+/// Whether it depends on earlier patches alone.
+fn is_of_earlier<A: Allocator>(class: &Class<A>) -> bool
+    ensures { result ≡ list_all (λ n. nat_lt n class.now.name) class.now.after }
+{
+    let name = class.name;
+    after(class).iter().all(|no| no.0 < name.0)
+}
+
+/// Whether the class is of one patch in memory, which depends on earlier ones.
+pub fn is_new<A: Allocator>(class: &Class<A>) -> bool
+    ensures { result ≡ true → IsNewClass class.now }
+{
+    if !is_in_memory(class) {
+        return false;
+    }
+    if !is_of_one(class) {
+        return false;
+    }
+    is_of_earlier(class)
 }
 
 /// The class before anything depends on it, outside of the ready set.

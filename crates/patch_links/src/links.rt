@@ -1,5 +1,5 @@
 //! The live classes of all blocks.
-ghost use Rattle.std.specs.Prelude.{◌≡◌, [], IfOk, OnErr, is_some};
+ghost use Rattle.std.specs.Prelude.{◌≡◌, [], IfOk, OnErr, true, is_some};
 ghost use Rattle.std.specs.Option.{option_copied};
 ghost use Rattle.patch_links.specs.State.{find, class_at};
 ghost use Rattle.patch_links.specs.Ready.{AreReady, TellsReady, TellsEmpty};
@@ -7,7 +7,7 @@ ghost use Rattle.patch_links.specs.Adding.{IsNew, IsAdded};
 ghost use Rattle.patch_links.specs.MarkFlight.{HasFlown};
 ghost use Rattle.patch_links.specs.MarkDurable.{HasLanded};
 
-use crate::adding::add;
+use crate::adding::{add, is_new};
 use crate::asking::{count, numbers, ready_keys};
 use crate::flying::fly;
 use crate::landing::land;
@@ -73,6 +73,14 @@ impl<A: Allocator + Copy> Links<A> {
 }
 
 impl<A: Allocator> Links<A> {
+    /// Whether the class is one that can be put in: that of one patch in memory, whose number is new, and which depends on
+    /// earlier ones.
+    pub fn may_add(&self, class: &Class<A>) -> bool
+        ensures { result ≡ true → IsNew self.now.made class.now }
+    {
+        self.made <= u64::from(class.name.0) && is_new(class)
+    }
+
     /// The key of a live patch's class.
     pub fn find(&self, no: PatchNo) -> Option<usize>
         ensures { result ≡ find self.now.numbers no }
