@@ -15,6 +15,8 @@ import sys
 BLOCK = 4096
 WAITING_BLOCKS = 1000
 ROUNDS = 1000
+FRAME = 124
+SLOT = 64
 
 
 def patch(block, start, hexadecimal, after=()):
@@ -76,6 +78,30 @@ def waiting(count):
         yield from written(0)
 
 
+def puts(count):
+    """What a store asks of its cache for so many puts of 100 bytes: a frame behind the last one, the pointer to its end, which
+    becomes one with the pointer before, and a slot. At the end data, pointer and slots are written, each wave after the one before."""
+    made, end, last, slots = 0, 0, None, (count + BLOCK // SLOT - 1) // (BLOCK // SLOT)
+    pointer, data = slots + 1, slots + 2
+    for number in range(count):
+        parts = []
+        while sum(size for _, size in parts) < FRAME:
+            at = end % BLOCK
+            size = min(FRAME - sum(size for _, size in parts), BLOCK - at)
+            yield {**patch(data + end // BLOCK, at, "ab" * size), "drop": True}
+            parts.append((made, size))
+            made, end = made + 1, end + size
+        yield {**patch(pointer, 0, "cd" * 8, [part for part, _ in parts]), "drop": True}
+        if last is not None:
+            yield {"op": "merge", "a": last, "b": made}
+        last, made = made, made + 1
+        yield {**patch(1 + number // (BLOCK // SLOT), number % (BLOCK // SLOT) * SLOT, "ef" * SLOT, [last]), "drop": True}
+        made += 1
+    for wave in range(data, data + (end + BLOCK - 1) // BLOCK), [pointer], range(1, slots + 1):
+        for op in "send", "complete":
+            yield from ({"op": op, "block": block} for block in wave)
+
+
 def put(key, length):
     """A value of its own, in a pattern of at most eight bytes that is repeated."""
     width = next(width for width in (8, 4, 2, 1) if length % width == 0)
@@ -129,7 +155,7 @@ def mixed(count):
             yield SYNC
 
 
-OF_REPLAY = {f.__name__: f for f in (apart, overlap, hot, views, elsewhere, waiting)}
+OF_REPLAY = {f.__name__: f for f in (apart, overlap, hot, views, elsewhere, waiting, puts)}
 OF_RUN = {
     "small": lambda count: keys(count, 100),
     "synced": lambda count: keys(count, 100, behind_each=[SYNC]),
@@ -146,6 +172,8 @@ def refused(line):
         return {**line, "key": line["key"] + "k" * 33}
     if "group" in line:
         return {**line, "group": 4294967295}
+    if line["op"] == "merge":
+        return {**line, "a": 4294967295}
     return {**line, "block": 4294967295}
 
 
