@@ -1,10 +1,8 @@
 -- What a step keeps that changes marks, ready sets and counts alone.
-use Rattle.std.proofs.Common.{◌≡◌, ℕ, ◌∙◌, inl, inr, Bool, false, refl, sym, ap, rules, Option, Some, None}
-use Rattle.std.specs.Prelude.{count_by}
+use Rattle.std.proofs.Common.{◌≡◌, ℕ, zero, suc, ◌∙◌, ◌∷◌, [], inl, inr, Bool, false, refl, sym, ap, arith, length, Option, Some, None}
+use Rattle.std.specs.Prelude.{◌<◌, ◌≤◌, count_by, slice_set}
 use Rattle.std.specs.Option.{option_map, option_map_or}
-use Rattle.std.specs.Map.{lookup}
-use Rattle.std.specs.Prelude.{nat_eq, IsSome}
-use Rattle.std.proofs.lemmas.Bool.{ne_eqb}
+use Rattle.std.proofs.lemmas.List.{get_or-set_same, get_or-set_other}
 use Rattle.patch_links.specs.State.{Node, Nodes, Numbers, leads_at, node_at, is_at}
 use Rattle.patch_links.specs.Waiting.{AreLinked}
 use Rattle.patch_links.specs.Lists.{OfBlock, Blocks, of_at, nothing, ChangesOf}
@@ -53,19 +51,14 @@ linked-plain old new numbers k linked key j x y apart at at2 =
     let b = plain-was old new j y k at2 in
     ap (λ z. count_by (leads_at numbers key) z.followers) b.2 ∙ linked key j a.0 b.0 apart a.1 b.1 ∙ sym (ap (λ z. count_by (leads_at numbers j) z.class.after) a.2)
 
-pub is_some-from : {X : Type 0} → (o : Option X) (x : X) → o ≡ Some x → IsSome o
-is_some-from (Some y) x e = search rules
-is_some-from None x e = absurd (cc)
+-- a block that has no lists
+pub of-none : (blocks : Blocks) (block : ℕ) → length blocks ≤ block → of_at blocks block ≡ nothing
+of-none [] block h = refl
+of-none (of ∷ blocks) zero h = absurd (omega arith)
+of-none (of ∷ blocks) (suc block) h = of-none blocks block (omega arith)
 
-pub of-some : (blocks : Blocks) (block : ℕ) (of : OfBlock) → lookup (nat_eq block) blocks ≡ Some of → of_at blocks block ≡ of
-of-some blocks block of at = ap (λ o. option_map_or (λ z. z) o nothing) at
-
-pub of-none : (blocks : Blocks) (block : ℕ) → lookup (nat_eq block) blocks ≡ None → of_at blocks block ≡ nothing
-of-none blocks block at = ap (λ o. option_map_or (λ z. z) o nothing) at
-
-pub changes-of : (old new : Blocks) (block : ℕ) (of : OfBlock) → lookup (nat_eq block) new ≡ Some of
-    → ((q : ℕ) → nat_eq block q ≡ false → lookup (nat_eq q) new ≡ lookup (nat_eq q) old) → ChangesOf block old new of
-changes-of old new block of at others = record {
-  here = of-some new block of at;
-  others = λ b d. ap (λ o. option_map_or (λ z. z) o nothing) (others b (ne_eqb block b (λ e. d (sym e))));
+pub changes-of : (blocks : Blocks) (block i : ℕ) (of : OfBlock) → i ≡ block → i < length blocks → ChangesOf block blocks (slice_set blocks i of) of
+changes-of blocks block i of e low = record {
+  here = ap (of_at (slice_set blocks i of)) (sym e) ∙ get_or-set_same blocks i of nothing low;
+  others = λ b d. get_or-set_other blocks i b of nothing (λ f. d (f ∙ e));
 }

@@ -1,6 +1,6 @@
 -- Classes in flight that are forgotten.
 use Rattle.std.proofs.Common.{zero, suc, take, drop, ◌≡◌, ℕ, ◌+◌, ◌-◌, ◌<◌, ◌≤◌, ◌∙◌, inl, inr, Bool, true, false, List, [], ◌∷◌, length, refl, sym, ap, arith, Option, Some, None}
-use Rattle.std.specs.Prelude.{◌==◌, ◌&&◌, ◌≢◌, slice_index_or, slice_set, count_by, cond, not, if◌then◌else◌, ◌||◌, IfNone, IfSome}
+use Rattle.std.specs.Prelude.{◌==◌, ◌&&◌, ◌≢◌, slice_index_or, slice_set, count_by, cond, not, if◌then◌else◌, ◌||◌}
 use Rattle.std.specs.Option.{option_map, option_map_or}
 use Rattle.std.proofs.lemmas.Bool.{cases_Bool, cases_eq, and_parts, and_from, and_left, and_right, both_ways, eqb-true, eq-eqb, ne_eqb, false_from_ne_true, or_left, or_right}
 use Rattle.std.proofs.lemmas.List.{get_or-set_same, get_or-set_other, length-set}
@@ -8,7 +8,7 @@ use Rattle.std.proofs.lemmas.List.Sums.{sum_by-set}
 use Rattle.patch_model.specs.Entry.{is_among, marks_memory, marks_flight}
 use Rattle.patch_links.specs.State.{Node, Nodes, Numbers, find, leads_at, node_at, is_at}
 use Rattle.patch_links.specs.Waiting.{of_block, ready_in, is_due, is_unmet, AreOwed, AreCounted, AreLinked}
-use Rattle.patch_links.specs.Lists.{OfBlock, Blocks, of_at, nothing, times, once, due_in, flying_in, classes_of, IsListed, AreListed, AreSettled, IsSettled, ChangesOf}
+use Rattle.patch_links.specs.Lists.{OfBlock, Blocks, of_at, nothing, times, once, due_in, flying_in, classes_of, IsListed, AreListed, AreSettled, IsSettled}
 use Rattle.patch_links.specs.Standing.{bare, has_member, AreMembers, AreBelow, KeepsBare, PaysOne, Stands}
 use Rattle.patch_links.specs.MarkDurable.{AreForgotten, AreTold, HasPopped, IsForgotten, PaysLed}
 use Rattle.patch_links.proofs.Counts.{count-cons, count-last, count-same, count-split, once-most, once-true}
@@ -106,20 +106,6 @@ pub told-all : (numbers : Numbers) (followers : List ℕ) (old new : Nodes) (blo
 told-all numbers followers old new blocks place p all o key x at =
     let e = p.owed o key x at in
     let none : count_by (leads_at numbers key) (drop place followers) ≡ 0 = ap (count_by (leads_at numbers key)) (drop-all followers place all) in omega arith
-
-pub if-none : {X : Type 0} {P Q : Type 0} → (o : Option X) → (P → Q) → IfNone o P → IfNone o Q
-if-none None f h = f h
-if-none (Some x) f h = tt
-
-pub if-some : {X : Type 0} → (o : Option X) (P Q : X → Type 0) → ((x : X) → P x → Q x) → IfSome o P → IfSome o Q
-if-some None P Q f h = tt
-if-some (Some x) P Q f h = f x h
-
-pub same-lists : (block : ℕ) (old new : Blocks) (of : OfBlock) → ChangesOf block old new of → of ≡ of_at old block → (other : ℕ) → of_at new other ≡ of_at old other
-same-lists block old new of c same other = elim (cases_eq other block) [
-  | inl e ↦ rw e (c.here ∙ same)
-  | inr n ↦ c.others other n
-]
 
 -- a class in the ready set is due
 pub ready-due : (block : ℕ) (nodes : Nodes) (of : OfBlock) (key : ℕ) → IsListed block nodes of → IsSettled of → is_at (ready_in block) nodes key ≡ true → is_at (due_in block) nodes key ≡ true

@@ -12,3 +12,10 @@ pub mod Arranging
 pub mod ReadySets
 pub mod Rooms
 pub mod Newcomers
+pub mod Joins
+pub mod JoinedLists
+pub mod Redirecting
+pub mod Orders
+pub mod Leveling
+pub mod Relisting
+pub mod Pairs

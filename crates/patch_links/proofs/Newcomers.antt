@@ -134,21 +134,21 @@ told-In m (suc count) n xs i = elim (last-In (told m count xs) i) [ inl j ↦ to
     last-In (y ∷ ys) (inl e) = inl (inl e)
     last-In (y ∷ ys) (inr j) = elim (last-In ys j) [ inl g ↦ inl (inr g) | inr e ↦ inr e ]
 
-or-second : (a b c : Bool) → b ≡ true → (a || b || c) ≡ true
+pub or-second : (a b c : Bool) → b ≡ true → (a || b || c) ≡ true
 or-second true b c e = refl
 or-second false true c e = refl
 or-second false false c e = absurd (cc)
 
-or-third : (a b c : Bool) → c ≡ true → (a || b || c) ≡ true
+pub or-third : (a b c : Bool) → c ≡ true → (a || b || c) ≡ true
 or-third true b c e = refl
 or-third false true c e = refl
 or-third false false c e = e
 
-or-first : (a b c : Bool) → a ≡ true → (a || b || c) ≡ true
+pub or-first : (a b c : Bool) → a ≡ true → (a || b || c) ≡ true
 or-first true b c e = refl
 or-first false b c e = absurd (cc)
 
-or-three : (a b c : Bool) → (a || b || c) ≡ true → (a ≡ true) ⊎ ((b ≡ true) ⊎ (c ≡ true))
+pub or-three : (a b c : Bool) → (a || b || c) ≡ true → (a ≡ true) ⊎ ((b ≡ true) ⊎ (c ≡ true))
 or-three true b c e = inl refl
 or-three false true c e = inr (inl refl)
 or-three false false c e = inr (inr e)

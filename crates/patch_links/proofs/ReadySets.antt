@@ -270,9 +270,9 @@ module _ (block : ℕ) (nodes : Nodes) (numbers : Numbers) (blocks : Blocks) (s 
         (k.0, x.0.class, slots-at nodes k.0 ∙ ap (option_map (λ z. z.class)) x.1, eqb-true x.0.class.block block x.2);
   }
 
-  pub has-flown : (made : ℕ) (new : Nodes) → AreFlown (is_among (of_at blocks block).ready) slots (slots_of new)
-      → HasFlown block (record { made = made; slots = slots; numbers = numbers }) (record { made = made; slots = slots_of new; numbers = numbers })
-  has-flown made new f = record {
+  pub has-flown : (made next now : ℕ) (new : Nodes) → AreFlown (is_among (of_at blocks block).ready) slots (slots_of new)
+      → HasFlown block (record { made = made; slots = slots; next = next; numbers = numbers }) (record { made = made; slots = slots_of new; next = now; numbers = numbers })
+  has-flown made next now new f = record {
     set = set;
     is = ready-set;
     flown = λ k. f k ∙ ap (λ b. option_map (λ c. if b then flown c else c) (class_at slots k)) (in-list k);

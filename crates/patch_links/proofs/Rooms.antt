@@ -1,8 +1,7 @@
 -- Room for one more class.
-use Rattle.std.proofs.Common.{◌≡◌, ℕ, zero, suc, ◌+◌, ◌<◌, ◌≤◌, ◌⊎◌, ◌∙◌, inl, inr, Bool, true, false, List, [], ◌∷◌, ◌++◌, length, refl, sym, ap, arith, subst, Option, Some, None, take, length-append}
-use Rattle.std.specs.Prelude.{◌==◌, nat_eq, slice_set, slice_index_or, count_by, is_some}
+use Rattle.std.proofs.Common.{◌≡◌, ℕ, zero, suc, ◌+◌, ◌<◌, ◌≤◌, ◌⊎◌, ◌∙◌, inl, inr, Bool, false, List, [], ◌∷◌, ◌++◌, length, refl, sym, ap, arith, subst, Option, Some, None, take, length-append}
+use Rattle.std.specs.Prelude.{◌==◌, slice_set, slice_index_or, count_by, is_some}
 use Rattle.std.specs.Option.{option_map, option_map_or}
-use Rattle.std.specs.Map.{lookup}
 use Rattle.std.proofs.lemmas.Bool.{cases_eq, eq-eqb, ne_eqb}
 use Rattle.std.proofs.lemmas.List.{get_or-set_same, get_or-set_other}
 use Rattle.std.proofs.lemmas.List.Sums.{count_by-le-length}
@@ -10,13 +9,13 @@ use Rattle.std.proofs.Math.Seq.{map-set_same}
 use Rattle.patch_model.specs.Member.{In}
 use Rattle.patch_links.specs.State.{Node, Nodes, Numbers, find, leads_at, node_at, is_at, changed_at}
 use Rattle.patch_links.specs.Waiting.{of_block, ready_in, unmet_of}
-use Rattle.patch_links.specs.Lists.{OfBlock, Blocks, of_at, once, due_in, flying_in, AreListed, AreSettled, ChangesOf}
+use Rattle.patch_links.specs.Lists.{OfBlock, Blocks, of_at, once, due_in, flying_in, IsListed, AreListed, AreSettled}
 use Rattle.patch_links.specs.Standing.{has_member, names, AreBelow, Stands}
-use Rattle.patch_links.specs.Adding.{with_room, IsRoomier, HasRoom, HasRoomTo, HasRoomForAll, followed, followed_to, told, retold, AreFollowed, KeepsLists, HasLists, AreFound}
+use Rattle.patch_links.specs.Adding.{with_room, IsRoomier, HasRoom, HasRoomTo, HasRoomForAll, followed, followed_to, told, retold, AreFollowed, KeepsLists}
+use Rattle.patch_links.specs.Joining.{AreTied}
 use Rattle.patch_links.proofs.Counts.{count-cons, count-last}
 use Rattle.patch_links.proofs.Places.{cases_option, same_some, below-nodes, changed-here, changed-else, changed-long}
 use Rattle.patch_links.proofs.Waits.{unmet-alike}
-use Rattle.patch_links.proofs.Keeping.{of-none}
 use Rattle.patch_links.proofs.Listings.{listed-alike}
 
 pub roomier-same : (nodes : Nodes) → IsRoomier nodes nodes
@@ -218,34 +217,47 @@ pub settled-roomier : (old new : Blocks) → KeepsLists old new → AreSettled o
 settled-roomier old new k s b = ap (λ z. z.done) (k b).same ∙ s b ∙ sym (ap (λ z. length z.ready) (k b).same)
 
 -- links stand, with more room
-pub stands-roomier : (nodes after : Nodes) (numbers : Numbers) (old new : Blocks) → IsRoomier nodes after → KeepsLists old new → Stands nodes numbers old → Stands after numbers new
-stands-roomier nodes after numbers old new r k s = record {
-  members = λ n key. s.members n key ∙ sym (alike (has_member n) key (λ x. refl));
+-- a test that room has no part in
+roomless-test : (test : Node → Bool) (nodes after : Nodes) (j : ℕ) → IsRoomier nodes after → ((x : Node) → test (with_room 0 x) ≡ test x) → is_at test after j ≡ is_at test nodes j
+roomless-test test nodes after j r same = sym (by (node_at after j)) ∙ ap (λ o. option_map_or test o false) (r.same j) ∙ by (node_at nodes j)
+  where
+    by : (o : Option Node) → option_map_or test (option_map (with_room 0) o) false ≡ option_map_or test o false
+    by None = refl
+    by (Some x) = same x
+
+pub tied-roomier : (nodes after : Nodes) (numbers : Numbers) → IsRoomier nodes after → AreTied nodes numbers → AreTied after numbers
+tied-roomier nodes after numbers r t = record {
+  members = λ n key. t.members n key ∙ sym (roomless-test (has_member n) nodes after key r (λ x. refl));
   linked = λ key j x y apart at at2.
       let a = roomless-was nodes after key x r at in
       let b = roomless-was nodes after j y r at2 in
-      ap (λ z. count_by (leads_at numbers key) z.followers) b.2 ∙ s.linked key j a.0 b.0 apart a.1 b.1 ∙ sym (ap (λ z. count_by (leads_at numbers j) z.class.after) a.2);
+      ap (λ z. count_by (leads_at numbers key) z.followers) b.2 ∙ t.linked key j a.0 b.0 apart a.1 b.1 ∙ sym (ap (λ z. count_by (leads_at numbers j) z.class.after) a.2);
   counted = λ key x at.
       let a = roomless-was nodes after key x r at in
-      let w = s.counted key a.0 a.1 in
+      let w = t.counted key a.0 a.1 in
       let waits : x.waits ≡ a.0.waits = ap (λ z. z.waits) a.2 in
       let same : unmet_of after numbers key x.class ≡ unmet_of after numbers key a.0.class = ap (λ z. unmet_of after numbers key z.class) a.2 in
-      let more = unmet-alike nodes after numbers key a.0.class (λ j. alike (ready_in a.0.class.block) j (λ x. refl)) in omega arith;
-  listed = listed-roomier after old new k (λ b. listed-alike b nodes after (of_at old b) (record {
-    due = λ j. alike (due_in b) j (λ x. refl);
-    ready = λ j. alike (ready_in b) j (λ x. refl);
-    flying = λ j. alike (flying_in b) j (λ x. refl);
-    of = λ j. alike (of_block b) j (λ x. refl);
-  }) (s.listed b));
-  settled = settled-roomier old new k s.settled;
+      let more = unmet-alike nodes after numbers key a.0.class (λ j. roomless-test (ready_in a.0.class.block) nodes after j r (λ x. refl)) in omega arith;
 }
-  where
-    alike : (test : Node → Bool) (j : ℕ) → ((x : Node) → test (with_room 0 x) ≡ test x) → is_at test after j ≡ is_at test nodes j
-    alike test j same = sym (by (node_at after j)) ∙ ap (λ o. option_map_or test o false) (r.same j) ∙ by (node_at nodes j)
-      where
-        by : (o : Option Node) → option_map_or test (option_map (with_room 0) o) false ≡ option_map_or test o false
-        by None = refl
-        by (Some x) = same x
+
+pub block-roomier : (block : ℕ) (nodes after : Nodes) (of : OfBlock) → IsRoomier nodes after → IsListed block nodes of → IsListed block after of
+block-roomier block nodes after of r l = listed-alike block nodes after of (record {
+  due = λ j. roomless-test (due_in block) nodes after j r (λ x. refl);
+  ready = λ j. roomless-test (ready_in block) nodes after j r (λ x. refl);
+  flying = λ j. roomless-test (flying_in block) nodes after j r (λ x. refl);
+  of = λ j. roomless-test (of_block block) nodes after j r (λ x. refl);
+}) l
+
+pub stands-roomier : (nodes after : Nodes) (numbers : Numbers) (old new : Blocks) → IsRoomier nodes after → KeepsLists old new → Stands nodes numbers old → Stands after numbers new
+stands-roomier nodes after numbers old new r k s =
+    let t = tied-roomier nodes after numbers r (record { members = s.members; linked = s.linked; counted = s.counted }) in
+    record {
+      members = t.members;
+      linked = t.linked;
+      counted = t.counted;
+      listed = listed-roomier after old new k (λ b. block-roomier b nodes after (of_at old b) r (s.listed b));
+      settled = settled-roomier old new k s.settled;
+    }
 
 pub below-roomier : (made : ℕ) (nodes after : Nodes) → IsRoomier nodes after → AreBelow made nodes → AreBelow made after
 below-roomier made nodes after r b key n t = b key n (sym (sym (by (node_at after key)) ∙ ap (λ o. option_map_or (names n) o false) (r.same key) ∙ by (node_at nodes key)) ∙ t)
@@ -254,36 +266,31 @@ below-roomier made nodes after r b key n t = b key n (sym (sym (by (node_at afte
     by None = refl
     by (Some x) = refl
 
-pub lists-grown : (block : ℕ) (old new : Blocks) (of now : OfBlock) → of_at old block ≡ of → ChangesOf block old new now → now ≡ record of { room_ready = now.room_ready; room_flying = now.room_flying }
-    → of.room_ready ≤ now.room_ready → of.room_flying ≤ now.room_flying → KeepsLists old new
-lists-grown block old new of now at c same ready flying b = elim (cases_eq b block) [
-  | inl e ↦ rw (e, at, c.here) (record { same = same; ready = ready; flying = flying })
-  | inr d ↦ rw (c.others b d) (record { same = refl; ready = omega arith; flying = omega arith })
-]
+pub lists-then : (a b c : Blocks) → KeepsLists a b → KeepsLists b c → KeepsLists a c
+lists-then a b c p q k =
+    let x = p k in
+    let y = q k in
+    let xr = x.ready in
+    let yr = y.ready in
+    let xf = x.flying in
+    let yf = y.flying in
+    record {
+      same = y.same ∙ ap (λ (o : OfBlock). record o { room_ready = (of_at c k).room_ready; room_flying = (of_at c k).room_flying }) x.same;
+      ready = omega arith;
+      flying = omega arith;
+    }
 
-pub lists-found : (block : ℕ) (old new : Blocks) (of now : OfBlock) → ChangesOf block old new now → now ≡ record of { room_ready = now.room_ready; room_flying = now.room_flying }
-    → of.count < now.room_ready → of.count < now.room_flying → HasLists block new
-lists-found block old new of now c same ready flying =
-    let count : now.count ≡ of.count = ap (λ z. z.count) same in
-    rw c.here (let a : now.count < now.room_ready = omega arith in let b : now.count < now.room_flying = omega arith in (a, b))
-
-pub found-not : (block : ℕ) (old new : Blocks) (found : Bool) → found ≡ false → AreFound block old new found → (new ≡ old) × (lookup (nat_eq block) old ≡ None)
-found-not block old new true t h = absurd (cc)
-found-not block old new false t h = h
-
-pub lists-made : (block : ℕ) (old new : Blocks) (first now : OfBlock) → lookup (nat_eq block) old ≡ None → first.ready ≡ [] → first.done ≡ 0 → first.flying ≡ [] → first.count ≡ 0
-    → now ≡ record first { room_ready = now.room_ready; room_flying = now.room_flying } → ChangesOf block old new now → KeepsLists old new
-lists-made block old new first now none ready done flying count same c b = elim (cases_eq b block) [
-  | inl e ↦ rw (e, of-none old block none, c.here) (record {
-    same = same ∙ ap (λ r. record { ready = r; done = first.done; flying = first.flying; count = first.count; room_ready = now.room_ready; room_flying = now.room_flying }) ready
-        ∙ ap (λ d. record { ready = []; done = d; flying = first.flying; count = first.count; room_ready = now.room_ready; room_flying = now.room_flying }) done
-        ∙ ap (λ f. record { ready = []; done = 0; flying = f; count = first.count; room_ready = now.room_ready; room_flying = now.room_flying }) flying
-        ∙ ap (λ n. record { ready = []; done = 0; flying = []; count = n; room_ready = now.room_ready; room_flying = now.room_flying }) count;
-    ready = omega arith;
-    flying = omega arith;
-  })
-  | inr d ↦ rw (c.others b d) (record { same = refl; ready = omega arith; flying = omega arith })
-]
+-- one block more has its lists
+pub lists-longer : (blocks : Blocks) (first : OfBlock) → first.ready ≡ [] → first.done ≡ 0 → first.flying ≡ [] → first.count ≡ 0 → KeepsLists blocks (blocks ++ first ∷ [])
+lists-longer [] first ready done flying count zero = record {
+  same = ap (λ (r : List ℕ). record first { ready = r }) ready ∙ ap (λ (d : ℕ). record first { ready = []; done = d }) done
+      ∙ ap (λ (f : List ℕ). record first { ready = []; done = 0; flying = f }) flying ∙ ap (λ (n : ℕ). record first { ready = []; done = 0; flying = []; count = n }) count;
+  ready = omega arith;
+  flying = omega arith;
+}
+lists-longer [] first ready done flying count (suc b) = record { same = refl; ready = omega arith; flying = omega arith }
+lists-longer (of ∷ blocks) first ready done flying count zero = record { same = refl; ready = omega arith; flying = omega arith }
+lists-longer (of ∷ blocks) first ready done flying count (suc b) = lists-longer blocks first ready done flying count b
 
 some-alike : (old new : Nodes) → length new ≡ length old → ((k : ℕ) → is_some (node_at new k) ≡ is_some (node_at old k)) → count_by is_some new ≡ count_by is_some old
 some-alike [] [] long same = refl

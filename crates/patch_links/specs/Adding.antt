@@ -1,10 +1,9 @@
 -- What one more class adds.
-use Rattle.std.specs.Prelude.{ℕ, zero, suc, Bool, true, false, nat_eq, count_by, ◌≡◌, ◌≢◌, ◌<◌, ◌≤◌, ◌+◌, [], ◌∷◌, ◌++◌, List, length, Some, None}
+use Rattle.std.specs.Prelude.{ℕ, zero, suc, false, count_by, ◌≡◌, ◌≢◌, ◌<◌, ◌≤◌, ◌+◌, [], ◌∷◌, ◌++◌, List, length, Some, None}
 use Rattle.patch_model.specs.declared.patches.Mark.TheVariants.{Memory}
 use Rattle.patch_model.specs.Member.{In}
 use Rattle.patch_links.specs.State.{Class, Links, Node, Nodes, Slots, Numbers, find, class_at, leads_at, node_at, slots_of, changed_at}
 use Rattle.patch_links.specs.Lists.{OfBlock, Blocks, of_at, IsListed, AreListed, AreSettled}
-use Rattle.std.specs.Map.{lookup}
 use Rattle.std.specs.Option.{option_map, option_map_or}
 
 -- the class is of one new patch in memory, which depends on earlier ones
@@ -17,6 +16,7 @@ pub record IsNew (made : ℕ) (c : Class) : Type 0 where
 -- one more class
 pub record IsAdded (old new : Links) (key : ℕ) (c : Class) : Type 0 where
   pub made : new.made ≡ c.name + 1
+  pub next : key ≡ old.next
   pub vacant : class_at old.slots key ≡ None
   pub here : class_at new.slots key ≡ Some c
   pub others : (k : ℕ) → k ≢ key → class_at new.slots k ≡ class_at old.slots k
@@ -82,11 +82,6 @@ KeepsLists old new = (block : ℕ) → IsRoomierOf (of_at old block) (of_at new 
 -- the block's lists have room for one more class
 abbrev pub HasLists : ℕ → Blocks → Type 0
 HasLists block blocks = ((of_at blocks block).count < (of_at blocks block).room_ready) × ((of_at blocks block).count < (of_at blocks block).room_flying)
-
--- the block's lists have that room now, or there are none
-abbrev pub AreFound : ℕ → Blocks → Blocks → Bool → Type 0
-AreFound block old new true = HasLists block new
-AreFound block old new false = (new ≡ old) × (lookup (nat_eq block) old ≡ None)
 
 -- a node, but for its followers
 abbrev pub unfollowed : Node → Node

@@ -6,4 +6,5 @@ pub mod Ready
 pub mod MarkFlight
 pub mod MarkDurable
 pub mod Merging
+pub mod Joining
 pub mod Adding

@@ -1,7 +1,6 @@
 -- The keys of a block's classes that are ready, and of those in flight.
-use Rattle.std.specs.Prelude.{ℕ, Bool, ◌≡◌, ◌≢◌, ◌≤◌, ◌-◌, ◌==◌, ◌&&◌, ◌∷◌, ◌++◌, nat_eq, if◌then◌else◌, take, List, [], length, count_by, false}
+use Rattle.std.specs.Prelude.{ℕ, Bool, ◌≡◌, ◌≢◌, ◌≤◌, ◌-◌, ◌==◌, ◌&&◌, ◌∷◌, ◌++◌, if◌then◌else◌, slice_index_or, take, List, [], length, count_by, false}
 use Rattle.std.specs.Option.{option_map_or}
-use Rattle.std.specs.Map.{lookup}
 use Rattle.patch_model.specs.Entry.{marks_flight}
 use Rattle.patch_links.specs.State.{Node, Nodes, is_at}
 use Rattle.patch_links.specs.Waiting.{of_block, ready_in, is_due}
@@ -17,14 +16,14 @@ pub record OfBlock : Type 0 where
   pub room_flying : ℕ
 
 abbrev pub Blocks : Type 0
-Blocks = List (ℕ × OfBlock)
+Blocks = List OfBlock
 
 abbrev pub nothing : OfBlock
 nothing = record { ready = []; done = 0; flying = []; count = 0; room_ready = 0; room_flying = 0 }
 
 -- what is kept of the block
 abbrev pub of_at : Blocks → ℕ → OfBlock
-of_at blocks block = option_map_or (λ o. o) (lookup (nat_eq block) blocks) nothing
+of_at blocks block = slice_index_or blocks block nothing
 
 -- how often the key stands in the list
 abbrev pub times : List ℕ → ℕ → ℕ

@@ -1,6 +1,6 @@
 -- Two classes made one.
-use Rattle.std.specs.Prelude.{ℕ, Bool, true, ◌≡◌, ◌≢◌, ◌++◌, ◌&&◌, ◌==◌, min, max, if◌then◌else◌, List, Some, None}
-use Rattle.std.specs.Option.{option_map}
+use Rattle.std.specs.Prelude.{ℕ, Bool, true, false, ◌≡◌, ◌≢◌, ◌++◌, ◌&&◌, ◌==◌, not, min, max, if◌then◌else◌, List, Some, None}
+use Rattle.std.specs.Option.{option_map, option_map_or}
 use Rattle.patch_model.specs.Entry.{is_among, marks_memory}
 use Rattle.patch_links.specs.State.{Class, Links, Slots, Numbers, find, class_at}
 
@@ -33,3 +33,7 @@ may_join c d = marks_memory c.mark && marks_memory d.mark && c.block == d.block
 abbrev pub HasJoined : ℕ → ℕ → Links → Links → Type 0
 HasJoined keep gone old new =
     (c d : Class) → keep ≢ gone → class_at old.slots keep ≡ Some c → class_at old.slots gone ≡ Some d → may_join c d ≡ true → IsJoined keep gone c d old.slots new.slots old.numbers new.numbers
+
+-- the two classes may be made one
+abbrev pub may_join_at : ℕ → ℕ → Slots → Bool
+may_join_at keep gone slots = not (keep == gone) && option_map_or (λ c. option_map_or (may_join c) (class_at slots gone) false) (class_at slots keep) false

@@ -23,10 +23,11 @@ Slots = List (Option Class)
 abbrev pub Numbers : Type 0
 Numbers = List (ℕ × ℕ)
 
--- a number that no number of a patch has reached, the classes by key, and the key of each live number
+-- a number that no number of a patch has reached, the classes by key, the key of the next one, and the key of each live number
 pub record Links : Type 0 where
   pub made : ℕ
   pub slots : Slots
+  pub next : ℕ
   pub numbers : Numbers
 
 -- the key of the class of a live number

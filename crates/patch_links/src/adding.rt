@@ -1,22 +1,21 @@
 //! One more class.
-ghost use Rattle.std.specs.Prelude.{◌≡◌, ◌≢◌, ◌<◌, ◌≤◌, ◌+◌, ◌∷◌, ℕ, [], true, false, length, Some, IfOk, OnOk, OnErr};
-ghost use Rattle.std.specs.Map.{lookup};
-ghost use Rattle.std.specs.Prelude.{nat_eq, nat_lt, None};
+ghost use Rattle.std.specs.Prelude.{◌≡◌, ◌≢◌, ◌<◌, ◌≤◌, ◌+◌, ◌∷◌, ℕ, [], true, false, nat_lt, length, vec_capacity, Some, IfOk, OnOk, OnErr};
 ghost use Rattle.std.specs.List.{list_all};
 ghost use Rattle.patch_model.specs.declared.patches.Mark.TheVariants.{Memory};
-ghost use Rattle.indexmap.specs.IndexMap.{spare};
 ghost use Rattle.slab.specs.Slab.{HasRoomFor};
+ghost use Rattle.patch_table.specs.Table.{HasRoomAt, entries_of};
 ghost use Rattle.patch_links.specs.State.{changed_at, find, slots_of};
 ghost use Rattle.patch_links.specs.Waiting.{AreCounted, AreLinked};
 ghost use Rattle.patch_links.specs.Lists.{IsListed, IsSettled, AreListed, AreSettled};
 ghost use Rattle.patch_links.specs.Standing.{AreBelow, KeepsBare, KeepsOwed, KeepsRest, Stands};
-ghost use Rattle.patch_links.specs.Adding.{followed, followed_to, AreFollowed, AreFound, HasLists, HasPut, HasRoom, HasRoomForAll, HasRoomTo, IsEnlisting, IsJoining, IsNewClass, IsRoomier, KeepsLists};
+ghost use Rattle.patch_links.specs.Adding.{followed, followed_to, AreFollowed, HasLists, HasPut, HasRoom, HasRoomForAll, HasRoomTo, IsEnlisting, IsJoining, IsNewClass, IsRoomier, KeepsLists};
 
 use crate::admitting::admit_all;
 use crate::counting::count_unmet;
 use crate::lists::{Blocks, OfBlock};
 use crate::nodes::{Class, Keys, Node, Nodes, find, is_due};
 use patch_model::{BlockNo, Mark, PatchNo};
+use patch_numbers::NumberList;
 use std::alloc::{AllocError, Allocator};
 
 /// Makes room for so many more followers of the class.
@@ -32,6 +31,7 @@ fn reserve_in<A: Allocator>(node: &mut Node<A>, more: usize) -> Result<(), Alloc
 fn reserve_at<A: Allocator>(nodes: &mut Nodes<A>, key: usize, more: usize) -> Result<(), AllocError>
     ensures roomier { IsRoomier nodes.old.slots nodes.new.slots }
     ensures room { OnOk result (HasRoom more key nodes.new.slots) }
+    ensures next { nodes.new.vacant_key ≡ nodes.old.vacant_key }
 {
     match nodes.get_mut(key) {
         Some(node) => reserve_in(node, more),
@@ -47,7 +47,8 @@ fn reserve_to<A: Allocator>(
     more: usize,
 ) -> Result<(), AllocError>
     ensures roomier { IsRoomier nodes.old.slots nodes.new.slots }
-    ensures room { OnOk result (HasRoomTo keys.now.entries more no nodes.new.slots) }
+    ensures room { OnOk result (HasRoomTo (entries_of keys.now) more no nodes.new.slots) }
+    ensures next { nodes.new.vacant_key ≡ nodes.old.vacant_key }
 {
     match find(keys, no) {
         Some(key) => reserve_at(nodes, key, more),
@@ -62,7 +63,8 @@ fn reserve_all<A: Allocator>(
     after: &[PatchNo],
 ) -> Result<(), AllocError>
     ensures roomier { IsRoomier nodes.old.slots nodes.new.slots }
-    ensures room { OnOk result (HasRoomForAll keys.now.entries (length after.now) after.now nodes.new.slots) }
+    ensures room { OnOk result (HasRoomForAll (entries_of keys.now) (length after.now) after.now nodes.new.slots) }
+    ensures next { nodes.new.vacant_key ≡ nodes.old.vacant_key }
 {
     let more = after.len();
     for no in after {
@@ -76,6 +78,7 @@ fn follow_at<A: Allocator>(nodes: &mut Nodes<A>, key: usize, follower: PatchNo)
     requires { HasRoom 1 key nodes.old.slots }
     ensures followed { nodes.new.slots ≡ changed_at (followed follower) nodes.old.slots key }
     ensures capacity { nodes.new.capacity ≡ nodes.old.capacity }
+    ensures next { nodes.new.vacant_key ≡ nodes.old.vacant_key }
 {
     if let Some(node) = nodes.get_mut(key) {
         node.followers.push_reserved(follower);
@@ -84,9 +87,10 @@ fn follow_at<A: Allocator>(nodes: &mut Nodes<A>, key: usize, follower: PatchNo)
 
 /// The same of the class that the number leads to.
 fn follow_to<A: Allocator>(nodes: &mut Nodes<A>, keys: &Keys<A>, no: PatchNo, follower: PatchNo)
-    requires { HasRoomTo keys.now.entries 1 no nodes.old.slots }
-    ensures followed { nodes.new.slots ≡ followed_to keys.now.entries follower nodes.old.slots no }
+    requires { HasRoomTo (entries_of keys.now) 1 no nodes.old.slots }
+    ensures followed { nodes.new.slots ≡ followed_to (entries_of keys.now) follower nodes.old.slots no }
     ensures capacity { nodes.new.capacity ≡ nodes.old.capacity }
+    ensures next { nodes.new.vacant_key ≡ nodes.old.vacant_key }
 {
     if let Some(key) = find(keys, no) {
         follow_at(nodes, key, follower);
@@ -100,44 +104,63 @@ fn follow_all<A: Allocator>(
     after: &[PatchNo],
     follower: PatchNo,
 )
-    requires { HasRoomForAll keys.now.entries (length after.now) after.now nodes.old.slots }
-    ensures followed { AreFollowed keys.now.entries follower after.now nodes.old.slots nodes.new.slots }
+    requires { HasRoomForAll (entries_of keys.now) (length after.now) after.now nodes.old.slots }
+    ensures followed { AreFollowed (entries_of keys.now) follower after.now nodes.old.slots nodes.new.slots }
     ensures capacity { nodes.new.capacity ≡ nodes.old.capacity }
+    ensures next { nodes.new.vacant_key ≡ nodes.old.vacant_key }
 {
     for no in after {
         follow_to(nodes, keys, *no, follower);
     }
 }
 
-/// Room for one more class of the block. Whether there is a place for its lists.
-fn grow_lists<A: Allocator>(blocks: &mut Blocks<A>, block: BlockNo) -> Result<bool, AllocError>
-    ensures kept { KeepsLists blocks.old.entries blocks.new.entries }
-    ensures found { IfOk result (λ found. AreFound block blocks.old.entries blocks.new.entries found) }
+/// Gives so many blocks their lists, which hold no key yet; those that have some keep them.
+fn fill<A: Allocator + Copy>(alloc: A, blocks: &mut Blocks<A>, count: usize)
+    requires { count ≤ vec_capacity blocks.old }
+    ensures kept { KeepsLists blocks.old.items blocks.new.items }
+    ensures long { count ≤ length blocks.new.items }
 {
-    match blocks.get_mut(&block) {
-        Some(list) => {
-            list.grow()?;
-            Ok(true)
-        }
-        None => Ok(false),
+    while blocks.len() < count {
+        blocks.push_reserved(OfBlock::new(alloc));
     }
 }
 
-/// Makes room for the keys of one more class of the block.
+/// Gives the block its lists, and those before it.
+fn lengthen<A: Allocator + Copy>(
+    alloc: A,
+    blocks: &mut Blocks<A>,
+    block: BlockNo,
+) -> Result<(), AllocError>
+    ensures kept { KeepsLists blocks.old.items blocks.new.items }
+    ensures long { OnOk result (block < length blocks.new.items) }
+{
+    let count = block.0 as usize + 1;
+    blocks.reserve(count.saturating_sub(blocks.len()))?;
+    fill(alloc, blocks, count);
+    Ok(())
+}
+
+/// Makes room for the keys of one more class of the block, which has its lists.
+fn grow_lists<A: Allocator>(blocks: &mut Blocks<A>, block: BlockNo) -> Result<(), AllocError>
+    requires { block < length blocks.old.items }
+    ensures kept { KeepsLists blocks.old.items blocks.new.items }
+    ensures room { OnOk result (HasLists block blocks.new.items) }
+{
+    let list = &mut blocks[block.0 as usize];
+    list.grow()
+}
+
+/// The same, whether it has them or not.
 fn make_lists<A: Allocator + Copy>(
     alloc: A,
     blocks: &mut Blocks<A>,
     block: BlockNo,
 ) -> Result<(), AllocError>
-    ensures kept { KeepsLists blocks.old.entries blocks.new.entries }
-    ensures room { OnOk result (HasLists block blocks.new.entries) }
+    ensures kept { KeepsLists blocks.old.items blocks.new.items }
+    ensures room { OnOk result (HasLists block blocks.new.items) }
 {
-    if !grow_lists(blocks, block)? {
-        let mut list = OfBlock::new(alloc);
-        list.grow()?;
-        blocks.insert(block, list)?;
-    }
-    Ok(())
+    lengthen(alloc, blocks, block)?;
+    grow_lists(blocks, block)
 }
 
 /// One more class of the block, at the key.
@@ -160,11 +183,11 @@ fn enlist_in<A: Allocator>(
     key: usize,
 )
     requires joining { IsJoining block key nodes.old.slots list.old }
-    requires linked { AreLinked nodes.old.slots keys.now.entries }
+    requires linked { AreLinked nodes.old.slots (entries_of keys.now) }
     ensures listed { IsListed block nodes.new.slots list.new }
     ensures settled { IsSettled list.new }
     ensures rest { KeepsRest block nodes.old.slots nodes.new.slots }
-    ensures owed { KeepsOwed keys.now.entries nodes.old.slots nodes.new.slots }
+    ensures owed { KeepsOwed (entries_of keys.now) nodes.old.slots nodes.new.slots }
 {
     enlist_key(nodes, list, block, key);
     admit_all(nodes, keys, list, block);
@@ -178,15 +201,15 @@ fn enlist<A: Allocator>(
     block: BlockNo,
     key: usize,
 )
-    requires enlisting { IsEnlisting block key nodes.old.slots blocks.old.entries }
-    requires linked { AreLinked nodes.old.slots keys.now.entries }
-    requires counted { AreCounted nodes.old.slots keys.now.entries }
-    ensures listed { AreListed nodes.new.slots blocks.new.entries }
-    ensures settled { AreSettled blocks.new.entries }
+    requires enlisting { IsEnlisting block key nodes.old.slots blocks.old.items }
+    requires linked { AreLinked nodes.old.slots (entries_of keys.now) }
+    requires counted { AreCounted nodes.old.slots (entries_of keys.now) }
+    ensures listed { AreListed nodes.new.slots blocks.new.items }
+    ensures settled { AreSettled blocks.new.items }
     ensures bare { KeepsBare nodes.old.slots nodes.new.slots }
-    ensures counted { AreCounted nodes.new.slots keys.now.entries }
+    ensures counted { AreCounted nodes.new.slots (entries_of keys.now) }
 {
-    match blocks.get_mut(&block) {
+    match blocks.get_mut(block.0 as usize) {
         Some(list) => enlist_in(nodes, keys, list, block, key),
         None => {}
     }
@@ -194,11 +217,11 @@ fn enlist<A: Allocator>(
 
 /// Notes the key of a patch's class, where there is room for one more.
 fn enter<A: Allocator + Copy>(keys: &mut Keys<A>, no: PatchNo, key: usize)
-    requires { 0 < spare keys.old }
-    ensures here { find keys.new.entries no ≡ Some key }
-    ensures others { (n : ℕ) → n ≢ no → find keys.new.entries n ≡ find keys.old.entries n }
+    requires { HasRoomAt keys.old no }
+    ensures here { find (entries_of keys.new) no ≡ Some key }
+    ensures others { (n : ℕ) → n ≢ no → find (entries_of keys.new) n ≡ find (entries_of keys.old) n }
 {
-    keys.insert(no, key).unwrap();
+    keys.put(no.0, key);
 }
 
 /// What the class depends on.
@@ -262,7 +285,7 @@ where
         class,
         ready: false,
         waits,
-        followers: Vec::new(alloc),
+        followers: NumberList::new(alloc),
     }
 }
 
@@ -275,16 +298,17 @@ fn make_room<A: Allocator + Copy>(
     class: &Class<A>,
 ) -> Result<(), AllocError>
     ensures roomier { IsRoomier nodes.old.slots nodes.new.slots }
-    ensures keys { keys.new.entries ≡ keys.old.entries }
-    ensures kept { KeepsLists blocks.old.entries blocks.new.entries }
+    ensures keys { entries_of keys.new ≡ entries_of keys.old }
+    ensures kept { KeepsLists blocks.old.items blocks.new.items }
     ensures nodes { OnOk result (HasRoomFor nodes.new 1) }
-    ensures numbers { OnOk result (0 < spare keys.new) }
-    ensures followers { OnOk result (HasRoomForAll keys.new.entries (length class.now.after) class.now.after nodes.new.slots) }
-    ensures lists { OnOk result (HasLists class.now.block blocks.new.entries) }
+    ensures numbers { OnOk result (HasRoomAt keys.new class.now.name) }
+    ensures followers { OnOk result (HasRoomForAll (entries_of keys.new) (length class.now.after) class.now.after nodes.new.slots) }
+    ensures lists { OnOk result (HasLists class.now.block blocks.new.items) }
+    ensures next { nodes.new.vacant_key ≡ nodes.old.vacant_key }
 {
     reserve_all(nodes, keys, after(class))?;
     make_lists(alloc, blocks, class.block)?;
-    keys.reserve(1)?;
+    keys.reserve(class.name.0)?;
     nodes.reserve(1)
 }
 
@@ -297,15 +321,16 @@ fn put_in<A: Allocator + Copy>(
     class: Class<A>,
 ) -> usize
     requires nodes { HasRoomFor nodes.old 1 }
-    requires numbers { 0 < spare keys.old }
-    requires followers { HasRoomForAll keys.old.entries (length class.after) class.after nodes.old.slots }
-    requires lists { HasLists class.block blocks.old.entries }
-    requires stands { Stands nodes.old.slots keys.old.entries blocks.old.entries }
+    requires numbers { HasRoomAt keys.old class.name }
+    requires followers { HasRoomForAll (entries_of keys.old) (length class.after) class.after nodes.old.slots }
+    requires lists { HasLists class.block blocks.old.items }
+    requires stands { Stands nodes.old.slots (entries_of keys.old) blocks.old.items }
     requires below { AreBelow class.name nodes.old.slots }
     requires fresh { IsNewClass class }
-    ensures put { HasPut (slots_of nodes.old.slots) (slots_of nodes.new.slots) keys.old.entries keys.new.entries result class }
-    ensures stands { Stands nodes.new.slots keys.new.entries blocks.new.entries }
+    ensures put { HasPut (slots_of nodes.old.slots) (slots_of nodes.new.slots) (entries_of keys.old) (entries_of keys.new) result class }
+    ensures stands { Stands nodes.new.slots (entries_of keys.new) blocks.new.items }
     ensures below { AreBelow (class.name + 1) nodes.new.slots }
+    ensures next { result ≡ nodes.old.vacant_key }
 {
     let no = class.name;
     let block = class.block;
@@ -326,14 +351,16 @@ pub fn add<A: Allocator + Copy>(
     blocks: &mut Blocks<A>,
     class: Class<A>,
 ) -> Result<usize, AllocError>
-    requires stands { Stands nodes.old.slots keys.old.entries blocks.old.entries }
+    requires stands { Stands nodes.old.slots (entries_of keys.old) blocks.old.items }
     requires below { AreBelow class.name nodes.old.slots }
     requires fresh { IsNewClass class }
-    ensures put { IfOk result (λ key. HasPut (slots_of nodes.old.slots) (slots_of nodes.new.slots) keys.old.entries keys.new.entries key class) }
-    ensures stands { Stands nodes.new.slots keys.new.entries blocks.new.entries }
+    ensures put { IfOk result (λ key. HasPut (slots_of nodes.old.slots) (slots_of nodes.new.slots) (entries_of keys.old) (entries_of keys.new) key class) }
+    ensures stands { Stands nodes.new.slots (entries_of keys.new) blocks.new.items }
     ensures below { OnOk result (AreBelow (class.name + 1) nodes.new.slots) }
     ensures refused { OnErr result (IsRoomier nodes.old.slots nodes.new.slots) }
-    ensures numbers { OnErr result (keys.new.entries ≡ keys.old.entries) }
+    ensures numbers { OnErr result (entries_of keys.new ≡ entries_of keys.old) }
+    ensures next { IfOk result (λ key. key ≡ nodes.old.vacant_key) }
+    ensures same_next { OnErr result (nodes.new.vacant_key ≡ nodes.old.vacant_key) }
 {
     make_room(alloc, nodes, keys, blocks, &class)?;
     Ok(put_in(alloc, nodes, keys, blocks, class))

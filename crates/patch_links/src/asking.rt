@@ -12,9 +12,9 @@ use std::alloc::{AllocError, Allocator};
 
 /// The keys of the block's ready set.
 pub fn ready_keys<A: Allocator>(blocks: &Blocks<A>, block: BlockNo) -> &[usize]
-    ensures { result.now ≡ (of_at blocks.now.entries block).ready }
+    ensures { result.now ≡ (of_at blocks.now.items block).ready }
 {
-    match blocks.get(&block) {
+    match blocks.get(block.0 as usize) {
         Some(list) => list.ready(),
         None => &[],
     }
@@ -22,9 +22,9 @@ pub fn ready_keys<A: Allocator>(blocks: &Blocks<A>, block: BlockNo) -> &[usize]
 
 /// How many classes the block has.
 pub fn count<A: Allocator>(blocks: &Blocks<A>, block: BlockNo) -> usize
-    ensures { result ≡ (of_at blocks.now.entries block).count }
+    ensures { result ≡ (of_at blocks.now.items block).count }
 {
-    match blocks.get(&block) {
+    match blocks.get(block.0 as usize) {
         Some(list) => list.count(),
         None => 0,
     }

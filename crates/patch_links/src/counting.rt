@@ -1,5 +1,6 @@
 //! What keeps a class out of its block's ready set.
 ghost use Rattle.std.specs.Prelude.{◌≡◌, count_by};
+ghost use Rattle.patch_table.specs.Table.{entries_of};
 ghost use Rattle.patch_links.specs.Waiting.{is_unmet};
 
 use crate::nodes::{Keys, Nodes, find, is_ready};
@@ -14,7 +15,7 @@ fn is_unmet<A: Allocator>(
     block: BlockNo,
     no: PatchNo,
 ) -> bool
-    ensures { result ≡ is_unmet nodes.now.slots keys.now.entries key block no }
+    ensures { result ≡ is_unmet nodes.now.slots (entries_of keys.now) key block no }
 {
     match find(keys, no) {
         Some(other) => other != key && !is_ready(nodes, block, other),
@@ -30,7 +31,7 @@ pub fn count_unmet<A: Allocator>(
     block: BlockNo,
     after: &[PatchNo],
 ) -> usize
-    ensures { result ≡ count_by (is_unmet nodes.now.slots keys.now.entries key block) after.now }
+    ensures { result ≡ count_by (is_unmet nodes.now.slots (entries_of keys.now) key block) after.now }
 {
     let mut count = 0;
     for no in after {

@@ -1,6 +1,7 @@
 //! The ready set put in flight.
 ghost use Rattle.std.specs.Prelude.{◌≡◌, ◌<◌, ◌≤◌, ◌&&◌, ◌==◌, ℕ, true, false, length};
 ghost use Rattle.patch_model.specs.Entry.{is_among};
+ghost use Rattle.patch_table.specs.Table.{entries_of};
 ghost use Rattle.patch_links.specs.State.{is_at, changed_at, slots_of};
 ghost use Rattle.patch_links.specs.Waiting.{of_block, ready_in, raised, unreadied, AreCounted, AreLinked, AreOwing, passed_by, changed_if_other, passed_to, followers_at};
 ghost use Rattle.patch_links.specs.Lists.{HoldsJust, IsListed, IsSettled, of_at};
@@ -29,7 +30,7 @@ fn raise_to<A: Allocator>(
     block: BlockNo,
     no: PatchNo,
 )
-    ensures { nodes.new.slots ≡ passed_to raised keys.now.entries from block nodes.old.slots no }
+    ensures { nodes.new.slots ≡ passed_to raised (entries_of keys.now) from block nodes.old.slots no }
 {
     if let Some(key) = find(keys, no) {
         raise_other(nodes, from, block, key);
@@ -40,7 +41,7 @@ fn raise_to<A: Allocator>(
 fn raise_all<A: Allocator>(nodes: &mut Nodes<A>, keys: &Keys<A>, from: usize, block: BlockNo)
     ensures rest { KeepsRest block nodes.old.slots nodes.new.slots }
     ensures marks { KeepsMarks nodes.old.slots nodes.new.slots }
-    ensures counted { AreOwing nodes.old.slots keys.now.entries (passed_by keys.now.entries from block (followers_at nodes.old.slots from)) → AreCounted nodes.new.slots keys.now.entries }
+    ensures counted { AreOwing nodes.old.slots (entries_of keys.now) (passed_by (entries_of keys.now) from block (followers_at nodes.old.slots from)) → AreCounted nodes.new.slots (entries_of keys.now) }
 {
     let count = follower_count(nodes, from);
     for place in 0..count {
@@ -54,11 +55,11 @@ fn raise_all<A: Allocator>(nodes: &mut Nodes<A>, keys: &Keys<A>, from: usize, bl
 /// Takes the class at the key out of the ready set.
 fn take_out_at<A: Allocator>(nodes: &mut Nodes<A>, keys: &Keys<A>, key: usize, block: BlockNo)
     requires here { is_at (ready_in block) nodes.old.slots key ≡ true }
-    requires linked { AreLinked nodes.old.slots keys.now.entries }
-    requires counted { AreCounted nodes.old.slots keys.now.entries }
+    requires linked { AreLinked nodes.old.slots (entries_of keys.now) }
+    requires counted { AreCounted nodes.old.slots (entries_of keys.now) }
     ensures rest { KeepsRest block nodes.old.slots nodes.new.slots }
     ensures marks { KeepsMarks (changed_at unreadied nodes.old.slots key) nodes.new.slots }
-    ensures counted { AreCounted nodes.new.slots keys.now.entries }
+    ensures counted { AreCounted nodes.new.slots (entries_of keys.now) }
 {
     take_ready(nodes, key);
     raise_all(nodes, keys, key, block);
@@ -67,11 +68,11 @@ fn take_out_at<A: Allocator>(nodes: &mut Nodes<A>, keys: &Keys<A>, key: usize, b
 /// Takes the classes at these keys out of the ready set, which are all of it.
 pub fn take_out<A: Allocator>(nodes: &mut Nodes<A>, keys: &Keys<A>, ready: &[usize], block: BlockNo)
     requires ready { HoldsJust (ready_in block) nodes.old.slots ready.now }
-    requires linked { AreLinked nodes.old.slots keys.now.entries }
-    requires counted { AreCounted nodes.old.slots keys.now.entries }
+    requires linked { AreLinked nodes.old.slots (entries_of keys.now) }
+    requires counted { AreCounted nodes.old.slots (entries_of keys.now) }
     ensures rest { KeepsRest block nodes.old.slots nodes.new.slots }
     ensures none { (key : ℕ) → is_at (ready_in block) nodes.new.slots key ≡ false }
-    ensures counted { AreCounted nodes.new.slots keys.now.entries }
+    ensures counted { AreCounted nodes.new.slots (entries_of keys.now) }
 {
     for key in ready {
         take_out_at(nodes, keys, *key, block);
@@ -106,11 +107,11 @@ fn fly_list<A: Allocator>(
 )
     requires listed { IsListed block nodes.old.slots list.old }
     requires settled { IsSettled list.old }
-    requires linked { AreLinked nodes.old.slots keys.now.entries }
-    requires counted { AreCounted nodes.old.slots keys.now.entries }
+    requires linked { AreLinked nodes.old.slots (entries_of keys.now) }
+    requires counted { AreCounted nodes.old.slots (entries_of keys.now) }
     ensures listed { IsListed block nodes.new.slots list.new }
     ensures settled { IsSettled list.new }
-    ensures counted { AreCounted nodes.new.slots keys.now.entries }
+    ensures counted { AreCounted nodes.new.slots (entries_of keys.now) }
     ensures flown { IsPutInFlight block (is_among list.old.ready) nodes.old.slots nodes.new.slots }
 {
     take_out(nodes, keys, list.ready(), block);
@@ -125,12 +126,12 @@ pub fn fly<A: Allocator>(
     blocks: &mut Blocks<A>,
     block: BlockNo,
 )
-    requires { Stands nodes.old.slots keys.now.entries blocks.old.entries }
-    ensures stands { Stands nodes.new.slots keys.now.entries blocks.new.entries }
-    ensures flown { AreFlown (is_among (of_at blocks.old.entries block).ready) (slots_of nodes.old.slots) (slots_of nodes.new.slots) }
+    requires { Stands nodes.old.slots (entries_of keys.now) blocks.old.items }
+    ensures stands { Stands nodes.new.slots (entries_of keys.now) blocks.new.items }
+    ensures flown { AreFlown (is_among (of_at blocks.old.items block).ready) (slots_of nodes.old.slots) (slots_of nodes.new.slots) }
     ensures plain { KeepsPlain nodes.old.slots nodes.new.slots }
 {
-    if let Some(list) = blocks.get_mut(&block) {
+    if let Some(list) = blocks.get_mut(block.0 as usize) {
         fly_list(nodes, keys, list, block);
     }
 }

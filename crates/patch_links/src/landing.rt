@@ -1,6 +1,7 @@
 //! Classes in flight that are durable, and so forgotten.
-ghost use Rattle.std.specs.Prelude.{◌≡◌, ℕ, [], true, length, IfSome, IfNone};
-ghost use Rattle.patch_links.specs.State.{is_at, slots_of};
+ghost use Rattle.std.specs.Prelude.{◌≡◌, ◌≢◌, ℕ, None, [], true, length, IfSome, IfNone};
+ghost use Rattle.patch_table.specs.Table.{entries_of};
+ghost use Rattle.patch_links.specs.State.{find, is_at, slots_of};
 ghost use Rattle.patch_links.specs.Waiting.{of_block, AreLinked};
 ghost use Rattle.patch_links.specs.Lists.{AreListed, AreSettled, of_at};
 ghost use Rattle.patch_links.specs.Standing.{KeepsBare, PaysOne, AreBelow, Stands};
@@ -12,12 +13,20 @@ use crate::nodes::{Keys, Nodes, block_at, find};
 use patch_model::{BlockNo, PatchNo};
 use std::alloc::Allocator;
 
+/// Takes the key of a number away.
+fn forget_one<A: Allocator>(keys: &mut Keys<A>, no: PatchNo)
+    ensures here { find (entries_of keys.new) no ≡ None }
+    ensures others { (n : ℕ) → n ≢ no → find (entries_of keys.new) n ≡ find (entries_of keys.old) n }
+{
+    keys.remove(no.0);
+}
+
 /// Takes the keys of these numbers away.
 fn forget<A: Allocator>(keys: &mut Keys<A>, members: &[PatchNo])
-    ensures { AreForgotten members.now keys.old.entries keys.new.entries (length members.now) }
+    ensures { AreForgotten members.now (entries_of keys.old) (entries_of keys.new) (length members.now) }
 {
     for no in members {
-        keys.swap_remove(no);
+        forget_one(keys, *no);
     }
 }
 
@@ -29,16 +38,16 @@ fn tell_at<A: Allocator>(
     block: BlockNo,
     key: usize,
 )
-    requires listed { AreListed nodes.old.slots blocks.old.entries }
-    requires settled { AreSettled blocks.old.entries }
-    requires linked { AreLinked nodes.old.slots keys.now.entries }
+    requires listed { AreListed nodes.old.slots blocks.old.items }
+    requires settled { AreSettled blocks.old.items }
+    requires linked { AreLinked nodes.old.slots (entries_of keys.now) }
     requires here { is_at (of_block block) nodes.old.slots key ≡ true }
-    ensures listed { AreListed nodes.new.slots blocks.new.entries }
-    ensures settled { AreSettled blocks.new.entries }
+    ensures listed { AreListed nodes.new.slots blocks.new.items }
+    ensures settled { AreSettled blocks.new.items }
     ensures bare { KeepsBare nodes.old.slots nodes.new.slots }
-    ensures paid { PaysOne keys.now.entries key nodes.old.slots nodes.new.slots }
+    ensures paid { PaysOne (entries_of keys.now) key nodes.old.slots nodes.new.slots }
 {
-    match blocks.get_mut(&block) {
+    match blocks.get_mut(block.0 as usize) {
         Some(list) => settle(nodes, keys, list, block, key),
         None => {}
     }
@@ -46,13 +55,13 @@ fn tell_at<A: Allocator>(
 
 /// One number less keeps the class out that is at the key.
 fn tell_key<A: Allocator>(nodes: &mut Nodes<A>, keys: &Keys<A>, blocks: &mut Blocks<A>, key: usize)
-    requires listed { AreListed nodes.old.slots blocks.old.entries }
-    requires settled { AreSettled blocks.old.entries }
-    requires linked { AreLinked nodes.old.slots keys.now.entries }
-    ensures listed { AreListed nodes.new.slots blocks.new.entries }
-    ensures settled { AreSettled blocks.new.entries }
+    requires listed { AreListed nodes.old.slots blocks.old.items }
+    requires settled { AreSettled blocks.old.items }
+    requires linked { AreLinked nodes.old.slots (entries_of keys.now) }
+    ensures listed { AreListed nodes.new.slots blocks.new.items }
+    ensures settled { AreSettled blocks.new.items }
     ensures bare { KeepsBare nodes.old.slots nodes.new.slots }
-    ensures paid { PaysOne keys.now.entries key nodes.old.slots nodes.new.slots }
+    ensures paid { PaysOne (entries_of keys.now) key nodes.old.slots nodes.new.slots }
 {
     match block_at(nodes, key) {
         Some(block) => tell_at(nodes, keys, blocks, block, key),
@@ -62,13 +71,13 @@ fn tell_key<A: Allocator>(nodes: &mut Nodes<A>, keys: &Keys<A>, blocks: &mut Blo
 
 /// One number less keeps the class out that the number leads to.
 fn tell<A: Allocator>(nodes: &mut Nodes<A>, keys: &Keys<A>, blocks: &mut Blocks<A>, no: PatchNo)
-    requires listed { AreListed nodes.old.slots blocks.old.entries }
-    requires settled { AreSettled blocks.old.entries }
-    requires linked { AreLinked nodes.old.slots keys.now.entries }
-    ensures listed { AreListed nodes.new.slots blocks.new.entries }
-    ensures settled { AreSettled blocks.new.entries }
+    requires listed { AreListed nodes.old.slots blocks.old.items }
+    requires settled { AreSettled blocks.old.items }
+    requires linked { AreLinked nodes.old.slots (entries_of keys.now) }
+    ensures listed { AreListed nodes.new.slots blocks.new.items }
+    ensures settled { AreSettled blocks.new.items }
     ensures bare { KeepsBare nodes.old.slots nodes.new.slots }
-    ensures paid { PaysLed keys.now.entries no nodes.old.slots nodes.new.slots }
+    ensures paid { PaysLed (entries_of keys.now) no nodes.old.slots nodes.new.slots }
 {
     match find(keys, no) {
         Some(key) => tell_key(nodes, keys, blocks, key),
@@ -83,13 +92,13 @@ fn tell_all<A: Allocator>(
     blocks: &mut Blocks<A>,
     followers: &[PatchNo],
 )
-    requires listed { AreListed nodes.old.slots blocks.old.entries }
-    requires settled { AreSettled blocks.old.entries }
-    requires linked { AreLinked nodes.old.slots keys.now.entries }
-    ensures listed { AreListed nodes.new.slots blocks.new.entries }
-    ensures settled { AreSettled blocks.new.entries }
+    requires listed { AreListed nodes.old.slots blocks.old.items }
+    requires settled { AreSettled blocks.old.items }
+    requires linked { AreLinked nodes.old.slots (entries_of keys.now) }
+    ensures listed { AreListed nodes.new.slots blocks.new.items }
+    ensures settled { AreSettled blocks.new.items }
     ensures bare { KeepsBare nodes.old.slots nodes.new.slots }
-    ensures told { AreTold keys.now.entries followers.now nodes.old.slots nodes.new.slots }
+    ensures told { AreTold (entries_of keys.now) followers.now nodes.old.slots nodes.new.slots }
 {
     for no in followers {
         tell(nodes, keys, blocks, *no);
@@ -104,9 +113,9 @@ fn land_at<A: Allocator>(
     block: BlockNo,
     key: usize,
 )
-    requires { IsLanding block nodes.old.slots keys.old.entries blocks.old.entries key }
-    ensures stands { Stands nodes.new.slots keys.new.entries blocks.new.entries }
-    ensures gone { IsForgotten key nodes.old.slots nodes.new.slots keys.old.entries keys.new.entries }
+    requires { IsLanding block nodes.old.slots (entries_of keys.old) blocks.old.items key }
+    ensures stands { Stands nodes.new.slots (entries_of keys.new) blocks.new.items }
+    ensures gone { IsForgotten key nodes.old.slots nodes.new.slots (entries_of keys.old) (entries_of keys.new) }
 {
     match nodes.try_remove(key) {
         Some(node) => {
@@ -119,11 +128,11 @@ fn land_at<A: Allocator>(
 
 /// Takes a class in flight out of the block's lists.
 fn next_landing<A: Allocator>(blocks: &mut Blocks<A>, block: BlockNo) -> Option<usize>
-    ensures none { IfNone result ((of_at blocks.old.entries block).flying ≡ []) }
-    ensures same { IfNone result ((other : ℕ) → of_at blocks.new.entries other ≡ of_at blocks.old.entries other) }
-    ensures some { IfSome result (λ key. HasPopped block blocks.old.entries blocks.new.entries key) }
+    ensures none { IfNone result ((of_at blocks.old.items block).flying ≡ []) }
+    ensures same { IfNone result ((other : ℕ) → of_at blocks.new.items other ≡ of_at blocks.old.items other) }
+    ensures some { IfSome result (λ key. HasPopped block blocks.old.items blocks.new.items key) }
 {
-    match blocks.get_mut(&block) {
+    match blocks.get_mut(block.0 as usize) {
         Some(list) => list.land(),
         None => None,
     }
@@ -136,9 +145,9 @@ pub fn land<A: Allocator>(
     blocks: &mut Blocks<A>,
     block: BlockNo,
 )
-    requires { Stands nodes.old.slots keys.old.entries blocks.old.entries }
-    ensures stands { Stands nodes.new.slots keys.new.entries blocks.new.entries }
-    ensures landed { AreLanded (slots_of nodes.old.slots) (slots_of nodes.new.slots) keys.old.entries keys.new.entries block (λ key. true) }
+    requires { Stands nodes.old.slots (entries_of keys.old) blocks.old.items }
+    ensures stands { Stands nodes.new.slots (entries_of keys.new) blocks.new.items }
+    ensures landed { AreLanded (slots_of nodes.old.slots) (slots_of nodes.new.slots) (entries_of keys.old) (entries_of keys.new) block (λ key. true) }
     ensures below { (made : ℕ) → AreBelow made nodes.old.slots → AreBelow made nodes.new.slots }
 {
     while let Some(key) = next_landing(blocks, block) {

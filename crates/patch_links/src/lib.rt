@@ -7,6 +7,7 @@ mod admitting;
 mod asking;
 mod counting;
 mod flying;
+mod joining;
 mod landing;
 mod links;
 mod lists;

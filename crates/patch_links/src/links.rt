@@ -1,15 +1,17 @@
 //! The live classes of all blocks.
-ghost use Rattle.std.specs.Prelude.{◌≡◌, [], IfOk, OnErr, true, is_some};
+ghost use Rattle.std.specs.Prelude.{◌≡◌, [], IfOk, OnOk, OnErr, false, true, is_some};
 ghost use Rattle.std.specs.Option.{option_copied};
 ghost use Rattle.patch_links.specs.State.{find, class_at};
 ghost use Rattle.patch_links.specs.Ready.{AreReady, TellsReady, TellsEmpty};
 ghost use Rattle.patch_links.specs.Adding.{IsNew, IsAdded};
 ghost use Rattle.patch_links.specs.MarkFlight.{HasFlown};
 ghost use Rattle.patch_links.specs.MarkDurable.{HasLanded};
+ghost use Rattle.patch_links.specs.Merging.{HasJoined, may_join_at};
 
 use crate::adding::{add, is_new};
 use crate::asking::{count, numbers, ready_keys};
 use crate::flying::fly;
+use crate::joining::join;
 use crate::landing::land;
 use crate::lists::Blocks;
 use crate::nodes::{Class, Keys, Nodes, find};
@@ -29,20 +31,21 @@ pub struct Links<A: Allocator = Global> {
 }
 
 impl<A: Allocator> Model for Links<A> {
+    ghost use Rattle.patch_table.specs.Table.{entries_of};
     ghost use Rattle.patch_links.specs.State.{Links as Seen, slots_of};
     ghost use Rattle.patch_links.specs.Standing.{AreBelow, Stands};
 
     ghost Value = { Seen };
 
-    ghost view = { λ l. record { made = l.made; slots = slots_of l.nodes.slots; numbers = l.keys.entries } };
+    ghost view = { λ l. record { made = l.made; slots = slots_of l.nodes.slots; next = l.nodes.vacant_key; numbers = entries_of l.keys } };
 
-    ghost invariant = { λ l. Stands l.nodes.slots l.keys.entries l.blocks.entries × AreBelow l.made l.nodes.slots };
+    ghost invariant = { λ l. Stands l.nodes.slots (entries_of l.keys) l.blocks.items × AreBelow l.made l.nodes.slots };
 }
 
 impl<A: Allocator + Copy> Links<A> {
     /// No class yet.
     pub fn new(alloc: A) -> Links<A>
-        ensures { result ≡ record { made = 0; slots = []; numbers = [] } }
+        ensures { result ≡ record { made = 0; slots = []; next = 0; numbers = [] } }
     {
         Links {
             made: 0,
@@ -70,6 +73,25 @@ impl<A: Allocator + Copy> Links<A> {
         self.made = made;
         Ok(key)
     }
+
+    /// Makes the classes at these keys one, at the first of them, if they are two in memory and of one block. The numbers of
+    /// both lead there. Where it is known which class has more numbers, that one is best kept: the other one's are moved. Of
+    /// which key comes next afterwards nothing is said.
+    pub fn join(&mut self, keep: usize, gone: usize) -> Result<(), AllocError>
+        ensures joined { OnOk result (HasJoined keep gone self.old self.new) }
+        ensures made { self.new.made ≡ self.old.made }
+        ensures idle { may_join_at keep gone self.old.slots ≡ false → self.new ≡ self.old }
+        ensures refused { OnErr result (self.new ≡ record self.old { next = self.new.next }) }
+    {
+        join(
+            self.alloc,
+            &mut self.nodes,
+            &mut self.keys,
+            &mut self.blocks,
+            keep,
+            gone,
+        )
+    }
 }
 
 impl<A: Allocator> Links<A> {
@@ -86,6 +108,13 @@ impl<A: Allocator> Links<A> {
         ensures { result ≡ find self.now.numbers no }
     {
         find(&self.keys, no)
+    }
+
+    /// The key that the next class gets.
+    pub fn next_key(&self) -> usize
+        ensures { result ≡ self.now.next }
+    {
+        self.nodes.vacant_key()
     }
 
     /// The class at a key.

@@ -1,11 +1,12 @@
 //! Which of each block's classes are ready, and which in flight.
 ghost use Rattle.std.specs.Prelude.{◌≡◌, ◌≢◌, ◌<◌, ◌≤◌, ◌+◌, ◌-◌, ◌==◌, ◌++◌, ◌∷◌, [], ℕ, length, filter, not, slice_index_or, Some, None, IfOk, OnOk, OnErr, IsSome, IfSome, IfNone, take};
+ghost use Rattle.patch_links.specs.State.{is_at};
+ghost use Rattle.patch_links.specs.Waiting.{is_due};
 ghost use Rattle.patch_links.specs.Lists.{of_at, pushed, ChangesOf, LosesFlying};
+ghost use Rattle.patch_links.specs.Joining.{is_neither, is_another};
 
-use indexmap::IndexMap;
-use patch_model::BlockNo;
+use crate::nodes::{Nodes, is_due};
 use std::alloc::{AllocError, Allocator, Global};
-use std::hash::{BuildHasherDefault, FoldHasher};
 use std::marker::Model;
 
 /// Keys of a block's classes. A class in memory that waits for others is in no list.
@@ -37,8 +38,8 @@ impl<A: Allocator> Model for OfBlock<A> {
     } };
 }
 
-/// The lists of each block.
-pub type Blocks<A> = IndexMap<BlockNo, OfBlock<A>, BuildHasherDefault<FoldHasher>, A>;
+/// The lists of each block, by its number. What they take in memory goes with the highest number of a block.
+pub type Blocks<A> = Vec<OfBlock<A>, A>;
 
 impl<A: Allocator + Copy> OfBlock<A> {
     /// Of a block without classes.
@@ -146,5 +147,33 @@ impl<A: Allocator> OfBlock<A> {
         ensures { self.new ≡ record self.old { count = self.old.count + 1 } }
     {
         self.count += 1;
+    }
+
+    /// The ready set is empty, and of the first list those keys are left that nothing keeps out.
+    pub fn restart(&mut self, nodes: &Nodes<A>)
+        ensures ready { self.new.ready ≡ filter (is_at is_due nodes.now.slots) self.old.ready }
+        ensures rest { self.new ≡ record self.old { ready = self.new.ready; done = 0 } }
+    {
+        self.ready.retain(|key| is_due(nodes, *key));
+        self.done = 0;
+    }
+
+    /// One class fewer, since two of them that are not in the ready set are one from now on.
+    pub fn leave_both(&mut self, keep: usize, gone: usize)
+        ensures ready { self.new.ready ≡ filter (is_neither keep gone) self.old.ready }
+        ensures rest { self.new ≡ record self.old { ready = self.new.ready; count = self.old.count - 1 } }
+    {
+        self.ready.retain(|key| *key != keep && *key != gone);
+        self.count = self.count.saturating_sub(1);
+    }
+
+    /// One class fewer, since one of the ready set is part of another one from now on.
+    pub fn leave_ready(&mut self, gone: usize)
+        ensures ready { self.new.ready ≡ filter (is_another gone) self.old.ready }
+        ensures rest { self.new ≡ record self.old { ready = self.new.ready; done = length self.new.ready; count = self.old.count - 1 } }
+    {
+        self.ready.retain(|key| *key != gone);
+        self.done = self.ready.len();
+        self.count = self.count.saturating_sub(1);
     }
 }

@@ -1,14 +1,15 @@
 //! Live classes by their keys, and what is kept beside each.
 ghost use Rattle.std.specs.Prelude.{◌≡◌, ◌&&◌, ◌==◌, None, slice_get, length, nat_lt};
 ghost use Rattle.std.specs.Option.{option_map, option_map_or, option_copied};
+ghost use Rattle.patch_table.specs.Table.{entries_of};
 ghost use Rattle.patch_links.specs.State.{find, node_at, is_at, changed_at};
 ghost use Rattle.patch_links.specs.Waiting.{of_block, ready_in, is_due, lowered, raised, readied, unreadied, followers_at};
 
-use indexmap::IndexMap;
 use patch_model::{BlockNo, Mark, PatchNo};
+use patch_numbers::NumberList;
+use patch_table::Table;
 use slab::Slab;
 use std::alloc::{Allocator, Global};
-use std::hash::{BuildHasherDefault, FoldHasher};
 use std::marker::Model;
 
 /// A live class: its members are of one block, alike in mark and hardness, and its span has no gap.
@@ -16,7 +17,7 @@ use std::marker::Model;
 pub struct Class<A: Allocator = Global> {
     /// The least of its members.
     pub name: PatchNo,
-    pub members: Vec<PatchNo, A>,
+    pub members: NumberList<A>,
     pub block: BlockNo,
     pub mark: Mark,
     pub hard: bool,
@@ -24,7 +25,7 @@ pub struct Class<A: Allocator = Global> {
     pub start: usize,
     pub stop: usize,
     /// Patches of the classes that it depends on directly, live or not; some of them may be its own by now.
-    pub after: Vec<PatchNo, A>,
+    pub after: NumberList<A>,
 }
 
 impl<A: Allocator> Model for Class<A> {
@@ -54,11 +55,11 @@ pub struct Node<A: Allocator = Global> {
     pub waits: usize,
     /// A number of each class that depends on it, for each time that it does. Those that lead nowhere any more, or to the
     /// class itself, are skipped.
-    pub followers: Vec<PatchNo, A>,
+    pub followers: NumberList<A>,
 }
 
 impl<A: Allocator> Model for Node<A> {
-    ghost use Rattle.std.specs.Prelude.{vec_capacity};
+    ghost use Rattle.std.specs.Prelude.{◌+◌, length};
     ghost use Rattle.patch_links.specs.State.{Node as Seen};
 
     ghost Value = { Seen };
@@ -68,7 +69,7 @@ impl<A: Allocator> Model for Node<A> {
       ready = x.ready;
       waits = x.waits;
       followers = x.followers.items;
-      room = vec_capacity x.followers;
+      room = length x.followers.items + x.followers.room;
     } };
 }
 
@@ -76,13 +77,13 @@ impl<A: Allocator> Model for Node<A> {
 pub type Nodes<A> = Slab<Node<A>, A>;
 
 /// The key of each live patch's class.
-pub type Keys<A> = IndexMap<PatchNo, usize, BuildHasherDefault<FoldHasher>, A>;
+pub type Keys<A> = Table<A>;
 
 /// The key of a live patch's class.
 pub fn find<A: Allocator>(keys: &Keys<A>, no: PatchNo) -> Option<usize>
-    ensures { result ≡ find keys.now.entries no }
+    ensures { result ≡ find (entries_of keys.now) no }
 {
-    keys.get(&no).copied()
+    keys.get(no.0)
 }
 
 /// The block of the class at a key.

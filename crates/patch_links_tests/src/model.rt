@@ -131,4 +131,100 @@ impl Slow {
         self.classes
             .retain(|class| !(class.flying && class.block == block));
     }
+
+    /// Whether a chain of classes leads from the one place to the other, through a third one at least.
+    fn leads_around(&self, from: usize, to: usize) -> Result<bool, AllocError> {
+        let mut met = Vec::new(self.alloc);
+        for _ in 0..self.classes.len() {
+            met.push(false)?;
+        }
+        put(met.as_mut_slice(), from, true);
+        for _ in 0..self.classes.len() {
+            self.spread(met.as_mut_slice(), to);
+        }
+        let mut place = 0;
+        for class in self.classes.iter() {
+            if place != from && is_in(met.as_slice(), place) && self.depends(class, to) {
+                return Ok(true);
+            }
+            place = place.wrapping_add(1);
+        }
+        Ok(false)
+    }
+
+    fn depends(&self, class: &SlowClass, place: usize) -> bool {
+        class
+            .after
+            .iter()
+            .any(|no| self.place_of(*no) == Some(place))
+    }
+
+    // Adds what those that were met depend on, but for one.
+    fn spread(&self, met: &mut [bool], but: usize) {
+        let mut place = 0;
+        for class in self.classes.iter() {
+            if is_in(met, place) {
+                self.meet(class, met, but);
+            }
+            place = place.wrapping_add(1);
+        }
+    }
+
+    fn meet(&self, class: &SlowClass, met: &mut [bool], but: usize) {
+        for no in class.after.iter() {
+            if let Some(other) = self.place_of(*no) {
+                if other != but {
+                    put(met, other, true);
+                }
+            }
+        }
+    }
+
+    fn are_alike(&self, one: usize, other: usize) -> bool {
+        match (self.classes.get(one), self.classes.get(other)) {
+            (Some(a), Some(b)) => { one != other && !a.flying && !b.flying && a.block == b.block }
+            _ => false,
+        }
+    }
+
+    /// Whether the classes of two patches are two of one block, both in memory.
+    pub fn may_join(&self, one: u32, other: u32) -> bool {
+        match (self.place_of(one), self.place_of(other)) {
+            (Some(a), Some(b)) => self.are_alike(a, b),
+            _ => false,
+        }
+    }
+
+    /// Whether a class made of theirs would be in a ring.
+    pub fn makes_ring(&self, one: u32, other: u32) -> Result<bool, AllocError> {
+        match (self.place_of(one), self.place_of(other)) {
+            (Some(a), Some(b)) => Ok(self.leads_around(a, b)? || self.leads_around(b, a)?),
+            _ => Ok(false),
+        }
+    }
+
+    // Takes the class of a patch out.
+    fn take(&mut self, no: u32) -> Option<SlowClass> {
+        let place = self.place_of(no)?;
+        if place < self.classes.len() {
+            Some(self.classes.remove(place))
+        } else {
+            None
+        }
+    }
+
+    /// Makes the classes of two patches one.
+    pub fn join(&mut self, keep: u32, gone: u32) -> Result<(), AllocError> {
+        let Some(other) = self.take(gone) else {
+            return Ok(());
+        };
+        let Some(place) = self.place_of(keep) else {
+            return Ok(());
+        };
+        if let Some(class) = self.classes.get_mut(place) {
+            class.members.extend_from_slice(other.members.as_slice())?;
+            class.after.extend_from_slice(other.after.as_slice())?;
+        }
+        Ok(())
+    }
 }

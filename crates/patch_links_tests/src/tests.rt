@@ -2,6 +2,7 @@
 use crate::model::Slow;
 use patch_links::{Class, Links};
 use patch_model::{BlockNo, Mark, PatchNo};
+use patch_numbers::NumberList;
 use std::alloc::Global;
 use std::process::Abort;
 use std::test::Fail;
@@ -10,15 +11,13 @@ use std::test::Fail;
 const BLOCKS: u32 = 4;
 
 fn new_class(alloc: Global, no: u32, block: u32, after: &[u32]) -> Result<Class<Global>, Fail> {
-    let mut members = Vec::new(alloc);
-    members.push(PatchNo(no))?;
-    let mut depends = Vec::new(alloc);
+    let mut depends = NumberList::new(alloc);
     for other in after {
         depends.push(PatchNo(*other))?;
     }
     Ok(Class {
         name: PatchNo(no),
-        members,
+        members: NumberList::of(alloc, PatchNo(no)),
         block: BlockNo(block),
         mark: Mark::Memory,
         hard: false,
@@ -50,12 +49,13 @@ fn expect_all(rt: &impl Abort, links: &Links<Global>, slow: &Slow) -> Result<(),
     Ok(())
 }
 
-// Links, a slow model of them, and how many patches were made.
+// Links, a slow model of them, and how many patches were made and classes joined.
 #[derive(Drop)]
 struct Pair {
     links: Links<Global>,
     slow: Slow,
     made: u32,
+    joined: u32,
 }
 
 impl Pair {
@@ -68,6 +68,7 @@ impl Pair {
             links: Links::new(alloc),
             slow,
             made: 0,
+            joined: 0,
         }
     }
 
@@ -75,7 +76,9 @@ impl Pair {
         let no = self.made;
         let class = new_class(self.slow.alloc, no, block, after)?;
         assert!(rt; self.links.may_add(&class));
+        let next = self.links.next_key();
         let key = self.links.add(class)?;
+        assert_eq!(rt; key, next);
         assert_eq!(rt; self.links.find(PatchNo(no)), Some(key));
         assert!(rt; self.links.contains(key));
         self.slow.add(no, block, after)?;
@@ -92,6 +95,32 @@ impl Pair {
     fn land(&mut self, block: u32) {
         self.links.land(BlockNo(block));
         self.slow.land(block);
+    }
+
+    // Joins the classes of two patches, where that makes no ring.
+    fn join(&mut self, rt: &impl Abort, keep: u32, gone: u32) -> Result<(), Fail> {
+        let (Some(one), Some(other)) = (
+            self.links.find(PatchNo(keep)),
+            self.links.find(PatchNo(gone)),
+        ) else {
+            return Ok(());
+        };
+        let may = self.slow.may_join(keep, gone);
+        if may && self.slow.makes_ring(keep, gone)? {
+            return Ok(());
+        }
+        self.links.join(one, other)?;
+        if may {
+            self.slow.join(keep, gone)?;
+            self.joined = self.joined.wrapping_add(1);
+            assert!(rt; !self.links.contains(other));
+        }
+        assert_eq!(rt; self.links.find(PatchNo(keep)), Some(one));
+        assert_eq!(rt;
+            self.links.find(PatchNo(gone)),
+            Some(if may { one } else { other })
+        );
+        Ok(())
     }
 
     fn expect(&self, rt: &impl Abort) -> Result<(), Fail> {
@@ -131,15 +160,24 @@ fn some_numbers(alloc: Global, source: &mut Source, made: u32) -> Result<Vec<u32
     Ok(all)
 }
 
+fn join_some(rt: &impl Abort, pair: &mut Pair, source: &mut Source) -> Result<(), Fail> {
+    let keep = pair.made.saturating_sub(source.below(9));
+    for back in 1..6 {
+        pair.join(rt, keep, keep.saturating_sub(back))?;
+    }
+    Ok(())
+}
+
 fn step(rt: &impl Abort, pair: &mut Pair, source: &mut Source) -> Result<(), Fail> {
     let block = source.below(BLOCKS - 1);
-    match source.below(9) {
-        0 | 1 | 2 => {
+    match source.below(14) {
+        0 | 1 | 2 | 3 | 4 => {
             let after = some_numbers(pair.slow.alloc, source, pair.made)?;
             pair.add(rt, block, after.as_slice())?;
         }
-        3 | 4 | 5 => pair.fly(block)?,
-        _ => pair.land(block),
+        5 | 6 => pair.fly(block)?,
+        7 | 8 => pair.land(block),
+        _ => join_some(rt, pair, source)?,
     }
     Ok(())
 }
@@ -151,6 +189,7 @@ fn walk(rt: &impl Abort, alloc: Global, seed: u64) -> Result<(), Fail> {
         step(rt, &mut pair, &mut source)?;
         pair.expect(rt)?;
     }
+    assert!(rt; pair.joined > 10);
     Ok(())
 }
 
@@ -201,5 +240,48 @@ fn a_diamond_waits_for_both_sides(rt: HostRuntime) -> Result<(), Fail> {
     pair.fly(1)?;
     pair.land(1);
     expect_ready(&rt, &pair, 0, &[3])?;
+    pair.expect(&rt)
+}
+
+// A class that may be sent joins one that waits: neither may be sent, nor what depends on the first, until what they wait
+// for is durable.
+#[test]
+fn a_ready_class_joins_a_waiting_one(rt: HostRuntime) -> Result<(), Fail> {
+    let mut pair = Pair::new(rt.alloc());
+    pair.add(&rt, 1, &[])?;
+    pair.add(&rt, 0, &[])?;
+    pair.add(&rt, 0, &[1])?;
+    pair.add(&rt, 0, &[0])?;
+    expect_ready(&rt, &pair, 0, &[1, 2])?;
+    pair.join(&rt, 1, 3)?;
+    expect_ready(&rt, &pair, 0, &[])?;
+    pair.fly(1)?;
+    pair.land(1);
+    expect_ready(&rt, &pair, 0, &[1, 2, 3])?;
+    pair.expect(&rt)
+}
+
+// Two classes of which one waits for the other alone, elsewhere kept out: joined they wait for the rest.
+#[test]
+fn what_waits_for_itself_waits_no_more(rt: HostRuntime) -> Result<(), Fail> {
+    let mut pair = Pair::new(rt.alloc());
+    pair.add(&rt, 1, &[])?;
+    pair.add(&rt, 0, &[0])?;
+    pair.add(&rt, 0, &[1, 1])?;
+    expect_ready(&rt, &pair, 0, &[])?;
+    pair.join(&rt, 2, 1)?;
+    expect_ready(&rt, &pair, 0, &[])?;
+    pair.fly(1)?;
+    pair.land(1);
+    expect_ready(&rt, &pair, 0, &[1, 2])?;
+    let key = pair.links.find(PatchNo(1)).unwrap_or(0);
+    let name = match pair.links.class_at(key) {
+        Some(class) => class.name,
+        None => PatchNo(9),
+    };
+    assert_eq!(rt; name, PatchNo(1));
+    pair.fly(0)?;
+    pair.land(0);
+    assert!(rt; pair.links.is_empty_of(BlockNo(0)));
     pair.expect(&rt)
 }

@@ -51,3 +51,14 @@ fn room_that_was_made_is_enough(rt: HostRuntime) -> Result<(), Fail> {
     assert_eq!(rt; list.as_slice(), NUMBERS.as_slice());
     Ok(())
 }
+
+#[test]
+fn numbers_come_one_by_one_where_there_is_room(rt: HostRuntime) -> Result<(), Fail> {
+    let mut list = NumberList::new(rt.alloc());
+    for no in NUMBERS {
+        list.reserve(1)?;
+        list.push_reserved(no);
+    }
+    assert_eq!(rt; list.as_slice(), NUMBERS.as_slice());
+    Ok(())
+}

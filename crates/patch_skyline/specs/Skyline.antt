@@ -3,6 +3,11 @@ use Rattle.std.specs.Prelude.{ℕ, Bool, true, false, ◌≡◌, ◌<◌, ◌≤
 use Rattle.patch_model.specs.Member.{In}
 use Rattle.patch_skyline.specs.declared.skylines.Span.{Span}
 
+-- spans in rising order, and how many more there is room for
+pub record Skyline : Type 0 where
+  pub spans : List Span
+  pub room : ℕ
+
 abbrev pub has_byte : Span → ℕ → Bool
 has_byte s x = nat_le s.start x && nat_lt x s.stop
 

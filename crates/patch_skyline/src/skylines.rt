@@ -8,6 +8,10 @@ use patch_model::PatchNo;
 use std::alloc::{AllocError, Allocator, Global};
 use std::marker::Model;
 
+/// How many spans one that is laid over the others adds at most: itself, and what is left behind it of one that it lies
+/// within, with one to spare.
+pub const LAY_ROOM: usize = 3;
+
 /// Bytes that one patch wrote last, from the first to the one after the last, and the number of that patch.
 #[derive(Clone, Copy, Debug, PartialEq, Eq)]
 pub struct Span {
@@ -24,13 +28,12 @@ pub struct Skyline<A: Allocator = Global> {
 }
 
 impl<A: Allocator> Model for Skyline<A> {
-    ghost use Rattle.std.specs.Prelude.{List};
-    ghost use Rattle.patch_skyline.specs.Skyline.{AreApart};
-    ghost use Rattle.patch_skyline.specs.declared.skylines.Span.{Span as Seen};
+    ghost use Rattle.std.specs.Prelude.{◌-◌, vec_len, vec_capacity};
+    ghost use Rattle.patch_skyline.specs.Skyline.{Skyline as Seen, AreApart};
 
-    ghost Value = { List Seen };
+    ghost Value = { Seen };
 
-    ghost view = { λ s. s.spans.items };
+    ghost view = { λ s. record { spans = s.spans.items; room = vec_capacity s.spans - vec_len s.spans } };
 
     ghost invariant = { λ s. AreApart s.spans.items };
 }
@@ -38,7 +41,7 @@ impl<A: Allocator> Model for Skyline<A> {
 impl<A: Allocator> Skyline<A> {
     /// No span. It takes no memory.
     pub fn new(alloc: A) -> Skyline<A>
-        ensures { result ≡ [] }
+        ensures { result.spans ≡ [] }
     {
         Skyline {
             spans: Vec::new(alloc),
@@ -48,7 +51,7 @@ impl<A: Allocator> Skyline<A> {
     /// One span, which has a byte.
     pub fn of(alloc: A, top: Span) -> Result<Skyline<A>, AllocError>
         requires { top.start < top.stop }
-        ensures { IfOk result (λ line. line ≡ top ∷ []) }
+        ensures { IfOk result (λ line. line.spans ≡ top ∷ []) }
     {
         let spans = Vec::from_slice(alloc, &[top])?;
         Ok(Skyline { spans })
@@ -57,18 +60,35 @@ impl<A: Allocator> Skyline<A> {
     /// Lays a span over the others, which has a byte.
     pub fn lay(&mut self, top: Span) -> Result<(), AllocError>
         requires { top.start < top.stop }
-        ensures laid { OnOk result (IsLaid self.old self.new top) }
-        ensures refused { OnErr result (self.new ≡ self.old) }
+        ensures laid { OnOk result (IsLaid self.old.spans self.new.spans top) }
+        ensures refused { OnErr result (self.new.spans ≡ self.old.spans) }
     {
-        self.spans.reserve(3)?;
-        put(&mut self.spans, top);
+        self.reserve()?;
+        self.lay_reserved(top);
         Ok(())
+    }
+
+    /// Makes room for one more span that is laid over the others.
+    pub fn reserve(&mut self) -> Result<(), AllocError>
+        ensures spans { self.new.spans ≡ self.old.spans }
+        ensures room { OnOk result (LAY_ROOM ≤ self.new.room) }
+    {
+        self.spans.reserve(LAY_ROOM)
+    }
+
+    /// Lays a span over the others, which has a byte and for which there is room.
+    pub fn lay_reserved(&mut self, top: Span)
+        requires some { top.start < top.stop }
+        requires room { LAY_ROOM ≤ self.old.room }
+        ensures { IsLaid self.old.spans self.new.spans top }
+    {
+        put(&mut self.spans, top);
     }
 
     /// The spans that have a byte between these.
     pub fn tops(&self, start: usize, stop: usize) -> &[Span]
         requires { start < stop }
-        ensures { AreTops self.now start stop result.now }
+        ensures { AreTops self.now.spans start stop result.now }
     {
         let spans = self.spans.as_slice();
         let first = ended(spans, start);
@@ -82,7 +102,7 @@ impl<A: Allocator> Skyline<A> {
 
     /// Leaves none, and the room for them.
     pub fn clear(&mut self)
-        ensures { self.new ≡ [] }
+        ensures { self.new.spans ≡ [] }
     {
         self.spans.clear();
     }
@@ -92,7 +112,7 @@ impl<A: Allocator> Skyline<A> {
 fn put<A: Allocator>(spans: &mut Vec<Span, A>, top: Span)
     requires apart { AreApart spans.old.items }
     requires some { top.start < top.stop }
-    requires room { vec_len spans.old + 3 ≤ vec_capacity spans.old }
+    requires room { vec_len spans.old + LAY_ROOM ≤ vec_capacity spans.old }
     ensures laid { IsLaid spans.old.items spans.new.items top }
     ensures apart { AreApart spans.new.items }
 {

@@ -78,3 +78,27 @@ fn one_span_is_the_only_top(rt: HostRuntime) -> Result<(), Fail> {
     assert!(rt; line.tops(0, 4).is_empty());
     Ok(())
 }
+
+// Room is made first, and the span laid later, across the end of another.
+#[test]
+fn a_span_is_laid_where_room_was_made(rt: HostRuntime) -> Result<(), Fail> {
+    let below = Span {
+        start: 4,
+        stop: 8,
+        no: PatchNo(3),
+    };
+    let above = Span {
+        start: 5,
+        stop: 7,
+        no: PatchNo(4),
+    };
+    let mut line = Skyline::of(rt.alloc(), below)?;
+    line.reserve()?;
+    assert_eq!(rt; line.tops(0, 20).len(), 1);
+    line.lay_reserved(above);
+    assert_eq!(rt; line.tops(0, 20).len(), 3);
+    assert_eq!(rt; writer_at(&line, 4), Some(PatchNo(3)));
+    assert_eq!(rt; writer_at(&line, 5), Some(PatchNo(4)));
+    assert_eq!(rt; writer_at(&line, 7), Some(PatchNo(3)));
+    Ok(())
+}

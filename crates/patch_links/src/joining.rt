@@ -1,0 +1,413 @@
+//! Two classes made one.
+ghost use Rattle.std.specs.Prelude.{None, ◌≡◌, ◌≢◌, ◌+◌, ◌≤◌, ◌++◌, ◌==◌, ℕ, true, false, min, length, count_by, if◌then◌else◌, Some, IfOk, OnOk, OnErr, IfSome, IfNone};
+ghost use Rattle.std.specs.Option.{option_map};
+ghost use Rattle.patch_table.specs.Table.{entries_of};
+ghost use Rattle.patch_links.specs.State.{Node as SeenNode, find, leads_at, node_at, slots_of, is_at};
+ghost use Rattle.patch_links.specs.Waiting.{ready_in, AreCounted, AreLinked};
+ghost use Rattle.patch_links.specs.Lists.{IsListed, IsSettled, AreListed, AreSettled};
+ghost use Rattle.patch_links.specs.Standing.{AreBelow, KeepsRest, Stands};
+ghost use Rattle.patch_links.specs.Adding.{IsRoomier};
+ghost use Rattle.patch_links.specs.Merging.{joined_class, may_join, may_join_at, AreRedirected};
+ghost use Rattle.patch_links.specs.Joining.{IsCopyAt, IsRoomed, FitsAt, may_join_with, may_join_both, inner, IsAbsorbed, HasAbsorbed, AreNodesJoined, AreMoved, AreClassesJoined, AreClassesJoinedIf, AreTied, KeepsOrder, IsPair, AreLevel, IsSettledFor, IsRelisting};
+
+use crate::admitting::admit_all;
+use crate::flying::take_out;
+use crate::lists::{Blocks, OfBlock};
+use crate::nodes::{Class, Keys, Node, Nodes, block_at, find, is_due, is_ready};
+use patch_model::{BlockNo, Mark, PatchNo};
+use patch_numbers::NumberList;
+use std::alloc::{AllocError, Allocator};
+
+/// The lesser number.
+fn lesser(a: PatchNo, b: PatchNo) -> PatchNo
+    ensures { result ≡ min a b }
+{
+    if a.0 < b.0 { a } else { b }
+}
+
+/// The same class again.
+fn copy_class<A: Allocator>(alloc: A, class: &Class<A>) -> Result<Class<A>, AllocError>
+where
+    A: Copy,
+    ensures { IfOk result (λ copy. copy ≡ class.now) }
+{
+    Ok(Class {
+        name: class.name,
+        members: NumberList::from_slice(alloc, class.members.as_slice())?,
+        block: class.block,
+        mark: class.mark,
+        hard: class.hard,
+        start: class.start,
+        stop: class.stop,
+        after: NumberList::from_slice(alloc, class.after.as_slice())?,
+    })
+}
+
+/// The same node again.
+fn copy<A: Allocator>(alloc: A, node: &Node<A>) -> Result<Node<A>, AllocError>
+where
+    A: Copy,
+    ensures { IfOk result (λ copy. copy ≡ record node.now { room = copy.room }) }
+{
+    Ok(Node {
+        class: copy_class(alloc, &node.class)?,
+        ready: node.ready,
+        waits: node.waits,
+        followers: NumberList::from_slice(alloc, node.followers.as_slice())?,
+    })
+}
+
+/// Takes in the other class's patches.
+fn absorb_class<A: Allocator>(class: &mut Class<A>, other: &Class<A>) -> Result<(), AllocError>
+    ensures joined { OnOk result (class.new ≡ joined_class class.old other.now) }
+    ensures refused { OnErr result (class.new ≡ class.old) }
+{
+    class.members.reserve(other.members.len())?;
+    class.after.reserve(other.after.len())?;
+    class.members.extend_reserved(other.members.as_slice());
+    class.after.extend_reserved(other.after.as_slice());
+    class.name = lesser(class.name, other.name);
+    class.start = class.start.min(other.start);
+    class.stop = class.stop.max(other.stop);
+    Ok(())
+}
+
+/// Takes in the other class's patches and its followers, where so many of what they waited for was each other.
+fn absorb<A: Allocator>(node: &mut Node<A>, other: &Node<A>, inner: usize) -> Result<(), AllocError>
+    requires { inner ≤ node.old.waits + other.now.waits }
+    ensures absorbed { OnOk result (IsAbsorbed node.old other.now node.new inner) }
+    ensures refused { OnErr result (IsRoomed node.old node.new) }
+{
+    let Some(waits) = node.waits.checked_add(other.waits) else {
+        return Err(AllocError);
+    };
+    node.followers.reserve(other.followers.len())?;
+    absorb_class(&mut node.class, &other.class)?;
+    node.followers.extend_reserved(other.followers.as_slice());
+    node.waits = waits - inner;
+    Ok(())
+}
+
+/// Has a number lead to another key, if it leads to one.
+fn redirect_one<A: Allocator>(keys: &mut Keys<A>, no: PatchNo, key: usize)
+    ensures here { find (entries_of keys.new) no ≡ option_map (λ k. key) (find (entries_of keys.old) no) }
+    ensures others { (n : ℕ) → n ≢ no → find (entries_of keys.new) n ≡ find (entries_of keys.old) n }
+{
+    keys.change(no.0, key);
+}
+
+/// Has these numbers lead to another key.
+fn redirect<A: Allocator>(keys: &mut Keys<A>, members: &[PatchNo], key: usize)
+    ensures { AreRedirected members.now key (entries_of keys.old) (entries_of keys.new) }
+{
+    for no in members {
+        redirect_one(keys, *no, key);
+    }
+}
+
+/// Whether the number leads to the key.
+fn leads_to<A: Allocator>(keys: &Keys<A>, key: usize, no: PatchNo) -> bool
+    ensures { result ≡ leads_at (entries_of keys.now) key no }
+{
+    match find(keys, no) {
+        Some(other) => other == key,
+        None => false,
+    }
+}
+
+/// How many of these numbers lead to the key.
+fn count_leading<A: Allocator>(keys: &Keys<A>, key: usize, numbers: &[PatchNo]) -> usize
+    ensures counted { result ≡ count_by (leads_at (entries_of keys.now) key) numbers.now }
+    ensures most { result ≤ length numbers.now }
+{
+    let mut count = 0;
+    for no in numbers {
+        if leads_to(keys, key, *no) {
+            count += 1;
+        }
+    }
+    count
+}
+
+/// How often two classes, neither of which is in the ready set, wait for each other.
+fn count_inner<A: Allocator>(keys: &Keys<A>, keep: usize, other: &Node<A>) -> usize
+    ensures { result ≡ (if other.now.ready then 0 else inner (entries_of keys.now) keep other.now) }
+{
+    if other.ready {
+        0
+    } else {
+        count_leading(keys, keep, other.class.after.as_slice())
+            + count_leading(keys, keep, other.followers.as_slice())
+    }
+}
+
+/// The node at the key again.
+fn copy_at<A: Allocator>(
+    alloc: A,
+    nodes: &Nodes<A>,
+    key: usize,
+) -> Result<Option<Node<A>>, AllocError>
+where
+    A: Copy,
+    ensures some { IfOk result (λ copy. IfSome copy (λ y. IsCopyAt nodes.now.slots key y)) }
+    ensures none { IfOk result (λ copy. IfNone copy (node_at nodes.now.slots key ≡ None)) }
+{
+    match nodes.get(key) {
+        Some(node) => Ok(Some(copy(alloc, node)?)),
+        None => Ok(None),
+    }
+}
+
+/// Has the class at the key take in another one, where so many of what they waited for was each other.
+fn absorb_at<A: Allocator>(
+    nodes: &mut Nodes<A>,
+    key: usize,
+    other: &Node<A>,
+    inner: usize,
+) -> Result<(), AllocError>
+    requires { FitsAt nodes.old.slots key other.now inner }
+    ensures absorbed { OnOk result (HasAbsorbed key other.now inner nodes.old.slots nodes.new.slots) }
+    ensures refused { OnErr result (IsRoomier nodes.old.slots nodes.new.slots) }
+{
+    match nodes.get_mut(key) {
+        Some(node) => absorb(node, other, inner),
+        None => Ok(()),
+    }
+}
+
+/// Takes the class at the key away.
+fn remove<A: Allocator>(nodes: &mut Nodes<A>, key: usize)
+    ensures gone { node_at nodes.new.slots key ≡ None }
+    ensures others { (k : ℕ) → k ≢ key → node_at nodes.new.slots k ≡ node_at nodes.old.slots k }
+{
+    nodes.try_remove(key);
+}
+
+/// The members of the class.
+fn members<A: Allocator>(node: &Node<A>) -> &[PatchNo]
+    ensures { result.now ≡ node.now.class.members }
+{
+    node.class.members.as_slice()
+}
+
+/// Puts the class at the key `gone`, of which this is a copy, into that at the key `keep`.
+fn unite<A: Allocator>(
+    nodes: &mut Nodes<A>,
+    keys: &mut Keys<A>,
+    block: BlockNo,
+    keep: usize,
+    gone: usize,
+    other: &Node<A>,
+) -> Result<(), AllocError>
+    requires pair { IsPair block keep gone nodes.old.slots }
+    requires level { AreLevel block keep gone nodes.old.slots }
+    requires tied { AreTied nodes.old.slots (entries_of keys.old) }
+    requires copy { IsCopyAt nodes.old.slots gone other.now }
+    ensures joined { OnOk result (AreNodesJoined keep gone (entries_of keys.old) nodes.old.slots nodes.new.slots) }
+    ensures moved { OnOk result (AreMoved keep gone nodes.old.slots (entries_of keys.old) (entries_of keys.new)) }
+    ensures refused { OnErr result (IsRoomier nodes.old.slots nodes.new.slots) }
+    ensures numbers { OnErr result (entries_of keys.new ≡ entries_of keys.old) }
+{
+    let inner = count_inner(keys, keep, other);
+    absorb_at(nodes, keep, other, inner)?;
+    remove(nodes, gone);
+    redirect(keys, members(other), keep);
+    Ok(())
+}
+
+/// The block's lists once the two classes are one. Whether both were in the ready set.
+fn relist<A: Allocator>(
+    nodes: &Nodes<A>,
+    list: &mut OfBlock<A>,
+    block: BlockNo,
+    keep: usize,
+    gone: usize,
+    ready: bool,
+)
+    requires { IsRelisting block keep gone ready nodes.now.slots list.old }
+    ensures { IsListed block nodes.now.slots list.new }
+{
+    if ready {
+        list.leave_ready(gone);
+    } else {
+        list.leave_both(keep, gone);
+        if is_due(nodes, keep) {
+            list.push(keep);
+        }
+    }
+}
+
+/// Makes two classes one, both of which are in the ready set, or neither is.
+fn join_alike<A: Allocator + Copy>(
+    alloc: A,
+    nodes: &mut Nodes<A>,
+    keys: &mut Keys<A>,
+    list: &mut OfBlock<A>,
+    block: BlockNo,
+    keep: usize,
+    gone: usize,
+) -> Result<(), AllocError>
+    requires pair { IsPair block keep gone nodes.old.slots }
+    requires level { AreLevel block keep gone nodes.old.slots }
+    requires tied { AreTied nodes.old.slots (entries_of keys.old) }
+    requires listed { IsListed block nodes.old.slots list.old }
+    requires settled { IsSettledFor block keep nodes.old.slots list.old }
+    ensures listed { IsListed block nodes.new.slots list.new }
+    ensures order { KeepsOrder block nodes.old.slots nodes.new.slots (entries_of keys.old) (entries_of keys.new) }
+    ensures joined { OnOk result (AreClassesJoined keep gone (slots_of nodes.old.slots) (slots_of nodes.new.slots) (entries_of keys.old) (entries_of keys.new)) }
+    ensures refused { OnErr result (slots_of nodes.new.slots ≡ slots_of nodes.old.slots) }
+    ensures numbers { OnErr result (entries_of keys.new ≡ entries_of keys.old) }
+{
+    let Some(other) = copy_at(alloc, nodes, gone)? else {
+        return Ok(());
+    };
+    unite(nodes, keys, block, keep, gone, &other)?;
+    relist(nodes, list, block, keep, gone, other.ready);
+    Ok(())
+}
+
+/// Takes all of the block's classes out of the ready set.
+fn drain<A: Allocator>(nodes: &mut Nodes<A>, keys: &Keys<A>, list: &mut OfBlock<A>, block: BlockNo)
+    requires listed { IsListed block nodes.old.slots list.old }
+    requires settled { IsSettled list.old }
+    requires tied { AreTied nodes.old.slots (entries_of keys.now) }
+    ensures listed { IsListed block nodes.new.slots list.new }
+    ensures rest { KeepsRest block nodes.old.slots nodes.new.slots }
+    ensures none { (key : ℕ) → is_at (ready_in block) nodes.new.slots key ≡ false }
+    ensures counted { AreCounted nodes.new.slots (entries_of keys.now) }
+{
+    take_out(nodes, keys, list.ready(), block);
+    list.restart(nodes);
+}
+
+/// Takes all of the block's classes out of the ready set, where just one of the two is in it.
+fn level<A: Allocator>(
+    nodes: &mut Nodes<A>,
+    keys: &Keys<A>,
+    list: &mut OfBlock<A>,
+    block: BlockNo,
+    keep: usize,
+    gone: usize,
+)
+    requires listed { IsListed block nodes.old.slots list.old }
+    requires settled { IsSettled list.old }
+    requires tied { AreTied nodes.old.slots (entries_of keys.now) }
+    ensures listed { IsListed block nodes.new.slots list.new }
+    ensures rest { KeepsRest block nodes.old.slots nodes.new.slots }
+    ensures counted { AreCounted nodes.new.slots (entries_of keys.now) }
+    ensures level { AreLevel block keep gone nodes.new.slots }
+    ensures settled { IsSettledFor block keep nodes.new.slots list.new }
+{
+    if is_ready(nodes, block, keep) != is_ready(nodes, block, gone) {
+        drain(nodes, keys, list, block);
+    }
+}
+
+/// Makes two classes of the block one.
+fn join_in<A: Allocator + Copy>(
+    alloc: A,
+    nodes: &mut Nodes<A>,
+    keys: &mut Keys<A>,
+    list: &mut OfBlock<A>,
+    block: BlockNo,
+    keep: usize,
+    gone: usize,
+) -> Result<(), AllocError>
+    requires pair { IsPair block keep gone nodes.old.slots }
+    requires tied { AreTied nodes.old.slots (entries_of keys.old) }
+    requires listed { IsListed block nodes.old.slots list.old }
+    requires settled { IsSettled list.old }
+    ensures listed { IsListed block nodes.new.slots list.new }
+    ensures settled { IsSettled list.new }
+    ensures order { KeepsOrder block nodes.old.slots nodes.new.slots (entries_of keys.old) (entries_of keys.new) }
+    ensures joined { OnOk result (AreClassesJoined keep gone (slots_of nodes.old.slots) (slots_of nodes.new.slots) (entries_of keys.old) (entries_of keys.new)) }
+    ensures refused { OnErr result (slots_of nodes.new.slots ≡ slots_of nodes.old.slots) }
+    ensures numbers { OnErr result (entries_of keys.new ≡ entries_of keys.old) }
+{
+    level(nodes, keys, list, block, keep, gone);
+    let result = join_alike(alloc, nodes, keys, list, block, keep, gone);
+    admit_all(nodes, keys, list, block);
+    result
+}
+
+/// Whether both classes are in memory, and of one block.
+fn may_join<A: Allocator>(class: &Class<A>, other: &Class<A>) -> bool
+    ensures { result ≡ may_join class.now other.now }
+{
+    matches!(class.mark, Mark::Memory)
+        && matches!(other.mark, Mark::Memory)
+        && class.block == other.block
+}
+
+/// The same of the class at the key and this one.
+fn may_join_with<A: Allocator>(nodes: &Nodes<A>, class: &Class<A>, key: usize) -> bool
+    ensures { result ≡ may_join_with nodes.now.slots key class.now }
+{
+    match nodes.get(key) {
+        Some(node) => may_join(class, &node.class),
+        None => false,
+    }
+}
+
+/// Whether there are two classes at these keys that may be made one.
+fn may_join_both<A: Allocator>(nodes: &Nodes<A>, keep: usize, gone: usize) -> bool
+    ensures { result ≡ may_join_both keep gone nodes.now.slots }
+{
+    match nodes.get(keep) {
+        Some(node) => keep != gone && may_join_with(nodes, &node.class, gone),
+        None => false,
+    }
+}
+
+/// Makes two classes of the block one.
+fn join_at<A: Allocator + Copy>(
+    alloc: A,
+    nodes: &mut Nodes<A>,
+    keys: &mut Keys<A>,
+    blocks: &mut Blocks<A>,
+    block: BlockNo,
+    keep: usize,
+    gone: usize,
+) -> Result<(), AllocError>
+    requires pair { IsPair block keep gone nodes.old.slots }
+    requires tied { AreTied nodes.old.slots (entries_of keys.old) }
+    requires listed { AreListed nodes.old.slots blocks.old.items }
+    requires settled { AreSettled blocks.old.items }
+    ensures stands { Stands nodes.new.slots (entries_of keys.new) blocks.new.items }
+    ensures below { (made : ℕ) → AreBelow made nodes.old.slots → AreBelow made nodes.new.slots }
+    ensures joined { OnOk result (AreClassesJoined keep gone (slots_of nodes.old.slots) (slots_of nodes.new.slots) (entries_of keys.old) (entries_of keys.new)) }
+    ensures refused { OnErr result (slots_of nodes.new.slots ≡ slots_of nodes.old.slots) }
+    ensures numbers { OnErr result (entries_of keys.new ≡ entries_of keys.old) }
+{
+    match blocks.get_mut(block.0 as usize) {
+        Some(list) => join_in(alloc, nodes, keys, list, block, keep, gone),
+        None => Ok(()),
+    }
+}
+
+/// Makes the classes at these keys one, at the first of them, if they may be.
+pub fn join<A: Allocator + Copy>(
+    alloc: A,
+    nodes: &mut Nodes<A>,
+    keys: &mut Keys<A>,
+    blocks: &mut Blocks<A>,
+    keep: usize,
+    gone: usize,
+) -> Result<(), AllocError>
+    requires { Stands nodes.old.slots (entries_of keys.old) blocks.old.items }
+    ensures stands { Stands nodes.new.slots (entries_of keys.new) blocks.new.items }
+    ensures below { (made : ℕ) → AreBelow made nodes.old.slots → AreBelow made nodes.new.slots }
+    ensures joined { OnOk result (AreClassesJoinedIf keep gone (slots_of nodes.old.slots) (slots_of nodes.new.slots) (entries_of keys.old) (entries_of keys.new)) }
+    ensures idle { may_join_at keep gone (slots_of nodes.old.slots) ≡ false → (slots_of nodes.new.slots ≡ slots_of nodes.old.slots) × (entries_of keys.new ≡ entries_of keys.old) }
+    ensures next { may_join_at keep gone (slots_of nodes.old.slots) ≡ false → nodes.new.vacant_key ≡ nodes.old.vacant_key }
+    ensures refused { OnErr result (slots_of nodes.new.slots ≡ slots_of nodes.old.slots) }
+    ensures numbers { OnErr result (entries_of keys.new ≡ entries_of keys.old) }
+{
+    if !may_join_both(nodes, keep, gone) {
+        return Ok(());
+    }
+    match block_at(nodes, keep) {
+        Some(block) => join_at(alloc, nodes, keys, blocks, block, keep, gone),
+        None => Ok(()),
+    }
+}
