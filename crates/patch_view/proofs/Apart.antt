@@ -9,7 +9,7 @@ use Rattle.std.proofs.lemmas.List.Quantifiers.{position-Some}
 use Rattle.patch_model.specs.Entry.{is_among}
 use Rattle.patch_model.specs.Member.{list_any-at, list_all-at}
 use Rattle.patch_view.specs.declared.members.Members.{Members}
-use Rattle.patch_view.specs.Members.{with_member, unless_other}
+use Rattle.patch_view.specs.Members.{with_member, unless_other, are_below}
 use Rattle.patch_view.specs.State.{Class, Block, class_at, no_class, place_of, AreApart, KnownApart, MembersOf}
 use Rattle.patch_view.proofs.Answering.{position-None}
 use Rattle.patch_view.proofs.Marking.{stood, stood_is, at_stood}
@@ -253,6 +253,13 @@ none_has b number none i = elim (cases_lt i (length b.classes)) [
   | inl w ↦ position-None (λ c. is_among c.members number) b.classes i no_class none w
   | inr past ↦ none_among b.classes i number past
 ]
+
+pub none_above : (b : Block) (m : Members) (number : ℕ) → KnownApart m b.classes → are_below m number ≡ true → (i : ℕ) → is_among (class_at b i).members number ≡ false
+none_above b m number known holds i =
+    let parts = and_parts m.are_apart (nat_lt m.newest number) holds in elim (cases_Bool (is_among (class_at b i).members number)) [
+      | inl on ↦ let upto = (known parts.0).upto i number on in let above : m.newest < number = ltb-true _ _ parts.1 in absurd (omega (arith, upto, above))
+      | inr off ↦ off
+    ]
 
 pub not_some : (o : Option ℕ) → is_some o ≡ false → o ≡ None
 not_some None e = refl

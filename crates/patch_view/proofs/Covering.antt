@@ -1,8 +1,8 @@
 -- What tells that no class rests on another, as the classes change.
-use Rattle.std.proofs.Common.{◌≡◌, ◌≢◌, ℕ, zero, suc, ◌+◌, ◌<◌, ◌≤◌, ◌⊎◌, ◌∙◌, true, false, not, inl, inr, List, [], ◌∷◌, ◌++◌, length, filter, take, get_or, set, max, get_or-set_same, get_or-set_other, refl, sym, ap, subst, arith, Bool, Option, Some}
-use Rattle.std.specs.Prelude.{◌==◌, ◌&&◌, ◌||◌, nat_lt, nat_le, IfSome}
+use Rattle.std.proofs.Common.{◌≡◌, ◌≢◌, ℕ, zero, suc, ◌+◌, ◌<◌, ◌≤◌, ◌⊎◌, ◌∙◌, true, false, not, inl, inr, List, [], ◌∷◌, ◌++◌, length, filter, take, get_or, set, max, get_or-set_same, get_or-set_other, refl, sym, ap, subst, arith, Bool, Option, Some, None}
+use Rattle.std.specs.Prelude.{◌==◌, ◌&&◌, ◌||◌, nat_lt, nat_le, IfSome, is_some}
 use Rattle.std.specs.List.{insert, remove}
-use Rattle.std.proofs.lemmas.Bool.{cases_Bool, cases_eq, cases_lt, both_ways, and_parts, and_from, or_cases, or_left, or_right, eqb-true, ltb-true, lt-ltb, false_from_ne_true}
+use Rattle.std.proofs.lemmas.Bool.{cases_Bool, cases_eq, cases_lt, both_ways, and_parts, and_from, or_cases, or_left, or_right, eq-eqb, eqb-true, ltb-true, lt-ltb, false_from_ne_true}
 use Rattle.std.proofs.lemmas.List.{length-set, get_or_past, get_or_default, get_or_append_left, get_or_push, get_or-take, length_push, places}
 use Rattle.std.proofs.lemmas.List.Edits.{length-remove, get_or-remove_below}
 use Rattle.std.proofs.lemmas.List.Folds.{list_any-append}
@@ -12,7 +12,7 @@ use Rattle.patch_skyline.specs.declared.skylines.Span.{Span}
 use Rattle.patch_skyline.specs.Skyline.{top_at, has_byte}
 use Rattle.patch_view.specs.declared.members.Members.{Members}
 use Rattle.patch_view.specs.Members.{with_member, unless_other}
-use Rattle.patch_view.specs.State.{Class, Block, class_at, no_class, spans, meets, names, follows, has_room_for, with_lists, with_lists_of, KnownApart}
+use Rattle.patch_view.specs.State.{Class, Block, class_at, no_class, spans, meets, names, follows, has_room_for, with_lists, with_lists_of, KnownApart, IsOnlyNamed}
 use Rattle.patch_view.specs.Rests.{Rests, no_rests, begun, IsLaidOver, IsLaidOn, IsFree, Covers, KnownRests, IsUnion}
 use Rattle.patch_view.proofs.Exchange.{spans-from, spans-at}
 use Rattle.patch_view.proofs.Marking.{stood, stood_is, at_stood}
@@ -22,16 +22,21 @@ use Rattle.patch_view.proofs.Apart.{member_inside, stayed, stayed_at, stayed_les
 
 -- the class has the members, the names and the bytes of another
 pub record IsLike (c d : Class) : Type 0 where
+  pub name : c.name ≡ d.name
   pub members : c.members ≡ d.members
   pub after : c.after ≡ d.after
   pub start : c.start ≡ d.start
   pub stop : c.stop ≡ d.stop
 
 pub like-same : (c d : Class) → c ≡ d → IsLike c d
-like-same c d e = record { members = ap (λ z. z.members) e; after = ap (λ z. z.after) e; start = ap (λ z. z.start) e; stop = ap (λ z. z.stop) e }
+like-same c d e = record { name = ap (λ z. z.name) e; members = ap (λ z. z.members) e; after = ap (λ z. z.after) e; start = ap (λ z. z.start) e; stop = ap (λ z. z.stop) e }
 
 spans-like : (c d : Class) (x : ℕ) → IsLike c d → spans c x ≡ spans d x
 spans-like c d x e = ap (λ (z : ℕ). nat_le z x && nat_lt x c.stop) e.start ∙ ap (λ (z : ℕ). nat_le d.start x && nat_lt x z) e.stop
+
+-- its name is a member's where the other's is
+called-like : (c d : Class) → IsLike c d → is_among d.members d.name ≡ true → is_among c.members c.name ≡ true
+called-like c d e on = ap (λ ms. is_among ms c.name) e.members ∙ ap (is_among d.members) e.name ∙ on
 
 name_inside : (cs : List Class) (i n : ℕ) → is_among (get_or cs i no_class).after n ≡ true → i < length cs
 name_inside cs i n on = elim (cases_lt i (length cs)) [
@@ -58,6 +63,7 @@ kept-covers newest r old new f within like order k = record {
       let a = k.above (f i) (f j) x (order i j x less w s t) (within j w) s t in
       (a.0, a.1, ap (λ ms. is_among ms a.0) e.members ∙ a.2);
   names = λ i n on. let e = like i (name_inside new i n on) in k.names (f i) n (ap (λ us. is_among us n) (sym e.after) ∙ on);
+  called = λ i w. called-like (get_or new i no_class) (get_or old (f i) no_class) (like i w) (k.called (f i) (within i w));
 }
 
 -- at each place a class like the one that was there
@@ -92,6 +98,7 @@ departed_rests numbers first now k m rests d =
     same_rests first now m rests (omega arith) (λ i w. elim (d.each i) [
       | inl e ↦ like-same _ _ e
       | inr e ↦ record {
+        name = ap (λ (z : Class). z.name) e.1;
         members = ap (λ (z : Class). z.members) e.1;
         after = ap (λ (z : Class). z.after) e.1;
         start = ap (λ (z : Class). z.start) e.1;
@@ -173,10 +180,10 @@ same-some : (a b : ℕ) (o : Option ℕ) → o ≡ Some a → o ≡ Some b → a
 same-some a b o p q = cc
 
 laid-covers : (newest : ℕ) (q r : Rests) (cs : List Class) (c : Class) (top : Span) (names : List ℕ)
-    → c.members ≡ top.no ∷ [] → c.start ≡ top.start → c.stop ≡ top.stop → c.after ≡ names → top.start < top.stop → IsLaidOver q r top names
+    → is_among c.members c.name ≡ true → c.members ≡ top.no ∷ [] → c.start ≡ top.start → c.stop ≡ top.stop → c.after ≡ names → top.start < top.stop → IsLaidOver q r top names
     → ((x n : ℕ) → top_at q.tops x ≡ Some n → n < top.no) → ((i n : ℕ) → is_among (get_or cs i no_class).members n ≡ true → n < top.no)
     → Covers newest q cs → Covers top.no r (cs ++ c ∷ [])
-laid-covers newest q r cs c top names one starts stops after some laid low_tops low k = record {
+laid-covers newest q r cs c top names called one starts stops after some laid low_tops low k = record {
   upto = λ x n is. elim (cases_Bool (has_byte top x)) [
     | inl t ↦ let e = same-some n top.no (top_at r.tops x) is (laid.tops.here x t) in omega arith
     | inr t ↦ let l = low_tops x n (sym (laid.tops.beside x t) ∙ is) in omega arith
@@ -224,6 +231,10 @@ laid-covers newest q r cs c top names one starts stops after some laid low_tops 
     | inl p ↦ laid.named.kept n (k.names i n (ap (λ (z : Class). is_among z.after n) (sym p.1) ∙ on))
     | inr p ↦ laid.named.added n (ap (λ us. is_among us n) (sym (ap (λ (z : Class). z.after) p.1 ∙ after)) ∙ on)
   ];
+  called = λ i w. elim (new-place cs c i w) [
+    | inl p ↦ subst (λ (z : Class). is_among z.members z.name ≡ true) (sym p.1) (k.called i p.0)
+    | inr p ↦ subst (λ (z : Class). is_among z.members z.name ≡ true) (sym p.1) called
+  ];
 }
   where
     c-spans : (x : ℕ) → spans c x ≡ has_byte top x
@@ -236,13 +247,15 @@ first-covers cs none = record {
   own = λ i x n is on. absurd (cc);
   above = λ i j x less w p q. absurd (omega arith);
   names = λ i n on. let w = name_inside cs i n on in absurd (omega arith);
+  called = λ i w. absurd (omega arith);
 }
 
 pub laid_rests : (cs : List Class) (c : Class) (m : Members) (only : Bool) (rests now : Option Rests) (top : Span) (names : List ℕ)
-    → c.members ≡ top.no ∷ [] → c.start ≡ top.start → c.stop ≡ top.stop → c.after ≡ names → only ≡ (length cs == 0)
+    → c.name ≡ top.no → c.members ≡ top.no ∷ [] → c.start ≡ top.start → c.stop ≡ top.stop → c.after ≡ names → only ≡ (length cs == 0)
     → IfSome now (λ r. IsLaidOn (begun only rests) r top names) → KnownApart m cs → KnownRests m rests cs
     → KnownRests (with_member m top.no only) now (cs ++ c ∷ [])
-laid_rests cs c m only rests now top names one starts stops after first laid apart known r is is_apart =
+laid_rests cs c m only rests now top names name one starts stops after first laid apart known r is is_apart =
+    let called : is_among c.members c.name ≡ true = ap (λ ms. is_among ms c.name) one ∙ ap (is_among (top.no ∷ [])) name ∙ or_left _ false (eq-eqb _ _ refl) in
     let on : IsLaidOn (begun only rests) r top names = subst (λ z. IfSome z (λ r. IsLaidOn (begun only rests) r top names)) is laid in
     elim (cases_Bool only) [
       | inl t ↦
@@ -250,14 +263,14 @@ laid_rests cs c m only rests now top names one starts stops after first laid apa
           let old : Some no_rests ≡ Some on.before = ap (λ (z : Bool). begun z rests) (sym t) ∙ on.known in
           let e : no_rests ≡ on.before = cc in
           let over = subst (λ (z : Rests). IsLaidOver z r top names) (sym e) on.over in
-          laid-covers 0 no_rests r cs c top names one starts stops after on.some over (λ x n it. absurd (cc))
+          laid-covers 0 no_rests r cs c top names called one starts stops after on.some over (λ x n it. absurd (cc))
           (λ i n in_. let w = member_inside cs i n in_ in absurd (omega arith)) (first-covers cs none)
       | inr f ↦
           let p = and_parts m.are_apart (nat_lt m.newest top.no) (ap (λ (z : Bool). z || (m.are_apart && nat_lt m.newest top.no)) (sym f) ∙ is_apart) in
           let up : m.newest < top.no = ltb-true _ _ p.1 in
           let k = known on.before (ap (λ (z : Bool). begun z rests) (sym f) ∙ on.known) p.0 in
           let a = apart p.0 in
-          laid-covers m.newest on.before r cs c top names one starts stops after on.some on.over (λ x n it. let l = k.upto x n it in omega arith)
+          laid-covers m.newest on.before r cs c top names called one starts stops after on.some on.over (λ x n it. let l = k.upto x n it in omega arith)
           (λ i n in_. let l = a.upto i n in_ in omega arith) k
     ]
 
@@ -348,6 +361,10 @@ settled-covers newest r cs low high both a u c = record {
     ]
     | inr ne ↦ c.names (stood high i) n (ap (λ (z : Class). is_among z.after n) (sym (there i ne)) ∙ on)
   ];
+  called = λ i w. elim (cases_eq i low) [
+    | inl e ↦ subst (λ (z : Class). is_among z.members z.name ≡ true) (sym (here i e)) u.called
+    | inr ne ↦ subst (λ (z : Class). is_among z.members z.name ≡ true) (sym (there i ne)) (c.called (stood high i) (inside i w))
+  ];
 }
   where
     long : length (remove cs high) + 1 ≡ length cs
@@ -417,13 +434,28 @@ pub not-false : (b : Bool) → not b ≡ false → b ≡ true
 not-false true e = refl
 not-false false e = absurd (cc)
 
+pub some-rests : (o : Option Rests) → is_some o ≡ true → (r : Rests) × (o ≡ Some r)
+some-rests (Some r) e = (r, refl)
+some-rests None e = absurd (cc)
+
+-- where no number is a member of two classes, a class is the only one of its name
+pub only_named : (b : Block) (m : Members) (r : Rests) (name at : ℕ) → KnownApart m b.classes → KnownRests m (Some r) b.classes → m.are_apart ≡ true
+    → at < length b.classes → (class_at b at).name ≡ name → IsOnlyNamed b name at
+only_named b m r name at apart rests known within is =
+    let k = rests r refl known in
+    let a = apart known in
+    let has : (i : ℕ) → i < length b.classes → (class_at b i).name ≡ name → is_among (class_at b i).members name ≡ true =
+    (λ i w e. ap (is_among (class_at b i).members) (sym e) ∙ k.called i w) in
+    record { within = within; named = is; only = λ i w e. a.once i at name (has i w e) (has at within is) }
+
 -- a class that took in the lists of a higher one, where it had room for them, and has the bytes of both
-pub growing-union : (c lists low high : Class) → ((x : ℕ) → spans c x ≡ (spans low x || spans high x))
+pub growing-union : (c lists low high : Class) → is_among lists.members c.name ≡ true → ((x : ℕ) → spans c x ≡ (spans low x || spans high x))
     → (has_room_for low high ≡ true → lists ≡ with_lists_of low high) → (has_room_for low high ≡ false → lists ≡ low) → IsUnion (with_lists c lists) low high
-growing-union c lists low high over room none = elim (cases_Bool (has_room_for low high)) [
+growing-union c lists low high called over room none = elim (cases_Bool (has_room_for low high)) [
   | inl t ↦
       let e = room t in
       record {
+        called = called;
         lists = record {
           members = λ n on. sym (list_any-append (λ m. m == n) low.members high.members) ∙ ap (λ (z : Class). is_among z.members n) (sym e) ∙ on;
           names = λ n on. sym (list_any-append (λ m. m == n) low.after high.after) ∙ ap (λ (z : Class). is_among z.after n) (sym e) ∙ on;
@@ -433,6 +465,7 @@ growing-union c lists low high over room none = elim (cases_Bool (has_room_for l
   | inr f ↦
       let e = none f in
       record {
+        called = called;
         lists = record {
           members = λ n on. or_left _ (is_among high.members n) (ap (λ (z : Class). is_among z.members n) (sym e) ∙ on);
           names = λ n on. or_left _ (is_among high.after n) (ap (λ (z : Class). is_among z.after n) (sym e) ∙ on);

@@ -257,7 +257,7 @@ spans-merged low high ms us space x near_a near_b some_a some_b = same_bool (spa
       | inr u ↦ let p = spans-at high x u in let f : high.start ≤ x = p.0 in let g : x < high.stop = p.1 in spans-from (merged low high ms us space) x (omega arith) (omega arith)
     ])
 
-length-laid_over : (place : ℕ) (over bytes : List ℕ) → place + length over ≤ length bytes → length (laid_over place over bytes) ≡ length bytes
+pub length-laid_over : (place : ℕ) (over bytes : List ℕ) → place + length over ≤ length bytes → length (laid_over place over bytes) ≡ length bytes
 length-laid_over place over bytes fits = grind (arith, places)
 
 -- the history afterwards
@@ -347,7 +347,7 @@ soft-of : (h : History) (k : Class) → IsClassOf h [] k → may_be_taken k ≡ 
     → (is_durable e ≡ false) × (is_memory e ≡ true) × (e.hard ≡ false)
 soft-of h k r may e i is = let old = r.marked e i is in let p = and_parts (not k.flying) (not k.hard) may in (old.0, old.1 ∙ p.0, old.2 ∙ not-true _ p.1)
 
-outside-low : (over bytes : List ℕ) (place i : ℕ) → place + length over ≤ length bytes → (i < place) ⊎ (place + length over ≤ i)
+pub outside-low : (over bytes : List ℕ) (place i : ℕ) → place + length over ≤ length bytes → (i < place) ⊎ (place + length over ≤ i)
     → get_or (laid_over place over bytes) i 0 ≡ get_or bytes i 0
 outside-low over bytes place i fits (inl before) = laid-before bytes over place i before fits
 outside-low over bytes place i fits (inr behind) = laid-behind bytes over place i behind fits

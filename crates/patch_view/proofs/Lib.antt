@@ -25,6 +25,10 @@ pub mod Imaging
 pub mod Together
 pub mod Leaving
 pub mod Clear
+pub mod Standing
 pub mod Taken
 pub mod Apart
 pub mod Covering
+pub mod Baring
+pub mod Departing
+pub mod Landing

@@ -11,7 +11,7 @@ use Rattle.patch_view.specs.Meaning.{Represents}
 use Rattle.patch_view.proofs.Adding.{lays}
 
 -- the bytes under a span, laid back on what was laid there
-put_back : (bytes over : List ℕ) (start : ℕ) → start + length over ≤ length bytes
+pub put_back : (bytes over : List ℕ) (start : ℕ) → start + length over ≤ length bytes
     → let kept = slice_range bytes start (start + length over) in
     let now = take start bytes ++ over ++ drop (start + length over) bytes in
     take start now ++ kept ++ drop (start + length kept) now ≡ bytes

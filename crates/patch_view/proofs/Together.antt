@@ -106,7 +106,7 @@ departed-class h numbers set c may r = elim (cases_Bool (is_among numbers c.name
       ((λ u. (refl, refl)), r.no_saved))
 ]
 
-same-name : (numbers : List ℕ) (c : Class) → (departed_among numbers c).name ≡ c.name
+pub same-name : (numbers : List ℕ) (c : Class) → (departed_among numbers c).name ≡ c.name
 same-name numbers c = elim (cases_Bool (is_among numbers c.name)) [ inl t ↦ rw t refl | inr t ↦ rw t refl ]
 
 same-members : (numbers : List ℕ) (c : Class) → (departed_among numbers c).members ≡ c.members

@@ -12,3 +12,7 @@ with_member m number only = record { are_apart = only || (m.are_apart && nat_lt 
 -- where the members of a record became others
 abbrev pub unless_other : Members → Bool → Members
 unless_other m others = record m { are_apart = m.are_apart && not others }
+
+-- the number is known to be above all of them
+abbrev pub are_below : Members → ℕ → Bool
+are_below m number = m.are_apart && nat_lt m.newest number

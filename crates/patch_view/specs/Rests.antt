@@ -46,7 +46,7 @@ pub record IsFree (r : Rests) (members : List ℕ) (start stop : ℕ) : Type 0 w
   pub unnamed : (n : ℕ) → is_among members n ≡ true → is_among r.named n ≡ false
 
 -- Of these classes, from the lowest to the highest: what wrote a byte last is a member of none but the highest that has the
--- byte, no number above the newest wrote one, and each number that they name is known.
+-- byte, no number above the newest wrote one, each number that they name is known, and each has its name among its members.
 pub record Covers (newest : ℕ) (r : Rests) (cs : List Class) : Type 0 where
   pub upto : (x n : ℕ) → top_at r.tops x ≡ Some n → n ≤ newest
   pub some : (i : ℕ) → i < length cs → (slice_index_or cs i no_class).start < (slice_index_or cs i no_class).stop
@@ -54,6 +54,7 @@ pub record Covers (newest : ℕ) (r : Rests) (cs : List Class) : Type 0 where
   pub above : (i j x : ℕ) → i < j → j < length cs → spans (slice_index_or cs i no_class) x ≡ true → spans (slice_index_or cs j no_class) x ≡ true
       → (n : ℕ) × (top_at r.tops x ≡ Some n) × (is_among (slice_index_or cs i no_class).members n ≡ false)
   pub names : (i n : ℕ) → is_among (slice_index_or cs i no_class).after n ≡ true → is_among r.named n ≡ true
+  pub called : (i : ℕ) → i < length cs → is_among (slice_index_or cs i no_class).members (slice_index_or cs i no_class).name ≡ true
 
 -- that is so, where anything is known
 abbrev pub KnownRests : Members → Option Rests → List Class → Type 0
@@ -64,7 +65,8 @@ pub record HasListsOf (c low high : Class) : Type 0 where
   pub members : MembersOf c low high
   pub names : (n : ℕ) → is_among c.after n ≡ true → (is_among low.after n || is_among high.after n) ≡ true
 
--- and just their bytes
+-- and just their bytes, and its name is a member's
 pub record IsUnion (c low high : Class) : Type 0 where
+  pub called : is_among c.members c.name ≡ true
   pub lists : HasListsOf c low high
   pub spans : (x : ℕ) → spans c x ≡ (spans low x || spans high x)

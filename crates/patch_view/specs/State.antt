@@ -29,9 +29,17 @@ pub record Block : Type 0 where
 abbrev pub no_class : Class
 no_class = record { name = 0; members = []; start = 0; stop = 0; saved = []; after = []; flying = false; hard = false; taken = false; room = 0 }
 
--- each class that is taken stands at one of these places
+-- each class that passes a test stands at one of these places
+abbrev pub StandWithin : (Class → Bool) → Places → List Class → Type 0
+StandWithin q p cs = (i : ℕ) → q (slice_index_or cs i no_class) ≡ true → (p.from ≤ i) × (i < p.to)
+
+-- each class that is taken does so
 abbrev pub TakenWithin : Places → List Class → Type 0
-TakenWithin p cs = (i : ℕ) → (slice_index_or cs i no_class).taken ≡ true → (p.from ≤ i) × (i < p.to)
+TakenWithin p cs = StandWithin (λ c. c.taken) p cs
+
+-- and each that is in flight
+abbrev pub FlyingWithin : Places → List Class → Type 0
+FlyingWithin p cs = StandWithin (λ c. c.flying) p cs
 
 -- no number is a member of two classes, and none is above the newest
 pub record AreApart (newest : ℕ) (cs : List Class) : Type 0 where
@@ -196,6 +204,12 @@ with_one_departed b number = elim (place_of b number) [ Some at ↦ departed_at 
 abbrev pub with_one_landed : Block → ℕ → Block
 with_one_landed b number = elim (place_of b number) [ Some at ↦ landed_at b at | None ↦ b ]
 
+-- the class at this place has this name, and no other
+pub record IsOnlyNamed (b : Block) (name at : ℕ) : Type 0 where
+  pub within : at < length b.classes
+  pub named : (class_at b at).name ≡ name
+  pub only : (i : ℕ) → i < length b.classes → (class_at b i).name ≡ name → i ≡ at
+
 -- the class in flight where one of the numbers is its name
 abbrev pub departed_among : List ℕ → Class → Class
 departed_among numbers c = if is_among numbers c.name then departed c else c
@@ -213,6 +227,12 @@ pub record HasDeparted (numbers : List ℕ) (old new : Block) : Type 0 where
   pub bytes : new.bytes ≡ old.bytes
   pub long : length new.classes ≡ length old.classes
   pub each : (i : ℕ) → MayHaveDeparted numbers (class_at old i) (class_at new i)
+
+-- Classes of these names depart, all of them if that is answered; those that are left may depart afterwards.
+pub record AreDeparting (names : List ℕ) (old : Block) (all : Bool) (new : Block) : Type 0 where
+  pub done : all ≡ true → new ≡ with_departed old names
+  pub left : with_departed new names ≡ with_departed old names
+  pub named : HasDeparted names old new
 
 -- the block without the classes in flight
 abbrev pub with_landed : Block → Block

@@ -6,24 +6,31 @@ ghost use Rattle.patch_model.specs.Entry.{Entry, is_memory};
 ghost use Rattle.patch_model.specs.History.{History};
 ghost use Rattle.patch_model.specs.Orderly.{IsOrderlyBlock};
 ghost use Rattle.patch_model.specs.State.{landed};
-ghost use Rattle.patch_view.specs.State.{follows, with_laid, IsLaid, without_newest, with_newest_hard, departed_at, landed_at, with_departed, HasDeparted};
-ghost use Rattle.patch_view.specs.State.{with_one_departed, with_one_landed, with_landed, moved_down, IsJoint, IsJointAt, has_places, KeepsNames};
+ghost use Rattle.patch_view.specs.State.{follows, with_laid, IsLaid, without_newest, with_newest_hard, departed_at, landed_at, with_departed, HasDeparted, AreDeparting};
+ghost use Rattle.patch_view.specs.State.{with_one_departed, with_one_landed, with_landed, FlyingWithin, moved_down, IsJoint, IsJointAt, has_places, KeepsNames};
+ghost use Rattle.patch_view.specs.Places.{IsRange};
 ghost use Rattle.patch_view.specs.History.{unpatched, MayLand, with_mark};
 ghost use Rattle.patch_view.specs.Meaning.{Represents, IsGathered};
 ghost use Rattle.patch_view.specs.Answers.{IsPatch};
 ghost use Rattle.patch_view.specs.Changes.{Lays, Unlays, Hardens, Settles, JoinsPlaces, JoinsBy, Joins, DepartsEach};
 
 use crate::classes::{Class, Drawn};
+use crate::images::{
+    departs_alone, draw_unless_known, forget, forget_unless, keep_span, with_room,
+};
 use crate::members::Members;
 use crate::number_lists::NumberList;
 use crate::places::Places;
 use crate::rests::laid_over;
 use crate::spans::swap_span;
-use crate::states::BlockState;
+use crate::states::{BlockState, FEW};
 use patch_model::{BLOCK, BlockBytes, OutOfMemory, PatchNo};
 use patch_skyline::Span;
 use std::alloc::{Allocator, Global};
 use std::marker::Model;
+
+/// So many classes that depart are searched for one after another.
+const MOST_SOUGHT: usize = 4;
 
 /// Two classes of a block as one record, drawn up by [`joint`](BlockState::joint) and not yet in place.
 #[derive(Drop)]
@@ -50,8 +57,10 @@ impl<A: Allocator> BlockState<A> {
             bytes: first.into_vec(),
             classes: Vec::new(alloc),
             taken: Places::none(),
+            flying: Places::none(),
             members: Members::none(),
             rests: None,
+            image: None,
         }
     }
 
@@ -143,6 +152,9 @@ impl<A: Allocator> BlockState<A> {
         let top = Span { start, stop, no };
         self.rests = laid_over(rests, self.bytes.allocator(), is_only, top, all.as_slice());
         self.members = self.members.with(no, is_only);
+        let image = self.image.take();
+        let are_many = self.classes.len() >= FEW;
+        self.image = with_room(image, self.bytes.allocator(), are_many);
         let class = Class::new(no, start, stop, saved, all);
         // Never refused: the room for it was made above.
         self.classes.push(class).unwrap();
@@ -163,6 +175,7 @@ impl<A: Allocator> BlockState<A> {
     {
         if let Some(class) = self.classes.pop() {
             class.leave(self.bytes.as_mut_slice());
+            forget(&mut self.image);
         }
     }
 
@@ -178,6 +191,7 @@ impl<A: Allocator> BlockState<A> {
     fn harden_exactly(&mut self)
         ensures { self.new ≡ with_newest_hard self.old }
     {
+        forget(&mut self.image); // It has no byte of the patch, which stays from now on.
         if let Some(class) = self.classes.last_mut() {
             class.harden();
         }
@@ -205,6 +219,8 @@ impl<A: Allocator> BlockState<A> {
         let passed = &mut self.classes[front..k + 1];
         passed.rotate_right(1);
         self.taken = self.taken.spread(self.classes.len());
+        self.flying = self.flying.spread(self.classes.len());
+        forget(&mut self.image);
     }
 
     /// Whether the class at `k` depends directly on one from `front` up to it.
@@ -265,9 +281,12 @@ impl<A: Allocator> BlockState<A> {
         let lower = &mut self.classes[low];
         let is_of_both = lower.become_both(drawn, &upper);
         let is_taken = lower.is_taken();
+        let is_flying = lower.is_flying();
         let known = self.members.unless_other(!is_of_both);
         self.members = known.unless_other(!is_free);
         self.taken = self.taken.spread_over(self.classes.len(), is_taken);
+        self.flying = self.flying.spread_over(self.classes.len(), is_flying);
+        forget(&mut self.image);
     }
 
     /// Puts the record of the classes at two places in place of both. Where the higher one depends on none between them, as the
@@ -341,8 +360,9 @@ impl<A: Allocator> BlockState<A> {
         Ok(())
     }
 
-    /// Puts in flight each class that has one of these numbers, which rise, as its name. The classes are in memory. It looks
-    /// at each record once. Of numbers that don't rise some may be overlooked; no class departs whose name isn't among them.
+    /// Puts in flight each class that has one of these numbers, which rise, as its name. The classes are in memory. Of few
+    /// numbers each is searched for; of many, or where one isn't found at once, each record is looked at. Of numbers that don't rise
+    /// some may be overlooked; no class departs whose name isn't among them.
     pub fn depart_each(&mut self, numbers: &[PatchNo])
         ensures exact { IsNonDecreasing numbers.now → self.new ≡ with_departed self.old numbers.now }
         ensures named { HasDeparted numbers.now self.old self.new }
@@ -355,17 +375,64 @@ impl<A: Allocator> BlockState<A> {
         ensures exact { IsNonDecreasing numbers.now → self.new ≡ with_departed self.old numbers.now }
         ensures named { HasDeparted numbers.now self.old self.new }
     {
+        let are_gone = numbers.len() <= MOST_SOUGHT && self.depart_by_name(numbers);
+        if !are_gone {
+            self.depart_over_all(numbers);
+        }
+        self.draw_image();
+    }
+
+    /// Draws the image anew where the block has many records, and it isn't known.
+    fn draw_image(&mut self)
+        ensures { self.new ≡ self.old }
+    {
+        if self.classes.len() > FEW {
+            let classes = self.classes.as_slice();
+            draw_unless_known(&mut self.image, self.bytes.as_slice(), classes);
+        }
+    }
+
+    /// Puts in flight the classes of these names, one after another, as long as each is found at once. Answers whether all were.
+    fn depart_by_name(&mut self, names: &[PatchNo]) -> bool
+        ensures { AreDeparting names.now self.old result self.new }
+    {
+        for name in names {
+            let Some(place) = self.place_of_name(*name) else {
+                return false;
+            };
+            self.depart_at(place);
+        }
+        true
+    }
+
+    /// Puts in flight each class that has one of these numbers as its name, in one pass over the records.
+    fn depart_over_all(&mut self, numbers: &[PatchNo])
+        ensures exact { IsNonDecreasing numbers.now → self.new ≡ with_departed self.old numbers.now }
+        ensures named { HasDeparted numbers.now self.old self.new }
+    {
         for class in self.classes.iter_mut() {
             class.depart_among(numbers);
         }
+        self.flying = self.flying.spread_over(self.classes.len(), true);
+        forget(&mut self.image);
     }
 
     fn depart_at(&mut self, at: usize)
         requires { at < length self.old.classes }
         ensures { self.new ≡ departed_at self.old at }
     {
+        let is_alone = departs_alone(&self.image, self.classes.as_slice(), at);
         let class = &mut self.classes[at];
+        let (start, stop) = (class.start(), class.saved_end());
         class.depart();
+        self.flying = self.flying.with(at, at + 1);
+        keep_span(
+            &mut self.image,
+            self.bytes.as_slice(),
+            start,
+            stop,
+            is_alone,
+        );
     }
 
     /// Makes the class of this patch durable: its record goes. The class is in flight, and no class of the block on which it
@@ -380,21 +447,58 @@ impl<A: Allocator> BlockState<A> {
         }
     }
 
-    /// Makes each class in flight durable: their records go. It looks at each record once.
+    /// Makes each class in flight durable: their records go. Where those in flight stand close together, it looks at no other
+    /// record; else at each of them once.
     pub fn land_each(&mut self)
         ensures exact { self.new ≡ with_landed self.old }
         ensures answer { (h : History) (block : ℕ) → Represents self.old [] h → IsOrderlyBlock h block
             → Represents self.new [] (record h { entries = map (landed block) h.entries }) }
     {
+        self.land_each_exactly();
+    }
+
+    fn land_each_exactly(&mut self)
+        ensures { self.new ≡ with_landed self.old }
+    {
+        let flying = self.flying.below(self.len());
+        if flying.to <= flying.from.saturating_add(FEW) {
+            self.land_within(flying);
+        } else {
+            self.land_over_all();
+        }
+    }
+
+    /// Lets those in flight go, which stand within these places, the highest first.
+    fn land_within(&mut self, flying: Places)
+        requires range { IsRange flying (length self.old.classes) }
+        requires within { FlyingWithin flying self.old.classes }
+        ensures { self.new ≡ with_landed self.old }
+    {
+        for passed in 0..flying.to - flying.from {
+            let highest = flying.to - 1 - passed;
+            if self.is_flying_at(highest) {
+                self.land_at(highest);
+            }
+        }
+        self.flying = Places::none();
+    }
+
+    /// Lets those in flight go, in one pass over the records.
+    fn land_over_all(&mut self)
+        ensures { self.new ≡ with_landed self.old }
+    {
         self.classes.retain(|class| !class.is_flying());
         self.taken = self.taken.spread(self.classes.len());
+        self.flying = Places::none();
     }
 
     fn land_at(&mut self, at: usize)
         requires { at < length self.old.classes }
         ensures { self.new ≡ landed_at self.old at }
     {
-        let _gone = self.classes.remove(at);
+        let gone = self.classes.remove(at);
+        forget_unless(&mut self.image, !gone.is_takeable());
         self.taken = self.taken.spread(self.classes.len());
+        self.flying = self.flying.spread(self.classes.len());
     }
 }

@@ -5,6 +5,7 @@ ghost use Rattle.std.specs.List.Sorted.{IsNonDecreasing};
 ghost use Rattle.patch_model.specs.Entry.{is_among};
 ghost use Rattle.patch_view.specs.State.{is_takeable, uncovered, laid_on, exchanged_with, leaves_taken, meets, names, hardened, departed, departed_among, MayHaveDeparted, merged, IsMerged, IsDrawn};
 ghost use Rattle.patch_view.specs.State.{spans, follow_on, has_room_for, with_lists_of, in_its_place, with_lists};
+ghost use Rattle.patch_view.specs.Images.{saved_end, saves_any};
 ghost use Rattle.patch_view.specs.Rests.{IsFree, IsUnion, HasListsOf};
 
 use crate::number_lists::{NumberList, is_listed, sort};
@@ -311,8 +312,8 @@ impl<A: Allocator> Class<A> {
         }
     }
 
-    /// Becomes what was drawn up of it and a higher class. Answers whether it then has the bytes of both, and none but their
-    /// members and names, as it has where the record was drawn up of them.
+    /// Becomes what was drawn up of it and a higher class. Answers whether it then has the bytes of both, none but their
+    /// members and names, and the name of a member, as it has where the record was drawn up of them.
     pub(crate) fn become_both(&mut self, drawn: Drawn<A>, high: &Class<A>) -> bool
         ensures drawn { IsDrawn self.old high.now drawn → self.new ≡ in_its_place self.old high.now drawn }
         ensures of_both { IsTrue result → IsUnion self.new self.old high.now }
@@ -322,7 +323,7 @@ impl<A: Allocator> Class<A> {
             let has_their_span = class.has_span_of(self, high);
             self.take_lists(high);
             self.take_the_rest(class);
-            has_their_span
+            has_their_span && self.is_called_by_a_member()
         } else {
             let is_of_both = class.is_union_of(self, high);
             *self = class;
@@ -330,9 +331,19 @@ impl<A: Allocator> Class<A> {
         }
     }
 
+    /// Whether its name is a member's.
+    fn is_called_by_a_member(&self) -> bool
+        ensures { result ≡ is_among self.now.members self.now.name }
+    {
+        self.includes(self.name)
+    }
+
     fn is_union_of(&self, low: &Class<A>, high: &Class<A>) -> bool
         ensures { IsTrue result → IsUnion self.now low.now high.now }
     {
+        if !self.is_called_by_a_member() {
+            return false;
+        }
         self.has_span_of(low, high) && self.has_lists_of(low, high)
     }
 
@@ -421,6 +432,29 @@ impl<A: Allocator> Class<A> {
         if is_listed(numbers, self.name) {
             self.depart();
         }
+    }
+
+    pub(crate) fn start(&self) -> usize
+        ensures { result ≡ self.now.start }
+    {
+        self.start
+    }
+
+    /// Where the saved bytes end.
+    pub(crate) fn saved_end(&self) -> usize
+        ensures exact { result ≡ saved_end self.now }
+        ensures range { self.now.start ≤ result }
+        ensures fits { result ≤ BLOCK }
+    {
+        self.start + self.saved.len()
+    }
+
+    /// Whether it saved a byte from one place up to another.
+    pub(crate) fn saves_any(&self, start: usize, stop: usize) -> bool
+        ensures exact { result ≡ saves_any self.now start stop }
+        ensures fits { saved_end self.now ≤ BLOCK }
+    {
+        self.start < stop && start < self.start + self.saved.len()
     }
 
     /// Lays the saved bytes on a copy of the block's, where the class may be taken and isn't.

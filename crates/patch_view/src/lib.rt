@@ -7,6 +7,7 @@
 
 mod changes;
 mod classes;
+mod images;
 pub mod laws;
 mod members;
 mod number_lists;

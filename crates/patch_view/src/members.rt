@@ -1,6 +1,6 @@
 //! What is known of the members of a block's records.
 ghost use Rattle.std.specs.Prelude.{◌≡◌};
-ghost use Rattle.patch_view.specs.Members.{no_members, with_member, unless_other};
+ghost use Rattle.patch_view.specs.Members.{no_members, with_member, unless_other, are_below};
 
 use patch_model::PatchNo;
 
@@ -30,6 +30,13 @@ impl Members {
             are_apart: is_only || (self.are_apart && self.newest < no),
             newest: no,
         }
+    }
+
+    /// Whether the number is known to be above all of them.
+    pub(crate) fn are_below(self, no: PatchNo) -> bool
+        ensures { result ≡ are_below self no }
+    {
+        self.are_apart && self.newest < no
     }
 
     /// With members of a record changed to some that were its own or another's that is gone, or to others.

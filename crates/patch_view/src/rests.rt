@@ -26,7 +26,7 @@ impl<A: Allocator> Model for Rests<A> {
 
     ghost Value = { Seen };
 
-    ghost view = { λ r. record { tops = r.skyline; named = r.named.items } };
+    ghost view = { λ r. record { tops = r.skyline.spans; named = r.named.items } };
 
     ghost invariant = { λ r. IsNonDecreasing r.named.items };
 }

@@ -1,15 +1,16 @@
 //! One block's bytes and the records of its live classes.
 //!
 //! Where a call has two layers, `x_exactly` does the work on the records, and `x` says what it means for the block's history.
-ghost use Rattle.std.specs.Prelude.{◌≡◌, ◌<◌, length, [], Some, IfSome, IsFalse, OnErr, ℕ, false};
+ghost use Rattle.std.specs.Prelude.{◌≡◌, ◌<◌, length, [], Some, IfSome, IsFalse, IsTrue, OnErr, ℕ, false};
 ghost use Rattle.patch_model.specs.Entry.{is_among};
 ghost use Rattle.patch_model.specs.History.{History, cached as the_cached};
-ghost use Rattle.patch_view.specs.State.{Block, is_takeable, uncovered, swept_to, class_at, exchanged_at, follows, hinders, HinderWithin, place_of, restored_to, outline, IsLeast};
+ghost use Rattle.patch_view.specs.State.{Block, is_takeable, swept_to, class_at, exchanged_at, follows, hinders, HinderWithin, place_of, IsOnlyNamed, restored_to, outline, IsLeast};
 ghost use Rattle.patch_view.specs.Places.{IsRange};
 ghost use Rattle.patch_view.specs.Meaning.{Represents};
 ghost use Rattle.patch_view.specs.Answers.{AnswersTake, AcceptsTake, AnswersPutBack, AcceptsPutBack, TakesAll, ShowsTaken, PutsAllBack, IsAsBefore, Shows, TellsClear};
 
 use crate::classes::{Class, Turn};
+use crate::images::{Image, copy_image, forget, uncover_all};
 use crate::members::Members;
 use crate::places::Places;
 use crate::refusals::{PutBackRefusal, TakeRefusal};
@@ -19,7 +20,7 @@ use std::alloc::{Allocator, Global};
 use std::marker::Model;
 
 /// So many records are asked one after another whether they have a number.
-const FEW: usize = 16;
+pub(crate) const FEW: usize = 16;
 
 /// One block's bytes, and a record of each live class: its members, its span, what its members name, whether it is in
 /// flight, and the bytes that a take or a put back exchanges (a hard class and one in flight keep none).
@@ -34,23 +35,29 @@ pub struct BlockState<A: Allocator = Global> {
     pub(crate) classes: Vec<Class<A>, A>,
     /// Outside of these places no class is taken.
     pub(crate) taken: Places,
+    /// Outside of these no class is in flight.
+    pub(crate) flying: Places,
     /// Where they are known to be apart, a record that has a number is the only one.
     pub(crate) members: Members,
     /// Where they are known, and the members to be apart, a class is told at once on which nothing rests.
     pub(crate) rests: Option<Rests<A>>,
+    /// Where it is known, what a write sends of the block is found without a look at its records.
+    pub(crate) image: Option<Image<A>>,
 }
 
 impl<A: Allocator> Model for BlockState<A> {
     ghost use Rattle.std.specs.Prelude.{◌≡◌, length};
-    ghost use Rattle.patch_view.specs.State.{Block, TakenWithin, KnownApart};
+    ghost use Rattle.patch_view.specs.State.{Block, TakenWithin, FlyingWithin, KnownApart};
     ghost use Rattle.patch_view.specs.Rests.{KnownRests};
+    ghost use Rattle.patch_view.specs.Images.{KnownImage};
 
     ghost Value = { Block };
 
     ghost view = { λ s. record { bytes = s.bytes.items; classes = s.classes.items } };
 
     ghost invariant = { λ s. (length s.bytes.items ≡ 4096) × TakenWithin s.taken s.classes.items × KnownApart s.members s.classes.items
-        × KnownRests s.members s.rests s.classes.items };
+        × KnownRests s.members s.rests s.classes.items × FlyingWithin s.flying s.classes.items
+        × KnownImage s.image s.classes.items s.bytes.items };
 }
 
 impl<A: Allocator> BlockState<A> {
@@ -71,13 +78,36 @@ impl<A: Allocator> BlockState<A> {
         if !self.members.are_apart {
             return None;
         }
-        let behind = self.classes.partition_point(|class| class.name() <= no);
-        if behind == 0 {
+        let Some(at) = self.place_upto(no) else {
             return None;
-        }
-        let at = behind - 1;
+        };
         let class = &self.classes[at];
         class.includes(no).then_some(at)
+    }
+
+    /// The last place whose name isn't above the number, where names rise with the places.
+    fn place_upto(&self, no: PatchNo) -> Option<usize>
+        ensures { IfSome result (λ at. at < length self.now.classes) }
+    {
+        let behind = self.classes.partition_point(|class| class.name() <= no);
+        behind.checked_sub(1)
+    }
+
+    /// The place of the record with this name, where that is found at once, and no other is known to have it.
+    pub(crate) fn place_of_name(&self, name: PatchNo) -> Option<usize>
+        ensures { IfSome result (λ at. IsOnlyNamed self.now name at) }
+    {
+        if !self.members.are_apart || self.rests.is_none() {
+            return None;
+        }
+        let Some(at) = self.place_upto(name) else {
+            return None;
+        };
+        if self.name_at(at) == name {
+            Some(at)
+        } else {
+            None
+        }
     }
 
     /// Whether some record may have this number among its members. Where there are many records, and the number's isn't found
@@ -85,10 +115,20 @@ impl<A: Allocator> BlockState<A> {
     pub(crate) fn may_have(&self, no: PatchNo) -> bool
         ensures { IsFalse result → (i : ℕ) → is_among (class_at self.now i).members no ≡ false }
     {
+        if self.is_above_all(no) {
+            return false;
+        }
         if self.len() > FEW && self.place_by_name(no).is_none() {
             return true;
         }
         self.place_of(no).is_some()
+    }
+
+    /// Whether the number is known to be above all members.
+    fn is_above_all(&self, no: PatchNo) -> bool
+        ensures { IsTrue result → (i : ℕ) → is_among (class_at self.now i).members no ≡ false }
+    {
+        self.members.are_below(no)
     }
 
     pub(crate) fn len(&self) -> usize
@@ -105,7 +145,7 @@ impl<A: Allocator> BlockState<A> {
         class.name()
     }
 
-    fn is_flying_at(&self, at: usize) -> bool
+    pub(crate) fn is_flying_at(&self, at: usize) -> bool
         requires { at < length self.now.classes }
         ensures { result ≡ (class_at self.now at).flying }
     {
@@ -291,9 +331,9 @@ impl<A: Allocator> BlockState<A> {
         }
     }
 
-    /// Takes every class that is in memory and not hard from a copy of the block's bytes, in one pass downwards over the
-    /// records: what a send writes that leaves them behind. The block stays as it is, and no memory is taken. The condition is that
-    /// together they hold their dependents.
+    /// Takes every class that is in memory and not hard from a copy of the block's bytes: what a send writes that leaves them
+    /// behind. Where the image is known it is copied, else it takes one pass downwards over the records. The block stays as it is, and
+    /// no memory is taken. The condition is that together they hold their dependents.
     pub fn take_all_from(&self, copy: &mut [u8])
         requires { copy.old ≡ self.now.bytes }
         ensures answer { ShowsTaken self.now copy.new }
@@ -308,19 +348,9 @@ impl<A: Allocator> BlockState<A> {
         ensures length { length copy.new ≡ BLOCK }
     {
         let _ = &self.bytes;
-        for passed in 0..self.len() {
-            self.uncover_at(self.len() - 1 - passed, copy);
+        if !copy_image(&self.image, copy) {
+            uncover_all(self.classes.as_slice(), copy);
         }
-    }
-
-    fn uncover_at(&self, at: usize, copy: &mut [u8])
-        requires within { at < length self.now.classes }
-        requires length { length copy.old ≡ BLOCK }
-        ensures exact { copy.new ≡ uncovered (class_at self.now at) copy.old }
-        ensures length { length copy.new ≡ BLOCK }
-    {
-        let class = &self.classes[at];
-        class.uncover(copy);
     }
 
     fn is_takeable_at(&self, at: usize) -> bool
@@ -386,5 +416,6 @@ impl<A: Allocator> BlockState<A> {
         let class = &mut self.classes[at];
         class.exchange(self.bytes.as_mut_slice(), turn);
         self.taken = self.taken.with(at, at + 1);
+        forget(&mut self.image);
     }
 }

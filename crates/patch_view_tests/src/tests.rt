@@ -4,6 +4,7 @@ use patch_view::{BlockState, TakeRefusal};
 use std::alloc::Allocator;
 use std::process::Abort;
 
+mod images;
 mod memory;
 mod names;
 mod rests;

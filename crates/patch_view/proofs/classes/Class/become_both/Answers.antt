@@ -1,11 +1,15 @@
-use Rattle.std.proofs.Common.{sym, subst}
+use Rattle.std.proofs.Common.{◌≡◌, ◌∙◌, true, sym, subst, ap}
+use Rattle.patch_model.specs.Entry.{is_among}
 use Rattle.patch_view.specs.State.{Class}
 use Rattle.patch_view.specs.Rests.{IsUnion}
 use Rattle.patch_view.proofs.Covering.{growing-union}
 use Rattle.patch_view.proofs.classes.Class.become_both.Goals as goal
 
-pub returns-then-growing-clause-of_both : goal.returns-then-growing-clause-of_both
-returns-then-growing-clause-of_both g c t =
-    subst (λ (z : Class). IsUnion z c.args.self.now c.args.high.now) (sym c.take_the_rest.ensures)
-    (growing-union c.drawn.inside.class c.take_lists.new.self c.args.self.now c.args.high.now (c.has_span_of-has_their_span.ensures t)
+pub returns-then-has_their_span-clause-of_both : goal.returns-then-has_their_span-clause-of_both
+returns-then-has_their_span-clause-of_both g c t =
+    let is = c.take_the_rest.ensures in
+    let called : is_among c.take_lists.new.self.members c.drawn.inside.class.name ≡ true =
+    ap (λ (z : Class). is_among z.members z.name) (sym is) ∙ sym c.is_called_by_a_member.ensures ∙ t in
+    subst (λ (z : Class). IsUnion z c.args.self.now c.args.high.now) (sym is)
+    (growing-union c.drawn.inside.class c.take_lists.new.self c.args.self.now c.args.high.now called (c.has_span_of-has_their_span.ensures c.if-has_their_span.true)
     c.take_lists.ensures.room c.take_lists.ensures.no_room)

@@ -1,8 +1,10 @@
-use Rattle.std.proofs.Common.{◌<◌, ◌≤◌, length, sym, subst, arith}
+use Rattle.std.proofs.Common.{◌<◌, ◌≤◌, length, sym, subst, arith, refl, ap, ◌∙◌}
 use Rattle.std.specs.List.{remove}
-use Rattle.patch_view.proofs.Taken.{removed_within}
+use Rattle.patch_view.specs.State.{Class, is_takeable}
+use Rattle.patch_view.proofs.Standing.{removed_within}
 use Rattle.patch_view.proofs.Apart.{removed_apart}
 use Rattle.patch_view.proofs.Covering.{removed_rests}
+use Rattle.patch_view.proofs.Baring.{removed_image, class_is}
 use Rattle.patch_view.proofs.states.BlockState.land_at.Goals as goal
 
 pub invariant_of-self : goal.invariant_of-self
@@ -14,7 +16,11 @@ invariant_of-self g c =
     let fits : length c.remove-gone.new.self.items ≤ c.remove-gone.new.self.len = omega (arith, c.remove-gone.new.self.ok.0) in
     let fits_too : length (remove c.self.inside.classes.items c.args.at) ≤ c.remove-gone.new.self.len = rw gone at fits in (
       c.self.invariant.0,
-      rw (e, l, gone) (removed_within c.self.inside.classes.items c.args.at c.self.inside.taken c.remove-gone.new.self.len fits_too within c.self.invariant.1),
+      rw (e, l, gone) (removed_within (λ (k : Class). k.taken) refl c.self.inside.classes.items c.args.at c.self.inside.taken c.remove-gone.new.self.len fits_too within c.self.invariant.1),
       rw gone (removed_apart c.self.inside.classes.items c.args.at c.self.inside.members within c.self.invariant.2),
       rw gone (removed_rests c.self.inside.classes.items c.args.at c.self.inside.members c.self.inside.rests within c.self.invariant.3),
+      rw (c.spread-self-inside-2.ensures, c.len-2.ensures, gone) (removed_within (λ (k : Class). k.flying) refl c.self.inside.classes.items c.args.at c.self.inside.flying c.remove-gone.new.self.len fits_too within c.self.invariant.4),
+      rw gone (removed_image c.self.inside.image c.forget_unless.new.image c.self.inside.classes.items c.args.at c.self.inside.bytes.items c.is_takeable.result within
+          (c.is_takeable.ensures ∙ ap is_takeable (class_is c.self.inside.classes.items c.args.at c.remove-gone.result within c.remove-gone.ensures.value))
+          c.forget_unless.ensures c.self.invariant.5),
     )

@@ -1,28 +1,5 @@
-use Rattle.std.proofs.Common.{◌≤◌, ap, ◌∙◌, rules, not, length, filter, arith}
-use Rattle.std.proofs.lemmas.Fn.{filter_same}
-use Rattle.patch_view.specs.State.{Class, Block, with_landed}
 use Rattle.patch_view.proofs.Together.{lands_together}
-use Rattle.patch_view.proofs.Taken.{filtered_within}
-use Rattle.patch_view.proofs.Apart.{filtered_apart}
-use Rattle.patch_view.proofs.Covering.{filtered_rests}
 use Rattle.patch_view.proofs.states.BlockState.land_each.Goals as goal
 
-pub returns-clause-exact : goal.returns-clause-exact
-returns-clause-exact g c =
-    let kept = filter_same _ (λ (k : Class). not k.flying) _ (λ x b f h. search rules) _ _ c.retain.ensures.filtered in
-    ap (λ ks. let b : Block = record { bytes = c.self.inside.bytes.items; classes = ks } in b) kept ∙ ap with_landed c.self.view_is
-
 pub returns-clause-answer : goal.returns-clause-answer
-returns-clause-answer g c h block r o = let is = returns-clause-exact g c in rw is (lands_together c.args.self.now h block r o)
-
-pub invariant_of-self : goal.invariant_of-self
-invariant_of-self g c =
-    let kept = filter_same _ (λ (k : Class). not k.flying) _ (λ x b f h. search rules) _ _ c.retain.ensures.filtered in
-    let e = c.spread-self-inside.ensures in
-    let l = c.len.ensures in
-    let long : length (filter (λ (k : Class). not k.flying) c.self.inside.classes.items) ≤ c.retain.new.self.len = omega (arith, ap length kept, c.retain.new.self.ok.0) in (
-      c.self.invariant.0,
-      rw (e, l, kept) (filtered_within (λ k. not k.flying) c.self.inside.classes.items c.self.inside.taken c.retain.new.self.len long c.self.invariant.1),
-      rw kept (filtered_apart (λ k. not k.flying) c.self.inside.classes.items c.self.inside.members c.self.invariant.2),
-      rw kept (filtered_rests (λ k. not k.flying) c.self.inside.classes.items c.self.inside.members c.self.inside.rests c.self.invariant.3),
-    )
+returns-clause-answer g c h block r o = let is = c.land_each_exactly.ensures in rw is (lands_together c.args.self.now h block r o)

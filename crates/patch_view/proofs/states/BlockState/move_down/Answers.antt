@@ -1,13 +1,14 @@
-use Rattle.std.proofs.Common.{◌≡◌, [], false, ◌≤◌, arith, ap, sym, subst, ◌∙◌, ◌<◌, length, get_or}
+use Rattle.std.proofs.Common.{◌≡◌, [], false, ◌≤◌, arith, ap, sym, subst, ◌∙◌, ◌<◌, length, get_or, refl}
 use Rattle.std.proofs.lemmas.List.{with_items_is}
 use Rattle.std.specs.List.{insert, remove}
-use Rattle.patch_view.specs.State.{Block, no_class, follows, moved_down, TakenWithin, KnownApart}
+use Rattle.patch_view.specs.State.{Block, no_class, follows, moved_down, Class, TakenWithin, FlyingWithin, KnownApart}
 use Rattle.patch_view.proofs.Moving.{length-moved}
-use Rattle.patch_view.proofs.Taken.{moved_within}
+use Rattle.patch_view.proofs.Standing.{moved_within}
 use Rattle.patch_view.proofs.Apart.{moved_apart}
 use Rattle.patch_view.proofs.Rotating.{moved_down-by_turn}
 use Rattle.patch_view.proofs.Covering.{moved_rests}
 use Rattle.patch_view.specs.Rests.{KnownRests}
+use Rattle.patch_view.proofs.Baring.{no_image}
 use Rattle.patch_view.proofs.states.BlockState.move_down.Goals as goal
 
 pub returns : goal.returns
@@ -33,10 +34,13 @@ invariant_of-self g c =
     let l = c.len.ensures in
     let fits : length c.deref_mut.result.now ≤ c.self.inside.classes.len = omega (arith, c.deref_mut.ensures.len) in (
       c.self.invariant.0,
-      rw (s, l, now) (moved_within c.deref_mut.result.now c.args.front c.args.k c.self.inside.taken c.self.inside.classes.len fits c.requires.down within t),
+      rw (s, l, now) (moved_within (λ (k : Class). k.taken) refl c.deref_mut.result.now c.args.front c.args.k c.self.inside.taken c.self.inside.classes.len fits c.requires.down within t),
       rw now (moved_apart c.deref_mut.result.now c.args.front c.args.k c.self.inside.members c.requires.down within
           (subst (KnownApart c.self.inside.members) (sym e) c.self.invariant.2)),
       rw now (moved_rests c.deref_mut.result.now c.args.front c.args.k c.self.inside.members c.self.inside.rests c.requires.down within
           (λ j from to. subst (λ cs. follows (record { bytes = []; classes = cs }) c.args.k j ≡ false) (sym (e ∙ ap (λ b. b.classes) c.self.view_is)) (c.requires.free j from to))
           (subst (KnownRests c.self.inside.members c.self.inside.rests) (sym e) c.self.invariant.3)),
+      rw (c.spread-self-inside-2.ensures, c.len-2.ensures, now) (moved_within (λ (k : Class). k.flying) refl c.deref_mut.result.now c.args.front c.args.k c.self.inside.flying c.self.inside.classes.len fits c.requires.down within
+          (subst (FlyingWithin c.self.inside.flying) (sym e) c.self.invariant.4)),
+      (λ m is on. no_image c.forget.new.image m c.forget.ensures is on),
     )

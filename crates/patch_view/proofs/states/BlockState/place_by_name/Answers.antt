@@ -1,4 +1,4 @@
-use Rattle.std.proofs.Common.{◌≡◌, ◌<◌, ◌-◌, ◌∙◌, true, inl, inr, length, sym, ap, subst, arith}
+use Rattle.std.proofs.Common.{◌≡◌, ◌<◌, ◌∙◌, true, inl, inr, length, sym, ap, subst}
 use Rattle.std.proofs.lemmas.Bool.{cases_Bool}
 use Rattle.std.proofs.lemmas.List.{get_or_default}
 use Rattle.patch_model.specs.Entry.{is_among}
@@ -14,12 +14,10 @@ returns g c =
       | inr off ↦ rw (e, off) tt
       | inl on ↦
           let a : KnownApart c.self.inside.members c.args.self.now.classes = subst (λ (b : Block). KnownApart c.self.inside.members b.classes) c.self.view_is c.self.invariant.2 in
-          let long : length c.deref.result.now ≡ length c.self.inside.classes.items = ap length c.deref.ensures.value in
-          let some = c.if-behind-eq0.false in
-          let within : c.partition_point-behind.result - 1 < length c.self.inside.classes.items = omega (arith, c.partition_point-behind.ensures.bound) in
-          let is = c.index-class.ensures ∙ get_or_default c.self.inside.classes.items (c.partition_point-behind.result - 1) c.index-class.result.now no_class within in
-          let here : is_among (class_at c.args.self.now (c.partition_point-behind.result - 1)).members c.args.no ≡ true =
-          ap (λ (b : Block). is_among (class_at b (c.partition_point-behind.result - 1)).members c.args.no) (sym c.self.view_is)
+          let within : c.in-Some.at < length c.self.inside.classes.items = subst (λ z. c.in-Some.at < length z.classes) (sym c.self.view_is) c.in-Some.ensures in
+          let is = c.index-class.ensures ∙ get_or_default c.self.inside.classes.items c.in-Some.at c.index-class.result.now no_class within in
+          let here : is_among (class_at c.args.self.now c.in-Some.at).members c.args.no ≡ true =
+          ap (λ (b : Block). is_among (class_at b c.in-Some.at).members c.args.no) (sym c.self.view_is)
           ∙ ap (λ k. is_among k.members c.args.no) (sym is) ∙ sym f ∙ on in
-          rw (e, on) (found_apart c.args.self.now c.self.inside.members (c.partition_point-behind.result - 1) c.args.no a c.if-not-self.false here)
+          rw (e, on) (found_apart c.args.self.now c.self.inside.members c.in-Some.at c.args.no a c.if-not-self.false here)
     ]

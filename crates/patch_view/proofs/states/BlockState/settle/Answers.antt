@@ -1,10 +1,11 @@
-use Rattle.std.proofs.Common.{◌≡◌, [], false, not, ap, subst, sym, ◌<◌, ◌≤◌, length, slice_set, arith}
-use Rattle.patch_view.proofs.Taken.{settled_within}
+use Rattle.std.proofs.Common.{◌≡◌, [], false, not, ap, subst, sym, ◌<◌, ◌≤◌, length, slice_set, arith, refl}
+use Rattle.patch_view.proofs.Standing.{settled_within}
 use Rattle.patch_view.proofs.Apart.{settled_apart, less_apart}
 use Rattle.patch_view.proofs.Covering.{settled_rests}
-use Rattle.patch_view.specs.State.{Block, follows}
+use Rattle.patch_view.specs.State.{Class, Block, follows}
 use Rattle.patch_view.specs.Changes.{Settles}
 use Rattle.patch_view.proofs.Settling.{settled}
+use Rattle.patch_view.proofs.Baring.{no_image}
 use Rattle.patch_view.proofs.states.BlockState.settle.Goals as goal
 
 pub returns-clause-settled : goal.returns-clause-settled
@@ -26,7 +27,7 @@ invariant_of-self g c =
     let within : c.args.high < length c.self.inside.classes.items = subst (λ z. c.args.high < length z.classes) (sym c.self.view_is) c.requires.within in
     let fits : length c.remove-upper.new.self.items ≤ c.remove-upper.new.self.len = omega (arith, c.remove-upper.new.self.ok.0) in (
       c.self.invariant.0,
-      rw (e, l, k) (settled_within c.self.inside.classes.items c.remove-upper.new.self.items c.args.low c.args.high c.become_both-is_of_both.new.self c.self.inside.taken
+      rw (e, l, k) (settled_within (λ (k : Class). k.taken) refl c.self.inside.classes.items c.remove-upper.new.self.items c.args.low c.args.high c.become_both-is_of_both.new.self c.self.inside.taken
           c.remove-upper.new.self.len c.remove-upper.ensures.items within fits c.self.invariant.1),
       rw u (less_apart c.unless_other-known.result (not c.args.is_free) _ (rw v (settled_apart c.self.inside.classes.items c.remove-upper.new.self.items c.args.low c.args.high
           c.index_mut-lower.result.now c.remove-upper.result c.become_both-is_of_both.new.self c.self.inside.members c.become_both-is_of_both.result c.requires.less within
@@ -36,4 +37,7 @@ invariant_of-self g c =
           c.remove-upper.ensures.value c.remove-upper.ensures.items c.index_mut-lower.ensures.value c.become_both-is_of_both.ensures.of_both
           (λ t m from to. subst (λ cs. follows (record { bytes = []; classes = cs }) c.args.high m ≡ false) (sym (ap (λ b. b.classes) c.self.view_is)) (c.requires.free t m from to))
           c.self.invariant.3),
+      rw (c.spread_over-self-inside-2.ensures, c.len-2.ensures, c.is_flying-is_flying.ensures) (settled_within (λ (k : Class). k.flying) refl c.self.inside.classes.items c.remove-upper.new.self.items c.args.low c.args.high c.become_both-is_of_both.new.self c.self.inside.flying
+          c.remove-upper.new.self.len c.remove-upper.ensures.items within fits c.self.invariant.4),
+      (λ m is on. no_image c.forget.new.image m c.forget.ensures is on),
     )

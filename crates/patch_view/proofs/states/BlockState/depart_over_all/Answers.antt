@@ -1,14 +1,15 @@
-use Rattle.std.proofs.Common.{◌≡◌, ◌<◌, ◌≤◌, ◌++◌, ◌∙◌, map, take, drop, set, length, ap, sym, subst, arith}
+use Rattle.std.proofs.Common.{◌≡◌, ◌<◌, ◌≤◌, ◌++◌, ◌∙◌, map, take, drop, set, length, ap, sym, subst, arith, refl}
 use Rattle.std.proofs.lemmas.Grind.{common_steps}
-use Rattle.std.proofs.lemmas.List.{with_items_is}
+use Rattle.std.proofs.lemmas.List.{with_items_is, length-take}
 use Rattle.std.proofs.lemmas.List.Edits.{map_over_more}
-use Rattle.patch_view.specs.State.{Block, departed_among, with_departed, TakenWithin, KnownApart}
-use Rattle.patch_view.proofs.Taken.{departed_within}
+use Rattle.patch_view.specs.State.{Class, Block, departed_among, with_departed, TakenWithin, KnownApart}
+use Rattle.patch_view.proofs.Standing.{departed_within, all_within}
 use Rattle.patch_view.proofs.Apart.{departed_apart}
 use Rattle.patch_view.proofs.Together.{more_departed, has_departed}
 use Rattle.patch_view.proofs.Covering.{departed_rests}
 use Rattle.patch_view.specs.Rests.{KnownRests}
-use Rattle.patch_view.proofs.states.BlockState.depart_each_exactly.Goals as goal
+use Rattle.patch_view.proofs.Baring.{no_image}
+use Rattle.patch_view.proofs.states.BlockState.depart_over_all.Goals as goal
 
 pub loop-class-preserved : goal.loop-class-preserved
 loop-class-preserved g c =
@@ -46,6 +47,8 @@ invariant_of-self g c =
     let d = c.loop-class.invariant.1 in
     let first = c.deref_mut-class-items.ensures.value in
     let same = with_items_is c.self.inside.classes c.loop-class.class-items (d.long ∙ c.deref_mut-class-items.ensures.len) in
+    let long = length-take c.self.inside.classes.len (c.loop-class.class-items ++ drop (length c.loop-class.class-items) c.self.inside.classes.items) in
+    let fits : length (take c.self.inside.classes.len (c.loop-class.class-items ++ drop (length c.loop-class.class-items) c.self.inside.classes.items)) ≤ c.self.inside.classes.len = omega arith in
     let t : TakenWithin c.self.inside.taken c.deref_mut-class-items.result.now =
     subst (TakenWithin c.self.inside.taken) (sym first) c.self.invariant.1 in (
       c.self.invariant.0,
@@ -57,4 +60,6 @@ invariant_of-self g c =
       subst (KnownRests c.self.inside.members c.self.inside.rests) (sym same)
           (departed_rests c.args.numbers.now c.deref_mut-class-items.result.now c.loop-class.class-items c.loop-class.class-index c.self.inside.members c.self.inside.rests d
           (subst (KnownRests c.self.inside.members c.self.inside.rests) (sym first) c.self.invariant.3)),
+      rw (c.spread_over-self-inside.ensures, c.len.ensures) (all_within (λ (k : Class). k.flying) refl _ c.self.inside.flying _ fits),
+      (λ m is on. no_image c.forget.new.image m c.forget.ensures is on),
     )

@@ -2,7 +2,7 @@ use Rattle.std.proofs.Common.{◌≡◌, ◌++◌, map, take, drop}
 use Rattle.std.specs.List.Sorted.{IsNonDecreasing}
 use Rattle.patch_view.specs.State.{departed_among}
 use Rattle.patch_view.proofs.Together.{HaveDeparted}
-use Rattle.patch_view.proofs.states.BlockState.depart_each_exactly.Given as goal
+use Rattle.patch_view.proofs.states.BlockState.depart_over_all.Given as goal
 
 abbrev pub invariant-loop-class : goal.invariant-loop-class
 invariant-loop-class g l = (IsNonDecreasing l.numbers

@@ -1,0 +1,28 @@
+use Rattle.std.proofs.Common.{◌≤◌, ap, ◌∙◌, rules, not, length, filter, arith, refl}
+use Rattle.std.proofs.lemmas.Fn.{filter_same}
+use Rattle.patch_view.specs.State.{Class, Block, with_landed}
+use Rattle.patch_view.proofs.Standing.{filtered_within}
+use Rattle.patch_view.proofs.Landing.{none_flying}
+use Rattle.patch_view.proofs.Apart.{filtered_apart}
+use Rattle.patch_view.proofs.Covering.{filtered_rests}
+use Rattle.patch_view.proofs.Baring.{filtered_image}
+use Rattle.patch_view.proofs.states.BlockState.land_over_all.Goals as goal
+
+pub returns : goal.returns
+returns g c =
+    let kept = filter_same _ (λ (k : Class). not k.flying) _ (λ x b f h. search rules) _ _ c.retain.ensures.filtered in
+    ap (λ ks. let b : Block = record { bytes = c.self.inside.bytes.items; classes = ks } in b) kept ∙ ap with_landed c.self.view_is
+
+pub invariant_of-self : goal.invariant_of-self
+invariant_of-self g c =
+    let kept = filter_same _ (λ (k : Class). not k.flying) _ (λ x b f h. search rules) _ _ c.retain.ensures.filtered in
+    let e = c.spread-self-inside.ensures in
+    let l = c.len.ensures in
+    let long : length (filter (λ (k : Class). not k.flying) c.self.inside.classes.items) ≤ c.retain.new.self.len = omega (arith, ap length kept, c.retain.new.self.ok.0) in (
+      c.self.invariant.0,
+      rw (e, l, kept) (filtered_within (λ (k : Class). k.taken) refl (λ k. not k.flying) c.self.inside.classes.items c.self.inside.taken c.retain.new.self.len long c.self.invariant.1),
+      rw kept (filtered_apart (λ k. not k.flying) c.self.inside.classes.items c.self.inside.members c.self.invariant.2),
+      rw kept (filtered_rests (λ k. not k.flying) c.self.inside.classes.items c.self.inside.members c.self.inside.rests c.self.invariant.3),
+      rw kept (none_flying c.self.inside.classes.items _),
+      rw kept (filtered_image c.self.inside.image c.self.inside.classes.items c.self.inside.bytes.items c.self.invariant.5),
+    )

@@ -1,0 +1,131 @@
+//! What a write sends of a block with many classes, beside the same block of which all are taken one after another.
+use super::{bare, join_by};
+use patch_model::{OutOfMemory, PatchNo};
+use patch_view::BlockState;
+use std::alloc::Global;
+use std::process::Abort;
+use std::test::Fail;
+
+const WAITING: u32 = 40;
+
+// Two blocks on which the same is done. Views of the second forget what is kept of it.
+#[derive(Drop)]
+struct Pair {
+    alloc: Global,
+    kept: BlockState,
+    plain: BlockState,
+}
+
+impl Pair {
+    fn lay(&mut self, rt: &impl Abort, no: u32, start: usize, byte: u8) -> Result<(), OutOfMemory> {
+        assert!(rt; start < 4096);
+        self.kept.lay(PatchNo(no), start, &[byte], &[])?;
+        self.plain.lay(PatchNo(no), start, &[byte], &[])
+    }
+
+    fn send(&mut self, rt: &impl Abort, numbers: &[PatchNo]) -> Result<(), OutOfMemory> {
+        self.kept.depart_each(numbers);
+        self.plain.depart_each(numbers);
+        self.expect_same(rt)
+    }
+
+    fn end(&mut self, rt: &impl Abort) -> Result<(), OutOfMemory> {
+        self.kept.land_each();
+        self.plain.land_each();
+        self.expect_same(rt)
+    }
+
+    fn expect_same(&mut self, rt: &impl Abort) -> Result<(), OutOfMemory> {
+        let mut sent = Vec::from_slice(self.alloc, self.kept.bytes())?;
+        self.kept.take_all_from(sent.as_mut_slice());
+        let mut view = self.plain.view();
+        view.take_all();
+        let is_same = view.bytes() == sent.as_slice();
+        view.restore();
+        assert!(rt; is_same);
+        Ok(())
+    }
+}
+
+fn waiting(rt: &impl Abort, alloc: Global) -> Result<Pair, OutOfMemory> {
+    let mut pair = Pair {
+        alloc,
+        kept: bare(alloc)?,
+        plain: bare(alloc)?,
+    };
+    for no in 0..WAITING {
+        pair.lay(rt, no, no as usize, 7)?;
+    }
+    Ok(pair)
+}
+
+// Rounds of one patch each, on its own byte and on one where a class waits.
+fn send_one_by_one(rt: &impl Abort, alloc: Global) -> Result<(), Fail> {
+    let mut pair = waiting(rt, alloc)?;
+    for turn in 0..8u32 {
+        pair.lay(rt, WAITING + turn, 1000 + turn as usize / 2, 9)?;
+        pair.expect_same(rt)?;
+        pair.send(rt, &[PatchNo(WAITING + turn)])?;
+        pair.end(rt)?;
+    }
+    pair.lay(rt, 50, 5, 9)?;
+    pair.send(rt, &[PatchNo(50)])?;
+    pair.send(rt, &[PatchNo(5)])?;
+    pair.end(rt)?;
+    Ok(())
+}
+
+#[test]
+fn one_is_sent_beside_many(rt: HostRuntime) -> Result<(), Fail> {
+    send_one_by_one(&rt, rt.alloc())
+}
+
+// One on which another rests departs first, and several at once.
+fn send_lower_ones(rt: &impl Abort, alloc: Global) -> Result<(), Fail> {
+    let mut pair = waiting(rt, alloc)?;
+    pair.lay(rt, 50, 1000, 9)?;
+    pair.send(rt, &[PatchNo(50)])?;
+    pair.lay(rt, 51, 7, 9)?;
+    pair.send(rt, &[PatchNo(7)])?;
+    pair.send(rt, &[PatchNo(1), PatchNo(2), PatchNo(51)])?;
+    pair.end(rt)?;
+    pair.send(
+        rt,
+        &[PatchNo(3), PatchNo(4), PatchNo(8), PatchNo(9), PatchNo(10)],
+    )?;
+    pair.end(rt)?;
+    Ok(())
+}
+
+#[test]
+fn lower_ones_are_sent(rt: HostRuntime) -> Result<(), Fail> {
+    send_lower_ones(&rt, rt.alloc())
+}
+
+// Between the writes classes are made hard, taken off, merged and landed alone.
+fn send_after_changes(rt: &impl Abort, alloc: Global) -> Result<(), Fail> {
+    let mut pair = waiting(rt, alloc)?;
+    pair.send(rt, &[PatchNo(0)])?;
+    pair.lay(rt, 50, 6, 9)?;
+    pair.kept.harden();
+    pair.plain.harden();
+    pair.expect_same(rt)?;
+    pair.lay(rt, 51, 8, 9)?;
+    pair.kept.unlay();
+    pair.plain.unlay();
+    pair.send(rt, &[PatchNo(12)])?;
+    join_by(&mut pair.kept, 20, 21)?;
+    join_by(&mut pair.plain, 20, 21)?;
+    pair.expect_same(rt)?;
+    pair.send(rt, &[PatchNo(30)])?;
+    pair.kept.land(PatchNo(31));
+    pair.plain.land(PatchNo(31));
+    pair.expect_same(rt)?;
+    pair.end(rt)?;
+    Ok(())
+}
+
+#[test]
+fn what_is_kept_follows_changes(rt: HostRuntime) -> Result<(), Fail> {
+    send_after_changes(&rt, rt.alloc())
+}
