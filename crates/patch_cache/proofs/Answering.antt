@@ -134,16 +134,3 @@ pub runs_same : {A : Type 0} (run : Execution) (cache now : Contents) (flights f
     → Runs now flights_now run
 runs_same run cache now flights flights_now same held runs =
     record { cache_is = subst (λ (c : Contents). Represents c run) (sym same) runs.cache_is; flights_are = subst (AreFlightsOf run) (sym held) runs.flights_are }
-
--- a cache whose graph was only read
-pub with_graph : (c : Contents) (taken : ℕ → List ℕ) (run : Execution) (graph : Graph) → graph ≡ c.graph → Shows c taken run → Shows (record c { graph = graph }) taken run
-with_graph c taken run graph same s = record {
-  legal = s.legal;
-  count = s.count;
-  blocks = s.blocks;
-  writes = s.writes;
-  graph = subst (λ g. IsGraphOf g (entries_of run)) (sym same) s.graph;
-  sends = s.sends;
-  live = s.live;
-  waiting = s.waiting;
-}

@@ -11,7 +11,7 @@ use crate::caches::Cache;
 use crate::refusals::CreateRefusal;
 use patch_graph::Graph;
 use patch_model::{
-    BLOCK, BlockNo, Bytes, MAX_LIVE, MAX_PATCHES, Numbers, OutOfMemory, PatchNo, Step, Undo,
+    BLOCK, BlockNo, Bytes, Items, MAX_LIVE, MAX_PATCHES, Numbers, OutOfMemory, PatchNo, Step, Undo,
     laws as model_laws,
 };
 use patch_view::{BlockState, laws as view_laws};
@@ -38,6 +38,33 @@ impl<A: Allocator + Copy> Cache<A> {
         ensures refused { OnErr result (self.new ≡ self.old) }
     {
         match self.why_not_made(block, start, bytes, after) {
+            Some(refusal) => Err(refusal),
+            None => {
+                let bytes = copied(self.alloc, bytes)?;
+                let after = copied(self.alloc, after)?;
+                Ok(self.make(block, start, bytes, after, undo)?)
+            }
+        }
+    }
+
+    /// Makes a patch as [`create`](Cache::create) does, of bytes and names that the caller gives up: the trace keeps them, and
+    /// nothing is copied for it.
+    pub fn create_owned(
+        &mut self,
+        block: BlockNo,
+        start: usize,
+        bytes: Bytes<A>,
+        after: Numbers<A>,
+        undo: Undo,
+    ) -> Result<PatchNo, CreateRefusal>
+        ensures made { (run : Execution) → Represents self.old run → IfOk result (λ no.
+            IsMade run block start bytes after undo no self.new) }
+        ensures cause { (run : Execution) → Represents self.old run → IfErr result (λ refusal.
+            IsCause (why_not_created run block start bytes after) (create_cause refusal)) }
+        ensures trace { OnOk result (self.new.trace ≡ self.old.trace ++ Create block start bytes after undo ∷ []) }
+        ensures refused { OnErr result (self.new ≡ self.old) }
+    {
+        match self.why_not_made(block, start, bytes.as_slice(), after.as_slice()) {
             Some(refusal) => Err(refusal),
             None => Ok(self.make(block, start, bytes, after, undo)?),
         }
@@ -82,19 +109,19 @@ impl<A: Allocator + Copy> Cache<A> {
         &mut self,
         block: BlockNo,
         start: usize,
-        bytes: &[u8],
-        after: &[PatchNo],
+        bytes: Bytes<A>,
+        after: Numbers<A>,
         undo: Undo,
     ) -> Result<PatchNo, OutOfMemory>
         requires known { block < length self.old.blocks }
-        requires some { 0 < length bytes.now }
-        requires fits { start + length bytes.now ≤ BLOCK }
+        requires some { 0 < length bytes }
+        requires fits { start + length bytes ≤ BLOCK }
         requires numbers_left { self.old.graph.made < MAX_PATCHES }
         requires live_left { self.old.live < MAX_LIVE }
         ensures made { (run : Execution) → Represents self.old run
-            → MayBeMade run block start bytes.now after.now
-            → IfOk result (λ no. IsMade run block start bytes.now after.now undo no self.new) }
-        ensures trace { OnOk result (self.new.trace ≡ self.old.trace ++ Create block start bytes.now after.now undo ∷ []) }
+            → MayBeMade run block start bytes after
+            → IfOk result (λ no. IsMade run block start bytes after undo no self.new) }
+        ensures trace { OnOk result (self.new.trace ≡ self.old.trace ++ Create block start bytes after undo ∷ []) }
         ensures refused { OnErr result (self.new ≡ self.old) }
     {
         model_laws::legal_patches_are_made();
@@ -102,20 +129,27 @@ impl<A: Allocator + Copy> Cache<A> {
         model_laws::steps_change_blocks();
         model_laws::live_are_counted();
         model_laws::flights_are_ready();
-        let step = Step::Create {
-            block,
-            start,
-            bytes: Bytes::from_vec(Vec::from_slice(self.alloc, bytes)?),
-            after: Numbers::from_vec(Vec::from_slice(self.alloc, after)?),
-            undo,
-        };
         self.trace.reserve(self.under_way + 1)?;
         let at = block.0 as usize;
         let state = &mut self.blocks[at];
-        let no = lay_on(state, &mut self.graph, block, start, bytes, after, undo)?;
+        let no = lay_on(
+            state,
+            &mut self.graph,
+            block,
+            start,
+            bytes.as_slice(),
+            after.as_slice(),
+            undo,
+        )?;
         self.waiting.insert(at);
         self.live += 1;
-        self.trace.push_reserved(step);
+        self.trace.push_reserved(Step::Create {
+            block,
+            start,
+            bytes,
+            after,
+            undo,
+        });
         Ok(no)
     }
 }
@@ -166,4 +200,11 @@ fn names_unmade(made: u32, numbers: &[PatchNo]) -> bool
     ensures { result ≡ list_any (λ n. nat_le made n) numbers.now }
 {
     numbers.iter().any(|no| no.0 >= made)
+}
+
+/// The same items again.
+fn copied<T: Copy, A: Allocator>(alloc: A, items: &[T]) -> Result<Items<T, A>, OutOfMemory>
+    ensures { IfOk result (λ copy. copy ≡ items.now) }
+{
+    Ok(Items::from_vec(Vec::from_slice(alloc, items)?))
 }

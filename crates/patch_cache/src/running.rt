@@ -177,6 +177,7 @@ impl<A: Allocator + Copy> Cache<A> {
         model_laws::pairs_merge();
         model_laws::flights_are_ready();
         model_laws::images_stay();
+        model_laws::paths_form_no_ring();
         let numbers = self.graph.ready(self.alloc, block)?;
         let answered_numbers = Vec::from_slice(self.alloc, numbers.as_slice())?;
         let mut answered_image = Vec::with_capacity(self.alloc, BLOCK)?;

@@ -35,6 +35,7 @@ impl<A: Allocator + Copy> Cache<A> {
         match self.why_not_sent(block) {
             Some(refusal) => Err(refusal),
             None => {
+                model_laws::paths_form_no_ring();
                 let numbers = self.graph.ready(self.alloc, block)?;
                 Ok(self.begin(block, numbers)?)
             }
@@ -49,6 +50,7 @@ impl<A: Allocator + Copy> Cache<A> {
         ensures same { self.new ≡ self.old }
     {
         model_laws::ready_is_largest();
+        model_laws::paths_form_no_ring();
         let at = block.0 as usize;
         if at >= self.blocks.len() {
             return Some(SendRefusal::NoSuchBlock);
@@ -56,7 +58,7 @@ impl<A: Allocator + Copy> Cache<A> {
         if self.writes[at].is_some() {
             return Some(SendRefusal::AlreadyInFlight);
         }
-        // The graph would find nothing either, by a search.
+        // The graph would find nothing either.
         if self.blocks[at].is_clear() {
             return Some(SendRefusal::NothingReady);
         }
@@ -90,6 +92,7 @@ impl<A: Allocator + Copy> Cache<A> {
         model_laws::pairs_merge();
         model_laws::ready_is_largest();
         model_laws::sends_leave();
+        model_laws::paths_form_no_ring();
         view_laws::blocks_are_coherent();
         view_laws::image_is_without();
         let noted = Numbers::from_vec(Vec::from_slice(self.alloc, numbers.as_slice())?);

@@ -7,7 +7,7 @@ use Rattle.std.specs.List.Sorted.{IsNonDecreasingBy, IsPermutation}
 use Rattle.std.proofs.lemmas.Bool.{cases_Bool, cases_order, eqb-true, eqb-false}
 use Rattle.std.proofs.lemmas.List.Sorted.{Contains-permutation, IsPermutation-sym}
 use Rattle.patch_model.specs.Member.{In, In-from_Contains, Contains-from_In}
-use Rattle.patch_graph.specs.Ready.{AreRising, IsArranged}
+use Rattle.patch_links.specs.Ready.{AreRising, IsArranged}
 
 abbrev pub IsBelowAll : ℕ → List ℕ → Type 0
 IsBelowAll n ns = (m : ℕ) → In ns m → n < m

@@ -1,7 +1,7 @@
 -- A graph of no patches.
 use Rattle.std.proofs.Common.{[], refl, arith}
 use Rattle.patch_graph.specs.Meaning.{Represents}
-use Rattle.patch_graph.specs.BlockKeys.{AreListed}
+use Rattle.patch_graph.specs.State.{KeysFit}
 
 pub begins : Represents (record { made = 0; slots = []; numbers = []; tops = [] }) []
 begins = record {
@@ -24,5 +24,5 @@ begins = record {
   tops = λ block x f i w. absurd i;
 }
 
-pub lists-nothing : AreListed [] []
-lists-nothing = record { complete = λ key c at. absurd (cc); sound = λ block key i. absurd i }
+pub fits-nothing : KeysFit [] 0
+fits-nothing key c at = absurd (cc)

@@ -1,27 +1,41 @@
 -- The graph with one more class.
-use Rattle.std.proofs.Common.{◌≡◌, ℕ, ◌∙◌, inl, inr, Bool, List, ◌++◌, map, sym, ap, subst}
+use Rattle.std.proofs.Common.{◌≡◌, ℕ, ◌∙◌, ◌<◌, ◌≤◌, arith, inl, inr, Bool, List, ◌++◌, map, sym, ap, subst}
+use Rattle.std.specs.Prelude.{nat_lt}
+use Rattle.std.specs.List.{filter}
+use Rattle.std.proofs.lemmas.Bool.{cases_eq, lt-ltb, ltb-true}
 use Rattle.patch_model.specs.declared.patches.Undo.{Undo}
-use Rattle.patch_graph.specs.State.{Class, Graph}
-use Rattle.patch_model.specs.Member.{In, In-map, map-In}
+use Rattle.patch_links.specs.State.{Class, Links}
+use Rattle.patch_links.specs.Adding.{IsAdded as IsLinked}
+use Rattle.patch_graph.specs.State.{Graph, KeysFit}
+use Rattle.patch_model.specs.Member.{In, In-map, map-In, In-filter, filter-In}
 use Rattle.patch_skyline.specs.declared.skylines.Span.{Span}
 use Rattle.patch_graph.specs.Skyline.{spans_of}
 use Rattle.patch_skyline.specs.Skyline.{AreTops, IsTopWithin}
 use Rattle.patch_graph.proofs.ReadySet.{In-left, In-right, In-parts}
 use Rattle.patch_graph.specs.Adding.{AreDependencies, is_hard, new_class, IsAdded, IsDrawnUp, HasAdded}
 
--- the numbers that are named, and then those of the spans
-pub depends-on : (ss those : List Span) (start stop : ℕ) (after all : List ℕ) → AreTops ss start stop those → all ≡ after ++ map (λ s. s.no) those → AreDependencies ss start stop after all
-depends-on ss those start stop after all tops is = record {
-  named = λ n i. subst (λ l. In l n) (sym is) (In-left after (map (λ s. s.no) those) n i);
-  last = λ n w. let s = tops.each n w in
-      subst (λ l. In l n) (sym is) (In-right after (map (λ s. s.no) those) n (subst (λ m. In (map (λ s. s.no) those) m) s.2 (In-map (λ s. s.no) those s.0 s.1)));
-  only = λ n i. elim (In-parts after (map (λ s. s.no) those) n (subst (λ l. In l n) is i)) [
-    | inl j ↦ inl j
-    | inr j ↦ let s = map-In (λ s. s.no) those n j in inr (subst (λ m. IsTopWithin ss start stop m) s.2 (tops.only s.0 s.1))
-  ];
-}
+-- the numbers that are named, and then those of the spans, where they are below that of the patch
+pub depends-on : (made : ℕ) (ss those : List Span) (start stop : ℕ) (after all : List ℕ) → AreTops ss start stop those
+    → all ≡ filter (λ n. nat_lt n made) after ++ filter (λ n. nat_lt n made) (map (λ s. s.no) those) → AreDependencies made ss start stop after all
+depends-on made ss those start stop after all tops is =
+    let low : ℕ → Bool = λ n. nat_lt n made in
+    let tails = map (λ s. s.no) those in
+    record {
+      are_made = λ n i. elim (In-parts (filter low after) (filter low tails) n (subst (λ l. In l n) is i)) [
+        | inl j ↦ ltb-true n made (filter-In low after n j).1
+        | inr j ↦ ltb-true n made (filter-In low tails n j).1
+      ];
+      named = λ n i h. subst (λ l. In l n) (sym is) (In-left (filter low after) (filter low tails) n (In-filter low after n i (lt-ltb n made h)));
+      last = λ n w h. let s = tops.each n w in
+          subst (λ l. In l n) (sym is) (In-right (filter low after) (filter low tails) n
+          (In-filter low tails n (subst (λ m. In tails m) s.2 (In-map (λ s. s.no) those s.0 s.1)) (lt-ltb n made h)));
+      only = λ n i. elim (In-parts (filter low after) (filter low tails) n (subst (λ l. In l n) is i)) [
+        | inl j ↦ inl (filter-In low after n j).0
+        | inr j ↦ let s = map-In (λ s. s.no) those n (filter-In low tails n j).0 in inr (subst (λ m. IsTopWithin ss start stop m) s.2 (tops.only s.0 s.1))
+      ];
+    }
 
-pub drawn-up : (g : Graph) (block start stop : ℕ) (after deps : List ℕ) (undo : Undo) (hard : Bool) (c : Class) → AreDependencies (spans_of g.tops block) start stop after deps
+pub drawn-up : (g : Graph) (block start stop : ℕ) (after deps : List ℕ) (undo : Undo) (hard : Bool) (c : Class) → AreDependencies g.made (spans_of g.tops block) start stop after deps
     → hard ≡ is_hard g.slots g.numbers block undo deps → c ≡ new_class g.made block start stop deps hard → IsDrawnUp g block start stop undo after c
 drawn-up g block start stop after deps undo hard c are hard_is is = record { deps = deps; are = are; is = is ∙ ap (new_class g.made block start stop deps) hard_is }
 
@@ -31,3 +45,10 @@ has-added old new block start stop after undo hard key c d hard_is added =
     let same : hard ≡ is_hard old.slots old.numbers block undo d.deps = hard_is ∙ ap (λ z. z.hard) d.is in
     let is : c ≡ new_class old.made block start stop d.deps hard = d.is ∙ ap (new_class old.made block start stop d.deps) (sym same) in
     record { key = key; deps = d.deps; are = d.are; hard_is = same; added = subst (IsAdded old new key) is added }
+
+-- the key of the new class is below the number too
+pub added-fit : (old new : Links) (key : ℕ) (c : Class) (room more : ℕ) → IsLinked old new key c → KeysFit old.slots room → room ≤ more → old.next < more → KeysFit new.slots more
+added-fit old new key c room more added fit grows low k d at = elim (cases_eq k key) [
+  | inl e ↦ let next = added.next in omega arith
+  | inr other ↦ let was = fit k d (sym (added.others k other) ∙ at) in omega arith
+]

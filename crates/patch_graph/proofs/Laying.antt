@@ -1,12 +1,16 @@
 -- Spans laid on the skylines of blocks.
-use Rattle.std.proofs.Common.{◌≡◌, ℕ, Bool, true, false, List, [], ◌∷◌, refl, sym, ap, subst, Some, None}
-use Rattle.std.specs.Prelude.{◌≢◌, nat_eq}
+use Rattle.std.proofs.Common.{◌≡◌, ◌∙◌, ℕ, false, List, [], ◌∷◌, refl, sym, ap, subst, rules, Option, Some, None}
+use Rattle.std.specs.Prelude.{IsSome, ◌≢◌, nat_eq}
 use Rattle.std.specs.Option.{option_map_or}
 use Rattle.std.specs.Map.{lookup}
 use Rattle.std.proofs.lemmas.Bool.{ne_eqb}
 use Rattle.patch_skyline.specs.declared.skylines.Span.{Span}
-use Rattle.patch_graph.specs.Skyline.{Skylines, spans_of, IsLaidOn, HasLaidOn, IsRespanned}
+use Rattle.patch_graph.specs.Skyline.{Skylines, spans_of, IsLaidOn, IsRespanned}
 use Rattle.patch_skyline.specs.Skyline.{IsLaid}
+
+pub is_some-from : {X : Type 0} → (o : Option X) (x : X) → o ≡ Some x → IsSome o
+is_some-from (Some y) x e = search rules
+is_some-from None x e = absurd (cc)
 
 pub spans-some : (lines : Skylines) (block : ℕ) (ss : List Span) → lookup (nat_eq block) lines ≡ Some ss → spans_of lines block ≡ ss
 spans-some lines block ss at = ap (λ o. option_map_or (λ l. l) o []) at
@@ -31,16 +35,11 @@ laid-on old new block top l m at at2 laid others = record {
 }
 
 -- or it is the first
-pub laid-first : (old new : Skylines) (block : ℕ) (top : Span) → lookup (nat_eq block) old ≡ None → lookup (nat_eq block) new ≡ Some (top ∷ [])
-    → ((q : ℕ) → nat_eq block q ≡ false → lookup (nat_eq q) new ≡ lookup (nat_eq q) old) → IsLaidOn old new block top
-laid-first old new block top none at others = record {
-  here = subst (λ z. IsLaid z (spans_of new block) top) (sym (spans-none old block none)) (subst (λ z. IsLaid [] z top) (sym (spans-some new block (top ∷ []) at)) alone);
-  others = other-spans old new block others;
+pub laid-first : (old new : Skylines) (block : ℕ) (top : Span) (line : List Span) → lookup (nat_eq block) old ≡ None → line ≡ top ∷ [] → IsRespanned old new block line → IsLaidOn old new block top
+laid-first old new block top line none is r = record {
+  here = subst (λ z. IsLaid z (spans_of new block) top) (sym (spans-none old block none)) (subst (λ z. IsLaid [] z top) (sym (r.here ∙ is)) alone);
+  others = r.others;
 }
   where
     alone : IsLaid [] (top ∷ []) top
     alone = record { here = λ x t. rw t refl; beside = λ x t. rw t refl }
-
-pub laid-not : (old new : Skylines) (block : ℕ) (top : Span) (found : Bool) → found ≡ false → HasLaidOn old new block top found → (new ≡ old) × (lookup (nat_eq block) old ≡ None)
-laid-not old new block top true t h = absurd (cc)
-laid-not old new block top false t h = h

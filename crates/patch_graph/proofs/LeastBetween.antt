@@ -8,9 +8,10 @@ use Rattle.patch_model.specs.Entry.{Entry, is_live, is_among}
 use Rattle.patch_model.specs.Dependency.{Path, LiesBetween, shares_byte, one as one_path, onward as onward_path}
 use Rattle.patch_model.specs.Member.{list_any-at, list_any-from}
 use Rattle.patch_model.proofs.Rings.{Path-append}
-use Rattle.patch_graph.specs.State.{Class, Graph, Slots, find, class_at}
+use Rattle.patch_links.specs.State.{Class, Slots, find, class_at}
+use Rattle.patch_graph.specs.State.{Graph, KeysFit}
 use Rattle.patch_graph.specs.Marks.{is_marked, AreClear, HoldsMarked}
-use Rattle.patch_graph.specs.Ready.{Escapes, out, on, IsLargestMet}
+use Rattle.patch_links.specs.Ready.{Escapes, out, on, IsLargestMet}
 use Rattle.patch_graph.specs.Meaning.{Leads, one, onward, DependsOn, IsLiveClass, Represents}
 use Rattle.patch_graph.specs.Search.{IsReachable}
 use Rattle.patch_graph.specs.Between.{lies, lesser, name_if, IsLeastOf, AreWithout, HasNoRing, is_newest, IsLeastBetween}
@@ -27,7 +28,7 @@ pub record IsPartWithout (to : ℕ) (marks : List Bool) (keys : List ℕ) (old r
   pub long : length rest ≡ length old
 
 -- what escapes from the marks without one key leads to that key
-pub escapes-leads : (g : Graph) (all : List Entry) (r : Represents g all) (from to : ℕ) (marks : List Bool) (start : ℕ → Bool) → IsReachable g.slots g.numbers from to marks → length g.slots ≤ length marks
+pub escapes-leads : (g : Graph) (all : List Entry) (r : Represents g all) (from to : ℕ) (marks : List Bool) (start : ℕ → Bool) → IsReachable g.slots g.numbers from to marks → KeysFit g.slots (length marks)
     → ((key : ℕ) → start key ≡ (is_marked marks key && not (key == to))) → (k : ℕ) → start k ≡ true → Escapes g.slots g.numbers start k → Leads g.slots g.numbers k to
 escapes-leads g all r from to marks start s low is k m (out {j = j} c at t u) =
     let m1 = and_parts (is_marked marks k) (not (k == to)) (sym (is k) ∙ m) in
@@ -174,7 +175,7 @@ pub without-held : (to : ℕ) (marks : List Bool) (keys : List ℕ) (rest : List
 without-held to marks keys rest held w key t = held key (and_parts (is_marked marks key) (not (key == to)) (sym (w key) ∙ t)).0
 
 module _ (g : Graph) (all : List Entry) (r : Represents g all) where
-  module _ (x y from to : ℕ) (cx cy : Class) (keys : List ℕ) (marks old rest : List Bool) (low : length g.slots ≤ length marks) (no_ring : HasNoRing all) (held : HoldsMarked marks keys)
+  module _ (x y from to : ℕ) (cx cy : Class) (keys : List ℕ) (marks old rest : List Bool) (low : KeysFit g.slots (length marks)) (no_ring : HasNoRing all) (held : HoldsMarked marks keys)
       (ax : class_at g.slots from ≡ Some cx) (ay : class_at g.slots to ≡ Some cy) (nx : cx.name ≡ x) (ny : cy.name ≡ y)
       (s : IsReachable g.slots g.numbers from to marks) (w : AreWithout to marks old) (l : IsLargestMet g.slots g.numbers (is_marked old) (is_marked rest)) where
     test-lies : (k : ℕ) (c : Class) → class_at g.slots k ≡ Some c → lies marks rest from to k ≡ true → LiesBetween all x y c.name
@@ -238,7 +239,7 @@ module _ (g : Graph) (all : List Entry) (r : Represents g all) where
           let e = k.4 in omega arith,
     )
 
-pub between_is : (g : Graph) (all : List Entry) (a b x y from to : ℕ) (keys : List ℕ) (marks old rest : List Bool) (o : Option ℕ) → Represents g all → HasNoRing all → length g.slots ≤ length marks
+pub between_is : (g : Graph) (all : List Entry) (a b x y from to : ℕ) (keys : List ℕ) (marks old rest : List Bool) (o : Option ℕ) → Represents g all → HasNoRing all → KeysFit g.slots (length marks)
     → IsLiveClass all a x → IsLiveClass all b y → find g.numbers a ≡ Some from → find g.numbers b ≡ Some to → HoldsMarked marks keys
     → IsReachable g.slots g.numbers from to marks → AreWithout to marks old → IsLargestMet g.slots g.numbers (is_marked old) (is_marked rest)
     → IsLeastOf g.slots (lies marks rest from to) keys (length keys) o → IsLeastBetween all x y o
@@ -248,7 +249,7 @@ between_is g all a b x y from to keys marks old rest o r no_ring low la lb fa fb
     least-lies g all r x y from to qa.0 qb.0 keys marks old rest low no_ring held qa.1 qb.1 (qa.2 ∙ la.4) (qb.2 ∙ lb.4) s w l o least
 
 -- where the one class isn't reached from the other, nothing lies between
-pub unreached_is : (g : Graph) (all : List Entry) (a b x y from to : ℕ) (marks : List Bool) → Represents g all → length g.slots ≤ length marks → IsLiveClass all a x → IsLiveClass all b y
+pub unreached_is : (g : Graph) (all : List Entry) (a b x y from to : ℕ) (marks : List Bool) → Represents g all → KeysFit g.slots (length marks) → IsLiveClass all a x → IsLiveClass all b y
     → find g.numbers a ≡ Some from → find g.numbers b ≡ Some to → IsReachable g.slots g.numbers from to marks → is_marked marks to ≡ false → IsLeastBetween all x y None
 unreached_is g all a b x y from to marks r low la lb fa fb s off m between =
     let qa = placed g all r la.0 from la.1 (ap (find g.numbers) la.2 ∙ fa) in

@@ -7,7 +7,8 @@ use Rattle.std.proofs.lemmas.Bool.{cases_eq, and_parts, or_cases, both_ways, eqb
 use Rattle.patch_model.specs.Entry.{Entry, is_live}
 use Rattle.patch_model.specs.Dependency.{Path}
 use Rattle.patch_model.specs.Member.{list_any-at, list_all-at}
-use Rattle.patch_graph.specs.State.{Class, Graph, Slots, Numbers, find, class_at, leads, leads_at}
+use Rattle.patch_links.specs.State.{Class, Slots, Numbers, find, class_at, leads, leads_at}
+use Rattle.patch_graph.specs.State.{Graph}
 use Rattle.patch_graph.specs.Meaning.{Leads, one, onward, IsLiveClass, Represents}
 use Rattle.patch_graph.specs.Between.{are_gone, is_leaf, ends_at, rests_on_leaves, HasNoRing, IsLeastBetween}
 use Rattle.patch_graph.proofs.ReadySet.{placed, class_same}

@@ -3,7 +3,7 @@ use Rattle.std.proofs.Common.{◌≡◌, ℕ, zero, suc, ◌+◌, ◌<◌, ◌�
 use Rattle.std.specs.Prelude.{◌==◌, ◌&&◌, ◌≢◌, nat_le, not, slice_get}
 use Rattle.std.specs.Option.{option_map}
 use Rattle.std.specs.List.{list_any}
-use Rattle.std.proofs.lemmas.Bool.{cases_Bool, and_parts, and_from, both_ways, eqb-true, leb-true, not-true}
+use Rattle.std.proofs.lemmas.Bool.{cases_Bool, and_parts, and_from, both_ways, eqb-true, eq-eqb, leb-true, not-true}
 use Rattle.patch_model.specs.declared.patches.Mark.{Mark}
 use Rattle.patch_model.specs.declared.patches.Mark.TheVariants.{Memory, Flight, Durable}
 use Rattle.patch_model.specs.Entry.{Entry, marks_memory, is_memory, is_durable, is_undoable}
@@ -13,7 +13,8 @@ use Rattle.patch_model.specs.Ready.{IsRising}
 use Rattle.patch_model.specs.Legal.{IsLegalMerge, touch, is_undoable_at, block_of_patch}
 use Rattle.patch_model.specs.Orderly.{IsOrderly}
 use Rattle.patch_model.specs.Member.{In, list_any-at, list_any-from}
-use Rattle.patch_graph.specs.State.{Class, Graph, find, class_at}
+use Rattle.patch_links.specs.State.{Class, find, class_at}
+use Rattle.patch_graph.specs.State.{Graph}
 use Rattle.patch_graph.specs.Meaning.{Represents}
 use Rattle.patch_graph.specs.Merging.{merged, merged_name, HasJoined}
 use Rattle.patch_graph.proofs.Facts.{known}
@@ -150,7 +151,7 @@ module _ (g : Graph) (all : List Entry) (r : Represents g all) where
         let x = undoable a keep l.undoable_a fa in
         let y = undoable b gone l.undoable_b fb in
         let differ : keep ≢ gone = λ e. l.two (sym x.2 ∙ ap (λ z. z.name) (same_class x.0 y.0 (sym x.1 ∙ ap (class_at g.slots) e ∙ y.1)) ∙ y.2) in
-        let is = j x.0 y.0 differ x.1 y.1 in
+        let is = j x.0 y.0 differ x.1 y.1 (and_from _ _ (and_from _ _ (ap marks_memory x.3) (ap marks_memory y.3)) (eq-eqb x.0.block y.0.block (x.5 ∙ l.one_block ∙ sym y.5))) in
         let t = l.near in
         let e = list_any-at (λ e. e.class == class_of all a && list_any (λ f. f.class == class_of all b && nat_le e.patch.start (end f.patch) && nat_le f.patch.start (end e.patch)) all) all t in
         let e2 = and_parts (e.0.class == class_of all a) (list_any (λ f. f.class == class_of all b && nat_le e.0.patch.start (end f.patch) && nat_le f.patch.start (end e.0.patch)) all) e.2 in

@@ -10,19 +10,25 @@ use Rattle.patch_model.specs.Dependency.{depends_directly}
 use Rattle.patch_model.specs.Pile.{covers}
 use Rattle.patch_model.specs.Orderly.{IsOrderly}
 use Rattle.patch_model.specs.Member.{In, list_any-at, list_any-from}
-use Rattle.patch_graph.specs.State.{Class, Graph, Slots, Numbers, find, class_at, leads, leads_at}
+use Rattle.patch_links.specs.State.{Class, Slots, Numbers, find, class_at, leads, leads_at}
+use Rattle.patch_graph.specs.State.{Graph, KeysFit}
 use Rattle.patch_graph.specs.Skyline.{Skylines, spans_of}
 use Rattle.patch_skyline.specs.Skyline.{top_at}
 use Rattle.patch_graph.proofs.Tops.{tops-kept}
 use Rattle.patch_graph.specs.Meaning.{Leads, one, onward, DependsOn, IsClassOf, Represents}
-use Rattle.patch_graph.specs.MarkDurable.{lands, lands_at, AreLanded}
-use Rattle.patch_graph.specs.BlockKeys.{LosesOf}
+use Rattle.patch_links.specs.MarkDurable.{lands, lands_at, AreLanded}
 use Rattle.patch_graph.proofs.Facts.{known}
 use Rattle.patch_graph.proofs.Steps.{patch-landed, In-map, map-In, length-map, numbered-map}
 use Rattle.patch_graph.proofs.ReadySet.{placed, cases_found, some_same, class_same}
-use Rattle.patch_graph.proofs.Forgetting.{HasLanding, lands-here}
 use Rattle.patch_graph.proofs.Searches.{found-lead}
 use Rattle.patch_graph.proofs.Reaching.{target}
+
+-- the set has each key whose class is in flight of the block
+abbrev pub HasLanding : Slots → ℕ → (ℕ → Bool) → Type 0
+HasLanding slots block set = (key : ℕ) → lands_at slots block key ≡ true → set key ≡ true
+
+lands-here : (slots : Slots) (block key : ℕ) (c : Class) → class_at slots key ≡ Some c → lands_at slots block key ≡ lands block c
+lands-here slots block key c at = ap (λ o. option_map_or (lands block) o false) at
 
 class-landed : (block : ℕ) (e : Entry) → (landed block e).class ≡ e.class
 class-landed block e = elim (cases_Bool (is_flight e && e.patch.block == block)) [ inl u ↦ rw u refl | inr u ↦ rw u refl ]
@@ -39,18 +45,15 @@ any-landed block n x [] = refl
 any-landed block n x (e ∷ es) = let c = class-landed block e in let p = patch-landed block e in let rest = any-landed block n x es in cc
 
 -- a class that is left was there
-pub was-there : (old new : Slots) (numbers rest : Numbers) (block : ℕ) (set : ℕ → Bool) → AreLanded old new numbers rest block set → (key : ℕ) (d : Class) → class_at new key ≡ Some d → class_at old key ≡ Some d
+was-there : (old new : Slots) (numbers rest : Numbers) (block : ℕ) (set : ℕ → Bool) → AreLanded old new numbers rest block set → (key : ℕ) (d : Class) → class_at new key ≡ Some d → class_at old key ≡ Some d
 was-there old new numbers rest block set a key d at = elim (cases_Bool (set key && lands_at old block key)) [
   | inl t ↦ let none : class_at new key ≡ None = a.slots key ∙ ap (λ b. if b then None else class_at old key) t in absurd (cc)
   | inr t ↦ sym (a.slots key ∙ ap (λ b. if b then None else class_at old key) t) ∙ at
 ]
 
--- a class that is gone was of the block
-pub gone-of : (old new : Slots) (numbers rest : Numbers) (block : ℕ) (set : ℕ → Bool) → AreLanded old new numbers rest block set → LosesOf block old new
-gone-of old new numbers rest block set a key c at none = elim (cases_Bool (set key && lands_at old block key)) [
-  | inl t ↦ eqb-true c.block block (and_parts _ _ (sym (lands-here old block key c at) ∙ (and_parts _ _ t).1)).1
-  | inr t ↦ let same : class_at new key ≡ class_at old key = a.slots key ∙ ap (λ b. if b then None else class_at old key) t in absurd (cc)
-]
+-- no class comes to another key
+pub landed-fit : (old new : Slots) (numbers rest : Numbers) (block room : ℕ) (set : ℕ → Bool) → AreLanded old new numbers rest block set → KeysFit old room → KeysFit new room
+landed-fit old new numbers rest block room set a fit key d at = fit key d (was-there old new numbers rest block set a key d at)
 
 module _ (made : ℕ) (tops : Skylines) (block : ℕ) (old new : Slots) (numbers rest : Numbers) (all : List Entry) (set : ℕ → Bool)
     (r : Represents (record { made = made; slots = old; numbers = numbers; tops = tops }) all)

@@ -1,9 +1,8 @@
 -- Putting classes in flight.
-use Rattle.std.proofs.Common.{◌≡◌, ℕ, ◌+◌, ◌<◌, ◌⊎◌, ◌∙◌, inl, inr, Bool, true, false, List, [], ◌∷◌, length, map, refl, sym, ap, arith, subst, Option, Some, None}
-use Rattle.std.specs.Prelude.{◌==◌, ◌&&◌, ◌≢◌, slice_set, slice_index_or, if◌then◌else◌}
-use Rattle.std.specs.Option.{option_map, option_map_or}
-use Rattle.std.proofs.lemmas.Bool.{cases_Bool, cases_eq, and_parts, and_from, both_ways}
-use Rattle.std.proofs.lemmas.List.{get_or-set_same, get_or-set_other, length-set}
+use Rattle.std.proofs.Common.{◌≡◌, ℕ, ◌⊎◌, ◌∙◌, inl, inr, Bool, true, false, List, [], ◌∷◌, map, refl, sym, ap, arith, subst, Some, None}
+use Rattle.std.specs.Prelude.{◌==◌, ◌&&◌, if◌then◌else◌}
+use Rattle.std.specs.Option.{option_map}
+use Rattle.std.proofs.lemmas.Bool.{cases_Bool, both_ways}
 use Rattle.std.specs.List.{list_any}
 use Rattle.patch_model.specs.declared.patches.Mark.TheVariants.{Flight}
 use Rattle.patch_model.specs.Entry.{Entry, is_durable, is_among}
@@ -15,101 +14,25 @@ use Rattle.patch_model.specs.Orderly.{IsOrderly}
 use Rattle.patch_model.specs.Member.{In, In-filter, filter-In}
 use Rattle.patch_model.specs.Entries.{has-In, In-has}
 use Rattle.patch_graph.proofs.Steps.{patch-sent, In-map, map-In, length-map, numbered-map}
-use Rattle.patch_graph.specs.State.{Class, Graph, Slots, Numbers, find, class_at, leads, spans}
+use Rattle.patch_links.specs.State.{Class, Slots, Numbers, find, class_at, leads}
+use Rattle.patch_graph.specs.State.{Graph, spans, KeysFit}
 use Rattle.patch_graph.proofs.Facts.{known}
 use Rattle.patch_graph.specs.Skyline.{Skylines, spans_of}
 use Rattle.patch_skyline.specs.Skyline.{top_at}
 use Rattle.patch_graph.proofs.Tops.{tops-kept}
 use Rattle.patch_graph.specs.Meaning.{Leads, one, onward, DependsOn, IsClassOf, Represents}
-use Rattle.patch_graph.specs.Marks.{is_marked}
-use Rattle.patch_graph.specs.Ready.{picks, IsLargestMet}
-use Rattle.patch_graph.specs.Memo.{taken_of}
-use Rattle.patch_graph.specs.MarkFlight.{flown, flown_at, AreFlown}
-use Rattle.patch_graph.proofs.Places.{place-of, at-place}
-use Rattle.patch_graph.proofs.ReadySet.{placed, chosen, chosen_set, chosen-ready, chosen-at, at-chosen, some_same, class_same, is_among-In, In-is_among}
-use Rattle.patch_graph.proofs.Settling.{below-slots}
-
--- so far, of these keys
-pub record ArePartFlown (marks : List Bool) (keys : List ℕ) (old new : Slots) (upto : ℕ) : Type 0 where
-  pub done : (i : ℕ) → i < upto → is_marked marks (slice_index_or keys i 0) ≡ true → class_at new (slice_index_or keys i 0) ≡ option_map flown (class_at old (slice_index_or keys i 0))
-  pub either : (key : ℕ) → (class_at new key ≡ class_at old key) ⊎ ((is_marked marks key ≡ true) × In keys key × (class_at new key ≡ option_map flown (class_at old key)))
-  pub long : length new ≡ length old
+use Rattle.patch_links.specs.Ready.{picks, IsLargestMet}
+use Rattle.patch_links.specs.MarkFlight.{flown, AreFlown}
+use Rattle.patch_graph.proofs.ReadySet.{placed, chosen, chosen_set, chosen-ready, chosen-at, at-chosen, some_same, class_same}
 
 pub cases_class : (slots : Slots) (key : ℕ) → (class_at slots key ≡ None) ⊎ ((c : Class) × (class_at slots key ≡ Some c))
 cases_class slots key = elim (class_at slots key) as (λ o. (o ≡ None) ⊎ ((c : Class) × (o ≡ Some c))) [ None ↦ inl refl | Some c ↦ inr (c, refl) ]
 
-flown-here : (slots : Slots) (key : ℕ) → class_at (flown_at slots key) key ≡ option_map flown (class_at slots key)
-flown-here slots key = elim (cases_class slots key) [
-  | inl none ↦ rw none none
-  | inr c ↦
-      let low = below-slots slots key c.0 c.1 in
-      let e : flown_at slots key ≡ slice_set slots key (Some (flown c.0)) = ap (λ o. option_map_or (λ c. slice_set slots key (Some (flown c))) o slots) c.1 in
-      ap (λ s. class_at s key) e ∙ get_or-set_same slots key (Some (flown c.0)) None low ∙ sym (ap (option_map flown) c.1)
-]
-
-flown-else : (slots : Slots) (key k : ℕ) → k ≢ key → class_at (flown_at slots key) k ≡ class_at slots k
-flown-else slots key k d = elim (cases_class slots key) [
-  | inl none ↦ ap (λ o. class_at (option_map_or (λ c. slice_set slots key (Some (flown c))) o slots) k) none
-  | inr c ↦ ap (λ o. class_at (option_map_or (λ c. slice_set slots key (Some (flown c))) o slots) k) c.1 ∙ get_or-set_other slots key k (Some (flown c.0)) None d
-]
-
-flown-long : (slots : Slots) (key : ℕ) → length (flown_at slots key) ≡ length slots
-flown-long slots key = elim (cases_class slots key) [
-  | inl none ↦ ap (λ o. length (option_map_or (λ c. slice_set slots key (Some (flown c))) o slots)) none
-  | inr c ↦ ap (λ o. length (option_map_or (λ c. slice_set slots key (Some (flown c))) o slots)) c.1 ∙ length-set slots key (Some (flown c.0))
-]
-
-same_map : (o : Option Class) → option_map (λ c. c) o ≡ o
-same_map None = refl
-same_map (Some c) = refl
-
-pub part-none : (marks : List Bool) (keys : List ℕ) (slots : Slots) → ArePartFlown marks keys slots slots 0
-part-none marks keys slots = record { done = λ i h. absurd (omega arith); either = λ key. inl refl; long = refl }
-
-flown-twice : (o : Option Class) → option_map flown (option_map flown o) ≡ option_map flown o
-flown-twice None = refl
-flown-twice (Some c) = refl
-
-pub fly-one : (marks : List Bool) (keys : List ℕ) (old new : Slots) (upto key : ℕ) → upto < length keys → slice_index_or keys upto 0 ≡ key → ArePartFlown marks keys old new upto → is_marked marks key ≡ true
-    → ArePartFlown marks keys old (flown_at new key) (upto + 1)
-fly-one marks keys old new upto key lt here p t =
-    let now : class_at (flown_at new key) key ≡ option_map flown (class_at old key) = flown-here new key ∙ elim (p.either key) [
-      | inl e ↦ ap (option_map flown) e
-      | inr e ↦ ap (option_map flown) e.2 ∙ flown-twice (class_at old key)
-    ] in
-    record {
-      done = λ i h u. elim (cases_eq (slice_index_or keys i 0) key) [
-        | inl e ↦ ap (class_at (flown_at new key)) e ∙ now ∙ sym (ap (λ k. option_map flown (class_at old k)) e)
-        | inr d ↦ flown-else new key (slice_index_or keys i 0) d ∙ p.done i (elim (cases_eq i upto) [ inl s ↦ absurd (d (ap (λ j. slice_index_or keys j 0) s ∙ here)) | inr s ↦ omega arith ]) u
-      ];
-      either = λ k. elim (cases_eq k key) [
-        | inl e ↦ inr (ap (is_marked marks) e ∙ t, subst (In keys) (sym e) (at-place keys upto key lt here), ap (class_at (flown_at new key)) e ∙ now ∙ sym (ap (λ k. option_map flown (class_at old k)) e))
-        | inr d ↦ elim (p.either k) [ inl e ↦ inl (flown-else new key k d ∙ e) | inr e ↦ inr (e.0, e.1, flown-else new key k d ∙ e.2) ]
-      ];
-      long = flown-long new key ∙ p.long;
-    }
-
-pub fly-not : (marks : List Bool) (keys : List ℕ) (old new : Slots) (upto key : ℕ) → slice_index_or keys upto 0 ≡ key → ArePartFlown marks keys old new upto → is_marked marks key ≡ false
-    → ArePartFlown marks keys old new (upto + 1)
-fly-not marks keys old new upto key here p t = record {
-  done = λ i h u. elim (cases_eq i upto) [
-    | inl s ↦ absurd (both_ways _ (ap (is_marked marks) (ap (λ j. slice_index_or keys j 0) s ∙ here) ∙ t) u)
-    | inr s ↦ p.done i (omega arith) u
-  ];
-  either = p.either;
-  long = p.long;
-}
-
-pub fly-all : (marks : List Bool) (keys : List ℕ) (old new : Slots) (upto : ℕ) → length keys ≡ upto → ArePartFlown marks keys old new upto → AreFlown (taken_of keys marks) old new
-fly-all marks keys old new upto all p key = elim (cases_Bool (taken_of keys marks key)) [
-  | inl t ↦
-      let both = and_parts _ _ t in
-      let i = place-of keys key (is_among-In keys key both.1) in
-      let b = i.1 in
-      ap (class_at new) (sym i.2) ∙ p.done i.0 (omega arith) (ap (is_marked marks) i.2 ∙ both.0) ∙ ap (λ k. option_map flown (class_at old k)) i.2
-      ∙ sym (ap (λ b. option_map (λ c. if b then flown c else c) (class_at old key)) t)
-  | inr t ↦ elim (p.either key) [ inl e ↦ e | inr e ↦ absurd (both_ways _ t (and_from _ _ e.0 (In-is_among keys key e.1))) ]
-      ∙ sym (ap (λ b. option_map (λ c. if b then flown c else c) (class_at old key)) t ∙ same_map (class_at old key))
+-- no class comes to another key
+pub flown-fit : (set : ℕ → Bool) (old new : Slots) (room : ℕ) → AreFlown set old new → KeysFit old room → KeysFit new room
+flown-fit set old new room a fit key d at = elim (cases_class old key) [
+  | inl none ↦ let e : class_at new key ≡ None = a key ∙ ap (option_map (λ c. if set key then flown c else c)) none in absurd (cc)
+  | inr c ↦ fit key c.0 c.1
 ]
 
 class-sent : (set : List Entry) (e : Entry) → (sent set e).class ≡ e.class

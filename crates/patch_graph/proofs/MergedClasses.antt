@@ -9,12 +9,13 @@ use Rattle.patch_model.specs.Dependency.{depends_directly}
 use Rattle.patch_model.specs.Pile.{covers, end}
 use Rattle.patch_model.specs.Orderly.{IsOrderly}
 use Rattle.patch_model.specs.Member.{In, list_any-at, list_any-from}
-use Rattle.patch_graph.specs.State.{Class, Graph, Slots, Numbers, find, class_at, leads, leads_at, spans}
+use Rattle.patch_links.specs.State.{Class, Slots, Numbers, find, class_at, leads, leads_at}
+use Rattle.patch_graph.specs.State.{Graph, spans}
 use Rattle.patch_graph.specs.Skyline.{Skylines, spans_of}
 use Rattle.patch_skyline.specs.Skyline.{top_at}
 use Rattle.patch_graph.proofs.Tops.{tops-kept}
 use Rattle.patch_graph.specs.Meaning.{Leads, one, onward, DependsOn, IsClassOf, Represents}
-use Rattle.patch_graph.specs.Merging.{joined_class, IsJoined}
+use Rattle.patch_links.specs.Merging.{joined_class, IsJoined}
 use Rattle.patch_graph.proofs.Facts.{known}
 use Rattle.patch_graph.proofs.Steps.{patch-joined, In-map, map-In, length-map, numbered-map}
 use Rattle.patch_graph.proofs.ReadySet.{placed, cases_found, some_same, class_same, In-left, In-right, In-parts, is_among-In, In-is_among}

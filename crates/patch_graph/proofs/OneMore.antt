@@ -14,7 +14,8 @@ use Rattle.patch_model.specs.Orderly.{IsOrderly, IsNumbered}
 use Rattle.patch_model.specs.Member.{In, In-from_Contains, Contains-from_In, list_all-at, list_all-from, list_any-at, list_any-from}
 use Rattle.patch_model.specs.declared.patches.Undo.{Undo}
 use Rattle.patch_model.specs.declared.patches.Undo.TheVariants.{Keep, MayDrop}
-use Rattle.patch_graph.specs.State.{Class, Graph, find, class_at, leads, leads_at, spans}
+use Rattle.patch_links.specs.State.{Class, find, class_at, leads, leads_at}
+use Rattle.patch_graph.specs.State.{Graph, spans}
 use Rattle.patch_graph.proofs.Facts.{IsOrdered, ordered, known}
 use Rattle.patch_skyline.specs.declared.skylines.Span.{Span}
 use Rattle.patch_graph.specs.Skyline.{spans_of, IsLaidOn}
@@ -180,7 +181,7 @@ module _ (g h : Graph) (all : List Entry) (p : Patch) (key : ℕ) (c : Class) (r
       }
 
   module _ (block start stop : ℕ) (deps : List ℕ) (after : List ℕ) (undo : Undo) (hard : Bool) (is : IsPatch p g.made block start stop after undo)
-      (are : AreDependencies (spans_of g.tops block) start stop after deps) where
+      (are : AreDependencies g.made (spans_of g.tops block) start stop after deps) where
     abbrev added : Class
     added = new_class g.made block start stop deps hard
 
@@ -198,17 +199,6 @@ module _ (g h : Graph) (all : List Entry) (p : Patch) (key : ℕ) (c : Class) (r
         let on_block : p.block ≡ l.e.patch.block = is.block_is ∙ sym (eqb-true l.e.patch.block block t.0) in
         let s1 = is.start_is in let s2 = is.end_is in let w1 = w.1 in let w2 = w.2 in
         (l.e, l.inside, l.number, shares p l.e.patch w.0 on_block (covers-from p w.0 (omega arith) (omega arith)) t.1)
-
-    after-below : (n : ℕ) → In after n → n < g.made
-    after-below n i =
-        let l = o.earlier e n new-in (subst (λ l. is_among l n ≡ true) (sym is.after_is) (In-is_among after n i)) in
-        let m : n < p.no = l in omega arith
-
-    deps-below : (n : ℕ) → In deps n → n < g.made
-    deps-below n i = elim (are.only n i) [
-      | inl j ↦ after-below n j
-      | inr w ↦ let f = last-at n w in let b = below f.0 f.1 in let s = f.2 in omega arith
-    ]
 
     -- what a number of the list says: its class, where that is live, has a patch on which the new one depends directly
     deps-sound : (n j : ℕ) (d : Class) → In deps n → find g.numbers n ≡ Some j → class_at g.slots j ≡ Some d → (f : Entry) × In all f × (f.class ≡ d.name) × (depends_directly p f.patch ≡ true)
@@ -236,7 +226,7 @@ module _ (g h : Graph) (all : List Entry) (p : Patch) (key : ℕ) (c : Class) (r
     -- each live patch on which the new one depends directly has such a number in the list
     deps-above : (f : Entry) → In all f → is_durable f ≡ false → depends_directly p f.patch ≡ true → (n : ℕ) × In deps n × IsAbove f n
     deps-above f i alive t = elim (or_cases (is_among p.after f.patch.no) (nat_lt f.patch.no p.no && shares_byte p f.patch) t) [
-      | inl named ↦ (f.patch.no, are.named f.patch.no (is_among-In after f.patch.no (subst (λ l. is_among l f.patch.no ≡ true) is.after_is named)), record { e = f; inside = i; number = refl; alive = alive; above = inl refl })
+      | inl named ↦ (f.patch.no, are.named f.patch.no (is_among-In after f.patch.no (subst (λ l. is_among l f.patch.no ≡ true) is.after_is named)) (let b = below f i in omega arith), record { e = f; inside = i; number = refl; alive = alive; above = inl refl })
       | inr shared ↦
           let both = and_parts (p.block == f.patch.block) (nat_lt (max p.start f.patch.start) (min (end p) (end f.patch))) (and_parts (nat_lt f.patch.no p.no) (shares_byte p f.patch) shared).1 in
           let common_bytes : max p.start f.patch.start < min (end p) (end f.patch) = ltb-true (max p.start f.patch.start) (min (end p) (end f.patch)) both.1 in
@@ -250,7 +240,7 @@ module _ (g h : Graph) (all : List Entry) (p : Patch) (key : ℕ) (c : Class) (r
           | inr n ↦
               let l = subst (IsTop all block x) n.1 (r.tops block x) in
               let s1 = is.start_is in let s2 = is.end_is in
-              (n.0, are.last n.0 (x, omega arith, omega arith, n.1), higher n.0 l)
+              (n.0, are.last n.0 (x, omega arith, omega arith, n.1) (let b = below l.e l.inside in let no = l.number in omega arith), higher n.0 l)
         ]
           where
             wrote_it : wrote block x f ≡ true
@@ -388,10 +378,10 @@ module _ (g h : Graph) (all : List Entry) (p : Patch) (key : ℕ) (c : Class) (r
         live = λ x i s. let n = only-new x i s in ap is_durable n;
         found = λ x i s. let n = only-new x i s in ap (λ z. find h.numbers z.patch.no) n ∙ ap (find h.numbers) no ∙ a.number;
         span = new-span;
-        named = λ n t. let b = deps-below n (is_among-In deps n t) in let l = longer in let m = r.made in omega arith;
+        named = λ n t. let b = are.are_made n (is_among-In deps n t) in let l = longer in let m = r.made in omega arith;
         sound = λ n j d t there at.
             let i = is_among-In deps n t in
-            let there2 : find g.numbers n ≡ Some j = sym (find-same n (deps-below n i)) ∙ there in
+            let there2 : find g.numbers n ≡ Some j = sym (find-same n (are.are_made n i)) ∙ there in
             let l = r.live n j there2 in
             let q = placed g all r l.0 j l.1 (ap (find g.numbers) l.2 ∙ there2) in
             let f = deps-sound n j d i there2 (class-back j d (other-key j q.0 q.1) at) in

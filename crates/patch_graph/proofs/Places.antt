@@ -1,6 +1,6 @@
 -- Places in lists of numbers.
 use Rattle.std.proofs.Common.{◌≡◌, ℕ, zero, suc, ◌<◌, ◌∙◌, List, [], ◌∷◌, length, refl, arith}
-use Rattle.std.specs.Prelude.{slice_index_or, IfOk, Ok, Err}
+use Rattle.std.specs.Prelude.{slice_index_or, IfOk, OnOk, OnErr, Ok, Err}
 use Rattle.std.proofs.Common.{Result}
 use Rattle.std.specs.List.Sorted.{IsPermutation}
 use Rattle.std.proofs.lemmas.List.Sorted.{Contains-permutation}
@@ -25,3 +25,15 @@ turned-held xs ys n p i = In-from_Contains ys n (Contains-permutation xs ys n p 
 pub ok-more : {X E : Type 0} → (r : Result X E) (P Q : X → Type 0) → IfOk r P → ((x : X) → P x → Q x) → IfOk r Q
 ok-more (Ok x) P Q h f = f x h
 ok-more (Err e) P Q h f = tt
+
+pub err-more : {X E : Type 0} → (r : Result X E) (P Q : Type 0) → OnErr r P → (P → Q) → OnErr r Q
+err-more (Ok x) P Q h f = tt
+err-more (Err e) P Q h f = f h
+
+pub either-way : {X E : Type 0} → (r : Result X E) (P Q R : Type 0) → OnOk r P → OnErr r Q → (P → R) → (Q → R) → R
+either-way (Ok x) P Q R h k f e = f h
+either-way (Err x) P Q R h k f e = e k
+
+pub ok-on : {X E : Type 0} → (r : Result X E) (P Q : Type 0) → OnOk r P → (P → Q) → OnOk r Q
+ok-on (Ok x) P Q h f = f h
+ok-on (Err e) P Q h f = tt

@@ -1,12 +1,13 @@
 -- What a search finds are the paths.
-use Rattle.std.proofs.Common.{◌≡◌, ℕ, ◌<◌, ◌≤◌, ◌⊎◌, ◌∙◌, inl, inr, Bool, true, false, not, List, length, refl, sym, ap, arith, subst, Option, Some, None, IsTrue}
+use Rattle.std.proofs.Common.{◌≡◌, ℕ, ◌<◌, ◌⊎◌, ◌∙◌, inl, inr, Bool, true, false, not, List, length, refl, sym, ap, subst, Option, Some, None, IsTrue}
 use Rattle.std.specs.Prelude.{◌==◌, ◌&&◌, ◌≢◌, ◌↔◌}
 use Rattle.std.specs.List.{list_any}
 use Rattle.std.proofs.lemmas.Bool.{cases_Bool, cases_eq, and_parts, and_from, both_ways, eqb-true, eq-eqb, ne_eqb}
 use Rattle.patch_model.specs.Entry.{Entry, is_durable, marks_durable, is_among}
 use Rattle.patch_model.specs.Dependency.{depends_directly, Path, one as one_path, onward as onward_path, class_depends}
 use Rattle.patch_model.specs.Member.{In, list_any-at, list_any-from}
-use Rattle.patch_graph.specs.State.{Class, Graph, Numbers, find, class_at, leads, leads_at}
+use Rattle.patch_links.specs.State.{Class, Numbers, find, class_at, leads, leads_at}
+use Rattle.patch_graph.specs.State.{Graph, KeysFit}
 use Rattle.patch_graph.specs.Marks.{is_marked}
 use Rattle.patch_graph.proofs.Facts.{known}
 use Rattle.patch_graph.specs.Meaning.{Leads, one, onward, DependsOn, Represents, IsLiveClass, IsNotLive}
@@ -14,7 +15,6 @@ use Rattle.patch_graph.specs.Between.{ReachesOther, LacksAnEnd, LacksAKey}
 use Rattle.patch_graph.specs.Search.{IsReachable}
 use Rattle.patch_graph.proofs.ReadySet.{placed, some_same, class_same, In-is_among}
 use Rattle.patch_graph.proofs.Searches.{found-lead}
-use Rattle.patch_graph.proofs.Settling.{below-slots}
 
 depends-from : (all : List Entry) (a b : ℕ) → a ≢ b → DependsOn all a b → class_depends all a b ≡ true
 depends-from all a b other d = and_from _ _ (ap not (ne_eqb a b other)) (list_any-from (λ e. e.class == a && list_any (λ f. f.class == b && depends_directly e.patch f.patch) all) all d.e d.in_e
@@ -29,7 +29,7 @@ from-depends all a b t =
     let f2 = and_parts (f.0.class == b) (depends_directly e.0.patch f.0.patch) f.2 in
     record { e = e.0; f = f.0; in_e = e.1; in_f = f.1; of_a = eqb-true e.0.class a e2.0; of_b = eqb-true f.0.class b f2.0; depends = f2.1 }
 
-joined-path : (all : List Entry) (a b c : ℕ) → Path all a b → Path all b c → Path all a c
+pub joined-path : (all : List Entry) (a b c : ℕ) → Path all a b → Path all b c → Path all a c
 joined-path all a b c (one_path t) q = onward_path t q
 joined-path all a b c (onward_path {b = d} t p) q = onward_path t (joined-path all d b c p q)
 
@@ -43,7 +43,7 @@ module _ (g : Graph) (all : List Entry) (r : Represents g all) where
       let q = placed g all r l.0 j l.1 (ap (find g.numbers) l.2 ∙ at) in
       (w.0, q.0, In-is_among c.after w.0 w.1, at, q.1)
 
-  step-path : (k j : ℕ) (c d : Class) → class_at g.slots k ≡ Some c → class_at g.slots j ≡ Some d → leads g.numbers c j ≡ true → (c.name ≡ d.name) ⊎ Path all c.name d.name
+  pub step-path : (k j : ℕ) (c d : Class) → class_at g.slots k ≡ Some c → class_at g.slots j ≡ Some d → leads g.numbers c j ≡ true → (c.name ≡ d.name) ⊎ Path all c.name d.name
   step-path k j c d at at2 t =
       let w = target c j t in
       elim ((r.classes k c at).sound w.0 j d w.2 w.3 at2) [
@@ -112,12 +112,11 @@ module _ (g : Graph) (all : List Entry) (r : Represents g all) where
         | inr q ↦ elim last [ inl e2 ↦ inr (subst (λ z. Leads g.slots g.numbers k z) e2 q) | inr q2 ↦ inr (joined-leads k f.0 j q q2) ]
       ]
 
-  module _ (from to : ℕ) (marks : List Bool) (s : IsReachable g.slots g.numbers from to marks) (low : length g.slots ≤ length marks) where
+  module _ (from to : ℕ) (marks : List Bool) (s : IsReachable g.slots g.numbers from to marks) (low : KeysFit g.slots (length marks)) where
     pub marked-step : (k j : ℕ) (c : Class) → is_marked marks k ≡ true → k ≢ to → class_at g.slots k ≡ Some c → leads g.numbers c j ≡ true → is_marked marks j ≡ true
     marked-step k j c t other at led =
         let w = target c j led in
-        let b = below-slots g.slots j w.1 w.4 in
-        s.closed k j c t other at led (omega arith)
+        s.closed k j c t other at led (low j w.1 w.4)
 
     -- the key is marked, or the search came to the key to, which leads to it
     abbrev IsMet : ℕ → Type 0
@@ -140,7 +139,7 @@ module _ (g : Graph) (all : List Entry) (r : Represents g all) where
     ]
 
 -- two classes at two keys, of which the first is where a search began
-pub reaches_is : (g : Graph) (all : List Entry) (a b x y from to : ℕ) (marks : List Bool) → Represents g all → length g.slots ≤ length marks
+pub reaches_is : (g : Graph) (all : List Entry) (a b x y from to : ℕ) (marks : List Bool) → Represents g all → KeysFit g.slots (length marks)
     → IsLiveClass all a x → IsLiveClass all b y → from ≢ to → find g.numbers a ≡ Some from → find g.numbers b ≡ Some to
     → IsReachable g.slots g.numbers from to marks → IsTrue (is_marked marks to) ↔ ReachesOther all x y
 reaches_is g all a b x y from to marks r low la lb apart fa fb s =
@@ -192,7 +191,7 @@ is_found g all n x r l none =
     let hit : find g.numbers n ≡ Some f.0 = subst (λ m. find g.numbers m ≡ Some f.0) l.2 f.2 in
     cc
 
-pub is_low : (g : Graph) (all : List Entry) (n x k : ℕ) → Represents g all → IsLiveClass all n x → find g.numbers n ≡ Some k → k < length g.slots
-is_low g all n x k r l at =
+pub is_low : (g : Graph) (all : List Entry) (n x k room : ℕ) → Represents g all → KeysFit g.slots room → IsLiveClass all n x → find g.numbers n ≡ Some k → k < room
+is_low g all n x k room r fit l at =
     let q = placed g all r l.0 k l.1 (ap (find g.numbers) l.2 ∙ at) in
-    below-slots g.slots k q.0 q.1
+    fit k q.0 q.1

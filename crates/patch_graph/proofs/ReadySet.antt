@@ -11,9 +11,11 @@ use Rattle.patch_model.specs.Dependency.{depends_directly}
 use Rattle.patch_model.specs.Ready.{ready, IsWritable, IsLargestWritable, IsRising, ReadyIsOnly}
 use Rattle.patch_model.specs.Member.{In, In-from_Contains, Contains-from_In, In-filter, filter-In, list_all-at, list_all-from, list_any-at, list_any-from}
 use Rattle.patch_model.specs.Entries.{rising-filter}
-use Rattle.patch_graph.specs.State.{Class, Graph, Slots, Numbers, find, class_at, leads, leads_at}
+use Rattle.patch_links.specs.State.{Class, Slots, Numbers, find, class_at, leads, leads_at}
+use Rattle.patch_graph.specs.State.{Graph}
 use Rattle.patch_graph.specs.Marks.{is_marked}
-use Rattle.patch_graph.specs.Ready.{is_candidate, picks, is_met_at, AreMet, IsWithin, IsLargestMet, gathered, members_at, AreRising, IsArranged}
+use Rattle.patch_links.specs.Ready.{is_candidate, picks, is_met_at, AreMet, IsWithin, IsLargestMet, AreRising, IsArranged}
+use Rattle.patch_graph.specs.Ready.{gathered, members_at}
 use Rattle.patch_graph.proofs.Facts.{known}
 use Rattle.patch_graph.specs.declared.classes.LiveClass.{LiveClass}
 use Rattle.patch_graph.specs.Showing.{shown, IsShown}
@@ -305,23 +307,21 @@ some_in : (es : List Entry) → (es ≡ [] → ⊥) → (e : Entry) × In es e
 some_in [] h = absurd (h refl)
 some_in (e ∷ es) h = (e, inl refl)
 
-pub picked_class : (slots : Slots) (block key : ℕ) → picks slots block key ≡ true → (c : Class) × (class_at slots key ≡ Some c)
+picked_class : (slots : Slots) (block key : ℕ) → picks slots block key ≡ true → (c : Class) × (class_at slots key ≡ Some c)
 picked_class slots block key = elim (class_at slots key) as (λ o. option_map_or (is_candidate block) o false ≡ true → (c : Class) × (o ≡ Some c)) [
   | Some c ↦ λ t. (c, refl)
   | None ↦ λ t. absurd (cc)
 ]
 
--- some class is marked where some patch is ready
-pub any_is_ready : ReadyIsOnly → (g : Graph) (all : List Entry) (block : ℕ) (keys : List ℕ) (marks : List Bool) (taken : ℕ → Bool) → Represents g all → ((key : ℕ) → In keys key → is_marked marks key ≡ taken key)
-    → ((key : ℕ) → taken key ≡ true → In keys key) → IsLargestMet g.slots g.numbers (picks g.slots block) taken
-    → IsTrue (list_any (is_marked marks) keys) ↔ (ready all block ≢ [])
-any_is_ready only g all block keys marks taken r same held l =
+-- where some class is taken, some patch is ready
+pub any_is_ready : ReadyIsOnly → (g : Graph) (all : List Entry) (block : ℕ) (taken : ℕ → Bool) (any : Bool) → Represents g all → IsLargestMet g.slots g.numbers (picks g.slots block) taken
+    → (any ≡ false → (key : ℕ) → taken key ≡ false) → (any ≡ true → (key : ℕ) × (taken key ≡ true)) → IsTrue any ↔ (ready all block ≢ [])
+any_is_ready only g all block taken any r l none some =
     let set = chosen_set g all r block taken l in
     let is = chosen-ready g all r block taken l only in
-    subst (λ s. IsTrue (list_any (is_marked marks) keys) ↔ (s ≢ [])) is (
+    subst (λ s. IsTrue any ↔ (s ≢ [])) is (
       (λ t.
-          let found = list_any-at (is_marked marks) keys t in
-          let k : (key : ℕ) × (taken key ≡ true) = (found.0, sym (same found.0 found.1) ∙ found.2) in
+          let k = some t in
           let c = picked_class g.slots block k.0 (l.inside k.0 k.1) in
           let some = (r.classes k.0 c.0 c.1).some in
           let at = (r.classes k.0 c.0 c.1).found some.0 some.1 some.2 in
@@ -330,8 +330,32 @@ any_is_ready only g all block keys marks taken r same held l =
           let e = some_in set h in
           let f = filter-In (chosen g all r block taken l) all e.0 e.1 in
           let c = at-chosen g all r block taken l e.0 f.1 in
-          let i = held c.0 c.2 in list_any-from (is_marked marks) keys c.0 i (same c.0 i ∙ c.2)),
+          elim (cases_Bool any) [ inl t ↦ t | inr off ↦ absurd (both_ways _ (none off c.0) c.2) ]),
     )
+
+found-in : (numbers : Numbers) (set : ℕ → Bool) (n : ℕ) → option_map_or set (find numbers n) false ≡ true → (key : ℕ) × (find numbers n ≡ Some key)
+found-in numbers set n t = elim (find numbers n) as (λ o. option_map_or set o false ≡ true → (key : ℕ) × (o ≡ Some key)) [
+  | Some k ↦ λ h. (k, refl)
+  | None ↦ λ h. absurd (cc)
+] t
+
+-- the numbers that lead to what is taken are those of the patches that are ready
+pub taken_numbers : ReadyIsOnly → (g : Graph) (all : List Entry) (block : ℕ) (taken : ℕ → Bool) (ns : List ℕ) → Represents g all → IsLargestMet g.slots g.numbers (picks g.slots block) taken
+    → AreRising ns → ((n : ℕ) → is_among ns n ≡ option_map_or taken (find g.numbers n) false) → ns ≡ map (λ e. e.patch.no) (ready all block)
+taken_numbers only g all block taken ns r l rising just =
+    let set = chosen_set g all r block taken l in
+    let is = chosen-ready g all r block taken l only in
+    subst (λ s. ns ≡ map (λ e. e.patch.no) s) is (numbers_same ns (map (λ e. e.patch.no) set) rising
+    (rising-map set (rising-filter (chosen g all r block taken l) all (known g all r).rising))
+    (λ n i.
+    let t : option_map_or taken (find g.numbers n) false ≡ true = sym (just n) ∙ In-is_among ns n i in
+    let k = found-in g.numbers taken n t in
+    let e = r.live n k.0 k.1 in
+    subst (λ j. In (map (λ e. e.patch.no) set) j) e.2 (In-map set e.0 (In-filter (chosen g all r block taken l) all e.0 e.1 (ap (λ m. option_map_or taken (find g.numbers m) false) e.2 ∙ t))))
+    (λ n i.
+    let e = map-In set n i in
+    let f = filter-In (chosen g all r block taken l) all e.0 e.1 in
+    is_among-In ns n (just n ∙ ap (λ m. option_map_or taken (find g.numbers m) false) (sym e.2) ∙ f.1)))
 
 -- a number that isn't live
 pub not_live : (g : Graph) (all : List Entry) (n : ℕ) → Represents g all → find g.numbers n ≡ None → IsNotLive all n

@@ -6,7 +6,7 @@ use Rattle.std.proofs.lemmas.Bool.{cases_Bool, cases_eq, both_ways, eqb-true, eq
 use Rattle.std.proofs.lemmas.List.{get_or-set_same, get_or-set_other, length-set, length-take}
 use Rattle.std.proofs.lemmas.List.Sums.{sum_by-set, sum_by-cons, count_by-le-length}
 use Rattle.patch_model.specs.Member.{In, list_any-at, list_any-from, Contains-from_In}
-use Rattle.patch_graph.specs.State.{Class, Slots, Numbers, find, class_at, leads, leads_at}
+use Rattle.patch_links.specs.State.{Class, Slots, Numbers, find, class_at, leads, leads_at}
 use Rattle.patch_graph.specs.Marks.{is_marked, HoldsMarked, marked_count}
 use Rattle.patch_graph.specs.Meaning.{Leads, one, onward}
 use Rattle.patch_graph.specs.Search.{queued_at, Reaches, IsSearch, IsReachable, Visited, IsLook}

@@ -7,11 +7,12 @@ use Rattle.std.proofs.lemmas.Bool.{false_from_ne_true, eqb-true, cases_Bool, cas
 use Rattle.std.proofs.lemmas.List.{get_or-set_same, get_or-set_other, length-set}
 use Rattle.std.proofs.lemmas.List.Sums.{sum_by-set}
 use Rattle.patch_model.specs.Member.{In, list_all-at, list_all-from, list_any-from}
-use Rattle.patch_graph.specs.State.{Class, Slots, Numbers, find, class_at, leads, leads_at}
+use Rattle.patch_links.specs.State.{Class, Slots, Numbers, find, class_at, leads, leads_at}
 use Rattle.patch_graph.specs.Marks.{is_marked, AreClear, HoldsMarked, marked_count}
-use Rattle.patch_graph.specs.Ready.{is_candidate, is_met, is_met_at, is_unmet, picks, AreMet, IsWithin, KeepsMet, KeepsStruck, IsStruck, Escapes, out, on, IsLargestMet, IsRound}
-use Rattle.patch_graph.specs.BlockKeys.{HoldsKeys}
-use Rattle.patch_graph.proofs.Places.{place-of}
+use Rattle.patch_links.specs.Ready.{is_candidate, is_met, is_met_at, picks, AreMet, IsWithin, IsStruck, Escapes, out, on, IsLargestMet}
+use Rattle.patch_graph.specs.State.{KeysFit}
+use Rattle.patch_graph.specs.Ready.{is_unmet, AreFirstKeys, HoldsKeys, KeepsMet, KeepsStruck, IsRound}
+use Rattle.patch_graph.proofs.Places.{place-of, at-place}
 
 -- so far, the marks are taken off
 pub record IsPartCleared (keys : List ℕ) (old new : List Bool) (upto : ℕ) : Type 0 where
@@ -40,14 +41,6 @@ pub past-marks : (marks : List Bool) (key : ℕ) → length marks ≤ key → is
 past-marks [] key h = refl
 past-marks (m ∷ ms) zero h = absurd (omega arith)
 past-marks (m ∷ ms) (suc key) h = past-marks ms key (omega arith)
-
-pub past-slots : (slots : Slots) (key : ℕ) → length slots ≤ key → class_at slots key ≡ None
-past-slots [] key h = refl
-past-slots (s ∷ ss) zero h = absurd (omega arith)
-past-slots (s ∷ ss) (suc key) h = past-slots ss key (omega arith)
-
-pub below-slots : (slots : Slots) (key : ℕ) (c : Class) → class_at slots key ≡ Some c → key < length slots
-below-slots slots key c at = elim (cases_lt key (length slots)) [ inl h ↦ h | inr h ↦ let none = past-slots slots key h in absurd (cc) ]
 
 pub marked_below : (marks : List Bool) (key : ℕ) → is_marked marks key ≡ true → key < length marks
 marked_below marks key t = elim (cases_lt key (length marks)) [ inl h ↦ h | inr h ↦ absurd (both_ways _ (past-marks marks key h) t) ]
@@ -243,11 +236,11 @@ class-picked slots block key = elim (class_at slots key) as (λ o. option_map_or
 pub picked-none : (slots : Slots) (block : ℕ) (keys : List ℕ) (marks : List Bool) → AreClear marks → IsPartPicked slots block keys marks marks 0
 picked-none slots block keys marks clear = record { sound = λ key t. absurd (both_ways _ (clear key) t); complete = λ i h. absurd (omega arith); long = refl }
 
-pub picked-one : (slots : Slots) (block : ℕ) (keys : List ℕ) (old new : List Bool) (upto key : ℕ) → length slots ≤ length old → slice_index_or keys upto 0 ≡ key
+pub picked-one : (slots : Slots) (block : ℕ) (keys : List ℕ) (old new : List Bool) (upto key : ℕ) → KeysFit slots (length old) → slice_index_or keys upto 0 ≡ key
     → picks slots block key ≡ true → IsPartPicked slots block keys old new upto → IsPartPicked slots block keys old (slice_set new key true) (upto + 1)
-picked-one slots block keys old new upto key short here t p =
+picked-one slots block keys old new upto key fit here t p =
     let c = class-picked slots block key t in
-    let low = below-slots slots key c.0 c.1 in
+    let low = fit key c.0 c.1 in
     let long = p.long in
     let on : is_marked (slice_set new key true) key ≡ true = get_or-set_same new key true false (omega arith) in
     record {
@@ -280,6 +273,29 @@ picked-all slots block keys old new upto all held p key = elim (cases_Bool (pick
 
 pub picked-held : (slots : Slots) (block : ℕ) (keys : List ℕ) (set : ℕ → Bool) → HoldsKeys slots block keys → IsWithin set (picks slots block) → (key : ℕ) → set key ≡ true → In keys key
 picked-held slots block keys set held within key t = let c = class-picked slots block key (within key t) in held key c.0 c.1 c.2
+
+-- all keys are listed, so those of a block's classes are among them
+pub first-held : (slots : Slots) (block : ℕ) (keys : List ℕ) → AreFirstKeys keys → KeysFit slots (length keys) → HoldsKeys slots block keys
+first-held slots block keys first fit key c at of = at-place keys key key (fit key c at) (first key (fit key c at))
+
+-- so far, they are listed
+pub record ArePartListed (old new : List ℕ) (upto : ℕ) : Type 0 where
+  pub done : (key : ℕ) → key < upto → slice_index_or new key 0 ≡ key
+  pub long : length new ≡ length old
+
+pub listed-none : (keys : List ℕ) → ArePartListed keys keys 0
+listed-none keys = record { done = λ key h. absurd (omega arith); long = refl }
+
+pub listed-one : (old new : List ℕ) (upto : ℕ) → upto < length old → ArePartListed old new upto → ArePartListed old (slice_set new upto upto) (upto + 1)
+listed-one old new upto low p =
+    let long = p.long in
+    record {
+      done = λ key h. elim (cases_eq key upto) [
+        | inl e ↦ ap (λ k. slice_index_or (slice_set new upto upto) k 0) e ∙ get_or-set_same new upto upto 0 (omega arith) ∙ sym e
+        | inr d ↦ get_or-set_other new upto key upto 0 d ∙ p.done key (omega arith)
+      ];
+      long = length-set new upto upto ∙ p.long;
+    }
 
 -- taking marks off
 off-now : (marks : List Bool) (key : ℕ) → is_marked (slice_set marks key false) key ≡ false

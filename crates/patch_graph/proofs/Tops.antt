@@ -5,7 +5,7 @@ use Rattle.std.proofs.lemmas.Bool.{cases_Bool, cases_eq, and_parts, eqb-true, bo
 use Rattle.patch_model.specs.Pile.{covers}
 use Rattle.patch_model.specs.Entry.{Entry, is_durable}
 use Rattle.patch_model.specs.Member.{In}
-use Rattle.patch_graph.specs.State.{Class, Slots, Numbers, class_at}
+use Rattle.patch_links.specs.State.{Class, Slots, Numbers, class_at}
 use Rattle.patch_graph.specs.Skyline.{Skylines, spans_of, IsEmptied}
 use Rattle.patch_skyline.specs.Skyline.{top_at}
 use Rattle.patch_graph.specs.Meaning.{IsTop, Represents}

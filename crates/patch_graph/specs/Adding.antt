@@ -1,5 +1,5 @@
 -- What one more patch adds.
-use Rattle.std.specs.Prelude.{ℕ, Bool, true, false, ◌≡◌, ◌≢◌, ◌⊎◌, ◌+◌, ◌==◌, ◌&&◌, List, [], ◌∷◌, ◌++◌, Some, None}
+use Rattle.std.specs.Prelude.{ℕ, Bool, true, false, ◌≡◌, ◌≢◌, ◌⊎◌, ◌<◌, ◌+◌, ◌==◌, ◌&&◌, List, [], ◌∷◌, ◌++◌, Some, None}
 use Rattle.std.specs.List.{list_all}
 use Rattle.std.specs.Option.{option_map_or}
 use Rattle.patch_model.specs.Patch.{Patch}
@@ -16,12 +16,14 @@ use Rattle.patch_skyline.specs.Skyline.{IsTopWithin}
 use Rattle.patch_skyline.specs.declared.skylines.Span.{Span}
 use Rattle.patch_graph.specs.declared.graphs.Added.{Added}
 use Rattle.patch_graph.specs.Meaning.{Represents}
-use Rattle.patch_graph.specs.State.{Class, Graph, Slots, Numbers, find, class_at}
+use Rattle.patch_links.specs.State.{Class, Slots, Numbers, find, class_at}
+use Rattle.patch_graph.specs.State.{Graph}
 
--- the numbers that a patch of this span names, and those that wrote a byte of it last
-pub record AreDependencies (tops : List Span) (start stop : ℕ) (after deps : List ℕ) : Type 0 where
-  pub named : (n : ℕ) → In after n → In deps n
-  pub last : (n : ℕ) → IsTopWithin tops start stop n → In deps n
+-- of the patches that were made, those that a patch of this span names, and those that wrote a byte of it last
+pub record AreDependencies (made : ℕ) (tops : List Span) (start stop : ℕ) (after deps : List ℕ) : Type 0 where
+  pub are_made : (n : ℕ) → In deps n → n < made
+  pub named : (n : ℕ) → In after n → n < made → In deps n
+  pub last : (n : ℕ) → IsTopWithin tops start stop n → n < made → In deps n
   pub only : (n : ℕ) → In deps n → In after n ⊎ IsTopWithin tops start stop n
 
 -- the number isn't live, or that of a hard class of the block
@@ -49,14 +51,14 @@ pub record IsAdded (old new : Graph) (key : ℕ) (c : Class) : Type 0 where
 -- the class of one more patch
 pub record IsDrawnUp (g : Graph) (block start stop : ℕ) (undo : Undo) (after : List ℕ) (c : Class) : Type 0 where
   pub deps : List ℕ
-  pub are : AreDependencies (spans_of g.tops block) start stop after deps
+  pub are : AreDependencies g.made (spans_of g.tops block) start stop after deps
   pub is : c ≡ new_class g.made block start stop deps (is_hard g.slots g.numbers block undo deps)
 
 -- what was added, at some key
 pub record HasAdded (old new : Graph) (block start stop : ℕ) (undo : Undo) (after : List ℕ) (hard : Bool) : Type 0 where
   pub key : ℕ
   pub deps : List ℕ
-  pub are : AreDependencies (spans_of old.tops block) start stop after deps
+  pub are : AreDependencies old.made (spans_of old.tops block) start stop after deps
   pub hard_is : hard ≡ is_hard old.slots old.numbers block undo deps
   pub added : IsAdded old new key (new_class old.made block start stop deps hard)
 

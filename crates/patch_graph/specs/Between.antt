@@ -4,7 +4,8 @@ use Rattle.std.specs.List.{list_all}
 use Rattle.std.specs.Option.{option_map, option_map_or}
 use Rattle.patch_model.specs.Entry.{Entry}
 use Rattle.patch_model.specs.Dependency.{Path, LiesBetween}
-use Rattle.patch_graph.specs.State.{Class, Graph, Slots, Numbers, find, class_at}
+use Rattle.patch_links.specs.State.{Class, Slots, Numbers, find, class_at}
+use Rattle.patch_graph.specs.State.{Graph}
 use Rattle.patch_graph.specs.Marks.{is_marked}
 use Rattle.patch_graph.specs.Meaning.{Represents, IsLiveClass, IsNotLive}
 

@@ -9,6 +9,4 @@ pub mod MarkFlight
 pub mod Between
 pub mod MarkDurable
 pub mod Merging
-pub mod BlockKeys
 pub mod Showing
-pub mod Memo

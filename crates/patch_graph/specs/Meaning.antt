@@ -7,7 +7,8 @@ use Rattle.patch_model.specs.Entry.{Entry, is_durable, is_among}
 use Rattle.patch_model.specs.Dependency.{depends_directly}
 use Rattle.patch_model.specs.Pile.{covers}
 use Rattle.patch_model.specs.Orderly.{IsOrderly, IsNumbered}
-use Rattle.patch_graph.specs.State.{Class, Graph, Slots, Numbers, find, class_at, leads, spans}
+use Rattle.patch_links.specs.State.{Class, Slots, Numbers, find, class_at, leads}
+use Rattle.patch_graph.specs.State.{Graph, spans}
 use Rattle.patch_graph.specs.Skyline.{spans_of}
 use Rattle.patch_skyline.specs.Skyline.{top_at}
 

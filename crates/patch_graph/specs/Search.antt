@@ -1,6 +1,7 @@
 -- A search through the classes, by marks and a queue of keys.
 use Rattle.std.specs.Prelude.{ℕ, Bool, true, false, ◌≡◌, ◌≢◌, ◌<◌, ◌≤◌, ◌⊎◌, ◌+◌, List, length, Some, slice_index_or, slice_set}
-use Rattle.patch_graph.specs.State.{Class, Graph, Slots, Numbers, find, class_at, leads}
+use Rattle.patch_links.specs.State.{Class, Slots, Numbers, find, class_at, leads}
+use Rattle.patch_graph.specs.State.{Graph}
 use Rattle.patch_graph.specs.Marks.{is_marked, marked_count}
 use Rattle.patch_graph.specs.Meaning.{Leads}
 

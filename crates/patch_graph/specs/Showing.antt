@@ -4,7 +4,7 @@ use Rattle.std.specs.List.{list_any}
 use Rattle.patch_model.specs.Pile.{covers}
 use Rattle.patch_model.specs.Entry.{Entry, is_durable}
 use Rattle.patch_model.specs.Member.{In}
-use Rattle.patch_graph.specs.State.{Class}
+use Rattle.patch_links.specs.State.{Class}
 use Rattle.patch_graph.specs.declared.classes.LiveClass.{LiveClass}
 
 abbrev pub shown : Class → LiveClass

@@ -1,5 +1,5 @@
 -- The skyline of each block.
-use Rattle.std.specs.Prelude.{ℕ, Bool, true, false, ◌≡◌, ◌≢◌, nat_eq, List, [], None}
+use Rattle.std.specs.Prelude.{ℕ, ◌≡◌, ◌≢◌, nat_eq, List, []}
 use Rattle.std.specs.Option.{option_map_or}
 use Rattle.std.specs.Map.{lookup}
 use Rattle.patch_skyline.specs.Skyline.{IsLaid}
@@ -21,11 +21,6 @@ pub record IsRespanned (old new : Skylines) (block : ℕ) (ss : List Span) : Typ
 pub record IsLaidOn (old new : Skylines) (block : ℕ) (top : Span) : Type 0 where
   pub here : IsLaid (spans_of old block) (spans_of new block) top
   pub others : (other : ℕ) → other ≢ block → spans_of new other ≡ spans_of old other
-
--- the span was laid on the block's skyline, or there was none
-abbrev pub HasLaidOn : Skylines → Skylines → ℕ → Span → Bool → Type 0
-HasLaidOn old new block top true = IsLaidOn old new block top
-HasLaidOn old new block top false = (new ≡ old) × (lookup (nat_eq block) old ≡ None)
 
 -- the block's skyline has no span, and the others are as they were
 abbrev pub IsEmptied : Skylines → Skylines → ℕ → Type 0

@@ -1,58 +1,66 @@
 //! What a new patch depends on, and how its class comes to the others.
-ghost use Rattle.std.specs.Prelude.{◌≡◌, ◌<◌, ◌≤◌, ◌+◌, ◌++◌, length, map, IfOk, OnOk, OnErr};
+ghost use Rattle.std.specs.Prelude.{◌≡◌, ◌<◌, ◌≤◌, ◌++◌, ◌&&◌, ◌==◌, false, filter, map, nat_lt, if◌then◌else◌, ◌∷◌, [], IfOk, OnOk, OnErr};
 ghost use Rattle.std.specs.List.{list_all};
 ghost use Rattle.std.specs.Option.{option_map_or};
-ghost use Rattle.std.specs.Prelude.{◌&&◌, ◌==◌, false};
-ghost use Rattle.patch_table.specs.Table.{HasRoomAt, entries_of};
-ghost use Rattle.slab.specs.Slab.{HasRoomFor};
-ghost use Rattle.patch_graph.specs.State.{class_at};
+ghost use Rattle.patch_links.specs.State.{class_at};
+ghost use Rattle.patch_links.specs.Adding.{IsNew};
+ghost use Rattle.patch_graph.specs.State.{KeysFit};
 ghost use Rattle.patch_graph.specs.Adding.{AreDependencies, lets_drop, is_hard, IsAdded};
-ghost use Rattle.patch_graph.specs.BlockKeys.{AreListed};
-ghost use Rattle.patch_graph.specs.Marks.{AreClear};
 ghost use Rattle.patch_graph.specs.Skyline.{spans_of};
 
-use crate::block_keys::{BlockKeys, list, unlist};
-use crate::classes::Class;
-use crate::memo::Memo;
-use crate::number_list::NumberList;
-use crate::register::{Classes, Keys, Register, enter};
+use crate::register::Register;
 use crate::scratch::Scratch;
 use crate::skylines::{lay, tops};
+use patch_links::Class;
 use patch_model::{BlockNo, MAX_PATCHES, PatchNo, Undo};
+use patch_numbers::NumberList;
 use patch_skyline::Span;
 use std::alloc::{AllocError, Allocator};
 
-/// Makes room for one more class, and for searches through it.
-fn make_room<A: Allocator + Copy>(
-    classes: &mut Classes<A>,
-    keys: &mut Keys<A>,
+/// Puts a number behind the others, if it is below this one.
+fn push_below<A: Allocator>(
+    made: u32,
     no: PatchNo,
-    scratch: &mut Scratch<A>,
+    all: &mut NumberList<A>,
 ) -> Result<(), AllocError>
-    ensures classes { OnOk result (HasRoomFor classes.new 1) }
-    ensures keys { OnOk result (HasRoomAt keys.new no) }
-    ensures searches { OnOk result (classes.new.capacity ≤ scratch.new) }
-    ensures same_classes { classes.new.slots ≡ classes.old.slots }
-    ensures same_keys { entries_of keys.new ≡ entries_of keys.old }
-    ensures kept { scratch.old ≤ scratch.new }
+    ensures { OnOk result (all.new.items ≡ all.old.items ++ (if nat_lt no made then no ∷ [] else [])) }
 {
-    classes.reserve(1)?;
-    keys.reserve(no.0)?;
-    scratch.grow(classes.capacity())
+    if no.0 < made {
+        all.push(no)?;
+    }
+    Ok(())
 }
 
-/// Puts the numbers of the spans behind the others.
-fn push_numbers<A: Allocator>(spans: &[Span], all: &mut NumberList<A>) -> Result<(), AllocError>
-    ensures { OnOk result (all.new ≡ all.old ++ map (λ s. s.no) spans.now) }
+/// Puts numbers behind the others, of those that are below this one.
+fn push_numbers<A: Allocator>(
+    made: u32,
+    numbers: &[PatchNo],
+    all: &mut NumberList<A>,
+) -> Result<(), AllocError>
+    ensures { OnOk result (all.new.items ≡ all.old.items ++ filter (λ n. nat_lt n made) numbers.now) }
+{
+    for no in numbers {
+        push_below(made, *no, all)?;
+    }
+    Ok(())
+}
+
+/// The same of the numbers of spans.
+fn push_tops<A: Allocator>(
+    made: u32,
+    spans: &[Span],
+    all: &mut NumberList<A>,
+) -> Result<(), AllocError>
+    ensures { OnOk result (all.new.items ≡ all.old.items ++ filter (λ n. nat_lt n made) (map (λ s. s.no) spans.now)) }
 {
     for span in spans {
-        all.push(span.no)?;
+        push_below(made, span.no, all)?;
     }
     Ok(())
 }
 
 /// The numbers that a patch of this span names, and of each of its bytes the patch that wrote it last. Each earlier one that
-/// wrote it is one on which that depends, directly or through others.
+/// wrote it is one on which that depends, directly or through others. A number that wasn't made is none on which it depends.
 pub fn dependencies<A: Allocator>(
     alloc: A,
     register: &Register<A>,
@@ -62,10 +70,12 @@ pub fn dependencies<A: Allocator>(
     after: &[PatchNo],
 ) -> Result<NumberList<A>, AllocError>
     requires { start < stop }
-    ensures { IfOk result (λ all. AreDependencies (spans_of register.now.tops block) start stop after.now all) }
+    ensures { IfOk result (λ all. AreDependencies register.now.made (spans_of register.now.tops block) start stop after.now all.items) }
 {
-    let mut all = NumberList::from_slice(alloc, after)?;
-    push_numbers(tops(&register.skylines, block, start, stop), &mut all)?;
+    let made = register.made();
+    let mut all = NumberList::new(alloc);
+    push_numbers(made, after, &mut all)?;
+    push_tops(made, tops(&register.skylines, block, start, stop), &mut all)?;
     Ok(all)
 }
 
@@ -112,42 +122,34 @@ pub fn is_hard<A: Allocator>(
     }
 }
 
-/// Puts in a new patch's class, lists its key for its block, lays its span on the block's skyline, and makes room for searches
-/// through one class more.
+/// Makes room for searches through one class more, puts it in, and lays its span on its block's skyline.
 pub fn insert<A: Allocator + Copy>(
     alloc: A,
     register: &mut Register<A>,
-    lists: &mut BlockKeys<A>,
     scratch: &mut Scratch<A>,
-    memo: &mut Memo<A>,
     class: Class<A>,
 ) -> Result<usize, AllocError>
     requires numbers { register.old.made < MAX_PATCHES }
     requires some { class.start < class.stop }
+    requires name { class.name ≡ register.old.made }
+    requires new { IsNew register.old.made class }
     ensures inserted { IfOk result (λ key. IsAdded register.old register.new key class) }
-    ensures room { length register.old.slots ≤ scratch.old → length register.new.slots ≤ scratch.new }
-    ensures listed { AreListed register.old.slots lists.old.entries → AreListed register.new.slots lists.new.entries }
-    ensures memo { length register.old.slots ≤ length memo.old.ready → length register.new.slots ≤ length memo.new.ready }
-    ensures unknown { AreClear memo.old.known → AreClear memo.new.known }
+    ensures fit { KeysFit register.old.slots scratch.old → KeysFit register.new.slots scratch.new }
     ensures refused { OnErr result (register.new ≡ register.old) }
 {
-    let no = PatchNo(register.made);
-    make_room(&mut register.classes, &mut register.keys, no, scratch)?;
-    memo.grow(register.classes.capacity())?;
+    scratch.reserve(register.links.next_key())?;
     let top = Span {
         start: class.start,
         stop: class.stop,
-        no,
+        no: class.name,
     };
-    list(alloc, lists, class.block, register.classes.vacant_key())?;
-    if let Err(error) = lay(alloc, &mut register.skylines, class.block, top) {
-        unlist(lists, register, class.block);
-        return Err(error);
-    }
-    let key = register.classes.insert_reserved(class);
-    // No key is past the capacity, and the room is as large.
-    let _count = register.classes.capacity();
-    enter(&mut register.keys, no, key);
+    let key = lay(
+        alloc,
+        &mut register.skylines,
+        &mut register.links,
+        class,
+        top,
+    )?;
     register.made += 1;
     Ok(key)
 }

@@ -11,15 +11,14 @@ ghost use Rattle.patch_graph.specs.Merging.{Merges};
 ghost use Rattle.patch_graph.specs.Adding.{Adds, HasAdded, IsDrawnUp};
 
 use crate::adding::{dependencies, insert, is_hard};
-use crate::block_keys::{BlockKeys, empty_unlisted, listed, unlist};
-use crate::classes::{Class, LiveClass};
+use crate::classes::{LiveClass, alone};
 use crate::mark_durable::land;
-use crate::mark_flight::fly_ready;
-use crate::memo::Memo;
+use crate::mark_flight::fly;
 use crate::merging;
-use crate::queries::{between, is_any_taken, numbers_ready, numbers_taken, reaches};
+use crate::queries::{between, is_any_ready, numbers_ready, numbers_searched, reaches};
 use crate::register::Register;
 use crate::scratch::Scratch;
+use patch_links::Class;
 use patch_model::{BlockNo, MAX_PATCHES, Mark, OutOfMemory, PatchNo, Undo};
 use std::alloc::{AllocError, Allocator, Global};
 use std::marker::Model;
@@ -33,29 +32,23 @@ pub struct Added {
 
 /// The live classes of all blocks, and what each of them depends on.
 ///
-/// Durable classes are forgotten: a number below the next one that isn't live is durable. Only `add`, `merge` and
-/// `ready` take memory.
+/// Durable classes are forgotten: a number below the next one that isn't live is durable. Which classes a send of a block
+/// takes is always known. Only `add`, `merge` and `ready` take memory.
 #[derive(Drop)]
 pub struct Graph<A: Allocator + Copy = Global> {
     alloc: A,
     register: Register<A>,
-    lists: BlockKeys<A>,
     scratch: Scratch<A>,
-    memo: Memo<A>,
 }
 
 impl<A: Allocator + Copy> Model for Graph<A> {
-    ghost use Rattle.std.specs.Prelude.{◌≤◌, length};
-    ghost use Rattle.patch_graph.specs.State.{Graph as Seen};
-    ghost use Rattle.patch_graph.specs.BlockKeys.{AreListed};
-    ghost use Rattle.patch_graph.specs.Memo.{IsMemo};
+    ghost use Rattle.patch_graph.specs.State.{Graph as Seen, KeysFit};
 
     ghost Value = { Seen };
 
     ghost view = { λ g. g.register };
 
-    ghost invariant = { λ g. (length g.register.slots ≤ g.scratch) × AreListed g.register.slots g.lists.entries
-        × IsMemo g.register.slots g.register.numbers g.lists.entries g.memo };
+    ghost invariant = { λ g. KeysFit g.register.slots g.scratch };
 }
 
 impl<A: Allocator + Copy> Graph<A> {
@@ -66,9 +59,7 @@ impl<A: Allocator + Copy> Graph<A> {
         Graph {
             alloc,
             register: Register::new(alloc),
-            lists: BlockKeys::new(alloc),
             scratch: Scratch::new(alloc),
-            memo: Memo::new(alloc),
         }
     }
 
@@ -81,26 +72,18 @@ impl<A: Allocator + Copy> Graph<A> {
 
     /// The patches that a send of the block takes, rising.
     pub fn ready<B: Allocator>(
-        &mut self,
+        &self,
         alloc: B,
         block: BlockNo,
     ) -> Result<Vec<PatchNo, B>, OutOfMemory>
-        ensures answer { IfOk result (λ numbers. AreReady self.old block numbers.items) }
-        ensures same { self.new ≡ self.old }
+        ensures { IfOk result (λ numbers. AreReady self.now block numbers.items) }
     {
-        let numbers = numbers_taken(
-            alloc,
-            &self.register,
-            &self.lists,
-            block,
-            &mut self.scratch,
-            &mut self.memo,
-        )?;
+        let numbers = numbers_ready(alloc, &self.register, block)?;
         Ok(numbers)
     }
 
     /// `ready`, by a search whatever is known.
-    pub(crate) fn ready_anew<B: Allocator>(
+    pub(crate) fn ready_searched<B: Allocator>(
         &mut self,
         alloc: B,
         block: BlockNo,
@@ -108,28 +91,15 @@ impl<A: Allocator + Copy> Graph<A> {
         ensures answer { IfOk result (λ numbers. AreReady self.old block numbers.items) }
         ensures same { self.new ≡ self.old }
     {
-        let numbers = numbers_ready(
-            alloc,
-            &self.register,
-            block,
-            listed(&self.lists, block),
-            &mut self.scratch,
-        )?;
+        let numbers = numbers_searched(alloc, &self.register, block, &mut self.scratch)?;
         Ok(numbers)
     }
 
     /// Whether a send of the block takes any patch.
-    pub fn any_ready(&mut self, block: BlockNo) -> bool
-        ensures answer { TellsReady self.old block result }
-        ensures same { self.new ≡ self.old }
+    pub fn any_ready(&self, block: BlockNo) -> bool
+        ensures { TellsReady self.now block result }
     {
-        is_any_taken(
-            &self.register,
-            &self.lists,
-            block,
-            &mut self.scratch,
-            &mut self.memo,
-        )
+        is_any_ready(&self.register, block)
     }
 
     /// Adds a patch of the bytes from `start` to `stop`, in memory and a class of its own. It depends on the patches that
@@ -172,15 +142,7 @@ impl<A: Allocator + Copy> Graph<A> {
     {
         let class = self.drawn_up(block, start, stop, after, undo)?;
         let hard = class.hard;
-        self.memo.forget();
-        insert(
-            self.alloc,
-            &mut self.register,
-            &mut self.lists,
-            &mut self.scratch,
-            &mut self.memo,
-            class,
-        )?;
+        insert(self.alloc, &mut self.register, &mut self.scratch, class)?;
         Ok(hard)
     }
 
@@ -198,7 +160,7 @@ impl<A: Allocator + Copy> Graph<A> {
     {
         let deps = dependencies(self.alloc, &self.register, block, start, stop, after)?;
         let hard = is_hard(&self.register, block, undo, deps.as_slice());
-        Ok(Class::alone(
+        Ok(alone(
             self.alloc,
             PatchNo(self.register.made()),
             block,
@@ -215,8 +177,7 @@ impl<A: Allocator + Copy> Graph<A> {
         ensures made { self.new.made ≡ self.old.made }
         ensures refused { OnErr result (self.new ≡ self.old) }
     {
-        self.memo.forget();
-        let name = merging::merge(self.alloc, &mut self.register, &mut self.lists, a, b)?;
+        let name = merging::merge(&mut self.register, a, b)?;
         Ok(name)
     }
 
@@ -235,13 +196,7 @@ impl<A: Allocator + Copy> Graph<A> {
         ensures answer { PutsInFlight self.old self.new block }
         ensures made { self.new.made ≡ self.old.made }
     {
-        fly_ready(
-            &mut self.register,
-            &self.lists,
-            block,
-            &mut self.scratch,
-            &mut self.memo,
-        );
+        fly(&mut self.register, block);
     }
 
     /// Makes durable what is in flight of the block, and forgets it.
@@ -249,11 +204,7 @@ impl<A: Allocator + Copy> Graph<A> {
         ensures answer { MakesDurable self.old self.new block }
         ensures made { self.new.made ≡ self.old.made }
     {
-        self.memo.forget();
-        let keys = listed(&self.lists, block);
-        land(&mut self.register, block, keys);
-        unlist(&mut self.lists, &self.register, block);
-        empty_unlisted(&self.lists, &mut self.register, block);
+        land(&mut self.register, block);
     }
 
     /// Whether the class of the one live patch depends on that of the other, directly or through others. No class reaches

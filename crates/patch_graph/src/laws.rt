@@ -6,8 +6,8 @@ use crate::graphs::Graph;
 use patch_model::{BlockNo, OutOfMemory, PatchNo};
 use std::alloc::Allocator;
 
-/// `Graph::ready` by a search, whatever the graph knows: the same answer, at the cost of a look at each dependency of the
-/// block's classes in memory, and of another one for each round in which some are struck out.
+/// `Graph::ready` by a search, whatever the graph knows: the same answer, at the cost of a look at each class and at each
+/// dependency of the block's classes in memory, and of another one for each round in which some are struck out.
 pub fn ready_slow<A: Allocator + Copy, B: Allocator>(
     graph: &mut Graph<A>,
     alloc: B,
@@ -16,5 +16,5 @@ pub fn ready_slow<A: Allocator + Copy, B: Allocator>(
     ensures answer { IfOk result (λ numbers. AreReady graph.old block numbers.items) }
     ensures same { graph.new ≡ graph.old }
 {
-    graph.ready_anew(alloc, block)
+    graph.ready_searched(alloc, block)
 }

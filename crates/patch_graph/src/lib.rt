@@ -3,17 +3,13 @@
 
 mod adding;
 mod between;
-mod block_keys;
 mod classes;
 mod graphs;
 pub mod laws;
 mod mark_durable;
 mod mark_flight;
 mod marks;
-mod memo;
 mod merging;
-mod notes;
-mod number_list;
 mod queries;
 mod ready;
 mod register;

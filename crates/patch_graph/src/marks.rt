@@ -1,6 +1,5 @@
 //! Marks on keys.
 ghost use Rattle.std.specs.Prelude.{◌≡◌, length, slice_set, true, false};
-ghost use Rattle.std.specs.List.{list_any};
 ghost use Rattle.patch_graph.specs.Marks.{is_marked, AreClear, HoldsMarked};
 
 /// Whether a key is marked.
@@ -40,11 +39,4 @@ pub fn clear(keys: &[usize], marks: &mut [bool])
     for key in keys {
         take_mark(marks, *key);
     }
-}
-
-/// Whether any of these keys is marked.
-pub fn any_marked(keys: &[usize], marks: &[bool]) -> bool
-    ensures { result ≡ list_any (is_marked marks.now) keys.now }
-{
-    keys.iter().any(|key| is_marked(marks, *key))
 }

@@ -1,107 +1,58 @@
 //! What is asked of the classes.
 ghost use Rattle.std.specs.Prelude.{◌≡◌, ◌≤◌, false, None, length, IfOk};
+ghost use Rattle.patch_graph.specs.State.{KeysFit};
 ghost use Rattle.patch_graph.specs.Ready.{AreReady, TellsReady};
 ghost use Rattle.patch_graph.specs.Between.{LacksAKey, TellsLeastBetween, TellsReach, is_newest};
-ghost use Rattle.patch_graph.specs.BlockKeys.{HoldsKeys, AreListed};
-ghost use Rattle.patch_graph.specs.Memo.{IsMemo, TellsTaken};
 ghost use Rattle.patch_graph.specs.Marks.{AreClear};
 
 use crate::between::{copy_without, least_name, rests_on_leaves};
-use crate::block_keys::{BlockKeys, listed};
-use crate::marks::{any_marked, clear, is_marked};
-use crate::memo::Memo;
-use crate::ready::{mark_ready, marked_numbers, settle};
+use crate::marks::{clear, is_marked};
+use crate::ready::{list_keys, mark_ready, marked_numbers, settle};
 use crate::register::Register;
 use crate::scratch::Scratch;
 use crate::searching::search;
 use patch_model::{BlockNo, PatchNo, laws};
 use std::alloc::{AllocError, Allocator};
 
-/// The numbers that a send of the block takes, rising, by a search.
-pub fn numbers_ready<A: Allocator, B: Allocator>(
+/// The numbers that a send of the block takes, rising, by a search among all classes.
+pub fn numbers_searched<A: Allocator, B: Allocator>(
     alloc: B,
     register: &Register<A>,
     block: BlockNo,
-    keys: &[usize],
     scratch: &mut Scratch<A>,
 ) -> Result<Vec<PatchNo, B>, AllocError>
-    requires fits { length register.now.slots ≤ scratch.old }
-    requires complete { HoldsKeys register.now.slots block keys.now }
+    requires { KeysFit register.now.slots scratch.old }
     ensures scratch { scratch.new ≡ scratch.old }
     ensures answer { IfOk result (λ numbers. AreReady register.now block numbers.items) }
 {
     laws::ready_is_largest();
     let marks = scratch.marks.as_mut_slice();
+    let keys = scratch.queue.as_mut_slice();
+    list_keys(keys);
     mark_ready(register, block, keys, marks);
     let found = marked_numbers(alloc, register, keys, marks);
     clear(keys, marks);
     found
 }
 
-/// Has the memo know what a send of the block takes, by a search if it doesn't.
-pub fn remember<A: Allocator>(
-    register: &Register<A>,
-    lists: &BlockKeys<A>,
-    block: BlockNo,
-    scratch: &mut Scratch<A>,
-    memo: &mut Memo<A>,
-)
-    requires fits { length register.now.slots ≤ scratch.old }
-    requires listed { AreListed register.now.slots lists.now.entries }
-    requires memo { IsMemo register.now.slots register.now.numbers lists.now.entries memo.old }
-    ensures scratch { scratch.new ≡ scratch.old }
-    ensures memo { IsMemo register.now.slots register.now.numbers lists.now.entries memo.new }
-    ensures taken { TellsTaken register.now.slots register.now.numbers lists.now.entries block memo.new.ready }
-{
-    let keys = listed(lists, block);
-    if memo.knows(keys) {
-        return;
-    }
-    let marks = scratch.marks.as_mut_slice();
-    mark_ready(register, block, keys, marks);
-    memo.note(keys, marks);
-    clear(keys, marks);
-}
-
 /// The numbers that a send of the block takes, rising.
-pub fn numbers_taken<A: Allocator, B: Allocator>(
+pub fn numbers_ready<A: Allocator, B: Allocator>(
     alloc: B,
     register: &Register<A>,
-    lists: &BlockKeys<A>,
     block: BlockNo,
-    scratch: &mut Scratch<A>,
-    memo: &mut Memo<A>,
 ) -> Result<Vec<PatchNo, B>, AllocError>
-    requires fits { length register.now.slots ≤ scratch.old }
-    requires listed { AreListed register.now.slots lists.now.entries }
-    requires memo { IsMemo register.now.slots register.now.numbers lists.now.entries memo.old }
-    ensures scratch { scratch.new ≡ scratch.old }
-    ensures memo { IsMemo register.now.slots register.now.numbers lists.now.entries memo.new }
-    ensures answer { IfOk result (λ numbers. AreReady register.now block numbers.items) }
+    ensures { IfOk result (λ numbers. AreReady register.now block numbers.items) }
 {
     laws::ready_is_largest();
-    remember(register, lists, block, scratch, memo);
-    marked_numbers(alloc, register, listed(lists, block), memo.ready())
+    register.links.ready(alloc, block)
 }
 
 /// Whether a send of the block takes any patch.
-pub fn is_any_taken<A: Allocator>(
-    register: &Register<A>,
-    lists: &BlockKeys<A>,
-    block: BlockNo,
-    scratch: &mut Scratch<A>,
-    memo: &mut Memo<A>,
-) -> bool
-    requires fits { length register.now.slots ≤ scratch.old }
-    requires listed { AreListed register.now.slots lists.now.entries }
-    requires memo { IsMemo register.now.slots register.now.numbers lists.now.entries memo.old }
-    ensures scratch { scratch.new ≡ scratch.old }
-    ensures memo { IsMemo register.now.slots register.now.numbers lists.now.entries memo.new }
-    ensures answer { TellsReady register.now block result }
+pub fn is_any_ready<A: Allocator>(register: &Register<A>, block: BlockNo) -> bool
+    ensures { TellsReady register.now block result }
 {
     laws::ready_is_largest();
-    remember(register, lists, block, scratch, memo);
-    any_marked(listed(lists, block), memo.ready())
+    register.links.any_ready(block)
 }
 
 /// `reaches`, on marks and a queue.
@@ -112,7 +63,7 @@ fn reaches_exactly<A: Allocator>(
     marks: &mut [bool],
     queue: &mut [usize],
 ) -> bool
-    requires fits { length register.now.slots ≤ length marks.old }
+    requires fits { KeysFit register.now.slots (length marks.old) }
     requires queue_fits { length marks.old ≤ length queue.old }
     requires clear { AreClear marks.old }
     ensures answer { TellsReach register.now a b result }
@@ -146,7 +97,7 @@ pub fn reaches<A: Allocator>(
     b: PatchNo,
     scratch: &mut Scratch<A>,
 ) -> bool
-    requires fits { length register.now.slots ≤ scratch.old }
+    requires fits { KeysFit register.now.slots scratch.old }
     ensures answer { TellsReach register.now a b result }
     ensures absent { LacksAKey register.now.numbers a b → result ≡ false }
     ensures scratch { scratch.new ≡ scratch.old }
@@ -180,7 +131,7 @@ fn between_exactly<A: Allocator>(
     dead_ends: &mut [bool],
     queue: &mut [usize],
 ) -> Option<PatchNo>
-    requires fits { length register.now.slots ≤ length marks.old }
+    requires fits { KeysFit register.now.slots (length marks.old) }
     requires queue_fits { length marks.old ≤ length queue.old }
     requires dead_ends_fit { length marks.old ≤ length dead_ends.old }
     requires clear { AreClear marks.old }
@@ -228,7 +179,7 @@ pub fn between<A: Allocator>(
     b: PatchNo,
     scratch: &mut Scratch<A>,
 ) -> Option<PatchNo>
-    requires fits { length register.now.slots ≤ scratch.old }
+    requires fits { KeysFit register.now.slots scratch.old }
     ensures answer { TellsLeastBetween register.now a b result }
     ensures absent { LacksAKey register.now.numbers a b → result ≡ None }
     ensures scratch { scratch.new ≡ scratch.old }

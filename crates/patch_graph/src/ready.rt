@@ -1,16 +1,27 @@
 //! What a send takes, by marks on the keys of classes.
 ghost use Rattle.std.specs.Prelude.{◌++◌, OnOk, IfOk, OnErr, ◌≡◌, ◌<◌, ◌≤◌, ◌==◌, ◌&&◌, ℕ, length, slice_set, true, false};
 ghost use Rattle.std.specs.List.{list_any};
-ghost use Rattle.patch_graph.specs.State.{find, class_at};
-ghost use Rattle.patch_graph.specs.BlockKeys.{HoldsKeys};
+ghost use Rattle.patch_graph.specs.State.{KeysFit};
 ghost use Rattle.patch_graph.specs.Marks.{is_marked, AreClear, HoldsMarked};
-ghost use Rattle.patch_graph.specs.Ready.{is_met, is_met_at, is_unmet, picks, IsRound, IsLargestMet, MarksReady, members_at, gathered, IsArranged};
+ghost use Rattle.patch_graph.specs.Ready.{AreFirstKeys, is_unmet, HoldsKeys, IsRound, MarksReady, members_at, gathered};
+ghost use Rattle.patch_links.specs.Ready.{is_met, is_met_at, picks, IsLargestMet, IsArranged};
 
-use crate::classes::Class;
+use crate::classes::is_candidate;
 use crate::marks::{is_marked, put_mark, take_mark};
 use crate::register::Register;
+use patch_links::Class;
 use patch_model::{BlockNo, PatchNo};
 use std::alloc::{AllocError, Allocator};
+
+/// Lists as many keys as there is room for, from the first one on.
+pub fn list_keys(keys: &mut [usize])
+    ensures keys { AreFirstKeys keys.new }
+    ensures length { length keys.new ≡ length keys.old }
+{
+    for key in 0..keys.len() {
+        keys[key] = key;
+    }
+}
 
 /// Whether a number isn't live, or its class is marked.
 fn is_met_at<A: Allocator>(register: &Register<A>, marks: &[bool], no: PatchNo) -> bool
@@ -38,7 +49,7 @@ fn picks<A: Allocator>(register: &Register<A>, block: BlockNo, key: usize) -> bo
     ensures { result ≡ picks register.now.slots block key }
 {
     match register.class_at(key) {
-        Some(class) => class.is_candidate(block),
+        Some(class) => is_candidate(class, block),
         None => false,
     }
 }
@@ -50,7 +61,7 @@ pub fn pick<A: Allocator>(
     keys: &[usize],
     marks: &mut [bool],
 )
-    requires fits { length register.now.slots ≤ length marks.old }
+    requires fits { KeysFit register.now.slots (length marks.old) }
     requires clear { AreClear marks.old }
     requires complete { HoldsKeys register.now.slots block keys.now }
     ensures picked { (key : ℕ) → is_marked marks.new key ≡ picks register.now.slots block key }
@@ -110,7 +121,7 @@ pub fn mark_ready<A: Allocator>(
     keys: &[usize],
     marks: &mut [bool],
 )
-    requires fits { length register.now.slots ≤ length marks.old }
+    requires fits { KeysFit register.now.slots (length marks.old) }
     requires clear { AreClear marks.old }
     requires complete { HoldsKeys register.now.slots block keys.now }
     ensures largest { MarksReady register.now block marks.new }

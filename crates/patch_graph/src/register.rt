@@ -1,41 +1,33 @@
 //! The register of the live classes: where each is found.
-ghost use Rattle.std.specs.Prelude.{◌≡◌, ◌≢◌, ℕ, [], Some};
-ghost use Rattle.patch_table.specs.Table.{HasRoomAt, entries_of};
+ghost use Rattle.std.specs.Prelude.{◌≡◌, []};
 ghost use Rattle.std.specs.Option.{option_map, option_copied};
-ghost use Rattle.patch_graph.specs.State.{find, class_at};
+ghost use Rattle.patch_links.specs.State.{find, class_at};
 ghost use Rattle.patch_graph.specs.Showing.{shown};
-ghost use Rattle.patch_graph.specs.BlockKeys.{is_key};
 
-use crate::classes::{Class, LiveClass};
+use crate::classes::{LiveClass, shown};
 use crate::skylines::Skylines;
+use patch_links::{Class, Links};
 use patch_model::{Mark, PatchNo};
-use patch_table::Table;
-use slab::Slab;
 use std::alloc::{Allocator, Global};
 use std::marker::Model;
 
-/// Classes by their keys.
-pub type Classes<A> = Slab<Class<A>, A>;
-
-/// The key of each live patch's class.
-pub type Keys<A> = Table<A>;
-
-/// How many patches were made, the live classes by their keys, the key of each live patch's class, and the skyline of each block.
+/// How many patches were made, the live classes, and the skyline of each block.
 #[derive(Drop)]
 pub struct Register<A: Allocator = Global> {
     pub made: u32,
-    pub classes: Classes<A>,
-    pub keys: Keys<A>,
+    pub links: Links<A>,
     pub skylines: Skylines<A>,
 }
 
 impl<A: Allocator> Model for Register<A> {
-    ghost use Rattle.patch_table.specs.Table.{entries_of};
+    ghost use Rattle.std.specs.Prelude.{◌≤◌};
     ghost use Rattle.patch_graph.specs.State.{Graph as Seen};
 
     ghost Value = { Seen };
 
-    ghost view = { λ r. record { made = r.made; slots = r.classes.slots; numbers = entries_of r.keys; tops = r.skylines.entries } };
+    ghost view = { λ r. record { made = r.made; slots = r.links.slots; numbers = r.links.numbers; tops = r.skylines.entries } };
+
+    ghost invariant = { λ r. r.links.made ≤ r.made };
 }
 
 impl<A: Allocator + Copy> Register<A> {
@@ -45,8 +37,7 @@ impl<A: Allocator + Copy> Register<A> {
     {
         Register {
             made: 0,
-            classes: Classes::new(alloc),
-            keys: Keys::new(alloc),
+            links: Links::new(alloc),
             skylines: Skylines::new(alloc),
         }
     }
@@ -64,21 +55,14 @@ impl<A: Allocator> Register<A> {
     pub fn find(&self, no: PatchNo) -> Option<usize>
         ensures { result ≡ find self.now.numbers no }
     {
-        self.keys.get(no.0)
+        self.links.find(no)
     }
 
     /// The class at a key.
     pub fn class_at(&self, key: usize) -> Option<&Class<A>>
         ensures { option_copied result ≡ class_at self.now.slots key }
     {
-        self.classes.get(key)
-    }
-
-    /// Whether there is a class at a key.
-    pub fn contains(&self, key: usize) -> bool
-        ensures { result ≡ is_key self.now.slots key }
-    {
-        self.classes.contains(key)
+        self.links.class_at(key)
     }
 
     /// The name of the class at a key.
@@ -106,17 +90,8 @@ impl<A: Allocator> Register<A> {
         ensures { result ≡ option_map shown (class_at self.now.slots key) }
     {
         match self.class_at(key) {
-            Some(class) => Some(class.shown()),
+            Some(class) => Some(shown(class)),
             None => None,
         }
     }
-}
-
-/// Notes the key of a patch's class, where there is room for one more.
-pub fn enter<A: Allocator + Copy>(keys: &mut Keys<A>, no: PatchNo, key: usize)
-    requires { HasRoomAt keys.old no }
-    ensures here { find (entries_of keys.new) no ≡ Some key }
-    ensures others { (n : ℕ) → n ≢ no → find (entries_of keys.new) n ≡ find (entries_of keys.old) n }
-{
-    keys.put(no.0, key);
 }

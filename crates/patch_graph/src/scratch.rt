@@ -1,5 +1,5 @@
 //! Room for searches, which `add` makes.
-ghost use Rattle.std.specs.Prelude.{◌≡◌, ◌≤◌, length, max, OnOk, OnErr};
+ghost use Rattle.std.specs.Prelude.{◌≡◌, ◌<◌, ◌≤◌, length, max, OnOk, OnErr};
 ghost use Rattle.patch_graph.specs.Marks.{AreClear};
 
 use std::alloc::{AllocError, Allocator, Global};
@@ -40,8 +40,19 @@ impl<A: Allocator + Copy> Scratch<A> {
 }
 
 impl<A: Allocator> Scratch<A> {
+    /// Makes room for a class at the key.
+    pub fn reserve(&mut self, key: usize) -> Result<(), AllocError>
+        ensures enough { OnOk result (key < self.new) }
+        ensures kept { self.old ≤ self.new }
+    {
+        match key.checked_add(1) {
+            Some(count) => self.grow(count),
+            None => Err(AllocError),
+        }
+    }
+
     /// Makes room for so many classes.
-    pub fn grow(&mut self, count: usize) -> Result<(), AllocError>
+    fn grow(&mut self, count: usize) -> Result<(), AllocError>
         ensures enough { OnOk result (count ≤ self.new) }
         ensures kept { self.old ≤ self.new }
     {
@@ -53,7 +64,7 @@ impl<A: Allocator> Scratch<A> {
 }
 
 /// Makes a row of marks this long, if it is shorter.
-pub fn lengthen<A: Allocator>(marks: &mut Vec<bool, A>, count: usize) -> Result<(), AllocError>
+fn lengthen<A: Allocator>(marks: &mut Vec<bool, A>, count: usize) -> Result<(), AllocError>
     ensures enough { OnOk result (count ≤ length marks.new.items) }
     ensures kept { length marks.old.items ≤ length marks.new.items }
     ensures bounded { length marks.new.items ≤ max (length marks.old.items) count }

@@ -1,12 +1,12 @@
 //! Searches through the classes.
 ghost use Rattle.std.specs.Prelude.{◌≡◌, ◌<◌, ◌≤◌, ◌+◌, ℕ, length, take, true, false, Some};
-ghost use Rattle.patch_graph.specs.State.{class_at};
+ghost use Rattle.patch_links.specs.State.{class_at};
 ghost use Rattle.patch_graph.specs.Marks.{is_marked, AreClear, HoldsMarked};
 ghost use Rattle.patch_graph.specs.Search.{IsReachable, HasFollowed, HasLooked, Visited, walk};
 
-use crate::classes::Class;
 use crate::marks::is_marked;
 use crate::register::Register;
+use patch_links::Class;
 use patch_model::PatchNo;
 use std::alloc::Allocator;
 

@@ -1,4 +1,6 @@
-use Rattle.std.proofs.Common.{subst, ap, ◌∙◌, ◌++◌, List, map, ℕ}
+use Rattle.std.proofs.Common.{◌≡◌, subst, ap, ◌∙◌, ◌++◌, List, map, ℕ}
+use Rattle.std.specs.Prelude.{nat_lt}
+use Rattle.std.specs.List.{filter}
 use Rattle.patch_skyline.specs.declared.skylines.Span.{Span}
 use Rattle.patch_graph.specs.State.{Graph}
 use Rattle.patch_graph.specs.Skyline.{spans_of}
@@ -8,6 +10,10 @@ use Rattle.patch_graph.proofs.adding.dependencies.Goals as goal
 
 pub returns : goal.returns
 returns g c =
-    subst (λ (z : Graph). AreDependencies (spans_of z.tops c.args.block) c.args.start c.args.stop c.args.after.now c.push_numbers.new.all) c.register.view_is
-    (depends-on (spans_of c.register.inside.skylines.entries c.args.block) c.tops.result.now c.args.start c.args.stop c.args.after.now c.push_numbers.new.all c.tops.ensures
-    (c.in_ok-push_numbers.ensures ∙ ap (λ (l : List ℕ). l ++ map (λ (s : Span). s.no) c.tops.result.now) c.in_ok-all.ensures))
+    let made : c.made-made.result ≡ c.args.register.now.made = c.made-made.ensures in
+    let numbers = c.in_ok-push_numbers.ensures ∙ ap (λ (l : List ℕ). l ++ filter (λ n. nat_lt n c.made-made.result) c.args.after.now) c.new-all.ensures in
+    let all : c.push_tops.new.all.items ≡ filter (λ n. nat_lt n c.made-made.result) c.args.after.now ++ filter (λ n. nat_lt n c.made-made.result) (map (λ (s : Span). s.no) c.tops.result.now) =
+    c.in_ok-push_tops.ensures ∙ ap (λ (l : List ℕ). l ++ filter (λ n. nat_lt n c.made-made.result) (map (λ (s : Span). s.no) c.tops.result.now)) numbers in
+    subst (λ (m : ℕ). AreDependencies m (spans_of c.args.register.now.tops c.args.block) c.args.start c.args.stop c.args.after.now c.push_tops.new.all.items) made
+    (subst (λ (z : Graph). AreDependencies c.made-made.result (spans_of z.tops c.args.block) c.args.start c.args.stop c.args.after.now c.push_tops.new.all.items) c.register.view_is
+    (depends-on c.made-made.result (spans_of c.register.inside.skylines.entries c.args.block) c.tops.result.now c.args.start c.args.stop c.args.after.now c.push_tops.new.all.items c.tops.ensures all))

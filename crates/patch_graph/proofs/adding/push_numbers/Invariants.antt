@@ -1,5 +1,7 @@
-use Rattle.std.proofs.Common.{◌≡◌, ◌++◌, drop, map}
+use Rattle.std.proofs.Common.{◌≡◌, ◌++◌, drop}
+use Rattle.std.specs.Prelude.{nat_lt}
+use Rattle.std.specs.List.{filter}
 use Rattle.patch_graph.proofs.adding.push_numbers.Given as goal
 
-abbrev pub invariant-loop-span : goal.invariant-loop-span
-invariant-loop-span g l = l.all ++ map (λ s. s.no) (drop l.span-index l.spans) ≡ l.initial.all ++ map (λ s. s.no) l.spans
+abbrev pub invariant-loop-no : goal.invariant-loop-no
+invariant-loop-no g l = l.all.items ++ filter (λ n. nat_lt n l.made) (drop l.no-index l.numbers) ≡ l.initial.all.items ++ filter (λ n. nat_lt n l.made) l.numbers

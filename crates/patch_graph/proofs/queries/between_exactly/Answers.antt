@@ -1,4 +1,5 @@
-use Rattle.std.proofs.Common.{refl, sym, arith, ◌∙◌, ◌<◌, length}
+use Rattle.std.proofs.Common.{subst, refl, sym, arith, ◌∙◌, ◌<◌, length}
+use Rattle.patch_graph.specs.State.{KeysFit}
 use Rattle.patch_graph.proofs.Reaching.{has-keys, is_found, is_low}
 use Rattle.patch_graph.proofs.LeastBetween.{between_is, newest_is, unreached_is, without-held}
 use Rattle.patch_graph.proofs.LeavesBetween.{leaves_is}
@@ -13,7 +14,7 @@ returns-in_default-find-clause-answer g c all x y r no_ring la lb = absurd (is_f
 
 pub returns-then-from-marks-clause-answer : goal.returns-then-from-marks-clause-answer
 returns-then-from-marks-clause-answer g c all x y r no_ring la lb =
-    let low : c.in-Some.from < length c.args.register.now.slots = is_low c.args.register.now all c.args.a x c.in-Some.from r la (sym c.in-Some.ensures) in
+    let low : c.in-Some.from < length c.args.marks.now = is_low c.args.register.now all c.args.a x c.in-Some.from (length c.args.marks.now) r c.requires.fits la (sym c.in-Some.ensures) in
     absurd (omega arith)
 
 pub returns-then-is_newest-clause-answer : goal.returns-then-is_newest-clause-answer
@@ -28,7 +29,7 @@ clear-requires g c key t = c.search-count.ensures.held key t
 
 pub returns-then-not-is_marked-clause-answer : goal.returns-then-not-is_marked-clause-answer
 returns-then-not-is_marked-clause-answer g c all x y r no_ring la lb =
-    unreached_is c.args.register.now all c.args.a c.args.b x y c.in-Some.from c.in-Some-find.to c.search-count.new.marks r (let l = c.search-count.ensures.length in omega arith) la lb
+    unreached_is c.args.register.now all c.args.a c.args.b x y c.in-Some.from c.in-Some-find.to c.search-count.new.marks r (subst (KeysFit c.args.register.now.slots) (sym c.search-count.ensures.length) c.requires.fits) la lb
     (sym c.in-Some.ensures) (sym c.in-Some-find.ensures) c.search-count.ensures.found (sym c.is_marked.ensures ∙ c.if-not-is_marked.true)
 
 pub returns-then-not-is_marked-clause-absent : goal.returns-then-not-is_marked-clause-absent
@@ -49,7 +50,7 @@ clear-requires-3 g c key t = turned-held _ _ key c.reverse.ensures.permutation (
 pub returns-clause-answer : goal.returns-clause-answer
 returns-clause-answer g c all x y r no_ring la lb =
     between_is c.args.register.now all c.args.a c.args.b x y c.in-Some.from c.in-Some-find.to c.reverse.new.self
-    c.search-count.new.marks c.copy_without.new.dead_ends c.settle.new.marks c.least_name-least.result r no_ring (let l = c.search-count.ensures.length in omega arith) la lb (sym c.in-Some.ensures) (sym c.in-Some-find.ensures)
+    c.search-count.new.marks c.copy_without.new.dead_ends c.settle.new.marks c.least_name-least.result r no_ring (subst (KeysFit c.args.register.now.slots) (sym c.search-count.ensures.length) c.requires.fits) la lb (sym c.in-Some.ensures) (sym c.in-Some-find.ensures)
     (λ key t. turned-held _ _ key c.reverse.ensures.permutation (c.search-count.ensures.held key t)) c.search-count.ensures.found c.copy_without.ensures.copied c.settle.ensures.largest c.least_name-least.ensures
 
 pub returns-clause-absent : goal.returns-clause-absent

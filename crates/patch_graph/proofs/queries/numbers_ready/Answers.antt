@@ -1,9 +1,13 @@
-use Rattle.std.proofs.Common.{refl}
-use Rattle.patch_graph.specs.Marks.{is_marked}
+use Rattle.std.proofs.Common.{subst, sym}
+use Rattle.patch_graph.specs.State.{Graph}
+use Rattle.patch_graph.specs.Meaning.{Represents}
 use Rattle.patch_graph.proofs.Places.{ok-more}
-use Rattle.patch_graph.proofs.ReadySet.{ready_numbers}
+use Rattle.patch_graph.proofs.ReadySet.{taken_numbers}
+use Rattle.patch_graph.proofs.Rings.{no-chain}
 use Rattle.patch_graph.proofs.queries.numbers_ready.Goals as goal
 
-pub returns-clause-answer : goal.returns-clause-answer
-returns-clause-answer g c = ok-more c.marked_numbers-found.result _ _ c.marked_numbers-found.ensures
-    (λ ns h all r. ready_numbers c.ready_is_largest.ensures.only c.args.register.now all c.args.block c.args.keys.now c.mark_ready.new.marks (is_marked c.mark_ready.new.marks) ns.items r (λ key i. refl) c.mark_ready.ensures.held c.mark_ready.ensures.largest h)
+pub returns : goal.returns
+returns g c = ok-more c.ready.result _ _ c.ready.ensures (λ ns h all r ring.
+    let z : Graph = record { made = c.register.inside.made; slots = c.register.inside.links.slots; numbers = c.register.inside.links.numbers; tops = c.register.inside.skylines.entries } in
+    let seen : Represents z all = subst (λ (v : Graph). Represents v all) (sym c.register.view_is) r in
+    taken_numbers c.ready_is_largest.ensures.only z all c.args.block h.set ns.items seen (h.is.largest (no-chain z all seen ring)) h.rising h.just)

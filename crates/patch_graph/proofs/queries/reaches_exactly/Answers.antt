@@ -1,4 +1,5 @@
-use Rattle.std.proofs.Common.{sym, arith, ◌<◌, length}
+use Rattle.std.proofs.Common.{subst, sym, arith, ◌<◌, length}
+use Rattle.patch_graph.specs.State.{KeysFit}
 use Rattle.patch_graph.proofs.Reaching.{reaches_is, reaches-not, has-keys, is_found, is_low}
 use Rattle.patch_graph.proofs.queries.reaches_exactly.Goals as goal
 
@@ -10,13 +11,13 @@ returns-in_default-find-clause-answer g c all x y r la lb = absurd (is_found _ a
 
 pub returns-then-from-marks-clause-answer : goal.returns-then-from-marks-clause-answer
 returns-then-from-marks-clause-answer g c all x y r la lb =
-    let low : c.in-Some.from < length c.args.register.now.slots = is_low c.args.register.now all c.args.a x c.in-Some.from r la (sym c.in-Some.ensures) in
+    let low : c.in-Some.from < length c.args.marks.now = is_low c.args.register.now all c.args.a x c.in-Some.from (length c.args.marks.now) r c.requires.fits la (sym c.in-Some.ensures) in
     absurd (omega arith)
 
 pub returns-clause-answer : goal.returns-clause-answer
 returns-clause-answer g c all x y r la lb = rw c.is_marked-reaches.ensures
     (reaches_is c.args.register.now all c.args.a c.args.b x y c.in-Some.from c.in-Some-find.to c.search-count.new.marks r
-    (let l = c.search-count.ensures.length in omega arith) la lb (λ e. c.if-from-to.false e) (sym c.in-Some.ensures) (sym c.in-Some-find.ensures) c.search-count.ensures.found)
+    (subst (KeysFit c.args.register.now.slots) (sym c.search-count.ensures.length) c.requires.fits) la lb (λ e. c.if-from-to.false e) (sym c.in-Some.ensures) (sym c.in-Some-find.ensures) c.search-count.ensures.found)
 
 pub returns-then-from-to-clause-answer : goal.returns-then-from-to-clause-answer
 returns-then-from-to-clause-answer g c all x y r la lb = (

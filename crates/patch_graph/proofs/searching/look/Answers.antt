@@ -1,5 +1,5 @@
 use Rattle.std.proofs.Common.{sym, ◌≡◌, Some}
-use Rattle.patch_graph.specs.State.{class_at}
+use Rattle.patch_links.specs.State.{class_at}
 use Rattle.patch_graph.specs.Search.{queued_at}
 use Rattle.patch_graph.proofs.Searches.{look-done, look-none-yet}
 use Rattle.patch_graph.proofs.searching.look.Goals as goal

@@ -1,5 +1,5 @@
 use Rattle.std.proofs.Common.{subst, ap, ◌∙◌, arith, ◌≡◌, ℕ, List, length, ◌<◌, slice_index_or}
-use Rattle.patch_graph.specs.State.{Class}
+use Rattle.patch_links.specs.State.{Class}
 use Rattle.patch_graph.specs.Search.{Visited}
 use Rattle.patch_graph.proofs.Searches.{looked, look-ends}
 use Rattle.patch_graph.proofs.Places.{same_default}

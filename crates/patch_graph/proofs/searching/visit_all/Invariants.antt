@@ -1,5 +1,5 @@
 use Rattle.std.proofs.Common.{◌≡◌, ℕ, Some}
-use Rattle.patch_graph.specs.State.{class_at}
+use Rattle.patch_links.specs.State.{class_at}
 use Rattle.patch_graph.specs.Search.{IsLook}
 use Rattle.patch_graph.proofs.searching.visit_all.Given as goal
 

@@ -14,6 +14,7 @@ use Rattle.patch_model.specs.Step.{Send}
 use Rattle.patch_view.specs.History.{MayDepart, undoable_classes}
 use Rattle.patch_view.specs.Meaning.{Represents as IsBlockOf}
 use Rattle.patch_graph.specs.Meaning.{Represents as IsGraphOf}
+use Rattle.patch_graph.specs.Between.{HasNoRing}
 use Rattle.patch_cache.specs.Contents.{Contents, no_block}
 use Rattle.patch_cache.specs.Meaning.{Represents, IsWriteOf}
 use Rattle.patch_cache.proofs.Departing.{may_depart}
@@ -58,8 +59,9 @@ returns-clause-begun g c = λ run at may.
     (c.blocks_are_coherent.ensures.coherent after block (c.executions_are_orderly.ensures.blocks next block legal lawful.0))
     (c.sends_leave.ensures.holds run block at.legal lawful.1.0) in
     let copied : c.from_vec-2.result ≡ image after = c.from_vec-2.ensures ∙ c.copy_image.ensures.copied after flies holds.0 ∙ holds.1 in
+    let ring : HasNoRing all = λ x y apart to back. c.paths_form_no_ring.ensures.back run x y at.legal to back in
     let graph : IsGraphOf c.mark_flight.new.self (entries_of next) = subst (IsGraphOf c.mark_flight.new.self) (sym entries)
-    (c.mark_flight.ensures.answer all seen.graph (subst IsOrderly entries (c.executions_are_orderly.ensures.patches next legal))) in
+    (c.mark_flight.ensures.answer all seen.graph ring (subst IsOrderly entries (c.executions_are_orderly.ensures.patches next legal))) in
     let sends : c.saturating_add-self-inside.result ≡ (state_of next).sends =
     let sum : c.saturating_add-self-inside.result ≡ min (c.self.inside.sends + 1) (2 ^ 32 - 1) = c.saturating_add-self-inside.ensures in
     let one : (state_of next).sends ≡ (state_of run).sends + 1 = ap (λ st. st.sends) state in

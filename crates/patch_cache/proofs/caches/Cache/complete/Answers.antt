@@ -1,6 +1,6 @@
-use Rattle.std.proofs.Common.{◌≡◌, ◌<◌, ◌≤◌, ◌+◌, ◌-◌, ◌∙◌, ℕ, List, [], Some, None, length, length-set, length-append, get_or, set, map, refl, sym, ap, subst, arith}
+use Rattle.std.proofs.Common.{◌≡◌, ◌<◌, ◌≤◌, ◌+◌, ◌-◌, ◌∙◌, ℕ, List, [], ◌∷◌, ◌++◌, Some, None, length, length-set, length-append, get_or, set, map, refl, sym, ap, subst, arith}
 use Rattle.std.specs.Prelude.{Contains, IsTrue, count_by, is_some}
-use Rattle.std.proofs.lemmas.List.{get_or_read_under}
+use Rattle.std.proofs.lemmas.List.{get_or_read_under, map-append}
 use Rattle.std.proofs.lemmas.Option.{slice_get_within, get_or_from_slice_get}
 use Rattle.patch_model.specs.Entry.{Entry, is_live}
 use Rattle.patch_model.specs.Execution.{Execution, extended}
@@ -118,3 +118,14 @@ returns-clause-done g c = λ run at.
           place seen c.self.invariant.0 is ended (landed_here run block state) graph sends counted
           (landed_waiting run block _ _ _ state (λ other differ. c.steps_change_blocks.ensures.landed_elsewhere run block other differ) ended c.stay_waiting.ensures seen.waiting)),
     )
+
+pub stay_waiting-requires : goal.stay_waiting-requires
+stay_waiting-requires g c =
+    let within = slice_get_within c.self.inside.writes.items c.args.landed.block (Some c.in-Some.write) c.in-Some.ensures.0 in
+    let below : c.args.landed.block < 4096 = let long = c.self.invariant.0 in let fits = c.self.invariant.1 in omega arith in
+    below
+
+pub returns-clause-trace : goal.returns-clause-trace
+returns-clause-trace g c =
+    ap (map step_of) c.push_reserved.ensures.items ∙ map-append step_of c.self.inside.trace.items _
+    ∙ ap (λ (v : Contents). v.trace ++ Complete c.args.landed.block ∷ []) c.self.view_is

@@ -2,7 +2,7 @@ use Rattle.std.proofs.Common.{◌≡◌, ◌∙◌, ◌<◌, ◌++◌, ◌∷◌
 use Rattle.std.proofs.lemmas.List.{length-append, length-map, map-append, append-nil}
 use Rattle.patch_model.specs.Execution.{Execution}
 use Rattle.patch_cache.specs.Asks.{ask_of, answer_of, after_all, step_added, steps_added}
-use Rattle.patch_cache.specs.Running.{RunsOn, CountsFaults, CountFaults, IsCrashSafe, HaveWritten}
+use Rattle.patch_cache.specs.Running.{HasRun, RunsOn, CountsFaults, CountFaults, IsCrashSafe, HaveWritten}
 use Rattle.patch_cache.proofs.Asking.{after_none, all_first, one_more_counted}
 use Rattle.patch_cache.proofs.Crashing.{unmoved, joined_ask}
 use Rattle.patch_cache.proofs.Runs.{begun, stepped, stepped_added, stepped_written}
@@ -96,3 +96,7 @@ pub returns-clause-all : goal.returns-clause-all
 returns-clause-all g c =
     let long : length (map answer_of c.loop-ask.answers.items) ≡ c.loop-ask.ask-index = length-map c.loop-ask.answers.items answer_of ∙ c.loop-ask.invariant.many in
     omega (arith, long, c.loop-ask-test.false, c.loop-ask.auto.ask-index-end)
+
+pub returns-in-Err-clause-answers : goal.returns-in-Err-clause-answers
+returns-in-Err-clause-answers g c run on =
+    subst (λ xs. HasRun run (map ask_of c.args.asks.now) (map answer_of xs) c.loop-ask.self c.loop-ask.flights) (sym c.reserve.ensures.items) (c.loop-ask.invariant.so_far run on)

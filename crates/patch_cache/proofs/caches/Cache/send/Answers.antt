@@ -1,27 +1,34 @@
-use Rattle.std.proofs.Common.{◌≡◌, ◌∙◌, None, map, sym, subst}
+use Rattle.std.proofs.Common.{◌≡◌, ◌<◌, ◌∙◌, None, length, map, refl, sym, subst}
 use Rattle.patch_model.specs.Ready.{ready}
 use Rattle.patch_model.specs.Refusing.{why_not_sent}
 use Rattle.patch_model.specs.State.{entries_of, numbers_of}
 use Rattle.patch_model.specs.StepOf.{step_of}
-use Rattle.patch_graph.specs.State.{Graph}
-use Rattle.patch_cache.specs.Contents.{Contents}
+use Rattle.patch_graph.specs.Between.{HasNoRing}
+use Rattle.patch_cache.specs.Contents.{Contents, write_at}
 use Rattle.patch_cache.specs.Meaning.{Represents}
 use Rattle.patch_cache.proofs.caches.Cache.send.Goals as goal
 
 pub returns-in_ok-begin-in-None-clause-sent : goal.returns-in_ok-begin-in-None-clause-sent
 returns-in_ok-begin-in-None-clause-sent g c = λ run at.
     let none : why_not_sent run c.args.block ≡ None = sym (c.in-None.ensures.cause run at) in
-    let with_graph : Graph → Contents = λ graph. record {
+    let now : Contents = record {
       blocks = c.self.inside.blocks.items;
       writes = c.self.inside.writes.items;
-      graph = graph;
+      graph = c.self.inside.graph;
       sends = c.self.inside.sends;
       live = c.self.inside.live;
       trace = map step_of c.self.inside.trace.items;
       waiting = c.self.inside.waiting;
     } in
-    let same : with_graph c.self.inside.graph ≡ c.args.self.now = c.self.view_is ∙ c.in-None.ensures.same in
-    let seen : Represents (with_graph c.self.inside.graph) run = subst (λ (v : Contents). Represents v run) (sym same) at in
-    let now : Represents (with_graph c.ready.new.self) run = subst (λ (graph : Graph). Represents (with_graph graph) run) (sym c.in_ok-numbers-in-None.ensures.same) seen in
-    let numbers : c.in_ok-numbers-in-None.numbers.items ≡ numbers_of (ready (entries_of run) c.args.block) = c.in_ok-numbers-in-None.ensures.answer (entries_of run) seen.graph in
-    (none, c.in_ok-begin-in-None.ensures.begun run now (none, numbers))
+    let same : now ≡ c.args.self.now = c.self.view_is ∙ c.in-None.ensures.same in
+    let seen : Represents now run = subst (λ (v : Contents). Represents v run) (sym same) at in
+    let ring : HasNoRing (entries_of run) = λ x y apart to back. c.paths_form_no_ring.ensures.back run x y at.legal to back in
+    let numbers : c.in_ok-numbers-in-None.numbers.items ≡ numbers_of (ready (entries_of run) c.args.block) = c.in_ok-numbers-in-None.ensures (entries_of run) seen.graph ring in
+    let after : Represents c.why_not_sent.new.self run = subst (λ (v : Contents). Represents v run) (sym c.in-None.ensures.same) at in
+    (none, c.in_ok-begin-in-None.ensures.begun run after (none, numbers))
+
+pub begin-requires-clause-known : goal.begin-requires-clause-known
+begin-requires-clause-known g c = subst (λ (v : Contents). c.args.block < length v.blocks) (sym c.in-None.ensures.same) (c.in-None.ensures.known refl)
+
+pub begin-requires-clause-not_under_way : goal.begin-requires-clause-not_under_way
+begin-requires-clause-not_under_way g c = subst (λ (v : Contents). write_at v c.args.block ≡ None) (sym c.in-None.ensures.same) (c.in-None.ensures.not_under_way refl)

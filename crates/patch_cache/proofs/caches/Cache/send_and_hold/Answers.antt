@@ -8,7 +8,8 @@ use Rattle.patch_model.specs.Step as the
 use Rattle.patch_cache.specs.Contents.{Contents}
 use Rattle.patch_cache.specs.Meaning.{Represents}
 use Rattle.patch_cache.specs.Flights.{AreFlightsOf}
-use Rattle.patch_cache.proofs.Answering.{sent_answered, with_graph}
+use Rattle.patch_cache.proofs.Answering.{sent_answered}
+use Rattle.patch_graph.specs.Between.{HasNoRing}
 use Rattle.patch_cache.proofs.Holding.{held_send}
 
 -- src/running.rt:124:5
@@ -17,8 +18,9 @@ returns-clause-answer g c = λ run runs why.
     let block = c.args.block in
     let flight = c.in_ok-flight.flight in
     let before : Represents _ run = subst (λ (x : Contents). Represents x run) (sym c.self.view_is) runs.cache_is in
-    let numbers = c.in_ok-numbers.ensures.answer (entries_of run) before.graph in
-    let sent = c.in_ok-flight.ensures.begun run (with_graph _ (λ _. []) run c.ready.new.self c.ready.ensures.same before) (why, numbers) in
+    let ring : HasNoRing (entries_of run) = λ x y apart to back. c.paths_form_no_ring.ensures.back run x y runs.cache_is.legal to back in
+    let numbers = c.in_ok-numbers.ensures (entries_of run) before.graph ring in
+    let sent = c.in_ok-flight.ensures.begun run runs.cache_is (why, numbers) in
     let held : c.push_reserved.new.self.items ≡ c.args.flights.now.held.items ++ flight ∷ [] = c.push_reserved.ensures.items ∙ ap (λ xs. xs ++ flight ∷ []) c.reserve.ensures.items in
     let told : c.from_vec.result ≡ c.in_ok-numbers.numbers.items = c.from_vec.ensures ∙ c.in_ok-answered_numbers.ensures.items ∙ c.as_slice.ensures.value in
     let done : is_ok c.extend_from_slice.result ≡ true = ap is_ok c.unwrap.ensures in

@@ -4,6 +4,7 @@ use Rattle.std.proofs.lemmas.Bool.{both_ways}
 use Rattle.std.proofs.lemmas.List.{get_or_read_under}
 use Rattle.patch_model.specs.State.{state_of, entries_of, has_flight}
 use Rattle.patch_graph.specs.Meaning.{Represents as IsGraphOf}
+use Rattle.patch_graph.specs.Between.{HasNoRing}
 use Rattle.patch_cache.specs.Contents.{Contents, no_block, block_at, write_at}
 use Rattle.patch_model.specs.History.{history_of}
 use Rattle.patch_view.specs.State.{Block}
@@ -58,7 +59,8 @@ returns-then-not-any_ready-clause-cause g c = λ run at.
     let flies : has_flight (state_of run) c.args.block ≡ false =
     has_one run c.args.block (write_at c.args.self.now c.args.block) (at.writes c.args.block known) ∙ ap is_some (sym write) ∙ sym c.is_some.ensures ∙ c.if-is_some.false in
     let graph : IsGraphOf c.self.inside.graph (entries_of run) = subst (λ (v : Contents). IsGraphOf v.graph (entries_of run)) (sym c.self.view_is) at.graph in
-    sym (nothing run c.args.block known flies (λ some. both_ways _ c.if-not-any_ready.true ((c.any_ready.ensures.answer (entries_of run) graph).1 some)))
+    let ring : HasNoRing (entries_of run) = λ x y apart to back. c.paths_form_no_ring.ensures.back run x y at.legal to back in
+    sym (nothing run c.args.block known flies (λ some. both_ways _ c.if-not-any_ready.true ((c.any_ready.ensures (entries_of run) graph ring).1 some)))
 
 pub returns-clause-cause : goal.returns-clause-cause
 returns-clause-cause g c = λ run at.
@@ -71,7 +73,8 @@ returns-clause-cause g c = λ run at.
     let flies : has_flight (state_of run) c.args.block ≡ false =
     has_one run c.args.block (write_at c.args.self.now c.args.block) (at.writes c.args.block known) ∙ ap is_some (sym write) ∙ sym c.is_some.ensures ∙ c.if-is_some.false in
     let graph : IsGraphOf c.self.inside.graph (entries_of run) = subst (λ (v : Contents). IsGraphOf v.graph (entries_of run)) (sym c.self.view_is) at.graph in
-    sym (something run c.args.block known flies ((c.any_ready.ensures.answer (entries_of run) graph).0 c.if-not-any_ready.false))
+    let ring : HasNoRing (entries_of run) = λ x y apart to back. c.paths_form_no_ring.ensures.back run x y at.legal to back in
+    sym (something run c.args.block known flies ((c.any_ready.ensures (entries_of run) graph ring).0 c.if-not-any_ready.false))
 
 pub returns-clause-not_under_way : goal.returns-clause-not_under_way
 returns-clause-not_under_way g c = λ t.
