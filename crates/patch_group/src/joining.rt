@@ -1,5 +1,5 @@
 //! How patches are made, and join groups.
-ghost use Rattle.std.specs.Prelude.{◌≡◌, ◌≢◌, ◌<◌, ◌++◌, ◌∷◌, ℕ, [], Some, None, length, map, IfOk, IfErr, OnOk, OnErr};
+ghost use Rattle.std.specs.Prelude.{◌≡◌, ◌≢◌, ◌<◌, ◌++◌, ◌∷◌, ℕ, [], Some, None, length, map, IfOk, IfErr, OnOk, OnErr, IsTrue};
 ghost use Rattle.patch_model.specs.Execution.{Execution, extended};
 ghost use Rattle.patch_model.specs.Refusing.{why_not_made};
 ghost use Rattle.patch_model.specs.State.{entries_of};
@@ -13,7 +13,7 @@ use crate::calls::Groups;
 use crate::records::Record;
 use crate::runs::add;
 use patch_cache::{Cache, CreateRefusal};
-use patch_model::{BlockNo, GroupNo, OutOfMemory, PatchNo, Undo, WriterNo};
+use patch_model::{BlockNo, Bytes, GroupNo, Items, Numbers, OutOfMemory, PatchNo, Undo, WriterNo};
 use std::alloc::Allocator;
 
 impl<A: Allocator + Copy> Groups<A> {
@@ -43,40 +43,56 @@ impl<A: Allocator + Copy> Groups<A> {
         ensures refused_cache { OnErr result (cache.new ≡ cache.old) }
     {
         match writer {
-            Some(writer) => self.create_of(cache, writer, block, start, bytes, after, undo),
+            Some(writer) => {
+                let bytes = copied(self.alloc, bytes)?;
+                let after = copied(self.alloc, after)?;
+                self.create_owned(cache, writer, block, start, bytes, after, undo)
+            }
             None => cache.create(block, start, bytes, after, undo),
         }
     }
 
-    /// Makes a patch of this writer.
-    fn create_of(
+    /// Makes a patch of this writer as [`create_patch`](Groups::create_patch) does, of bytes and names that the caller gives up:
+    /// the cache's trace keeps them, and nothing is copied for it where no group comes before.
+    pub fn create_owned(
         &mut self,
         cache: &mut Cache<A>,
         writer: WriterNo,
         block: BlockNo,
         start: usize,
-        bytes: &[u8],
-        after: &[PatchNo],
+        bytes: Bytes<A>,
+        after: Numbers<A>,
         undo: Undo,
     ) -> Result<PatchNo, CreateRefusal>
         ensures made { (run : Execution) → Represents cache.old run → OnOk result
-            (Represents cache.new (extended run (patch_of self.old (Some writer) block start bytes.now after.now undo))) }
+            (Represents cache.new (extended run (patch_of self.old (Some writer) block start bytes after undo))) }
         ensures number { (run : Execution) → Represents cache.old run → IfOk result (λ no. no ≡ length (entries_of run)) }
         ensures allowed { (run : Execution) → Represents cache.old run
-            → OnOk result (why_not_patched run self.old (Some writer) block start bytes.now after.now ≡ None) }
+            → OnOk result (why_not_patched run self.old (Some writer) block start bytes after ≡ None) }
         ensures joined { IfOk result (λ no. self.new ≡ with_patch self.old (Some writer) no) }
         ensures cause { (run : Execution) → Represents cache.old run → IfErr result (λ refusal.
-            IsCauseOf (why_not_patched run self.old (Some writer) block start bytes.now after.now) (create_cause refusal)) }
-        ensures trace { OnOk result (cache.new.trace ≡ cache.old.trace ++ patch_of self.old (Some writer) block start bytes.now after.now undo ∷ []) }
+            IsCauseOf (why_not_patched run self.old (Some writer) block start bytes after) (create_cause refusal)) }
+        ensures trace { OnOk result (cache.new.trace ≡ cache.old.trace ++ patch_of self.old (Some writer) block start bytes after undo ∷ []) }
         ensures refused { OnErr result (self.new ≡ self.old) }
         ensures refused_cache { OnErr result (cache.new ≡ cache.old) }
     {
+        if self.engages_none() {
+            return cache.create_owned(block, start, bytes, after, undo);
+        }
         let before = self.after_of(writer)?;
         if before.is_empty() {
             return self.create_naming(cache, writer, block, start, bytes, after, undo);
         }
-        let names = self.both(after, before.as_slice())?;
-        self.create_naming(cache, writer, block, start, bytes, names.as_slice(), undo)
+        let names = self.both(after.as_slice(), before.as_slice())?;
+        self.create_naming(
+            cache,
+            writer,
+            block,
+            start,
+            bytes,
+            Numbers::from_vec(names),
+            undo,
+        )
     }
 
     /// Makes a patch of this writer that names just these.
@@ -86,26 +102,35 @@ impl<A: Allocator + Copy> Groups<A> {
         writer: WriterNo,
         block: BlockNo,
         start: usize,
-        bytes: &[u8],
-        names: &[PatchNo],
+        bytes: Bytes<A>,
+        names: Numbers<A>,
         undo: Undo,
     ) -> Result<PatchNo, CreateRefusal>
         ensures made { (run : Execution) → Represents cache.old run → OnOk result
-            (Represents cache.new (extended run (Create block start bytes.now names.now undo))) }
+            (Represents cache.new (extended run (Create block start bytes names undo))) }
         ensures number { (run : Execution) → Represents cache.old run → IfOk result (λ no. no ≡ length (entries_of run)) }
         ensures allowed { (run : Execution) → Represents cache.old run
-            → OnOk result (why_not_made (length run.first) (entries_of run) block start bytes.now names.now ≡ None) }
+            → OnOk result (why_not_made (length run.first) (entries_of run) block start bytes names ≡ None) }
         ensures joined { IfOk result (λ no. self.new ≡ with_patch self.old (Some writer) no) }
         ensures cause { (run : Execution) → Represents cache.old run → IfErr result (λ refusal.
-            IsCauseOf (why_not_made (length run.first) (entries_of run) block start bytes.now names.now) (create_cause refusal)) }
-        ensures trace { OnOk result (cache.new.trace ≡ cache.old.trace ++ Create block start bytes.now names.now undo ∷ []) }
+            IsCauseOf (why_not_made (length run.first) (entries_of run) block start bytes names) (create_cause refusal)) }
+        ensures trace { OnOk result (cache.new.trace ≡ cache.old.trace ++ Create block start bytes names undo ∷ []) }
         ensures refused { OnErr result (self.new ≡ self.old) }
         ensures refused_cache { OnErr result (cache.new ≡ cache.old) }
     {
         make_room(&mut self.groups, self.engaged.as_slice(), writer)?;
-        let no = cache.create(block, start, bytes, names, undo)?;
+        let no = cache.create_owned(block, start, bytes, names, undo)?;
         enter(&mut self.groups, self.engaged.as_slice(), writer, no);
         Ok(no)
+    }
+
+    /// Whether no writer has engaged a group. Then patches come after no others for it, and join none.
+    fn engages_none(&self) -> bool
+        ensures first { IsTrue result → (writer : ℕ) → after_of self.now writer ≡ [] }
+        ensures apart { IsTrue result → (writer n : ℕ) → with_patch self.now (Some writer) n ≡ self.now }
+    {
+        let engaged = self.engaged.as_slice();
+        engaged.is_empty()
     }
 
     /// The one numbers and the others behind them.
@@ -178,4 +203,11 @@ fn enter_into<A: Allocator>(groups: &mut Vec<Record<A>, A>, group: GroupNo, no: 
     if let Some(record) = groups.get_mut(group.0 as usize) {
         add(&mut record.runs, no);
     }
+}
+
+/// The same items again.
+fn copied<T: Copy, A: Allocator>(alloc: A, items: &[T]) -> Result<Items<T, A>, OutOfMemory>
+    ensures { IfOk result (λ copy. copy ≡ items.now) }
+{
+    Ok(Items::from_vec(Vec::from_slice(alloc, items)?))
 }

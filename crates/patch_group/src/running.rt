@@ -14,7 +14,8 @@ use crate::laws;
 use patch_cache::{Answer, Cache, Flights};
 use patch_device::Device;
 use patch_model::{
-    BlockNo, GroupNo, OutOfMemory, PatchNo, Refuses, Undo, WriterNo, laws as model_laws,
+    BlockNo, Bytes, GroupNo, Numbers, OutOfMemory, PatchNo, Refuses, Undo, WriterNo,
+    laws as model_laws,
 };
 use std::alloc::Allocator;
 
@@ -58,14 +59,47 @@ impl<A: Allocator + Copy> Groups<A> {
             if let Err(_) = answers.reserve(1) {
                 return Err((answers, OutOfMemory));
             }
-            let answer = self.answer(cache, flights, device, ask);
+            let answer = self.answer_lent(cache, flights, device, ask);
             answers.push_reserved(answer);
         }
         Ok(answers)
     }
 
-    /// Answers one ask.
-    fn answer<D: Device>(
+    /// Answers one ask, on the same premises as [`run`](Groups::run). It takes no memory for a list of answers, and what a patch's
+    /// ask holds is kept in the cache's trace and not copied.
+    pub fn answer<D: Device>(
+        &mut self,
+        cache: &mut Cache<A>,
+        flights: &mut Flights<A>,
+        device: &mut D,
+        ask: GroupAsk<A>,
+    ) -> GroupAnswer<A>
+        ensures answer { AnswersAsk D.Device cache.old flights.old self.old device.old (group_ask_of ask) (group_answer_of result)
+            cache.new flights.new self.new device.new }
+        ensures groups { self.new ≡ groups_after self.old (group_ask_of ask) (group_answer_of result) }
+        ensures trace { cache.new.trace ≡ cache.old.trace ++ steps_of (part_of self.old (group_ask_of ask) (group_answer_of result)) }
+        ensures device { IsSameDevice D.Device device.old device.new }
+    {
+        model_laws::disks_stay();
+        model_laws::steps_extend();
+        model_laws::flights_are_ready();
+        model_laws::images_stay();
+        model_laws::executions_are_orderly();
+        match ask {
+            GroupAsk::Patch {
+                writer,
+                block,
+                start,
+                bytes,
+                after,
+                undo,
+            } => self.answer_patch(cache, writer, block, start, bytes, after, undo),
+            other => self.answer_lent(cache, flights, device, &other),
+        }
+    }
+
+    /// Answers an ask that is lent.
+    fn answer_lent<D: Device>(
         &mut self,
         cache: &mut Cache<A>,
         flights: &mut Flights<A>,
@@ -92,7 +126,7 @@ impl<A: Allocator + Copy> Groups<A> {
                 bytes,
                 after,
                 undo,
-            } => self.answer_patch(
+            } => self.answer_lent_patch(
                 cache,
                 *writer,
                 *block,
@@ -112,6 +146,27 @@ impl<A: Allocator + Copy> Groups<A> {
 
     /// Makes a patch of a writer.
     fn answer_patch(
+        &mut self,
+        cache: &mut Cache<A>,
+        writer: WriterNo,
+        block: BlockNo,
+        start: usize,
+        bytes: Bytes<A>,
+        after: Numbers<A>,
+        undo: Undo,
+    ) -> GroupAnswer<A>
+        ensures answer { (run : Execution) → Represents cache.old run
+            → IsPatched run self.old (Patch writer block start bytes after undo) (group_answer_of result) cache.new }
+        ensures patched { HasPatched self.old (Patch writer block start bytes after undo) (group_answer_of result) self.new cache.old.trace cache.new.trace }
+    {
+        match self.create_owned(cache, writer, block, start, bytes, after, undo) {
+            Ok(no) => GroupAnswer::Plain(Answer::Made(no)),
+            Err(refusal) => GroupAnswer::Plain(Answer::Refused(refusal.refusal())),
+        }
+    }
+
+    /// Makes a patch of a writer, of bytes and names that are lent.
+    fn answer_lent_patch(
         &mut self,
         cache: &mut Cache<A>,
         writer: WriterNo,

@@ -25,13 +25,6 @@ use Rattle.patch_replay.specs.CachedDisk.{IsAt, IsServed}
 use Rattle.patch_replay.specs.declared.cached_disk.CachedDisk.{CachedDisk}
 use Rattle.patch_replay.proofs.Imaging.{StatesExtend, ImagesStay, images_after}
 
--- the list of one
-lone : {A : Type 0} (xs rest : List A) (x : A) → xs ≡ rest ++ x ∷ [] → length xs ≡ 1 → xs ≡ x ∷ []
-lone xs [] x is one = is
-lone xs (y ∷ ys) x is one =
-    let all : length xs ≡ suc (length (ys ++ x ∷ [])) = ap length is in
-    let more : length (ys ++ x ∷ []) ≡ length ys + 1 = length-append ys (x ∷ []) in absurd (omega (arith, one, all, more))
-
 -- the device has the cache's blocks
 pub counted : (core : CachedDisk) (w : World) → IsAt core w → block_count_of core.device ≡ length w.run.first
 counted core w at = sym (blocks_counted_law core.device tt) ∙ ap length at.disk ∙ at.images.count
@@ -111,15 +104,15 @@ images_of_parts extend stay run disk (Some ask) (Count count) call right held = 
 images_of_parts extend stay run disk (Some ask) (Refused cause) call right held = absurd right
 
 -- what one ask was answered, and where it left the cache, its groups and their disk
-pub record HasServed (w : World) (core now : CachedDisk) (ask : Ask) (a : Answer) : Type 0 where
-  pub right : IsGroupAnswer w.run w.groups ask a ⊎ IsGroupGivenUp w.run w.groups ask a
-  pub runs : Runs now.cache now.flights (run_after w.run w.groups ask a)
-  pub groups : now.groups ≡ groups_after w.groups ask a
-  pub groups_are : AreGroupsOf (run_after w.run w.groups ask a) now.groups
-  pub wrote : HaveWritten w.run (cache_asks (part_of w.groups ask a)) (cache_answers (part_of w.groups ask a)) (contents_of core.device) (contents_of now.device)
+pub record HasServed (w : World) (gs : Groups) (core now : CachedDisk) (ask : Ask) (a : Answer) : Type 0 where
+  pub right : IsGroupAnswer w.run gs ask a ⊎ IsGroupGivenUp w.run gs ask a
+  pub runs : Runs now.cache now.flights (run_after w.run gs ask a)
+  pub groups : now.groups ≡ groups_after gs ask a
+  pub groups_are : AreGroupsOf (run_after w.run gs ask a) now.groups
+  pub wrote : HaveWritten w.run (cache_asks (part_of gs ask a)) (cache_answers (part_of gs ask a)) (contents_of core.device) (contents_of now.device)
 
 comes : StatesExtend → ImagesStay → (w : World) (core now : CachedDisk) (ask : Ask) (a : Answer) (line : LineAnswer) → IsAt core w → line ≡ line_answer a → IsServed a
-    → HasServed w core now ask a → HasComeTo (IsAskAnswered w ask line) (IsAt now)
+    → HasServed w w.groups core now ask a → HasComeTo (IsAskAnswered w ask line) (IsAt now)
 comes extend stay w core now ask a line at is served ran =
     let right = served_right w.run w.groups ask a served ran.right in (
       after w ask a,
@@ -135,33 +128,13 @@ comes extend stay w core now ask a line at is served ran =
 
 comes_if_served : StatesExtend → ImagesStay → (w : World) (core now : CachedDisk) (ask : Ask) (a : Answer) (line : Result LineAnswer OutOfMemory) → IsAt core w
     → IfOk line (λ l. l ≡ line_answer a) → IfOk line (λ _. IsServed a)
-    → HasServed w core now ask a → IfOk line (λ l. HasComeTo (IsAskAnswered w ask l) (IsAt now))
+    → HasServed w w.groups core now ask a → IfOk line (λ l. HasComeTo (IsAskAnswered w ask l) (IsAt now))
 comes_if_served extend stay w core now ask a (Ok line) at is served ran = comes extend stay w core now ask a line at is served ran
 comes_if_served extend stay w core now ask a (Err e) at is served ran = tt
 
--- a list of one ask, and its answers
-pub record HasServedAll (w : World) (core now : CachedDisk) (ask : Ask) (answers : List Answer) : Type 0 where
-  pub right : AreGroupAnswers w.run core.groups (ask ∷ []) answers
-  pub runs : Runs now.cache now.flights (after_parts w.run (parts core.groups (ask ∷ []) answers))
-  pub groups : now.groups ≡ group.groups_after_all core.groups (ask ∷ []) answers
-  pub groups_are : AreGroupsOf (after_parts w.run (parts core.groups (ask ∷ []) answers)) now.groups
-  pub wrote : HaveWritten w.run (cache_asks (parts core.groups (ask ∷ []) answers)) (cache_answers (parts core.groups (ask ∷ []) answers)) (contents_of core.device) (contents_of now.device)
-
-served_one : (w : World) (core now : CachedDisk) (ask : Ask) (a : Answer) → IsAt core w → HasServedAll w core now ask (a ∷ []) → HasServed w core now ask a
-served_one w core now ask a at ran =
-    let same : parts core.groups (ask ∷ []) (a ∷ []) ≡ part_of w.groups ask a = append-nil (part_of core.groups ask a) ∙ ap (λ gs. part_of gs ask a) at.groups in record {
-      right = subst (λ gs. IsGroupAnswer w.run gs ask a ⊎ IsGroupGivenUp w.run gs ask a) at.groups ran.right.0;
-      runs = subst (λ ps. Runs now.cache now.flights (after_parts w.run ps)) same ran.runs;
-      groups = ran.groups ∙ ap (λ gs. groups_after gs ask a) at.groups;
-      groups_are = subst (λ ps. AreGroupsOf (after_parts w.run ps) now.groups) same ran.groups_are;
-      wrote = subst (λ ps. HaveWritten w.run (cache_asks ps) (cache_answers ps) (contents_of core.device) (contents_of now.device)) same ran.wrote;
-    }
-
--- the one ask of a list, and what the line is answered, unless there is no memory
-pub asked_one : {A : Type 0} → StatesExtend → ImagesStay → (w : World) (core now : CachedDisk) (ask : Ask) (answers rest : List (CodeAnswer A)) (a : CodeAnswer A) (line : Result LineAnswer OutOfMemory)
-    → IsAt core w → answers ≡ rest ++ a ∷ [] → length answers ≡ 1 → IfOk line (λ l. l ≡ line_answer (group_answer_of a)) → IfOk line (λ _. IsServed (group_answer_of a))
-    → HasServedAll w core now ask (map group_answer_of answers) → IfOk line (λ l. HasComeTo (IsAskAnswered w ask l) (IsAt now))
-asked_one extend stay w core now ask answers rest a line at is one line_is served ran =
-    let only : map group_answer_of answers ≡ group_answer_of a ∷ [] = ap (map group_answer_of) (lone answers rest a is one) in
-    comes_if_served extend stay w core now ask (group_answer_of a) line at line_is served
-    (served_one w core now ask (group_answer_of a) at (subst (HasServedAll w core now ask) only ran))
+-- the ask that the groups answered, and what the line is answered, unless there is no memory
+pub asked_one : StatesExtend → ImagesStay → (w : World) (core now : CachedDisk) (ask : Ask) (a : Answer) (line : Result LineAnswer OutOfMemory)
+    → IsAt core w → IfOk line (λ l. l ≡ line_answer a) → IfOk line (λ _. IsServed a) → HasServed w core.groups core now ask a
+    → IfOk line (λ l. HasComeTo (IsAskAnswered w ask l) (IsAt now))
+asked_one extend stay w core now ask a line at is served ran =
+    comes_if_served extend stay w core now ask a line at is served (subst (λ gs. HasServed w gs core now ask a) at.groups ran)

@@ -70,14 +70,10 @@ impl CachedDisk {
     {
         model_laws::steps_extend();
         model_laws::images_stay();
-        let answers = self.groups.run(&mut self.cache, &mut self.flights, &mut self.device, &[ask]);
-        let Ok(mut answers) = answers else {
-            return Err(OutOfMemory);
-        };
-        match answers.pop() {
-            Some(answer) => answer_of_ask(answer),
-            None => Err(OutOfMemory),
-        }
+        let answer = self
+            .groups
+            .answer(&mut self.cache, &mut self.flights, &mut self.device, ask);
+        answer_of_ask(answer)
     }
 
     /// Answers an ask of the cache.

@@ -8,7 +8,7 @@ use std::alloc::{AllocError, Global};
 // A line is an ask, and behind the sign what is answered. `by WRITER BLOCK LETTERS` makes a patch of a writer at the block's
 // first byte, `patch BLOCK LETTERS` one of none; it names those that the line names further.
 //
-// `after WRITER`, `sync GROUP` and `disk BLOCK` are no asks. The asks between them are a list.
+// `after WRITER`, `sync GROUP` and `disk BLOCK` are no asks. The asks between them are a list, or answered one by one.
 const SCRIPTS: [&str; 10] = [
     // The second group depends on the first: what waits, and what is sealed.
     "\
@@ -192,9 +192,17 @@ after 1 =
 ",
 ];
 
+// How the asks of a script reach the groups.
+#[derive(Clone, Copy)]
+enum Asking {
+    InLists,
+    OneByOne,
+}
+
 // A cache with its groups, the flights that it waits for, and its device.
 struct Bench {
     alloc: Global,
+    asking: Asking,
     groups: Groups,
     cache: Cache,
     flights: Flights,
@@ -229,7 +237,7 @@ fn tell(told: &mut String, answer: &GroupAnswer) -> Result<(), AllocError> {
     }
 }
 
-fn run(bench: &mut Bench, asks: &[GroupAsk]) -> Result<Vec<GroupAnswer>, Fail> {
+fn answer_list(bench: &mut Bench, asks: &[GroupAsk]) -> Result<Vec<GroupAnswer>, Fail> {
     let Bench {
         groups,
         cache,
@@ -243,9 +251,28 @@ fn run(bench: &mut Bench, asks: &[GroupAsk]) -> Result<Vec<GroupAnswer>, Fail> {
     }
 }
 
+fn answer_each(bench: &mut Bench, asks: Vec<GroupAsk>) -> Result<Vec<GroupAnswer>, Fail> {
+    let Bench {
+        alloc,
+        groups,
+        cache,
+        flights,
+        device,
+        ..
+    } = bench;
+    let mut answers = Vec::new(*alloc);
+    for ask in asks {
+        answers.push(groups.answer(cache, flights, device, ask))?;
+    }
+    Ok(answers)
+}
+
 fn answers_of(bench: &mut Bench, lines: &[&str]) -> Result<Vec<GroupAnswer>, Fail> {
     let asks = asks_in(bench.alloc, lines)?;
-    run(bench, &asks)
+    match bench.asking {
+        Asking::InLists => answer_list(bench, &asks),
+        Asking::OneByOne => answer_each(bench, asks),
+    }
 }
 
 // Writes a line down with its answer.
@@ -377,6 +404,7 @@ fn follow_script(rt: &impl Abort, bench: &mut Bench, script: &str) -> Result<(),
 fn close(bench: Bench) {
     let Bench {
         alloc: _,
+        asking: _,
         groups: _,
         cache: _,
         flights,
@@ -385,10 +413,11 @@ fn close(bench: Bench) {
     flights.abandon();
 }
 
-fn open_bench(rt: &impl Abort, alloc: Global) -> Result<Bench, OutOfMemory> {
+fn open_bench(rt: &impl Abort, alloc: Global, asking: Asking) -> Result<Bench, OutOfMemory> {
     let device = MemDevice::new(alloc, 8)?;
     Ok(Bench {
         alloc,
+        asking,
         groups: Groups::new(alloc),
         cache: open_zeros(rt, alloc, 8)?,
         flights: Flights::new(alloc),
@@ -396,8 +425,8 @@ fn open_bench(rt: &impl Abort, alloc: Global) -> Result<Bench, OutOfMemory> {
     })
 }
 
-fn walk(rt: &impl Abort, alloc: Global, script: &str) -> Result<(), Fail> {
-    let mut bench = open_bench(rt, alloc)?;
+fn walk(rt: &impl Abort, alloc: Global, asking: Asking, script: &str) -> Result<(), Fail> {
+    let mut bench = open_bench(rt, alloc, asking)?;
     let walked = follow_script(rt, &mut bench, script);
     close(bench);
     walked
@@ -406,7 +435,15 @@ fn walk(rt: &impl Abort, alloc: Global, script: &str) -> Result<(), Fail> {
 #[test]
 fn answers_are_as_worked(rt: HostRuntime) -> Result<(), Fail> {
     for script in SCRIPTS {
-        walk(&rt, rt.alloc(), script)?;
+        walk(&rt, rt.alloc(), Asking::InLists, script)?;
+    }
+    Ok(())
+}
+
+#[test]
+fn single_asks_are_answered_so_too(rt: HostRuntime) -> Result<(), Fail> {
+    for script in SCRIPTS {
+        walk(&rt, rt.alloc(), Asking::OneByOne, script)?;
     }
     Ok(())
 }
