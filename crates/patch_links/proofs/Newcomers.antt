@@ -12,7 +12,7 @@ use Rattle.patch_links.specs.Waiting.{of_block, ready_in, is_due, is_unmet, unme
 use Rattle.patch_links.specs.Lists.{OfBlock, Blocks, of_at, times, once, due_in, flying_in, classes_of, IsListed, AreListed, AreSettled, pushed, ChangesOf}
 use Rattle.patch_links.specs.Standing.{has_member, names, AreMembers, AreBelow, KeepsBare, KeepsRest, Stands}
 use Rattle.patch_links.specs.Adding.{IsNewClass, told, retold, AreFollowed, unfollowed, IsNewcomer, HasPut}
-use Rattle.patch_links.proofs.Counts.{count-last, count-same, count-same-in, count-none}
+use Rattle.patch_links.proofs.Counts.{count-last, count-same-in, count-none}
 use Rattle.patch_links.proofs.Places.{same_some, is-at, at-is, below-nodes, slots-at, passes, count-free}
 use Rattle.patch_links.proofs.Waits.{now-was, linked-kept}
 use Rattle.patch_links.proofs.Keeping.{bare-plain, members-kept, below-kept}
@@ -154,33 +154,11 @@ or-three false true c e = inr (inl refl)
 or-three false false c e = inr (inr e)
 
 module _ (old two new : Nodes) (numbers now : Numbers) (blocks : Blocks) (key : ℕ) (c : Class) (node : Node) (s : Stands old numbers blocks) (isnew : IsNewClass c) (below : AreBelow c.name old)
-    (follow : AreFollowed numbers c.name c.after old two) (vacant : node_at two key ≡ None) (here : node_at new key ≡ Some node) (others : (k : ℕ) → k ≢ key → node_at new k ≡ node_at two k)
-    (class : node.class ≡ c) (ready : node.ready ≡ false) (none : node.followers ≡ []) (waits_two : node.waits ≡ count_by (is_unmet two numbers key c.block) c.after)
+    (follow : AreFollowed numbers c.name c.after old two) (vacant-old : node_at old key ≡ None) (here : node_at new key ≡ Some node) (others : (k : ℕ) → k ≢ key → node_at new k ≡ node_at two k)
+    (class : node.class ≡ c) (ready : node.ready ≡ false) (none : node.followers ≡ []) (waits : node.waits ≡ count_by (is_unmet old numbers key c.block) c.after)
     (number : find now c.name ≡ Some key) (rest : (n : ℕ) → n ≢ c.name → find now n ≡ find numbers n) where
   abbrev many : ℕ → ℕ
   many k = count_by (leads_at numbers k) c.after
-
-  -- followers have no part in what keeps a class out
-  waits : node.waits ≡ count_by (is_unmet old numbers key c.block) c.after
-  waits = waits_two ∙ count-same (is_unmet two numbers key c.block) (is_unmet old numbers key c.block) c.after (λ n. by (find numbers n))
-    where
-      ready-two : (j : ℕ) → is_at (ready_in c.block) two j ≡ is_at (ready_in c.block) old j
-      ready-two j = ap (λ o. option_map_or (ready_in c.block) o false) (follow.at j) ∙ kept (node_at old j)
-        where
-          kept : (o : Option Node) → option_map_or (ready_in c.block) (option_map (retold c.name (count_by (leads_at numbers j) c.after)) o) false ≡ option_map_or (ready_in c.block) o false
-          kept None = refl
-          kept (Some x) = refl
-
-      by : (o : Option ℕ) → option_map_or (λ j. not (j == key) && not (is_at (ready_in c.block) two j)) o false ≡ option_map_or (λ j. not (j == key) && not (is_at (ready_in c.block) old j)) o false
-      by None = refl
-      by (Some j) = ap (λ b. not (j == key) && not b) (ready-two j)
-
-  vacant-old : node_at old key ≡ None
-  vacant-old = by (node_at old key) (sym (follow.at key) ∙ vacant)
-    where
-      by : (o : Option Node) → option_map (retold c.name (many key)) o ≡ None → o ≡ None
-      by None e = refl
-      by (Some x) e = absurd (cc)
 
   at-new : (k : ℕ) → k ≢ key → node_at new k ≡ option_map (retold c.name (many k)) (node_at old k)
   at-new k d = others k d ∙ follow.at k

@@ -1,5 +1,5 @@
 -- What the steps of a join keep.
-use Rattle.std.proofs.Common.{◌≡◌, ℕ, suc, ◌+◌, ◌≤◌, ◌∙◌, inl, inr, [], ◌∷◌, ◌++◌, length, refl, sym, ap, arith, subst, Option, Some, None}
+use Rattle.std.proofs.Common.{◌≡◌, ℕ, suc, ◌+◌, ◌≤◌, ◌∙◌, inl, inr, List, [], ◌∷◌, ◌++◌, length, refl, sym, ap, arith, subst, Option, Some, None}
 use Rattle.std.specs.Prelude.{◌==◌, ◌≢◌, ◌&&◌, if◌then◌else◌, count_by}
 use Rattle.std.specs.Option.{option_map}
 use Rattle.std.proofs.lemmas.Bool.{cases_Bool, eq-eqb, eqb-true, and_parts}
@@ -7,14 +7,12 @@ use Rattle.patch_model.specs.Entry.{marks_memory}
 use Rattle.patch_links.specs.State.{Class, Node, Nodes, Numbers, class_at, leads_at, node_at, is_at, slots_of}
 use Rattle.patch_links.specs.Waiting.{ready_in, AreCounted}
 use Rattle.patch_links.specs.Standing.{bare, KeepsBare, KeepsRest}
-use Rattle.patch_links.specs.Adding.{IsRoomier}
-use Rattle.patch_links.specs.Merging.{joined_class}
-use Rattle.patch_links.specs.Joining.{IsCopyAt, inner, AreTied, KeepsOrder, HasAbsorbed, AreNodesJoined, AreMoved, AreClassesJoined, IsPair, AreLevel}
+use Rattle.patch_links.specs.Merging.{joined_class, AreRedirected}
+use Rattle.patch_links.specs.Joining.{inner, AreTied, KeepsOrder, HasAbsorbed, AreNodesJoined, AreMoved, AreClassesJoined, IsPair, AreLevel}
 use Rattle.patch_links.proofs.Places.{cases_option, same_some, is-at, slots-at}
 use Rattle.patch_links.proofs.Waits.{linked-kept}
 use Rattle.patch_links.proofs.Keeping.{bare-plain, members-kept, below-kept}
 use Rattle.patch_links.proofs.Listings.{listed-alike, alike-others}
-use Rattle.patch_links.proofs.Rooms.{tied-roomier, block-roomier, below-roomier}
 use Rattle.patch_links.proofs.Joins.{members-joined, linked-joined, counted-joined, below-joined, waits-for}
 use Rattle.patch_links.proofs.JoinedLists.{joined-aside}
 
@@ -30,13 +28,6 @@ order-rest block old new numbers k counted = record {
   tied = λ t. record { members = members-kept old new numbers (bare-plain old new k.all) t.members; linked = linked-kept old new numbers k.all t.linked; counted = counted t.counted };
   aside = λ other of d l. listed-alike other old new of (alike-others block other old new (bare-plain old new k.all) k.others d) l;
   below = λ made b. below-kept made old new (bare-plain old new k.all) b;
-}
-
-pub order-roomier : (block : ℕ) (old new : Nodes) (numbers : Numbers) → IsRoomier old new → KeepsOrder block old new numbers numbers
-order-roomier block old new numbers r = record {
-  tied = λ t. tied-roomier old new numbers r t;
-  aside = λ other of d l. block-roomier other old new of r l;
-  below = λ made b. below-roomier made old new r b;
 }
 
 -- the classes are as they were where but ready sets and counts have changed
@@ -85,50 +76,55 @@ module _ (block keep gone : ℕ) (old : Nodes) (p : IsPair block keep gone old) 
           below = below-joined keep gone p.one p.other old new numbers now p.apart p.at_keep p.at_gone t.members j r;
         }
 
-    -- so many of what both wait for are each other
-    pub met-fits : (numbers : Numbers) (y : Node) → AreTied old numbers → y ≡ record p.other { room = y.room } → (x : Node) → node_at old keep ≡ Some x
-        → (if y.ready then 0 else inner numbers keep y) ≤ x.waits + y.waits
-    met-fits numbers y t same x at = elim (cases_Bool p.other.ready) [
-      | inl on ↦
-          let none : (if y.ready then 0 else inner numbers keep y) ≡ 0 = ap (λ r. if r then 0 else inner numbers keep y) (ap (λ z. z.ready) same ∙ on) in omega arith
-      | inr off ↦
-          let all : (if y.ready then 0 else inner numbers keep y) ≡ inner numbers keep y = ap (λ r. if r then 0 else inner numbers keep y) (ap (λ z. z.ready) same ∙ off) in
-          let is : x ≡ p.one = same_some x p.one (sym at ∙ p.at_keep) in
-          let a = waits-for old numbers gone keep p.other t.counted p.at_gone p.apart (ap (λ b. is_at (ready_in b) old keep) block-other ∙ level ∙ ready-other ∙ off) in
-          let b = waits-for old numbers keep gone p.one t.counted p.at_keep (λ e. p.apart (sym e)) (ap (λ b. is_at (ready_in b) old gone) p.of ∙ ready-other ∙ off) in
-          let link = t.linked keep gone p.one p.other p.apart p.at_keep p.at_gone in
-          let after : count_by (leads_at numbers keep) y.class.after ≡ count_by (leads_at numbers keep) p.other.class.after = ap (λ z. count_by (leads_at numbers keep) z.class.after) same in
-          let followers : count_by (leads_at numbers keep) y.followers ≡ count_by (leads_at numbers keep) p.other.followers = ap (λ z. count_by (leads_at numbers keep) z.followers) same in
-          let wx : x.waits ≡ p.one.waits = ap (λ z. z.waits) is in
-          let wy : y.waits ≡ p.other.waits = ap (λ z. z.waits) same in omega arith
-    ]
+    -- the other node was taken out, and no more
+    module _ (first : Nodes) (y : Node) (taken : Some y ≡ node_at old gone) (rest : (k : ℕ) → k ≢ gone → node_at first k ≡ node_at old k) where
+      same : y ≡ p.other
+      same = same_some y p.other (taken ∙ p.at_gone)
 
-    -- the one node has taken in a copy of the other, which was taken away then
-    pub nodes-joined : (mid new : Nodes) (numbers : Numbers) (y : Node) → y ≡ record p.other { room = y.room } → HasAbsorbed keep y (if y.ready then 0 else inner numbers keep y) old mid
-        → node_at new gone ≡ None → ((k : ℕ) → k ≢ gone → node_at new k ≡ node_at mid k) → AreNodesJoined keep gone numbers old new
-    nodes-joined mid new numbers y same a none others x w at-x at-w =
-        let h = a.here x at-x in
-        let z = h.0 in
-        let is : w ≡ p.other = same_some w p.other (sym at-w ∙ p.at_gone) in
-        let isx : x ≡ p.one = same_some x p.one (sym at-x ∙ p.at_keep) in
-        let class : y.class ≡ w.class = ap (λ v. v.class) same ∙ sym (ap (λ v. v.class) is) in
-        let followers : y.followers ≡ w.followers = ap (λ v. v.followers) same ∙ sym (ap (λ v. v.followers) is) in
-        let waits : y.waits ≡ w.waits = ap (λ v. v.waits) same ∙ sym (ap (λ v. v.waits) is) in
-        let ready : y.ready ≡ x.ready = ap (λ v. v.ready) same ∙ ready-alike ∙ sym (ap (λ v. v.ready) isx) in
-        let met : (if x.ready then 0 else inner numbers keep w) ≡ (if y.ready then 0 else inner numbers keep y) =
-        ap (λ r. if r then 0 else inner numbers keep w) (sym ready)
-        ∙ ap (λ c. if y.ready then 0 else (count_by (leads_at numbers keep) c.after + count_by (leads_at numbers keep) w.followers)) (sym class)
-        ∙ ap (λ f. if y.ready then 0 else (count_by (leads_at numbers keep) y.class.after + count_by (leads_at numbers keep) f)) (sym followers) in
-        record {
-          node = z;
-          here = others keep p.apart ∙ h.1;
-          none = none;
-          others = λ k d g. others k g ∙ a.others k d;
-          class = h.2.class ∙ ap (joined_class x.class) class;
-          followers = h.2.followers ∙ ap (λ f. x.followers ++ f) followers;
-          ready = h.2.ready;
-          waits = let e = h.2.waits in omega arith;
-        }
+      -- whether the class was in the ready set
+      pub taken-level : y.ready ≡ is_at (ready_in block) old keep
+      taken-level = ap (λ z. z.ready) same ∙ sym (level ∙ ready-other)
+
+      -- so many of what both wait for are each other
+      pub met-fits : (numbers : Numbers) → AreTied old numbers → (x : Node) → node_at first keep ≡ Some x → (if y.ready then 0 else inner numbers keep y) ≤ x.waits + y.waits
+      met-fits numbers t x at = elim (cases_Bool p.other.ready) [
+        | inl on ↦
+            let none : (if y.ready then 0 else inner numbers keep y) ≡ 0 = ap (λ r. if r then 0 else inner numbers keep y) (ap (λ z. z.ready) same ∙ on) in omega arith
+        | inr off ↦
+            let all : (if y.ready then 0 else inner numbers keep y) ≡ inner numbers keep y = ap (λ r. if r then 0 else inner numbers keep y) (ap (λ z. z.ready) same ∙ off) in
+            let is : x ≡ p.one = same_some x p.one (sym at ∙ rest keep p.apart ∙ p.at_keep) in
+            let a = waits-for old numbers gone keep p.other t.counted p.at_gone p.apart (ap (λ b. is_at (ready_in b) old keep) block-other ∙ level ∙ ready-other ∙ off) in
+            let b = waits-for old numbers keep gone p.one t.counted p.at_keep (λ e. p.apart (sym e)) (ap (λ b. is_at (ready_in b) old gone) p.of ∙ ready-other ∙ off) in
+            let link = t.linked keep gone p.one p.other p.apart p.at_keep p.at_gone in
+            let after : count_by (leads_at numbers keep) y.class.after ≡ count_by (leads_at numbers keep) p.other.class.after = ap (λ z. count_by (leads_at numbers keep) z.class.after) same in
+            let followers : count_by (leads_at numbers keep) y.followers ≡ count_by (leads_at numbers keep) p.other.followers = ap (λ z. count_by (leads_at numbers keep) z.followers) same in
+            let wx : x.waits ≡ p.one.waits = ap (λ z. z.waits) is in
+            let wy : y.waits ≡ p.other.waits = ap (λ z. z.waits) same in omega arith
+      ]
+
+      -- the one node has taken the other in, whose place is empty now
+      pub nodes-joined : (mid new : Nodes) (numbers : Numbers) → HasAbsorbed keep y (if y.ready then 0 else inner numbers keep y) first mid
+          → node_at new gone ≡ None → ((k : ℕ) → k ≢ gone → node_at new k ≡ node_at mid k) → AreNodesJoined keep gone numbers old new
+      nodes-joined mid new numbers a none others x w at-x at-w =
+          let h = a.here x (rest keep p.apart ∙ at-x) in
+          let is : y ≡ w = same ∙ same_some p.other w (sym p.at_gone ∙ at-w) in
+          let ready : y.ready ≡ x.ready = ap (λ v. v.ready) same ∙ ready-alike ∙ ap (λ v. v.ready) (same_some p.one x (sym p.at_keep ∙ at-x)) in
+          let met : (if x.ready then 0 else inner numbers keep w) ≡ (if y.ready then 0 else inner numbers keep y) =
+          ap (λ r. if r then 0 else inner numbers keep w) (sym ready) ∙ ap (λ v. if y.ready then 0 else inner numbers keep v) (sym is) in
+          let waits : y.waits ≡ w.waits = ap (λ v. v.waits) is in
+          record {
+            node = h.0;
+            here = others keep p.apart ∙ h.1;
+            none = none;
+            others = λ k d g. others k g ∙ a.others k d ∙ rest k g;
+            class = h.2.class ∙ ap (λ v. joined_class x.class v.class) is;
+            followers = h.2.followers ∙ ap (λ v. x.followers ++ v.followers) is;
+            ready = h.2.ready;
+            waits = let e = h.2.waits in omega arith;
+          }
+
+      pub taken-moved : (members : List ℕ) (numbers now : Numbers) → members ≡ y.class.members → AreRedirected members keep numbers now → AreMoved keep gone old numbers now
+      taken-moved members numbers now e r w at = subst (λ ms. AreRedirected ms keep numbers now) (e ∙ ap (λ v. v.class.members) (same_some y w (taken ∙ at))) r
 
 class-was : (nodes : Nodes) (key : ℕ) (c : Class) → class_at (slots_of nodes) key ≡ Some c → (x : Node) × (node_at nodes key ≡ Some x) × (x.class ≡ c)
 class-was nodes key c at = elim (cases_option (node_at nodes key)) [
@@ -154,7 +150,3 @@ pub classes-kept : (keep gone : ℕ) (first old new last : Nodes) (numbers now :
     → AreClassesJoined keep gone (slots_of first) (slots_of last) numbers now
 classes-kept keep gone first old new last numbers now a b joined =
     subst (λ slots. AreClassesJoined keep gone slots (slots_of last) numbers now) (slots-bare first old a) (subst (λ slots. AreClassesJoined keep gone (slots_of old) slots numbers now) (sym (slots-bare new last b)) joined)
-
--- whether the class was in the ready set, by a copy of the other one
-pub copy-level : (block keep gone : ℕ) (nodes : Nodes) (y : Node) → IsPair block keep gone nodes → AreLevel block keep gone nodes → IsCopyAt nodes gone y → y.ready ≡ is_at (ready_in block) nodes keep
-copy-level block keep gone nodes y p level copy = ap (λ z. z.ready) (copy p.other p.at_gone) ∙ sym (level ∙ ready-other block keep gone nodes p)

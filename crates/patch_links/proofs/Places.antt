@@ -3,7 +3,7 @@ use Rattle.std.proofs.Common.{◌≡◌, ℕ, zero, suc, ◌<◌, ◌≤◌, ◌
 use Rattle.std.specs.Prelude.{◌==◌, ◌≢◌, slice_set, slice_index_or, count_by, if◌then◌else◌, cond}
 use Rattle.std.specs.Option.{option_map, option_map_or}
 use Rattle.std.proofs.lemmas.Bool.{cases_Bool, cases_eq, cases_lt, both_ways, eq-eqb, ne_eqb}
-use Rattle.std.proofs.lemmas.List.{get_or-set_same, get_or-set_other, length-set}
+use Rattle.std.proofs.lemmas.List.{get_or-set_same, get_or-set_other, length-set, set-set, set-get_or}
 use Rattle.std.proofs.lemmas.List.Sums.{sum_by-set}
 use Rattle.patch_links.specs.State.{Node, Nodes, class_at, node_at, slots_of, is_at, changed_at}
 use Rattle.patch_links.specs.Lists.{times, once}
@@ -47,6 +47,13 @@ changed-else change nodes key k d = elim (cases_option (node_at nodes key)) [
   | inl none ↦ ap (λ o. node_at (option_map_or (λ c. slice_set nodes key (Some (change c))) o nodes) k) none
   | inr x ↦ ap (λ o. node_at (option_map_or (λ c. slice_set nodes key (Some (change c))) o nodes) k) x.1 ∙ get_or-set_other nodes key k (Some (change x.0)) None d
 ]
+
+-- a node that was taken out, and is put back
+pub put-back : (nodes : Nodes) (key : ℕ) (e x : Node) → node_at nodes key ≡ Some x → changed_at (λ y. x) (slice_set nodes key (Some e)) key ≡ nodes
+put-back nodes key e x at =
+    let here : node_at (slice_set nodes key (Some e)) key ≡ Some e = get_or-set_same nodes key (Some e) None (below-nodes nodes key x at) in
+    ap (λ o. option_map_or (λ y. slice_set (slice_set nodes key (Some e)) key (Some x)) o (slice_set nodes key (Some e))) here ∙ set-set nodes key (Some e) (Some x)
+    ∙ ap (slice_set nodes key) (sym at) ∙ set-get_or nodes key None
 
 pub changed-long : (change : Node → Node) (nodes : Nodes) (key : ℕ) → length (changed_at change nodes key) ≡ length nodes
 changed-long change nodes key = elim (cases_option (node_at nodes key)) [

@@ -1,6 +1,6 @@
 -- Room for one more class.
 use Rattle.std.proofs.Common.{◌≡◌, ℕ, zero, suc, ◌+◌, ◌<◌, ◌≤◌, ◌⊎◌, ◌∙◌, inl, inr, Bool, false, List, [], ◌∷◌, ◌++◌, length, refl, sym, ap, arith, subst, Option, Some, None, take, length-append}
-use Rattle.std.specs.Prelude.{◌==◌, slice_set, slice_index_or, count_by, is_some}
+use Rattle.std.specs.Prelude.{◌==◌, ◌&&◌, not, slice_set, slice_index_or, count_by, is_some}
 use Rattle.std.specs.Option.{option_map, option_map_or}
 use Rattle.std.proofs.lemmas.Bool.{cases_eq, eq-eqb, ne_eqb}
 use Rattle.std.proofs.lemmas.List.{get_or-set_same, get_or-set_other}
@@ -8,7 +8,7 @@ use Rattle.std.proofs.lemmas.List.Sums.{count_by-le-length}
 use Rattle.std.proofs.Math.Seq.{map-set_same}
 use Rattle.patch_model.specs.Member.{In}
 use Rattle.patch_links.specs.State.{Node, Nodes, Numbers, find, leads_at, node_at, is_at, changed_at}
-use Rattle.patch_links.specs.Waiting.{of_block, ready_in, unmet_of}
+use Rattle.patch_links.specs.Waiting.{of_block, ready_in, is_unmet, unmet_of}
 use Rattle.patch_links.specs.Lists.{OfBlock, Blocks, of_at, once, due_in, flying_in, IsListed, AreListed, AreSettled}
 use Rattle.patch_links.specs.Standing.{has_member, names, AreBelow, Stands}
 use Rattle.patch_links.specs.Adding.{with_room, IsRoomier, HasRoom, HasRoomTo, HasRoomForAll, followed, followed_to, told, retold, AreFollowed, KeepsLists}
@@ -179,6 +179,31 @@ followed-more numbers m after old mid place n p h at = record {
         twice None = refl
         twice (Some x) = refl
 
+-- followers have no part in what keeps a class out
+followed-unmet : (numbers : Numbers) (m : ℕ) (after : List ℕ) (old new : Nodes) (key block n : ℕ) → AreFollowed numbers m after old new → is_unmet new numbers key block n ≡ is_unmet old numbers key block n
+followed-unmet numbers m after old new key block n f = by (find numbers n)
+  where
+    ready : (j : ℕ) → is_at (ready_in block) new j ≡ is_at (ready_in block) old j
+    ready j = ap (λ o. option_map_or (ready_in block) o false) (f.at j) ∙ kept (node_at old j)
+      where
+        kept : (o : Option Node) → option_map_or (ready_in block) (option_map (retold m (count_by (leads_at numbers j) after)) o) false ≡ option_map_or (ready_in block) o false
+        kept None = refl
+        kept (Some x) = refl
+
+    by : (o : Option ℕ) → option_map_or (λ j. not (j == key) && not (is_at (ready_in block) new j)) o false ≡ option_map_or (λ j. not (j == key) && not (is_at (ready_in block) old j)) o false
+    by None = refl
+    by (Some j) = ap (λ b. not (j == key) && not b) (ready j)
+
+-- so far: how many of the first numbers keep a class out
+pub unmet-so-far : (numbers : Numbers) (m : ℕ) (after : List ℕ) (old mid : Nodes) (key block place n count : ℕ) → AreFollowed numbers m (take place after) old mid → place < length after → slice_index_or after place 0 ≡ n
+    → count ≡ count_by (is_unmet old numbers key block) (take place after)
+    → count + once (is_unmet mid numbers key block n) ≡ count_by (is_unmet old numbers key block) (take (place + 1) after)
+unmet-so-far numbers m after old mid key block place n count p h at was =
+    let more : count_by (is_unmet old numbers key block) (take (place + 1) after) ≡ count_by (is_unmet old numbers key block) (take place after) + once (is_unmet old numbers key block n) =
+    ap (λ j. count_by (is_unmet old numbers key block) (take j after)) (let e : place + 1 ≡ suc place = omega arith in e)
+    ∙ ap (count_by (is_unmet old numbers key block)) (take-next after place n h at) ∙ count-last (is_unmet old numbers key block) (take place after) n in
+    let same : once (is_unmet mid numbers key block n) ≡ once (is_unmet old numbers key block n) = ap once (followed-unmet numbers m (take place after) old mid key block n p) in omega arith
+
 pub followed-all : (numbers : Numbers) (m : ℕ) (after : List ℕ) (old new : Nodes) (place : ℕ) → AreFollowed numbers m (take place after) old new → length after ≡ place → AreFollowed numbers m after old new
 followed-all numbers m after old new place p all = subst (λ xs. AreFollowed numbers m xs old new) (take-whole after place all) p
 
@@ -225,7 +250,7 @@ roomless-test test nodes after j r same = sym (by (node_at after j)) ∙ ap (λ 
     by None = refl
     by (Some x) = same x
 
-pub tied-roomier : (nodes after : Nodes) (numbers : Numbers) → IsRoomier nodes after → AreTied nodes numbers → AreTied after numbers
+tied-roomier : (nodes after : Nodes) (numbers : Numbers) → IsRoomier nodes after → AreTied nodes numbers → AreTied after numbers
 tied-roomier nodes after numbers r t = record {
   members = λ n key. t.members n key ∙ sym (roomless-test (has_member n) nodes after key r (λ x. refl));
   linked = λ key j x y apart at at2.
@@ -240,7 +265,7 @@ tied-roomier nodes after numbers r t = record {
       let more = unmet-alike nodes after numbers key a.0.class (λ j. roomless-test (ready_in a.0.class.block) nodes after j r (λ x. refl)) in omega arith;
 }
 
-pub block-roomier : (block : ℕ) (nodes after : Nodes) (of : OfBlock) → IsRoomier nodes after → IsListed block nodes of → IsListed block after of
+block-roomier : (block : ℕ) (nodes after : Nodes) (of : OfBlock) → IsRoomier nodes after → IsListed block nodes of → IsListed block after of
 block-roomier block nodes after of r l = listed-alike block nodes after of (record {
   due = λ j. roomless-test (due_in block) nodes after j r (λ x. refl);
   ready = λ j. roomless-test (ready_in block) nodes after j r (λ x. refl);

@@ -96,10 +96,6 @@ pub record IsRelisting (block keep gone : ℕ) (ready : Bool) (nodes : Nodes) (o
   pub settled : IsSettledFor block keep before of
   pub flag : ready ≡ is_at (ready_in block) before keep
 
--- the node is that at the key, but for its room
-abbrev pub IsCopyAt : Nodes → ℕ → Node → Type 0
-IsCopyAt nodes key copy = (x : Node) → node_at nodes key ≡ Some x → copy ≡ record x { room = copy.room }
-
 -- the class at the key and the other one wait for no fewer
 abbrev pub FitsAt : Nodes → ℕ → Node → ℕ → Type 0
 FitsAt nodes key other inner = (x : Node) → node_at nodes key ≡ Some x → inner ≤ x.waits + other.waits
@@ -110,8 +106,3 @@ may_join_with nodes key c = is_at (λ y. may_join c y.class) nodes key
 -- the same as of the classes of the nodes
 abbrev pub may_join_both : ℕ → ℕ → Nodes → Bool
 may_join_both keep gone nodes = is_at (λ x. not (keep == gone) && may_join_with nodes gone x.class) nodes keep
-
--- the node with room for no fewer
-pub record IsRoomed (old new : Node) : Type 0 where
-  pub same : new ≡ record old { room = new.room }
-  pub grows : old.room ≤ new.room

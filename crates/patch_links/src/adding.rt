@@ -1,17 +1,16 @@
 //! One more class.
-ghost use Rattle.std.specs.Prelude.{◌≡◌, ◌≢◌, ◌<◌, ◌≤◌, ◌+◌, ◌∷◌, ℕ, [], true, false, nat_lt, length, vec_capacity, Some, IfOk, OnOk, OnErr};
+ghost use Rattle.std.specs.Prelude.{◌≡◌, ◌≢◌, ◌<◌, ◌≤◌, ◌+◌, ◌∷◌, ℕ, [], true, false, nat_lt, length, count_by, vec_capacity, Some, IfOk, OnOk, OnErr};
 ghost use Rattle.std.specs.List.{list_all};
 ghost use Rattle.patch_model.specs.declared.patches.Mark.TheVariants.{Memory};
 ghost use Rattle.slab.specs.Slab.{HasRoomFor};
 ghost use Rattle.patch_table.specs.Table.{HasRoomAt, entries_of};
-ghost use Rattle.patch_links.specs.State.{changed_at, find, slots_of};
-ghost use Rattle.patch_links.specs.Waiting.{AreCounted, AreLinked};
+ghost use Rattle.patch_links.specs.State.{changed_at, find, is_at, slots_of};
+ghost use Rattle.patch_links.specs.Waiting.{is_unmet, ready_in, AreCounted, AreLinked};
 ghost use Rattle.patch_links.specs.Lists.{IsListed, IsSettled, AreListed, AreSettled};
 ghost use Rattle.patch_links.specs.Standing.{AreBelow, KeepsBare, KeepsOwed, KeepsRest, Stands};
 ghost use Rattle.patch_links.specs.Adding.{followed, followed_to, AreFollowed, HasLists, HasPut, HasRoom, HasRoomForAll, HasRoomTo, IsEnlisting, IsJoining, IsNewClass, IsRoomier, KeepsLists};
 
 use crate::admitting::admit_all;
-use crate::counting::count_unmet;
 use crate::lists::{Blocks, OfBlock};
 use crate::nodes::{Class, Keys, Node, Nodes, find, is_due};
 use patch_model::{BlockNo, Mark, PatchNo};
@@ -73,45 +72,74 @@ fn reserve_all<A: Allocator>(
     Ok(())
 }
 
-/// One more follower of the class at the key.
-fn follow_at<A: Allocator>(nodes: &mut Nodes<A>, key: usize, follower: PatchNo)
+/// One more follower of the class at the key. Whether the block's ready set has that class.
+fn follow_at<A: Allocator>(
+    nodes: &mut Nodes<A>,
+    key: usize,
+    block: BlockNo,
+    follower: PatchNo,
+) -> bool
     requires { HasRoom 1 key nodes.old.slots }
+    ensures ready { result ≡ is_at (ready_in block) nodes.old.slots key }
     ensures followed { nodes.new.slots ≡ changed_at (followed follower) nodes.old.slots key }
     ensures capacity { nodes.new.capacity ≡ nodes.old.capacity }
     ensures next { nodes.new.vacant_key ≡ nodes.old.vacant_key }
 {
-    if let Some(node) = nodes.get_mut(key) {
-        node.followers.push_reserved(follower);
+    match nodes.get_mut(key) {
+        Some(node) => {
+            node.followers.push_reserved(follower);
+            node.class.block == block && node.ready
+        }
+        None => false,
     }
 }
 
-/// The same of the class that the number leads to.
-fn follow_to<A: Allocator>(nodes: &mut Nodes<A>, keys: &Keys<A>, no: PatchNo, follower: PatchNo)
+/// The same of the class that the number leads to. Whether that keeps the class of the block out that is to be at the key.
+fn follow_to<A: Allocator>(
+    nodes: &mut Nodes<A>,
+    keys: &Keys<A>,
+    key: usize,
+    block: BlockNo,
+    no: PatchNo,
+    follower: PatchNo,
+) -> bool
     requires { HasRoomTo (entries_of keys.now) 1 no nodes.old.slots }
+    ensures unmet { result ≡ is_unmet nodes.old.slots (entries_of keys.now) key block no }
     ensures followed { nodes.new.slots ≡ followed_to (entries_of keys.now) follower nodes.old.slots no }
     ensures capacity { nodes.new.capacity ≡ nodes.old.capacity }
     ensures next { nodes.new.vacant_key ≡ nodes.old.vacant_key }
 {
-    if let Some(key) = find(keys, no) {
-        follow_at(nodes, key, follower);
+    match find(keys, no) {
+        Some(other) => {
+            let ready = follow_at(nodes, other, block, follower);
+            other != key && !ready
+        }
+        None => false,
     }
 }
 
-/// The same of the classes that these numbers lead to.
+/// The same of the classes that these numbers lead to. How many of the numbers keep that class out.
 fn follow_all<A: Allocator>(
     nodes: &mut Nodes<A>,
     keys: &Keys<A>,
+    key: usize,
+    block: BlockNo,
     after: &[PatchNo],
     follower: PatchNo,
-)
+) -> usize
     requires { HasRoomForAll (entries_of keys.now) (length after.now) after.now nodes.old.slots }
+    ensures unmet { result ≡ count_by (is_unmet nodes.old.slots (entries_of keys.now) key block) after.now }
     ensures followed { AreFollowed (entries_of keys.now) follower after.now nodes.old.slots nodes.new.slots }
     ensures capacity { nodes.new.capacity ≡ nodes.old.capacity }
     ensures next { nodes.new.vacant_key ≡ nodes.old.vacant_key }
 {
+    let mut unmet = 0;
     for no in after {
-        follow_to(nodes, keys, *no, follower);
+        if follow_to(nodes, keys, key, block, *no, follower) {
+            unmet += 1;
+        }
     }
+    unmet
 }
 
 /// Gives so many blocks their lists, which hold no key yet; those that have some keep them.
@@ -135,6 +163,9 @@ fn lengthen<A: Allocator + Copy>(
     ensures long { OnOk result (block < length blocks.new.items) }
 {
     let count = block.0 as usize + 1;
+    if count <= blocks.len() {
+        return Ok(());
+    }
     blocks.reserve(count.saturating_sub(blocks.len()))?;
     fill(alloc, blocks, count);
     Ok(())
@@ -273,7 +304,7 @@ pub fn is_new<A: Allocator>(class: &Class<A>) -> bool
 }
 
 /// The class before anything depends on it, outside of the ready set.
-fn alone<A: Allocator>(alloc: A, class: Class<A>, waits: usize) -> Node<A>
+pub fn alone<A: Allocator>(alloc: A, class: Class<A>, waits: usize) -> Node<A>
 where
     A: Copy,
     ensures class { result.class ≡ class }
@@ -334,9 +365,8 @@ fn put_in<A: Allocator + Copy>(
 {
     let no = class.name;
     let block = class.block;
-    follow_all(nodes, keys, after(&class), no);
     let key = nodes.vacant_key();
-    let waits = count_unmet(nodes, keys, key, block, after(&class));
+    let waits = follow_all(nodes, keys, key, block, after(&class), no);
     nodes.insert_reserved(alone(alloc, class, waits));
     enter(keys, no, key);
     enlist(nodes, keys, blocks, block, key);

@@ -38,8 +38,19 @@ fn add_members<A: Allocator, B: Allocator>(
 ) -> Result<(), AllocError>
     ensures { OnOk result (all.new.items ≡ all.old.items ++ members_at nodes.now.slots key) }
 {
-    if let Some(node) = nodes.get(key) {
-        all.extend_from_slice(node.class.members.as_slice())?;
+    match nodes.get(key) {
+        Some(node) => append(node.class.members.as_slice(), all),
+        None => Ok(()),
+    }
+}
+
+/// Puts numbers behind the others; mostly it is one.
+fn append<B: Allocator>(numbers: &[PatchNo], all: &mut Vec<PatchNo, B>) -> Result<(), AllocError>
+    ensures { OnOk result (all.new.items ≡ all.old.items ++ numbers.now) }
+{
+    match numbers {
+        [no] => all.push(*no)?,
+        _ => all.extend_from_slice(numbers)?,
     }
     Ok(())
 }
@@ -52,7 +63,7 @@ fn gather<A: Allocator, B: Allocator>(
 ) -> Result<Vec<PatchNo, B>, AllocError>
     ensures { IfOk result (λ all. all.items ≡ gathered nodes.now.slots ready.now) }
 {
-    let mut all = Vec::new(alloc);
+    let mut all = Vec::with_capacity(alloc, ready.len())?;
     for key in ready {
         add_members(nodes, *key, &mut all)?;
     }

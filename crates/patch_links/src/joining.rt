@@ -1,15 +1,15 @@
 //! Two classes made one.
-ghost use Rattle.std.specs.Prelude.{None, ◌≡◌, ◌≢◌, ◌+◌, ◌≤◌, ◌++◌, ◌==◌, ℕ, true, false, min, length, count_by, if◌then◌else◌, Some, IfOk, OnOk, OnErr, IfSome, IfNone};
+ghost use Rattle.std.specs.Prelude.{None, [], ◌≡◌, ◌≢◌, ◌+◌, ◌≤◌, ◌++◌, ◌==◌, ℕ, false, min, length, count_by, if◌then◌else◌, Some, OnOk, OnErr};
 ghost use Rattle.std.specs.Option.{option_map};
 ghost use Rattle.patch_table.specs.Table.{entries_of};
-ghost use Rattle.patch_links.specs.State.{Node as SeenNode, find, leads_at, node_at, slots_of, is_at};
-ghost use Rattle.patch_links.specs.Waiting.{ready_in, AreCounted, AreLinked};
+ghost use Rattle.patch_links.specs.State.{Node as SeenNode, find, leads_at, node_at, slots_of, is_at, changed_at};
+ghost use Rattle.patch_links.specs.Waiting.{ready_in, AreCounted};
 ghost use Rattle.patch_links.specs.Lists.{IsListed, IsSettled, AreListed, AreSettled};
 ghost use Rattle.patch_links.specs.Standing.{AreBelow, KeepsRest, Stands};
-ghost use Rattle.patch_links.specs.Adding.{IsRoomier};
-ghost use Rattle.patch_links.specs.Merging.{joined_class, may_join, may_join_at, AreRedirected};
-ghost use Rattle.patch_links.specs.Joining.{IsCopyAt, IsRoomed, FitsAt, may_join_with, may_join_both, inner, IsAbsorbed, HasAbsorbed, AreNodesJoined, AreMoved, AreClassesJoined, AreClassesJoinedIf, AreTied, KeepsOrder, IsPair, AreLevel, IsSettledFor, IsRelisting};
+ghost use Rattle.patch_links.specs.Merging.{may_join, may_join_at, AreRedirected};
+ghost use Rattle.patch_links.specs.Joining.{FitsAt, may_join_with, may_join_both, inner, IsAbsorbed, HasAbsorbed, AreClassesJoined, AreClassesJoinedIf, AreTied, KeepsOrder, IsPair, AreLevel, IsSettledFor, IsRelisting};
 
+use crate::adding::alone;
 use crate::admitting::admit_all;
 use crate::flying::take_out;
 use crate::lists::{Blocks, OfBlock};
@@ -17,6 +17,7 @@ use crate::nodes::{Class, Keys, Node, Nodes, block_at, find, is_due, is_ready};
 use patch_model::{BlockNo, Mark, PatchNo};
 use patch_numbers::NumberList;
 use std::alloc::{AllocError, Allocator};
+use std::mem;
 
 /// The lesser number.
 fn lesser(a: PatchNo, b: PatchNo) -> PatchNo
@@ -25,65 +26,36 @@ fn lesser(a: PatchNo, b: PatchNo) -> PatchNo
     if a.0 < b.0 { a } else { b }
 }
 
-/// The same class again.
-fn copy_class<A: Allocator>(alloc: A, class: &Class<A>) -> Result<Class<A>, AllocError>
-where
-    A: Copy,
-    ensures { IfOk result (λ copy. copy ≡ class.now) }
+/// Puts numbers at the end, where there is room for them. Mostly there is one, or none.
+fn extend<A: Allocator>(list: &mut NumberList<A>, numbers: &[PatchNo])
+    requires { length numbers.now ≤ list.old.room }
+    ensures { list.new.items ≡ list.old.items ++ numbers.now }
 {
-    Ok(Class {
-        name: class.name,
-        members: NumberList::from_slice(alloc, class.members.as_slice())?,
-        block: class.block,
-        mark: class.mark,
-        hard: class.hard,
-        start: class.start,
-        stop: class.stop,
-        after: NumberList::from_slice(alloc, class.after.as_slice())?,
-    })
-}
-
-/// The same node again.
-fn copy<A: Allocator>(alloc: A, node: &Node<A>) -> Result<Node<A>, AllocError>
-where
-    A: Copy,
-    ensures { IfOk result (λ copy. copy ≡ record node.now { room = copy.room }) }
-{
-    Ok(Node {
-        class: copy_class(alloc, &node.class)?,
-        ready: node.ready,
-        waits: node.waits,
-        followers: NumberList::from_slice(alloc, node.followers.as_slice())?,
-    })
-}
-
-/// Takes in the other class's patches.
-fn absorb_class<A: Allocator>(class: &mut Class<A>, other: &Class<A>) -> Result<(), AllocError>
-    ensures joined { OnOk result (class.new ≡ joined_class class.old other.now) }
-    ensures refused { OnErr result (class.new ≡ class.old) }
-{
-    class.members.reserve(other.members.len())?;
-    class.after.reserve(other.after.len())?;
-    class.members.extend_reserved(other.members.as_slice());
-    class.after.extend_reserved(other.after.as_slice());
-    class.name = lesser(class.name, other.name);
-    class.start = class.start.min(other.start);
-    class.stop = class.stop.max(other.stop);
-    Ok(())
+    match numbers {
+        [] => {}
+        [no] => list.push_reserved(*no),
+        _ => list.extend_reserved(numbers),
+    }
 }
 
 /// Takes in the other class's patches and its followers, where so many of what they waited for was each other.
 fn absorb<A: Allocator>(node: &mut Node<A>, other: &Node<A>, inner: usize) -> Result<(), AllocError>
     requires { inner ≤ node.old.waits + other.now.waits }
     ensures absorbed { OnOk result (IsAbsorbed node.old other.now node.new inner) }
-    ensures refused { OnErr result (IsRoomed node.old node.new) }
+    ensures refused { OnErr result (node.new ≡ node.old) }
 {
     let Some(waits) = node.waits.checked_add(other.waits) else {
         return Err(AllocError);
     };
+    node.class.members.reserve(other.class.members.len())?;
+    node.class.after.reserve(other.class.after.len())?;
     node.followers.reserve(other.followers.len())?;
-    absorb_class(&mut node.class, &other.class)?;
-    node.followers.extend_reserved(other.followers.as_slice());
+    extend(&mut node.class.members, other.class.members.as_slice());
+    extend(&mut node.class.after, other.class.after.as_slice());
+    extend(&mut node.followers, other.followers.as_slice());
+    node.class.name = lesser(node.class.name, other.class.name);
+    node.class.start = node.class.start.min(other.class.start);
+    node.class.stop = node.class.stop.max(other.class.stop);
     node.waits = waits - inner;
     Ok(())
 }
@@ -141,20 +113,40 @@ fn count_inner<A: Allocator>(keys: &Keys<A>, keep: usize, other: &Node<A>) -> us
     }
 }
 
-/// The node at the key again.
-fn copy_at<A: Allocator>(
-    alloc: A,
-    nodes: &Nodes<A>,
-    key: usize,
-) -> Result<Option<Node<A>>, AllocError>
-where
-    A: Copy,
-    ensures some { IfOk result (λ copy. IfSome copy (λ y. IsCopyAt nodes.now.slots key y)) }
-    ensures none { IfOk result (λ copy. IfNone copy (node_at nodes.now.slots key ≡ None)) }
+/// A class of no patch.
+fn nobody<A: Allocator + Copy>(alloc: A) -> Class<A>
+    ensures { result.members ≡ [] }
 {
-    match nodes.get(key) {
-        Some(node) => Ok(Some(copy(alloc, node)?)),
-        None => Ok(None),
+    Class {
+        name: PatchNo(0),
+        members: NumberList::new(alloc),
+        block: BlockNo(0),
+        mark: Mark::Memory,
+        hard: false,
+        start: 0,
+        stop: 0,
+        after: NumberList::new(alloc),
+    }
+}
+
+/// Takes the class at the key out, and leaves one of no patch in its place.
+fn take_at<A: Allocator + Copy>(alloc: A, nodes: &mut Nodes<A>, key: usize) -> Option<Node<A>>
+    ensures taken { result ≡ node_at nodes.old.slots key }
+    ensures others { (k : ℕ) → k ≢ key → node_at nodes.new.slots k ≡ node_at nodes.old.slots k }
+    ensures back { (x : SeenNode) → node_at nodes.old.slots key ≡ Some x → changed_at (λ y. x) nodes.new.slots key ≡ nodes.old.slots }
+{
+    match nodes.get_mut(key) {
+        Some(node) => Some(mem::replace(node, alone(alloc, nobody(alloc), 0))),
+        None => None,
+    }
+}
+
+/// Puts a class in the place of that at the key.
+fn put_at<A: Allocator>(nodes: &mut Nodes<A>, key: usize, node: Node<A>)
+    ensures { nodes.new.slots ≡ changed_at (λ x. node) nodes.old.slots key }
+{
+    if let Some(place) = nodes.get_mut(key) {
+        *place = node;
     }
 }
 
@@ -167,7 +159,7 @@ fn absorb_at<A: Allocator>(
 ) -> Result<(), AllocError>
     requires { FitsAt nodes.old.slots key other.now inner }
     ensures absorbed { OnOk result (HasAbsorbed key other.now inner nodes.old.slots nodes.new.slots) }
-    ensures refused { OnErr result (IsRoomier nodes.old.slots nodes.new.slots) }
+    ensures refused { OnErr result (nodes.new.slots ≡ nodes.old.slots) }
 {
     match nodes.get_mut(key) {
         Some(node) => absorb(node, other, inner),
@@ -188,31 +180,6 @@ fn members<A: Allocator>(node: &Node<A>) -> &[PatchNo]
     ensures { result.now ≡ node.now.class.members }
 {
     node.class.members.as_slice()
-}
-
-/// Puts the class at the key `gone`, of which this is a copy, into that at the key `keep`.
-fn unite<A: Allocator>(
-    nodes: &mut Nodes<A>,
-    keys: &mut Keys<A>,
-    block: BlockNo,
-    keep: usize,
-    gone: usize,
-    other: &Node<A>,
-) -> Result<(), AllocError>
-    requires pair { IsPair block keep gone nodes.old.slots }
-    requires level { AreLevel block keep gone nodes.old.slots }
-    requires tied { AreTied nodes.old.slots (entries_of keys.old) }
-    requires copy { IsCopyAt nodes.old.slots gone other.now }
-    ensures joined { OnOk result (AreNodesJoined keep gone (entries_of keys.old) nodes.old.slots nodes.new.slots) }
-    ensures moved { OnOk result (AreMoved keep gone nodes.old.slots (entries_of keys.old) (entries_of keys.new)) }
-    ensures refused { OnErr result (IsRoomier nodes.old.slots nodes.new.slots) }
-    ensures numbers { OnErr result (entries_of keys.new ≡ entries_of keys.old) }
-{
-    let inner = count_inner(keys, keep, other);
-    absorb_at(nodes, keep, other, inner)?;
-    remove(nodes, gone);
-    redirect(keys, members(other), keep);
-    Ok(())
 }
 
 /// The block's lists once the two classes are one. Whether both were in the ready set.
@@ -255,13 +222,19 @@ fn join_alike<A: Allocator + Copy>(
     ensures listed { IsListed block nodes.new.slots list.new }
     ensures order { KeepsOrder block nodes.old.slots nodes.new.slots (entries_of keys.old) (entries_of keys.new) }
     ensures joined { OnOk result (AreClassesJoined keep gone (slots_of nodes.old.slots) (slots_of nodes.new.slots) (entries_of keys.old) (entries_of keys.new)) }
-    ensures refused { OnErr result (slots_of nodes.new.slots ≡ slots_of nodes.old.slots) }
+    ensures refused { OnErr result (nodes.new.slots ≡ nodes.old.slots) }
     ensures numbers { OnErr result (entries_of keys.new ≡ entries_of keys.old) }
 {
-    let Some(other) = copy_at(alloc, nodes, gone)? else {
+    let Some(other) = take_at(alloc, nodes, gone) else {
         return Ok(());
     };
-    unite(nodes, keys, block, keep, gone, &other)?;
+    let inner = count_inner(keys, keep, &other);
+    if let Err(refusal) = absorb_at(nodes, keep, &other, inner) {
+        put_at(nodes, gone, other);
+        return Err(refusal);
+    }
+    remove(nodes, gone);
+    redirect(keys, members(&other), keep);
     relist(nodes, list, block, keep, gone, other.ready);
     Ok(())
 }

@@ -5,7 +5,6 @@
 mod adding;
 mod admitting;
 mod asking;
-mod counting;
 mod flying;
 mod joining;
 mod landing;

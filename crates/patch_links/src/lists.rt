@@ -1,5 +1,5 @@
 //! Which of each block's classes are ready, and which in flight.
-ghost use Rattle.std.specs.Prelude.{◌≡◌, ◌≢◌, ◌<◌, ◌≤◌, ◌+◌, ◌-◌, ◌==◌, ◌++◌, ◌∷◌, [], ℕ, length, filter, not, slice_index_or, Some, None, IfOk, OnOk, OnErr, IsSome, IfSome, IfNone, take};
+ghost use Rattle.std.specs.Prelude.{◌≡◌, ◌≢◌, ◌<◌, ◌≤◌, ◌+◌, ◌-◌, ◌==◌, ◌++◌, ◌∷◌, [], ℕ, length, filter, not, slice_index_or, Some, None, IfOk, OnOk, OnErr, IsSome, IfSome, IfNone, take, vec_capacity};
 ghost use Rattle.patch_links.specs.State.{is_at};
 ghost use Rattle.patch_links.specs.Waiting.{is_due};
 ghost use Rattle.patch_links.specs.Lists.{of_at, pushed, ChangesOf, LosesFlying};
@@ -8,6 +8,9 @@ ghost use Rattle.patch_links.specs.Joining.{is_neither, is_another};
 use crate::nodes::{Nodes, is_due};
 use std::alloc::{AllocError, Allocator, Global};
 use std::marker::Model;
+
+/// For so many keys a list makes room at first.
+const FIRST_ROOM: usize = 32;
 
 /// Keys of a block's classes. A class in memory that waits for others is in no list.
 #[derive(Drop)]
@@ -134,11 +137,14 @@ impl<A: Allocator> OfBlock<A> {
         ensures flying { self.old.room_flying ≤ self.new.room_flying }
         ensures room { OnOk result ((self.old.count < self.new.room_ready) × (self.old.count < self.new.room_flying)) }
     {
+        if self.count < self.ready.capacity() && self.count < self.flying.capacity() {
+            return Ok(());
+        }
         let Some(count) = self.count.checked_add(1) else {
             return Err(AllocError);
         };
-        self.ready.reserve(count.saturating_sub(self.ready.len()))?;
-        self.flying.reserve(count.saturating_sub(self.flying.len()))
+        make_room(&mut self.ready, count)?;
+        make_room(&mut self.flying, count)
     }
 
     /// One class more.
@@ -176,4 +182,16 @@ impl<A: Allocator> OfBlock<A> {
         self.done = self.ready.len();
         self.count = self.count.saturating_sub(1);
     }
+}
+
+/// Makes room for so many keys in all, and at first for some more.
+fn make_room<A: Allocator>(keys: &mut Vec<usize, A>, count: usize) -> Result<(), AllocError>
+    ensures keys { keys.new.items ≡ keys.old.items }
+    ensures kept { vec_capacity keys.old ≤ vec_capacity keys.new }
+    ensures room { OnOk result (count ≤ vec_capacity keys.new) }
+{
+    if count <= keys.capacity() {
+        return Ok(());
+    }
+    keys.reserve(count.saturating_sub(keys.len()).max(FIRST_ROOM))
 }

@@ -13,11 +13,10 @@ insert_reserved-requires g c =
     let name : c.class.inside.name ≡ c.args.class.name = ap (λ (z : Class). z.name) c.class.view_is in
     let block : c.class.inside.block ≡ c.args.class.block = ap (λ (z : Class). z.block) c.class.view_is in
     let after : c.after.result.now ≡ c.args.class.after = c.after.ensures in
-    let after2 : c.after-2.result.now ≡ c.args.class.after = c.after-2.ensures in
-    let follow = subst (λ (m : ℕ). AreFollowed (entries_of c.args.keys.now) m c.args.class.after c.args.nodes.now.slots c.follow_all.new.nodes.slots) name
-    (subst (λ (xs : List ℕ). AreFollowed (entries_of c.args.keys.now) c.class.inside.name xs c.args.nodes.now.slots c.follow_all.new.nodes.slots) after c.follow_all.ensures.followed) in
-    let many = as-many (entries_of c.args.keys.now) c.args.class.name c.args.class.after c.args.nodes.now.slots c.follow_all.new.nodes.slots follow in
-    let capacity = c.follow_all.ensures.capacity in
+    let follow = subst (λ (m : ℕ). AreFollowed (entries_of c.args.keys.now) m c.args.class.after c.args.nodes.now.slots c.follow_all-waits.new.nodes.slots) name
+    (subst (λ (xs : List ℕ). AreFollowed (entries_of c.args.keys.now) c.class.inside.name xs c.args.nodes.now.slots c.follow_all-waits.new.nodes.slots) after c.follow_all-waits.ensures.followed) in
+    let many = as-many (entries_of c.args.keys.now) c.args.class.name c.args.class.after c.args.nodes.now.slots c.follow_all-waits.new.nodes.slots follow in
+    let capacity = c.follow_all-waits.ensures.capacity in
     let room = c.requires.nodes in
     omega (arith, many, capacity, room)
 
@@ -26,18 +25,17 @@ enlist-requires-clause-linked g c =
     let name : c.class.inside.name ≡ c.args.class.name = ap (λ (z : Class). z.name) c.class.view_is in
     let block : c.class.inside.block ≡ c.args.class.block = ap (λ (z : Class). z.block) c.class.view_is in
     let after : c.after.result.now ≡ c.args.class.after = c.after.ensures in
-    let after2 : c.after-2.result.now ≡ c.args.class.after = c.after-2.ensures in
-    let follow = subst (λ (m : ℕ). AreFollowed (entries_of c.args.keys.now) m c.args.class.after c.args.nodes.now.slots c.follow_all.new.nodes.slots) name
-    (subst (λ (xs : List ℕ). AreFollowed (entries_of c.args.keys.now) c.class.inside.name xs c.args.nodes.now.slots c.follow_all.new.nodes.slots) after c.follow_all.ensures.followed) in
-    let same : c.insert_reserved.result ≡ c.vacant_key-key.result = c.insert_reserved.ensures.key ∙ sym c.vacant_key-key.ensures.value in
+    let follow = subst (λ (m : ℕ). AreFollowed (entries_of c.args.keys.now) m c.args.class.after c.args.nodes.now.slots c.follow_all-waits.new.nodes.slots) name
+    (subst (λ (xs : List ℕ). AreFollowed (entries_of c.args.keys.now) c.class.inside.name xs c.args.nodes.now.slots c.follow_all-waits.new.nodes.slots) after c.follow_all-waits.ensures.followed) in
+    let same : c.insert_reserved.result ≡ c.vacant_key-key.result = c.insert_reserved.ensures.key ∙ c.follow_all-waits.ensures.next ∙ sym c.vacant_key-key.ensures.value in
     let upd = rw same at c.insert_reserved.ensures.updates in
     let class : c.alone.result.class ≡ c.args.class = c.alone.ensures.class in
-    let waits = c.alone.ensures.waits ∙ c.count_unmet-waits.ensures
-    ∙ ap (λ (b : ℕ). count_by (is_unmet c.follow_all.new.nodes.slots (entries_of c.args.keys.now) c.vacant_key-key.result b) c.after-2.result.now) block
-    ∙ ap (count_by (is_unmet c.follow_all.new.nodes.slots (entries_of c.args.keys.now) c.vacant_key-key.result c.args.class.block)) after2 in
+    let waits = c.alone.ensures.waits ∙ c.follow_all-waits.ensures.unmet
+    ∙ ap (λ (b : ℕ). count_by (is_unmet c.args.nodes.now.slots (entries_of c.args.keys.now) c.vacant_key-key.result b) c.after.result.now) block
+    ∙ ap (count_by (is_unmet c.args.nodes.now.slots (entries_of c.args.keys.now) c.vacant_key-key.result c.args.class.block)) after in
     let number = subst (λ (m : ℕ). find (entries_of c.enter.new.keys) m ≡ Some c.vacant_key-key.result) name c.enter.ensures.here in
     let rest = subst (λ (m : ℕ). (n : ℕ) → n ≢ m → find (entries_of c.enter.new.keys) n ≡ find (entries_of c.args.keys.now) n) name c.enter.ensures.others in
-    linked-put c.args.nodes.now.slots c.follow_all.new.nodes.slots c.insert_reserved.new.self.slots (entries_of c.args.keys.now) (entries_of c.enter.new.keys) c.args.blocks.now.items c.vacant_key-key.result c.args.class c.alone.result
+    linked-put c.args.nodes.now.slots c.follow_all-waits.new.nodes.slots c.insert_reserved.new.self.slots (entries_of c.args.keys.now) (entries_of c.enter.new.keys) c.args.blocks.now.items c.vacant_key-key.result c.args.class c.alone.result
     c.requires.stands c.requires.fresh c.requires.below follow c.vacant_key-key.ensures.vacant upd.changed upd.others class c.alone.ensures.ready c.alone.ensures.followers waits number rest
 
 pub enlist-requires-clause-counted : goal.enlist-requires-clause-counted
@@ -45,18 +43,17 @@ enlist-requires-clause-counted g c =
     let name : c.class.inside.name ≡ c.args.class.name = ap (λ (z : Class). z.name) c.class.view_is in
     let block : c.class.inside.block ≡ c.args.class.block = ap (λ (z : Class). z.block) c.class.view_is in
     let after : c.after.result.now ≡ c.args.class.after = c.after.ensures in
-    let after2 : c.after-2.result.now ≡ c.args.class.after = c.after-2.ensures in
-    let follow = subst (λ (m : ℕ). AreFollowed (entries_of c.args.keys.now) m c.args.class.after c.args.nodes.now.slots c.follow_all.new.nodes.slots) name
-    (subst (λ (xs : List ℕ). AreFollowed (entries_of c.args.keys.now) c.class.inside.name xs c.args.nodes.now.slots c.follow_all.new.nodes.slots) after c.follow_all.ensures.followed) in
-    let same : c.insert_reserved.result ≡ c.vacant_key-key.result = c.insert_reserved.ensures.key ∙ sym c.vacant_key-key.ensures.value in
+    let follow = subst (λ (m : ℕ). AreFollowed (entries_of c.args.keys.now) m c.args.class.after c.args.nodes.now.slots c.follow_all-waits.new.nodes.slots) name
+    (subst (λ (xs : List ℕ). AreFollowed (entries_of c.args.keys.now) c.class.inside.name xs c.args.nodes.now.slots c.follow_all-waits.new.nodes.slots) after c.follow_all-waits.ensures.followed) in
+    let same : c.insert_reserved.result ≡ c.vacant_key-key.result = c.insert_reserved.ensures.key ∙ c.follow_all-waits.ensures.next ∙ sym c.vacant_key-key.ensures.value in
     let upd = rw same at c.insert_reserved.ensures.updates in
     let class : c.alone.result.class ≡ c.args.class = c.alone.ensures.class in
-    let waits = c.alone.ensures.waits ∙ c.count_unmet-waits.ensures
-    ∙ ap (λ (b : ℕ). count_by (is_unmet c.follow_all.new.nodes.slots (entries_of c.args.keys.now) c.vacant_key-key.result b) c.after-2.result.now) block
-    ∙ ap (count_by (is_unmet c.follow_all.new.nodes.slots (entries_of c.args.keys.now) c.vacant_key-key.result c.args.class.block)) after2 in
+    let waits = c.alone.ensures.waits ∙ c.follow_all-waits.ensures.unmet
+    ∙ ap (λ (b : ℕ). count_by (is_unmet c.args.nodes.now.slots (entries_of c.args.keys.now) c.vacant_key-key.result b) c.after.result.now) block
+    ∙ ap (count_by (is_unmet c.args.nodes.now.slots (entries_of c.args.keys.now) c.vacant_key-key.result c.args.class.block)) after in
     let number = subst (λ (m : ℕ). find (entries_of c.enter.new.keys) m ≡ Some c.vacant_key-key.result) name c.enter.ensures.here in
     let rest = subst (λ (m : ℕ). (n : ℕ) → n ≢ m → find (entries_of c.enter.new.keys) n ≡ find (entries_of c.args.keys.now) n) name c.enter.ensures.others in
-    counted-put c.args.nodes.now.slots c.follow_all.new.nodes.slots c.insert_reserved.new.self.slots (entries_of c.args.keys.now) (entries_of c.enter.new.keys) c.args.blocks.now.items c.vacant_key-key.result c.args.class c.alone.result
+    counted-put c.args.nodes.now.slots c.follow_all-waits.new.nodes.slots c.insert_reserved.new.self.slots (entries_of c.args.keys.now) (entries_of c.enter.new.keys) c.args.blocks.now.items c.vacant_key-key.result c.args.class c.alone.result
     c.requires.stands c.requires.fresh c.requires.below follow c.vacant_key-key.ensures.vacant upd.changed upd.others class c.alone.ensures.ready c.alone.ensures.followers waits number rest
 
 pub enlist-requires-clause-enlisting : goal.enlist-requires-clause-enlisting
@@ -64,22 +61,21 @@ enlist-requires-clause-enlisting g c =
     let name : c.class.inside.name ≡ c.args.class.name = ap (λ (z : Class). z.name) c.class.view_is in
     let block : c.class.inside.block ≡ c.args.class.block = ap (λ (z : Class). z.block) c.class.view_is in
     let after : c.after.result.now ≡ c.args.class.after = c.after.ensures in
-    let after2 : c.after-2.result.now ≡ c.args.class.after = c.after-2.ensures in
-    let follow = subst (λ (m : ℕ). AreFollowed (entries_of c.args.keys.now) m c.args.class.after c.args.nodes.now.slots c.follow_all.new.nodes.slots) name
-    (subst (λ (xs : List ℕ). AreFollowed (entries_of c.args.keys.now) c.class.inside.name xs c.args.nodes.now.slots c.follow_all.new.nodes.slots) after c.follow_all.ensures.followed) in
-    let same : c.insert_reserved.result ≡ c.vacant_key-key.result = c.insert_reserved.ensures.key ∙ sym c.vacant_key-key.ensures.value in
+    let follow = subst (λ (m : ℕ). AreFollowed (entries_of c.args.keys.now) m c.args.class.after c.args.nodes.now.slots c.follow_all-waits.new.nodes.slots) name
+    (subst (λ (xs : List ℕ). AreFollowed (entries_of c.args.keys.now) c.class.inside.name xs c.args.nodes.now.slots c.follow_all-waits.new.nodes.slots) after c.follow_all-waits.ensures.followed) in
+    let same : c.insert_reserved.result ≡ c.vacant_key-key.result = c.insert_reserved.ensures.key ∙ c.follow_all-waits.ensures.next ∙ sym c.vacant_key-key.ensures.value in
     let upd = rw same at c.insert_reserved.ensures.updates in
     let class : c.alone.result.class ≡ c.args.class = c.alone.ensures.class in
-    let waits = c.alone.ensures.waits ∙ c.count_unmet-waits.ensures
-    ∙ ap (λ (b : ℕ). count_by (is_unmet c.follow_all.new.nodes.slots (entries_of c.args.keys.now) c.vacant_key-key.result b) c.after-2.result.now) block
-    ∙ ap (count_by (is_unmet c.follow_all.new.nodes.slots (entries_of c.args.keys.now) c.vacant_key-key.result c.args.class.block)) after2 in
+    let waits = c.alone.ensures.waits ∙ c.follow_all-waits.ensures.unmet
+    ∙ ap (λ (b : ℕ). count_by (is_unmet c.args.nodes.now.slots (entries_of c.args.keys.now) c.vacant_key-key.result b) c.after.result.now) block
+    ∙ ap (count_by (is_unmet c.args.nodes.now.slots (entries_of c.args.keys.now) c.vacant_key-key.result c.args.class.block)) after in
     let number = subst (λ (m : ℕ). find (entries_of c.enter.new.keys) m ≡ Some c.vacant_key-key.result) name c.enter.ensures.here in
     let rest = subst (λ (m : ℕ). (n : ℕ) → n ≢ m → find (entries_of c.enter.new.keys) n ≡ find (entries_of c.args.keys.now) n) name c.enter.ensures.others in
     subst (λ (b : ℕ). IsEnlisting b c.vacant_key-key.result c.insert_reserved.new.self.slots c.args.blocks.now.items) (sym block) (record {
       before = c.args.nodes.now.slots;
       listed = c.requires.stands.listed;
       settled = c.requires.stands.settled;
-      newcomer = newcomer-put c.args.nodes.now.slots c.follow_all.new.nodes.slots c.insert_reserved.new.self.slots (entries_of c.args.keys.now) (entries_of c.enter.new.keys) c.args.blocks.now.items c.vacant_key-key.result c.args.class c.alone.result
+      newcomer = newcomer-put c.args.nodes.now.slots c.follow_all-waits.new.nodes.slots c.insert_reserved.new.self.slots (entries_of c.args.keys.now) (entries_of c.enter.new.keys) c.args.blocks.now.items c.vacant_key-key.result c.args.class c.alone.result
           c.requires.stands c.requires.fresh c.requires.below follow c.vacant_key-key.ensures.vacant upd.changed upd.others class c.alone.ensures.ready c.alone.ensures.followers waits number rest;
       room = c.requires.lists;
     })
@@ -89,18 +85,17 @@ returns-clause-put g c =
     let name : c.class.inside.name ≡ c.args.class.name = ap (λ (z : Class). z.name) c.class.view_is in
     let block : c.class.inside.block ≡ c.args.class.block = ap (λ (z : Class). z.block) c.class.view_is in
     let after : c.after.result.now ≡ c.args.class.after = c.after.ensures in
-    let after2 : c.after-2.result.now ≡ c.args.class.after = c.after-2.ensures in
-    let follow = subst (λ (m : ℕ). AreFollowed (entries_of c.args.keys.now) m c.args.class.after c.args.nodes.now.slots c.follow_all.new.nodes.slots) name
-    (subst (λ (xs : List ℕ). AreFollowed (entries_of c.args.keys.now) c.class.inside.name xs c.args.nodes.now.slots c.follow_all.new.nodes.slots) after c.follow_all.ensures.followed) in
-    let same : c.insert_reserved.result ≡ c.vacant_key-key.result = c.insert_reserved.ensures.key ∙ sym c.vacant_key-key.ensures.value in
+    let follow = subst (λ (m : ℕ). AreFollowed (entries_of c.args.keys.now) m c.args.class.after c.args.nodes.now.slots c.follow_all-waits.new.nodes.slots) name
+    (subst (λ (xs : List ℕ). AreFollowed (entries_of c.args.keys.now) c.class.inside.name xs c.args.nodes.now.slots c.follow_all-waits.new.nodes.slots) after c.follow_all-waits.ensures.followed) in
+    let same : c.insert_reserved.result ≡ c.vacant_key-key.result = c.insert_reserved.ensures.key ∙ c.follow_all-waits.ensures.next ∙ sym c.vacant_key-key.ensures.value in
     let upd = rw same at c.insert_reserved.ensures.updates in
     let class : c.alone.result.class ≡ c.args.class = c.alone.ensures.class in
-    let waits = c.alone.ensures.waits ∙ c.count_unmet-waits.ensures
-    ∙ ap (λ (b : ℕ). count_by (is_unmet c.follow_all.new.nodes.slots (entries_of c.args.keys.now) c.vacant_key-key.result b) c.after-2.result.now) block
-    ∙ ap (count_by (is_unmet c.follow_all.new.nodes.slots (entries_of c.args.keys.now) c.vacant_key-key.result c.args.class.block)) after2 in
+    let waits = c.alone.ensures.waits ∙ c.follow_all-waits.ensures.unmet
+    ∙ ap (λ (b : ℕ). count_by (is_unmet c.args.nodes.now.slots (entries_of c.args.keys.now) c.vacant_key-key.result b) c.after.result.now) block
+    ∙ ap (count_by (is_unmet c.args.nodes.now.slots (entries_of c.args.keys.now) c.vacant_key-key.result c.args.class.block)) after in
     let number = subst (λ (m : ℕ). find (entries_of c.enter.new.keys) m ≡ Some c.vacant_key-key.result) name c.enter.ensures.here in
     let rest = subst (λ (m : ℕ). (n : ℕ) → n ≢ m → find (entries_of c.enter.new.keys) n ≡ find (entries_of c.args.keys.now) n) name c.enter.ensures.others in
-    put-last c.args.nodes.now.slots c.follow_all.new.nodes.slots c.insert_reserved.new.self.slots (entries_of c.args.keys.now) (entries_of c.enter.new.keys) c.args.blocks.now.items c.vacant_key-key.result c.args.class c.alone.result
+    put-last c.args.nodes.now.slots c.follow_all-waits.new.nodes.slots c.insert_reserved.new.self.slots (entries_of c.args.keys.now) (entries_of c.enter.new.keys) c.args.blocks.now.items c.vacant_key-key.result c.args.class c.alone.result
     c.requires.stands c.requires.fresh c.requires.below follow c.vacant_key-key.ensures.vacant upd.changed upd.others class c.alone.ensures.ready c.alone.ensures.followers waits number rest
     c.enlist.new.nodes.slots c.enlist.ensures.bare
 
@@ -109,18 +104,17 @@ returns-clause-stands g c =
     let name : c.class.inside.name ≡ c.args.class.name = ap (λ (z : Class). z.name) c.class.view_is in
     let block : c.class.inside.block ≡ c.args.class.block = ap (λ (z : Class). z.block) c.class.view_is in
     let after : c.after.result.now ≡ c.args.class.after = c.after.ensures in
-    let after2 : c.after-2.result.now ≡ c.args.class.after = c.after-2.ensures in
-    let follow = subst (λ (m : ℕ). AreFollowed (entries_of c.args.keys.now) m c.args.class.after c.args.nodes.now.slots c.follow_all.new.nodes.slots) name
-    (subst (λ (xs : List ℕ). AreFollowed (entries_of c.args.keys.now) c.class.inside.name xs c.args.nodes.now.slots c.follow_all.new.nodes.slots) after c.follow_all.ensures.followed) in
-    let same : c.insert_reserved.result ≡ c.vacant_key-key.result = c.insert_reserved.ensures.key ∙ sym c.vacant_key-key.ensures.value in
+    let follow = subst (λ (m : ℕ). AreFollowed (entries_of c.args.keys.now) m c.args.class.after c.args.nodes.now.slots c.follow_all-waits.new.nodes.slots) name
+    (subst (λ (xs : List ℕ). AreFollowed (entries_of c.args.keys.now) c.class.inside.name xs c.args.nodes.now.slots c.follow_all-waits.new.nodes.slots) after c.follow_all-waits.ensures.followed) in
+    let same : c.insert_reserved.result ≡ c.vacant_key-key.result = c.insert_reserved.ensures.key ∙ c.follow_all-waits.ensures.next ∙ sym c.vacant_key-key.ensures.value in
     let upd = rw same at c.insert_reserved.ensures.updates in
     let class : c.alone.result.class ≡ c.args.class = c.alone.ensures.class in
-    let waits = c.alone.ensures.waits ∙ c.count_unmet-waits.ensures
-    ∙ ap (λ (b : ℕ). count_by (is_unmet c.follow_all.new.nodes.slots (entries_of c.args.keys.now) c.vacant_key-key.result b) c.after-2.result.now) block
-    ∙ ap (count_by (is_unmet c.follow_all.new.nodes.slots (entries_of c.args.keys.now) c.vacant_key-key.result c.args.class.block)) after2 in
+    let waits = c.alone.ensures.waits ∙ c.follow_all-waits.ensures.unmet
+    ∙ ap (λ (b : ℕ). count_by (is_unmet c.args.nodes.now.slots (entries_of c.args.keys.now) c.vacant_key-key.result b) c.after.result.now) block
+    ∙ ap (count_by (is_unmet c.args.nodes.now.slots (entries_of c.args.keys.now) c.vacant_key-key.result c.args.class.block)) after in
     let number = subst (λ (m : ℕ). find (entries_of c.enter.new.keys) m ≡ Some c.vacant_key-key.result) name c.enter.ensures.here in
     let rest = subst (λ (m : ℕ). (n : ℕ) → n ≢ m → find (entries_of c.enter.new.keys) n ≡ find (entries_of c.args.keys.now) n) name c.enter.ensures.others in
-    stands-last c.args.nodes.now.slots c.follow_all.new.nodes.slots c.insert_reserved.new.self.slots (entries_of c.args.keys.now) (entries_of c.enter.new.keys) c.args.blocks.now.items c.vacant_key-key.result c.args.class c.alone.result
+    stands-last c.args.nodes.now.slots c.follow_all-waits.new.nodes.slots c.insert_reserved.new.self.slots (entries_of c.args.keys.now) (entries_of c.enter.new.keys) c.args.blocks.now.items c.vacant_key-key.result c.args.class c.alone.result
     c.requires.stands c.requires.fresh c.requires.below follow c.vacant_key-key.ensures.vacant upd.changed upd.others class c.alone.ensures.ready c.alone.ensures.followers waits number rest
     c.enlist.new.nodes.slots c.enlist.ensures.bare _ c.enlist.ensures.counted c.enlist.ensures.listed c.enlist.ensures.settled
 
@@ -129,17 +123,16 @@ returns-clause-below g c =
     let name : c.class.inside.name ≡ c.args.class.name = ap (λ (z : Class). z.name) c.class.view_is in
     let block : c.class.inside.block ≡ c.args.class.block = ap (λ (z : Class). z.block) c.class.view_is in
     let after : c.after.result.now ≡ c.args.class.after = c.after.ensures in
-    let after2 : c.after-2.result.now ≡ c.args.class.after = c.after-2.ensures in
-    let follow = subst (λ (m : ℕ). AreFollowed (entries_of c.args.keys.now) m c.args.class.after c.args.nodes.now.slots c.follow_all.new.nodes.slots) name
-    (subst (λ (xs : List ℕ). AreFollowed (entries_of c.args.keys.now) c.class.inside.name xs c.args.nodes.now.slots c.follow_all.new.nodes.slots) after c.follow_all.ensures.followed) in
-    let same : c.insert_reserved.result ≡ c.vacant_key-key.result = c.insert_reserved.ensures.key ∙ sym c.vacant_key-key.ensures.value in
+    let follow = subst (λ (m : ℕ). AreFollowed (entries_of c.args.keys.now) m c.args.class.after c.args.nodes.now.slots c.follow_all-waits.new.nodes.slots) name
+    (subst (λ (xs : List ℕ). AreFollowed (entries_of c.args.keys.now) c.class.inside.name xs c.args.nodes.now.slots c.follow_all-waits.new.nodes.slots) after c.follow_all-waits.ensures.followed) in
+    let same : c.insert_reserved.result ≡ c.vacant_key-key.result = c.insert_reserved.ensures.key ∙ c.follow_all-waits.ensures.next ∙ sym c.vacant_key-key.ensures.value in
     let upd = rw same at c.insert_reserved.ensures.updates in
     let class : c.alone.result.class ≡ c.args.class = c.alone.ensures.class in
-    let waits = c.alone.ensures.waits ∙ c.count_unmet-waits.ensures
-    ∙ ap (λ (b : ℕ). count_by (is_unmet c.follow_all.new.nodes.slots (entries_of c.args.keys.now) c.vacant_key-key.result b) c.after-2.result.now) block
-    ∙ ap (count_by (is_unmet c.follow_all.new.nodes.slots (entries_of c.args.keys.now) c.vacant_key-key.result c.args.class.block)) after2 in
+    let waits = c.alone.ensures.waits ∙ c.follow_all-waits.ensures.unmet
+    ∙ ap (λ (b : ℕ). count_by (is_unmet c.args.nodes.now.slots (entries_of c.args.keys.now) c.vacant_key-key.result b) c.after.result.now) block
+    ∙ ap (count_by (is_unmet c.args.nodes.now.slots (entries_of c.args.keys.now) c.vacant_key-key.result c.args.class.block)) after in
     let number = subst (λ (m : ℕ). find (entries_of c.enter.new.keys) m ≡ Some c.vacant_key-key.result) name c.enter.ensures.here in
     let rest = subst (λ (m : ℕ). (n : ℕ) → n ≢ m → find (entries_of c.enter.new.keys) n ≡ find (entries_of c.args.keys.now) n) name c.enter.ensures.others in
-    below-last c.args.nodes.now.slots c.follow_all.new.nodes.slots c.insert_reserved.new.self.slots (entries_of c.args.keys.now) (entries_of c.enter.new.keys) c.args.blocks.now.items c.vacant_key-key.result c.args.class c.alone.result
+    below-last c.args.nodes.now.slots c.follow_all-waits.new.nodes.slots c.insert_reserved.new.self.slots (entries_of c.args.keys.now) (entries_of c.enter.new.keys) c.args.blocks.now.items c.vacant_key-key.result c.args.class c.alone.result
     c.requires.stands c.requires.fresh c.requires.below follow c.vacant_key-key.ensures.vacant upd.changed upd.others class c.alone.ensures.ready c.alone.ensures.followers waits number rest
     c.enlist.new.nodes.slots c.enlist.ensures.bare

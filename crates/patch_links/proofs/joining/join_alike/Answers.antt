@@ -1,31 +1,52 @@
-use Rattle.std.proofs.Common.{ap, ◌∙◌}
+use Rattle.std.proofs.Common.{sym, ap, subst, ◌∙◌}
 use Rattle.patch_table.specs.Table.{entries_of}
-use Rattle.patch_links.proofs.Rooms.{block-roomier}
-use Rattle.patch_links.proofs.Orders.{order-roomier, order-joined, classes-joined, copy-level}
+use Rattle.patch_links.specs.State.{changed_at}
+use Rattle.patch_links.specs.Lists.{IsListed}
+use Rattle.patch_links.specs.Joining.{KeepsOrder}
+use Rattle.patch_links.proofs.Orders.{order-same, order-joined, classes-joined, met-fits, nodes-joined, taken-level, taken-moved}
 use Rattle.patch_links.proofs.joining.join_alike.Goals as goal
 
-pub returns-in_err-unite-clause-listed : goal.returns-in_err-unite-clause-listed
-returns-in_err-unite-clause-listed g c = block-roomier c.args.block c.args.nodes.now.slots c.unite.new.nodes.slots c.args.list.now c.in_err-unite.ensures.refused c.requires.listed
+pub absorb_at-requires : goal.absorb_at-requires
+absorb_at-requires g c x at = rw c.count_inner-inner.ensures (met-fits c.args.block c.args.keep c.args.gone c.args.nodes.now.slots c.requires.pair c.requires.level c.take_at.new.nodes.slots c.in-Some.other
+    c.in-Some.ensures.taken c.in-Some.ensures.others (entries_of c.args.keys.now) c.requires.tied x at)
 
-pub returns-in_err-unite-clause-order : goal.returns-in_err-unite-clause-order
-returns-in_err-unite-clause-order g c = rw c.in_err-unite.ensures.numbers (order-roomier c.args.block c.args.nodes.now.slots c.unite.new.nodes.slots (entries_of c.args.keys.now) c.in_err-unite.ensures.refused)
+pub returns-in-Err-clause-refused : goal.returns-in-Err-clause-refused
+returns-in-Err-clause-refused g c = c.put_at.ensures ∙ ap (λ ns. changed_at (λ y. c.in-Some.other) ns c.args.gone) c.in-Err.ensures.refused ∙ c.in-Some.ensures.back c.in-Some.other (sym c.in-Some.ensures.taken)
+
+pub returns-in-Err-clause-listed : goal.returns-in-Err-clause-listed
+returns-in-Err-clause-listed g c = subst (λ ns. IsListed c.args.block ns c.args.list.now) (sym (returns-in-Err-clause-refused g c)) c.requires.listed
+
+pub returns-in-Err-clause-order : goal.returns-in-Err-clause-order
+returns-in-Err-clause-order g c = subst (λ ns. KeepsOrder c.args.block c.args.nodes.now.slots ns (entries_of c.args.keys.now) (entries_of c.args.keys.now)) (sym (returns-in-Err-clause-refused g c))
+    (order-same c.args.block c.args.nodes.now.slots (entries_of c.args.keys.now))
 
 pub relist-requires : goal.relist-requires
-relist-requires g c = record {
-  before = c.args.nodes.now.slots;
-  numbers = entries_of c.args.keys.now;
-  pair = c.requires.pair;
-  level = c.requires.level;
-  joined = c.in_ok-unite.ensures.joined;
-  listed = c.requires.listed;
-  settled = c.requires.settled;
-  flag = ap (λ z. z.ready) c.other.view_is ∙ copy-level c.args.block c.args.keep c.args.gone c.args.nodes.now.slots c.in-Some.other c.requires.pair c.requires.level (rw c.in-Some.is at c.in_ok-other.ensures.some);
-}
+relist-requires g c =
+    let joined = nodes-joined c.args.block c.args.keep c.args.gone c.args.nodes.now.slots c.requires.pair c.requires.level c.take_at.new.nodes.slots c.in-Some.other c.in-Some.ensures.taken c.in-Some.ensures.others
+    c.absorb_at.new.nodes.slots c.remove.new.nodes.slots (entries_of c.args.keys.now) (rw c.count_inner-inner.ensures at c.in_default-absorb_at.ensures.absorbed) c.remove.ensures.gone c.remove.ensures.others in
+    record {
+      before = c.args.nodes.now.slots;
+      numbers = entries_of c.args.keys.now;
+      pair = c.requires.pair;
+      level = c.requires.level;
+      joined = joined;
+      listed = c.requires.listed;
+      settled = c.requires.settled;
+      flag = ap (λ z. z.ready) c.other.view_is ∙ taken-level c.args.block c.args.keep c.args.gone c.args.nodes.now.slots c.requires.pair c.requires.level c.take_at.new.nodes.slots c.in-Some.other
+          c.in-Some.ensures.taken c.in-Some.ensures.others;
+    }
 
 pub returns-clause-order : goal.returns-clause-order
-returns-clause-order g c = order-joined c.args.block c.args.keep c.args.gone c.args.nodes.now.slots c.requires.pair c.requires.level c.unite.new.nodes.slots (entries_of c.args.keys.now) (entries_of c.unite.new.keys)
-    c.requires.tied c.in_ok-unite.ensures.joined c.in_ok-unite.ensures.moved
+returns-clause-order g c =
+    let joined = nodes-joined c.args.block c.args.keep c.args.gone c.args.nodes.now.slots c.requires.pair c.requires.level c.take_at.new.nodes.slots c.in-Some.other c.in-Some.ensures.taken c.in-Some.ensures.others
+    c.absorb_at.new.nodes.slots c.remove.new.nodes.slots (entries_of c.args.keys.now) (rw c.count_inner-inner.ensures at c.in_default-absorb_at.ensures.absorbed) c.remove.ensures.gone c.remove.ensures.others in
+    order-joined c.args.block c.args.keep c.args.gone c.args.nodes.now.slots c.requires.pair c.requires.level c.remove.new.nodes.slots (entries_of c.args.keys.now) (entries_of c.redirect.new.keys) c.requires.tied joined
+    (taken-moved c.args.block c.args.keep c.args.gone c.args.nodes.now.slots c.requires.pair c.requires.level c.take_at.new.nodes.slots c.in-Some.other c.in-Some.ensures.taken c.in-Some.ensures.others
+    c.members.result.now (entries_of c.args.keys.now) (entries_of c.redirect.new.keys) c.members.ensures c.redirect.ensures)
 
 pub returns-clause-joined : goal.returns-clause-joined
-returns-clause-joined g c = classes-joined c.args.keep c.args.gone c.args.nodes.now.slots c.unite.new.nodes.slots (entries_of c.args.keys.now) (entries_of c.unite.new.keys)
-    c.in_ok-unite.ensures.joined c.in_ok-unite.ensures.moved
+returns-clause-joined g c =
+    let joined = nodes-joined c.args.block c.args.keep c.args.gone c.args.nodes.now.slots c.requires.pair c.requires.level c.take_at.new.nodes.slots c.in-Some.other c.in-Some.ensures.taken c.in-Some.ensures.others
+    c.absorb_at.new.nodes.slots c.remove.new.nodes.slots (entries_of c.args.keys.now) (rw c.count_inner-inner.ensures at c.in_default-absorb_at.ensures.absorbed) c.remove.ensures.gone c.remove.ensures.others in
+    classes-joined c.args.keep c.args.gone c.args.nodes.now.slots c.remove.new.nodes.slots (entries_of c.args.keys.now) (entries_of c.redirect.new.keys) joined (taken-moved c.args.block c.args.keep c.args.gone c.args.nodes.now.slots c.requires.pair c.requires.level c.take_at.new.nodes.slots c.in-Some.other c.in-Some.ensures.taken c.in-Some.ensures.others
+    c.members.result.now (entries_of c.args.keys.now) (entries_of c.redirect.new.keys) c.members.ensures c.redirect.ensures)

@@ -1,6 +1,7 @@
-use Rattle.std.proofs.Common.{◌∙◌}
+use Rattle.std.proofs.Common.{ap, ◌∙◌}
 use Rattle.std.proofs.lemmas.Result.{on_ok_weaker, on_err_weaker}
 use Rattle.patch_table.specs.Table.{entries_of}
+use Rattle.patch_links.specs.State.{slots_of}
 use Rattle.patch_links.proofs.Orders.{order-rest, order-then, classes-kept, slots-bare}
 use Rattle.patch_links.proofs.joining.join_in.Goals as goal
 
@@ -26,5 +27,5 @@ returns-clause-joined g c = on_ok_weaker c.join_alike-result.result
 
 pub returns-clause-refused : goal.returns-clause-refused
 returns-clause-refused g c = on_err_weaker c.join_alike-result.result
-    (λ e. slots-bare c.join_alike-result.new.nodes.slots c.admit_all.new.nodes.slots c.admit_all.ensures.rest.all ∙ e ∙ slots-bare c.args.nodes.now.slots c.level.new.nodes.slots c.level.ensures.rest.all)
+    (λ e. slots-bare c.join_alike-result.new.nodes.slots c.admit_all.new.nodes.slots c.admit_all.ensures.rest.all ∙ ap slots_of e ∙ slots-bare c.args.nodes.now.slots c.level.new.nodes.slots c.level.ensures.rest.all)
     c.join_alike-result.ensures.refused
