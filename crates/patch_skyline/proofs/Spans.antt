@@ -131,6 +131,13 @@ stops-rise (s ∷ ss) a zero (suc j) d low h =
 stops-rise (s ∷ ss) a (suc i) zero d low h = absurd (omega arith)
 stops-rise (s ∷ ss) a (suc i) (suc j) d low h = stops-rise ss a.2 i j d (omega arith) (omega arith)
 
+-- each ends before a later one begins
+stops-before : (ss : List Span) → AreApart ss → (i j : ℕ) (d : Span) → i < j → j < length ss → (slice_index_or ss i d).stop ≤ (slice_index_or ss j d).start
+stops-before [] a i j d low h = absurd (omega arith)
+stops-before (s ∷ ss) a i zero d low h = absurd (omega arith)
+stops-before (s ∷ ss) a zero (suc j) d low h = a.1 (slice_index_or ss j d) (index-in ss j d (omega arith))
+stops-before (s ∷ ss) a (suc i) (suc j) d low h = stops-before ss a.2 i j d (omega arith) (omega arith)
+
 pub parted-starts : (ss : List Span) (at : ℕ) → AreApart ss → IsPartitionedBy (λ s. nat_lt s.start at) ss
 parted-starts ss at a i j d low within t =
     let r = starts-rise ss a i j d low within in
@@ -209,6 +216,14 @@ begun-all ss at a last = ((λ k d low h. all-begun ss at a last k d h), (λ k d 
 
 pub ended-all : (ss : List Span) (at : ℕ) → AreApart ss → ((n : ℕ) → n + 1 ≡ length ss → (d : Span) → (slice_index_or ss n d).stop ≤ at) → Ended ss at (length ss)
 ended-all ss at a last = ((λ k d low h. all-ended ss at a last k d h), (λ k d low h. absurd (omega (arith, low, h))))
+
+-- where the last one alone ends behind the byte
+pub ended-last : (ss : List Span) (at : ℕ) → AreApart ss → 0 < length ss → ((d : Span) → ((slice_index_or ss (length ss - 1) d).start ≤ at) × (at < (slice_index_or ss (length ss - 1) d).stop))
+    → Ended ss at (length ss - 1)
+ended-last ss at a some last = (
+  (λ k d low h. let p = stops-before ss a k (length ss - 1) d h (omega arith) in let l = (last d).0 in omega (arith, p, l)),
+  (λ k d low h. let e : length ss - 1 ≡ k = omega (arith, low, h) in subst (λ m. at < (slice_index_or ss m d).stop) e (last d).1),
+)
 
 -- Where a span is cut.
 

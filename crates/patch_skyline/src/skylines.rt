@@ -12,6 +12,9 @@ use std::marker::Model;
 /// within, with one to spare.
 pub const LAY_ROOM: usize = 3;
 
+/// For so many spans a skyline makes room where it has none.
+const FIRST_ROOM: usize = 32;
+
 /// Bytes that one patch wrote last, from the first to the one after the last, and the number of that patch.
 #[derive(Clone, Copy, Debug, PartialEq, Eq)]
 pub struct Span {
@@ -73,7 +76,10 @@ impl<A: Allocator> Skyline<A> {
         ensures spans { self.new.spans ≡ self.old.spans }
         ensures room { OnOk result (LAY_ROOM ≤ self.new.room) }
     {
-        self.spans.reserve(LAY_ROOM)
+        if self.spans.capacity().saturating_sub(self.spans.len()) >= LAY_ROOM {
+            return Ok(());
+        }
+        self.spans.reserve(FIRST_ROOM)
     }
 
     /// Lays a span over the others, which has a byte and for which there is room.
@@ -118,7 +124,7 @@ fn put<A: Allocator>(spans: &mut Vec<Span, A>, top: Span)
 {
     let first = ended(spans.as_slice(), top.start);
     if first == spans.len() {
-        spans.insert(first, top).unwrap();
+        spans.push_reserved(top);
         return;
     }
     let span = spans[first];
@@ -163,7 +169,7 @@ fn begun_before(spans: &[Span], at: usize) -> usize
     )
 }
 
-/// How many of the spans end before the byte. Where all do, it looks at the last one alone.
+/// How many of the spans end before the byte. Where all do, or all but the last one, it looks at that alone.
 fn ended(spans: &[Span], at: usize) -> usize
     requires { AreApart spans.now }
     ensures within { result ≤ length spans.now }
@@ -172,6 +178,8 @@ fn ended(spans: &[Span], at: usize) -> usize
     match spans.last() {
         Some(last) => if last.stop <= at {
             spans.len()
+        } else if last.start <= at {
+            spans.len() - 1
         } else {
             ended_before(spans, at)
         },
