@@ -1,15 +1,15 @@
 -- The graph with one more class.
-use Rattle.std.proofs.Common.{◌≡◌, ℕ, ◌∙◌, ◌<◌, ◌≤◌, arith, inl, inr, Bool, List, ◌++◌, map, sym, ap, subst}
+use Rattle.std.proofs.Common.{◌≡◌, ℕ, ◌+◌, ◌∙◌, ◌<◌, ◌≤◌, arith, refl, inl, inr, Bool, List, ◌++◌, map, sym, ap, subst}
 use Rattle.std.specs.Prelude.{nat_lt}
 use Rattle.std.specs.List.{filter}
 use Rattle.std.proofs.lemmas.Bool.{cases_eq, lt-ltb, ltb-true}
 use Rattle.patch_model.specs.declared.patches.Undo.{Undo}
-use Rattle.patch_links.specs.State.{Class, Links}
+use Rattle.patch_links.specs.State.{Class, Links, find}
 use Rattle.patch_links.specs.Adding.{IsAdded as IsLinked}
 use Rattle.patch_graph.specs.State.{Graph, KeysFit}
 use Rattle.patch_model.specs.Member.{In, In-map, map-In, In-filter, filter-In}
 use Rattle.patch_skyline.specs.declared.skylines.Span.{Span}
-use Rattle.patch_graph.specs.Skyline.{spans_of}
+use Rattle.patch_graph.specs.Skyline.{Skylines, spans_of, IsLaidOn}
 use Rattle.patch_skyline.specs.Skyline.{AreTops, IsTopWithin}
 use Rattle.patch_graph.proofs.ReadySet.{In-left, In-right, In-parts}
 use Rattle.patch_graph.specs.Adding.{AreDependencies, is_hard, new_class, IsAdded, IsDrawnUp, HasAdded}
@@ -45,6 +45,19 @@ has-added old new block start stop after undo hard key c d hard_is added =
     let same : hard ≡ is_hard old.slots old.numbers block undo d.deps = hard_is ∙ ap (λ z. z.hard) d.is in
     let is : c ≡ new_class old.made block start stop d.deps hard = d.is ∙ ap (new_class old.made block start stop d.deps) (sym same) in
     record { key = key; deps = d.deps; are = d.are; hard_is = same; added = subst (IsAdded old new key) is added }
+
+-- the class is linked to the others, and its span laid over those of its block
+pub put-in : (made : ℕ) (tops now : Skylines) (old new : Links) (key : ℕ) (c d : Class) → c.name ≡ made → d ≡ c → IsLinked old new key c → IsLaidOn tops now c.block (record { start = d.start; stop = d.stop; no = d.name })
+    → IsAdded (record { made = made; slots = old.slots; numbers = old.numbers; tops = tops }) (record { made = made + 1; slots = new.slots; numbers = new.numbers; tops = now }) key c
+put-in made tops now old new key c d called same added laid = record {
+  made = refl;
+  laid = subst (λ n. IsLaidOn tops now c.block (record { start = c.start; stop = c.stop; no = n })) called (subst (λ (z : Class). IsLaidOn tops now c.block (record { start = z.start; stop = z.stop; no = z.name })) same laid);
+  vacant = added.vacant;
+  here = added.here;
+  others = added.others;
+  number = ap (find new.numbers) (sym called) ∙ added.number;
+  rest = λ n other. added.rest n (λ e. other (e ∙ called));
+}
 
 -- the key of the new class is below the number too
 pub added-fit : (old new : Links) (key : ℕ) (c : Class) (room more : ℕ) → IsLinked old new key c → KeysFit old.slots room → room ≤ more → old.next < more → KeysFit new.slots more

@@ -76,6 +76,10 @@ LacksAKey numbers a b = (find numbers a ≡ None) ⊎ (find numbers b ≡ None)
 abbrev pub TellsLeastBetween : Graph → ℕ → ℕ → Option ℕ → Type 0
 TellsLeastBetween g a b least = (all : List Entry) (x y : ℕ) → Represents g all → HasNoRing all → IsLiveClass all a x → IsLiveClass all b y → IsLeastBetween all x y least
 
+-- the same of any two patches that are of the classes at these keys
+abbrev pub TellsBetweenKeys : Graph → ℕ → ℕ → Option ℕ → Type 0
+TellsBetweenKeys g from to least = (a b : ℕ) → find g.numbers a ≡ Some from → find g.numbers b ≡ Some to → TellsLeastBetween g a b least
+
 -- of the classes of a graph's two live patches: whether a path leads from the one to the other
 abbrev pub TellsReach : Graph → ℕ → ℕ → Bool → Type 0
 TellsReach g a b reaches = (all : List Entry) (x y : ℕ) → Represents g all → IsLiveClass all a x → IsLiveClass all b y → IsTrue reaches ↔ ReachesOther all x y

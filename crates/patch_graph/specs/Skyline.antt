@@ -1,16 +1,26 @@
 -- The skyline of each block.
-use Rattle.std.specs.Prelude.{ℕ, ◌≡◌, ◌≢◌, nat_eq, List, []}
-use Rattle.std.specs.Option.{option_map_or}
-use Rattle.std.specs.Map.{lookup}
+use Rattle.std.specs.Prelude.{ℕ, ◌≡◌, ◌≢◌, List, [], ◌∷◌, slice_index_or}
 use Rattle.patch_skyline.specs.Skyline.{IsLaid}
 use Rattle.patch_skyline.specs.declared.skylines.Span.{Span}
 
--- for each block the spans of its skyline
+-- for each block, by its number, the spans of its skyline
 abbrev pub Skylines : Type 0
-Skylines = List (ℕ × List Span)
+Skylines = List (List Span)
 
+-- a block beyond them has none
 abbrev pub spans_of : Skylines → ℕ → List Span
-spans_of skylines block = option_map_or (λ ss. ss) (lookup (nat_eq block) skylines) []
+spans_of skylines block = slice_index_or skylines block []
+
+-- with a block's spans before those of the others, where any has some
+abbrev pub put_before : List Span → Skylines → Skylines
+put_before [] [] = []
+put_before [] (ss ∷ others) = [] ∷ ss ∷ others
+put_before (s ∷ ss) others = (s ∷ ss) ∷ others
+
+-- but for the last blocks that have none
+abbrev pub trimmed : Skylines → Skylines
+trimmed [] = []
+trimmed (ss ∷ others) = put_before ss (trimmed others)
 
 -- the block has these spans now, and the others what they had
 pub record IsRespanned (old new : Skylines) (block : ℕ) (ss : List Span) : Type 0 where

@@ -1,5 +1,5 @@
 //! What a new patch depends on, and how its class comes to the others.
-ghost use Rattle.std.specs.Prelude.{◌≡◌, ◌<◌, ◌≤◌, ◌++◌, ◌&&◌, ◌==◌, false, filter, map, nat_lt, if◌then◌else◌, ◌∷◌, [], IfOk, OnOk, OnErr};
+ghost use Rattle.std.specs.Prelude.{◌≡◌, ◌<◌, ◌≤◌, ◌+◌, ◌++◌, ◌&&◌, ◌==◌, false, filter, map, nat_lt, if◌then◌else◌, ◌∷◌, [], IfOk, OnOk, OnErr};
 ghost use Rattle.std.specs.List.{list_all};
 ghost use Rattle.std.specs.Option.{option_map_or};
 ghost use Rattle.patch_links.specs.State.{class_at};
@@ -18,17 +18,14 @@ use patch_skyline::Span;
 use std::alloc::{AllocError, Allocator};
 
 /// Puts a number behind the others, if it is below this one.
-fn push_below<A: Allocator>(
-    made: u32,
-    no: PatchNo,
-    all: &mut NumberList<A>,
-) -> Result<(), AllocError>
-    ensures { OnOk result (all.new.items ≡ all.old.items ++ (if nat_lt no made then no ∷ [] else [])) }
+fn push_below<A: Allocator>(made: u32, no: PatchNo, all: &mut NumberList<A>)
+    requires { 1 ≤ all.old.room }
+    ensures items { all.new.items ≡ all.old.items ++ (if nat_lt no made then no ∷ [] else []) }
+    ensures room { all.old.room ≤ all.new.room + 1 }
 {
     if no.0 < made {
-        all.push(no)?;
+        all.push_reserved(no);
     }
-    Ok(())
 }
 
 /// Puts numbers behind the others, of those that are below this one.
@@ -39,8 +36,9 @@ fn push_numbers<A: Allocator>(
 ) -> Result<(), AllocError>
     ensures { OnOk result (all.new.items ≡ all.old.items ++ filter (λ n. nat_lt n made) numbers.now) }
 {
+    all.reserve(numbers.len())?;
     for no in numbers {
-        push_below(made, *no, all)?;
+        push_below(made, *no, all);
     }
     Ok(())
 }
@@ -53,8 +51,9 @@ fn push_tops<A: Allocator>(
 ) -> Result<(), AllocError>
     ensures { OnOk result (all.new.items ≡ all.old.items ++ filter (λ n. nat_lt n made) (map (λ s. s.no) spans.now)) }
 {
+    all.reserve(spans.len())?;
     for span in spans {
-        push_below(made, span.no, all)?;
+        push_below(made, span.no, all);
     }
     Ok(())
 }

@@ -2,7 +2,7 @@
 ghost use Rattle.std.specs.Prelude.{◌≡◌, ◌≤◌, false, None, length, IfOk};
 ghost use Rattle.patch_graph.specs.State.{KeysFit};
 ghost use Rattle.patch_graph.specs.Ready.{AreReady, TellsReady};
-ghost use Rattle.patch_graph.specs.Between.{LacksAKey, TellsLeastBetween, TellsReach, is_newest};
+ghost use Rattle.patch_graph.specs.Between.{LacksAKey, TellsBetweenKeys, TellsLeastBetween, TellsReach, is_newest};
 ghost use Rattle.patch_graph.specs.Marks.{AreClear};
 
 use crate::between::{copy_without, least_name, rests_on_leaves};
@@ -121,12 +121,13 @@ fn is_newest<A: Allocator>(register: &Register<A>, key: usize) -> bool
     }
 }
 
-/// `between`, on two rows of marks and a queue. Of the classes that are found from the first one, those are dead ends
-/// that don't lead to the second: they are what is left when each that leads out of them is struck out.
-fn between_exactly<A: Allocator>(
+/// The least name of a third class on a path from the class at the one key to that at the other, on two rows of marks and
+/// a queue. Of the classes that are found from the first one, those are dead ends that don't lead to the second: they are
+/// what is left when each that leads out of them is struck out.
+fn least_between<A: Allocator>(
     register: &Register<A>,
-    a: PatchNo,
-    b: PatchNo,
+    from: usize,
+    to: usize,
     marks: &mut [bool],
     dead_ends: &mut [bool],
     queue: &mut [usize],
@@ -136,25 +137,12 @@ fn between_exactly<A: Allocator>(
     requires dead_ends_fit { length marks.old ≤ length dead_ends.old }
     requires clear { AreClear marks.old }
     requires clear_ends { AreClear dead_ends.old }
-    ensures answer { TellsLeastBetween register.now a b result }
-    ensures absent { LacksAKey register.now.numbers a b → result ≡ None }
+    ensures answer { TellsBetweenKeys register.now from to result }
     ensures cleared { AreClear marks.new }
     ensures cleared_ends { AreClear dead_ends.new }
 {
-    let Some(from) = register.find(a) else {
-        return None;
-    };
-    let Some(to) = register.find(b) else {
-        return None;
-    };
     // Not reached: there is a class at the key, and marks for all of them.
     if from >= marks.len() {
-        return None;
-    }
-    if is_newest(register, to) {
-        return None;
-    }
-    if rests_on_leaves(register, from, to) {
         return None;
     }
     let count = search(register, from, to, marks, queue);
@@ -172,7 +160,8 @@ fn between_exactly<A: Allocator>(
     least
 }
 
-/// The least name of a third class on a path from the class of the one patch to that of the other.
+/// The least name of a third class on a path from the class of the one patch to that of the other. There is mostly none, and
+/// nothing is searched for.
 pub fn between<A: Allocator>(
     register: &Register<A>,
     a: PatchNo,
@@ -184,10 +173,22 @@ pub fn between<A: Allocator>(
     ensures absent { LacksAKey register.now.numbers a b → result ≡ None }
     ensures scratch { scratch.new ≡ scratch.old }
 {
-    between_exactly(
+    let Some(to) = register.find(b) else {
+        return None;
+    };
+    if is_newest(register, to) {
+        return None;
+    }
+    let Some(from) = register.find(a) else {
+        return None;
+    };
+    if rests_on_leaves(register, from, to) {
+        return None;
+    }
+    least_between(
         register,
-        a,
-        b,
+        from,
+        to,
         scratch.marks.as_mut_slice(),
         scratch.dead_ends.as_mut_slice(),
         scratch.queue.as_mut_slice(),

@@ -22,10 +22,11 @@ pub struct Register<A: Allocator = Global> {
 impl<A: Allocator> Model for Register<A> {
     ghost use Rattle.std.specs.Prelude.{◌≤◌};
     ghost use Rattle.patch_graph.specs.State.{Graph as Seen};
+    ghost use Rattle.patch_graph.specs.Skyline.{trimmed};
 
     ghost Value = { Seen };
 
-    ghost view = { λ r. record { made = r.made; slots = r.links.slots; numbers = r.links.numbers; tops = r.skylines.entries } };
+    ghost view = { λ r. record { made = r.made; slots = r.links.slots; numbers = r.links.numbers; tops = trimmed r.skylines.items } };
 
     ghost invariant = { λ r. r.links.made ≤ r.made };
 }

@@ -5,6 +5,9 @@ ghost use Rattle.patch_graph.specs.Marks.{AreClear};
 use std::alloc::{AllocError, Allocator, Global};
 use std::marker::Model;
 
+/// How many keys room is made for at once.
+const STEP: usize = 64;
+
 /// Room for searches among as many classes: which of them were met, in what order, and which are dead ends. Between two
 /// searches nothing is marked.
 #[derive(Drop)]
@@ -40,12 +43,15 @@ impl<A: Allocator + Copy> Scratch<A> {
 }
 
 impl<A: Allocator> Scratch<A> {
-    /// Makes room for a class at the key.
+    /// Makes room for a class at the key, and for some that come later.
     pub fn reserve(&mut self, key: usize) -> Result<(), AllocError>
         ensures enough { OnOk result (key < self.new) }
         ensures kept { self.old ≤ self.new }
     {
-        match key.checked_add(1) {
+        if key < self.marks.len() {
+            return Ok(());
+        }
+        match key.checked_add(STEP) {
             Some(count) => self.grow(count),
             None => Err(AllocError),
         }

@@ -1,17 +1,13 @@
 //! The skyline of each block.
-ghost use Rattle.std.specs.Prelude.{◌≡◌, ◌<◌, ◌∷◌, [], None, nat_eq, IfOk, OnErr};
-ghost use Rattle.std.specs.Map.{lookup};
-ghost use Rattle.indexmap.specs.IndexMap.{spare};
+ghost use Rattle.std.specs.Prelude.{◌≡◌, ◌<◌, ◌≤◌, [], length, vec_capacity, IfOk, OnOk, OnErr};
 ghost use Rattle.patch_links.specs.Adding.{IsNew, IsAdded};
-ghost use Rattle.patch_graph.specs.Skyline.{spans_of, IsLaidOn, IsEmptied, IsRespanned};
+ghost use Rattle.patch_graph.specs.Skyline.{spans_of, trimmed, IsLaidOn, IsEmptied};
 ghost use Rattle.patch_skyline.specs.Skyline.{AreTops, IsLaid};
 
-use indexmap::IndexMap;
 use patch_links::{Class, Links};
 use patch_model::BlockNo;
 use patch_skyline::{Skyline, Span};
 use std::alloc::{AllocError, Allocator, Global};
-use std::hash::{BuildHasherDefault, FoldHasher};
 use std::marker::Model;
 
 /// The skyline of one block. How much room it has is its own affair.
@@ -29,17 +25,18 @@ impl<A: Allocator> Model for Line<A> {
     ghost view = { λ l. l.skyline.spans };
 }
 
-/// The skyline of each block that has had a patch.
-pub type Skylines<A> = IndexMap<BlockNo, Line<A>, BuildHasherDefault<FoldHasher>, A>;
+/// The skyline of each block, by its number. That of a block beyond them is empty. What they take in memory goes with the
+/// highest number of a block.
+pub type Skylines<A> = Vec<Line<A>, A>;
 
 impl<A: Allocator> Line<A> {
-    /// One span, which has a byte.
-    fn of(alloc: A, top: Span) -> Result<Line<A>, AllocError>
-        requires { top.start < top.stop }
-        ensures { IfOk result (λ line. line ≡ top ∷ []) }
+    /// No span.
+    fn new(alloc: A) -> Line<A>
+        ensures { result ≡ [] }
     {
-        let skyline = Skyline::of(alloc, top)?;
-        Ok(Line { skyline })
+        Line {
+            skyline: Skyline::new(alloc),
+        }
     }
 
     /// The spans that have a byte between these.
@@ -83,44 +80,41 @@ pub fn tops<A: Allocator>(
     stop: usize,
 ) -> &[Span]
     requires { start < stop }
-    ensures { AreTops (spans_of skylines.now.entries block) start stop result.now }
+    ensures { AreTops (spans_of skylines.now.items block) start stop result.now }
 {
-    match skylines.get(&block) {
+    match skylines.get(block.0 as usize) {
         Some(line) => line.tops(start, stop),
         None => &[],
     }
 }
 
-/// Puts in a block's skyline, for which there is room.
-fn enter<A: Allocator>(skylines: &mut Skylines<A>, block: BlockNo, line: Line<A>)
-    requires { 0 < spare skylines.old }
-    ensures { IsRespanned skylines.old.entries skylines.new.entries block line }
+/// Gives so many blocks their skylines, which are empty; those that have one keep it.
+fn fill<A: Allocator + Copy>(alloc: A, skylines: &mut Skylines<A>, count: usize)
+    requires { count ≤ vec_capacity skylines.old }
+    ensures kept { trimmed skylines.new.items ≡ trimmed skylines.old.items }
+    ensures long { count ≤ length skylines.new.items }
 {
-    skylines.insert(block, line).unwrap();
+    while skylines.len() < count {
+        skylines.push_reserved(Line::new(alloc));
+    }
 }
 
-/// Puts in a class of a block that has no skyline, and gives it one, or does neither.
-fn lay_first<A: Allocator + Copy>(
+/// Gives the block its skyline, and those before it.
+fn lengthen<A: Allocator + Copy>(
     alloc: A,
     skylines: &mut Skylines<A>,
-    links: &mut Links<A>,
-    class: Class<A>,
-    top: Span,
-) -> Result<usize, AllocError>
-    requires some { top.start < top.stop }
-    requires new { IsNew links.old.made class }
-    requires none { lookup (nat_eq class.block) skylines.old.entries ≡ None }
-    ensures laid { IfOk result (λ key. IsLaidOn skylines.old.entries skylines.new.entries class.block top) }
-    ensures added { IfOk result (λ key. IsAdded links.old links.new key class) }
-    ensures refused { OnErr result (skylines.new.entries ≡ skylines.old.entries) }
-    ensures refused_class { OnErr result (links.new ≡ links.old) }
+    block: BlockNo,
+) -> Result<(), AllocError>
+    ensures kept { trimmed skylines.new.items ≡ trimmed skylines.old.items }
+    ensures long { OnOk result (block < length skylines.new.items) }
 {
-    let block = class.block;
-    let line = Line::of(alloc, top)?;
-    skylines.reserve(1)?;
-    let key = links.add(class)?;
-    enter(skylines, block, line);
-    Ok(key)
+    let count = block.0 as usize + 1;
+    if count <= skylines.len() {
+        return Ok(());
+    }
+    skylines.reserve(count - skylines.len())?;
+    fill(alloc, skylines, count);
+    Ok(())
 }
 
 /// Puts in a class and lays its span over its block's skyline, which has a byte, or does neither.
@@ -133,22 +127,22 @@ pub fn lay<A: Allocator + Copy>(
 ) -> Result<usize, AllocError>
     requires some { top.start < top.stop }
     requires new { IsNew links.old.made class }
-    ensures laid { IfOk result (λ key. IsLaidOn skylines.old.entries skylines.new.entries class.block top) }
+    ensures laid { IfOk result (λ key. IsLaidOn (trimmed skylines.old.items) (trimmed skylines.new.items) class.block top) }
     ensures added { IfOk result (λ key. IsAdded links.old links.new key class) }
-    ensures refused { OnErr result (skylines.new.entries ≡ skylines.old.entries) }
+    ensures refused { OnErr result (trimmed skylines.new.items ≡ trimmed skylines.old.items) }
     ensures refused_class { OnErr result (links.new ≡ links.old) }
 {
-    match skylines.get_mut(&class.block) {
-        Some(line) => line.lay(links, class, top),
-        None => lay_first(alloc, skylines, links, class, top),
-    }
+    let block = class.block;
+    lengthen(alloc, skylines, block)?;
+    let line = &mut skylines[block.0 as usize];
+    line.lay(links, class, top)
 }
 
 /// Leaves the block's skyline empty, and its room.
 pub fn empty<A: Allocator>(skylines: &mut Skylines<A>, block: BlockNo)
-    ensures { IsEmptied skylines.old.entries skylines.new.entries block }
+    ensures { IsEmptied (trimmed skylines.old.items) (trimmed skylines.new.items) block }
 {
-    if let Some(line) = skylines.get_mut(&block) {
+    if let Some(line) = skylines.get_mut(block.0 as usize) {
         line.clear();
     }
 }

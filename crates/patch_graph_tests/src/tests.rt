@@ -514,7 +514,7 @@ fn walk_beside(
 }
 
 // What fills a heap but for a little, until it is given back.
-const BALLAST: usize = 4096;
+const BALLAST: usize = 16384;
 
 // What each heap has more than the one before it.
 const HEAP_STEP: usize = 16;
@@ -566,7 +566,7 @@ fn ready_in(rt: &impl Abort, graph: &mut Graph, heap: &LocalHeap) -> bool {
 fn count_refused(rt: &impl Abort, alloc: Global, graph: &mut Graph) -> Result<u32, Fail> {
     let mut refused = 0u32;
     for size in 0..HEAPS as usize {
-        let heap = LocalHeap::new(alloc, 256 + size * 32)?;
+        let heap = LocalHeap::new(alloc, 32 + size * 32)?;
         if ready_in(rt, graph, &heap) {
             refused = refused.saturating_add(1);
         }

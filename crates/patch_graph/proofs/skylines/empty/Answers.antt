@@ -1,10 +1,16 @@
-use Rattle.std.proofs.Common.{sym, ◌∙◌, ap, [], List, Some}
+use Rattle.std.proofs.Common.{◌≡◌, ◌∙◌, [], List, refl, subst, rules}
+use Rattle.std.specs.Prelude.{slice_set}
 use Rattle.patch_skyline.specs.declared.skylines.Span.{Span}
-use Rattle.patch_graph.proofs.Laying.{is_some-from, respanned}
+use Rattle.patch_graph.specs.Skyline.{spans_of, trimmed, IsRespanned}
+use Rattle.patch_graph.proofs.Laying.{respanned, spans-trimmed}
 use Rattle.patch_graph.proofs.skylines.empty.Goals as goal
 
 pub returns-in-Some : goal.returns-in-Some
 returns-in-Some g c =
-    let h = c.get_mut.follows.holds c.clear.new.self in
-    let u = h.3 (is_some-from _ c.in-Some.line.now (sym c.in-Some.ensures.value)) in
-    respanned _ _ c.args.block [] (u.1 ∙ ap (λ (l : List Span). Some l) c.clear.ensures) u.2
+    subst (λ (l : List Span). IsRespanned (trimmed c.args.skylines.now.items) (trimmed (slice_set c.args.skylines.now.items c.block.inside.0 c.clear.new.self)) c.args.block l) c.clear.ensures
+    (respanned c.args.skylines.now.items c.args.block c.block.inside.0 c.clear.new.self c.block.view_is c.in-Some.ensures.item.3.0)
+
+pub returns-in_default : goal.returns-in_default
+returns-in_default g c =
+    let none : spans_of c.args.skylines.now.items c.args.block ≡ [] = search rules in
+    record { here = spans-trimmed c.args.skylines.now.items c.args.block ∙ none; others = λ b d. refl }

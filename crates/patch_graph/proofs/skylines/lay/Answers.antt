@@ -1,23 +1,20 @@
-use Rattle.std.proofs.Common.{◌≡◌, ℕ, subst, sym, ◌∙◌, ap}
-use Rattle.std.proofs.lemmas.Map.Steps.{set_value_same}
-use Rattle.std.specs.Prelude.{nat_eq}
-use Rattle.std.specs.Map.{set_value}
+use Rattle.std.proofs.Common.{◌≡◌, ◌<◌, ◌∙◌, [], length, sym, ap, subst, arith}
+use Rattle.std.specs.Prelude.{slice_set}
+use Rattle.std.proofs.lemmas.List.{get_or_default}
 use Rattle.patch_links.specs.State.{Class}
-use Rattle.patch_graph.specs.Skyline.{IsLaidOn}
-use Rattle.patch_graph.proofs.Laying.{is_some-from, laid-on}
-use Rattle.patch_graph.proofs.Places.{ok-more, err-more}
+use Rattle.patch_graph.specs.Skyline.{Skylines, spans_of, trimmed, IsLaidOn}
+use Rattle.patch_graph.proofs.Laying.{laid-on}
+use Rattle.patch_graph.proofs.Places.{ok-more}
 use Rattle.patch_graph.proofs.skylines.lay.Goals as goal
 
-pub returns-in-Some-clause-laid : goal.returns-in-Some-clause-laid
-returns-in-Some-clause-laid g c =
-    let block : c.class.inside.block ≡ c.args.class.block = ap (λ (z : Class). z.block) c.class.view_is in
-    let h = c.get_mut.follows.holds c.lay.new.self in
-    let u = h.3 (is_some-from _ c.in-Some.line.now (sym c.in-Some.ensures.value)) in
-    ok-more c.lay.result _ _ c.lay.ensures.laid (λ key laid. subst (λ (b : ℕ). IsLaidOn c.args.skylines.now.entries (c.get_mut.follows.lender c.lay.new.self).entries b c.args.top) block
-    (laid-on _ _ c.class.inside.block c.args.top c.in-Some.line.now c.lay.new.self (sym c.in-Some.ensures.value) u.1 laid u.2))
-
-pub returns-in-Some-clause-refused : goal.returns-in-Some-clause-refused
-returns-in-Some-clause-refused g c =
-    let h = c.get_mut.follows.holds c.lay.new.self in
-    err-more c.lay.result _ _ c.lay.ensures.refused (λ same. h.0 ∙ ap (set_value (nat_eq c.class.inside.block) c.args.skylines.now.entries) same
-    ∙ set_value_same (nat_eq c.class.inside.block) c.args.skylines.now.entries c.in-Some.line.now (sym c.in-Some.ensures.value))
+pub returns-clause-laid : goal.returns-clause-laid
+returns-clause-laid g c =
+    let lines = c.lengthen.new.skylines.items in
+    let i = c.block.inside.0 in
+    let line = c.index_mut-line.result.now in
+    let here : i ≡ c.args.class.block = c.block.view_is ∙ ap (λ (z : Class). z.block) c.class.view_is in
+    let long = c.in_ok-lengthen.ensures.long in
+    let low : i < length lines = omega arith in
+    let was : spans_of lines i ≡ line = sym (c.index_mut-line.ensures.value ∙ get_or_default lines i line [] low) in
+    ok-more c.lay.result _ _ c.lay.ensures.laid (λ key laid. subst (λ (z : Skylines). IsLaidOn z (trimmed (slice_set lines i c.lay.new.self)) c.args.class.block c.args.top) c.lengthen.ensures.kept
+    (laid-on lines c.args.class.block i c.args.top line c.lay.new.self here low was laid))
