@@ -1,11 +1,11 @@
 -- Classes in flight that go one after another, the highest first.
 use Rattle.std.proofs.Common.{◌≡◌, ℕ, zero, suc, ◌-◌, ◌<◌, ◌≤◌, ◌∙◌, true, false, not, inl, inr, List, [], ◌∷◌, length, filter, get_or, refl, sym, ap, subst, arith, Bool}
-use Rattle.std.specs.List.{remove}
+use Rattle.std.specs.List.{remove, remove_range}
 use Rattle.std.proofs.lemmas.Bool.{cases_Bool, cases_eq, both_ways, false_from_ne_true}
 use Rattle.std.proofs.lemmas.List.Elements.{filter_passes}
 use Rattle.std.proofs.lemmas.List.Edits.{length-remove}
 use Rattle.patch_view.specs.declared.places.Places.{Places}
-use Rattle.patch_view.specs.State.{Class, Block, class_at, no_class, FlyingWithin, landed_at, with_landed}
+use Rattle.patch_view.specs.State.{Class, Block, class_at, no_class, FlyingWithin, AllFlyAt, landed_at, with_landed}
 use Rattle.patch_view.proofs.Marking.{stood, stood_is, at_stood}
 use Rattle.patch_view.proofs.Standing.{marked_inside}
 
@@ -84,3 +84,19 @@ none_flying cs p i fly =
     let w = marked_inside (λ c. c.flying) refl (filter stays cs) i fly in
     let passes = filter_passes stays cs i no_class w in
     absurd (both_ways _ (ap not fly) passes)
+
+-- those that stay, where those in flight are the ones of a range
+pub filter-range : (cs : List Class) (from to : ℕ) → from ≤ to → to ≤ length cs → AllFlyAt (record { from = from; to = to }) cs
+    → FlyingWithin (record { from = from; to = to }) cs → remove_range cs from to ≡ filter stays cs
+filter-range cs zero zero order fits all within = sym (all_stay cs (λ i. false_from_ne_true _ (λ fly. let w = within i fly in absurd (omega (arith, w.1)))))
+filter-range cs (suc from) zero order fits all within = absurd (omega arith)
+filter-range [] zero (suc to) order fits all within = absurd (omega arith)
+filter-range [] (suc from) (suc to) order fits all within = absurd (omega arith)
+filter-range (c ∷ cs) zero (suc to) order fits all within =
+    let off : stays c ≡ false = ap not (all 0 (omega arith) (omega arith)) in
+    rw off (filter-range cs zero to (omega arith) (omega arith) (λ i above less. all (suc i) (omega arith) (omega arith))
+    (λ i fly. let w = within (suc i) fly in (omega arith, omega (arith, w.1))))
+filter-range (c ∷ cs) (suc from) (suc to) order fits all within =
+    let on : stays c ≡ true = ap not (false_from_ne_true _ (λ fly. let w = within 0 fly in absurd (omega (arith, w.0)))) in
+    rw on (ap (λ ds. c ∷ ds) (filter-range cs from to (omega arith) (omega arith) (λ i above less. all (suc i) (omega arith) (omega arith))
+    (λ i fly. let w = within (suc i) fly in (omega (arith, w.0), omega (arith, w.1)))))

@@ -32,13 +32,13 @@ Hardens old new =
     → start + length bytes ≤ BLOCK → Represents new [] (laid h (made number block start bytes after undo true))
 
 -- the record that was drawn up of the classes at two places stands in place of both
-abbrev pub Settles : Block → (low high : ℕ) → Drawn → Block → Type 0
+abbrev pub Settles : Block → (low high : ℕ) → Option Drawn → Block → Type 0
 Settles old low high drawn new =
     IsDrawn (class_at old low) (class_at old high) drawn
     → new ≡ settled_at old low high (in_its_place (class_at old low) (class_at old high) drawn)
 
 -- the classes at two places are one, if the record was drawn up of both
-abbrev pub JoinsPlaces : Block → (low high : ℕ) → Drawn → Block → Type 0
+abbrev pub JoinsPlaces : Block → (low high : ℕ) → Option Drawn → Block → Type 0
 JoinsPlaces old low high drawn new =
     (h : History) → IsDrawn (class_at old low) (class_at old high) drawn → Represents old [] h
     → MayJoin h.entries (class_at old low).name (class_at old high).name

@@ -41,6 +41,10 @@ TakenWithin p cs = StandWithin (λ c. c.taken) p cs
 abbrev pub FlyingWithin : Places → List Class → Type 0
 FlyingWithin p cs = StandWithin (λ c. c.flying) p cs
 
+-- the classes at these places are in flight, each of them
+abbrev pub AllFlyAt : Places → List Class → Type 0
+AllFlyAt p cs = (i : ℕ) → p.from ≤ i → i < p.to → (slice_index_or cs i no_class).flying ≡ true
+
 -- no number is a member of two classes, and none is above the newest
 pub record AreApart (newest : ℕ) (cs : List Class) : Type 0 where
   pub upto : (i n : ℕ) → is_among (slice_index_or cs i no_class).members n ≡ true → n ≤ newest
@@ -292,25 +296,39 @@ with_lists_of low high = record low {
   room = low.room - max (length high.members) (length high.after);
 }
 
+-- the bytes of a higher class are all among those that the lower one saved
+abbrev pub is_around : Class → Class → Bool
+is_around low high = nat_le low.start high.start && nat_le high.stop low.stop && low.start + length low.saved == low.stop
+
+-- the class with a higher one taken in, whose bytes are among those that it saved
+abbrev pub with_all_of : Class → Class → Class
+with_all_of low high = record (with_lists_of low high) { name = min low.name high.name; flying = false; hard = false; taken = false }
+
 -- A record that was drawn up of two classes. A growing one has no lists of its own: the lower class's take in the higher one's.
 pub record Drawn : Type 0 where
   pub class : Class
   pub growing : Bool
 
+-- the lower class's lists take in the higher one's, as they do too where no record was drawn up
+abbrev pub is_growing : Option Drawn → Bool
+is_growing (Some drawn) = drawn.growing
+is_growing None = true
+
 -- the class that it is in the place of the two
-abbrev pub in_its_place : Class → Class → Drawn → Class
-in_its_place low high drawn = if drawn.growing then with_lists drawn.class (with_lists_of low high) else drawn.class
+abbrev pub in_its_place : Class → Class → Option Drawn → Class
+in_its_place low high (Some drawn) = if drawn.growing then with_lists drawn.class (with_lists_of low high) else drawn.class
+in_its_place low high None = with_all_of low high
 
 -- it was drawn up of these
-pub record IsDrawn (low high : Class) (drawn : Drawn) : Type 0 where
-  pub room : drawn.growing ≡ true → has_room_for low high ≡ true
+pub record IsDrawn (low high : Class) (drawn : Option Drawn) : Type 0 where
+  pub room : is_growing drawn ≡ true → has_room_for low high ≡ true
   pub is : IsMerged low high (in_its_place low high drawn)
 
 -- a record of the classes at two places as one
 pub record Joint : Type 0 where
   pub low : ℕ
   pub high : ℕ
-  pub drawn : Drawn
+  pub drawn : Option Drawn
 
 -- the joint is that of the classes at these places
 abbrev pub IsJointAt : Block → ℕ → ℕ → Joint → Type 0

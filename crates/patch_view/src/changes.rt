@@ -1,5 +1,5 @@
 //! What becomes of a block's records as patches are made, merged, sent and completed.
-ghost use Rattle.std.specs.Prelude.{◌≡◌, ◌+◌, ◌<◌, ◌≤◌, length, map, [], IfOk, OnOk, OnErr, ℕ, None, true, false, IsTrue, IsFalse};
+ghost use Rattle.std.specs.Prelude.{◌≡◌, ◌+◌, ◌<◌, ◌≤◌, length, map, vec_len, vec_capacity, [], IfOk, OnOk, OnErr, ℕ, None, true, false, IsTrue, IsFalse};
 ghost use Rattle.std.specs.List.Sorted.{IsNonDecreasing};
 ghost use Rattle.patch_model.specs.declared.patches.Mark.TheVariants.{Flight, Durable};
 ghost use Rattle.patch_model.specs.Entry.{Entry, is_memory};
@@ -7,7 +7,7 @@ ghost use Rattle.patch_model.specs.History.{History};
 ghost use Rattle.patch_model.specs.Orderly.{IsOrderlyBlock};
 ghost use Rattle.patch_model.specs.State.{landed};
 ghost use Rattle.patch_view.specs.State.{follows, with_laid, IsLaid, without_newest, with_newest_hard, departed_at, landed_at, with_departed, HasDeparted, AreDeparting};
-ghost use Rattle.patch_view.specs.State.{with_one_departed, with_one_landed, with_landed, FlyingWithin, moved_down, IsJoint, IsJointAt, has_places, KeepsNames};
+ghost use Rattle.patch_view.specs.State.{with_one_departed, with_one_landed, with_landed, FlyingWithin, AllFlyAt, moved_down, IsJoint, IsJointAt, has_places, KeepsNames};
 ghost use Rattle.patch_view.specs.Places.{IsRange};
 ghost use Rattle.patch_view.specs.History.{unpatched, MayLand, with_mark};
 ghost use Rattle.patch_view.specs.Meaning.{Represents, IsGathered};
@@ -16,12 +16,12 @@ ghost use Rattle.patch_view.specs.Changes.{Lays, Unlays, Hardens, Settles, Joins
 
 use crate::classes::{Class, Drawn};
 use crate::images::{
-    departs_alone, draw_unless_known, forget, forget_unless, keep_span, with_room,
+    departs_alone, draw_unless_known, forget, forget_unless, keep_span, make_room,
 };
 use crate::members::Members;
 use crate::number_lists::NumberList;
 use crate::places::Places;
-use crate::rests::laid_over;
+use crate::rests::lay_over;
 use crate::spans::swap_span;
 use crate::states::{BlockState, FEW};
 use patch_model::{BLOCK, BlockBytes, OutOfMemory, PatchNo};
@@ -37,7 +37,8 @@ const MOST_SOUGHT: usize = 4;
 pub struct Joint<A: Allocator = Global> {
     low: usize,
     high: usize,
-    drawn: Drawn<A>,
+    /// None where the lower class takes the higher one in without memory.
+    drawn: Option<Drawn<A>>,
 }
 
 impl<A: Allocator> Model for Joint<A> {
@@ -109,6 +110,9 @@ impl<A: Allocator> BlockState<A> {
         ensures kept { IfOk result (λ kept. KeepsNames self.now after.now kept.items) }
         ensures rising { IfOk result (λ kept. IsNonDecreasing kept.items) }
     {
+        if after.is_empty() {
+            return Ok(NumberList::none());
+        }
         let mut kept = self.kept_of(after)?;
         kept.sort();
         Ok(kept)
@@ -143,21 +147,19 @@ impl<A: Allocator> BlockState<A> {
         ensures done { OnOk result (self.new ≡ with_laid self.old no start bytes.now all.items false) }
         ensures refused { OnErr result (self.new ≡ self.old) }
     {
-        self.classes.reserve(1)?;
+        make_record_room(&mut self.classes)?;
         let stop = start + bytes.len();
         let mut saved = Vec::from_slice(self.bytes.allocator().clone()?, bytes)?;
         swap_span(self.bytes.as_mut_slice(), start, saved.as_mut_slice());
         let is_only = self.classes.is_empty();
-        let rests = self.rests.take();
         let top = Span { start, stop, no };
-        self.rests = laid_over(rests, self.bytes.allocator(), is_only, top, all.as_slice());
+        let alloc = self.bytes.allocator();
+        lay_over(&mut self.rests, alloc, is_only, top, all.as_slice());
         self.members = self.members.with(no, is_only);
-        let image = self.image.take();
         let are_many = self.classes.len() >= FEW;
-        self.image = with_room(image, self.bytes.allocator(), are_many);
+        make_room(&mut self.image, self.bytes.allocator(), are_many);
         let class = Class::new(no, start, stop, saved, all);
-        // Never refused: the room for it was made above.
-        self.classes.push(class).unwrap();
+        self.classes.push_reserved(class);
         Ok(())
     }
 
@@ -264,13 +266,13 @@ impl<A: Allocator> BlockState<A> {
         ensures { IfOk result (λ joint. IsJointAt self.now low high joint) }
     {
         let class = &self.classes[low];
-        let drawn = class.drawn_up(self.bytes.allocator().clone()?, &self.classes[high])?;
+        let drawn = class.drawn_up(self.bytes.allocator(), &self.classes[high])?;
         Ok(Joint { low, high, drawn })
     }
 
     /// Puts the record that was drawn up of the classes at two places in the place of the lower one. It is free to go there
     /// where the higher one depends on none between them.
-    fn settle(&mut self, low: usize, high: usize, drawn: Drawn<A>, is_free: bool)
+    fn settle(&mut self, low: usize, high: usize, drawn: Option<Drawn<A>>, is_free: bool)
         requires less { low < high }
         requires within { high < length self.old.classes }
         requires free { IsTrue is_free → (m : ℕ) → low < m → m < high → follows self.old high m ≡ false }
@@ -291,7 +293,7 @@ impl<A: Allocator> BlockState<A> {
 
     /// Puts the record of the classes at two places in place of both. Where the higher one depends on none between them, as the
     /// newest class mostly does, it goes down to the lower one; else the lower one is brought up to it.
-    fn join_at(&mut self, low: usize, high: usize, drawn: Drawn<A>)
+    fn join_at(&mut self, low: usize, high: usize, drawn: Option<Drawn<A>>)
         requires less { low < high }
         requires within { high < length self.old.classes }
         ensures bytes { self.new.bytes ≡ self.old.bytes }
@@ -309,7 +311,8 @@ impl<A: Allocator> BlockState<A> {
     /// Draws up the classes of two patches as one. Both may be taken back, their spans meet or touch, and no third class lies
     /// on a path from one to the other. None where they aren't two classes of the block. The lists of the higher class go
     /// behind the lower one's where these have room for them, and rise then: that copies the higher class's numbers alone, when
-    /// the joint is put in place. Else a merge copies the numbers of both, and makes room for as many again.
+    /// the joint is put in place; and where the lower class saved the bytes of both, it takes no memory. Else a merge copies the numbers
+    /// of both, and makes room for as many again.
     pub fn joint(&self, a: PatchNo, b: PatchNo) -> Result<Option<Joint<A>>, OutOfMemory>
     where
         A: Clone,
@@ -410,8 +413,9 @@ impl<A: Allocator> BlockState<A> {
         ensures exact { IsNonDecreasing numbers.now → self.new ≡ with_departed self.old numbers.now }
         ensures named { HasDeparted numbers.now self.old self.new }
     {
+        let mut next = 0;
         for class in self.classes.iter_mut() {
-            class.depart_among(numbers);
+            next = class.depart_among(numbers, next);
         }
         self.flying = self.flying.spread_over(self.classes.len(), true);
         forget(&mut self.image);
@@ -447,8 +451,8 @@ impl<A: Allocator> BlockState<A> {
         }
     }
 
-    /// Makes each class in flight durable: their records go. Where those in flight stand close together, it looks at no other
-    /// record; else at each of them once.
+    /// Makes each class in flight durable: their records go. Where those in flight stand one upon another, or close together, it looks
+    /// at no other record; else at each of them once.
     pub fn land_each(&mut self)
         ensures exact { self.new ≡ with_landed self.old }
         ensures answer { (h : History) (block : ℕ) → Represents self.old [] h → IsOrderlyBlock h block
@@ -461,11 +465,38 @@ impl<A: Allocator> BlockState<A> {
         ensures { self.new ≡ with_landed self.old }
     {
         let flying = self.flying.below(self.len());
-        if flying.to <= flying.from.saturating_add(FEW) {
+        if self.are_flying(flying) {
+            self.land_range(flying);
+        } else if flying.to <= flying.from.saturating_add(FEW) {
             self.land_within(flying);
         } else {
             self.land_over_all();
         }
+    }
+
+    /// Whether each class at one of these places is in flight.
+    fn are_flying(&self, places: Places) -> bool
+        requires { IsRange places (length self.now.classes) }
+        ensures { IsTrue result → AllFlyAt places self.now.classes }
+    {
+        for at in places.from..places.to {
+            if !self.is_flying_at(at) {
+                return false;
+            }
+        }
+        true
+    }
+
+    /// Lets those in flight go, which stand at these places and no others, all at once.
+    fn land_range(&mut self, flying: Places)
+        requires range { IsRange flying (length self.old.classes) }
+        requires all { AllFlyAt flying self.old.classes }
+        requires within { FlyingWithin flying self.old.classes }
+        ensures { self.new ≡ with_landed self.old }
+    {
+        drop(self.classes.drain(flying.from..flying.to));
+        self.taken = self.taken.spread(self.classes.len());
+        self.flying = Places::none();
     }
 
     /// Lets those in flight go, which stand within these places, the highest first.
@@ -501,4 +532,16 @@ impl<A: Allocator> BlockState<A> {
         self.taken = self.taken.spread(self.classes.len());
         self.flying = self.flying.spread(self.classes.len());
     }
+}
+
+/// Makes room for one more record; where there is none, for some.
+fn make_record_room<A: Allocator>(classes: &mut Vec<Class<A>, A>) -> Result<(), OutOfMemory>
+    ensures same { classes.new.items ≡ classes.old.items }
+    ensures room { OnOk result (vec_len classes.new < vec_capacity classes.new) }
+{
+    if classes.len() < classes.capacity() {
+        return Ok(());
+    }
+    classes.reserve(FEW)?;
+    Ok(())
 }

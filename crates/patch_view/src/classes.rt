@@ -4,11 +4,11 @@ ghost use Rattle.std.specs.List.{list_any, list_all};
 ghost use Rattle.std.specs.List.Sorted.{IsNonDecreasing};
 ghost use Rattle.patch_model.specs.Entry.{is_among};
 ghost use Rattle.patch_view.specs.State.{is_takeable, uncovered, laid_on, exchanged_with, leaves_taken, meets, names, hardened, departed, departed_among, MayHaveDeparted, merged, IsMerged, IsDrawn};
-ghost use Rattle.patch_view.specs.State.{spans, follow_on, has_room_for, with_lists_of, in_its_place, with_lists};
+ghost use Rattle.patch_view.specs.State.{spans, follow_on, has_room_for, is_around, with_lists_of, with_all_of, in_its_place, with_lists};
 ghost use Rattle.patch_view.specs.Images.{saved_end, saves_any};
 ghost use Rattle.patch_view.specs.Rests.{IsFree, IsUnion, HasListsOf};
 
-use crate::number_lists::{NumberList, is_listed, sort};
+use crate::number_lists::{NumberList, is_listed, place_in, sort};
 use crate::rests::Rests;
 use crate::spans::swap_span;
 use patch_model::{BLOCK, OutOfMemory, PatchNo};
@@ -76,10 +76,11 @@ impl<A: Allocator> Model for Class<A> {
         × (c.room ≤ c.members.spare) × (c.room ≤ c.after.spare) };
 }
 
-/// Two classes as one. A growing one has no lists of its own: in the block, the lower class's have room for the higher one's.
+/// Two classes as one, where that takes memory. A growing one has no lists of its own: in the block, the lower class's have room for
+/// the higher one's.
 #[derive(Drop)]
 pub(crate) struct Drawn<A: Allocator = Global> {
-    class: Class<A>,
+    class: Box<Class<A>, A>,
     growing: bool,
 }
 
@@ -88,7 +89,7 @@ impl<A: Allocator> Model for Drawn<A> {
 
     ghost Value = { Seen };
 
-    ghost view = { λ d. record { class = d.class; growing = d.growing } };
+    ghost view = { λ d. record { class = d.class.value; growing = d.growing } };
 }
 
 impl<A: Allocator> Class<A> {
@@ -228,26 +229,48 @@ impl<A: Allocator> Class<A> {
             && follow_on(self.after.as_slice(), high.after.as_slice())
     }
 
-    /// Draws this class and a higher one up as one.
-    pub(crate) fn drawn_up(&self, alloc: A, high: &Class<A>) -> Result<Drawn<A>, OutOfMemory>
+    /// Whether the bytes of a higher class are all among those that this one saved.
+    fn is_around(&self, high: &Class<A>) -> bool
+        ensures exact { result ≡ is_around self.now high.now }
+        ensures held { saved_end high.now ≤ high.now.stop }
+    {
+        self.start <= high.start
+            && high.stop <= self.stop
+            && self.start + self.saved.len() == self.stop
+    }
+
+    /// Draws this class and a higher one up as one. None where this one takes the higher one in without memory.
+    pub(crate) fn drawn_up(
+        &self,
+        alloc: &A,
+        high: &Class<A>,
+    ) -> Result<Option<Drawn<A>>, OutOfMemory>
     where
         A: Clone,
         ensures { IfOk result (λ drawn. IsDrawn self.now high.now drawn) }
     {
         let growing = self.has_room_for(high);
-        let class = if growing {
-            self.merged_without_lists(alloc, high)?
-        } else {
-            self.merged(alloc, high)?
-        };
-        Ok(Drawn { class, growing })
+        if growing && self.is_around(high) {
+            return Ok(None);
+        }
+        let width = self.stop.max(high.stop) - self.start.min(high.start);
+        let zeros = vec![in alloc.clone()?; 0u8; width]?;
+        if !growing {
+            let both = self.merged(alloc, high, zeros)?;
+            let class = Box::new(alloc.clone()?, both)?;
+            return Ok(Some(Drawn { class, growing }));
+        }
+        let both = self.merged_with(high, NumberList::none(), NumberList::none(), zeros);
+        let class = Box::new(alloc.clone()?, both)?;
+        Ok(Some(Drawn { class, growing }))
     }
 
     /// This class and a higher one as one class: on the bytes that they share it has what this one saved. It has room for as
     /// many numbers again as either of its lists has.
-    fn merged(&self, alloc: A, high: &Class<A>) -> Result<Class<A>, OutOfMemory>
+    fn merged(&self, alloc: &A, high: &Class<A>, zeros: Vec<u8, A>) -> Result<Class<A>, OutOfMemory>
     where
         A: Clone,
+        requires { zeros.items ≡ replicate (max self.now.stop high.now.stop - min self.now.start high.now.start) 0 }
         ensures { IfOk result (λ c. IsMerged self.now high.now c) }
     {
         let most_members = self.members.len().saturating_add(high.members.len());
@@ -257,24 +280,7 @@ impl<A: Allocator> Class<A> {
         let members = NumberList::from_vec(both_lists(alloc.clone()?, these, those, room)?);
         let (these, those) = (self.after.as_slice(), high.after.as_slice());
         let after = NumberList::from_vec(both_lists(alloc.clone()?, these, those, room)?);
-        let saved = vec![in alloc; 0u8; self.width_with(high)]?;
-        Ok(self.merged_with(high, members, after, saved))
-    }
-
-    /// The same but for the lists, which are empty.
-    fn merged_without_lists(&self, alloc: A, high: &Class<A>) -> Result<Class<A>, OutOfMemory>
-    where
-        A: Clone,
-        ensures { IfOk result (λ c. c ≡ merged self.now high.now [] [] c.room) }
-    {
-        let saved = vec![in alloc; 0u8; self.width_with(high)]?;
-        Ok(self.merged_with(high, NumberList::none(), NumberList::none(), saved))
-    }
-
-    fn width_with(&self, high: &Class<A>) -> usize
-        ensures { result ≡ max self.now.stop high.now.stop - min self.now.start high.now.start }
-    {
-        self.stop.max(high.stop) - self.start.min(high.start)
+        Ok(self.merged_with(high, members, after, zeros))
     }
 
     /// The record of both, with these members, which name these, and whose saved bytes are written over the zeros.
@@ -314,11 +320,15 @@ impl<A: Allocator> Class<A> {
 
     /// Becomes what was drawn up of it and a higher class. Answers whether it then has the bytes of both, none but their
     /// members and names, and the name of a member, as it has where the record was drawn up of them.
-    pub(crate) fn become_both(&mut self, drawn: Drawn<A>, high: &Class<A>) -> bool
+    pub(crate) fn become_both(&mut self, drawn: Option<Drawn<A>>, high: &Class<A>) -> bool
         ensures drawn { IsDrawn self.old high.now drawn → self.new ≡ in_its_place self.old high.now drawn }
         ensures of_both { IsTrue result → IsUnion self.new self.old high.now }
     {
+        let Some(drawn) = drawn else {
+            return self.take_in(high);
+        };
         let Drawn { class, growing } = drawn;
+        let class = Box::into_inner(class);
         if growing {
             let has_their_span = class.has_span_of(self, high);
             self.take_lists(high);
@@ -329,6 +339,21 @@ impl<A: Allocator> Class<A> {
             *self = class;
             is_of_both
         }
+    }
+
+    /// Becomes one with a higher class whose bytes lie among those that it saved: these stay what they are, since on the bytes
+    /// that the two share the lower class's count.
+    fn take_in(&mut self, high: &Class<A>) -> bool
+        ensures taken { has_room_for self.old high.now ≡ true → self.new ≡ with_all_of self.old high.now }
+        ensures of_both { IsTrue result → IsUnion self.new self.old high.now }
+    {
+        let is_around = self.is_around(high);
+        self.take_lists(high);
+        self.name = lesser(self.name, high.name);
+        self.flying = false;
+        self.hard = false;
+        self.taken = false;
+        is_around && self.is_called_by_a_member()
     }
 
     /// Whether its name is a member's.
@@ -424,13 +449,18 @@ impl<A: Allocator> Class<A> {
         self.saved.clear();
     }
 
-    /// Departs if one of the numbers, which rise, is its name.
-    pub(crate) fn depart_among(&mut self, numbers: &[PatchNo])
+    /// Departs if one of the numbers, which rise, is its name, which is looked for at a place first. Answers where the next
+    /// class's may be.
+    pub(crate) fn depart_among(&mut self, numbers: &[PatchNo], first: usize) -> usize
         ensures named { MayHaveDeparted numbers.now self.old self.new }
         ensures exact { IsNonDecreasing numbers.now → self.new ≡ departed_among numbers.now self.old }
     {
-        if is_listed(numbers, self.name) {
-            self.depart();
+        match place_in(numbers, first, self.name) {
+            Some(at) => {
+                self.depart();
+                at.saturating_add(1)
+            }
+            None => first,
         }
     }
 

@@ -31,10 +31,12 @@ impl<A: Allocator> Model for Image<A> {
 }
 
 impl<A: Allocator> Image<A> {
-    fn none(alloc: A) -> Result<Image<A>, OutOfMemory>
+    fn none(alloc: &A) -> Result<Image<A>, OutOfMemory>
+    where
+        A: Clone,
         ensures { IfOk result (λ image. image.known ≡ false) }
     {
-        let bytes = vec![in alloc; 0u8; BLOCK]?;
+        let bytes = vec![in alloc.clone()?; 0u8; BLOCK]?;
         Ok(Image {
             bytes,
             is_known: false,
@@ -92,25 +94,17 @@ pub(crate) fn uncover_all<A: Allocator>(classes: &[Class<A>], copy: &mut [u8])
     }
 }
 
-/// With room for the bytes, if there are many classes. Without memory for it there is none.
-pub(crate) fn with_room<A: Allocator + Clone>(
-    image: Option<Image<A>>,
+/// Makes room for the bytes where there is none yet, if there are many classes. Without memory for it there is none.
+pub(crate) fn make_room<A: Allocator + Clone>(
+    image: &mut Option<Image<A>>,
     alloc: &A,
     are_many: bool,
-) -> Option<Image<A>>
-    ensures { StaysIf true image result }
+)
+    ensures { StaysIf true image.old image.new }
 {
-    match image {
-        Some(image) => Some(image),
-        None => { if are_many { room(alloc) } else { None } }
+    if are_many && image.is_none() {
+        *image = Image::none(alloc).ok();
     }
-}
-
-fn room<A: Allocator + Clone>(alloc: &A) -> Option<Image<A>>
-    ensures { IsForgotten result }
-{
-    let own = alloc.clone().ok()?;
-    Image::none(own).ok()
 }
 
 /// Forgets what is known.

@@ -100,48 +100,36 @@ fn are_of(tops: &[Span], members: &[PatchNo]) -> bool
     true
 }
 
-/// What is known after a patch was laid that names these; it may be the block's only one. Nothing is, where the patch has no
-/// byte, or where there is no memory for it.
-pub(crate) fn laid_over<A: Allocator + Clone>(
-    rests: Option<Rests<A>>,
+/// Lays a patch that names these over what is known; it may be the block's only one. Nothing is known then, where the patch has
+/// no byte, or where there is no memory for it.
+pub(crate) fn lay_over<A: Allocator + Clone>(
+    rests: &mut Option<Rests<A>>,
     alloc: &A,
     is_only: bool,
     top: Span,
     names: &[PatchNo],
-) -> Option<Rests<A>>
-    ensures { IfSome result (λ r. IsLaidOn (begun is_only rests) r top names.now) }
+)
+    ensures { IfSome rests.new (λ r. IsLaidOn (begun is_only rests.old) r top names.now) }
 {
-    if top.start >= top.stop {
-        return None;
+    if is_only {
+        begin(rests, alloc);
     }
-    let mut begun = begin(rests, alloc, is_only)?;
-    match begun.lay(top, names) {
-        Ok(()) => Some(begun),
-        Err(_) => None,
+    let is_laid = match rests {
+        Some(rests) => top.start < top.stop && rests.lay(top, names).is_ok(),
+        None => true,
+    };
+    if !is_laid {
+        *rests = None;
     }
 }
 
-fn begin<A: Allocator + Clone>(
-    rests: Option<Rests<A>>,
-    alloc: &A,
-    is_only: bool,
-) -> Option<Rests<A>>
-    ensures { IfSome result (λ r. begun is_only rests ≡ Some r) }
+/// Begins anew, where there is memory for it.
+fn begin<A: Allocator + Clone>(rests: &mut Option<Rests<A>>, alloc: &A)
+    ensures { IfSome rests.new (λ r. r ≡ no_rests) }
 {
     match rests {
-        Some(mut rests) => {
-            if is_only {
-                rests.clear();
-            }
-            Some(rests)
-        }
-        None => {
-            if is_only {
-                Rests::none(alloc).ok()
-            } else {
-                None
-            }
-        }
+        Some(rests) => rests.clear(),
+        None => *rests = Rests::none(alloc).ok(),
     }
 }
 

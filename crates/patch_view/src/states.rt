@@ -85,10 +85,15 @@ impl<A: Allocator> BlockState<A> {
         class.includes(no).then_some(at)
     }
 
-    /// The last place whose name isn't above the number, where names rise with the places.
+    /// The last place whose name isn't above the number, where names rise with the places. That is mostly the last of all, which is
+    /// looked at first.
     fn place_upto(&self, no: PatchNo) -> Option<usize>
         ensures { IfSome result (λ at. at < length self.now.classes) }
     {
+        let last = self.classes.len().checked_sub(1)?;
+        if self.name_at(last) <= no {
+            return Some(last);
+        }
         let behind = self.classes.partition_point(|class| class.name() <= no);
         behind.checked_sub(1)
     }
@@ -115,20 +120,13 @@ impl<A: Allocator> BlockState<A> {
     pub(crate) fn may_have(&self, no: PatchNo) -> bool
         ensures { IsFalse result → (i : ℕ) → is_among (class_at self.now i).members no ≡ false }
     {
-        if self.is_above_all(no) {
+        if self.members.are_below(no) {
             return false;
         }
-        if self.len() > FEW && self.place_by_name(no).is_none() {
+        if self.place_by_name(no).is_some() {
             return true;
         }
-        self.place_of(no).is_some()
-    }
-
-    /// Whether the number is known to be above all members.
-    fn is_above_all(&self, no: PatchNo) -> bool
-        ensures { IsTrue result → (i : ℕ) → is_among (class_at self.now i).members no ≡ false }
-    {
-        self.members.are_below(no)
+        self.len() > FEW || self.place_of(no).is_some()
     }
 
     pub(crate) fn len(&self) -> usize

@@ -96,9 +96,13 @@ fn draw_and_let_go(
     Ok(())
 }
 
-// How much memory is used while the joint isn't in place yet.
-fn join_drawn(heap: &LocalHeap, block: &mut BlockState<&LocalHeap>) -> Result<usize, OutOfMemory> {
-    let joint = block.joint(PatchNo(0), PatchNo(1))?;
+// How much memory is used while the joint of the first patch and another isn't in place yet.
+fn join_drawn(
+    heap: &LocalHeap,
+    block: &mut BlockState<&LocalHeap>,
+    other: u32,
+) -> Result<usize, OutOfMemory> {
+    let joint = block.joint(PatchNo(0), PatchNo(other))?;
     let drawn = heap.used();
     block.join_by(joint);
     Ok(drawn)
@@ -110,7 +114,7 @@ fn join_in_place(
     block: &mut BlockState<&LocalHeap>,
 ) -> Result<(), Fail> {
     let apart = heap.used();
-    let drawn = join_drawn(heap, block)?;
+    let drawn = join_drawn(heap, block, 1)?;
     assert!(rt; apart < drawn && heap.used() < drawn);
     Ok(())
 }
@@ -137,6 +141,36 @@ fn a_joint_takes_memory_once(rt: HostRuntime) -> Result<(), Fail> {
     let heap = LocalHeap::new(rt.alloc(), 16384)?;
     let mut block = bare(&heap)?;
     take_memory_once(&rt, &heap, &mut block)
+}
+
+// Two patches that are one, and a third on some of their bytes.
+fn lay_one_within(block: &mut BlockState<&LocalHeap>) -> Result<(), OutOfMemory> {
+    lay_one_over_another(block)?;
+    block.join(PatchNo(0), PatchNo(1))?;
+    block.lay(PatchNo(2), 100, &[3; 200], &[PatchNo(1)])
+}
+
+// The first class saved the bytes of both, and has room for the other's number: its record stays, and the other's goes.
+fn take_one_in(
+    rt: &impl Abort,
+    heap: &LocalHeap,
+    block: &mut BlockState<&LocalHeap>,
+) -> Result<(), Fail> {
+    lay_one_within(block)?;
+    let apart = heap.used();
+    assert_eq!(rt; join_drawn(heap, block, 2)?, apart);
+    assert!(rt; heap.used() < apart);
+    assert_eq!(rt; &block.cached()[99..101], [2, 3].as_slice());
+    expect_taken(rt, block.take(PatchNo(2)), Ok(()));
+    assert_eq!(rt; &block.bytes()[99..101], [0, 0].as_slice());
+    Ok(())
+}
+
+#[test]
+fn a_class_takes_one_in_without_memory(rt: HostRuntime) -> Result<(), Fail> {
+    let heap = LocalHeap::new(rt.alloc(), 16384)?;
+    let mut block = bare(&heap)?;
+    take_one_in(&rt, &heap, &mut block)
 }
 
 // Makes the first two patches one, at once or in two steps.

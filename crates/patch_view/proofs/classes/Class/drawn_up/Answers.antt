@@ -1,21 +1,23 @@
-use Rattle.std.proofs.Common.{◌≡◌, ◌∙◌, true, [], sym, subst}
-use Rattle.patch_view.specs.State.{Class, IsMerged, IsDrawn, has_room_for, merged}
-use Rattle.patch_view.proofs.Settling.{drawn-growing, drawn-whole}
+use Rattle.std.proofs.Common.{◌≡◌, ◌∙◌, true, [], sym, subst, ap, Some, rules}
+use Rattle.patch_view.specs.NumberLists.{NumberList}
+use Rattle.patch_view.specs.State.{Class, IsDrawn, has_room_for, merged}
+use Rattle.patch_view.proofs.Settling.{drawn-growing, drawn-around}
 use Rattle.patch_view.proofs.classes.Class.drawn_up.Goals as goal
-use Rattle.patch_view.proofs.classes.Class.drawn_up.Goals.{then-growing+in_ok-class, else-growing+in_ok-class-2}
+
+pub returns-then-is_around : goal.returns-then-is_around
+returns-then-is_around g c =
+    drawn-around c.args.self.now c.args.high.now (sym c.has_room_for-growing.ensures.exact ∙ c.if-growing.true)
+    (sym c.is_around.ensures.exact ∙ c.if-is_around.true) c.is_around.ensures.held
 
 pub returns : goal.returns
 returns g c =
     let low : Class = c.args.self.now in
     let high : Class = c.args.high.now in
-    let class : Class = c.if-growing.class in
-    elim c.if-growing.branch [
-      | then-growing+in_ok-class w ↦
-          let fits : has_room_for low high ≡ true = sym c.has_room_for-growing.ensures.exact ∙ w.if-growing.true in
-          let is : class ≡ merged low high [] [] class.room =
-          subst (λ z. z ≡ merged low high [] [] z.room) (sym w.class-is) w.in_ok-class.ensures in
-          subst (λ b. IsDrawn low high (record { class = class; growing = b })) (sym w.if-growing.true) (drawn-growing low high class fits is)
-      | else-growing+in_ok-class-2 w ↦
-          let is : IsMerged low high class = subst (λ z. IsMerged low high z) (sym w.class-is) w.in_ok-class-2.ensures in
-          subst (λ b. IsDrawn low high (record { class = class; growing = b })) (sym w.if-growing.false) (drawn-whole low high class is)
-    ]
+    let class : Class = c.merged_with-both.result in
+    let fits : has_room_for low high ≡ true = sym c.has_room_for-growing.ensures.exact ∙ c.if-not-growing.false in
+    let is : class ≡ merged low high [] [] class.room =
+    c.merged_with-both.ensures ∙ ap (λ (l : NumberList). merged low high l.items c.none-2.result.items class.room) c.none.ensures
+    ∙ ap (λ (l : NumberList). merged low high [] l.items class.room) c.none-2.ensures in
+    let boxed : c.in_ok-class-2.class.value ≡ class = search rules in
+    subst (λ (k : Class). IsDrawn low high (Some (record { class = k; growing = c.has_room_for-growing.result }))) (sym boxed)
+    (subst (λ b. IsDrawn low high (Some (record { class = class; growing = b }))) (sym c.if-not-growing.false) (drawn-growing low high class fits is))

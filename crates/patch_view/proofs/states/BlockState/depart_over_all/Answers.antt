@@ -15,11 +15,11 @@ pub loop-class-preserved : goal.loop-class-preserved
 loop-class-preserved g c =
     let within : c.loop-class.class-index < length c.deref_mut-class-items.result.now =
     let test = c.loop-class-test.true in let same = c.loop-class.auto.class-items in omega arith in (
-      λ rising. ap (set c.loop-class.class-items c.loop-class.class-index) (c.depart_among.ensures.exact rising ∙ ap (departed_among c.args.numbers.now) (sym c.class-item.is))
+      λ rising. ap (set c.loop-class.class-items c.loop-class.class-index) (c.depart_among-next.ensures.exact rising ∙ ap (departed_among c.args.numbers.now) (sym c.class-item.is))
           ∙ map_over_more (departed_among c.args.numbers.now) c.deref_mut-class-items.result.now c.loop-class.class-items c.loop-class.class-index
           c.class-item.result within (c.loop-class.invariant.0 rising) c.class-item.is,
       more_departed c.args.numbers.now c.deref_mut-class-items.result.now c.loop-class.class-items c.loop-class.class-index c.class-item.result _ within
-          c.depart_among.ensures.named c.loop-class.invariant.1,
+          c.depart_among-next.ensures.named c.loop-class.invariant.1,
     )
 
 pub returns-clause-exact : goal.returns-clause-exact
