@@ -42,7 +42,7 @@ impl<A: Allocator + Copy> Cache<A> {
             None => {
                 let bytes = copied(self.alloc, bytes)?;
                 let after = copied(self.alloc, after)?;
-                Ok(self.make(block, start, bytes, after, undo)?)
+                self.create_owned(block, start, bytes, after, undo)
             }
         }
     }
