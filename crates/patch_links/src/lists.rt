@@ -10,7 +10,7 @@ use std::alloc::{AllocError, Allocator, Global};
 use std::marker::Model;
 
 /// For so many keys a list makes room at first.
-const FIRST_ROOM: usize = 32;
+const FIRST_ROOM: usize = 16;
 
 /// Keys of a block's classes. A class in memory that waits for others is in no list.
 #[derive(Drop)]

@@ -13,7 +13,7 @@ use std::marker::Model;
 pub const LAY_ROOM: usize = 3;
 
 /// For so many spans a skyline makes room where it has none.
-const FIRST_ROOM: usize = 32;
+const FIRST_ROOM: usize = 16;
 
 /// Bytes that one patch wrote last, from the first to the one after the last, and the number of that patch.
 #[derive(Clone, Copy, Debug, PartialEq, Eq)]

@@ -32,6 +32,9 @@ use std::marker::Model;
 /// So many classes that depart are searched for one after another.
 const MOST_SOUGHT: usize = 4;
 
+/// For so many records room is made where there is none.
+const SOME: usize = 8;
+
 /// Two classes of a block as one record, drawn up by [`joint`](BlockState::joint) and not yet in place.
 #[derive(Drop)]
 pub struct Joint<A: Allocator = Global> {
@@ -542,6 +545,6 @@ fn make_record_room<A: Allocator>(classes: &mut Vec<Class<A>, A>) -> Result<(), 
     if classes.len() < classes.capacity() {
         return Ok(());
     }
-    classes.reserve(FEW)?;
+    classes.reserve(SOME)?;
     Ok(())
 }
