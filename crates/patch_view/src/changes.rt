@@ -33,7 +33,7 @@ use std::marker::Model;
 const MOST_SOUGHT: usize = 4;
 
 /// For so many records room is made where there is none.
-const SOME: usize = 8;
+const FIRST_ROOM: usize = 8;
 
 /// Two classes of a block as one record, drawn up by [`joint`](BlockState::joint) and not yet in place.
 #[derive(Drop)]
@@ -545,6 +545,6 @@ fn make_record_room<A: Allocator>(classes: &mut Vec<Class<A>, A>) -> Result<(), 
     if classes.len() < classes.capacity() {
         return Ok(());
     }
-    classes.reserve(SOME)?;
+    classes.reserve(FIRST_ROOM)?;
     Ok(())
 }
