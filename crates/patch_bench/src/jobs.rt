@@ -1,0 +1,122 @@
+//! The jobs.
+use crate::digests::Digest;
+use crate::disks::{run_on_new, small_extents};
+use crate::patches::{all_over, behind_another, group_chain, overlapping, replay_on_new};
+use crate::puts::{large_values, mixed, overwrites, small_values, synced};
+use crate::random::Random;
+use crate::waiting::{Behind, chain, reclaims};
+use crate::writers::{of_writers, serve_on_new};
+use anyhow::{Result, bail};
+use std::alloc::Global;
+use std::sync::Wait;
+use std::thread::Threads;
+
+/// What the command line asks for.
+#[derive(Clone, Copy, Debug, PartialEq, Eq)]
+pub struct Request<'a> {
+    pub job: &'a str,
+    /// How much of it, in the job's own measure.
+    pub size: u32,
+    pub seed: u32,
+}
+
+/// Does what is asked for. The digest of all answers.
+pub fn run<T: Threads + Wait + Sync>(rt: &T, alloc: Global, request: Request<'_>) -> Result<u64> {
+    let Request { job, size, seed } = request;
+    let mut digest = Digest::new();
+    let mut random = Random::new(seed, size);
+    match job {
+        "values" => values(alloc, &mut random, size, &mut digest)?,
+        "mixed" => mix(alloc, &mut random, size, &mut digest)?,
+        "synced" => sync_each(alloc, &mut random, size, &mut digest)?,
+        "waiting" => wait(alloc, &mut random, size, &mut digest)?,
+        "patches" => patch(alloc, &mut random, size, &mut digest)?,
+        "writers" => write(rt, alloc, &mut random, size, &mut digest)?,
+        "each" => each(rt, alloc, &mut random, size, &mut digest)?,
+        _ => bail!("JOB is values, mixed, synced, waiting, patches, writers or each"),
+    }
+    Ok(digest.value())
+}
+
+/// Stores that are filled: small values, large ones, and such as are written again and again. SIZE is how many stores of each kind.
+fn values(alloc: Global, random: &mut Random, size: u32, digest: &mut Digest) -> Result<()> {
+    for _ in 0..size {
+        let script = small_values(alloc, random)?;
+        run_on_new(alloc, small_extents(16, 3), &script, digest)?;
+        let script = large_values(alloc, random)?;
+        run_on_new(alloc, small_extents(1, 65), &script, digest)?;
+        let script = overwrites(alloc, random, 5_000)?;
+        run_on_new(alloc, small_extents(2, 100), &script, digest)?;
+    }
+    Ok(())
+}
+
+/// Stores that are read, written and emptied. SIZE is how many there are.
+fn mix(alloc: Global, random: &mut Random, size: u32, digest: &mut Digest) -> Result<()> {
+    for _ in 0..size {
+        let script = mixed(alloc, random, 8_000)?;
+        run_on_new(alloc, small_extents(8, 200), &script, digest)?;
+    }
+    Ok(())
+}
+
+/// A large store with a sync behind each put. SIZE is how many puts there are.
+fn sync_each(alloc: Global, random: &mut Random, size: u32, digest: &mut Digest) -> Result<()> {
+    let script = synced(alloc, random, size)?;
+    run_on_new(alloc, small_extents(16, 250), &script, digest)
+}
+
+/// Stores in which much waits: a chain of groups that are synced at its end, one of groups that are synced one by one, and values
+/// that reclaims move. SIZE is how many groups there are in the first chain; in the second are twice as many, and a quarter as many
+/// reclaims.
+fn wait(alloc: Global, random: &mut Random, size: u32, digest: &mut Digest) -> Result<()> {
+    let script = chain(alloc, random, size, 20, Behind::Nothing)?;
+    run_on_new(alloc, small_extents(8, 16), &script, digest)?;
+    let script = chain(alloc, random, size.saturating_mul(2), 20, Behind::Sync)?;
+    run_on_new(alloc, small_extents(8, 16), &script, digest)?;
+    let script = reclaims(alloc, random, size / 4)?;
+    run_on_new(alloc, small_extents(16, 8), &script, digest)
+}
+
+/// Patches of the cache that overlap, wait, stand all over, or belong to groups. SIZE is thousands of each.
+fn patch(alloc: Global, random: &mut Random, size: u32, digest: &mut Digest) -> Result<()> {
+    let count = size.saturating_mul(1_000);
+    let script = overlapping(alloc, random, count)?;
+    replay_on_new(alloc, &script, digest)?;
+    let script = behind_another(alloc, random, count / 40, count / 2)?;
+    replay_on_new(alloc, &script, digest)?;
+    let script = all_over(alloc, random, count)?;
+    replay_on_new(alloc, &script, digest)?;
+    let script = group_chain(alloc, random, size, 60)?;
+    replay_on_new(alloc, &script, digest)
+}
+
+/// Stores that four writers change at a time. SIZE is how many there are.
+fn write<T: Threads + Wait + Sync>(
+    rt: &T,
+    alloc: Global,
+    random: &mut Random,
+    size: u32,
+    digest: &mut Digest,
+) -> Result<()> {
+    for _ in 0..size {
+        let script = of_writers(alloc, random, 28_000)?;
+        serve_on_new(rt, alloc, small_extents(16, 64), &script, digest)?;
+    }
+    Ok(())
+}
+
+/// A little of each job but those whose measure is a whole store.
+fn each<T: Threads + Wait + Sync>(
+    rt: &T,
+    alloc: Global,
+    random: &mut Random,
+    size: u32,
+    digest: &mut Digest,
+) -> Result<()> {
+    sync_each(alloc, random, size, digest)?;
+    wait(alloc, random, size, digest)?;
+    patch(alloc, random, 1, digest)?;
+    let script = of_writers(alloc, random, size)?;
+    serve_on_new(rt, alloc, small_extents(16, 64), &script, digest)
+}
