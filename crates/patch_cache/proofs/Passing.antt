@@ -20,6 +20,8 @@ use Rattle.patch_model.specs.Pile.{pile}
 use Rattle.patch_model.specs.History.{history_of, image, cached}
 use Rattle.patch_cache.specs.Contents.{Contents}
 use Rattle.patch_cache.specs.Running.{Runs, held_by}
+use Rattle.patch_cache.specs.BlockSets.{holds}
+use Rattle.patch_cache.specs.Waiting.{AreWaiting}
 use Rattle.patch_cache.specs.Flights.{AreFlightsOf}
 use Rattle.patch_cache.specs.Waves.{is_send, steps_since, classes_in_memory, live_classes, HasGoneOn, HasKept, Continues, EndsOne, HoldsBegun, begun, IsPass, IsFlushed, IsSentOr}
 use Rattle.patch_cache.specs.declared.flights.Flights.{Flights}
@@ -27,6 +29,7 @@ use Rattle.patch_cache.specs.declared.flights.Flight.{Flight as Held}
 use Rattle.patch_cache.proofs.Crashing.{DisksStay, TrailsJoin, unwritten_step}
 use Rattle.patch_cache.proofs.Holding.{StatesExtend, ImagesStay}
 use Rattle.patch_cache.proofs.Counting.{count_le, count-append}
+use Rattle.patch_cache.proofs.Waiting.{none_between}
 use Rattle.patch_cache.proofs.Waving.{since_is, since_both, continues, gone_still, gone_send, gone_both, kept_unmoved, kept_both, went_by, keeps_by, fewer_sent, images_sent}
 
 -- the law of what a write of a block needs
@@ -145,6 +148,18 @@ pass_more join extend stay disks orderly largest law run at before more steps mi
 
 pub pass_begun : {A : Type 0} (run : Execution) (cache : Contents) (flights : Flights A) → Runs cache flights run → Passed run 0 false [] cache flights
 pass_begun run cache flights runs = record { gone = gone_still run cache flights runs; kept = λ had contents. kept_unmoved run had contents; pass = (refl, λ b within why. omega (arith, within)) }
+
+-- a pass up to one block is one up to another, if none of the blocks between waits
+pub pass_skipped : LargestLaw → SentLaw → {A : Type 0} → (run : Execution) (from at : ℕ) (sent : Bool) (steps : List Step) (cache : Contents) (flights : Flights A)
+    → ((b : ℕ) → from ≤ b → b < at → holds cache.waiting b ≡ false) → Passed run from sent steps cache flights → Passed run at sent steps cache flights
+pass_skipped largest law run from at true steps cache flights none first = record { gone = first.gone; kept = first.kept; pass = first.pass }
+pass_skipped largest law run from at false steps cache flights none first =
+    let same = same_run run steps first.pass.0 in
+    let are = subst (AreWaiting cache.waiting) same first.gone.runs.cache_is.waiting in record {
+      gone = first.gone;
+      kept = first.kept;
+      pass = (first.pass.0, λ b within why. none_between run cache.waiting from b are (largest run) (λ n this. ((law run n).0 this).0) first.pass.1 (λ over. none b over within) why);
+    }
 
 pub pass_ended : SentLaw → (run : Execution) (at : ℕ) (sent : Bool) (steps : List Step) → length run.first ≤ at → IsPassTo run at sent steps → IsPass run sent steps
 pass_ended law run at true steps all pass = pass

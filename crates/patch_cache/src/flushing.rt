@@ -69,9 +69,11 @@ impl<A: Allocator + Copy> Cache<A> {
         model_laws::disks_stay();
         model_laws::trails_join();
         let mut sent = false;
-        for at in 0..self.blocks() {
-            let more = self.send_if_ready(flights, BlockNo(at))?;
+        let mut from = 0;
+        while let Some(at) = self.waiting.least_from(from) {
+            let more = self.send_if_ready(flights, BlockNo(at as u32))?;
             sent = sent || more;
+            from = at + 1;
         }
         Ok(sent)
     }

@@ -1,11 +1,12 @@
-use Rattle.std.proofs.Common.{◌≡◌, ◌||◌, ◌+◌, [], false, refl, sym, ap, subst, ◌∙◌, arith}
+use Rattle.std.proofs.Common.{◌≡◌, ◌<◌, ◌≤◌, ◌||◌, ◌+◌, ℕ, [], false, refl, sym, ap, subst, ◌∙◌, arith}
 use Rattle.std.specs.Prelude.{count_by}
 use Rattle.patch_model.specs.State.{entries_of}
+use Rattle.patch_cache.specs.BlockSets.{holds}
 use Rattle.patch_cache.specs.Contents.{Contents}
 use Rattle.patch_cache.specs.Waves.{is_send, steps_since, Continues, HasKept, begun}
 use Rattle.patch_cache.proofs.Waving.{none_added, no_sends, since_is, since_more, continues, continues_both, gone_same}
 use Rattle.patch_cache.proofs.Counting.{count-append}
-use Rattle.patch_cache.proofs.Passing.{Passed, pass_begun, pass_more, pass_ended, neither}
+use Rattle.patch_cache.proofs.Passing.{LargestLaw, Passed, pass_begun, pass_more, pass_skipped, pass_ended, neither}
 use Rattle.patch_cache.proofs.caches.Cache.send_all.Goals.{then-sent, else-sent}
 use Rattle.patch_cache.proofs.caches.Cache.send_all.Goals as goal
 
@@ -27,18 +28,20 @@ loop-at-preserved g c =
     let next = c.send_if_ready.new.self in
     let before = c.loop-at.invariant in
     let told = c.in_ok-more.ensures in
-    let more = begun c.loop-at.at c.in_ok-more.more in
+    let more = begun c.in-Some.at c.in_ok-more.more in
     let is : c.if-sent.sent ≡ (c.loop-at.sent || c.in_ok-more.more) = elim c.if-sent.branch [
       | then-sent w ↦ w.sent-is ∙ sym (rw w.if-sent.true refl)
       | else-sent w ↦ w.sent-is ∙ sym (rw w.if-sent.false refl)
     ] in
+    let largest : LargestLaw = λ run block. c.ready_is_largest.ensures.largest (entries_of run) block (c.ready_is_largest.ensures.made run) in
+    let skipped = subst (λ (v : Contents). (b : ℕ) → c.loop-at.from ≤ b → b < c.in-Some.at → holds v.waiting b ≡ false) c.self.view_is c.in-Some.ensures.3 in
     record {
       so_far = λ run runs.
-          let first = before.so_far run runs in
-          subst (λ b. Passed run (c.loop-at.at + 1) b (steps_since old next) next c.send_if_ready.new.flights) (sym is)
-          (subst (λ s. Passed run (c.loop-at.at + 1) (c.loop-at.sent || c.in_ok-more.more) s next c.send_if_ready.new.flights) (sym (since_more old mid next more before.trace told.trace))
-          (pass_more c.trails_join.ensures c.steps_extend.ensures.state c.images_stay.ensures c.disks_stay.ensures c.executions_are_orderly.ensures.patches (λ run block. c.ready_is_largest.ensures.largest (entries_of run) block (c.ready_is_largest.ensures.made run))
-          c.pairs_merge.ensures.sent run c.loop-at.at c.loop-at.sent c.in_ok-more.more (steps_since old mid) mid next c.loop-at.flights c.send_if_ready.new.flights first (told.sent _ first.gone.runs)));
+          let first = pass_skipped largest c.pairs_merge.ensures.sent run c.loop-at.from c.in-Some.at c.loop-at.sent (steps_since old mid) mid c.loop-at.flights skipped (before.so_far run runs) in
+          subst (λ b. Passed run (c.in-Some.at + 1) b (steps_since old next) next c.send_if_ready.new.flights) (sym is)
+          (subst (λ s. Passed run (c.in-Some.at + 1) (c.loop-at.sent || c.in_ok-more.more) s next c.send_if_ready.new.flights) (sym (since_more old mid next more before.trace told.trace))
+          (pass_more c.trails_join.ensures c.steps_extend.ensures.state c.images_stay.ensures c.disks_stay.ensures c.executions_are_orderly.ensures.patches largest
+          c.pairs_merge.ensures.sent run c.in-Some.at c.loop-at.sent c.in_ok-more.more (steps_since old mid) mid next c.loop-at.flights c.send_if_ready.new.flights first (told.sent _ first.gone.runs)));
       trace = continues_both old mid next before.trace (continues mid next more told.trace);
       count =
           let so_far = before.count in
@@ -71,6 +74,9 @@ returns-clause-disk g c had contents run runs = (c.loop-at.invariant.so_far run 
 
 pub returns-clause-pass : goal.returns-clause-pass
 returns-clause-pass g c run runs =
-    let first = c.loop-at.invariant.so_far run runs in
-    let all = c.blocks-at-end.ensures.answer run runs.cache_is in
-    pass_ended c.pairs_merge.ensures.sent run c.loop-at.at c.loop-at.sent (steps_since c.args.self.now c.loop-at.self) (let past = c.loop-at-test.false in omega (arith, all, past)) first.pass
+    let old = c.args.self.now in
+    let mid = c.loop-at.self in
+    let largest : LargestLaw = λ run block. c.ready_is_largest.ensures.largest (entries_of run) block (c.ready_is_largest.ensures.made run) in
+    let skipped = subst (λ (v : Contents). (b : ℕ) → c.loop-at.from ≤ b → b < 4096 → holds v.waiting b ≡ false) c.self.view_is c.in_default.ensures in
+    let first = pass_skipped largest c.pairs_merge.ensures.sent run c.loop-at.from 4096 c.loop-at.sent (steps_since old mid) mid c.loop-at.flights skipped (c.loop-at.invariant.so_far run runs) in
+    pass_ended c.pairs_merge.ensures.sent run 4096 c.loop-at.sent (steps_since old mid) (let few = runs.cache_is.legal.few in omega (arith, few)) first.pass
