@@ -4,6 +4,7 @@ pub mod Arranging
 pub mod ReadySet
 pub mod OneMore
 pub mod Searches
+pub mod Going
 pub mod Reaching
 pub mod Rings
 pub mod MarkFlight

@@ -1,18 +1,20 @@
 -- What a search finds are the paths.
-use Rattle.std.proofs.Common.{◌≡◌, ℕ, ◌<◌, ◌⊎◌, ◌∙◌, inl, inr, Bool, true, false, not, List, length, refl, sym, ap, subst, Option, Some, None, IsTrue}
+use Rattle.std.proofs.Common.{◌≡◌, ℕ, ◌<◌, ◌⊎◌, ◌∙◌, inl, inr, Bool, true, false, not, List, length, refl, sym, ap, subst, Option, Some, None, IsTrue, Bor}
 use Rattle.std.specs.Prelude.{◌==◌, ◌&&◌, ◌≢◌, ◌↔◌}
 use Rattle.std.specs.List.{list_any}
 use Rattle.std.proofs.lemmas.Bool.{cases_Bool, cases_eq, and_parts, and_from, both_ways, eqb-true, eq-eqb, ne_eqb}
 use Rattle.patch_model.specs.Entry.{Entry, is_durable, marks_durable, is_among}
 use Rattle.patch_model.specs.Dependency.{depends_directly, Path, one as one_path, onward as onward_path, class_depends}
 use Rattle.patch_model.specs.Member.{In, list_any-at, list_any-from}
-use Rattle.patch_links.specs.State.{Class, Numbers, find, class_at, leads, leads_at}
+use Rattle.patch_links.specs.State.{Class, Slots, Numbers, find, class_at, leads, leads_at}
 use Rattle.patch_graph.specs.State.{Graph, KeysFit}
 use Rattle.patch_graph.specs.Marks.{is_marked}
 use Rattle.patch_graph.proofs.Facts.{known}
 use Rattle.patch_graph.specs.Meaning.{Leads, one, onward, DependsOn, Represents, IsLiveClass, IsNotLive}
 use Rattle.patch_graph.specs.Between.{ReachesOther, LacksAnEnd, LacksAKey}
-use Rattle.patch_graph.specs.Search.{IsReachable}
+use Rattle.patch_graph.specs.Search.{depends_at, Chain, once, further, Reaches, steps, IsReachable}
+use Rattle.patch_graph.specs.declared.searching.Way.TheVariants.{Down, Up, Among}
+use Rattle.patch_graph.proofs.Going.{depending, depends}
 use Rattle.patch_graph.proofs.ReadySet.{placed, some_same, class_same, In-is_among}
 use Rattle.patch_graph.proofs.Searches.{found-lead}
 
@@ -32,6 +34,44 @@ from-depends all a b t =
 pub joined-path : (all : List Entry) (a b c : ℕ) → Path all a b → Path all b c → Path all a c
 joined-path all a b c (one_path t) q = onward_path t q
 joined-path all a b c (onward_path {b = d} t p) q = onward_path t (joined-path all d b c p q)
+
+onward-leads : (slots : Slots) (numbers : Numbers) (k j l : ℕ) (c : Class) → Leads slots numbers k j → class_at slots j ≡ Some c → leads numbers c l ≡ true → Leads slots numbers k l
+onward-leads slots numbers k j l c (one d at2 t2) at t = onward d at2 t2 (one c at t)
+onward-leads slots numbers k j l c (onward {j = m} d at2 t2 rest) at t = onward d at2 t2 (onward-leads slots numbers m j l c rest at t)
+
+-- what a search down comes to depends on nothing but what leads there
+chain-down : (slots : Slots) (numbers : Numbers) (k j : ℕ) → Chain (steps slots numbers Down) k j → Leads slots numbers k j
+chain-down slots numbers k j (once t) = let c = depending slots numbers k j t in one c.0 c.1 c.2
+chain-down slots numbers k l (further {j = j} chain t) = let c = depending slots numbers j l t in onward-leads slots numbers k j l c.0 (chain-down slots numbers k j chain) c.1 c.2
+
+pub reached-down : (slots : Slots) (numbers : Numbers) (from key : ℕ) → Reaches (steps slots numbers Down) from key → (from ≡ key) ⊎ Leads slots numbers from key
+reached-down slots numbers from key (inl e) = inl e
+reached-down slots numbers from key (inr chain) = inr (chain-down slots numbers from key chain)
+
+-- and what one up comes to leads to where it began
+chain-up : (slots : Slots) (numbers : Numbers) (k j : ℕ) → Chain (steps slots numbers Up) k j → Leads slots numbers j k
+chain-up slots numbers k j (once t) = let c = depending slots numbers j k t in one c.0 c.1 c.2
+chain-up slots numbers k l (further {j = j} chain t) = let c = depending slots numbers l j t in onward c.0 c.1 c.2 (chain-up slots numbers k j chain)
+
+pub reached-up : (slots : Slots) (numbers : Numbers) (to key : ℕ) → Reaches (steps slots numbers Up) to key → (to ≡ key) ⊎ Leads slots numbers key to
+reached-up slots numbers to key (inl e) = inl e
+reached-up slots numbers to key (inr chain) = inr (chain-up slots numbers to key chain)
+
+-- one among marked keys comes to these alone
+chain-among : (slots : Slots) (numbers : Numbers) (marks : Bor (List Bool)) (k j : ℕ) → Chain (steps slots numbers (Among marks)) k j → Leads slots numbers k j × (is_marked marks.now j ≡ true)
+chain-among slots numbers marks k j (once t) =
+    let u = and_parts (depends_at slots numbers k j) (is_marked marks.now j) t in
+    let c = depending slots numbers k j u.0 in
+    (one c.0 c.1 c.2, u.1)
+chain-among slots numbers marks k l (further {j = j} chain t) =
+    let u = and_parts (depends_at slots numbers j l) (is_marked marks.now l) t in
+    let c = depending slots numbers j l u.0 in
+    (onward-leads slots numbers k j l c.0 (chain-among slots numbers marks k j chain).0 c.1 c.2, u.1)
+
+pub reached-among : (slots : Slots) (numbers : Numbers) (marks : Bor (List Bool)) (from key : ℕ) → Reaches (steps slots numbers (Among marks)) from key
+    → (from ≡ key) ⊎ (Leads slots numbers from key × (is_marked marks.now key ≡ true))
+reached-among slots numbers marks from key (inl e) = inl e
+reached-among slots numbers marks from key (inr chain) = inr (chain-among slots numbers marks from key chain)
 
 module _ (g : Graph) (all : List Entry) (r : Represents g all) where
   -- the class that a number leads to
@@ -93,7 +133,7 @@ module _ (g : Graph) (all : List Entry) (r : Represents g all) where
     | inr n ↦ inr ((r.classes k c at).complete x.e x.f j x.in_e x.in_f x.of_a (λ e. n (sym x.of_b ∙ e)) x.depends ((r.classes j d at2).found x.f x.in_f x.of_b))
   ]
 
-  joined-leads : (k j l : ℕ) → Leads g.slots g.numbers k j → Leads g.slots g.numbers j l → Leads g.slots g.numbers k l
+  pub joined-leads : (k j l : ℕ) → Leads g.slots g.numbers k j → Leads g.slots g.numbers j l → Leads g.slots g.numbers k l
   joined-leads k j l (one c at t) q = onward c at t q
   joined-leads k j l (onward {j = i} c at t p) q = onward c at t (joined-leads i j l p q)
 
@@ -112,11 +152,11 @@ module _ (g : Graph) (all : List Entry) (r : Represents g all) where
         | inr q ↦ elim last [ inl e2 ↦ inr (subst (λ z. Leads g.slots g.numbers k z) e2 q) | inr q2 ↦ inr (joined-leads k f.0 j q q2) ]
       ]
 
-  module _ (from to : ℕ) (marks : List Bool) (s : IsReachable g.slots g.numbers from to marks) (low : KeysFit g.slots (length marks)) where
+  module _ (from to : ℕ) (marks : List Bool) (s : IsReachable (steps g.slots g.numbers Down) from to marks) (low : KeysFit g.slots (length marks)) where
     pub marked-step : (k j : ℕ) (c : Class) → is_marked marks k ≡ true → k ≢ to → class_at g.slots k ≡ Some c → leads g.numbers c j ≡ true → is_marked marks j ≡ true
     marked-step k j c t other at led =
         let w = target c j led in
-        s.closed k j c t other at led (low j w.1 w.4)
+        s.closed k j t other (depends g.slots g.numbers k j c at led) (low j w.1 w.4)
 
     -- the key is marked, or the search came to the key to, which leads to it
     abbrev IsMet : ℕ → Type 0
@@ -141,7 +181,7 @@ module _ (g : Graph) (all : List Entry) (r : Represents g all) where
 -- two classes at two keys, of which the first is where a search began
 pub reaches_is : (g : Graph) (all : List Entry) (a b x y from to : ℕ) (marks : List Bool) → Represents g all → KeysFit g.slots (length marks)
     → IsLiveClass all a x → IsLiveClass all b y → from ≢ to → find g.numbers a ≡ Some from → find g.numbers b ≡ Some to
-    → IsReachable g.slots g.numbers from to marks → IsTrue (is_marked marks to) ↔ ReachesOther all x y
+    → IsReachable (steps g.slots g.numbers Down) from to marks → IsTrue (is_marked marks to) ↔ ReachesOther all x y
 reaches_is g all a b x y from to marks r low la lb apart fa fb s =
     let qa = placed g all r la.0 from la.1 (ap (find g.numbers) la.2 ∙ fa) in
     let qb = placed g all r lb.0 to lb.1 (ap (find g.numbers) lb.2 ∙ fb) in
@@ -150,7 +190,7 @@ reaches_is g all a b x y from to marks r low la lb apart fa fb s =
     let differ : x ≢ y = λ e. apart (one-key g all r from to qa.0 qb.0 qa.1 qb.1 (na ∙ e ∙ sym nb)) in (
       (λ t. (
         differ,
-        elim (s.reached to t) [
+        elim (reached-down g.slots g.numbers from to (s.reached to t)) [
           | inl e ↦ absurd (apart e)
           | inr l ↦ elim (Leads-path g all r from to qa.0 qb.0 l qa.1 qb.1) [
             | inl e ↦ absurd (differ (sym na ∙ e ∙ nb))

@@ -4,13 +4,15 @@ ghost use Rattle.patch_graph.specs.State.{KeysFit};
 ghost use Rattle.patch_graph.specs.Ready.{AreReady, TellsReady};
 ghost use Rattle.patch_graph.specs.Between.{LacksAKey, TellsBetweenKeys, TellsLeastBetween, TellsReach, is_newest};
 ghost use Rattle.patch_graph.specs.Marks.{AreClear};
+ghost use Rattle.patch_graph.specs.Search.{IsReachable, steps};
+ghost use Rattle.patch_graph.specs.declared.searching.Way.TheVariants.{Up};
 
-use crate::between::{copy_without, least_name, rests_on_leaves};
+use crate::between::{least_name, rests_on_leaves};
 use crate::marks::{clear, is_marked};
-use crate::ready::{list_keys, mark_ready, marked_numbers, settle};
+use crate::ready::{list_keys, mark_ready, marked_numbers};
 use crate::register::Register;
 use crate::scratch::Scratch;
-use crate::searching::search;
+use crate::searching::{Way, search};
 use patch_model::{BlockNo, PatchNo, laws};
 use std::alloc::{AllocError, Allocator};
 
@@ -84,7 +86,7 @@ fn reaches_exactly<A: Allocator>(
     if from >= marks.len() {
         return false;
     }
-    let count = search(register, from, to, marks, queue);
+    let count = search(register, Way::Down, from, to, marks, queue);
     let reaches = is_marked(marks, to);
     clear(&queue[..count], marks);
     reaches
@@ -121,42 +123,66 @@ fn is_newest<A: Allocator>(register: &Register<A>, key: usize) -> bool
     }
 }
 
-/// The least name of a third class on a path from the class at the one key to that at the other, on two rows of marks and
-/// a queue. Of the classes that are found from the first one, those are dead ends that don't lead to the second: they are
-/// what is left when each that leads out of them is struck out.
+/// The least name of a third class on a path from the class at the one key to that at the other, where the marked keys are those of
+/// the classes from which a path leads to the second: so a search among them meets what lies between, and nothing else.
+fn least_among<A: Allocator>(
+    register: &Register<A>,
+    from: usize,
+    to: usize,
+    marks: &[bool],
+    met: &mut [bool],
+    found: &mut [usize],
+) -> Option<PatchNo>
+    requires fits { KeysFit register.now.slots (length marks.now) }
+    requires met_fit { length marks.now ≤ length met.old }
+    requires found_fit { length met.old ≤ length found.old }
+    requires clear { AreClear met.old }
+    requires above { IsReachable (steps register.now.slots register.now.numbers Up) to from marks.now }
+    ensures answer { TellsBetweenKeys register.now from to result }
+    ensures cleared { AreClear met.new }
+{
+    if !is_marked(marks, from) {
+        return None;
+    }
+    // Not reached: there are marks for all classes.
+    if from >= met.len() {
+        return None;
+    }
+    let count = search(register, Way::Among(marks), from, to, met, found);
+    let keys = &found[..count];
+    let least = least_name(register, keys, met, from, to);
+    clear(keys, met);
+    least
+}
+
+/// The least name of a third class on a path from the class at the one key to that at the other, on two rows of marks and two
+/// queues. The first search goes up from the second: little depends on that, but all that there is may lie below the first.
 fn least_between<A: Allocator>(
     register: &Register<A>,
     from: usize,
     to: usize,
     marks: &mut [bool],
-    dead_ends: &mut [bool],
     queue: &mut [usize],
+    met: &mut [bool],
+    found: &mut [usize],
 ) -> Option<PatchNo>
     requires fits { KeysFit register.now.slots (length marks.old) }
     requires queue_fits { length marks.old ≤ length queue.old }
-    requires dead_ends_fit { length marks.old ≤ length dead_ends.old }
+    requires met_fit { length marks.old ≤ length met.old }
+    requires found_fit { length met.old ≤ length found.old }
     requires clear { AreClear marks.old }
-    requires clear_ends { AreClear dead_ends.old }
+    requires clear_met { AreClear met.old }
     ensures answer { TellsBetweenKeys register.now from to result }
     ensures cleared { AreClear marks.new }
-    ensures cleared_ends { AreClear dead_ends.new }
+    ensures cleared_met { AreClear met.new }
 {
     // Not reached: there is a class at the key, and marks for all of them.
-    if from >= marks.len() {
+    if to >= marks.len() {
         return None;
     }
-    let count = search(register, from, to, marks, queue);
-    let found = &mut queue[..count];
-    if !is_marked(marks, to) {
-        clear(found, marks);
-        return None;
-    }
-    found.reverse();
-    copy_without(found, marks, dead_ends, to);
-    settle(register, found, dead_ends);
-    let least = least_name(register, found, marks, dead_ends, from, to);
-    clear(found, dead_ends);
-    clear(found, marks);
+    let count = search(register, Way::Up, to, from, marks, queue);
+    let least = least_among(register, from, to, marks, met, found);
+    clear(&queue[..count], marks);
     least
 }
 
@@ -190,7 +216,8 @@ pub fn between<A: Allocator>(
         from,
         to,
         scratch.marks.as_mut_slice(),
-        scratch.dead_ends.as_mut_slice(),
         scratch.queue.as_mut_slice(),
+        scratch.met.as_mut_slice(),
+        scratch.found.as_mut_slice(),
     )
 }

@@ -8,13 +8,14 @@ use std::marker::Model;
 /// How many keys room is made for at once.
 const STEP: usize = 64;
 
-/// Room for searches among as many classes: which of them were met, in what order, and which are dead ends. Between two
-/// searches nothing is marked.
+/// Room for two searches among as many classes, one within what the other found: which of them each met, in what order. Between
+/// two questions nothing is marked.
 #[derive(Drop)]
 pub struct Scratch<A: Allocator = Global> {
     pub marks: Vec<bool, A>,
     pub queue: Vec<usize, A>,
-    pub dead_ends: Vec<bool, A>,
+    pub met: Vec<bool, A>,
+    pub found: Vec<usize, A>,
 }
 
 impl<A: Allocator> Model for Scratch<A> {
@@ -25,8 +26,8 @@ impl<A: Allocator> Model for Scratch<A> {
 
     ghost view = { λ r. length r.marks.items };
 
-    ghost invariant = { λ r. (length r.marks.items ≤ length r.queue.items) × (length r.marks.items ≤ length r.dead_ends.items)
-        × AreClear r.marks.items × AreClear r.dead_ends.items };
+    ghost invariant = { λ r. (length r.marks.items ≤ length r.queue.items) × (length r.marks.items ≤ length r.met.items)
+        × (length r.met.items ≤ length r.found.items) × AreClear r.marks.items × AreClear r.met.items };
 }
 
 impl<A: Allocator + Copy> Scratch<A> {
@@ -37,7 +38,8 @@ impl<A: Allocator + Copy> Scratch<A> {
         Scratch {
             marks: Vec::new(alloc),
             queue: Vec::new(alloc),
-            dead_ends: Vec::new(alloc),
+            met: Vec::new(alloc),
+            found: Vec::new(alloc),
         }
     }
 }
@@ -63,7 +65,8 @@ impl<A: Allocator> Scratch<A> {
         ensures kept { self.old ≤ self.new }
     {
         lengthen_queue(&mut self.queue, count)?;
-        lengthen(&mut self.dead_ends, count)?;
+        lengthen_queue(&mut self.found, count)?;
+        lengthen(&mut self.met, count)?;
         lengthen(&mut self.marks, count)?;
         Ok(())
     }

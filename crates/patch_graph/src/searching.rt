@@ -1,24 +1,58 @@
 //! Searches through the classes.
 ghost use Rattle.std.specs.Prelude.{◌≡◌, ◌<◌, ◌≤◌, ◌+◌, ℕ, length, take, true, false, Some};
-ghost use Rattle.patch_links.specs.State.{class_at};
 ghost use Rattle.patch_graph.specs.Marks.{is_marked, AreClear, HoldsMarked};
-ghost use Rattle.patch_graph.specs.Search.{IsReachable, HasFollowed, HasLooked, Visited, walk};
+ghost use Rattle.patch_graph.specs.Search.{admits, steps, AreNext, IsReachable, HasFollowed, HasLooked, Visited, walk};
 
 use crate::marks::is_marked;
 use crate::register::Register;
-use patch_links::Class;
 use patch_model::PatchNo;
 use std::alloc::Allocator;
 
-/// Marks the class of a number and puts it at the queue's end, unless it is marked. The new end.
+/// Where a search goes on from a class.
+#[derive(Clone, Copy)]
+pub enum Way<'a> {
+    /// To the classes that it depends on directly.
+    Down,
+    /// To those that depend directly on it.
+    Up,
+    /// To those that it depends on directly and whose keys are marked here.
+    Among(&'a [bool]),
+}
+
+/// Whether a search may come to a key.
+fn admits(way: Way<'_>, key: usize) -> bool
+    ensures { result ≡ admits way.entry key }
+{
+    match way {
+        Way::Down => true,
+        Way::Up => true,
+        Way::Among(marks) => is_marked(marks, key),
+    }
+}
+
+/// The numbers by which a search goes on from the class at a key. Some of them may lead nowhere, or to the class itself.
+fn next_of<'a, A: Allocator>(register: &'a Register<A>, way: Way<'_>, key: usize) -> &'a [PatchNo]
+    ensures { AreNext register.now.slots register.now.numbers way.entry key result.now }
+{
+    if let Way::Up = way {
+        return register.links.followers(key);
+    }
+    match register.class_at(key) {
+        Some(class) => class.after.as_slice(),
+        None => &[],
+    }
+}
+
+/// Marks the class of a number and puts it at the queue's end, unless it is marked or the search may not come there. The new end.
 fn visit<A: Allocator>(
     register: &Register<A>,
+    way: Way<'_>,
     no: PatchNo,
     marks: &mut [bool],
     queue: &mut [usize],
     tail: usize,
 ) -> usize
-    ensures { Visited register.now.numbers no marks.old marks.new queue.old queue.new tail result }
+    ensures { Visited register.now.numbers way.entry no marks.old marks.new queue.old queue.new tail result }
 {
     let Some(key) = register.find(no) else {
         return tail;
@@ -30,6 +64,9 @@ fn visit<A: Allocator>(
     if is_marked(marks, key) {
         return tail;
     }
+    if !admits(way, key) {
+        return tail;
+    }
     // Not reached in a search: the queue holds each marked key once, and is as long as the marks.
     if tail >= queue.len() {
         return tail;
@@ -39,29 +76,30 @@ fn visit<A: Allocator>(
     tail + 1
 }
 
-/// Marks what the class depends on directly. The new end of the queue.
+/// Marks what these numbers lead to, by which a search goes on from the class at the queue's head. The new end of the queue.
 fn visit_all<A: Allocator>(
     register: &Register<A>,
-    class: &Class<A>,
+    way: Way<'_>,
+    next: &[PatchNo],
     marks: &mut [bool],
     queue: &mut [usize],
     head: usize,
     tail: usize,
 ) -> usize
-    ensures { HasFollowed register.now class.now head (walk marks.old queue.old tail) (walk marks.new queue.new result) }
+    ensures { HasFollowed register.now way.entry next.now head (walk marks.old queue.old tail) (walk marks.new queue.new result) }
 {
     let mut end = tail;
-    let after = class.after.as_slice();
-    for no in after {
-        end = visit(register, *no, marks, queue, end);
+    for no in next {
+        end = visit(register, way, *no, marks, queue, end);
     }
     end
 }
 
-/// Marks what the next class of the queue depends on directly, unless it is at the key `to`. The new end of the queue.
+/// Marks where the search goes on from the next class of the queue, unless it is at the key `stop`. The new end of the queue.
 fn look<A: Allocator>(
     register: &Register<A>,
-    to: usize,
+    way: Way<'_>,
+    stop: usize,
     marks: &mut [bool],
     queue: &mut [usize],
     head: usize,
@@ -69,31 +107,30 @@ fn look<A: Allocator>(
 ) -> usize
     requires queue_fits { length marks.old ≤ length queue.old }
     requires inside { head < length queue.old }
-    ensures { HasLooked register.now to head (walk marks.old queue.old tail) (walk marks.new queue.new result) }
+    ensures { HasLooked register.now way.entry stop head (walk marks.old queue.old tail) (walk marks.new queue.new result) }
 {
     let key = queue[head];
-    if key == to {
+    if key == stop {
         return tail;
     }
-    match register.class_at(key) {
-        Some(class) => visit_all(register, class, marks, queue, head, tail),
-        None => tail,
-    }
+    let next = next_of(register, way, key);
+    visit_all(register, way, next, marks, queue, head, tail)
 }
 
-/// Marks what the class at `from` leads to, and itself, but not what is reached through the key `to` alone. The marked ones are the
-/// first of the queue, as many as are returned.
+/// Marks what a search comes to from the class at `from`, and itself, but not what is reached through the key `stop` alone. The
+/// marked ones are the first of the queue, as many as are returned.
 pub fn search<A: Allocator>(
     register: &Register<A>,
+    way: Way<'_>,
     from: usize,
-    to: usize,
+    stop: usize,
     marks: &mut [bool],
     queue: &mut [usize],
 ) -> usize
     requires queue_fits { length marks.old ≤ length queue.old }
     requires low { from < length marks.old }
     requires clear { AreClear marks.old }
-    ensures found { IsReachable register.now.slots register.now.numbers from to marks.new }
+    ensures found { IsReachable (steps register.now.slots register.now.numbers way.entry) from stop marks.new }
     ensures held { HoldsMarked marks.new (take result queue.new) }
     ensures within { result ≤ length queue.new }
     ensures length { length marks.new ≡ length marks.old }
@@ -104,7 +141,7 @@ pub fn search<A: Allocator>(
     let mut head = 0;
     let mut tail = 1;
     while head < tail && head < queue.len() {
-        tail = look(register, to, marks, queue, head, tail);
+        tail = look(register, way, stop, marks, queue, head, tail);
         head += 1;
     }
     tail

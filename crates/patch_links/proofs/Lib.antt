@@ -19,3 +19,4 @@ pub mod Orders
 pub mod Leveling
 pub mod Relisting
 pub mod Pairs
+pub mod Following

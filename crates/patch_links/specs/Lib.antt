@@ -8,3 +8,4 @@ pub mod MarkDurable
 pub mod Merging
 pub mod Joining
 pub mod Adding
+pub mod Following

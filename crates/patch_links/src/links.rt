@@ -7,6 +7,7 @@ ghost use Rattle.patch_links.specs.Adding.{IsNew, IsAdded};
 ghost use Rattle.patch_links.specs.MarkFlight.{HasFlown};
 ghost use Rattle.patch_links.specs.MarkDurable.{HasLanded};
 ghost use Rattle.patch_links.specs.Merging.{HasJoined, may_join_at};
+ghost use Rattle.patch_links.specs.Following.{AreFollowers};
 
 use crate::adding::{add, is_new};
 use crate::asking::{count, numbers, ready_keys};
@@ -132,6 +133,17 @@ impl<A: Allocator> Links<A> {
         ensures { result ≡ is_some (class_at self.now.slots key) }
     {
         self.nodes.get(key).is_some()
+    }
+
+    /// A number of each other class that depends on the class at a key, for each time that it does. Some of them lead nowhere any
+    /// more, or to the class itself.
+    pub fn followers(&self, key: usize) -> &[PatchNo]
+        ensures { AreFollowers self.now.slots self.now.numbers key result.now }
+    {
+        match self.nodes.get(key) {
+            Some(node) => node.followers.as_slice(),
+            None => &[],
+        }
     }
 
     /// Whether the block has no class.
