@@ -4,11 +4,13 @@ use Rattle.std.specs.Prelude.{nat_le, nat_lt, slice_index_or, slice_set}
 use Rattle.std.specs.List.{AllWithin, insert, slice_range, remove_range}
 use Rattle.std.specs.List.Sorted.{IsPartitionedBy, IsPartitionPoint}
 use Rattle.std.proofs.Math.Seq.{drop-cons}
-use Rattle.std.proofs.lemmas.Bool.{cases_Bool, cases_lt, and_parts, and_from, lt-ltb, le-leb, ltb-true, leb-true, false_from_ne_true, both_ways}
-use Rattle.std.proofs.lemmas.List.{take-append-drop, take-set, take_more, take_more_set, drop-set, drop-set-lt}
+use Rattle.std.proofs.lemmas.Bool.{cases_Bool, cases_eq, cases_lt, and_parts, and_from, lt-ltb, le-leb, ltb-true, leb-true, false_from_ne_true, both_ways}
+use Rattle.std.proofs.lemmas.List.{take-append-drop, take-set, take_more, take_more_set, drop-set, drop-set-lt, get_or-set_other, get_or_default, length-set, length-append, length-take-le}
+use Rattle.std.proofs.lemmas.List.Edits.{insert-append_right}
+use Rattle.std.proofs.lemmas.Grind.{get_or-set_at}
 use Rattle.patch_model.specs.Member.{In}
 use Rattle.patch_skyline.specs.declared.skylines.Span.{Span}
-use Rattle.patch_skyline.specs.Skyline.{has_byte, top_at, AreApart, IsCutAt, IsSameSkyline, IsLaid, IsTopWithin, AreTops}
+use Rattle.patch_skyline.specs.Skyline.{has_byte, top_at, AreApart, IsCutAt, IsLaid, IsTopWithin, AreTops}
 
 -- Members of lists that are put together.
 
@@ -225,7 +227,14 @@ ended-last ss at a some last = (
   (λ k d low h. let e : length ss - 1 ≡ k = omega (arith, low, h) in subst (λ m. at < (slice_index_or ss m d).stop) e (last d).1),
 )
 
--- Where a span is cut.
+-- where one doesn't, none behind it does
+pub begun-until : (ss : List Span) (at i : ℕ) (e : Span) → AreApart ss → AllWithin (λ s. s.start < at) ss 0 i → i < length ss → at ≤ (slice_index_or ss i e).start → Begun ss at i
+begun-until ss at i e a all within high = (
+  all,
+  (λ k d low h. let r = starts-rise ss a i k d low h in let f = subst (λ z. at ≤ z.start) (get_or_default ss i e d within) high in omega (arith, r, f)),
+)
+
+-- Where a span is laid over a part of another.
 
 -- the list at a place
 split-at : (ss : List Span) (i : ℕ) (d : Span) → i < length ss → ss ≡ take i ss ++ slice_index_or ss i d ∷ drop (i + 1) ss
@@ -237,93 +246,210 @@ append-one : (front : List Span) (s : Span) (rear : List Span) → (front ++ s �
 append-one [] s rear = refl
 append-one (t ∷ front) s rear = ap (λ z. t ∷ z) (append-one front s rear)
 
-pub record IsCut (old new : List Span) (at : ℕ) : Type 0 where
-  pub same : IsSameSkyline old new
+-- one span takes the place of another
+set-at : (ss : List Span) (i : ℕ) (s : Span) → i < length ss → slice_set ss i s ≡ take i ss ++ s ∷ drop (i + 1) ss
+set-at ss i s h = sym (take-append-drop i (slice_set ss i s)) ∙ ap (λ z. z ++ drop i (slice_set ss i s)) (take-set ss i s) ∙ ap (λ z. take i ss ++ z) (drop-set ss i s h)
+
+each-at : (ss : List Span) → AreApart ss → (k : ℕ) (d : Span) → k < length ss → (slice_index_or ss k d).start < (slice_index_or ss k d).stop
+each-at ss a k d h = apart-each ss a (slice_index_or ss k d) (index-in ss k d h)
+
+-- a span that is laid over the others takes its bytes from another
+pub record IsTrimmed (old new : List Span) (top : Span) (at : ℕ) : Type 0 where
+  pub beside : (x : ℕ) → has_byte top x ≡ false → top_at new x ≡ top_at old x
   pub apart : AreApart new
   pub cut : IsCutAt at new
-  pub keeps : (other : ℕ) → IsCutAt other old → IsCutAt other new
 
-cut-two : (front rear : List Span) (s : Span) (at : ℕ) → AreApart (front ++ s ∷ rear) → s.start < at → at < s.stop
-    → IsCut (front ++ s ∷ rear) (front ++ record s { stop = at } ∷ record s { start = at } ∷ rear) at
-cut-two front rear s at a low high = record {
-  same = λ x. top-after front (record s { stop = at } ∷ record s { start = at } ∷ rear) (s ∷ rear) x (halves x);
-  apart = apart-join front (record s { stop = at } ∷ record s { start = at } ∷ rear) (apart-first front (s ∷ rear) a)
-      (low, (λ t i. elim i [ inl e ↦ subst (λ z. at ≤ z.start) e (omega arith) | inr j ↦ let q = b.1 t j in omega (arith, q, high) ]), (high, b.1, b.2))
-      (λ u t i j. let c = apart-cross front (s ∷ rear) a u s i (inl refl) in elim j [
-        | inl e ↦ subst (λ z. u.stop ≤ z.start) e c
-        | inr k ↦ elim k [
-          | inl e ↦ subst (λ z. u.stop ≤ z.start) e (omega (arith, c, low))
-          | inr l ↦ apart-cross front (s ∷ rear) a u t i (inr l)
-        ]
+-- from one that begins before it
+trims-stop : (front rear : List Span) (s top : Span) → AreApart (front ++ s ∷ rear) → s.start < top.start → top.start < s.stop → s.stop ≤ top.stop
+    → IsTrimmed (front ++ s ∷ rear) (front ++ record s { stop = top.start } ∷ rear) top top.start
+trims-stop front rear s top a low high within = record {
+  beside = λ x t. top-after front (record s { stop = top.start } ∷ rear) (s ∷ rear) x (same x t);
+  apart = apart-join front (record s { stop = top.start } ∷ rear) (apart-first front (s ∷ rear) a)
+      (low, (λ t i. let q = b.1 t i in omega (arith, q, high)), b.2)
+      (λ u t i j. elim j [
+        | inl e ↦ subst (λ z. u.stop ≤ z.start) e (apart-cross front (s ∷ rear) a u s i (inl refl))
+        | inr k ↦ apart-cross front (s ∷ rear) a u t i (inr k)
       ]);
-  cut = λ t i. elim (In-parts front (record s { stop = at } ∷ record s { start = at } ∷ rear) t i) [
+  cut = λ t i. elim (In-parts front (record s { stop = top.start } ∷ rear) t i) [
     | inl j ↦ let c = apart-cross front (s ∷ rear) a t s j (inl refl) in inl (omega (arith, c, low))
     | inr j ↦ elim j [
-      | inl e ↦ inl (subst (λ z. z.stop ≤ at) e (omega arith))
-      | inr k ↦ elim k [
-        | inl e ↦ inr (subst (λ z. at ≤ z.start) e (omega arith))
-        | inr l ↦ let q = b.1 t l in inr (omega (arith, q, high))
-      ]
+      | inl e ↦ inl (subst (λ z. z.stop ≤ top.start) e (omega arith))
+      | inr k ↦ let q = b.1 t k in inr (omega (arith, q, high))
     ]
-  ];
-  keeps = λ other k t i. elim (In-parts front (record s { stop = at } ∷ record s { start = at } ∷ rear) t i) [
-    | inl j ↦ k t (In-left front (s ∷ rear) t j)
-    | inr j ↦
-        let own = k s (In-right front (s ∷ rear) s (inl refl)) in
-        elim j [
-          | inl e ↦ subst (λ z. (z.stop ≤ other) ⊎ (other ≤ z.start)) e (elim own [ inl h ↦ inl (omega (arith, h, high)) | inr h ↦ inr h ])
-          | inr m ↦ elim m [
-            | inl e ↦ subst (λ z. (z.stop ≤ other) ⊎ (other ≤ z.start)) e (elim own [ inl h ↦ inl h | inr h ↦ inr (omega (arith, h, low)) ])
-            | inr l ↦ k t (In-right front (s ∷ rear) t (inr l))
-          ]
-        ]
   ];
 }
   where
     b : AreApart (s ∷ rear)
     b = apart-last front (s ∷ rear) a
 
-    halves : (x : ℕ) → top_at (record s { stop = at } ∷ record s { start = at } ∷ rear) x ≡ top_at (s ∷ rear) x
-    halves x = elim (cases_Bool (has_byte s x)) [
-      | inl t ↦
-          let p = (byte-of s x t).0 in let q = (byte-of s x t).1 in
-          elim (cases_lt x at) [
-            | inl l ↦ let h = has-byte (record s { stop = at }) x p l in rw (h, t) refl
-            | inr l ↦
-                let h = no-byte (record s { stop = at }) x (inl l) in
-                let k = has-byte (record s { start = at }) x l q in
-                rw (h, k, t) refl
+    same : (x : ℕ) → has_byte top x ≡ false → top_at (record s { stop = top.start } ∷ rear) x ≡ top_at (s ∷ rear) x
+    same x t = elim (cases_Bool (has_byte s x)) [
+      | inl u ↦
+          let p = (byte-of s x u).0 in let q = (byte-of s x u).1 in
+          elim (cases_lt x top.start) [
+            | inl l ↦ let h = has-byte (record s { stop = top.start }) x p l in rw (h, u) refl
+            | inr l ↦ absurd (both_ways _ t (has-byte top x l (omega (arith, q, within))))
           ]
-      | inr t ↦
-          let h : has_byte (record s { stop = at }) x ≡ false = false_from_ne_true _ (λ u. let p = byte-of (record s { stop = at }) x u in let y = p.0 in let z = p.1 in both_ways _ t (has-byte s x y (omega (arith, z, high)))) in
-          let k : has_byte (record s { start = at }) x ≡ false = false_from_ne_true _ (λ u. let p = byte-of (record s { start = at }) x u in let y = p.0 in let z = p.1 in both_ways _ t (has-byte s x (omega (arith, y, low)) z)) in
-          rw (h, k, t) refl
+      | inr u ↦
+          let h : has_byte (record s { stop = top.start }) x ≡ false = false_from_ne_true _ (λ v. let p = byte-of (record s { stop = top.start }) x v in let y = p.0 in let z = p.1 in both_ways _ u (has-byte s x y (omega (arith, z, high)))) in
+          rw (h, u) refl
     ]
 
--- the span before the place lies across the byte's beginning, and was cut
-cuts : (ss : List Span) (at i : ℕ) (s d : Span) → AreApart ss → Begun ss at (i + 1) → i < length ss → slice_index_or ss i d ≡ s → at < s.stop
-    → IsCut ss (insert (slice_set ss i (record s { stop = at })) (i + 1) (record s { start = at })) at
-cuts ss at i s d a p h is high =
-    let low : s.start < at = subst (λ z. z.start < at) is (p.0 i d (omega arith) (omega arith)) in
-    let whole : ss ≡ take i ss ++ s ∷ drop (i + 1) ss = split-at ss i d h ∙ ap (λ z. take i ss ++ z ∷ drop (i + 1) ss) is in
-    let parts = subst AreApart whole a in
-    let now : insert (slice_set ss i (record s { stop = at })) (i + 1) (record s { start = at }) ≡ take i ss ++ record s { stop = at } ∷ record s { start = at } ∷ drop (i + 1) ss =
-    ap (λ z. z ++ record s { start = at } ∷ drop (i + 1) (slice_set ss i (record s { stop = at }))) (take_more_set ss i (record s { stop = at }) h)
-    ∙ ap (λ z. (take i ss ++ record s { stop = at } ∷ []) ++ record s { start = at } ∷ z) (drop-set-lt (i + 1) ss i (record s { stop = at }) (omega arith))
-    ∙ append-one (take i ss) (record s { stop = at }) (record s { start = at } ∷ drop (i + 1) ss) in
-    let c = cut-two (take i ss) (drop (i + 1) ss) s at parts low high in
-    subst (λ z. IsCut z (insert (slice_set ss i (record s { stop = at })) (i + 1) (record s { start = at })) at) (sym whole)
-    (subst (λ z. IsCut (take i ss ++ s ∷ drop (i + 1) ss) z at) (sym now) c)
+-- from one that ends behind it
+trims-start : (front rear : List Span) (s top : Span) → AreApart (front ++ s ∷ rear) → top.start ≤ s.start → s.start < top.stop → top.stop < s.stop
+    → IsTrimmed (front ++ s ∷ rear) (front ++ record s { start = top.stop } ∷ rear) top top.stop
+trims-start front rear s top a within low high = record {
+  beside = λ x t. top-after front (record s { start = top.stop } ∷ rear) (s ∷ rear) x (same x t);
+  apart = apart-join front (record s { start = top.stop } ∷ rear) (apart-first front (s ∷ rear) a)
+      (high, b.1, b.2)
+      (λ u t i j. let c = apart-cross front (s ∷ rear) a u s i (inl refl) in elim j [
+        | inl e ↦ subst (λ z. u.stop ≤ z.start) e (omega (arith, c, low))
+        | inr k ↦ apart-cross front (s ∷ rear) a u t i (inr k)
+      ]);
+  cut = λ t i. elim (In-parts front (record s { start = top.stop } ∷ rear) t i) [
+    | inl j ↦ let c = apart-cross front (s ∷ rear) a t s j (inl refl) in inl (omega (arith, c, low))
+    | inr j ↦ elim j [
+      | inl e ↦ inr (subst (λ z. top.stop ≤ z.start) e (omega arith))
+      | inr k ↦ let q = b.1 t k in inr (omega (arith, q, high))
+    ]
+  ];
+}
+  where
+    b : AreApart (s ∷ rear)
+    b = apart-last front (s ∷ rear) a
 
-pub cuts-behind : (ss new : List Span) (at behind : ℕ) (s : Span) → AreApart ss → Begun ss at behind → behind ≢ 0 → behind ≤ length ss → s ≡ slice_index_or ss (behind - 1) s → at < s.stop
-    → new ≡ insert (slice_set ss (behind - 1) (record s { stop = at })) behind (record s { start = at }) → IsCut ss new at
-cuts-behind ss new at behind s a p some within is high now =
-    let e : behind ≡ behind - 1 + 1 = omega arith in
-    subst (λ z. IsCut ss z at) (sym now)
-    (subst (λ n. IsCut ss (insert (slice_set ss (behind - 1) (record s { stop = at })) n (record s { start = at })) at) (sym e)
-    (cuts ss at (behind - 1) s s a (subst (Begun ss at) e p) (omega arith) (sym is) high))
+    same : (x : ℕ) → has_byte top x ≡ false → top_at (record s { start = top.stop } ∷ rear) x ≡ top_at (s ∷ rear) x
+    same x t = elim (cases_Bool (has_byte s x)) [
+      | inl u ↦
+          let p = (byte-of s x u).0 in let q = (byte-of s x u).1 in
+          elim (cases_lt x top.stop) [
+            | inl l ↦ absurd (both_ways _ t (has-byte top x (omega (arith, p, within)) l))
+            | inr l ↦ let h = has-byte (record s { start = top.stop }) x l q in rw (h, u) refl
+          ]
+      | inr u ↦
+          let h : has_byte (record s { start = top.stop }) x ≡ false = false_from_ne_true _ (λ v. let p = byte-of (record s { start = top.stop }) x v in let y = p.0 in let z = p.1 in both_ways _ u (has-byte s x (omega (arith, y, low)) z)) in
+          rw (h, u) refl
+    ]
 
--- or it ends before
+-- where no span lies across the beginning of the one that is laid, none does afterwards
+keeps-start : (front rear : List Span) (s top : Span) → top.start < top.stop → IsCutAt top.start (front ++ s ∷ rear) → IsCutAt top.start (front ++ record s { start = top.stop } ∷ rear)
+keeps-start front rear s top some k t i = elim (In-parts front (record s { start = top.stop } ∷ rear) t i) [
+  | inl j ↦ k t (In-left front (s ∷ rear) t j)
+  | inr j ↦ elim j [
+    | inl e ↦ inr (subst (λ z. top.start ≤ z.start) e (omega arith))
+    | inr l ↦ k t (In-right front (s ∷ rear) t (inr l))
+  ]
+]
+
+-- the list with the span at a place in its parts
+whole-at : (ss : List Span) (i : ℕ) (s : Span) → i < length ss → s ≡ slice_index_or ss i s → ss ≡ take i ss ++ s ∷ drop (i + 1) ss
+whole-at ss i s h is = split-at ss i s h ∙ ap (λ z. take i ss ++ z ∷ drop (i + 1) ss) (sym is)
+
+-- the first one that isn't behind it begins before it
+pub stop-trimmed : (ss : List Span) (top s : Span) (i : ℕ) → AreApart ss → i < length ss → s ≡ slice_index_or ss i s → Ended ss top.start i → s.start < top.start → s.stop ≤ top.stop
+    → IsTrimmed ss (slice_set ss i (record s { stop = top.start })) top top.start
+stop-trimmed ss top s i a h is p low within =
+    let whole = whole-at ss i s h is in
+    let high : top.start < s.stop = subst (λ z. top.start < z.stop) (sym is) (p.1 i s (omega arith) h) in
+    subst (λ z. IsTrimmed z (slice_set ss i (record s { stop = top.start })) top top.start) (sym whole)
+    (subst (λ z. IsTrimmed (take i ss ++ s ∷ drop (i + 1) ss) z top top.start) (sym (set-at ss i (record s { stop = top.start }) h))
+    (trims-stop (take i ss) (drop (i + 1) ss) s top (subst AreApart whole a) low high within))
+
+-- the last one that isn't before it ends behind it
+start-parts : (ss : List Span) (top s : Span) (i : ℕ) → i < length ss → s ≡ slice_index_or ss i s → IsCutAt top.start ss → Begun ss top.stop (i + 1) → top.start < top.stop → top.stop < s.stop
+    → (top.start ≤ s.start) × (s.start < top.stop)
+start-parts ss top s i h is c p some high = (
+  (elim (c s (subst (λ z. In ss z) (sym is) (index-in ss i s h))) [ inl l ↦ absurd (omega (arith, l, some, high)) | inr l ↦ l ]),
+  subst (λ z. z.start < top.stop) (sym is) (p.0 i s (omega arith) (omega arith)),
+)
+
+start-trimmed : (ss : List Span) (top s : Span) (i : ℕ) → AreApart ss → i < length ss → s ≡ slice_index_or ss i s → IsCutAt top.start ss → Begun ss top.stop (i + 1) → top.start < top.stop → top.stop < s.stop
+    → IsTrimmed ss (slice_set ss i (record s { start = top.stop })) top top.stop
+start-trimmed ss top s i a h is c p some high =
+    let whole = whole-at ss i s h is in
+    let parts = start-parts ss top s i h is c p some high in
+    subst (λ z. IsTrimmed z (slice_set ss i (record s { start = top.stop })) top top.stop) (sym whole)
+    (subst (λ z. IsTrimmed (take i ss ++ s ∷ drop (i + 1) ss) z top top.stop) (sym (set-at ss i (record s { start = top.stop }) h))
+    (trims-start (take i ss) (drop (i + 1) ss) s top (subst AreApart whole a) parts.0 parts.1 high))
+
+start-kept : (ss : List Span) (top s : Span) (i : ℕ) → i < length ss → s ≡ slice_index_or ss i s → IsCutAt top.start ss → top.start < top.stop → IsCutAt top.start (slice_set ss i (record s { start = top.stop }))
+start-kept ss top s i h is c some =
+    subst (IsCutAt top.start) (sym (set-at ss i (record s { start = top.stop }) h))
+    (keeps-start (take i ss) (drop (i + 1) ss) s top some (subst (IsCutAt top.start) (whole-at ss i s h is) c))
+
+pub trimmed-start : (ss : List Span) (top s : Span) (last : ℕ) → AreApart ss → last ≢ 0 → last ≤ length ss → s ≡ slice_index_or ss (last - 1) s → IsCutAt top.start ss → Begun ss top.stop last → top.start < top.stop
+    → top.stop < s.stop → IsTrimmed ss (slice_set ss (last - 1) (record s { start = top.stop })) top top.stop
+trimmed-start ss top s last a more within is c p some high =
+    let e : last ≡ last - 1 + 1 = omega arith in
+    start-trimmed ss top s (last - 1) a (omega arith) is c (subst (Begun ss top.stop) e p) some high
+
+pub kept-start : (ss : List Span) (top s : Span) (last : ℕ) → last ≢ 0 → last ≤ length ss → s ≡ slice_index_or ss (last - 1) s → IsCutAt top.start ss → top.start < top.stop
+    → IsCutAt top.start (slice_set ss (last - 1) (record s { start = top.stop }))
+kept-start ss top s last more within is c some = start-kept ss top s (last - 1) (omega arith) is c some
+
+-- How many of the spans begin before either end of the one that is laid, then.
+
+pub stop-begun : (ss : List Span) (top s : Span) (i : ℕ) → AreApart ss → i < length ss → s ≡ slice_index_or ss i s → Ended ss top.start i → s.start < top.start
+    → Begun (slice_set ss i (record s { stop = top.start })) top.start (i + 1)
+stop-begun ss top s i a h is p low = (
+  (λ k d from to. elim (cases_lt k i) [
+    | inl l ↦
+        let e = get_or-set_other ss i k (record s { stop = top.start }) d (λ same. absurd (omega (arith, same, l))) in
+        let f = p.0 k d from l in
+        let g = each-at ss a k d (omega (arith, l, h)) in
+        subst (λ z. z.start < top.start) (sym e) (omega (arith, f, g))
+    | inr l ↦
+        let e = get_or-set_at ss i k (record s { stop = top.start }) d (omega (arith, l, to)) h in
+        subst (λ z. z.start < top.start) (sym e) low
+  ]),
+  (λ k d from to.
+      let within : k < length ss = subst (λ n. k < n) (length-set ss i (record s { stop = top.start })) to in
+      let e = get_or-set_other ss i k (record s { stop = top.start }) d (λ same. absurd (omega (arith, same, from))) in
+      let f = p.1 i d (omega arith) h in
+      let g = stops-before ss a i k d (omega (arith, from)) within in
+      subst (λ z. top.start ≤ z.start) (sym e) (omega (arith, f, g))),
+)
+
+-- the first one that isn't behind it begins where it does, or later
+pub begun-ended : (ss : List Span) (top s : Span) (i : ℕ) → AreApart ss → i < length ss → s ≡ slice_index_or ss i s → Ended ss top.start i → top.start ≤ s.start → Begun ss top.start i
+begun-ended ss top s i a h is p low = (
+  (λ k d from to. let f = p.0 k d from to in let g = each-at ss a k d (omega (arith, to, h)) in omega (arith, f, g)),
+  (λ k d from to. let f = starts-rise ss a i k s from to in let g = subst (λ z. top.start ≤ z.start) is low in
+      subst (λ z. top.start ≤ z.start) (get_or_default ss k s d to) (omega (arith, f, g))),
+)
+
+pub cut-ended : (ss : List Span) (top : Span) (i : ℕ) → Ended ss top.start i → Begun ss top.start i → IsCutAt top.start ss
+cut-ended ss top i p q t j = elim (In-parts (take i ss) (drop i ss) t (subst (λ z. In z t) (sym (take-append-drop i ss)) j)) [
+  | inl k ↦ inl (before-all (λ s. s.stop ≤ top.start) ss i p.0 t k)
+  | inr k ↦ inr (begun-behind ss top.start i q t k)
+]
+
+-- those that begin before its first byte do so still
+start-begun : (ss : List Span) (top s : Span) (i low : ℕ) → i < length ss → s ≡ slice_index_or ss i s → top.start ≤ s.start → top.start < top.stop → Begun ss top.start low
+    → Begun (slice_set ss i (record s { start = top.stop })) top.start low
+start-begun ss top s i low h is within some p = (
+  (λ k d from to.
+      let f = p.0 k d from to in
+      let e = get_or-set_other ss i k (record s { start = top.stop }) d
+      (λ same. let g = subst (λ z. top.start ≤ z.start) (is ∙ get_or_default ss i s d h ∙ ap (λ n. slice_index_or ss n d) (sym same)) within in absurd (omega (arith, f, g))) in
+      subst (λ z. z.start < top.start) (sym e) f),
+  (λ k d from to.
+      let inside : k < length ss = subst (λ n. k < n) (length-set ss i (record s { start = top.stop })) to in
+      elim (cases_eq k i) [
+        | inl same ↦ subst (λ z. top.start ≤ z.start) (sym (get_or-set_at ss i k (record s { start = top.stop }) d same h)) (omega arith)
+        | inr other ↦ subst (λ z. top.start ≤ z.start) (sym (get_or-set_other ss i k (record s { start = top.stop }) d other)) (p.1 k d from inside)
+      ]),
+)
+
+pub begun-start : (ss : List Span) (top s : Span) (last low : ℕ) → last ≢ 0 → last ≤ length ss → s ≡ slice_index_or ss (last - 1) s → IsCutAt top.start ss → Begun ss top.stop last → top.start < top.stop
+    → top.stop < s.stop → Begun ss top.start low → Begun (slice_set ss (last - 1) (record s { start = top.stop })) top.start low
+begun-start ss top s last low more within is c p some high q =
+    let e : last ≡ last - 1 + 1 = omega arith in
+    start-begun ss top s (last - 1) low (omega arith) is (start-parts ss top s (last - 1) (omega arith) is c (subst (Begun ss top.stop) e p) some high).0 some q
+
+-- Where no span lies across a byte's beginning.
+
+-- the last one that begins before it ends before it, too
 cut-not : (ss : List Span) (at i : ℕ) (s d : Span) → AreApart ss → Begun ss at (i + 1) → i < length ss → slice_index_or ss i d ≡ s → s.stop ≤ at → IsCutAt at ss
 cut-not ss at i s d a p h is high t j =
     let low : s.start < at = subst (λ z. z.start < at) is (p.0 i d (omega arith) (omega arith)) in
@@ -397,6 +523,81 @@ covered ss top first last a cut_start cut_stop some p q = laid-between ss top fi
     ends-last : (s : Span) → In (take last ss) s → s.stop ≤ top.stop
     ends-last s i = let l = begun-before ss top.stop last q s i in elim (cut_stop s (in-first last s i)) [ inl h ↦ h | inr h ↦ absurd (omega (arith, l, h)) ]
 
+-- what is left of one that it lies within, before it and behind it
+splits : (front rear : List Span) (s top : Span) → AreApart (front ++ s ∷ rear) → s.start < top.start → top.start < top.stop → top.stop < s.stop
+    → IsCovered (front ++ s ∷ rear) (front ++ record s { stop = top.start } ∷ top ∷ record s { start = top.stop } ∷ rear) top
+splits front rear s top a low some high = record {
+  laid = record {
+    here = λ x t. let p = (byte-of top x t).0 in
+        top-behind front (record s { stop = top.start } ∷ top ∷ record s { start = top.stop } ∷ rear) x (λ u i. let c = apart-cross front (s ∷ rear) a u s i (inl refl) in no-byte u x (inl (omega (arith, c, low, p))))
+        ∙ (let h = no-byte (record s { stop = top.start }) x (inl p) in rw (h, t) refl);
+    beside = λ x t. top-after front (record s { stop = top.start } ∷ top ∷ record s { start = top.stop } ∷ rear) (s ∷ rear) x (sides x t);
+  };
+  apart = apart-join front (record s { stop = top.start } ∷ top ∷ record s { start = top.stop } ∷ rear) (apart-first front (s ∷ rear) a) (
+    low,
+    (λ t i. elim i [
+      | inl e ↦ subst (λ z. top.start ≤ z.start) e (omega arith)
+      | inr j ↦ elim j [
+        | inl e ↦ subst (λ z. top.start ≤ z.start) e (omega arith)
+        | inr k ↦ let q = b.1 t k in omega (arith, q, some, high)
+      ]
+    ]),
+    (some, (λ t i. elim i [ inl e ↦ subst (λ z. top.stop ≤ z.start) e (omega arith) | inr k ↦ let q = b.1 t k in omega (arith, q, high) ]), (high, b.1, b.2)),
+  )
+      (λ u t i j. let c = apart-cross front (s ∷ rear) a u s i (inl refl) in elim j [
+        | inl e ↦ subst (λ z. u.stop ≤ z.start) e c
+        | inr k ↦ elim k [
+          | inl e ↦ subst (λ z. u.stop ≤ z.start) e (omega (arith, c, low))
+          | inr l ↦ elim l [
+            | inl e ↦ subst (λ z. u.stop ≤ z.start) e (omega (arith, c, low, some))
+            | inr m ↦ apart-cross front (s ∷ rear) a u t i (inr m)
+          ]
+        ]
+      ]);
+}
+  where
+    b : AreApart (s ∷ rear)
+    b = apart-last front (s ∷ rear) a
+
+    sides : (x : ℕ) → has_byte top x ≡ false → top_at (record s { stop = top.start } ∷ top ∷ record s { start = top.stop } ∷ rear) x ≡ top_at (s ∷ rear) x
+    sides x t = elim (cases_Bool (has_byte s x)) [
+      | inl u ↦
+          let p = (byte-of s x u).0 in let q = (byte-of s x u).1 in
+          elim (cases_lt x top.start) [
+            | inl l ↦ let h = has-byte (record s { stop = top.start }) x p l in rw (h, u) refl
+            | inr l ↦
+                let end : top.stop ≤ x = elim (cases_lt x top.stop) [ inl m ↦ absurd (both_ways _ t (has-byte top x l m)) | inr m ↦ m ] in
+                let h = no-byte (record s { stop = top.start }) x (inl l) in
+                let k = has-byte (record s { start = top.stop }) x end q in
+                rw (h, t, k, u) refl
+          ]
+      | inr u ↦
+          let h : has_byte (record s { stop = top.start }) x ≡ false = false_from_ne_true _ (λ v. let p = byte-of (record s { stop = top.start }) x v in let y = p.0 in let z = p.1 in both_ways _ u (has-byte s x y (omega (arith, z, some, high)))) in
+          let k : has_byte (record s { start = top.stop }) x ≡ false = false_from_ne_true _ (λ v. let p = byte-of (record s { start = top.stop }) x v in let y = p.0 in let z = p.1 in both_ways _ u (has-byte s x (omega (arith, y, low, some)) z)) in
+          rw (h, t, k, u) refl
+    ]
+
+-- two spans are put in behind one that takes another's place
+two-in : (ss : List Span) (i : ℕ) (l m r : Span) → i < length ss → insert (insert (slice_set ss i l) (i + 1) r) (i + 1) m ≡ take i ss ++ l ∷ m ∷ r ∷ drop (i + 1) ss
+two-in ss i l m r h =
+    let front : List Span = take (i + 1) (slice_set ss i l) in
+    let rear : List Span = drop (i + 1) (slice_set ss i l) in
+    let long : length front ≡ i + 1 = ap length (take_more_set ss i l h) ∙ length-append (take i ss) (l ∷ []) ∙ ap (λ n. n + 1) (length-take-le i ss (omega arith)) in
+    let none : i + 1 - (i + 1) ≡ 0 = omega arith in
+    insert-append_right front (r ∷ rear) (i + 1) (i + 1) m long (omega arith)
+    ∙ ap (λ n. front ++ insert (r ∷ rear) n m) none
+    ∙ ap (λ z. z ++ m ∷ r ∷ rear) (take_more_set ss i l h)
+    ∙ append-one (take i ss) l (m ∷ r ∷ rear)
+    ∙ ap (λ z. take i ss ++ l ∷ m ∷ r ∷ z) (drop-set-lt (i + 1) ss i l (omega arith))
+
+pub split-at-place : (ss new : List Span) (top s : Span) (i : ℕ) → AreApart ss → i < length ss → s ≡ slice_index_or ss i s → s.start < top.start → top.start < top.stop → top.stop < s.stop
+    → new ≡ insert (insert (slice_set ss i (record s { stop = top.start })) (i + 1) (record s { start = top.stop })) (i + 1) top → IsCovered ss new top
+split-at-place ss new top s i a h is low some high now =
+    let whole = whole-at ss i s h is in
+    subst (λ z. IsCovered z new top) (sym whole)
+    (subst (λ z. IsCovered (take i ss ++ s ∷ drop (i + 1) ss) z top) (sym (now ∙ two-in ss i (record s { stop = top.start }) top (record s { start = top.stop }) h))
+    (splits (take i ss) (drop (i + 1) ss) s top (subst AreApart whole a) low some high))
+
 -- the span at a place, and those behind it
 drop-at : (ss : List Span) (i : ℕ) (d : Span) → i < length ss → drop i ss ≡ slice_index_or ss i d ∷ drop (i + 1) ss
 drop-at ss i d h = let next : suc i ≡ i + 1 = omega arith in drop-cons ss i d h ∙ ap (λ n. slice_index_or ss i d ∷ drop n ss) next
@@ -439,7 +640,7 @@ pub laid-same : (ss : List Span) (top s : Span) (i : ℕ) → AreApart ss → to
 laid-same ss top s i a some p within is low high = subst (λ z. IsCovered ss z top) (sym now) (laid-between ss top i (i + 1) a some ends from ends-last behind)
   where
     now : slice_set ss i top ≡ take i ss ++ top ∷ drop (i + 1) ss
-    now = sym (take-append-drop i (slice_set ss i top)) ∙ ap (λ z. z ++ drop i (slice_set ss i top)) (take-set ss i top) ∙ ap (λ z. take i ss ++ z) (drop-set ss i top within)
+    now = set-at ss i top within
 
     whole : drop i ss ≡ s ∷ drop (i + 1) ss
     whole = drop-at ss i s within ∙ ap (λ z. z ∷ drop (i + 1) ss) is
@@ -481,9 +682,7 @@ covers-none ss top first last a cut_start cut_stop some p q same =
 pub covers-one : (ss : List Span) (top : Span) (first last : ℕ) → AreApart ss → IsCutAt top.start ss → IsCutAt top.stop ss → top.start < top.stop
     → Begun ss top.start first → Begun ss top.stop last → first < length ss → last ≡ first + 1 → IsCovered ss (slice_set ss first top) top
 covers-one ss top first last a cut_start cut_stop some p q within next =
-    let now : slice_set ss first top ≡ take first ss ++ top ∷ drop last ss =
-    sym (take-append-drop first (slice_set ss first top)) ∙ ap (λ z. z ++ drop first (slice_set ss first top)) (take-set ss first top)
-    ∙ ap (λ z. take first ss ++ z) (drop-set ss first top within) ∙ ap (λ n. take first ss ++ top ∷ drop n ss) (sym next) in
+    let now : slice_set ss first top ≡ take first ss ++ top ∷ drop last ss = set-at ss first top within ∙ ap (λ n. take first ss ++ top ∷ drop n ss) (sym next) in
     subst (λ z. IsCovered ss z top) (sym now) (covered ss top first last a cut_start cut_stop some p q)
 
 pub covers-many : (ss : List Span) (top : Span) (first last : ℕ) → AreApart ss → IsCutAt top.start ss → IsCutAt top.stop ss → top.start < top.stop

@@ -1,8 +1,8 @@
 //! Which patch wrote each byte of a block last.
-ghost use Rattle.std.specs.Prelude.{ℕ, ◌≡◌, ◌<◌, ◌≤◌, ◌+◌, ◌∷◌, [], length, nat_lt, nat_le, vec_len, vec_capacity, IfOk, OnOk, OnErr};
-ghost use Rattle.std.specs.List.{remove_range};
+ghost use Rattle.std.specs.Prelude.{ℕ, false, ◌≡◌, ◌<◌, ◌≤◌, ◌+◌, ◌∷◌, [], length, nat_lt, nat_le, vec_len, vec_capacity, IfOk, OnOk, OnErr};
+ghost use Rattle.std.specs.List.{AllWithin, HoldsAt, insert, remove_range};
 ghost use Rattle.std.specs.List.Sorted.{IsPartitionPoint};
-ghost use Rattle.patch_skyline.specs.Skyline.{top_at, AreApart, IsCutAt, IsSameSkyline, IsLaid, AreTops};
+ghost use Rattle.patch_skyline.specs.Skyline.{has_byte, top_at, AreApart, IsCutAt, IsLaid, AreTops};
 
 use patch_model::PatchNo;
 use std::alloc::{AllocError, Allocator, Global};
@@ -114,7 +114,9 @@ impl<A: Allocator> Skyline<A> {
     }
 }
 
-/// Lays a span over the others. Most are laid where there is none, or where just one was laid before.
+/// Lays a span over the others. Most are laid where there is none, or where just one was laid before. Of those that it
+/// meets the first may be left before it and the last behind it, each in its own place, so the spans behind them are moved
+/// once at most; they are moved twice where the same one is left on both sides.
 fn put<A: Allocator>(spans: &mut Vec<Span, A>, top: Span)
     requires apart { AreApart spans.old.items }
     requires some { top.start < top.stop }
@@ -129,16 +131,33 @@ fn put<A: Allocator>(spans: &mut Vec<Span, A>, top: Span)
     }
     let span = spans[first];
     if top.stop <= span.start {
-        spans.insert(first, top).unwrap();
+        put_at(spans, first, top);
         return;
     }
     if span.start == top.start && span.stop == top.stop {
         spans[first] = top;
         return;
     }
-    cut(spans, top.start);
-    cut(spans, top.stop);
-    cover(spans, top);
+    if span.start < top.start && top.stop < span.stop {
+        split(spans, first, top);
+        return;
+    }
+    let low = trim_stop(spans, first, &top);
+    let last = begun_from(spans.as_slice(), low, top.stop);
+    let high = trim_start(spans, last, &top);
+    cover(spans, low, high, top);
+}
+
+/// Puts a span before those from a place on. A rotation moves them all at once, where an insert would one after the other.
+fn put_at<A: Allocator>(spans: &mut Vec<Span, A>, place: usize, top: Span)
+    requires within { place ≤ vec_len spans.old }
+    requires room { vec_len spans.old < vec_capacity spans.old }
+    ensures items { spans.new.items ≡ insert spans.old.items place top }
+    ensures len { vec_len spans.new ≡ vec_len spans.old + 1 }
+    ensures capacity { vec_capacity spans.new ≡ vec_capacity spans.old }
+{
+    spans.push_reserved(top);
+    spans.slice_mut(place..).rotate_right(1);
 }
 
 /// How many of the spans begin before the byte. Where all do, it looks at the last one alone.
@@ -155,6 +174,22 @@ fn begun(spans: &[Span], at: usize) -> usize
         },
         None => 0,
     }
+}
+
+/// How many of the spans begin before the byte, where as many do as are given. It looks at one after the other: a span that
+/// is laid over those that it finds takes them out, so none is often found.
+fn begun_from(spans: &[Span], from: usize, at: usize) -> usize
+    requires apart { AreApart spans.now }
+    requires within { from ≤ length spans.now }
+    requires from { AllWithin (λ s. s.start < at) spans.now 0 from }
+    ensures within { result ≤ length spans.now }
+    ensures place { IsPartitionPoint (λ s. s.start < at) (λ s. at ≤ s.start) spans.now result }
+{
+    let mut last = from;
+    while last < spans.len() && spans[last].start < at {
+        last += 1;
+    }
+    last
 }
 
 fn begun_before(spans: &[Span], at: usize) -> usize
@@ -199,56 +234,121 @@ fn ended_before(spans: &[Span], at: usize) -> usize
     )
 }
 
-/// Makes two of the span that the byte lies within, if it isn't the first of it.
-fn cut<A: Allocator>(spans: &mut Vec<Span, A>, at: usize)
+/// Lays a span within one that begins before it and ends behind it, which is left on both sides.
+fn split<A: Allocator>(spans: &mut Vec<Span, A>, place: usize, top: Span)
     requires apart { AreApart spans.old.items }
-    requires room { vec_len spans.old < vec_capacity spans.old }
-    ensures same { IsSameSkyline spans.old.items spans.new.items }
+    requires some { top.start < top.stop }
+    requires place { place < vec_len spans.old }
+    requires start { HoldsAt (λ s. s.start < top.start) spans.old.items place }
+    requires stop { HoldsAt (λ s. top.stop < s.stop) spans.old.items place }
+    requires room { vec_len spans.old + LAY_ROOM ≤ vec_capacity spans.old }
+    ensures laid { IsLaid spans.old.items spans.new.items top }
     ensures apart { AreApart spans.new.items }
-    ensures cut { IsCutAt at spans.new.items }
-    ensures kept { (other : ℕ) → IsCutAt other spans.old.items → IsCutAt other spans.new.items }
-    ensures room { vec_len spans.new ≤ vec_len spans.old + 1 }
+{
+    let span = spans[place];
+    spans[place] = Span {
+        stop: top.start,
+        ..span
+    };
+    let rest = Span {
+        start: top.stop,
+        ..span
+    };
+    put_at(spans, place + 1, rest);
+    put_at(spans, place + 1, top);
+}
+
+/// Takes the end of the first span that another one meets, if it begins before that. How many of the spans do, then.
+fn trim_stop<A: Allocator>(spans: &mut Vec<Span, A>, first: usize, top: &Span) -> usize
+    requires apart { AreApart spans.old.items }
+    requires some { top.now.start < top.now.stop }
+    requires within { first < vec_len spans.old }
+    requires first { IsPartitionPoint (λ s. s.stop ≤ top.now.start) (λ s. top.now.start < s.stop) spans.old.items first }
+    requires stop { HoldsAt (λ s. s.start < top.now.start → s.stop ≤ top.now.stop) spans.old.items first }
+    ensures beside { (x : ℕ) → has_byte top.now x ≡ false → top_at spans.new.items x ≡ top_at spans.old.items x }
+    ensures apart { AreApart spans.new.items }
+    ensures cut { IsCutAt top.now.start spans.new.items }
+    ensures place { IsPartitionPoint (λ s. s.start < top.now.start) (λ s. top.now.start ≤ s.start) spans.new.items result }
+    ensures within { result ≤ vec_len spans.new }
+    ensures len { vec_len spans.new ≡ vec_len spans.old }
     ensures capacity { vec_capacity spans.new ≡ vec_capacity spans.old }
 {
-    let behind = begun(spans.as_slice(), at);
-    if behind == 0 {
-        return;
-    }
-    let span = spans[behind - 1];
-    if at < span.stop {
-        spans[behind - 1] = Span { stop: at, ..span };
-        let rest = Span { start: at, ..span };
-        spans.insert(behind, rest).unwrap();
+    let span = spans[first];
+    if span.start < top.start {
+        spans[first] = Span {
+            stop: top.start,
+            ..span
+        };
+        first + 1
+    } else {
+        first
     }
 }
 
-/// Puts a span in the place of those between its ends, where no span lies across either.
-fn cover<A: Allocator>(spans: &mut Vec<Span, A>, top: Span)
+/// Takes the beginning of the last span that another one meets, if it ends behind that. How many of the spans begin before
+/// the end of that one, then.
+fn trim_start<A: Allocator>(spans: &mut Vec<Span, A>, last: usize, top: &Span) -> usize
+    requires apart { AreApart spans.old.items }
+    requires some { top.now.start < top.now.stop }
+    requires within { last ≤ vec_len spans.old }
+    requires cut { IsCutAt top.now.start spans.old.items }
+    requires last { IsPartitionPoint (λ s. s.start < top.now.stop) (λ s. top.now.stop ≤ s.start) spans.old.items last }
+    ensures beside { (x : ℕ) → has_byte top.now x ≡ false → top_at spans.new.items x ≡ top_at spans.old.items x }
+    ensures apart { AreApart spans.new.items }
+    ensures cut { IsCutAt top.now.stop spans.new.items }
+    ensures kept { IsCutAt top.now.start spans.new.items }
+    ensures place { IsPartitionPoint (λ s. s.start < top.now.stop) (λ s. top.now.stop ≤ s.start) spans.new.items result }
+    ensures low { (low : ℕ) → IsPartitionPoint (λ s. s.start < top.now.start) (λ s. top.now.start ≤ s.start) spans.old.items low → IsPartitionPoint (λ s. s.start < top.now.start) (λ s. top.now.start ≤ s.start) spans.new.items low }
+    ensures within { result ≤ vec_len spans.new }
+    ensures len { vec_len spans.new ≡ vec_len spans.old }
+    ensures capacity { vec_capacity spans.new ≡ vec_capacity spans.old }
+{
+    if last == 0 {
+        return 0;
+    }
+    let span = spans[last - 1];
+    if top.stop < span.stop {
+        spans[last - 1] = Span {
+            start: top.stop,
+            ..span
+        };
+        last - 1
+    } else {
+        last
+    }
+}
+
+/// Puts a span in the place of those between its ends, from one place on to another, where no span lies across either end.
+fn cover<A: Allocator>(spans: &mut Vec<Span, A>, low: usize, high: usize, top: Span)
     requires apart { AreApart spans.old.items }
     requires cut_start { IsCutAt top.start spans.old.items }
     requires cut_stop { IsCutAt top.stop spans.old.items }
     requires some { top.start < top.stop }
+    requires low { IsPartitionPoint (λ s. s.start < top.start) (λ s. top.start ≤ s.start) spans.old.items low }
+    requires high { IsPartitionPoint (λ s. s.start < top.stop) (λ s. top.stop ≤ s.start) spans.old.items high }
+    requires low_within { low ≤ vec_len spans.old }
+    requires high_within { high ≤ vec_len spans.old }
     requires room { vec_len spans.old < vec_capacity spans.old }
     ensures laid { IsLaid spans.old.items spans.new.items top }
     ensures apart { AreApart spans.new.items }
 {
-    let first = begun(spans.as_slice(), top.start);
-    let last = begun(spans.as_slice(), top.stop);
-    if first == last {
-        spans.insert(first, top).unwrap();
+    if low == high {
+        put_at(spans, low, top);
         return;
     }
-    spans[first] = top;
-    if first + 1 < last {
-        take_out(spans, first + 1, last);
+    spans[low] = top;
+    if low + 1 < high {
+        take_out(spans, low + 1, high);
     }
 }
 
-/// Takes out the spans from a place on to another.
+/// Takes out the spans from a place on to another. Those behind them are copied to their places.
 fn take_out<A: Allocator>(spans: &mut Vec<Span, A>, start: usize, stop: usize)
     requires order { start ≤ stop }
     requires within { stop ≤ vec_len spans.old }
     ensures { spans.new.items ≡ remove_range spans.old.items start stop }
 {
-    drop(spans.drain(start..stop));
+    let rest = spans.len() - (stop - start);
+    spans.copy_within(stop.., start);
+    spans.truncate(rest);
 }

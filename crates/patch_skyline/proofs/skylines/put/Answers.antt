@@ -8,8 +8,8 @@ use Rattle.patch_skyline.proofs.Spans.{Ended, IsCovered, laid-free, laid-same}
 use Rattle.patch_skyline.proofs.skylines.put.Given
 use Rattle.patch_skyline.proofs.skylines.put.Goals as goal
 
-pub cover-requires-clause-cut_start : goal.cover-requires-clause-cut_start
-cover-requires-clause-cut_start g c = c.cut-2.ensures.kept c.args.top.start c.cut.ensures.cut
+pub cover-requires-clause-low : goal.cover-requires-clause-low
+cover-requires-clause-low g c = c.trim_start-high.ensures.low c.trim_stop-low.result c.trim_stop-low.ensures.place
 
 -- behind all others
 last : (g : Given.Over) (c : goal.After-push_reserved g) → IsCovered c.args.spans.now.items c.push_reserved.new.self.items c.args.top
@@ -27,7 +27,7 @@ pub returns-then-first-len-clause-apart : goal.returns-then-first-len-clause-apa
 returns-then-first-len-clause-apart g c = (last g c).apart
 
 -- before the one that ends behind its first byte
-before : (g : Given.Over) (c : goal.After-unwrap g) → IsCovered c.args.spans.now.items (insert c.args.spans.now.items c.ended-first.result c.args.top) c.args.top
+before : (g : Given.Over) (c : goal.After-put_at g) → IsCovered c.args.spans.now.items (insert c.args.spans.now.items c.ended-first.result c.args.top) c.args.top
 before g c =
     let ss = c.args.spans.now.items in
     let first = subst (λ (z : List Span). Ended z c.args.top.start c.ended-first.result) c.as_slice.ensures.value c.ended-first.ensures.place in
@@ -36,10 +36,10 @@ before g c =
 
 pub returns-then-top-span-clause-laid : goal.returns-then-top-span-clause-laid
 returns-then-top-span-clause-laid g c =
-    subst (λ (z : List Span). IsLaid c.args.spans.now.items z c.args.top) (sym (rw c.unwrap.ensures at c.insert.ensures.items)) (before g c).laid
+    subst (λ (z : List Span). IsLaid c.args.spans.now.items z c.args.top) (sym c.put_at.ensures.items) (before g c).laid
 
 pub returns-then-top-span-clause-apart : goal.returns-then-top-span-clause-apart
-returns-then-top-span-clause-apart g c = subst AreApart (sym (rw c.unwrap.ensures at c.insert.ensures.items)) (before g c).apart
+returns-then-top-span-clause-apart g c = subst AreApart (sym c.put_at.ensures.items) (before g c).apart
 
 pub returns-then-span-top-2-clause-laid : goal.returns-then-span-top-2-clause-laid
 returns-then-span-top-2-clause-laid g c =
