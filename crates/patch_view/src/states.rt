@@ -68,8 +68,15 @@ impl<A: Allocator> BlockState<A> {
     {
         match self.place_by_name(no) {
             Some(at) => Some(at),
-            None => self.classes.iter().position(|class| class.includes(no)),
+            None => self.place_by_asking(no),
         }
+    }
+
+    /// The same by asking each record.
+    fn place_by_asking(&self, no: PatchNo) -> Option<usize>
+        ensures { result ≡ place_of self.now no }
+    {
+        self.classes.iter().position(|class| class.includes(no))
     }
 
     fn place_by_name(&self, no: PatchNo) -> Option<usize>
@@ -126,7 +133,7 @@ impl<A: Allocator> BlockState<A> {
         if self.place_by_name(no).is_some() {
             return true;
         }
-        self.len() > FEW || self.place_of(no).is_some()
+        self.len() > FEW || self.place_by_asking(no).is_some()
     }
 
     pub(crate) fn len(&self) -> usize

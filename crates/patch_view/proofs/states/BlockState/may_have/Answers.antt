@@ -10,5 +10,5 @@ returns-then-are_below g c off i =
 
 pub returns-else-len-gt-FEW : goal.returns-else-len-gt-FEW
 returns-else-len-gt-FEW g c off i =
-    let e = c.place_of.ensures in
-    none_has c.args.self.now c.args.no (sym e ∙ not_some c.place_of.result (sym c.is_some-else-len-gt-FEW.ensures ∙ off)) i
+    let e = c.place_by_asking.ensures in
+    none_has c.args.self.now c.args.no (sym e ∙ not_some c.place_by_asking.result (sym c.is_some-else-len-gt-FEW.ensures ∙ off)) i
