@@ -6,3 +6,4 @@ pub mod Alone
 pub mod Framed
 pub mod Parts
 pub mod Kept
+pub mod Comparing

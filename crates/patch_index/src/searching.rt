@@ -1,5 +1,7 @@
 //! Where a slot stands in an order, or would: found by halves.
 ghost use Rattle.std.specs.Prelude.{◌≡◌, ◌≤◌, ◌∷◌, [], length, map, nat_lt, position};
+ghost use Rattle.std.specs.Cmp.Lexicographic.{slice_cmp};
+ghost use Rattle.std.specs.Ordering.{nat_cmp};
 ghost use Rattle.patch_recovery.specs.Reading.{has_key as is_of};
 ghost use Rattle.patch_index.specs.Index.{fields_of, told};
 ghost use Rattle.patch_index.specs.Live.{live_behind};
@@ -110,11 +112,25 @@ pub(crate) fn place_by_number(order: &[u16], slot: u32) -> usize
 fn is_key_before(slots: &[Option<Entry>], other: u16, key: &[u8], slot: u32) -> bool
     ensures { result ≡ comes_before (ranked (key_in (map told slots.now)) other) (key.now, slot) }
 {
-    match key_at(slots, other).cmp(key) {
+    match compare_keys(key_at(slots, other), key) {
         Ordering::Less => true,
         Ordering::Equal => u32::from(other) < slot,
         Ordering::Greater => false,
     }
+}
+
+/// How two keys compare: the first byte that differs decides, and else the lengths do. Keys are short and often begin alike, so their
+/// bytes are compared one by one.
+fn compare_keys(own: &[u8], other: &[u8]) -> Ordering
+    ensures { result ≡ slice_cmp nat_cmp own.now other.now }
+{
+    let common = own.len().min(other.len());
+    for at in 0..common {
+        if own[at] != other[at] {
+            return own[at].cmp(&other[at]);
+        }
+    }
+    own.len().cmp(&other.len())
 }
 
 /// Whether a slot comes before another whose frame begins here.
