@@ -6,7 +6,8 @@ use Rattle.std.specs.List.{repeat}
 use Rattle.patch_commands.specs.declared.commands.TheConstants.{MAX_VALUE_TEXT}
 use Rattle.patch_commands.specs.Value.{is_short}
 
-length-repeat : (n : ℕ) (xs : List ℕ) → length (repeat n xs) ≡ length xs * n
+-- the length of a piece that is laid n times
+pub length-repeat : (n : ℕ) (xs : List ℕ) → length (repeat n xs) ≡ length xs * n
 length-repeat zero xs = omega arith
 length-repeat (suc n) xs = omega (arith, length-append xs (repeat n xs), mul-suc (length xs) n, length-repeat n xs)
 

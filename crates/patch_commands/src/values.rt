@@ -1,5 +1,5 @@
 //! The value that a line puts.
-ghost use Rattle.std.specs.Prelude.{◌≡◌, IfOk};
+ghost use Rattle.std.specs.Prelude.{◌≡◌, ◌+◌, ◌*◌, ◌++◌, ◌≤◌, IfOk, length, take};
 ghost use Rattle.patch_commands.specs.Value.{value_of, is_short};
 
 use crate::commands::MAX_VALUE_TEXT;
@@ -17,9 +17,43 @@ pub fn is_short_value(piece: &[u8], times: u32) -> bool
     }
 }
 
+/// Writes the first bytes of a room once more, behind those that are laid there.
+fn lay_again(room: &mut [u8], laid: usize, more: usize)
+    requires enough { more ≤ laid }
+    requires fits { laid + more ≤ length room.old }
+    ensures { take (laid + more) room.new ≡ take laid room.old ++ take more room.old }
+{
+    let (front, rest) = room.split_at_mut(laid);
+    rest[..more].copy_from_slice(&front[..more]);
+}
+
+/// Fills a room with a piece, so many times over. All that is laid is laid again in one run, so that a short piece is
+/// copied in long runs.
+fn lay(room: &mut [u8], piece: &[u8], times: usize)
+    requires { length room.old ≡ length piece.now * times }
+    ensures { room.new ≡ value_of piece.now times }
+{
+    if times == 0 {
+        return;
+    }
+    room[..piece.len()].copy_from_slice(piece);
+    let mut done = 1;
+    while done < times {
+        let more = done.min(times - done);
+        lay_again(room, piece.len() * done, piece.len() * more);
+        done += more;
+    }
+}
+
 /// A piece, so many times over: the value that a line puts.
 pub fn laid_out(alloc: Global, piece: &[u8], times: u32) -> Result<Bytes, OutOfMemory>
     ensures { IfOk result (λ value. value ≡ value_of piece.now times) }
 {
-    Ok(Items::from_vec(piece.repeat(alloc, times as usize)?))
+    let Some(length) = piece.len().checked_mul(times as usize) else {
+        return Err(OutOfMemory);
+    };
+    let mut value = Vec::with_capacity(alloc, length)?;
+    value.resize(length, 0)?;
+    lay(value.as_mut_slice(), piece, times as usize);
+    Ok(Items::from_vec(value))
 }
