@@ -78,16 +78,24 @@ fn wait(alloc: Global, random: &mut Random, size: u32, digest: &mut Digest) -> R
     run_on_new(alloc, small_extents(16, 8), &script, digest)
 }
 
-/// Patches of the cache that overlap, wait, stand all over, or belong to groups. SIZE is thousands of each.
+/// Caches with patches that overlap, wait, stand all over, or belong to groups. SIZE is how many there are of each.
 fn patch(alloc: Global, random: &mut Random, size: u32, digest: &mut Digest) -> Result<()> {
-    let count = size.saturating_mul(1_000);
+    for _ in 0..size {
+        patch_each(alloc, random, 50, digest)?;
+    }
+    Ok(())
+}
+
+/// One cache of each of these, with so many thousands of patches.
+fn patch_each(alloc: Global, random: &mut Random, many: u32, digest: &mut Digest) -> Result<()> {
+    let count = many.saturating_mul(1_000);
     let script = overlapping(alloc, random, count)?;
     replay_on_new(alloc, &script, digest)?;
     let script = behind_another(alloc, random, count / 40, count / 2)?;
     replay_on_new(alloc, &script, digest)?;
     let script = all_over(alloc, random, count)?;
     replay_on_new(alloc, &script, digest)?;
-    let script = group_chain(alloc, random, size, 60)?;
+    let script = group_chain(alloc, random, many, 60)?;
     replay_on_new(alloc, &script, digest)
 }
 
@@ -116,7 +124,7 @@ fn each<T: Threads + Wait + Sync>(
 ) -> Result<()> {
     sync_each(alloc, random, size, digest)?;
     wait(alloc, random, size, digest)?;
-    patch(alloc, random, 1, digest)?;
+    patch_each(alloc, random, 1, digest)?;
     let script = of_writers(alloc, random, size)?;
     serve_on_new(rt, alloc, small_extents(16, 64), &script, digest)
 }
