@@ -1,2 +1,4 @@
 pub mod Json
 pub mod Cutting
+pub mod Blocks
+pub mod Lanes

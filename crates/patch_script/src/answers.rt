@@ -3,6 +3,7 @@ ghost use Rattle.std.specs.Prelude.{◌≡◌, ◌++◌, ◌∷◌, [], List, On
 ghost use Rattle.hex.specs.Hex.{encode_lower};
 ghost use Rattle.patch_script.specs.Answer.{answer_text, answer_line as the_line, refusal_text, seen_text, numbers_text, flight_text};
 
+use crate::digits::push_digits;
 use patch_model::{BlockNo, Bytes, GroupNo, Numbers, PatchNo, Refusal, Refuses};
 use std::alloc::{AllocError, Global};
 
@@ -34,13 +35,16 @@ pub enum Answer {
     Refused(Refusal),
 }
 
-/// Writes a word, and bytes in lower case hexadecimal, at the end.
+/// Writes a word, and bytes in lower case hexadecimal, at the end. The room of both is made at once, with that of a line
+/// feed behind them.
 pub fn push_hex(alloc: Global, out: &mut String, word: &str, bytes: &[u8]) -> Result<(), AllocError>
     ensures { OnOk result (string_bytes out.new ≡ string_bytes out.old ++ (word.now ++ encode_lower bytes.now)) }
 {
-    let text = hex::encode(alloc, bytes)?;
+    let digits = bytes.len().saturating_mul(2);
+    let room = word.len().saturating_add(digits).saturating_add(1);
+    out.reserve(room)?;
     out.push_str(word)?;
-    out.push_str(text.as_str())
+    push_digits(out, bytes)
 }
 
 fn push_refusal(out: &mut String, refusal: Refusal) -> Result<(), AllocError>

@@ -4,6 +4,7 @@
 
 mod answers;
 mod defects;
+mod digits;
 pub mod fields;
 mod forms;
 mod kinds;
