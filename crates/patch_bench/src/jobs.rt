@@ -45,8 +45,8 @@ fn values(alloc: Global, random: &mut Random, size: u32, digest: &mut Digest) ->
         run_on_new(alloc, small_extents(16, 3), &script, digest)?;
         let script = large_values(alloc, random)?;
         run_on_new(alloc, small_extents(1, 65), &script, digest)?;
-        let script = overwrites(alloc, random, 5_000)?;
-        run_on_new(alloc, small_extents(2, 100), &script, digest)?;
+        let script = overwrites(alloc, random, 10_000)?;
+        run_on_new(alloc, small_extents(2, 16), &script, digest)?;
     }
     Ok(())
 }
@@ -54,8 +54,8 @@ fn values(alloc: Global, random: &mut Random, size: u32, digest: &mut Digest) ->
 /// Stores that are read, written and emptied. SIZE is how many there are.
 fn mix(alloc: Global, random: &mut Random, size: u32, digest: &mut Digest) -> Result<()> {
     for _ in 0..size {
-        let script = mixed(alloc, random, 8_000)?;
-        run_on_new(alloc, small_extents(8, 200), &script, digest)?;
+        let script = mixed(alloc, random, 30_000)?;
+        run_on_new(alloc, small_extents(8, 48), &script, digest)?;
     }
     Ok(())
 }

@@ -45,6 +45,11 @@ pub fn sync(script: &mut String) -> Result<(), AllocError> {
     script.push_str("{\"op\":\"sync\",\"group\":0}\n")
 }
 
+/// Empties an extent. What is live in it is moved elsewhere first.
+pub fn reclaim(script: &mut String, extent: u32) -> Result<(), AllocError> {
+    writeln!(script, "{{\"op\":\"reclaim\",\"extent\":{extent}}}")
+}
+
 /// A script with a group, of which its syncs are.
 pub fn new_script(alloc: Global) -> Result<String, AllocError> {
     let mut script = String::new(alloc);
@@ -80,13 +85,17 @@ pub fn small_values(alloc: Global, random: &mut Random) -> Result<String, AllocE
     Ok(script)
 }
 
-/// Values of 1,000 bytes under a hundred keys, so many times, and a sync after each hundred.
+/// Values of 1,000 bytes under a hundred keys, so many times. After each hundred there is a sync, and the two oldest of sixteen extents
+/// are emptied.
 pub fn overwrites(alloc: Global, random: &mut Random, count: u32) -> Result<String, AllocError> {
     let mut script = new_script(alloc)?;
     for turn in 0..count {
         put(&mut script, random.below(100), random.draw(), 1_000 / PIECE)?;
         if turn % 100 == 99 {
             sync(&mut script)?;
+            let oldest = turn / 100 % 8 * 2;
+            reclaim(&mut script, oldest)?;
+            reclaim(&mut script, oldest + 1)?;
         }
     }
     sync(&mut script)?;
@@ -106,7 +115,8 @@ pub fn large_values(alloc: Global, random: &mut Random) -> Result<String, AllocE
     Ok(script)
 }
 
-/// Gets, puts of up to 4,096 bytes and deletes, five, four and one of ten, over 500 keys, and a sync after each fifty.
+/// Gets, puts of up to 4,096 bytes and deletes, five, four and one of ten, over 500 keys. After each fifty there is a sync, and the
+/// oldest of 48 extents is emptied.
 pub fn mixed(alloc: Global, random: &mut Random, count: u32) -> Result<String, AllocError> {
     let mut script = new_script(alloc)?;
     for turn in 0..count {
@@ -118,6 +128,7 @@ pub fn mixed(alloc: Global, random: &mut Random, count: u32) -> Result<String, A
         }
         if turn % 50 == 49 {
             sync(&mut script)?;
+            reclaim(&mut script, turn / 50 % 48)?;
         }
     }
     sync(&mut script)?;

@@ -1,5 +1,5 @@
 //! Scripts after which much waits for other blocks: groups in a chain, and values that reclaims move.
-use crate::puts::{get, new_script, put, sync};
+use crate::puts::{get, new_script, put, reclaim, sync};
 use crate::random::Random;
 use std::alloc::{AllocError, Global};
 
@@ -55,7 +55,7 @@ pub fn reclaims(alloc: Global, random: &mut Random, times: u32) -> Result<String
     }
     put(&mut script, 1_000, random.draw(), 4_000)?;
     for turn in 0..times {
-        writeln!(script, "{{\"op\":\"reclaim\",\"extent\":{}}}", turn % 3)?;
+        reclaim(&mut script, turn % 3)?;
     }
     sync(&mut script)?;
     for key in 0..1_000u32 {
