@@ -28,8 +28,8 @@ pub fn run<T: Threads + Wait + Sync>(rt: &T, alloc: Global, request: Request<'_>
     match job {
         "values" => values(alloc, &mut random, size, &mut digest)?,
         "mixed" => mix(alloc, &mut random, size, &mut digest)?,
-        "synced" => sync_each(alloc, &mut random, size, &mut digest)?,
-        "waiting" => wait(alloc, &mut random, size, &mut digest)?,
+        "synced" => sync_all(alloc, &mut random, size, &mut digest)?,
+        "waiting" => wait_all(alloc, &mut random, size, &mut digest)?,
         "patches" => patch(alloc, &mut random, size, &mut digest)?,
         "writers" => write(rt, alloc, &mut random, size, &mut digest)?,
         "each" => each(rt, alloc, &mut random, size, &mut digest)?,
@@ -45,7 +45,7 @@ fn values(alloc: Global, random: &mut Random, size: u32, digest: &mut Digest) ->
         run_on_new(alloc, small_extents(16, 3), &script, digest)?;
         let script = large_values(alloc, random)?;
         run_on_new(alloc, small_extents(1, 65), &script, digest)?;
-        let script = overwrites(alloc, random, 10_000)?;
+        let script = overwrites(alloc, random, 5_000)?;
         run_on_new(alloc, small_extents(2, 16), &script, digest)?;
     }
     Ok(())
@@ -54,34 +54,49 @@ fn values(alloc: Global, random: &mut Random, size: u32, digest: &mut Digest) ->
 /// Stores that are read, written and emptied. SIZE is how many there are.
 fn mix(alloc: Global, random: &mut Random, size: u32, digest: &mut Digest) -> Result<()> {
     for _ in 0..size {
-        let script = mixed(alloc, random, 30_000)?;
+        let script = mixed(alloc, random, 8_000)?;
         run_on_new(alloc, small_extents(8, 48), &script, digest)?;
     }
     Ok(())
 }
 
-/// A large store with a sync behind each put. SIZE is how many puts there are.
-fn sync_each(alloc: Global, random: &mut Random, size: u32, digest: &mut Digest) -> Result<()> {
-    let script = synced(alloc, random, size)?;
+/// Large stores with a sync behind each put. SIZE is how many there are.
+fn sync_all(alloc: Global, random: &mut Random, size: u32, digest: &mut Digest) -> Result<()> {
+    for _ in 0..size {
+        sync_each(alloc, random, 9_000, digest)?;
+    }
+    Ok(())
+}
+
+/// One of these, with so many puts.
+fn sync_each(alloc: Global, random: &mut Random, puts: u32, digest: &mut Digest) -> Result<()> {
+    let script = synced(alloc, random, puts)?;
     run_on_new(alloc, small_extents(16, 250), &script, digest)
 }
 
-/// Stores in which much waits: a chain of groups that are synced at its end, one of groups that are synced one by one, and values
-/// that reclaims move. SIZE is how many groups there are in the first chain; in the second are twice as many, and a quarter as many
-/// reclaims.
-fn wait(alloc: Global, random: &mut Random, size: u32, digest: &mut Digest) -> Result<()> {
-    let script = chain(alloc, random, size, 20, Behind::Nothing)?;
+/// Stores in which much waits. SIZE is how many there are of each kind.
+fn wait_all(alloc: Global, random: &mut Random, size: u32, digest: &mut Digest) -> Result<()> {
+    for _ in 0..size {
+        wait(alloc, random, 16, digest)?;
+    }
+    Ok(())
+}
+
+/// One of each of these: a chain of so many groups that are synced at its end, one of twice as many that are synced one by one, and
+/// values that a quarter as many reclaims move.
+fn wait(alloc: Global, random: &mut Random, groups: u32, digest: &mut Digest) -> Result<()> {
+    let script = chain(alloc, random, groups, 20, Behind::Nothing)?;
     run_on_new(alloc, small_extents(8, 16), &script, digest)?;
-    let script = chain(alloc, random, size.saturating_mul(2), 20, Behind::Sync)?;
+    let script = chain(alloc, random, groups.saturating_mul(2), 20, Behind::Sync)?;
     run_on_new(alloc, small_extents(8, 16), &script, digest)?;
-    let script = reclaims(alloc, random, size / 4)?;
+    let script = reclaims(alloc, random, groups / 4)?;
     run_on_new(alloc, small_extents(16, 8), &script, digest)
 }
 
 /// Caches with patches that overlap, wait, stand all over, or belong to groups. SIZE is how many there are of each.
 fn patch(alloc: Global, random: &mut Random, size: u32, digest: &mut Digest) -> Result<()> {
     for _ in 0..size {
-        patch_each(alloc, random, 50, digest)?;
+        patch_each(alloc, random, 60, digest)?;
     }
     Ok(())
 }
