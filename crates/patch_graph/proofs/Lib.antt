@@ -9,6 +9,7 @@ pub mod Reaching
 pub mod Rings
 pub mod MarkFlight
 pub mod LeastBetween
+pub mod LeastAbove
 pub mod LeavesBetween
 pub mod Facts
 pub mod Steps

@@ -9,9 +9,9 @@ use Rattle.patch_graph.specs.State.{Graph}
 use Rattle.patch_graph.specs.Marks.{is_marked}
 use Rattle.patch_graph.specs.Meaning.{Represents, IsLiveClass, IsNotLive}
 
--- met, and neither end
-abbrev pub lies : List Bool → ℕ → ℕ → ℕ → Bool
-lies marks from to key = is_marked marks key && (not (key == from) && not (key == to))
+-- reached, no dead end, and neither end
+abbrev pub lies : List Bool → List Bool → ℕ → ℕ → ℕ → Bool
+lies marks dead_ends from to key = is_marked marks key && not (is_marked dead_ends key) && (not (key == from) && not (key == to))
 
 abbrev pub lesser : Option ℕ → Option ℕ → Option ℕ
 lesser None o = o
@@ -27,6 +27,10 @@ IsLeastOf slots test keys upto None = (i : ℕ) (c : Class) → i < upto → cla
 IsLeastOf slots test keys upto (Some m) =
     ((k : ℕ) × (c : Class) × (class_at slots k ≡ Some c) × (test k ≡ true) × (c.name ≡ m))
     × ((i : ℕ) (c : Class) → i < upto → class_at slots (slice_index_or keys i 0) ≡ Some c → test (slice_index_or keys i 0) ≡ true → m ≤ c.name)
+
+-- the marks without one key
+abbrev pub AreWithout : ℕ → List Bool → List Bool → Type 0
+AreWithout to marks dead_ends = (key : ℕ) → is_marked dead_ends key ≡ (is_marked marks key && not (key == to))
 
 -- the class at the key has the last number that was made
 abbrev pub is_newest : Slots → ℕ → ℕ → Bool

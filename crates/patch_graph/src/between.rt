@@ -1,18 +1,19 @@
 //! The least name of a class between two others.
-ghost use Rattle.std.specs.Prelude.{◌≡◌, length};
+ghost use Rattle.std.specs.Prelude.{◌≡◌, ◌≤◌, ℕ, length};
 ghost use Rattle.std.specs.List.{list_all};
-ghost use Rattle.patch_graph.specs.Between.{lies, lesser, name_if, IsLeastOf, are_gone, is_leaf, ends_at, rests_on_leaves};
+ghost use Rattle.patch_graph.specs.Between.{lies, lesser, name_if, IsLeastOf, AreWithout, are_gone, is_leaf, ends_at, rests_on_leaves};
+ghost use Rattle.patch_graph.specs.Marks.{AreClear, HoldsMarked};
 
-use crate::marks::is_marked;
+use crate::marks::{is_marked, put_mark};
 use crate::register::Register;
 use patch_model::PatchNo;
 use std::alloc::Allocator;
 
-/// Whether the key is of a class between: marked, and neither end.
-fn lies(marks: &[bool], from: usize, to: usize, key: usize) -> bool
-    ensures { result ≡ lies marks.now from to key }
+/// Whether the key is of a class between: marked, no dead end, and neither end.
+fn lies(marks: &[bool], dead_ends: &[bool], from: usize, to: usize, key: usize) -> bool
+    ensures { result ≡ lies marks.now dead_ends.now from to key }
 {
-    is_marked(marks, key) && (key != from && key != to)
+    is_marked(marks, key) && !is_marked(dead_ends, key) && (key != from && key != to)
 }
 
 /// The lesser name, of those that there are.
@@ -82,32 +83,49 @@ pub fn rests_on_leaves<A: Allocator>(register: &Register<A>, from: usize, to: us
 fn name_if<A: Allocator>(
     register: &Register<A>,
     marks: &[bool],
+    dead_ends: &[bool],
     from: usize,
     to: usize,
     key: usize,
 ) -> Option<PatchNo>
-    ensures { result ≡ name_if register.now.slots (lies marks.now from to) key }
+    ensures { result ≡ name_if register.now.slots (lies marks.now dead_ends.now from to) key }
 {
-    if lies(marks, from, to, key) {
+    if lies(marks, dead_ends, from, to, key) {
         register.name_at(key)
     } else {
         None
     }
 }
 
-/// The least name of a class, of these keys, that is marked and neither end.
+/// The least name of a class, of these keys, that is marked, no dead end, and neither end.
 pub fn least_name<A: Allocator>(
     register: &Register<A>,
     keys: &[usize],
     marks: &[bool],
+    dead_ends: &[bool],
     from: usize,
     to: usize,
 ) -> Option<PatchNo>
-    ensures { IsLeastOf register.now.slots (lies marks.now from to) keys.now (length keys.now) result }
+    ensures { IsLeastOf register.now.slots (lies marks.now dead_ends.now from to) keys.now (length keys.now) result }
 {
     let mut least = None;
     for key in keys {
-        least = lesser(least, name_if(register, marks, from, to, *key));
+        least = lesser(least, name_if(register, marks, dead_ends, from, to, *key));
     }
     least
+}
+
+/// Copies the marks of these keys, but for one key.
+pub fn copy_without(keys: &[usize], marks: &[bool], dead_ends: &mut [bool], to: usize)
+    requires fits { length marks.now ≤ length dead_ends.old }
+    requires clear { AreClear dead_ends.old }
+    requires held { HoldsMarked marks.now keys.now }
+    ensures copied { AreWithout to marks.now dead_ends.new }
+    ensures length { length dead_ends.new ≡ length dead_ends.old }
+{
+    for key in keys {
+        if is_marked(marks, *key) && *key != to {
+            put_mark(dead_ends, *key);
+        }
+    }
 }

@@ -1,20 +1,26 @@
 //! What is asked of the classes.
-ghost use Rattle.std.specs.Prelude.{◌≡◌, ◌≤◌, false, None, length, IfOk};
+ghost use Rattle.std.specs.Prelude.{◌≡◌, ◌≤◌, true, false, None, length, IfOk, IfSome, IsSome};
 ghost use Rattle.patch_graph.specs.State.{KeysFit};
 ghost use Rattle.patch_graph.specs.Ready.{AreReady, TellsReady};
 ghost use Rattle.patch_graph.specs.Between.{LacksAKey, TellsBetweenKeys, TellsLeastBetween, TellsReach, is_newest};
-ghost use Rattle.patch_graph.specs.Marks.{AreClear};
+ghost use Rattle.patch_graph.specs.Marks.{AreClear, HoldsMarked};
 ghost use Rattle.patch_graph.specs.Search.{IsReachable, steps};
-ghost use Rattle.patch_graph.specs.declared.searching.Way.TheVariants.{Up};
+ghost use Rattle.patch_graph.specs.declared.searching.Way.TheVariants.{Down, Up};
 
-use crate::between::{least_name, rests_on_leaves};
+use crate::between::{copy_without, least_name, rests_on_leaves};
 use crate::marks::{clear, is_marked};
-use crate::ready::{list_keys, mark_ready, marked_numbers};
+use crate::ready::{list_keys, mark_ready, marked_numbers, settle};
 use crate::register::Register;
 use crate::scratch::Scratch;
 use crate::searching::{Way, search};
 use patch_model::{BlockNo, PatchNo, laws};
 use std::alloc::{AllocError, Allocator};
+
+/// So many steps the first search for what lies between two classes may take.
+const FEW: usize = 64;
+
+/// So many times as many may the next one take.
+const MORE: usize = 4;
 
 /// The numbers that a send of the block takes, rising, by a search among all classes.
 pub fn numbers_searched<A: Allocator, B: Allocator>(
@@ -86,9 +92,9 @@ fn reaches_exactly<A: Allocator>(
     if from >= marks.len() {
         return false;
     }
-    let count = search(register, Way::Down, from, to, marks, queue);
+    let all = search(register, Way::Down, from, to, None, marks, queue);
     let reaches = is_marked(marks, to);
-    clear(&queue[..count], marks);
+    clear(&queue[..all.count], marks);
     reaches
 }
 
@@ -148,15 +154,151 @@ fn least_among<A: Allocator>(
     if from >= met.len() {
         return None;
     }
-    let count = search(register, Way::Among(marks), from, to, met, found);
-    let keys = &found[..count];
-    let least = least_name(register, keys, met, from, to);
+    let all = search(register, Way::Among(marks), from, to, None, met, found);
+    let keys = &found[..all.count];
+    let least = least_name(register, keys, met, &[], from, to);
     clear(keys, met);
     least
 }
 
+/// The least name of a third class on a path from the class at the one key to that at the other, where the marked keys are those that
+/// a search down from the first one found, the second one among them. Of these classes those are dead ends that don't lead to the
+/// second: they are what is left when each that leads out of them is struck out.
+fn least_leading<A: Allocator>(
+    register: &Register<A>,
+    from: usize,
+    to: usize,
+    found: &mut [usize],
+    marks: &[bool],
+    dead_ends: &mut [bool],
+) -> Option<PatchNo>
+    requires fits { KeysFit register.now.slots (length marks.now) }
+    requires dead_ends_fit { length marks.now ≤ length dead_ends.old }
+    requires clear { AreClear dead_ends.old }
+    requires held { HoldsMarked marks.now found.old }
+    requires below { IsReachable (steps register.now.slots register.now.numbers Down) from to marks.now }
+    ensures answer { TellsBetweenKeys register.now from to result }
+    ensures cleared { AreClear dead_ends.new }
+    ensures length { length dead_ends.new ≡ length dead_ends.old }
+    ensures held { HoldsMarked marks.now found.new }
+{
+    found.reverse();
+    copy_without(found, marks, dead_ends, to);
+    settle(register, found, dead_ends);
+    let least = least_name(register, found, marks, dead_ends, from, to);
+    clear(found, dead_ends);
+    least
+}
+
+/// The least name of a third class on a path from the class at the one key to that at the other, by a search down from the first, of
+/// no more steps than the limit; nothing where it takes more.
+fn least_below<A: Allocator>(
+    register: &Register<A>,
+    from: usize,
+    to: usize,
+    limit: usize,
+    marks: &mut [bool],
+    queue: &mut [usize],
+    dead_ends: &mut [bool],
+) -> Option<Option<PatchNo>>
+    requires fits { KeysFit register.now.slots (length marks.old) }
+    requires queue_fits { length marks.old ≤ length queue.old }
+    requires dead_ends_fit { length marks.old ≤ length dead_ends.old }
+    requires clear { AreClear marks.old }
+    requires clear_ends { AreClear dead_ends.old }
+    ensures answer { IfSome result (TellsBetweenKeys register.now from to) }
+    ensures cleared { AreClear marks.new }
+    ensures cleared_ends { AreClear dead_ends.new }
+    ensures length { length marks.new ≡ length marks.old }
+    ensures length_queue { length queue.new ≡ length queue.old }
+    ensures length_ends { length dead_ends.new ≡ length dead_ends.old }
+{
+    // Not reached: there is a class at the key, and marks for all of them.
+    if from >= marks.len() {
+        return Some(None);
+    }
+    let below = search(register, Way::Down, from, to, Some(limit), marks, queue);
+    let found = &mut queue[..below.count];
+    if !below.is_whole {
+        clear(found, marks);
+        return None;
+    }
+    if !is_marked(marks, to) {
+        clear(found, marks);
+        return Some(None);
+    }
+    let least = least_leading(register, from, to, found, marks, dead_ends);
+    clear(found, marks);
+    Some(least)
+}
+
+/// `least_among`, where all that leads to the second class was found.
+fn least_if_whole<A: Allocator>(
+    register: &Register<A>,
+    from: usize,
+    to: usize,
+    marks: &[bool],
+    met: &mut [bool],
+    found: &mut [usize],
+    is_whole: bool,
+) -> Option<Option<PatchNo>>
+    requires fits { KeysFit register.now.slots (length marks.now) }
+    requires met_fit { length marks.now ≤ length met.old }
+    requires found_fit { length met.old ≤ length found.old }
+    requires clear { AreClear met.old }
+    requires above { is_whole ≡ true → IsReachable (steps register.now.slots register.now.numbers Up) to from marks.now }
+    ensures answer { IfSome result (TellsBetweenKeys register.now from to) }
+    ensures whole { is_whole ≡ true → IsSome result }
+    ensures cleared { AreClear met.new }
+    ensures length { length met.new ≡ length met.old }
+{
+    if is_whole {
+        Some(least_among(register, from, to, marks, met, found))
+    } else {
+        None
+    }
+}
+
+/// The least name of a third class on a path from the class at the one key to that at the other, by a search up from the second,
+/// of no more steps than the limit, if there is one; nothing where it takes more.
+fn least_above<A: Allocator>(
+    register: &Register<A>,
+    from: usize,
+    to: usize,
+    limit: Option<usize>,
+    marks: &mut [bool],
+    queue: &mut [usize],
+    met: &mut [bool],
+    found: &mut [usize],
+) -> Option<Option<PatchNo>>
+    requires fits { KeysFit register.now.slots (length marks.old) }
+    requires queue_fits { length marks.old ≤ length queue.old }
+    requires met_fit { length marks.old ≤ length met.old }
+    requires found_fit { length met.old ≤ length found.old }
+    requires clear { AreClear marks.old }
+    requires clear_met { AreClear met.old }
+    ensures answer { IfSome result (TellsBetweenKeys register.now from to) }
+    ensures whole { limit ≡ None → IsSome result }
+    ensures cleared { AreClear marks.new }
+    ensures cleared_met { AreClear met.new }
+    ensures length { length marks.new ≡ length marks.old }
+    ensures length_queue { length queue.new ≡ length queue.old }
+    ensures length_met { length met.new ≡ length met.old }
+    ensures length_found { length found.new ≡ length found.old }
+{
+    // Not reached: there is a class at the key, and marks for all of them.
+    if to >= marks.len() {
+        return Some(None);
+    }
+    let above = search(register, Way::Up, to, from, limit, marks, queue);
+    let least = least_if_whole(register, from, to, marks, met, found, above.is_whole);
+    clear(&queue[..above.count], marks);
+    least
+}
+
 /// The least name of a third class on a path from the class at the one key to that at the other, on two rows of marks and two
-/// queues. The first search goes up from the second: little depends on that, but all that there is may lie below the first.
+/// queues. It is looked for above the second class and below the first by turns, in some steps, then in more: little may
+/// lie on the one side where there is much on the other.
 fn least_between<A: Allocator>(
     register: &Register<A>,
     from: usize,
@@ -176,14 +318,18 @@ fn least_between<A: Allocator>(
     ensures cleared { AreClear marks.new }
     ensures cleared_met { AreClear met.new }
 {
-    // Not reached: there is a class at the key, and marks for all of them.
-    if to >= marks.len() {
-        return None;
+    let mut limit = Some(FEW);
+    while let Some(most) = limit {
+        if let Some(least) = least_above(register, from, to, limit, marks, queue, met, found) {
+            return least;
+        }
+        if let Some(least) = least_below(register, from, to, most, marks, queue, met) {
+            return least;
+        }
+        limit = most.checked_mul(MORE);
     }
-    let count = search(register, Way::Up, to, from, marks, queue);
-    let least = least_among(register, from, to, marks, met, found);
-    clear(&queue[..count], marks);
-    least
+    // There is an answer: nothing limits the search.
+    least_above(register, from, to, None, marks, queue, met, found).unwrap_or(None)
 }
 
 /// The least name of a third class on a path from the class of the one patch to that of the other. There is mostly none, and

@@ -1,5 +1,5 @@
 //! Searches through the classes.
-ghost use Rattle.std.specs.Prelude.{◌≡◌, ◌<◌, ◌≤◌, ◌+◌, ℕ, length, take, true, false, Some};
+ghost use Rattle.std.specs.Prelude.{◌≡◌, ◌<◌, ◌≤◌, length, take, true, false, None};
 ghost use Rattle.patch_graph.specs.Marks.{is_marked, AreClear, HoldsMarked};
 ghost use Rattle.patch_graph.specs.Search.{admits, steps, AreNext, IsReachable, HasFollowed, HasLooked, Visited, walk};
 
@@ -17,6 +17,15 @@ pub enum Way<'a> {
     Up,
     /// To those that it depends on directly and whose keys are marked here.
     Among(&'a [bool]),
+}
+
+/// What a search met.
+#[derive(Clone, Copy)]
+pub struct Met {
+    /// How many classes. Their keys are the first of the queue.
+    pub count: usize,
+    /// Whether these are all, since it was not broken off.
+    pub is_whole: bool,
 }
 
 /// Whether a search may come to a key.
@@ -117,22 +126,43 @@ fn look<A: Allocator>(
     visit_all(register, way, next, marks, queue, head, tail)
 }
 
+/// How many numbers a search looks at from the class at a key, at which it may stop.
+fn steps_at<A: Allocator>(register: &Register<A>, way: Way<'_>, stop: usize, key: usize) -> usize {
+    if key == stop {
+        0
+    } else {
+        next_of(register, way, key).len()
+    }
+}
+
+/// Whether so many steps are more than a search may take.
+fn is_over(limit: Option<usize>, steps: usize) -> bool
+    ensures { limit ≡ None → result ≡ false }
+{
+    match limit {
+        Some(most) => most < steps,
+        None => false,
+    }
+}
+
 /// Marks what a search comes to from the class at `from`, and itself, but not what is reached through the key `stop` alone. The
-/// marked ones are the first of the queue, as many as are returned.
+/// marked ones are the first of the queue. Where it would have to look at more numbers than the limit, if there is one, it is broken off.
 pub fn search<A: Allocator>(
     register: &Register<A>,
     way: Way<'_>,
     from: usize,
     stop: usize,
+    limit: Option<usize>,
     marks: &mut [bool],
     queue: &mut [usize],
-) -> usize
+) -> Met
     requires queue_fits { length marks.old ≤ length queue.old }
     requires low { from < length marks.old }
     requires clear { AreClear marks.old }
-    ensures found { IsReachable (steps register.now.slots register.now.numbers way.entry) from stop marks.new }
-    ensures held { HoldsMarked marks.new (take result queue.new) }
-    ensures within { result ≤ length queue.new }
+    ensures found { result.is_whole ≡ true → IsReachable (steps register.now.slots register.now.numbers way.entry) from stop marks.new }
+    ensures whole { limit ≡ None → result.is_whole ≡ true }
+    ensures held { HoldsMarked marks.new (take result.count queue.new) }
+    ensures within { result.count ≤ length queue.new }
     ensures length { length marks.new ≡ length marks.old }
     ensures length_queue { length queue.new ≡ length queue.old }
 {
@@ -140,9 +170,20 @@ pub fn search<A: Allocator>(
     queue[0] = from;
     let mut head = 0;
     let mut tail = 1;
+    let mut taken: usize = 0;
     while head < tail && head < queue.len() {
+        taken = taken.saturating_add(steps_at(register, way, stop, queue[head]));
+        if is_over(limit, taken) {
+            return Met {
+                count: tail,
+                is_whole: false,
+            };
+        }
         tail = look(register, way, stop, marks, queue, head, tail);
         head += 1;
     }
-    tail
+    Met {
+        count: tail,
+        is_whole: true,
+    }
 }

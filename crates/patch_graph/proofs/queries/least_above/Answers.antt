@@ -1,6 +1,6 @@
 use Rattle.std.proofs.Common.{◌<◌, length, arith}
 use Rattle.patch_graph.proofs.Reaching.{is_low}
-use Rattle.patch_graph.proofs.queries.least_between.Goals as goal
+use Rattle.patch_graph.proofs.queries.least_above.Goals as goal
 
 pub returns-then-to-marks-clause-answer : goal.returns-then-to-marks-clause-answer
 returns-then-to-marks-clause-answer g c a b fa fb all x y r no_ring la lb =
