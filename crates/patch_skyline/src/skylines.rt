@@ -15,6 +15,9 @@ pub const LAY_ROOM: usize = 3;
 /// For so many spans a skyline makes room where it has none.
 const FIRST_ROOM: usize = 16;
 
+/// So many spans that another one meets are looked at one after the other.
+const FEW_MET: usize = 8;
+
 /// Bytes that one patch wrote last, from the first to the one after the last, and the number of that patch.
 #[derive(Clone, Copy, Debug, PartialEq, Eq)]
 pub struct Span {
@@ -176,8 +179,8 @@ fn begun(spans: &[Span], at: usize) -> usize
     }
 }
 
-/// How many of the spans begin before the byte, where as many do as are given. It looks at one after the other: a span that
-/// is laid over those that it finds takes them out, so none is often found.
+/// How many of the spans begin before the byte, where as many do as are given. Mostly few more do, so it looks at one after the
+/// other; where many do, they are found by halves.
 fn begun_from(spans: &[Span], from: usize, at: usize) -> usize
     requires apart { AreApart spans.now }
     requires within { from ≤ length spans.now }
@@ -185,6 +188,10 @@ fn begun_from(spans: &[Span], from: usize, at: usize) -> usize
     ensures within { result ≤ length spans.now }
     ensures place { IsPartitionPoint (λ s. s.start < at) (λ s. at ≤ s.start) spans.now result }
 {
+    let far = from.saturating_add(FEW_MET);
+    if far < spans.len() && spans[far].start < at {
+        return begun_before(spans, at);
+    }
     let mut last = from;
     while last < spans.len() && spans[last].start < at {
         last += 1;
