@@ -164,6 +164,10 @@ with_laid b number start bytes after hard = record {
   classes = b.classes ++ new_class b number start bytes after hard ∷ [];
 }
 
+-- no class of the block has a member below the number
+abbrev pub HasNoneBelow : Block → ℕ → Type 0
+HasNoneBelow b lowest = (i n : ℕ) → is_among (class_at b i).members n ≡ true → lowest ≤ n
+
 -- numbers of a list, and among them each that is a member of one of the block's classes
 pub record KeepsNames (b : Block) (after kept : List ℕ) : Type 0 where
   pub from : (n : ℕ) → is_among kept n ≡ true → is_among after n ≡ true

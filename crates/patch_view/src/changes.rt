@@ -126,9 +126,10 @@ impl<A: Allocator> BlockState<A> {
         A: Clone,
         ensures { IfOk result (λ kept. KeepsNames self.now after.now kept.items) }
     {
+        let lowest = self.lowest_within(after.len());
         let mut kept = NumberList::none();
         for no in after {
-            if self.may_have(*no) {
+            if self.may_have_from(lowest, *no) {
                 kept.push(self.bytes.allocator(), *no)?;
             }
         }

@@ -8,7 +8,7 @@ ghost use Rattle.patch_view.specs.State.{spans, follow_on, has_room_for, is_arou
 ghost use Rattle.patch_view.specs.Images.{saved_end, saves_any};
 ghost use Rattle.patch_view.specs.Rests.{IsFree, IsUnion, HasListsOf};
 
-use crate::number_lists::{NumberList, is_listed, place_in, sort};
+use crate::number_lists::{NumberList, is_listed, least_of, place_in, sort};
 use crate::rests::Rests;
 use crate::spans::swap_span;
 use patch_model::{BLOCK, OutOfMemory, PatchNo};
@@ -97,6 +97,13 @@ impl<A: Allocator> Class<A> {
         ensures { result ≡ self.now.name }
     {
         self.name
+    }
+
+    /// The least of its members, or the greatest number where it has none.
+    pub(crate) fn lowest(&self) -> u32
+        ensures { (n : ℕ) → is_among self.now.members n ≡ true → result ≤ n }
+    {
+        least_of(self.members.as_slice())
     }
 
     pub(crate) fn is_flying(&self) -> bool

@@ -4,7 +4,7 @@
 ghost use Rattle.std.specs.Prelude.{◌≡◌, ◌<◌, length, [], Some, IfSome, IsFalse, IsTrue, OnErr, ℕ, false};
 ghost use Rattle.patch_model.specs.Entry.{is_among};
 ghost use Rattle.patch_model.specs.History.{History, cached as the_cached};
-ghost use Rattle.patch_view.specs.State.{Block, is_takeable, swept_to, class_at, exchanged_at, follows, hinders, HinderWithin, place_of, IsOnlyNamed, restored_to, outline, IsLeast};
+ghost use Rattle.patch_view.specs.State.{Block, HasNoneBelow, is_takeable, swept_to, class_at, exchanged_at, follows, hinders, HinderWithin, place_of, IsOnlyNamed, restored_to, outline, IsLeast};
 ghost use Rattle.patch_view.specs.Places.{IsRange};
 ghost use Rattle.patch_view.specs.Meaning.{Represents};
 ghost use Rattle.patch_view.specs.Answers.{AnswersTake, AcceptsTake, AnswersPutBack, AcceptsPutBack, TakesAll, ShowsTaken, PutsAllBack, IsAsBefore, Shows, TellsClear};
@@ -134,6 +134,29 @@ impl<A: Allocator> BlockState<A> {
             return true;
         }
         self.len() > FEW || self.place_by_asking(no).is_some()
+    }
+
+    /// The same, where no record has a member below the lowest.
+    pub(crate) fn may_have_from(&self, lowest: PatchNo, no: PatchNo) -> bool
+        requires { HasNoneBelow self.now lowest }
+        ensures { IsFalse result → (i : ℕ) → is_among (class_at self.now i).members no ≡ false }
+    {
+        lowest.0 <= no.0 && self.may_have(no)
+    }
+
+    /// A number below which no record has a member: the least member, where there are no more records than this. Of the names of a
+    /// patch most may be older, as in a chain of groups.
+    pub(crate) fn lowest_within(&self, most: usize) -> PatchNo
+        ensures { HasNoneBelow self.now result }
+    {
+        if most < self.classes.len() {
+            return PatchNo(0);
+        }
+        let mut lowest = u32::MAX;
+        for class in &self.classes {
+            lowest = lowest.min(class.lowest());
+        }
+        PatchNo(lowest)
     }
 
     pub(crate) fn len(&self) -> usize
