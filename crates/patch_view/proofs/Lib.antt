@@ -1,5 +1,6 @@
 pub mod Sets
 pub mod Numbers
+pub mod Interleaving
 pub mod Naming
 pub mod Chain
 pub mod Steps

@@ -8,7 +8,7 @@ ghost use Rattle.patch_view.specs.State.{spans, follow_on, has_room_for, is_arou
 ghost use Rattle.patch_view.specs.Images.{saved_end, saves_any};
 ghost use Rattle.patch_view.specs.Rests.{IsFree, IsUnion, HasListsOf};
 
-use crate::number_lists::{NumberList, is_listed, least_of, place_in, sort};
+use crate::number_lists::{NumberList, interleave, is_interleaved, is_listed, least_of, place_in};
 use crate::rests::Rests;
 use crate::spans::swap_span;
 use patch_model::{BLOCK, OutOfMemory, PatchNo};
@@ -389,7 +389,8 @@ impl<A: Allocator> Class<A> {
         self.start == low.start.min(high.start) && self.stop == low.stop.max(high.stop)
     }
 
-    /// Whether each member is one of two other classes, and each name one of theirs.
+    /// Whether each member is one of two other classes, and each name one of theirs. In a record that was drawn up of the two
+    /// they are interleaved, which one pass tells; in any other, each is looked for.
     fn has_lists_of(&self, low: &Class<A>, high: &Class<A>) -> bool
         ensures { IsTrue result → HasListsOf self.now low.now high.now }
     {
@@ -401,9 +402,11 @@ impl<A: Allocator> Class<A> {
             ≡ list_all (λ n. is_among low.now.members n || is_among high.now.members n) self.now.members }
     {
         let members = self.members.as_slice();
-        members
-            .iter()
-            .all(|n| low.includes(*n) || high.includes(*n))
+        let (these, those) = (low.members.as_slice(), high.members.as_slice());
+        is_interleaved(members, these, those)
+            || members
+                .iter()
+                .all(|n| low.includes(*n) || high.includes(*n))
     }
 
     fn has_names_of(&self, low: &Class<A>, high: &Class<A>) -> bool
@@ -411,7 +414,8 @@ impl<A: Allocator> Class<A> {
             ≡ list_all (λ n. is_among low.now.after n || is_among high.now.after n) self.now.after }
     {
         let names = self.after.as_slice();
-        names.iter().all(|n| low.names(*n) || high.names(*n))
+        let (these, those) = (low.after.as_slice(), high.after.as_slice());
+        is_interleaved(names, these, those) || names.iter().all(|n| low.names(*n) || high.names(*n))
     }
 
     /// Takes the members and the names of a higher class in behind its own, where there is room for them.
@@ -526,8 +530,8 @@ impl<A: Allocator> Class<A> {
     }
 }
 
-/// The numbers of two lists that rise, rising, with room for so many more. They are put in order only where the one list
-/// doesn't follow the other.
+/// The numbers of two lists that rise, rising, with room for so many more. They are interleaved only where the one list doesn't
+/// follow the other.
 fn both_lists<A: Allocator>(
     alloc: A,
     these: &[PatchNo],
@@ -541,10 +545,11 @@ fn both_lists<A: Allocator>(
 {
     let wanted = these.len().saturating_add(those.len()).saturating_add(room);
     let mut all = Vec::with_capacity(alloc, wanted)?;
-    all.extend_from_slice(these)?;
-    all.extend_from_slice(those)?;
-    if !follow_on(these, those) {
-        sort(&mut all);
+    if follow_on(these, those) {
+        all.extend_from_slice(these)?;
+        all.extend_from_slice(those)?;
+    } else {
+        interleave(&mut all, these, those)?;
     }
     Ok(all)
 }
