@@ -1,18 +1,17 @@
 //! The reading of a line of a store script.
 ghost use Rattle.std.specs.Prelude.{◌≤◌, length};
 ghost use Rattle.patch_script.specs.Gives.{Gives};
+ghost use Rattle.patch_script.specs.Object.{object_data};
 ghost use Rattle.patch_script.specs.Kind.{lines_of, Reads};
 ghost use Rattle.patch_script.specs.declared.scripts.TheConstants.{MAX_LINES};
 ghost use Rattle.patch_commands.specs.Command.{put_line, depend_line, group_command, writer_command, command_of, commands_of};
 ghost use Rattle.patch_commands.specs.Shared.{shared_command, shared_commands};
-ghost use Rattle.serde_json.specs.View.{view};
 
 use crate::commands::{CommandLine, MAX_VALUE_TEXT};
 use crate::values::is_short_value;
 use patch_model::{GroupNo, WriterNo};
-use patch_script::fields::{LineError, bytes, number, number_or, text, writer};
-use patch_script::{Defect, LineReader, Name, ScriptError, read_lines};
-use serde_json::Value;
+use patch_script::fields::LineError;
+use patch_script::{Defect, Name, Object, ObjectReader, ScriptError, read_objects};
 use std::alloc::Global;
 
 /// What makes a value too long: its piece alone, or how often that is repeated.
@@ -26,12 +25,12 @@ fn too_long(piece: &[u8]) -> LineError {
 }
 
 #[tactic(auto, unfolding(crate::specs::Command::put_line))]
-fn read_put(alloc: Global, writer: WriterNo, line: &Value) -> Result<CommandLine, LineError>
-    ensures { Gives result (put_line writer (view line.now)) }
+fn read_put(alloc: Global, writer: WriterNo, line: &Object<'_>) -> Result<CommandLine, LineError>
+    ensures { Gives result (put_line writer (object_data line.now)) }
 {
-    let key = text(alloc, line, Name::Key)?;
-    let piece = bytes(alloc, line, Name::Hex)?;
-    let times = number_or(line, Name::Times, 1)?;
+    let key = line.text(alloc, Name::Key)?;
+    let piece = line.bytes(alloc, Name::Hex)?;
+    let times = line.number_or(Name::Times, 1)?;
     if !is_short_value(piece.as_slice(), times) {
         return Err(too_long(piece.as_slice()));
     }
@@ -44,40 +43,44 @@ fn read_put(alloc: Global, writer: WriterNo, line: &Value) -> Result<CommandLine
 }
 
 #[tactic(auto, unfolding(crate::specs::Command::depend_line))]
-fn read_depend(writer: WriterNo, line: &Value) -> Result<CommandLine, LineError>
-    ensures { Gives result (depend_line writer (view line.now)) }
+fn read_depend(writer: WriterNo, line: &Object<'_>) -> Result<CommandLine, LineError>
+    ensures { Gives result (depend_line writer (object_data line.now)) }
 {
-    let group = GroupNo(number(line, Name::Group)?);
-    let on = GroupNo(number(line, Name::On)?);
+    let group = GroupNo(line.number(Name::Group)?);
+    let on = GroupNo(line.number(Name::On)?);
     Ok(CommandLine::Depend { writer, group, on })
 }
 
 #[tactic(auto, unfolding(crate::specs::Command::group_command))]
-fn read_group_command(writer: WriterNo, op: &str, line: &Value) -> Result<CommandLine, LineError>
-    ensures { Gives result (group_command writer op.now (view line.now)) }
+fn read_group_command(
+    writer: WriterNo,
+    op: &str,
+    line: &Object<'_>,
+) -> Result<CommandLine, LineError>
+    ensures { Gives result (group_command writer op.now (object_data line.now)) }
 {
     match op {
         "group" => Ok(CommandLine::Group { writer }),
         "engage" => Ok(CommandLine::Engage {
             writer,
-            group: GroupNo(number(line, Name::Group)?),
+            group: GroupNo(line.number(Name::Group)?),
         }),
         "disengage" => Ok(CommandLine::Disengage {
             writer,
-            group: GroupNo(number(line, Name::Group)?),
+            group: GroupNo(line.number(Name::Group)?),
         }),
         "depend" => read_depend(writer, line),
         "close" => Ok(CommandLine::Close {
             writer,
-            group: GroupNo(number(line, Name::Group)?),
+            group: GroupNo(line.number(Name::Group)?),
         }),
         "pending" => Ok(CommandLine::Pending {
             writer,
-            group: GroupNo(number(line, Name::Group)?),
+            group: GroupNo(line.number(Name::Group)?),
         }),
         "sync" => Ok(CommandLine::Sync {
             writer,
-            group: GroupNo(number(line, Name::Group)?),
+            group: GroupNo(line.number(Name::Group)?),
         }),
         _ => Err(LineError::Unreadable(Defect::NoCommand)),
     }
@@ -88,46 +91,46 @@ fn read_command(
     alloc: Global,
     writer: WriterNo,
     op: &str,
-    line: &Value,
+    line: &Object<'_>,
 ) -> Result<CommandLine, LineError>
-    ensures { Gives result (writer_command writer op.now (view line.now)) }
+    ensures { Gives result (writer_command writer op.now (object_data line.now)) }
 {
     match op {
         "put" => read_put(alloc, writer, line),
         "get" => Ok(CommandLine::Get {
             writer,
-            key: text(alloc, line, Name::Key)?,
+            key: line.text(alloc, Name::Key)?,
         }),
         "delete" => Ok(CommandLine::Delete {
             writer,
-            key: text(alloc, line, Name::Key)?,
+            key: line.text(alloc, Name::Key)?,
         }),
         "reclaim" => Ok(CommandLine::Reclaim {
             writer,
-            extent: number(line, Name::Extent)?,
+            extent: line.number(Name::Extent)?,
         }),
         _ => read_group_command(writer, op, line),
     }
 }
 
 #[tactic(auto, unfolding(crate::specs::Command::command_of))]
-fn read_any(alloc: Global, op: &str, line: &Value) -> Result<CommandLine, LineError>
-    ensures { Gives result (command_of op.now (view line.now)) }
+fn read_any(alloc: Global, op: &str, line: &Object<'_>) -> Result<CommandLine, LineError>
+    ensures { Gives result (command_of op.now (object_data line.now)) }
 {
-    read_command(alloc, writer(line)?, op, line)
+    read_command(alloc, line.writer()?, op, line)
 }
 
 /// Reads the lines of a store script.
 struct AnyLines;
 
-impl LineReader for AnyLines {
+impl ObjectReader for AnyLines {
     type Line = CommandLine;
 
     ghost says = { λ _. command_of };
 
     const UNKNOWN_OP: Defect = Defect::NoCommand;
 
-    fn read(&self, alloc: Global, op: &str, line: &Value) -> Result<CommandLine, LineError> {
+    fn read(&self, alloc: Global, op: &str, line: &Object<'_>) -> Result<CommandLine, LineError> {
         read_any(alloc, op, line)
     }
 }
@@ -138,14 +141,14 @@ struct SharedLines {
     writers: u32,
 }
 
-impl LineReader for SharedLines {
+impl ObjectReader for SharedLines {
     type Line = CommandLine;
 
     ghost says = { λ reader. shared_command reader.writers };
 
     const UNKNOWN_OP: Defect = Defect::NoCommand;
 
-    fn read(&self, alloc: Global, op: &str, line: &Value) -> Result<CommandLine, LineError> {
+    fn read(&self, alloc: Global, op: &str, line: &Object<'_>) -> Result<CommandLine, LineError> {
         let line = read_any(alloc, op, line)?;
         if line.writer().0 as u32 >= self.writers {
             return Err(LineError::Unreadable(Defect::NoSuchWriter));
@@ -162,7 +165,7 @@ pub fn read_commands(alloc: Global, text: &[u8]) -> Result<Vec<CommandLine>, Scr
     requires { length (lines_of text.now) ≤ MAX_LINES }
     ensures { Reads result (commands_of text.now) }
 {
-    read_lines(alloc, &AnyLines, text)
+    read_objects(alloc, &AnyLines, text)
 }
 
 /// The same of a script of so many writers on threads: a line of another writer is unreadable, and so is a sync.
@@ -174,5 +177,5 @@ pub fn read_shared_commands(
     requires { length (lines_of text.now) ≤ MAX_LINES }
     ensures { Reads result (shared_commands writers text.now) }
 {
-    read_lines(alloc, &SharedLines { writers }, text)
+    read_objects(alloc, &SharedLines { writers }, text)
 }

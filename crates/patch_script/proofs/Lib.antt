@@ -1,4 +1,6 @@
 pub mod Json
+pub mod Rows
+pub mod Parsing
 pub mod Cutting
 pub mod Blocks
 pub mod Lanes

@@ -5,3 +5,5 @@ pub mod Kind
 pub mod Script
 pub mod Answer
 pub mod Name
+pub mod Object
+pub mod PlainTokens

@@ -6,6 +6,8 @@ ghost use Rattle.patch_script.specs.declared.defects.Defect.TheVariants.{Missing
 ghost use Rattle.patch_script.specs.declared.defects.Name.TheVariants.{Op, Writer};
 ghost use Rattle.patch_script.specs.Name.{name_of};
 ghost use Rattle.patch_script.specs.declared.fields.LineError.TheVariants.{OutOfMemory, Unreadable};
+ghost use Rattle.std.specs.Result.{result_ok};
+ghost use Rattle.hex.specs.Hex.{decode_of};
 ghost use Rattle.serde_json.specs.Find.{as_bool, as_str, get};
 ghost use Rattle.serde_json.specs.View.{view, items_view};
 
@@ -39,7 +41,7 @@ impl<T: Drop> From<AllocFailed<T>> for LineError {
 }
 
 /// What has to be there, and isn't.
-fn missing(name: Name) -> LineError
+pub(crate) fn missing(name: Name) -> LineError
     ensures { result ≡ Unreadable (Missing name) }
 {
     LineError::Unreadable(Defect::Missing(name))
@@ -55,7 +57,7 @@ pub fn wrong(name: Name) -> LineError
 // Kinds of values. The name is told where the value is of another kind.
 
 /// A whole number of 32 bits.
-fn as_whole(value: &Value, name: Name) -> Result<u32, LineError>
+pub(crate) fn as_whole(value: &Value, name: Name) -> Result<u32, LineError>
     ensures { Gives result (whole (view value.now)) }
 {
     match value.as_u64() {
@@ -64,7 +66,7 @@ fn as_whole(value: &Value, name: Name) -> Result<u32, LineError>
     }
 }
 
-fn as_flag(value: &Value, name: Name) -> Result<bool, LineError>
+pub(crate) fn as_flag(value: &Value, name: Name) -> Result<bool, LineError>
     ensures { Gives result (as_bool (view value.now)) }
 {
     value.as_bool().ok_or(wrong(name))
@@ -75,6 +77,12 @@ fn as_bytes(alloc: Global, value: &Value, name: Name) -> Result<Bytes, LineError
     ensures { Gives result (hex_bytes (view value.now)) }
 {
     let text = value.as_str().ok_or(wrong(name))?;
+    decoded(alloc, text, name)
+}
+
+pub(crate) fn decoded(alloc: Global, text: &str, name: Name) -> Result<Bytes, LineError>
+    ensures { Gives result (result_ok (decode_of text.now)) }
+{
     match hex::decode(alloc, text) {
         Ok(bytes) => Ok(Items::from_vec(bytes)),
         Err(hex::FromHexError::OutOfMemory) => Err(LineError::OutOfMemory),
@@ -90,7 +98,7 @@ fn as_text(alloc: Global, value: &Value, name: Name) -> Result<Bytes, LineError>
     Ok(Items::from_vec(Vec::from_slice(alloc, text.as_bytes())?))
 }
 
-fn as_numbers(alloc: Global, value: &Value, name: Name) -> Result<Numbers, LineError>
+pub(crate) fn as_numbers(alloc: Global, value: &Value, name: Name) -> Result<Numbers, LineError>
     ensures { Gives result (wholes (view value.now)) }
 {
     match value.as_array() {

@@ -1,12 +1,16 @@
 //! The reading of a line of any kind.
-ghost use Rattle.std.specs.Prelude.{◌≡◌, IfOk, IfErr, List, Option, Some, ℕ};
+ghost use Rattle.std.specs.Prelude.{◌≡◌, IfOk, IfErr, List, Option, Some, ℕ, option_and_then};
 ghost use Rattle.patch_script.specs.Gives.{Gives, Fails};
+ghost use Rattle.patch_script.specs.Object.{object_data};
 ghost use Rattle.patch_script.specs.Kind.{object_by, json_of, is_blank, line_by};
 ghost use Rattle.serde_json.specs.Data.{Data};
 ghost use Rattle.serde_json.specs.View.{view};
 
 use crate::defects::Defect;
 use crate::fields::{LineError, op};
+use crate::objects::Object;
+use crate::plain::read_plain_object;
+use json::Scratch;
 use serde_json::Value;
 use std::alloc::Global;
 
@@ -26,7 +30,24 @@ pub trait LineReader {
         ensures { Gives result (says self.now op.now (view line.now)) };
 }
 
-fn read_object<K: LineReader>(alloc: Global, reader: &K, line: &Value) -> Result<K::Line, LineError>
+/// A reader of lines of one kind, as [`LineReader`] is one, to which the object of each is given as it was read, mostly without
+/// a tree of values.
+pub trait ObjectReader {
+    /// What a line asks for.
+    type Line: Drop;
+
+    // What an object with this op asks for, if it is readable.
+    ghost says: { Self → List ℕ → Data → Option Self.Line };
+
+    /// What is wrong with a line whose op isn't one of this kind.
+    const UNKNOWN_OP: Defect;
+
+    /// What the object with this op asks for.
+    fn read(&self, alloc: Global, op: &str, line: &Object<'_>) -> Result<Self::Line, LineError>
+        ensures { Gives result (says self.now op.now (object_data line.now)) };
+}
+
+fn read_tree<K: LineReader>(alloc: Global, reader: &K, line: &Value) -> Result<K::Line, LineError>
     ensures { Gives result (object_by (K.says reader.now) (view line.now)) }
 {
     if !line.is_object() {
@@ -73,5 +94,48 @@ pub fn read_line<K: LineReader>(
         return Ok(None);
     }
     let value = read_json(alloc, bytes)?;
-    Ok(Some(read_object(alloc, reader, &value)?))
+    Ok(Some(read_tree(alloc, reader, &value)?))
+}
+
+fn read_object<K: ObjectReader>(
+    alloc: Global,
+    reader: &K,
+    line: &Object<'_>,
+) -> Result<K::Line, LineError>
+    ensures { Gives result (object_by (K.says reader.now) (object_data line.now)) }
+{
+    reader.read(alloc, line.op(K::UNKNOWN_OP)?, line)
+}
+
+/// What is on a line that isn't blank, read as a tree of values.
+fn read_any_object<K: ObjectReader>(
+    alloc: Global,
+    reader: &K,
+    bytes: &[u8],
+) -> Result<K::Line, LineError>
+    ensures { Gives result (option_and_then (object_by (K.says reader.now)) (json_of bytes.now)) }
+{
+    let value = read_json(alloc, bytes)?;
+    if !value.is_object() {
+        return Err(LineError::Unreadable(Defect::NotAnObject));
+    }
+    read_object(alloc, reader, &Object::of_value(&value))
+}
+
+/// What is on a line, nothing on a blank one.
+pub fn read_object_line<K: ObjectReader>(
+    alloc: Global,
+    reader: &K,
+    scratch: &mut Scratch,
+    bytes: &[u8],
+) -> Result<Option<K::Line>, LineError>
+    ensures { Gives result (line_by (K.says reader.now) bytes.now) }
+{
+    if is_blank_line(bytes) {
+        return Ok(None);
+    }
+    if let Some(object) = read_plain_object(alloc, bytes, scratch)? {
+        return Ok(Some(read_object(alloc, reader, &object)?));
+    }
+    Ok(Some(read_any_object(alloc, reader, bytes)?))
 }

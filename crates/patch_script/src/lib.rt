@@ -9,11 +9,16 @@ pub mod fields;
 mod forms;
 mod kinds;
 mod lines;
+mod objects;
+mod plain;
 mod reading;
 mod scripts;
 
 pub use answers::{Answer, answer_line, push_hex};
 pub use defects::{Defect, Name};
 pub use forms::{Line, Span};
-pub use kinds::LineReader;
-pub use scripts::{MAX_BYTES, MAX_LINES, ScriptError, passes_limit, read_lines, read_script};
+pub use kinds::{LineReader, ObjectReader};
+pub use objects::Object;
+pub use scripts::{
+    MAX_BYTES, MAX_LINES, ScriptError, passes_limit, read_lines, read_objects, read_script,
+};

@@ -6,9 +6,10 @@ ghost use Rattle.patch_script.specs.Script.{script_of, is_too_long};
 use crate::defects::Defect;
 use crate::fields::LineError;
 use crate::forms::Line;
-use crate::kinds::{LineReader, read_line};
+use crate::kinds::{LineReader, ObjectReader, read_line, read_object_line};
 use crate::lines::Lines;
 use crate::reading::ReplayLines;
+use json::Scratch;
 use std::alloc::Global;
 
 /// The most bytes of a script.
@@ -64,10 +65,41 @@ pub fn read_lines<K: LineReader>(
     Ok(lines)
 }
 
+/// What the lines of a script ask for as this reader reads their objects, blank ones nothing.
+pub fn read_objects<K: ObjectReader>(
+    alloc: Global,
+    reader: &K,
+    text: &[u8],
+) -> Result<Vec<K::Line>, ScriptError>
+    requires { length (lines_of text.now) ≤ MAX_LINES }
+    ensures { Reads result (lines_by (K.says reader.now) text.now) }
+{
+    let mut scratch = Scratch::new(alloc);
+    let mut found = Vec::new(alloc);
+    let mut number = 0;
+    for bytes in Lines::of(text) {
+        number += 1;
+        match read_object_line(alloc, reader, &mut scratch, bytes) {
+            Ok(None) => (),
+            Ok(Some(line)) => {
+                if found.push(line).is_err() {
+                    return Err(ScriptError::OutOfMemory);
+                }
+            }
+            Err(LineError::Unreadable(defect)) => {
+                let line = number;
+                return Err(ScriptError::BadLine { line, defect });
+            }
+            Err(LineError::OutOfMemory) => return Err(ScriptError::OutOfMemory),
+        }
+    }
+    Ok(found)
+}
+
 /// What the lines of a replay script ask for, blank ones nothing.
 pub fn read_script(alloc: Global, text: &[u8]) -> Result<Vec<Line>, ScriptError>
     requires { length (lines_of text.now) ≤ MAX_LINES }
     ensures { Reads result (script_of text.now) }
 {
-    read_lines(alloc, &ReplayLines, text)
+    read_objects(alloc, &ReplayLines, text)
 }

@@ -1,0 +1,212 @@
+//! Lines of many forms, which are read from their objects as from trees of values: what they ask for, and what is wrong with them.
+use crate::tree_lines::{read_shared_tree_commands, read_tree_commands};
+use patch_commands::{CommandLine, ScriptError, read_commands, read_shared_commands};
+use patch_script::passes_limit;
+use std::alloc::{AllocError, Global};
+use std::process::Abort;
+use std::test::Fail;
+
+/// How a member of a line's object is changed.
+#[derive(Clone, Copy)]
+enum Change {
+    Instead,
+    Before,
+    Behind,
+    Without,
+}
+
+const CHANGES: [Change; 4] = [
+    Change::Instead,
+    Change::Before,
+    Change::Behind,
+    Change::Without,
+];
+
+const OPS: [&str; 13] = [
+    "\"put\"",
+    "\"get\"",
+    "\"delete\"",
+    "\"reclaim\"",
+    "\"group\"",
+    "\"engage\"",
+    "\"disengage\"",
+    "\"depend\"",
+    "\"close\"",
+    "\"pending\"",
+    "\"sync\"",
+    "\"fly\"",
+    "7",
+];
+
+const MEMBERS: [(&str, &str); 7] = [
+    ("key", "\"k\""),
+    ("hex", "\"0aff\""),
+    ("times", "2"),
+    ("extent", "3"),
+    ("writer", "1"),
+    ("group", "6"),
+    ("on", "7"),
+];
+
+const VALUES: [&str; 34] = [
+    "0",
+    "7",
+    "8",
+    "4294967295",
+    "4294967296",
+    "18446744073709551616",
+    "-1",
+    "-0",
+    "1.0",
+    "1e0",
+    "1e999",
+    "01",
+    "null",
+    "true",
+    "false",
+    "\"\"",
+    "\"00\"",
+    "\"0\"",
+    "\"0g\"",
+    "\"\\u0030\\u0030\"",
+    "\"\\ud800\"",
+    "\"patch\"",
+    "[]",
+    "[0]",
+    "[0,4294967295,1,2,3,4,5,6,7]",
+    "[4294967296]",
+    "[-1]",
+    "[1.0]",
+    "[\"0\"]",
+    "[[]]",
+    "[0,]",
+    "{}",
+    "{\"a\":0}",
+    "",
+];
+
+fn push_member(text: &mut String, name: &str, value: &str) -> Result<(), AllocError> {
+    write!(text, ",\"{name}\":{value}")
+}
+
+fn push_changed(
+    text: &mut String,
+    member: (&str, &str),
+    value: &str,
+    change: Change,
+) -> Result<(), AllocError> {
+    let (name, good) = member;
+    match change {
+        Change::Instead => push_member(text, name, value),
+        Change::Before => {
+            push_member(text, name, value)?;
+            push_member(text, name, good)
+        }
+        Change::Behind => {
+            push_member(text, name, good)?;
+            push_member(text, name, value)
+        }
+        Change::Without => Ok(()),
+    }
+}
+
+/// A line of an op whose member at a place is changed.
+fn changed_line(
+    alloc: Global,
+    op: &str,
+    place: usize,
+    value: &str,
+    change: Change,
+) -> Result<String, AllocError> {
+    let mut text = String::new(alloc);
+    write!(text, "{{\"op\":{op}")?;
+    for (at, member) in MEMBERS.iter().enumerate() {
+        if at == place {
+            push_changed(&mut text, *member, value, change)?;
+        } else {
+            push_member(&mut text, member.0, member.1)?;
+        }
+    }
+    write!(text, "}}")?;
+    Ok(text)
+}
+
+/// What is told of a script that was read.
+fn told(alloc: Global, read: Result<Vec<CommandLine>, ScriptError>) -> Result<String, AllocError> {
+    let mut text = String::new(alloc);
+    match read {
+        Ok(lines) => {
+            for line in lines.as_slice() {
+                writeln!(text, "{line:?}")?;
+            }
+        }
+        Err(error) => writeln!(text, "{error:?}")?,
+    }
+    Ok(text)
+}
+
+fn expect_same(rt: &impl Abort, alloc: Global, text: &[u8]) -> Result<(), AllocError> {
+    if passes_limit(text) {
+        return Ok(());
+    }
+    let from_objects = told(alloc, read_commands(alloc, text))?;
+    let from_trees = told(alloc, read_tree_commands(alloc, text))?;
+    assert_eq!(rt; from_objects.as_str(), from_trees.as_str());
+    let from_objects = told(alloc, read_shared_commands(alloc, text, 2))?;
+    let from_trees = told(alloc, read_shared_tree_commands(alloc, text, 2))?;
+    assert_eq!(rt; from_objects.as_str(), from_trees.as_str());
+    Ok(())
+}
+
+fn expect_same_of(rt: &impl Abort, alloc: Global, op: &str) -> Result<(), AllocError> {
+    for place in 0..MEMBERS.len() {
+        for (at, value) in VALUES.iter().enumerate() {
+            let change = CHANGES[(at + place) % CHANGES.len()];
+            let line = changed_line(alloc, op, place, *value, change)?;
+            expect_same(rt, alloc, line.as_bytes())?;
+        }
+    }
+    Ok(())
+}
+
+#[test]
+fn changed_lines_are_read_from_objects_as_from_trees(rt: HostRuntime) -> Result<(), Fail> {
+    let alloc = rt.alloc();
+    for op in OPS.iter() {
+        expect_same_of(&rt, alloc, *op)?;
+    }
+    Ok(())
+}
+
+const LINES: [&str; 6] = [
+    "{\"op\":\"put\",\"key\":\"k\",\"hex\":\"0aff\",\"times\":524288,\"writer\":1}",
+    "{\"op\":\"put\",\"key\":\"\\u00e9\\n\",\"hex\":\"00\",\"times\":4294967295,\"colour\":{}}",
+    " {\"op\" : \"get\" , \"key\" : \"ab\" , \"writer\" : 2 } ",
+    "{\"op\":\"reclaim\",\"extent\":0,\"extent\":1,\"x\":0,\"y\":1,\"z\":2,\"u\":3,\"v\":4,\"w\":[5,6.0]}",
+    "{\"op\":\"sync\",\"group\":6,\"é\":\"é\"}",
+    "{\"op\":\"sync\",\"group\":6,\"writer\":9}",
+];
+
+/// The first bytes of a line, and the others once more behind something else.
+fn expect_same_pieces(rt: &impl Abort, alloc: Global, line: &[u8]) -> Result<(), AllocError> {
+    for end in 0..line.len() {
+        expect_same(rt, alloc, &line[..end])?;
+        expect_same(rt, alloc, &line[end..])?;
+        let mut other = Vec::from_slice(alloc, line)?;
+        other[end] = b'7';
+        expect_same(rt, alloc, other.as_slice())?;
+        other[end] = 0xff;
+        expect_same(rt, alloc, other.as_slice())?;
+    }
+    Ok(())
+}
+
+#[test]
+fn pieces_of_lines_are_read_from_objects_as_from_trees(rt: HostRuntime) -> Result<(), Fail> {
+    let alloc = rt.alloc();
+    for line in LINES.iter() {
+        expect_same(&rt, alloc, line.as_bytes())?;
+        expect_same_pieces(&rt, alloc, line.as_bytes())?;
+    }
+    Ok(())
+}
