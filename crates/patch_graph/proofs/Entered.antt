@@ -1,8 +1,8 @@
 -- The graph with one more class.
-use Rattle.std.proofs.Common.{◌≡◌, ℕ, ◌+◌, ◌∙◌, ◌<◌, ◌≤◌, arith, refl, inl, inr, Bool, List, ◌++◌, map, sym, ap, subst}
-use Rattle.std.specs.Prelude.{nat_lt}
-use Rattle.std.specs.List.{filter}
-use Rattle.std.proofs.lemmas.Bool.{cases_eq, lt-ltb, ltb-true}
+use Rattle.std.proofs.Common.{◌≡◌, ℕ, ◌+◌, ◌∙◌, ◌<◌, ◌≤◌, arith, refl, inl, inr, Bool, true, List, [], ◌∷◌, ◌++◌, map, sym, ap, subst}
+use Rattle.std.specs.Prelude.{◌&&◌, nat_lt}
+use Rattle.std.specs.List.{filter, list_all}
+use Rattle.std.proofs.lemmas.Bool.{both_ways, cases_Bool, cases_eq, lt-ltb, ltb-true}
 use Rattle.patch_model.specs.declared.patches.Undo.{Undo}
 use Rattle.patch_links.specs.State.{Class, Links, find}
 use Rattle.patch_links.specs.Adding.{IsAdded as IsLinked}
@@ -13,6 +13,14 @@ use Rattle.patch_graph.specs.Skyline.{Skylines, spans_of, IsLaidOn}
 use Rattle.patch_skyline.specs.Skyline.{AreTops, IsTopWithin}
 use Rattle.patch_graph.proofs.ReadySet.{In-left, In-right, In-parts}
 use Rattle.patch_graph.specs.Adding.{AreDependencies, is_hard, new_class, IsAdded, IsDrawnUp, HasAdded}
+
+-- of numbers that pass, none is left out
+pub all-stay : {X : Type 0} (p : X → Bool) (xs : List X) → list_all p xs ≡ true → filter p xs ≡ xs
+all-stay p [] all = refl
+all-stay p (x ∷ xs) all = elim (cases_Bool (p x)) [
+  | inl is ↦ rw is (ap (λ ys. x ∷ ys) (all-stay p xs (rw is at all)))
+  | inr off ↦ absurd (both_ways _ (ap (λ b. b && list_all p xs) off) all)
+]
 
 -- the numbers that are named, and then those of the spans, where they are below that of the patch
 pub depends-on : (made : ℕ) (ss those : List Span) (start stop : ℕ) (after all : List ℕ) → AreTops ss start stop those

@@ -28,7 +28,7 @@ fn push_below<A: Allocator>(made: u32, no: PatchNo, all: &mut NumberList<A>)
     }
 }
 
-/// Puts numbers behind the others, of those that are below this one.
+/// Puts numbers behind the others, of those that are below this one: mostly all are, and are copied at once.
 fn push_numbers<A: Allocator>(
     made: u32,
     numbers: &[PatchNo],
@@ -37,10 +37,21 @@ fn push_numbers<A: Allocator>(
     ensures { OnOk result (all.new.items ≡ all.old.items ++ filter (λ n. nat_lt n made) numbers.now) }
 {
     all.reserve(numbers.len())?;
+    if are_below(made, numbers) {
+        all.extend_reserved(numbers);
+        return Ok(());
+    }
     for no in numbers {
         push_below(made, *no, all);
     }
     Ok(())
+}
+
+/// Whether all of these are below this one.
+fn are_below(made: u32, numbers: &[PatchNo]) -> bool
+    ensures { result ≡ list_all (λ n. nat_lt n made) numbers.now }
+{
+    numbers.iter().all(|no| no.0 < made)
 }
 
 /// The same of the numbers of spans.

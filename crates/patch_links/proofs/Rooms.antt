@@ -11,7 +11,7 @@ use Rattle.patch_links.specs.State.{Node, Nodes, Numbers, find, leads_at, node_a
 use Rattle.patch_links.specs.Waiting.{of_block, ready_in, is_unmet, unmet_of}
 use Rattle.patch_links.specs.Lists.{OfBlock, Blocks, of_at, once, due_in, flying_in, IsListed, AreListed, AreSettled}
 use Rattle.patch_links.specs.Standing.{has_member, names, AreBelow, Stands}
-use Rattle.patch_links.specs.Adding.{with_room, IsRoomier, HasRoom, HasRoomTo, HasRoomForAll, followed, followed_to, told, retold, AreFollowed, KeepsLists}
+use Rattle.patch_links.specs.Adding.{with_room, IsRoomier, HasRoom, HasRoomTo, HasRoomForAll, followed, followed_to, told, retold, AreFollowed, KeepsLists, LeadNowhere}
 use Rattle.patch_links.specs.Joining.{AreTied}
 use Rattle.patch_links.proofs.Counts.{count-cons, count-last}
 use Rattle.patch_links.proofs.Places.{cases_option, same_some, below-nodes, changed-here, changed-else, changed-long}
@@ -80,6 +80,45 @@ pub record AreReserved (numbers : Numbers) (more : ℕ) (after : List ℕ) (old 
 
 pub reserved-none : (numbers : Numbers) (more : ℕ) (after : List ℕ) (nodes : Nodes) → AreReserved numbers more after nodes nodes 0
 reserved-none numbers more after nodes = record { roomier = roomier-same nodes; room = λ n i. absurd i }
+
+-- the first numbers lead nowhere
+pub gone-none : (numbers : Numbers) (after : List ℕ) → LeadNowhere numbers after 0
+gone-none numbers after = record { within = omega arith; gone = λ n i. absurd i }
+
+pub gone-more : (numbers : Numbers) (after : List ℕ) (place n : ℕ) → LeadNowhere numbers after place → place < length after → slice_index_or after place 0 ≡ n → find numbers n ≡ None
+    → LeadNowhere numbers after (place + 1)
+gone-more numbers after place n p h at none = record {
+  within = omega (arith, h);
+  gone = λ m i. elim (in-more after place m n h at (subst (λ j. In (take j after) m) (let e : place + 1 ≡ suc place = omega arith in e) i)) [
+    | inl g ↦ p.gone m g
+    | inr e ↦ ap (find numbers) (sym e) ∙ none
+  ];
+}
+
+pub reserved-gone : (numbers : Numbers) (more : ℕ) (after : List ℕ) (nodes : Nodes) (count : ℕ) → LeadNowhere numbers after count → AreReserved numbers more after nodes nodes count
+reserved-gone numbers more after nodes count p = record { roomier = roomier-same nodes; room = λ n i key led. let none = p.gone n i in absurd (cc) }
+
+none-pass : (test : ℕ → Bool) (xs : List ℕ) → ((n : ℕ) → In xs n → test n ≡ false) → count_by test xs ≡ 0
+none-pass test [] none = refl
+none-pass test (x ∷ xs) none =
+    let rest = none-pass test xs (λ n i. none n (inr i)) in
+    let all = count-cons test x xs in
+    let one : once (test x) ≡ 0 = ap once (none x (inl refl)) in omega (arith, rest, all, one)
+
+pub unmet-gone : (numbers : Numbers) (nodes : Nodes) (key block : ℕ) (after : List ℕ) (count : ℕ) → LeadNowhere numbers after count → count_by (is_unmet nodes numbers key block) (take count after) ≡ 0
+unmet-gone numbers nodes key block after count p =
+    none-pass (is_unmet nodes numbers key block) (take count after) (λ n i. ap (λ o. option_map_or (λ j. not (j == key) && not (is_at (ready_in block) nodes j)) o false) (p.gone n i))
+
+pub followed-gone : (numbers : Numbers) (m : ℕ) (after : List ℕ) (nodes : Nodes) (count : ℕ) → LeadNowhere numbers after count → AreFollowed numbers m (take count after) nodes nodes
+followed-gone numbers m after nodes count p = record {
+  long = refl;
+  at = λ k. sym (by (node_at nodes k)) ∙ ap (λ c. option_map (retold m c) (node_at nodes k)) (sym (none-pass (leads_at numbers k) (take count after)
+      (λ n i. ap (λ o. option_map_or (λ j. j == k) o false) (p.gone n i))));
+}
+  where
+    by : (o : Option Node) → option_map (retold m 0) o ≡ o
+    by None = refl
+    by (Some x) = refl
 
 pub reserved-more : (numbers : Numbers) (more : ℕ) (after : List ℕ) (old mid new : Nodes) (place n : ℕ) → AreReserved numbers more after old mid place → place < length after → slice_index_or after place 0 ≡ n
     → IsRoomier mid new → HasRoomTo numbers more n new → AreReserved numbers more after old new (place + 1)

@@ -1,5 +1,5 @@
 -- What one more class adds.
-use Rattle.std.specs.Prelude.{ℕ, zero, suc, false, count_by, ◌≡◌, ◌≢◌, ◌<◌, ◌≤◌, ◌+◌, [], ◌∷◌, ◌++◌, List, length, Some, None}
+use Rattle.std.specs.Prelude.{ℕ, zero, suc, false, count_by, ◌≡◌, ◌≢◌, ◌<◌, ◌≤◌, ◌+◌, [], ◌∷◌, ◌++◌, List, length, take, Some, None}
 use Rattle.patch_model.specs.declared.patches.Mark.TheVariants.{Memory}
 use Rattle.patch_model.specs.Member.{In}
 use Rattle.patch_links.specs.State.{Class, Links, Node, Nodes, Slots, Numbers, find, class_at, leads_at, node_at, slots_of, changed_at}
@@ -37,6 +37,11 @@ pub record IsRoomier (old new : Nodes) : Type 0 where
   pub slots : slots_of new ≡ slots_of old
   pub same : (k : ℕ) → option_map (with_room 0) (node_at new k) ≡ option_map (with_room 0) (node_at old k)
   pub grows : (k : ℕ) (x y : Node) → node_at old k ≡ Some x → node_at new k ≡ Some y → x.room ≤ y.room
+
+-- so many of these numbers, from the first on, lead to no class
+pub record LeadNowhere (numbers : Numbers) (after : List ℕ) (count : ℕ) : Type 0 where
+  pub within : count ≤ length after
+  pub gone : (n : ℕ) → In (take count after) n → find numbers n ≡ None
 
 -- there is room for so many more followers of the class at the key
 abbrev pub HasRoom : ℕ → ℕ → Nodes → Type 0

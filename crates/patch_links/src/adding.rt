@@ -8,7 +8,7 @@ ghost use Rattle.patch_links.specs.State.{changed_at, find, is_at, slots_of};
 ghost use Rattle.patch_links.specs.Waiting.{is_unmet, ready_in, AreCounted, AreLinked};
 ghost use Rattle.patch_links.specs.Lists.{IsListed, IsSettled, AreListed, AreSettled};
 ghost use Rattle.patch_links.specs.Standing.{AreBelow, KeepsBare, KeepsOwed, KeepsRest, Stands};
-ghost use Rattle.patch_links.specs.Adding.{followed, followed_to, AreFollowed, HasLists, HasPut, HasRoom, HasRoomForAll, HasRoomTo, IsEnlisting, IsJoining, IsNewClass, IsRoomier, KeepsLists};
+ghost use Rattle.patch_links.specs.Adding.{followed, followed_to, AreFollowed, HasLists, HasPut, HasRoom, HasRoomForAll, HasRoomTo, IsEnlisting, IsJoining, IsNewClass, IsRoomier, KeepsLists, LeadNowhere};
 
 use crate::admitting::admit_all;
 use crate::lists::{Blocks, OfBlock};
@@ -55,6 +55,21 @@ fn reserve_to<A: Allocator>(
     }
 }
 
+/// How many of these numbers, from the first on, are below all that lead to a class. A patch of a group names all that the
+/// groups before it wrote, and most of those are often durable.
+fn count_gone<A: Allocator>(keys: &Keys<A>, numbers: &[PatchNo]) -> usize
+    ensures { LeadNowhere (entries_of keys.now) numbers.now result }
+{
+    let lowest = keys.lowest();
+    for at in 0..numbers.len() {
+        let no = numbers[at];
+        if no.0 as usize >= lowest {
+            return at;
+        }
+    }
+    numbers.len()
+}
+
 /// The same of the classes that these numbers lead to, for as many as there are numbers.
 fn reserve_all<A: Allocator>(
     nodes: &mut Nodes<A>,
@@ -66,8 +81,8 @@ fn reserve_all<A: Allocator>(
     ensures next { nodes.new.vacant_key ≡ nodes.old.vacant_key }
 {
     let more = after.len();
-    for no in after {
-        reserve_to(nodes, keys, *no, more)?;
+    for at in count_gone(keys, after)..more {
+        reserve_to(nodes, keys, after[at], more)?;
     }
     Ok(())
 }
@@ -134,8 +149,8 @@ fn follow_all<A: Allocator>(
     ensures next { nodes.new.vacant_key ≡ nodes.old.vacant_key }
 {
     let mut unmet = 0;
-    for no in after {
-        if follow_to(nodes, keys, key, block, *no, follower) {
+    for at in count_gone(keys, after)..after.len() {
+        if follow_to(nodes, keys, key, block, after[at], follower) {
             unmet += 1;
         }
     }

@@ -224,6 +224,30 @@ fn a_chain_goes_link_by_link(rt: HostRuntime) -> Result<(), Fail> {
     expect_ready(&rt, &pair, 0, &[2])
 }
 
+// Two hundred patches are made durable. One that names them all, and a live one behind them, waits for that one alone; so does
+// one that names the live one first.
+#[test]
+fn durable_patches_keep_nothing_out(rt: HostRuntime) -> Result<(), Fail> {
+    let mut pair = Pair::new(rt.alloc());
+    let mut after = Vec::new(rt.alloc());
+    for no in 0..200 {
+        pair.add(&rt, 0, &[])?;
+        pair.fly(0)?;
+        pair.land(0);
+        after.push(no)?;
+    }
+    pair.add(&rt, 1, &[])?;
+    after.push(200)?;
+    pair.add(&rt, 0, after.as_slice())?;
+    pair.add(&rt, 0, &[200, 3, 199])?;
+    expect_ready(&rt, &pair, 0, &[])?;
+    pair.expect(&rt)?;
+    pair.fly(1)?;
+    pair.land(1);
+    expect_ready(&rt, &pair, 0, &[201, 202])?;
+    pair.expect(&rt)
+}
+
 // A diamond within a block is ready at once; with one side elsewhere, its top waits for that.
 #[test]
 fn a_diamond_waits_for_both_sides(rt: HostRuntime) -> Result<(), Fail> {

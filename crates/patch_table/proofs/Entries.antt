@@ -1,10 +1,10 @@
 -- The entries of a table, and the key of each number.
-use Rattle.std.proofs.Common.{◌≡◌, ℕ, zero, suc, ◌∙◌, ◌+◌, ◌*◌, ◌/◌, ◌%◌, ◌<◌, ◌≤◌, inl, inr, true, false, List, [], ◌∷◌, ◌++◌, take, refl, ap, arith, Option, None, Some}
+use Rattle.std.proofs.Common.{◌≡◌, ℕ, zero, suc, ◌∙◌, ◌+◌, ◌*◌, ◌/◌, ◌%◌, ◌<◌, ◌≤◌, inl, inr, true, false, List, [], ◌∷◌, ◌++◌, take, refl, sym, ap, arith, Option, None, Some}
 use Rattle.std.specs.Prelude.{slice_set, nat_eq, is_some, if◌then◌else◌}
 use Rattle.std.specs.Map.{lookup}
 use Rattle.std.proofs.Math.Nat.{div-add-mod}
 use Rattle.std.proofs.lemmas.Bool.{ne_eqb, eq-eqb, cases_eq, both_ways}
-use Rattle.patch_table.specs.Table.{cell_at, page_at, key_of, cells_from, pages_from, entries_of}
+use Rattle.patch_table.specs.Table.{cell_at, page_at, key_of, cells_from, pages_from, entries_of, AreUnused}
 
 -- the number of no cell
 cells-before : (cells : List (Option ℕ)) (n m : ℕ) → n < m → lookup (nat_eq n) (cells_from m cells) ≡ None
@@ -69,6 +69,10 @@ pages-at (page ∷ pages) n at (suc i) j e h =
 
 pub found : (pages : List (List (Option ℕ))) (n : ℕ) → lookup (nat_eq n) (entries_of pages) ≡ key_of pages n
 found pages n = let parts = div-add-mod n 64 in pages-at pages n 0 (n / 64) (n % 64) (omega arith) (omega arith)
+
+-- pages with the same entries are as unused
+pub unused-alike : (count : ℕ) (old new : List (List (Option ℕ))) → entries_of new ≡ entries_of old → AreUnused count old → AreUnused count new
+unused-alike count old new same none n less = sym (found new n) ∙ ap (lookup (nat_eq n)) same ∙ found old n ∙ none n less
 
 nothing-taken : (k m : ℕ) → cells_from m (take k []) ≡ []
 nothing-taken zero m = refl

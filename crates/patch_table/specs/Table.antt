@@ -42,3 +42,7 @@ entry_of pages n = lookup (nat_eq n) (entries_of pages)
 -- the cells have the entries that they had, whatever number is the first one's
 abbrev pub HasSameEntries : List (Option ℕ) → List (Option ℕ) → Type 0
 HasSameEntries old new = (m : ℕ) → cells_from m (take 64 new) ≡ cells_from m (take 64 old)
+
+-- no number has a key that belongs on one of so many pages at the front
+abbrev pub AreUnused : ℕ → List (List (Option ℕ)) → Type 0
+AreUnused count pages = (n : ℕ) → n < 64 * count → key_of pages n ≡ None

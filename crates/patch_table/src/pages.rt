@@ -1,5 +1,5 @@
 //! A page of a table: the keys of so many numbers in a row.
-ghost use Rattle.std.specs.Prelude.{◌≡◌, ◌≢◌, ◌<◌, ◌≤◌, ℕ, [], None, length, slice_set, is_some, count_by, OnOk};
+ghost use Rattle.std.specs.Prelude.{◌≡◌, ◌≢◌, ◌<◌, ◌≤◌, ℕ, [], None, true, length, slice_set, is_some, count_by, OnOk};
 ghost use Rattle.patch_table.specs.Table.{cell_at, HasSameCells, HasSameEntries};
 
 use std::alloc::{AllocError, Allocator, Global};
@@ -45,6 +45,13 @@ impl<A: Allocator> Page<A> {
             Some(cell) => *cell,
             None => None,
         }
+    }
+
+    /// Whether no cell has a key.
+    pub fn is_unused(&self) -> bool
+        ensures { result ≡ true → (place : ℕ) → cell_at self.now place ≡ None }
+    {
+        self.used == 0
     }
 
     /// Gives it its cells, where it has none.

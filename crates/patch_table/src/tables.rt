@@ -1,7 +1,7 @@
 //! Which key belongs to each of some numbers.
 ghost use Rattle.std.specs.Prelude.{◌≡◌, ◌≢◌, ◌<◌, ◌≤◌, ℕ, [], None, Some, length, OnOk};
 ghost use Rattle.std.specs.Option.{option_map};
-ghost use Rattle.patch_table.specs.Table.{page_at, key_of, entries_of, entry_of, HasRoomAt};
+ghost use Rattle.patch_table.specs.Table.{page_at, key_of, entries_of, entry_of, HasRoomAt, AreUnused};
 
 use crate::pages::{Page, WIDTH};
 use std::alloc::{AllocError, Allocator, Global};
@@ -13,14 +13,19 @@ use std::marker::Model;
 pub struct Table<A: Allocator = Global> {
     alloc: A,
     pages: Vec<Page<A>, A>,
+    /// On so many pages at the front no number has a key. There may be more of them.
+    unused: usize,
 }
 
 impl<A: Allocator> Model for Table<A> {
     ghost use Rattle.std.specs.Prelude.{List, Option, ℕ};
+    ghost use Rattle.patch_table.specs.Table.{AreUnused};
 
     ghost Value = { List (List (Option ℕ)) };
 
     ghost view = { λ t. t.pages.items };
+
+    ghost invariant = { λ t. AreUnused t.unused t.pages.items };
 }
 
 impl<A: Allocator + Copy> Table<A> {
@@ -31,6 +36,7 @@ impl<A: Allocator + Copy> Table<A> {
         Table {
             alloc,
             pages: Vec::new(alloc),
+            unused: 0,
         }
     }
 
@@ -63,6 +69,13 @@ impl<A: Allocator> Table<A> {
         }
     }
 
+    /// A number below which none has a key: the first on a page that isn't known to be without any.
+    pub fn lowest(&self) -> usize
+        ensures { (n : ℕ) → n < result → entry_of self.now n ≡ None }
+    {
+        self.unused.saturating_mul(WIDTH)
+    }
+
     /// Gives a number a key.
     pub fn put(&mut self, number: u32, key: usize)
         requires { HasRoomAt self.old number }
@@ -78,8 +91,10 @@ impl<A: Allocator> Table<A> {
         ensures others { (n : ℕ) → n ≢ number → key_of self.new n ≡ key_of self.old n }
     {
         let number = number as usize;
-        let page = &mut self.pages[number / WIDTH];
+        let at = number / WIDTH;
+        let page = &mut self.pages[at];
         page.set(number % WIDTH, Some(key));
+        self.unused = self.unused.min(at);
     }
 
     /// Gives a number another key, if it has one.
@@ -118,6 +133,19 @@ impl<A: Allocator> Table<A> {
         let is_last = at + 1 == self.pages.len();
         let page = &mut self.pages[at];
         page.clear(number as usize % WIDTH, !is_last);
+        self.pass_unused();
+    }
+
+    /// Passes over a page where no number has a key any more, the first of those that aren't known to be so. One page at a time is
+    /// enough: each has as many numbers as keys are taken away before it is passed over.
+    fn pass_unused(&mut self)
+        ensures { self.new ≡ self.old }
+    {
+        if let Some(page) = self.pages.get(self.unused) {
+            if page.is_unused() {
+                self.unused += 1;
+            }
+        }
     }
 }
 

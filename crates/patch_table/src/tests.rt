@@ -48,3 +48,24 @@ fn a_number_loses_its_key_alone(rt: HostRuntime) -> Result<(), Fail> {
     assert_eq!(rt; table.get(200), None);
     Ok(())
 }
+
+#[test]
+fn pages_without_keys_are_below_the_lowest(rt: HostRuntime) -> Result<(), Fail> {
+    let mut table = Table::new(rt.alloc());
+    for number in 0..200 {
+        put(&mut table, number, 1)?;
+    }
+    assert_eq!(rt; table.lowest(), 0);
+    for number in 0..64 {
+        table.remove(number);
+    }
+    assert_eq!(rt; table.lowest(), 64);
+    for number in 64..200 {
+        table.remove(number);
+    }
+    assert_eq!(rt; table.lowest(), 256);
+    put(&mut table, 70, 5)?;
+    assert_eq!(rt; table.lowest(), 64);
+    assert_eq!(rt; table.get(70), Some(5));
+    Ok(())
+}
