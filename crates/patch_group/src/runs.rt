@@ -62,8 +62,10 @@ fn list_from<A: Allocator>(
     ensures { OnOk result (listed.new.items ≡ listed.old.items ++ numbers_from next run.now) }
 {
     let first = u64::from(run.first.min(run.last)).max(next);
-    for no in first..u64::from(run.last) + 1 {
-        listed.push(PatchNo(no as u32))?;
+    let end = u64::from(run.last) + 1;
+    listed.reserve(end.saturating_sub(first) as usize)?;
+    for no in first..end {
+        listed.push_reserved(PatchNo(no as u32));
     }
     Ok(())
 }

@@ -1,4 +1,5 @@
-use Rattle.std.proofs.Common.{◌≡◌, ◌-◌, ◌+◌, ◌++◌, ◌<◌}
+use Rattle.std.proofs.Common.{◌≡◌, ◌-◌, ◌+◌, ◌++◌, ◌<◌, ◌≤◌}
+use Rattle.std.specs.Prelude.{vec_len, vec_capacity}
 use Rattle.std.specs.List.{range_with_len}
 use Rattle.patch_group.proofs.runs.list_from.Given as goal
 
@@ -6,4 +7,5 @@ abbrev pub invariant-loop-no : goal.invariant-loop-no
 invariant-loop-no g l = record {
   listed : l.listed.items ≡ l.fn.listed.items ++ range_with_len l.first (l.no - l.first);
   still : l.run.last + 1 < l.first → l.no ≡ l.first;
+  room : vec_len l.listed + (l.end - l.no) ≤ vec_capacity l.listed;
 }
