@@ -2,15 +2,15 @@
 use Rattle.std.proofs.Common.{◌≡◌, ◌≢◌, ℕ, ◌<◌, ◌∙◌, inl, inr, true, false, List, [], ◌∷◌, ◌++◌, length, get_or, set, refl, sym, ap, subst, arith}
 use Rattle.std.specs.Prelude.{◌==◌, ◌&&◌, nat_lt, Option, Some, None, is_some, is_none}
 use Rattle.std.specs.List.{insert, remove}
-use Rattle.std.proofs.lemmas.Bool.{cases_order}
+use Rattle.std.proofs.lemmas.Bool.{cases_Bool, cases_order}
 use Rattle.std.proofs.lemmas.Bool.Decides.{nat_tests}
 use Rattle.std.proofs.lemmas.List.{length-set, get_or-set_same, get_or-set_other, get_or_past, get_or_append_left, length_push}
 use Rattle.std.proofs.Math.Seq.{get_or-append_seam}
 use Rattle.std.proofs.lemmas.List.Edits.{length-insert, length-remove}
 use Rattle.patch_frame.specs.Slot.{SlotFields}
-use Rattle.patch_index.specs.Orders.{comes_before, ranked, key_rank, place_rank, key_in, place_in, unranked, is_used, is_empty, IsPlace, AreOrders, ArePlaces}
+use Rattle.patch_index.specs.Orders.{comes_before, ranked, key_rank, place_rank, key_in, place_in, unranked, is_used, is_empty, IsOrder, IsPlace, AreOrders, ArePlaces, Rises}
 use Rattle.patch_index.proofs.Found.{empty_of}
-use Rattle.patch_index.proofs.Ranked.{IsChange, put_in_order, take_out_of_order, found_at, passes_at, one_self}
+use Rattle.patch_index.proofs.Ranked.{IsChange, put_in_order, take_out_of_order, found_at, passes_at, one_self, alike, alike_order}
 
 -- A slot that changes.
 
@@ -115,6 +115,61 @@ cleared slots s f empty by_key by_place e k p all less is at =
       placed = omega (arith, b, c, placed);
     }
 
+-- A used slot gets another frame of its key.
+
+pub among_places : (slots : List (Option SlotFields)) (s : ℕ) (f : SlotFields) (empty by_key by_place : List ℕ) (p : ℕ) → AreOrders slots empty by_key by_place
+    → get_or slots s None ≡ Some f → IsPlace (place_in slots) (place_rank (Some f), s) by_place p → (p < length by_place) × (get_or by_place p 0 ≡ s)
+among_places slots s f empty by_key by_place p all is place =
+    found_at (place_in slots) (is_used slots) by_place s p all.places (ap is_some is) (subst (λ r. IsPlace (place_in slots) (r, s) by_place p) (sym (ap place_rank is)) place)
+
+-- the other slots by place
+pub others_by_place : (slots : List (Option SlotFields)) (s : ℕ) (f : SlotFields) (empty by_key by_place : List ℕ) (p : ℕ) → AreOrders slots empty by_key by_place → s < length slots
+    → get_or slots s None ≡ Some f → IsPlace (place_in slots) (place_rank (Some f), s) by_place p → IsOrder (place_in slots) (is_used (set slots s None)) (remove by_place p)
+others_by_place slots s f empty by_key by_place p all less is place =
+    let there = among_places slots s f empty by_key by_place p all is place in
+    take_out_of_order (place_in slots) (place_in slots) (is_used slots) (is_used (set slots s None)) by_place s p all.places there.0 there.1
+    (record { ranks = λ n off. refl; others = (place_change slots s None).others }) (ap is_some (get_or-set_same slots s None None less))
+
+pub refilled : (slots : List (Option SlotFields)) (s : ℕ) (f g : SlotFields) (empty by_key by_place : List ℕ) (p q : ℕ) → AreOrders slots empty by_key by_place → s < length slots
+    → get_or slots s None ≡ Some f → g.key ≡ f.key → IsPlace (place_in slots) (place_rank (Some f), s) by_place p
+    → IsPlace (place_in slots) (place_rank (Some g), s) (remove by_place p) q → AreOrders (set slots s (Some g)) empty by_key (insert (remove by_place p) q s)
+refilled slots s f g empty by_key by_place p q all less is key from to =
+    let there = among_places slots s f empty by_key by_place p all is from in
+    let now : get_or (set slots s (Some g)) s None ≡ Some g = get_or-set_same slots s (Some g) None less in
+    let none : get_or (set slots s None) s None ≡ None = get_or-set_same slots s None None less in
+    let inside : s < length (set slots s (Some g)) = subst (λ n. s < n) (sym (length-set slots s (Some g))) less in
+    let a = length-remove by_place p there.0 in
+    let b = length-insert (remove by_place p) q s to.within in
+    let c = length-set slots s (Some g) in
+    let some = there.0 in
+    let counted = all.counted in
+    let placed = all.placed in
+    record {
+      empties = alike_order unranked unranked (is_empty slots) (is_empty (set slots s (Some g))) empty (λ n. refl)
+          (λ n. elim (cases_Bool (n == s)) [
+            | inl same ↦ ap (is_empty (set slots s (Some g))) (alike n s same) ∙ isnt_empty (set slots s (Some g)) s g inside now ∙ sym (isnt_empty slots s f less is) ∙ sym (ap (is_empty slots) (alike n s same))
+            | inr off ↦ (empty_change slots s (Some g)).others n off
+          ]) all.empties;
+      keys = alike_order (key_in slots) (key_in (set slots s (Some g))) (is_used slots) (is_used (set slots s (Some g))) by_key
+          (λ n. elim (cases_Bool (n == s)) [
+            | inl same ↦ ap (key_in (set slots s (Some g))) (alike n s same) ∙ ap key_rank now ∙ key ∙ sym (ap key_rank is) ∙ sym (ap (key_in slots) (alike n s same))
+            | inr off ↦ (key_change slots s (Some g)).ranks n off
+          ])
+          (λ n. elim (cases_Bool (n == s)) [
+            | inl same ↦ ap (is_used (set slots s (Some g))) (alike n s same) ∙ ap is_some now ∙ sym (ap is_some is) ∙ sym (ap (is_used slots) (alike n s same))
+            | inr off ↦ (key_change slots s (Some g)).others n off
+          ]) all.keys;
+      places =
+          put_in_order (place_in slots) (place_in (set slots s (Some g))) (is_used (set slots s None)) (is_used (set slots s (Some g))) (remove by_place p) s q
+          (others_by_place slots s f empty by_key by_place p all less is from) (ap is_some none)
+          (record {
+            ranks = (place_change slots s (Some g)).ranks;
+            others = λ n off. (place_change slots s (Some g)).others n off ∙ sym ((place_change slots s None).others n off);
+          }) (ap is_some now) (subst (λ r. IsPlace (place_in slots) (r, s) (remove by_place p) q) (sym (ap place_rank now)) to);
+      counted = omega (arith, c, counted);
+      placed = omega (arith, a, b, some, placed);
+    }
+
 -- An empty slot more.
 
 same_pushed : (slots : List (Option SlotFields)) (n : ℕ) → get_or (slots ++ None ∷ []) n None ≡ get_or slots n None
@@ -177,6 +232,13 @@ lengthened slots empty by_key by_place all =
     place_same n = ap (λ o. (place_rank o, n)) (same_pushed slots n)
 
 -- of equal lists
+pub same_rise : (slots others : List (Option SlotFields)) (ps by_place : List ℕ) → slots ≡ others → ps ≡ by_place → Rises (place_in slots) ps → Rises (place_in others) by_place
+same_rise slots others ps by_place a b rises = subst (λ x. Rises (place_in others) x) b (subst (λ x. Rises (place_in x) ps) a rises)
+
+pub same_place : (slots others : List (Option SlotFields)) (ps by_place : List ℕ) (it : List ℕ × ℕ) (p : ℕ) → slots ≡ others → ps ≡ by_place → IsPlace (place_in slots) it ps p
+    → IsPlace (place_in others) it by_place p
+same_place slots others ps by_place it p a b at = subst (λ x. IsPlace (place_in others) it x p) b (subst (λ x. IsPlace (place_in x) it ps p) a at)
+
 pub same_places : (slots others : List (Option SlotFields)) (s : ℕ) (f : SlotFields) (es empty ks by_key ps by_place : List ℕ) (e k p : ℕ)
     → slots ≡ others → es ≡ empty → ks ≡ by_key → ps ≡ by_place → ArePlaces slots s f es ks ps e k p → ArePlaces others s f empty by_key by_place e k p
 same_places slots others s f es empty ks by_key ps by_place e k p a b c d at =

@@ -104,6 +104,14 @@ same_before : (rank next : ℕ → List ℕ) (a b : ℕ) → next a ≡ rank a �
 same_before rank next a b first second is =
     ap (λ r. comes_before (r, a) (ranked next b)) first ∙ ap (λ r. comes_before (ranked rank a) (r, b)) second ∙ is
 
+-- the same order, where no slot changes what it is ranked by, and none whether it passes
+pub alike_order : (rank next : ℕ → List ℕ) (passes now : ℕ → Bool) (xs : List ℕ) → ((n : ℕ) → next n ≡ rank n) → ((n : ℕ) → now n ≡ passes n)
+    → IsOrder rank passes xs → IsOrder next now xs
+alike_order rank next passes now xs ranks others o = record {
+  rises = λ i j d less within. same_before rank next (get_or xs i d) (get_or xs j d) (ranks (get_or xs i d)) (ranks (get_or xs j d)) (o.rises i j d less within);
+  members = λ n. o.members n ∙ sym (others n);
+}
+
 -- It is put in.
 
 other_in : (rank : ℕ → List ℕ) (passes : ℕ → Bool) (xs : List ℕ) (s : ℕ) → IsOrder rank passes xs → passes s ≡ false → (k d : ℕ) → k < length xs → (get_or xs k d == s) ≡ false

@@ -2,13 +2,13 @@
 ghost use Rattle.std.specs.Prelude.{◌≡◌, ◌<◌, ◌≤◌, ◌++◌, ◌∷◌, [], Some, None, length, position, is_none, slice_index_or, slice_set, map, IfOk, OnOk, OnErr};
 ghost use Rattle.patch_recovery.specs.Reading.{has_key as is_of};
 ghost use Rattle.patch_index.specs.Reporting.{reported, of_slots, live_bytes, length_told};
-ghost use Rattle.patch_index.specs.Index.{fields_of, told};
+ghost use Rattle.patch_index.specs.Index.{fields_of, key_of, told};
 ghost use Rattle.patch_index.specs.Live.{live_behind};
 
 use crate::entries::Entry;
 use crate::live_slots::LiveSlots;
 use crate::reports::EntryReport;
-use crate::searching::{find_key, live_part, places_of};
+use crate::searching::{find_key, live_part, place_of, places_of};
 use patch_model::OutOfMemory;
 use patch_order::Order;
 use std::alloc::{Allocator, Global};
@@ -153,13 +153,38 @@ impl<A: Allocator> Index<A> {
         LiveSlots::of(live_part(self.slots.as_slice(), self.by_place.as_slice(), extent))
     }
 
-    /// Lets a slot name this frame from now on.
+    /// Lets a slot name this frame from now on. Where it names one of the same key already, only the order by place changes.
     pub fn fill(&mut self, slot: u32, entry: Entry)
         requires { slot < length self.old }
         ensures { self.new ≡ slice_set self.old slot (Some (fields_of entry)) }
     {
+        if let Some(old) = self.slots[slot as usize] {
+            if old.key.as_slice() == entry.key.as_slice() {
+                self.refill(slot, old, entry);
+                return;
+            }
+        }
         self.clear(slot);
         self.occupy(slot, entry);
+    }
+
+    // Lets a slot that names a frame name another one of its key.
+    fn refill(&mut self, slot: u32, old: Entry, entry: Entry)
+        requires there { slot < length self.old }
+        requires used { slice_index_or self.old slot None ≡ Some (fields_of old) }
+        requires key { key_of entry.key ≡ key_of old.key }
+        ensures { self.new ≡ slice_set self.old slot (Some (fields_of entry)) }
+    {
+        let from = place_of(self.slots.as_slice(), self.by_place.as_slice(), slot, &old);
+        self.by_place.remove(from);
+        let to = place_of(
+            self.slots.as_slice(),
+            self.by_place.as_slice(),
+            slot,
+            &entry,
+        );
+        self.by_place.insert(to, slot as u16);
+        self.slots[slot as usize] = Some(entry);
     }
 
     /// Empties a slot.

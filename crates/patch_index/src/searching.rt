@@ -1,11 +1,11 @@
 //! Where a slot stands in an order, or would: found by halves.
-ghost use Rattle.std.specs.Prelude.{◌≡◌, ◌≤◌, ◌∷◌, [], length, map, nat_lt, position};
+ghost use Rattle.std.specs.Prelude.{◌≡◌, ◌≤◌, ◌∷◌, [], Some, length, map, nat_lt, position};
 ghost use Rattle.std.specs.Cmp.Lexicographic.{slice_cmp};
 ghost use Rattle.std.specs.Ordering.{nat_cmp};
 ghost use Rattle.patch_recovery.specs.Reading.{has_key as is_of};
 ghost use Rattle.patch_index.specs.Index.{fields_of, told};
 ghost use Rattle.patch_index.specs.Live.{live_behind};
-ghost use Rattle.patch_index.specs.Orders.{comes_before, ranked, key_in, place_in, unranked, is_used, AreOrders, ArePlaces, IsOrder, IsPlace, Rises};
+ghost use Rattle.patch_index.specs.Orders.{comes_before, ranked, key_in, place_in, place_rank, unranked, is_used, AreOrders, ArePlaces, IsOrder, IsPlace, Rises};
 
 use crate::entries::Entry;
 use std::cmp::Ordering;
@@ -58,12 +58,19 @@ pub(crate) fn places_of(
     requires { AreOrders (map told slots.now) empty.now by_key.now by_place.now }
     ensures { ArePlaces (map told slots.now) slot (fields_of entry.now) empty.now by_key.now by_place.now result.empty result.by_key result.by_place }
 {
-    let extent = u64::from(entry.extent);
     Places {
         empty: place_by_number(empty, slot),
         by_key: place_by_key(slots, by_key, entry.key.as_slice(), slot),
-        by_place: place_by_place(slots, by_place, extent, entry.offset, slot),
+        by_place: place_of(slots, by_place, slot, entry),
     }
+}
+
+/// Where a slot that names this frame stands among those that are ordered by place, or would.
+pub(crate) fn place_of(slots: &[Option<Entry>], by_place: &[u16], slot: u32, entry: &Entry) -> usize
+    requires { Rises (place_in (map told slots.now)) by_place.now }
+    ensures { IsPlace (place_in (map told slots.now)) (place_rank (Some (fields_of entry.now)), slot) by_place.now result }
+{
+    place_by_place(slots, by_place, u64::from(entry.extent), entry.offset, slot)
 }
 
 /// The place of a slot with this key among those that are ordered by key.

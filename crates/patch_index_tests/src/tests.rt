@@ -128,3 +128,21 @@ fn slots_are_filled_and_cleared(rt: HostRuntime) -> Result<(), Fail> {
     ];
     walk(&rt, rt.alloc(), &steps)
 }
+
+// Slots get other frames of their keys: behind, in front, and in another extent and back. Then one is cleared and filled anew.
+#[test]
+fn a_slot_gets_other_frames_of_its_key(rt: HostRuntime) -> Result<(), Fail> {
+    let steps = [
+        (filled(0, b"k", 1, 40), told(Some(1), Some(0), &[0])),
+        (filled(1, b"a", 1, 60), told(Some(2), Some(0), &[0, 1])),
+        (filled(2, b"z", 1, 100), told(Some(3), Some(0), &[0, 1, 2])),
+        (filled(0, b"k", 1, 80), told(Some(3), Some(0), &[1, 0, 2])),
+        (filled(0, b"k", 1, 140), told(Some(3), Some(0), &[1, 2, 0])),
+        (filled(2, b"z", 1, 20), told(Some(3), Some(0), &[2, 1, 0])),
+        (filled(1, b"a", 0, 20), told(Some(3), Some(0), &[2, 0])),
+        (filled(1, b"a", 1, 0), told(Some(3), Some(0), &[1, 2, 0])),
+        (Clear { slot: 0 }, told(Some(0), None, &[1, 2])),
+        (filled(0, b"k", 1, 200), told(Some(3), Some(0), &[1, 2, 0])),
+    ];
+    walk(&rt, rt.alloc(), &steps)
+}
