@@ -1,12 +1,14 @@
 -- A block's bytes without the classes that may be taken, as the classes change.
-use Rattle.std.proofs.Common.{◌≡◌, ◌≢◌, ℕ, zero, suc, ◌+◌, ◌-◌, ◌<◌, ◌≤◌, ◌⊎◌, ◌∙◌, true, false, not, inl, inr, List, [], ◌∷◌, ◌++◌, length, filter, drop, get_or, set, get_or-set_same, get_or-set_other, refl, sym, ap, subst, arith, Bool, Option, Some}
+use Rattle.std.proofs.Common.{◌≡◌, ℕ, zero, suc, ◌+◌, ◌-◌, ◌<◌, ◌≤◌, ◌⊎◌, ◌∙◌, true, false, not, inl, inr, List, [], ◌∷◌, ◌++◌, length, filter, drop, get_or, set, get_or-set_same, get_or-set_other, refl, sym, ap, subst, arith, Bool, Option, Some}
 use Rattle.std.specs.Prelude.{slice_range}
 use Rattle.std.specs.List.{remove}
 use Rattle.std.proofs.lemmas.Bool.{cases_Bool, cases_eq, cases_lt, both_ways, and_from, not-true, lt-ltb}
 use Rattle.std.proofs.lemmas.List.{length-set, ext_get_or, drop_more, drop_all, get_or_default}
 use Rattle.std.proofs.lemmas.List.Edits.{length-between}
 use Rattle.patch_view.specs.State.{Class, Block, no_class, is_takeable, uncovered, laid_on, laid_over, swept_to, departed}
-use Rattle.patch_view.specs.Images.{Image, bared, saved_end, saves_any, KnownImage, IsForgotten, StaysIf, IsDrawnOf, KeepsSpan, IsAlone, IsAloneBelow, IsApartAt}
+use Rattle.patch_view.specs.declared.gaps.Gap.{Gap}
+use Rattle.patch_view.specs.Gaps.{saves_any, saved_end}
+use Rattle.patch_view.specs.Images.{Image, bared, IsTrimmed, KnownImage, IsForgotten, StaysIf, IsDrawnOf, KeepsSpan, IsAlone}
 use Rattle.patch_view.proofs.Imaging.{swept-bytes}
 use Rattle.patch_view.proofs.Chain.{laid-inside, range-at}
 use Rattle.patch_view.proofs.Joining.{length-laid_over, outside-low}
@@ -262,39 +264,26 @@ departed-bared cs at bytes w long a =
       | inr behind ↦ beside x (inr behind)
     ]
 
-pub departed_image : (old new : Option Image) (cs : List Class) (c : Class) (at start stop : ℕ) (bytes : List ℕ) (alone : Bool) → at < length cs → length bytes ≡ 4096
+pub departed_image : (old new : Option Image) (cs : List Class) (c : Class) (at start stop : ℕ) (bytes : List ℕ) (gap : Option Gap) → at < length cs → length bytes ≡ 4096
     → start ≡ (get_or cs at no_class).start → stop ≡ saved_end (get_or cs at no_class) → c ≡ departed (get_or cs at no_class)
-    → (alone ≡ true → IsAlone cs at) → KeepsSpan alone bytes start stop old new → KnownImage old cs bytes → KnownImage new (set cs at c) bytes
-departed_image old new cs c at start stop bytes alone w long starts stops is a keeps k m now on =
+    → ((g : Gap) → gap ≡ Some g → IsAlone cs at) → KeepsSpan gap bytes start stop old new → KnownImage old cs bytes → KnownImage new (set cs at c) bytes
+departed_image old new cs c at start stop bytes gap w long starts stops is a keeps k m now on =
     let s = keeps m now on in
     let h = s.1 in
     let was = k h.before h.was h.known in
     h.is ∙ ap (laid_over start (slice_range bytes start stop)) was
     ∙ ap (λ (z : ℕ). laid_over z (slice_range bytes z stop) (bared cs bytes)) starts
     ∙ ap (λ (z : ℕ). laid_over (get_or cs at no_class).start (slice_range bytes (get_or cs at no_class).start z) (bared cs bytes)) stops
-    ∙ departed-bared cs at bytes w long (a s.0) ∙ ap (λ d. bared (set cs at d) bytes) (sym is)
+    ∙ departed-bared cs at bytes w long (a m.gap s.0) ∙ ap (λ d. bared (set cs at d) bytes) (sym is)
 
 -- drawn where it wasn't known
 pub drawn_image : (old new : Option Image) (cs : List Class) (bytes : List ℕ) → IsDrawnOf cs bytes old new → KnownImage old cs bytes → KnownImage new cs bytes
-drawn_image old new cs bytes d k m is on = elim (d m is on) [ inl was ↦ k m was on | inr e ↦ e ]
-
-pub next_alone : (cs : List Class) (at n : ℕ) → IsAloneBelow cs at n → IsApartAt cs at n → IsAloneBelow cs at (n + 1)
-next_alone cs at n a p k w = elim (cases_eq k n) [
-  | inl e ↦ subst (λ (z : ℕ). IsApartAt cs at z) (sym e) p
-  | inr ne ↦ a k (omega arith)
-]
+drawn_image old new cs bytes d k m is on = elim (d m is on) [ inl was ↦ k m was on | inr e ↦ e.0 ]
 
 -- what is at a place, whatever stands for none
 pub class_is : (cs : List Class) (at : ℕ) (c : Class) → at < length cs → c ≡ get_or cs at c → c ≡ get_or cs at no_class
 class_is cs at c w is = is ∙ get_or_default cs at c no_class w
 
--- what tells that a class isn't in the way
-pub apart_unless : (cs : List Class) (at k start stop : ℕ) (c : Class) → c ≡ get_or cs k no_class → start ≡ (get_or cs at no_class).start → stop ≡ saved_end (get_or cs at no_class)
-    → saved_end c ≤ 4096 → (k ≢ at → is_takeable c ≡ true → saves_any c start stop ≡ false) → IsApartAt cs at k
-apart_unless cs at k start stop c is starts stops fits apart = record {
-  fits = subst (λ d. saved_end d ≤ 4096) is fits;
-  apart = λ ne t.
-      ap (λ d. saves_any d (get_or cs at no_class).start (saved_end (get_or cs at no_class))) (sym is)
-      ∙ ap (λ (z : ℕ). saves_any c z (saved_end (get_or cs at no_class))) (sym starts) ∙ ap (λ (z : ℕ). saves_any c start z) (sym stops)
-      ∙ apart ne (ap is_takeable is ∙ t);
-}
+-- with another gap
+pub trimmed_image : (old new : Option Image) (cs : List Class) (bytes : List ℕ) (count : ℕ) → IsTrimmed count old new → KnownImage old cs bytes → KnownImage new cs bytes
+trimmed_image old new cs bytes count t k m is on = let b = t m is on in b.bytes ∙ k b.before b.was b.known

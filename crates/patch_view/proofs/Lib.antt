@@ -31,5 +31,6 @@ pub mod Taken
 pub mod Apart
 pub mod Covering
 pub mod Baring
+pub mod Gapping
 pub mod Departing
 pub mod Landing

@@ -1,12 +1,15 @@
 -- A block's bytes without the classes that may be taken.
-use Rattle.std.specs.Prelude.{ℕ, Bool, true, false, ◌≡◌, ◌≢◌, ◌⊎◌, ◌+◌, ◌<◌, ◌≤◌, ◌&&◌, nat_lt, List, [], ◌∷◌, length, slice_index_or, slice_range, Option, Some}
+use Rattle.std.specs.Prelude.{ℕ, Bool, true, false, ◌≡◌, ◌≢◌, ◌⊎◌, ◌<◌, ◌≤◌, List, [], ◌∷◌, length, slice_index_or, slice_range, Option, Some}
 use Rattle.patch_model.specs.declared.blocks.TheConstants.{BLOCK}
 use Rattle.patch_view.specs.State.{Class, no_class, is_takeable, uncovered, laid_over}
+use Rattle.patch_view.specs.Gaps.{no_gap, of_first, saves_any, saved_end, IsGap, IsGapRound}
+use Rattle.patch_view.specs.declared.gaps.Gap.{Gap}
 
--- bytes, and whether they are known to be those of a block without such classes
+-- bytes, whether they are known to be those of a block without such classes, and a gap beside what its first classes saved
 pub record Image : Type 0 where
   pub bytes : List ℕ
   pub known : Bool
+  pub gap : Gap
 
 -- the bytes without each of these classes that may be taken and isn't, the highest first
 abbrev pub bared : List Class → List ℕ → List ℕ
@@ -25,9 +28,9 @@ IsForgotten image = (m : Image) → image ≡ Some m → m.known ≡ false
 abbrev pub StaysIf : Bool → Option Image → Option Image → Type 0
 StaysIf stays old new = (m : Image) → new ≡ Some m → m.known ≡ true → (stays ≡ true) × (old ≡ Some m)
 
--- what is known was known before, or is that of these classes and bytes
+-- what is known was known before, or is that of these classes and bytes, with a gap beside none
 abbrev pub IsDrawnOf : List Class → List ℕ → Option Image → Option Image → Type 0
-IsDrawnOf cs bytes old new = (m : Image) → new ≡ Some m → m.known ≡ true → (old ≡ Some m) ⊎ (m.bytes ≡ bared cs bytes)
+IsDrawnOf cs bytes old new = (m : Image) → new ≡ Some m → m.known ≡ true → (old ≡ Some m) ⊎ ((m.bytes ≡ bared cs bytes) × (m.gap ≡ no_gap))
 
 -- what is known was known before, but for the bytes from one place up to another, which are a block's
 pub record HasSpan (bytes : List ℕ) (start stop : ℕ) (old : Option Image) (m : Image) : Type 0 where
@@ -36,9 +39,24 @@ pub record HasSpan (bytes : List ℕ) (start stop : ℕ) (old : Option Image) (m
   pub known : before.known ≡ true
   pub is : m.bytes ≡ laid_over start (slice_range bytes start stop) before.bytes
 
--- that is so, and only where the class stands alone
-abbrev pub KeepsSpan : Bool → List ℕ → ℕ → ℕ → Option Image → Option Image → Type 0
-KeepsSpan alone bytes start stop old new = (m : Image) → new ≡ Some m → m.known ≡ true → (alone ≡ true) × HasSpan bytes start stop old m
+-- that is so, and only with the gap round the bytes of a class that stands alone
+abbrev pub KeepsSpan : Option Gap → List ℕ → ℕ → ℕ → Option Image → Option Image → Type 0
+KeepsSpan gap bytes start stop old new = (m : Image) → new ≡ Some m → m.known ≡ true → (gap ≡ Some m.gap) × HasSpan bytes start stop old m
+
+-- what is known was known before, but for the gap, which is beside no more than so many classes
+pub record IsTrimmedTo (count : ℕ) (old : Option Image) (m : Image) : Type 0 where
+  pub before : Image
+  pub was : old ≡ Some before
+  pub known : before.known ≡ true
+  pub bytes : m.bytes ≡ before.bytes
+  pub gap : m.gap ≡ of_first before.gap count
+
+abbrev pub IsTrimmed : ℕ → Option Image → Option Image → Type 0
+IsTrimmed count old new = (m : Image) → new ≡ Some m → m.known ≡ true → IsTrimmedTo count old m
+
+-- where the bytes are known, each of the gap's classes is beside it
+abbrev pub KnownGap : Option Image → List Class → Type 0
+KnownGap image cs = (m : Image) → image ≡ Some m → m.known ≡ true → IsGap m.gap cs
 
 -- these bytes were copied from what is known
 pub record IsCopied (image : Option Image) (copy : List ℕ) : Type 0 where
@@ -46,14 +64,6 @@ pub record IsCopied (image : Option Image) (copy : List ℕ) : Type 0 where
   pub some : image ≡ Some from
   pub known : from.known ≡ true
   pub is : copy ≡ from.bytes
-
--- the class saved a byte from one place up to another
-abbrev pub saves_any : Class → ℕ → ℕ → Bool
-saves_any c start stop = nat_lt c.start stop && nat_lt start (c.start + length c.saved)
-
--- where the bytes end that the class saved
-abbrev pub saved_end : Class → ℕ
-saved_end c = c.start + length c.saved
 
 -- the class at the place k isn't another that may be taken and saved one of the same bytes
 pub record IsApartAt (cs : List Class) (at k : ℕ) : Type 0 where
@@ -69,3 +79,8 @@ IsAloneBelow cs at n = (k : ℕ) → k < n → IsApartAt cs at k
 pub record IsAlone (cs : List Class) (at : ℕ) : Type 0 where
   pub takeable : is_takeable (slice_index_or cs at no_class) ≡ true
   pub others : IsAloneBelow cs at (length cs)
+
+-- it stands alone in the gap
+pub record DepartsIn (cs : List Class) (at : ℕ) (g : Gap) : Type 0 where
+  pub takeable : is_takeable (slice_index_or cs at no_class) ≡ true
+  pub round : IsGapRound g cs at

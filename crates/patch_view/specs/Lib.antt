@@ -1,4 +1,5 @@
 pub mod History
+pub mod Gaps
 pub mod Images
 pub mod Places
 pub mod Members

@@ -16,7 +16,7 @@ ghost use Rattle.patch_view.specs.Changes.{Lays, Unlays, Hardens, Settles, Joins
 
 use crate::classes::{Class, Drawn};
 use crate::images::{
-    departs_alone, draw_unless_known, forget, forget_unless, keep_span, make_room,
+    draw_unless_known, forget, forget_unless, gap_of_departing, keep_span, make_room, trim_gap,
 };
 use crate::members::Members;
 use crate::number_lists::NumberList;
@@ -429,18 +429,12 @@ impl<A: Allocator> BlockState<A> {
         requires { at < length self.old.classes }
         ensures { self.new ≡ departed_at self.old at }
     {
-        let is_alone = departs_alone(&self.image, self.classes.as_slice(), at);
+        let gap = gap_of_departing(&self.image, self.classes.as_slice(), at);
         let class = &mut self.classes[at];
         let (start, stop) = (class.start(), class.saved_end());
         class.depart();
         self.flying = self.flying.with(at, at + 1);
-        keep_span(
-            &mut self.image,
-            self.bytes.as_slice(),
-            start,
-            stop,
-            is_alone,
-        );
+        keep_span(&mut self.image, self.bytes.as_slice(), start, stop, gap);
     }
 
     /// Makes the class of this patch durable: its record goes. The class is in flight, and no class of the block on which it
@@ -499,6 +493,7 @@ impl<A: Allocator> BlockState<A> {
         ensures { self.new ≡ with_landed self.old }
     {
         drop(self.classes.drain(flying.from..flying.to));
+        trim_gap(&mut self.image, flying.from);
         self.taken = self.taken.spread(self.classes.len());
         self.flying = Places::none();
     }
@@ -523,6 +518,7 @@ impl<A: Allocator> BlockState<A> {
         ensures { self.new ≡ with_landed self.old }
     {
         self.classes.retain(|class| !class.is_flying());
+        trim_gap(&mut self.image, 0);
         self.taken = self.taken.spread(self.classes.len());
         self.flying = Places::none();
     }
@@ -533,6 +529,7 @@ impl<A: Allocator> BlockState<A> {
     {
         let gone = self.classes.remove(at);
         forget_unless(&mut self.image, !gone.is_takeable());
+        trim_gap(&mut self.image, at);
         self.taken = self.taken.spread(self.classes.len());
         self.flying = self.flying.spread(self.classes.len());
     }

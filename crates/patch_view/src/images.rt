@@ -1,22 +1,25 @@
 //! A block's bytes without the classes that may be taken, kept beside the block.
 //!
 //! A write of a block sends them. Where many classes wait, it would cost a look at each to find them.
-ghost use Rattle.std.specs.Prelude.{◌≡◌, ◌<◌, ◌≤◌, length, true, false, slice_range, slice_index_or, IfOk, IsTrue, IsFalse};
+ghost use Rattle.std.specs.Prelude.{◌≡◌, ◌<◌, ◌≤◌, length, true, false, slice_range, IfOk, IfSome, IsTrue, IsFalse};
 ghost use Rattle.patch_model.specs.declared.blocks.TheConstants.{BLOCK};
-ghost use Rattle.patch_view.specs.State.{laid_over, no_class};
-ghost use Rattle.patch_view.specs.Images.{bared, IsForgotten, StaysIf, IsDrawnOf, KeepsSpan, IsCopied, IsAlone, IsAloneBelow, IsApartAt, saved_end};
+ghost use Rattle.patch_view.specs.State.{laid_over};
+ghost use Rattle.patch_view.specs.Gaps.{no_gap, of_first};
+ghost use Rattle.patch_view.specs.Images.{bared, IsForgotten, StaysIf, IsDrawnOf, KeepsSpan, IsCopied, IsTrimmed, KnownGap, DepartsIn};
 
 use crate::classes::Class;
+use crate::gaps::{Gap, gap_round};
 use patch_model::{BLOCK, OutOfMemory};
 use std::alloc::{Allocator, Global};
 use std::marker::Model;
 
 /// Room for the bytes of a block, and whether those that stand there are known to be the block's without its classes that
-/// may be taken.
+/// may be taken. Then none of the gap's classes saved a byte in the gap that may be taken.
 #[derive(Drop)]
 pub(crate) struct Image<A: Allocator = Global> {
     bytes: Vec<u8, A>,
     is_known: bool,
+    gap: Gap,
 }
 
 impl<A: Allocator> Model for Image<A> {
@@ -25,7 +28,7 @@ impl<A: Allocator> Model for Image<A> {
 
     ghost Value = { Seen };
 
-    ghost view = { λ m. record { bytes = m.bytes.items; known = m.is_known } };
+    ghost view = { λ m. record { bytes = m.bytes.items; known = m.is_known; gap = m.gap } };
 
     ghost invariant = { λ m. length m.bytes.items ≡ 4096 };
 }
@@ -40,6 +43,7 @@ impl<A: Allocator> Image<A> {
         Ok(Image {
             bytes,
             is_known: false,
+            gap: Gap::none(),
         })
     }
 
@@ -57,21 +61,29 @@ impl<A: Allocator> Image<A> {
 
     fn draw(&mut self, block: &[u8], classes: &[Class<A>])
         requires { length block.now ≡ BLOCK }
-        ensures { self.new ≡ record { bytes = bared classes.now block.now; known = true } }
+        ensures { self.new ≡ record { bytes = bared classes.now block.now; known = true; gap = no_gap } }
     {
         let copy = self.bytes.as_mut_slice();
         copy.copy_from_slice(block);
         uncover_all(classes, copy);
         self.is_known = true;
+        self.gap = Gap::none();
     }
 
-    fn keep_span(&mut self, block: &[u8], start: usize, stop: usize)
+    fn keep_span(&mut self, block: &[u8], start: usize, stop: usize, gap: Gap)
         requires range { start ≤ stop }
         requires within { stop ≤ BLOCK }
         requires length { length block.now ≡ BLOCK }
-        ensures { self.new ≡ record self.old { bytes = laid_over start (slice_range block.now start stop) self.old.bytes } }
+        ensures { self.new ≡ record self.old { bytes = laid_over start (slice_range block.now start stop) self.old.bytes; gap = gap } }
     {
         self.bytes[start..stop].copy_from_slice(&block[start..stop]);
+        self.gap = gap;
+    }
+
+    fn trim_gap(&mut self, count: usize)
+        ensures { self.new ≡ record self.old { gap = of_first self.old.gap count } }
+    {
+        self.gap = self.gap.of_first(count);
     }
 
     fn copy_to(&self, copy: &mut [u8])
@@ -141,26 +153,34 @@ pub(crate) fn draw_unless_known<A: Allocator>(
     }
 }
 
-/// What becomes of the image where a class departs: it has the block's own bytes where the class saved some. If the class doesn't
-/// stand alone there, nothing is known.
+/// What becomes of the image where a class departs: it has the block's own bytes where the class saved some, and the gap round
+/// these. If the class doesn't stand alone there, nothing is known.
 pub(crate) fn keep_span<A: Allocator>(
     image: &mut Option<Image<A>>,
     block: &[u8],
     start: usize,
     stop: usize,
-    is_alone: bool,
+    gap: Option<Gap>,
 )
     requires range { start ≤ stop }
     requires within { stop ≤ BLOCK }
     requires length { length block.now ≡ BLOCK }
-    ensures { KeepsSpan is_alone block.now start stop image.old image.new }
+    ensures { KeepsSpan gap block.now start stop image.old image.new }
 {
     if let Some(image) = image {
-        if is_alone {
-            image.keep_span(block, start, stop);
-        } else {
-            image.forget();
+        match gap {
+            Some(gap) => image.keep_span(block, start, stop, gap),
+            None => image.forget(),
         }
+    }
+}
+
+/// Leaves the gap beside no more than so many classes.
+pub(crate) fn trim_gap<A: Allocator>(image: &mut Option<Image<A>>, count: usize)
+    ensures { IsTrimmed count image.old image.new }
+{
+    if let Some(image) = image {
+        image.trim_gap(count);
     }
 }
 
@@ -183,66 +203,24 @@ pub(crate) fn copy_image<A: Allocator>(image: &Option<Image<A>>, copy: &mut [u8]
     }
 }
 
-/// Whether the image is known, and the class at a place is the only one that may be taken and saved its bytes.
-pub(crate) fn departs_alone<A: Allocator>(
+/// The gap in which the class at a place stands alone, where the image is known, and the class may be taken.
+pub(crate) fn gap_of_departing<A: Allocator>(
     image: &Option<Image<A>>,
     classes: &[Class<A>],
     at: usize,
-) -> bool
-    requires { at < length classes.now }
-    ensures { IsTrue result → IsAlone classes.now at }
+) -> Option<Gap>
+    requires there { at < length classes.now }
+    requires gap { KnownGap image.now classes.now }
+    ensures { IfSome result (λ gap. DepartsIn classes.now at gap) }
 {
     match image {
-        Some(image) => image.is_known() && is_alone(classes, at),
-        None => false,
-    }
-}
-
-fn is_alone<A: Allocator>(classes: &[Class<A>], at: usize) -> bool
-    requires { at < length classes.now }
-    ensures { IsTrue result → IsAlone classes.now at }
-{
-    let class = &classes[at];
-    if !class.is_takeable() {
-        return false;
-    }
-    are_others_elsewhere(classes, at)
-}
-
-fn are_others_elsewhere<A: Allocator>(classes: &[Class<A>], at: usize) -> bool
-    requires { at < length classes.now }
-    ensures { IsTrue result → IsAloneBelow classes.now at (length classes.now) }
-{
-    let class = &classes[at];
-    let (start, stop) = (class.start(), class.saved_end());
-    for other in 0..classes.len() {
-        if !is_apart(classes, at, other, start, stop) {
-            return false;
+        Some(image) => {
+            if image.is_known && classes[at].is_takeable() {
+                gap_round(classes, image.gap, at)
+            } else {
+                None
+            }
         }
+        None => None,
     }
-    true
-}
-
-/// Whether the class at another place isn't one that may be taken and saved a byte from one place up to another, where the first
-/// class saved its bytes.
-fn is_apart<A: Allocator>(
-    classes: &[Class<A>],
-    at: usize,
-    other: usize,
-    start: usize,
-    stop: usize,
-) -> bool
-    requires within { other < length classes.now }
-    requires start { start ≡ (slice_index_or classes.now at no_class).start }
-    requires stop { stop ≡ saved_end (slice_index_or classes.now at no_class) }
-    ensures { IsTrue result → IsApartAt classes.now at other }
-{
-    let class = &classes[other];
-    if !class.saves_any(start, stop) {
-        return true;
-    }
-    if other == at {
-        return true;
-    }
-    !class.is_takeable()
 }

@@ -7,6 +7,7 @@
 
 mod changes;
 mod classes;
+mod gaps;
 mod images;
 pub mod laws;
 mod members;

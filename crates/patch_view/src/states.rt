@@ -49,7 +49,7 @@ impl<A: Allocator> Model for BlockState<A> {
     ghost use Rattle.std.specs.Prelude.{◌≡◌, length};
     ghost use Rattle.patch_view.specs.State.{Block, TakenWithin, FlyingWithin, KnownApart};
     ghost use Rattle.patch_view.specs.Rests.{KnownRests};
-    ghost use Rattle.patch_view.specs.Images.{KnownImage};
+    ghost use Rattle.patch_view.specs.Images.{KnownGap, KnownImage};
 
     ghost Value = { Block };
 
@@ -57,7 +57,7 @@ impl<A: Allocator> Model for BlockState<A> {
 
     ghost invariant = { λ s. (length s.bytes.items ≡ 4096) × TakenWithin s.taken s.classes.items × KnownApart s.members s.classes.items
         × KnownRests s.members s.rests s.classes.items × FlyingWithin s.flying s.classes.items
-        × KnownImage s.image s.classes.items s.bytes.items };
+        × KnownImage s.image s.classes.items s.bytes.items × KnownGap s.image s.classes.items };
 }
 
 impl<A: Allocator> BlockState<A> {

@@ -35,6 +35,13 @@ impl Pair {
         self.expect_same(rt)
     }
 
+    // One patch is laid, sent and made durable.
+    fn round(&mut self, rt: &impl Abort, no: u32, start: usize) -> Result<(), OutOfMemory> {
+        self.lay(rt, no, start, 9)?;
+        self.send(rt, &[PatchNo(no)])?;
+        self.end(rt)
+    }
+
     fn expect_same(&mut self, rt: &impl Abort) -> Result<(), OutOfMemory> {
         let mut sent = Vec::from_slice(self.alloc, self.kept.bytes())?;
         self.kept.take_all_from(sent.as_mut_slice());
@@ -128,4 +135,67 @@ fn send_after_changes(rt: &impl Abort, alloc: Global) -> Result<(), Fail> {
 #[test]
 fn what_is_kept_follows_changes(rt: HostRuntime) -> Result<(), Fail> {
     send_after_changes(&rt, rt.alloc())
+}
+
+// Forty wait in two heaps, on even bytes behind 1,000 and odd ones behind 3,000.
+fn two_heaps(rt: &impl Abort, alloc: Global) -> Result<Pair, OutOfMemory> {
+    let mut pair = Pair {
+        alloc,
+        kept: bare(alloc)?,
+        plain: bare(alloc)?,
+    };
+    for no in 0..WAITING {
+        let heap = if no % 2 == 0 { 1000 } else { 3000 };
+        pair.lay(rt, no, heap + no as usize, 7)?;
+    }
+    Ok(pair)
+}
+
+// Rounds of one patch each, between the heaps, before and behind them, in them and on bytes where a class waits.
+fn send_in_gaps(rt: &impl Abort, alloc: Global) -> Result<(), Fail> {
+    let starts = [
+        2000, 2001, 2500, 500, 2100, 3500, 2100, 1004, 2002, 1001, 999, 1039, 3000, 2003,
+    ];
+    let mut pair = two_heaps(rt, alloc)?;
+    for turn in 0..14u32 {
+        pair.round(rt, WAITING + turn, starts[turn as usize])?;
+    }
+    Ok(())
+}
+
+#[test]
+fn one_after_another_is_sent_in_a_gap(rt: HostRuntime) -> Result<(), Fail> {
+    send_in_gaps(&rt, rt.alloc())
+}
+
+// In a gap where some were sent another one comes to wait, and more are sent there.
+fn send_where_one_waits(rt: &impl Abort, pair: &mut Pair) -> Result<(), OutOfMemory> {
+    pair.round(rt, 50, 2000)?;
+    pair.lay(rt, 51, 2100, 5)?;
+    pair.round(rt, 52, 2101)?;
+    pair.round(rt, 53, 2100)?;
+    pair.round(rt, 54, 2050)
+}
+
+// The lowest one goes, and one is sent on another that waits in the gap, and then that one.
+fn send_after_the_lowest(rt: &impl Abort, pair: &mut Pair) -> Result<(), OutOfMemory> {
+    pair.send(rt, &[PatchNo(0)])?;
+    pair.kept.land(PatchNo(0));
+    pair.plain.land(PatchNo(0));
+    pair.lay(rt, 55, 2060, 3)?;
+    pair.round(rt, 56, 2060)?;
+    pair.send(rt, &[PatchNo(55)])?;
+    pair.end(rt)
+}
+
+fn send_as_the_gap_changes(rt: &impl Abort, alloc: Global) -> Result<(), Fail> {
+    let mut pair = two_heaps(rt, alloc)?;
+    send_where_one_waits(rt, &mut pair)?;
+    send_after_the_lowest(rt, &mut pair)?;
+    Ok(())
+}
+
+#[test]
+fn in_a_gap_one_comes_to_wait(rt: HostRuntime) -> Result<(), Fail> {
+    send_as_the_gap_changes(&rt, rt.alloc())
 }

@@ -1,4 +1,5 @@
-use Rattle.std.proofs.Common.{◌≡◌, ◌∙◌, ◌<◌, ℕ, List, map, length, sym, ap, subst, arith}
+use Rattle.std.proofs.Common.{◌≡◌, ◌∙◌, ◌+◌, ◌<◌, ◌≤◌, ◌++◌, ◌∷◌, ℕ, List, [], map, length, length-set, length-append, sym, ap, subst, arith}
+use Rattle.std.proofs.lemmas.List.{map-append}
 use Rattle.patch_model.specs.Step.{Step, Merge}
 use Rattle.patch_model.specs.StepOf.{step_of}
 use Rattle.patch_model.specs.Entry.{Entry}
@@ -36,3 +37,32 @@ returns-clause-merged g c = λ run at may.
     let here = lent _ block c.block.inside.0 _ run place c.index_mut-state.ensures.value seen known in
     let made = c.in_ok-name.ensures.merged run (record { run_legal = at.legal; legal = lawful; on_block = here; in_graph = seen.graph }) in
     (lawful, made.name_is, stepped _ run step block c.block.inside.0 _ _ _ _ _ place seen on c.insert.ensures known made.on_block made.in_graph (seen.live ∙ sym (c.live_are_counted.ensures.merged run a b)))
+
+pub returns-clause-trace : goal.returns-clause-trace
+returns-clause-trace g c =
+    ap (map step_of) (rw c.reserve.ensures.items at c.push_reserved.ensures.items) ∙ map-append step_of c.self.inside.trace.items _
+    ∙ ap (λ (v : Contents). v.trace ++ Merge c.args.a c.args.b ∷ []) c.self.view_is
+
+pub invariant_of-self-in_err-name : goal.invariant_of-self-in_err-name
+invariant_of-self-in_err-name g c =
+    let blocks = length-set c.self.inside.blocks.items c.block.inside.0 c.join_on.new.state in
+    let same = ap length c.reserve.ensures.items in
+    let room = c.reserve.ensures.capacity in
+    let before = c.self.invariant.3 in (
+      c.self.invariant.0 ∙ sym blocks,
+      subst (λ (n : ℕ). n ≤ 4096) (sym blocks) c.self.invariant.1,
+      c.self.invariant.2,
+      omega (arith, same, room, before),
+    )
+
+pub invariant_of-self-2 : goal.invariant_of-self-2
+invariant_of-self-2 g c =
+    let blocks = length-set c.self.inside.blocks.items c.block.inside.0 c.join_on.new.state in
+    let longer : length c.push_reserved.new.self.items ≡ length c.reserve.new.self.items + 1 = ap length c.push_reserved.ensures.items ∙ length-append c.reserve.new.self.items _ in
+    let room = c.push_reserved.ensures.capacity in
+    let made = c.in_ok-reserve.ensures.ok in (
+      c.self.invariant.0 ∙ sym blocks,
+      subst (λ (n : ℕ). n ≤ 4096) (sym blocks) c.self.invariant.1,
+      c.self.invariant.2,
+      omega arith,
+    )

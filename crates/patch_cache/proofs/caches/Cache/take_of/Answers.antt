@@ -16,7 +16,7 @@ use Rattle.patch_cache.specs.Refusals.{take_cause}
 use Rattle.patch_cache.specs.Viewing.{with_move}
 use Rattle.patch_cache.specs.declared.asks.Move.TheVariants.{Take}
 use Rattle.patch_cache.specs.declared.refusals.TakeRefusal.{TakeRefusal}
-use Rattle.patch_cache.proofs.Showing.{unmade_stays, durable_stays, durable_is_left, not_made, started, taken, take_is_refused, as_was, still_a_view}
+use Rattle.patch_cache.proofs.Showing.{unmade_stays, durable_stays, durable_is_left, not_made, started, taken, take_is_refused, as_was, only_one, still_a_view}
 use Rattle.patch_cache.proofs.caches.Cache.take_of.Goals as goal
 
 durable : (m : Mark) → true ≡ sameb the_type m Durable → m ≡ Durable
@@ -107,3 +107,13 @@ pub returns-clause-view : goal.returns-clause-view
 returns-clause-view g c = λ before as_view.
     still_a_view before c.args.self.now _ c.args.block c.block.inside.0 c.index_mut-state.result.now c.take.new.self
     (record { same = c.self.view_is; place_is = c.block.view_is; known = c.requires; value = c.index_mut-state.ensures.value }) c.in_ok-take.ensures.outline as_view
+
+pub returns-in_err-take-clause-others : goal.returns-in_err-take-clause-others
+returns-in_err-take-clause-others g c =
+    only_one c.args.self.now _ c.args.block c.block.inside.0 c.index_mut-state.result.now c.take.new.self
+    (record { same = c.self.view_is; place_is = c.block.view_is; known = c.requires; value = c.index_mut-state.ensures.value })
+
+pub returns-clause-others : goal.returns-clause-others
+returns-clause-others g c =
+    only_one c.args.self.now _ c.args.block c.block.inside.0 c.index_mut-state.result.now c.take.new.self
+    (record { same = c.self.view_is; place_is = c.block.view_is; known = c.requires; value = c.index_mut-state.ensures.value })

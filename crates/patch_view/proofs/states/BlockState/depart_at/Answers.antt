@@ -1,11 +1,15 @@
-use Rattle.std.proofs.Common.{◌<◌, ◌∙◌, length, ap, sym, subst, refl}
+use Rattle.std.proofs.Common.{◌≡◌, ◌<◌, ◌∙◌, length, ap, sym, subst, refl}
 use Rattle.std.proofs.lemmas.List.{get_or_default}
 use Rattle.patch_view.specs.State.{Class, no_class, departed}
-use Rattle.patch_view.specs.Images.{IsAlone, KeepsSpan, saved_end}
+use Rattle.std.specs.Prelude.{Some}
+use Rattle.patch_view.specs.declared.gaps.Gap.{Gap}
+use Rattle.patch_view.specs.Gaps.{saved_end}
+use Rattle.patch_view.specs.Images.{DepartsIn, KeepsSpan}
 use Rattle.patch_view.proofs.Standing.{kept_within, set_within}
 use Rattle.patch_view.proofs.Apart.{set_apart}
 use Rattle.patch_view.proofs.Covering.{IsLike, like_there, set_rests}
 use Rattle.patch_view.proofs.Baring.{departed_image}
+use Rattle.patch_view.proofs.Gapping.{alone-in, departed_gap, some-is}
 use Rattle.patch_view.proofs.states.BlockState.depart_at.Goals as goal
 
 pub invariant_of-self : goal.invariant_of-self
@@ -20,16 +24,21 @@ invariant_of-self g c =
       stop = ap (λ (k : Class). k.stop) is;
     } in
     let was = c.index_mut-class.ensures.value ∙ get_or_default c.self.inside.classes.items c.args.at c.index_mut-class.result.now no_class within in
-    let there = like_there c.self.inside.classes.items c.args.at c.index_mut-class.result.now c.depart.new.self within c.index_mut-class.ensures.value like in (
+    let there = like_there c.self.inside.classes.items c.args.at c.index_mut-class.result.now c.depart.new.self within c.index_mut-class.ensures.value like in
+    let alone : (gap : Gap) → c.gap_of_departing-gap.result ≡ Some gap → DepartsIn c.self.inside.classes.items c.args.at gap =
+    λ gap some. subst (λ cs. DepartsIn cs c.args.at gap) c.as_slice.ensures.value (some-is _ _ gap some c.gap_of_departing-gap.ensures) in
+    let keeps =
+    subst (λ bs. KeepsSpan c.gap_of_departing-gap.result bs c.start-start.result c.saved_end-stop.result c.self.inside.image c.keep_span.new.image) c.as_slice-2.ensures.value c.keep_span.ensures in (
       c.self.invariant.0,
       kept_within (λ (k : Class). k.taken) refl c.self.inside.classes.items c.depart.new.self c.args.at c.self.inside.taken (ap (λ (k : Class). k.taken) is ∙ ap (λ (k : Class). k.taken) was) c.self.invariant.1,
       set_apart c.self.inside.classes.items c.depart.new.self c.args.at c.self.inside.members there.members c.self.invariant.2,
       set_rests c.self.inside.classes.items c.depart.new.self c.args.at c.self.inside.members c.self.inside.rests there c.self.invariant.3,
       rw c.with-self-inside.ensures (set_within (λ (k : Class). k.flying) refl c.self.inside.classes.items c.depart.new.self c.args.at c.self.inside.flying c.self.invariant.4),
       departed_image c.self.inside.image c.keep_span.new.image c.self.inside.classes.items c.depart.new.self c.args.at c.start-start.result c.saved_end-stop.result c.self.inside.bytes.items
-          c.departs_alone-is_alone.result within c.self.invariant.0
+          c.gap_of_departing-gap.result within c.self.invariant.0
           (c.start-start.ensures ∙ ap (λ (k : Class). k.start) was) (c.saved_end-stop.ensures.exact ∙ ap saved_end was) (is ∙ ap departed was)
-          (λ t. subst (λ cs. IsAlone cs c.args.at) c.as_slice.ensures.value (c.departs_alone-is_alone.ensures t))
-          (subst (λ bs. KeepsSpan c.departs_alone-is_alone.result bs c.start-start.result c.saved_end-stop.result c.self.inside.image c.keep_span.new.image) c.as_slice-2.ensures.value c.keep_span.ensures)
-          c.self.invariant.5,
+          (λ gap some. alone-in c.self.inside.classes.items c.args.at gap (alone gap some))
+          keeps c.self.invariant.5,
+      departed_gap c.self.inside.image c.keep_span.new.image c.self.inside.classes.items c.depart.new.self c.args.at c.start-start.result c.saved_end-stop.result c.self.inside.bytes.items
+          c.gap_of_departing-gap.result within (is ∙ ap departed was) alone keeps,
     )

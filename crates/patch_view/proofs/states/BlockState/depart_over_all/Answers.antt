@@ -62,4 +62,5 @@ invariant_of-self g c =
           (subst (KnownRests c.self.inside.members c.self.inside.rests) (sym first) c.self.invariant.3)),
       rw (c.spread_over-self-inside.ensures, c.len.ensures) (all_within (λ (k : Class). k.flying) refl _ c.self.inside.flying _ fits),
       (λ m is on. no_image c.forget.new.image m c.forget.ensures is on),
+      (λ m is on. no_image c.forget.new.image m c.forget.ensures is on),
     )

@@ -29,4 +29,5 @@ invariant_of-self g c =
       set_rests c.self.inside.classes.items c.exchange.new.self c.args.at c.self.inside.members c.self.inside.rests there c.self.invariant.3,
       kept_within (λ (k : Class). k.flying) refl c.self.inside.classes.items c.exchange.new.self c.args.at c.self.inside.flying (ap (λ (k : Class). k.flying) is ∙ ap (λ (k : Class). k.flying) was) c.self.invariant.4,
       (λ m is on. no_image c.forget.new.image m c.forget.ensures is on),
+      (λ m is on. no_image c.forget.new.image m c.forget.ensures is on),
     )

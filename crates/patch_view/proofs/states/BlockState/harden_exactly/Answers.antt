@@ -33,6 +33,7 @@ invariant_of-self g c = elim c.match-last_mut.branch [
         set_rests cs w.harden.new.self at c.self.inside.members c.self.inside.rests there c.self.invariant.3,
         kept_within (λ (k : Class). k.flying) refl cs w.harden.new.self at c.self.inside.flying (ap (λ (k : Class). k.flying) is ∙ ap (λ (k : Class). k.flying) was) c.self.invariant.4,
         (λ m is on. no_image c.forget.new.image m c.forget.ensures is on),
+        (λ m is on. no_image c.forget.new.image m c.forget.ensures is on),
       )
   | in_default w ↦ rw w.self-inside-is (
     c.self.invariant.0,
@@ -40,6 +41,7 @@ invariant_of-self g c = elim c.match-last_mut.branch [
     c.self.invariant.2,
     c.self.invariant.3,
     c.self.invariant.4,
+    (λ m is on. no_image c.forget.new.image m c.forget.ensures is on),
     (λ m is on. no_image c.forget.new.image m c.forget.ensures is on),
   )
 ]

@@ -5,7 +5,8 @@ use Rattle.patch_view.proofs.Standing.{filtered_within}
 use Rattle.patch_view.proofs.Landing.{none_flying}
 use Rattle.patch_view.proofs.Apart.{filtered_apart}
 use Rattle.patch_view.proofs.Covering.{filtered_rests}
-use Rattle.patch_view.proofs.Baring.{filtered_image}
+use Rattle.patch_view.proofs.Baring.{filtered_image, trimmed_image}
+use Rattle.patch_view.proofs.Gapping.{trimmed_gap}
 use Rattle.patch_view.proofs.states.BlockState.land_over_all.Goals as goal
 
 pub returns : goal.returns
@@ -24,5 +25,7 @@ invariant_of-self g c =
       rw kept (filtered_apart (λ k. not k.flying) c.self.inside.classes.items c.self.inside.members c.self.invariant.2),
       rw kept (filtered_rests (λ k. not k.flying) c.self.inside.classes.items c.self.inside.members c.self.inside.rests c.self.invariant.3),
       rw kept (none_flying c.self.inside.classes.items _),
-      rw kept (filtered_image c.self.inside.image c.self.inside.classes.items c.self.inside.bytes.items c.self.invariant.5),
+      trimmed_image c.self.inside.image c.trim_gap.new.image c.retain.new.self.items c.self.inside.bytes.items 0 c.trim_gap.ensures
+          (rw kept (filtered_image c.self.inside.image c.self.inside.classes.items c.self.inside.bytes.items c.self.invariant.5)),
+      trimmed_gap c.self.inside.image c.trim_gap.new.image c.self.inside.classes.items c.retain.new.self.items 0 (omega arith) (λ k less. absurd (omega (arith, less))) c.trim_gap.ensures c.self.invariant.6,
     )

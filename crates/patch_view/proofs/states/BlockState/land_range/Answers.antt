@@ -5,16 +5,19 @@ use Rattle.patch_view.proofs.Standing.{filtered_within}
 use Rattle.patch_view.proofs.Landing.{filter-range, none_flying}
 use Rattle.patch_view.proofs.Apart.{filtered_apart}
 use Rattle.patch_view.proofs.Covering.{filtered_rests}
-use Rattle.patch_view.proofs.Baring.{filtered_image}
+use Rattle.patch_view.proofs.Baring.{filtered_image, trimmed_image}
+use Rattle.patch_view.proofs.Gapping.{cut_gap}
 use Rattle.patch_view.proofs.states.BlockState.land_range.Given.{Over}
 use Rattle.patch_view.proofs.states.BlockState.land_range.Goals as goal
 
+out : (g : Over) (c : goal.After-self-2-1 g) → c.drop.new.self.0.items ≡ remove_range c.self.inside.classes.items c.args.flying.from c.args.flying.to
+out g c = search rules
+
 kept : (g : Over) (c : goal.After-self-2-1 g) → c.drop.new.self.0.items ≡ filter (λ (k : Class). not k.flying) c.self.inside.classes.items
 kept g c =
-    let out : c.drop.new.self.0.items ≡ remove_range c.self.inside.classes.items c.args.flying.from c.args.flying.to = search rules in
     let v = sym c.self.view_is in
     let flying = c.args.flying in
-    out ∙ filter-range c.self.inside.classes.items flying.from flying.to c.requires.range.0
+    out g c ∙ filter-range c.self.inside.classes.items flying.from flying.to c.requires.range.0
     (subst (λ (b : Block). flying.to ≤ length b.classes) v c.requires.range.1) (subst (λ (b : Block). AllFlyAt flying b.classes) v c.requires.all)
     (subst (λ (b : Block). FlyingWithin flying b.classes) v c.requires.within)
 
@@ -32,5 +35,8 @@ invariant_of-self g c =
       rw is (filtered_apart (λ k. not k.flying) c.self.inside.classes.items c.self.inside.members c.self.invariant.2),
       rw is (filtered_rests (λ k. not k.flying) c.self.inside.classes.items c.self.inside.members c.self.inside.rests c.self.invariant.3),
       rw is (none_flying c.self.inside.classes.items _),
-      rw is (filtered_image c.self.inside.image c.self.inside.classes.items c.self.inside.bytes.items c.self.invariant.5),
+      trimmed_image c.self.inside.image c.trim_gap.new.image c.drop.new.self.0.items c.self.inside.bytes.items c.args.flying.from c.trim_gap.ensures
+          (rw is (filtered_image c.self.inside.image c.self.inside.classes.items c.self.inside.bytes.items c.self.invariant.5)),
+      rw (out g c) (cut_gap c.self.inside.image c.trim_gap.new.image c.self.inside.classes.items c.args.flying.from c.args.flying.to c.requires.range.0
+          (subst (λ (b : Block). c.args.flying.to ≤ length b.classes) (sym c.self.view_is) c.requires.range.1) c.trim_gap.ensures c.self.invariant.6),
     )

@@ -6,6 +6,7 @@ use Rattle.patch_view.proofs.Standing.{pushed_within}
 use Rattle.patch_view.proofs.Apart.{laid_apart}
 use Rattle.patch_view.proofs.Covering.{laid_rests}
 use Rattle.patch_view.proofs.Baring.{laid_image}
+use Rattle.patch_view.proofs.Gapping.{laid_gap}
 use Rattle.std.specs.Prelude.{slice_range}
 use Rattle.std.specs.Vec.{with_items}
 use Rattle.patch_view.proofs.states.BlockState.lay_with.Goals as goal
@@ -43,4 +44,5 @@ invariant_of-self-2 g c =
       rw (items, laid) (laid_image c.self.inside.image c.make_room.new.image c.self.inside.classes.items c.new-class.result c.self.inside.bytes.items c.args.bytes.now c.args.start fits
           (ap (λ (k : Class). k.start) c.new-class.ensures) saves (ap is_takeable c.new-class.ensures)
           c.make_room.ensures c.self.invariant.5),
+      rw items (laid_gap c.self.inside.image c.make_room.new.image c.self.inside.classes.items c.new-class.result c.make_room.ensures c.self.invariant.6),
     )

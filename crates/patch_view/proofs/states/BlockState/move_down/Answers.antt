@@ -43,4 +43,5 @@ invariant_of-self g c =
       rw (c.spread-self-inside-2.ensures, c.len-2.ensures, now) (moved_within (λ (k : Class). k.flying) refl c.deref_mut.result.now c.args.front c.args.k c.self.inside.flying c.self.inside.classes.len fits c.requires.down within
           (subst (FlyingWithin c.self.inside.flying) (sym e) c.self.invariant.4)),
       (λ m is on. no_image c.forget.new.image m c.forget.ensures is on),
+      (λ m is on. no_image c.forget.new.image m c.forget.ensures is on),
     )

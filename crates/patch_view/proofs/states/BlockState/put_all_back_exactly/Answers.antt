@@ -32,4 +32,4 @@ returns g c = restored g c
 pub invariant_of-self : goal.invariant_of-self
 invariant_of-self g c =
     let same = restored g c in
-    (c.self-2.invariant.0, λ i on. absurd (both_ways _ (all_back c.args.self.now i) (subst (λ (b : Block). (class_at b i).taken ≡ true) same on)), c.self-2.invariant.2, c.self-2.invariant.3, c.self-2.invariant.4, c.self-2.invariant.5)
+    (c.self-2.invariant.0, λ i on. absurd (both_ways _ (all_back c.args.self.now i) (subst (λ (b : Block). (class_at b i).taken ≡ true) same on)), c.self-2.invariant.2, c.self-2.invariant.3, c.self-2.invariant.4, c.self-2.invariant.5, c.self-2.invariant.6)

@@ -40,4 +40,5 @@ invariant_of-self g c =
       rw (c.spread_over-self-inside-2.ensures, c.len-2.ensures, c.is_flying-is_flying.ensures) (settled_within (λ (k : Class). k.flying) refl c.self.inside.classes.items c.remove-upper.new.self.items c.args.low c.args.high c.become_both-is_of_both.new.self c.self.inside.flying
           c.remove-upper.new.self.len c.remove-upper.ensures.items within fits c.self.invariant.4),
       (λ m is on. no_image c.forget.new.image m c.forget.ensures is on),
+      (λ m is on. no_image c.forget.new.image m c.forget.ensures is on),
     )

@@ -18,4 +18,5 @@ invariant_of-self g c =
       rw rest (taken_rests c.self.inside.classes.items (c.self.inside.classes.len - 1) c.self.inside.members c.self.inside.rests c.self.invariant.3),
       rw rest (front_within (λ (k : Class). k.flying) refl c.self.inside.classes.items (c.self.inside.classes.len - 1) c.self.inside.flying c.self.invariant.4),
       (λ m is on. no_image c.forget.new.image m c.forget.ensures is on),
+      (λ m is on. no_image c.forget.new.image m c.forget.ensures is on),
     )
