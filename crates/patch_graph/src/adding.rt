@@ -28,6 +28,13 @@ fn push_below<A: Allocator>(made: u32, no: PatchNo, all: &mut NumberList<A>)
     }
 }
 
+/// Whether all of these are below this one.
+fn are_below(made: u32, numbers: &[PatchNo]) -> bool
+    ensures { result ≡ list_all (λ n. nat_lt n made) numbers.now }
+{
+    numbers.iter().all(|no| no.0 < made)
+}
+
 /// Puts numbers behind the others, of those that are below this one: mostly all are, and are copied at once.
 fn push_numbers<A: Allocator>(
     made: u32,
@@ -45,13 +52,6 @@ fn push_numbers<A: Allocator>(
         push_below(made, *no, all);
     }
     Ok(())
-}
-
-/// Whether all of these are below this one.
-fn are_below(made: u32, numbers: &[PatchNo]) -> bool
-    ensures { result ≡ list_all (λ n. nat_lt n made) numbers.now }
-{
-    numbers.iter().all(|no| no.0 < made)
 }
 
 /// The same of the numbers of spans.

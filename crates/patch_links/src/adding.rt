@@ -70,7 +70,7 @@ fn count_gone<A: Allocator>(keys: &Keys<A>, numbers: &[PatchNo]) -> usize
     numbers.len()
 }
 
-/// The same of the classes that these numbers lead to, for as many as there are numbers.
+/// Makes room for as many more followers as there are numbers, of each class that one of them leads to.
 fn reserve_all<A: Allocator>(
     nodes: &mut Nodes<A>,
     keys: &Keys<A>,

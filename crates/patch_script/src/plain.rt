@@ -11,7 +11,7 @@ use fast_float::Numeral;
 use json::{Reader, Scratch, Token};
 use std::alloc::{AllocError, Global};
 
-/// For so many members of an object room is made at once. Lines have no more.
+/// For so many members of an object room is made at once. No step of a script reads more.
 const MEMBERS: usize = 8;
 
 fn has_minus(bytes: &[u8]) -> bool

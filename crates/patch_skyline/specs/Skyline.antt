@@ -25,10 +25,6 @@ AreApart (s ∷ ss) = (s.start < s.stop) × ((t : Span) → In ss t → s.stop �
 abbrev pub IsCutAt : ℕ → List Span → Type 0
 IsCutAt at ss = (s : Span) → In ss s → (s.stop ≤ at) ⊎ (at ≤ s.start)
 
--- the same patches wrote the bytes last
-abbrev pub IsSameSkyline : List Span → List Span → Type 0
-IsSameSkyline old new = (x : ℕ) → top_at new x ≡ top_at old x
-
 -- the span's patch wrote its bytes last now, and of the others who did before
 pub record IsLaid (old new : List Span) (top : Span) : Type 0 where
   pub here : (x : ℕ) → has_byte top x ≡ true → top_at new x ≡ Some top.no
