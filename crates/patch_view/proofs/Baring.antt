@@ -1,5 +1,5 @@
 -- A block's bytes without the classes that may be taken, as the classes change.
-use Rattle.std.proofs.Common.{◌≡◌, ℕ, zero, suc, ◌+◌, ◌-◌, ◌<◌, ◌≤◌, ◌⊎◌, ◌∙◌, true, false, not, inl, inr, List, [], ◌∷◌, ◌++◌, length, filter, drop, get_or, set, get_or-set_same, get_or-set_other, refl, sym, ap, subst, arith, Bool, Option, Some}
+use Rattle.std.proofs.Common.{◌≡◌, ◌≢◌, ℕ, zero, suc, ◌+◌, ◌-◌, ◌<◌, ◌≤◌, ◌⊎◌, ◌∙◌, true, false, not, inl, inr, List, [], ◌∷◌, ◌++◌, length, filter, drop, get_or, set, get_or-set_same, get_or-set_other, refl, sym, ap, subst, arith, Bool, Option, Some}
 use Rattle.std.specs.Prelude.{slice_range}
 use Rattle.std.specs.List.{remove}
 use Rattle.std.proofs.lemmas.Bool.{cases_Bool, cases_eq, cases_lt, both_ways, and_from, not-true, lt-ltb}
@@ -8,7 +8,7 @@ use Rattle.std.proofs.lemmas.List.Edits.{length-between}
 use Rattle.patch_view.specs.State.{Class, Block, no_class, is_takeable, uncovered, laid_on, laid_over, swept_to, departed}
 use Rattle.patch_view.specs.declared.gaps.Gap.{Gap}
 use Rattle.patch_view.specs.Gaps.{saves_any, saved_end}
-use Rattle.patch_view.specs.Images.{Image, bared, IsTrimmed, KnownImage, IsForgotten, StaysIf, IsDrawnOf, KeepsSpan, IsAlone}
+use Rattle.patch_view.specs.Images.{Image, bared, IsTrimmed, KnownImage, IsForgotten, StaysIf, IsDrawnOf, KeepsSpan, IsAlone, IsAloneBelow, IsApartAt}
 use Rattle.patch_view.proofs.Imaging.{swept-bytes}
 use Rattle.patch_view.proofs.Chain.{laid-inside, range-at}
 use Rattle.patch_view.proofs.Joining.{length-laid_over, outside-low}
@@ -287,3 +287,20 @@ class_is cs at c w is = is ∙ get_or_default cs at c no_class w
 -- with another gap
 pub trimmed_image : (old new : Option Image) (cs : List Class) (bytes : List ℕ) (count : ℕ) → IsTrimmed count old new → KnownImage old cs bytes → KnownImage new cs bytes
 trimmed_image old new cs bytes count t k m is on = let b = t m is on in b.bytes ∙ k b.before b.was b.known
+
+pub next_alone : (cs : List Class) (at n : ℕ) → IsAloneBelow cs at n → IsApartAt cs at n → IsAloneBelow cs at (n + 1)
+next_alone cs at n a p k w = elim (cases_eq k n) [
+  | inl e ↦ subst (λ (z : ℕ). IsApartAt cs at z) (sym e) p
+  | inr ne ↦ a k (omega arith)
+]
+
+-- what tells that a class isn't in the way
+pub apart_unless : (cs : List Class) (at k start stop : ℕ) (c : Class) → c ≡ get_or cs k no_class → start ≡ (get_or cs at no_class).start → stop ≡ saved_end (get_or cs at no_class)
+    → saved_end c ≤ 4096 → (k ≢ at → is_takeable c ≡ true → saves_any c start stop ≡ false) → IsApartAt cs at k
+apart_unless cs at k start stop c is starts stops fits apart = record {
+  fits = subst (λ d. saved_end d ≤ 4096) is fits;
+  apart = λ ne t.
+      ap (λ d. saves_any d (get_or cs at no_class).start (saved_end (get_or cs at no_class))) (sym is)
+      ∙ ap (λ (z : ℕ). saves_any c z (saved_end (get_or cs at no_class))) (sym starts) ∙ ap (λ (z : ℕ). saves_any c start z) (sym stops)
+      ∙ apart ne (ap is_takeable is ∙ t);
+}

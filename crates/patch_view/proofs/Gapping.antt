@@ -8,8 +8,8 @@ use Rattle.std.proofs.lemmas.List.{length-set, length-take-le, length_push, get_
 use Rattle.std.proofs.lemmas.List.Edits.{length-remove, get_or-remove_below}
 use Rattle.patch_view.specs.State.{Class, no_class, is_takeable, departed}
 use Rattle.patch_view.specs.declared.gaps.Gap.{Gap}
-use Rattle.patch_view.specs.Gaps.{has_bytes, begun_gap, saves_any, saved_end, IsRound, IsBeside, IsGap, AreBeside}
-use Rattle.patch_view.specs.Images.{Image, StaysIf, IsDrawnOf, KeepsSpan, IsTrimmed, IsAlone, IsApartAt, DepartsIn, KnownGap}
+use Rattle.patch_view.specs.Gaps.{has_bytes, begun_gap, saves_any, saved_end, IsRound, IsBeside, IsGap, IsGapRound, AreBeside, missed}
+use Rattle.patch_view.specs.Images.{Image, StaysIf, IsDrawnOf, KeepsSpan, IsTrimmed, IsAlone, IsAloneBelow, IsApartAt, StandsAlone, DepartsIn, KnownGap}
 use Rattle.patch_view.proofs.Baring.{flies}
 
 -- what is beside some bytes is beside those that lie among them
@@ -58,20 +58,32 @@ next-beside cs at n start stop from to low high all one k less apart = elim (cas
 pub passed-beside : (cs : List Class) (at n start stop : ℕ) → n ≡ at → AreBeside cs at n start stop → AreBeside cs at (n + 1) start stop
 passed-beside cs at n start stop here all k less apart = all k (omega (arith, less, here, apart)) apart
 
--- the class stands alone
+-- the class stands alone, in the gap round it
+pub round-alone : (cs : List Class) (at : ℕ) (g : Gap) → IsGapRound g cs at → StandsAlone cs at g
+round-alone cs at g r =
+    let all = r.all in
+    record {
+      others = λ k less. elim (cases_eq k at) [
+        | inl e ↦ subst (λ (z : ℕ). IsApartAt cs at z) (sym e) (record { fits = r.fits; apart = λ ne. absurd (ne refl) })
+        | inr ne ↦
+            let b = r.beside k less ne in
+            record {
+              fits = b.fits;
+              apart = λ _ t. off-within (get_or cs k no_class) g.start g.stop (get_or cs at no_class).start (saved_end (get_or cs at no_class)) r.round.0 r.round.1 (b.off t);
+            }
+      ];
+      gap = record {
+        within = omega (arith, all);
+        beside = λ k less apart. r.beside k (omega (arith, less, all)) apart;
+      };
+    }
+
+-- or elsewhere
+pub missed-alone : (cs : List Class) (at : ℕ) (g : Gap) → IsGap g cs → IsAloneBelow cs at (length cs) → StandsAlone cs at (missed g)
+missed-alone cs at g is others = record { others = others; gap = record { within = is.within; beside = λ k less apart. is.beside k less } }
+
 pub alone-in : (cs : List Class) (at : ℕ) (g : Gap) → DepartsIn cs at g → IsAlone cs at
-alone-in cs at g d = record {
-  takeable = d.takeable;
-  others = λ k less. elim (cases_eq k at) [
-    | inl e ↦ subst (λ (z : ℕ). IsApartAt cs at z) (sym e) (record { fits = d.round.fits; apart = λ ne. absurd (ne refl) })
-    | inr ne ↦
-        let b = d.round.beside k less ne in
-        record {
-          fits = b.fits;
-          apart = λ _ t. off-within (get_or cs k no_class) g.start g.stop (get_or cs at no_class).start (saved_end (get_or cs at no_class)) d.round.round.0 d.round.round.1 (b.off t);
-        }
-  ];
-}
+alone-in cs at g d = record { takeable = d.takeable; others = d.alone.others }
 
 -- and departs
 pub departed_gap : (old new : Option Image) (cs : List Class) (c : Class) (at start stop : ℕ) (bytes : List ℕ) (gap : Option Gap) → at < length cs → c ≡ departed (get_or cs at no_class)
@@ -79,18 +91,18 @@ pub departed_gap : (old new : Option Image) (cs : List Class) (c : Class) (at st
 departed_gap old new cs c at start stop bytes gap w is a keeps m now on =
     let d = a m.gap (keeps m now on).0 in
     let long = length-set cs at c in
-    let all = d.round.all in
+    let within = d.alone.gap.within in
     record {
-      within = omega (arith, long, all);
+      within = omega (arith, long, within);
       beside = λ k less. elim (cases_eq k at) [
         | inl e ↦
             let here : get_or (set cs at c) k no_class ≡ departed (get_or cs at no_class) =
             ap (λ (z : ℕ). get_or (set cs at c) z no_class) e ∙ get_or-set_same cs at c no_class w ∙ is in
-            let fits = d.round.fits in
+            let fits = (d.alone.others at w).fits in
             subst (λ x. IsBeside x m.gap.start m.gap.stop) (sym here)
             (hidden (departed (get_or cs at no_class)) m.gap.start m.gap.stop (omega (arith, fits)) (flies (departed (get_or cs at no_class)) refl))
         | inr ne ↦
-            subst (λ x. IsBeside x m.gap.start m.gap.stop) (sym (get_or-set_other cs at k c no_class ne)) (d.round.beside k (omega (arith, less, all)) ne)
+            subst (λ x. IsBeside x m.gap.start m.gap.stop) (sym (get_or-set_other cs at k c no_class ne)) (d.alone.gap.beside k less ne)
       ];
     }
 

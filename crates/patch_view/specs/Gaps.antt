@@ -14,10 +14,14 @@ saved_end c = c.start + length c.saved
 
 -- the whole block, of no class
 abbrev pub no_gap : Gap
-no_gap = record { count = 0; start = 0; stop = BLOCK }
+no_gap = record { count = 0; start = 0; stop = BLOCK; misses = 0 }
 
 abbrev pub of_first : Gap → ℕ → Gap
 of_first g count = record g { count = min g.count count }
+
+-- a class more departed elsewhere, as far as a usize counts
+abbrev pub missed : Gap → Gap
+missed g = record g { misses = min (g.misses + 1) 18446744073709551615 }
 
 abbrev pub has_bytes : Gap → ℕ → ℕ → Bool
 has_bytes g start stop = nat_le g.start start && nat_le stop g.stop
@@ -56,3 +60,8 @@ pub record IsGapRound (g : Gap) (cs : List Class) (at : ℕ) : Type 0 where
   pub fits : saved_end (slice_index_or cs at no_class) ≤ BLOCK
   pub round : IsRound g (slice_index_or cs at no_class).start (saved_end (slice_index_or cs at no_class))
   pub beside : AreBeside cs at (length cs) g.start g.stop
+
+-- each of the first so many but the class at the place is beside it
+pub record IsGapBut (g : Gap) (cs : List Class) (at : ℕ) : Type 0 where
+  pub within : g.count ≤ length cs
+  pub beside : AreBeside cs at g.count g.start g.stop

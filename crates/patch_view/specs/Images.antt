@@ -2,7 +2,7 @@
 use Rattle.std.specs.Prelude.{ℕ, Bool, true, false, ◌≡◌, ◌≢◌, ◌⊎◌, ◌<◌, ◌≤◌, List, [], ◌∷◌, length, slice_index_or, slice_range, Option, Some}
 use Rattle.patch_model.specs.declared.blocks.TheConstants.{BLOCK}
 use Rattle.patch_view.specs.State.{Class, no_class, is_takeable, uncovered, laid_over}
-use Rattle.patch_view.specs.Gaps.{no_gap, of_first, saves_any, saved_end, IsGap, IsGapRound}
+use Rattle.patch_view.specs.Gaps.{no_gap, of_first, saves_any, saved_end, IsGap, IsGapBut}
 use Rattle.patch_view.specs.declared.gaps.Gap.{Gap}
 
 -- bytes, whether they are known to be those of a block without such classes, and a gap beside what its first classes saved
@@ -80,7 +80,12 @@ pub record IsAlone (cs : List Class) (at : ℕ) : Type 0 where
   pub takeable : is_takeable (slice_index_or cs at no_class) ≡ true
   pub others : IsAloneBelow cs at (length cs)
 
--- it stands alone in the gap
+-- no other class that may be taken saved one of its bytes, and the others are still beside the gap
+pub record StandsAlone (cs : List Class) (at : ℕ) (g : Gap) : Type 0 where
+  pub others : IsAloneBelow cs at (length cs)
+  pub gap : IsGapBut g cs at
+
+-- the class at a place may be taken and stands alone, and leaves the gap
 pub record DepartsIn (cs : List Class) (at : ℕ) (g : Gap) : Type 0 where
   pub takeable : is_takeable (slice_index_or cs at no_class) ≡ true
-  pub round : IsGapRound g cs at
+  pub alone : StandsAlone cs at g

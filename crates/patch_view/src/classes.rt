@@ -5,7 +5,7 @@ ghost use Rattle.std.specs.List.Sorted.{IsNonDecreasing};
 ghost use Rattle.patch_model.specs.Entry.{is_among};
 ghost use Rattle.patch_view.specs.State.{is_takeable, uncovered, laid_on, exchanged_with, leaves_taken, meets, names, hardened, departed, departed_among, MayHaveDeparted, merged, IsMerged, IsDrawn};
 ghost use Rattle.patch_view.specs.State.{spans, follow_on, has_room_for, is_around, with_lists_of, with_all_of, in_its_place, with_lists};
-ghost use Rattle.patch_view.specs.Gaps.{saved_end};
+ghost use Rattle.patch_view.specs.Gaps.{saved_end, saves_any};
 ghost use Rattle.patch_view.specs.Rests.{IsFree, IsUnion, HasListsOf};
 
 use crate::number_lists::{NumberList, interleave, is_interleaved, is_listed, least_of, place_in};
@@ -488,6 +488,14 @@ impl<A: Allocator> Class<A> {
         ensures fits { result ≤ BLOCK }
     {
         self.start + self.saved.len()
+    }
+
+    /// Whether it saved a byte from one place up to another.
+    pub(crate) fn saves_any(&self, start: usize, stop: usize) -> bool
+        ensures exact { result ≡ saves_any self.now start stop }
+        ensures fits { saved_end self.now ≤ BLOCK }
+    {
+        self.start < stop && start < self.start + self.saved.len()
     }
 
     /// Lays the saved bytes on a copy of the block's, where the class may be taken and isn't.

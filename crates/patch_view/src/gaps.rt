@@ -1,20 +1,28 @@
 //! What lies between the bytes that a block's classes saved.
 //!
 //! Where many classes wait, those that depart are mostly beside them, one after another: what was found of the first classes
-//! holds of the next ones too.
-ghost use Rattle.std.specs.Prelude.{◌≡◌, ◌<◌, length, IfSome};
-ghost use Rattle.patch_view.specs.Gaps.{no_gap, of_first, begun_gap, IsRound, IsNarrowed, IsGap, IsGapRound};
+//! holds of the next ones too. Where they depart all over the block, a gap is seldom worth its measuring: then each is compared
+//! with the others alone.
+ghost use Rattle.std.specs.Prelude.{◌≡◌, ◌<◌, length, slice_index_or, IfSome, IsTrue};
+ghost use Rattle.patch_view.specs.State.{no_class};
+ghost use Rattle.patch_view.specs.Gaps.{no_gap, of_first, missed, has_bytes, begun_gap, saved_end, IsRound, IsNarrowed, IsGap, IsGapRound};
+ghost use Rattle.patch_view.specs.Images.{IsAloneBelow, IsApartAt, StandsAlone};
 
 use crate::classes::Class;
 use patch_model::BLOCK;
 use std::alloc::Allocator;
 
-/// A part of a block of which no class saved a byte that may be taken, among so many from the lowest on.
+/// After so many classes that departed elsewhere, one after another, a gap is measured anew.
+const MOST_MISSES: usize = 7;
+
+/// A part of a block of which no class saved a byte that may be taken, among so many from the lowest on, and how many classes
+/// departed elsewhere since it was measured or one departed in it.
 #[derive(Clone, Copy)]
 pub(crate) struct Gap {
     pub(crate) count: usize,
     pub(crate) start: usize,
     pub(crate) stop: usize,
+    pub(crate) misses: usize,
 }
 
 impl Gap {
@@ -26,6 +34,7 @@ impl Gap {
             count: 0,
             start: 0,
             stop: BLOCK,
+            misses: 0,
         }
     }
 
@@ -37,14 +46,34 @@ impl Gap {
             count: self.count.min(count),
             start: self.start,
             stop: self.stop,
+            misses: self.misses,
         }
+    }
+
+    /// One class more departed elsewhere.
+    fn missed(self) -> Gap
+        ensures { result ≡ missed self }
+    {
+        Gap {
+            count: self.count,
+            start: self.start,
+            stop: self.stop,
+            misses: self.misses.saturating_add(1),
+        }
+    }
+
+    /// Whether these bytes lie in it.
+    fn has(self, start: usize, stop: usize) -> bool
+        ensures { result ≡ has_bytes self start stop }
+    {
+        self.start <= start && stop <= self.stop
     }
 
     /// The gap itself, where the bytes lie in it; else the whole block, of no class yet.
     fn begun(self, start: usize, stop: usize) -> Gap
         ensures { result ≡ begun_gap self start stop }
     {
-        if self.start <= start && stop <= self.stop {
+        if self.has(start, stop) {
             self
         } else {
             Gap::none()
@@ -62,6 +91,7 @@ impl Gap {
                 count: self.count,
                 start: self.start.max(end),
                 stop: self.stop,
+                misses: 0,
             });
         }
         if stop <= class.start() {
@@ -69,6 +99,7 @@ impl Gap {
                 count: self.count,
                 start: self.start,
                 stop: self.stop.min(class.start()),
+                misses: 0,
             });
         }
         if class.is_takeable() {
@@ -80,7 +111,7 @@ impl Gap {
 
 /// The gap round the bytes that the class at a place saved, if they are beside those of all others that may be taken. Where they
 /// lie in a gap that is known, its classes aren't asked again.
-pub(crate) fn gap_round<A: Allocator>(classes: &[Class<A>], known: Gap, at: usize) -> Option<Gap>
+fn gap_round<A: Allocator>(classes: &[Class<A>], known: Gap, at: usize) -> Option<Gap>
     requires there { at < length classes.now }
     requires gap { IsGap known classes.now }
     ensures { IfSome result (λ gap. IsGapRound gap classes.now at) }
@@ -98,5 +129,62 @@ pub(crate) fn gap_round<A: Allocator>(classes: &[Class<A>], known: Gap, at: usiz
         count: classes.len(),
         start: gap.start,
         stop: gap.stop,
+        misses: 0,
     })
+}
+
+/// Whether no other class that may be taken saved one of the bytes that the class at a place saved.
+fn are_others_elsewhere<A: Allocator>(classes: &[Class<A>], at: usize) -> bool
+    requires { at < length classes.now }
+    ensures { IsTrue result → IsAloneBelow classes.now at (length classes.now) }
+{
+    let class = &classes[at];
+    let (start, stop) = (class.start(), class.saved_end());
+    for other in 0..classes.len() {
+        if !is_apart(classes, at, other, start, stop) {
+            return false;
+        }
+    }
+    true
+}
+
+/// Whether the class at another place isn't one that may be taken and saved a byte from one place up to another, where the first
+/// class saved its bytes.
+fn is_apart<A: Allocator>(
+    classes: &[Class<A>],
+    at: usize,
+    other: usize,
+    start: usize,
+    stop: usize,
+) -> bool
+    requires within { other < length classes.now }
+    requires start { start ≡ (slice_index_or classes.now at no_class).start }
+    requires stop { stop ≡ saved_end (slice_index_or classes.now at no_class) }
+    ensures { IsTrue result → IsApartAt classes.now at other }
+{
+    let class = &classes[other];
+    if !class.saves_any(start, stop) {
+        return true;
+    }
+    if other == at {
+        return true;
+    }
+    !class.is_takeable()
+}
+
+/// The gap that is known once the class at a place departed, if that stands alone. One in which it lies is kept, as narrow as the
+/// classes make it that came since. Else it is counted as a miss, until a gap round these bytes is measured.
+pub(crate) fn gap_left<A: Allocator>(classes: &[Class<A>], known: Gap, at: usize) -> Option<Gap>
+    requires there { at < length classes.now }
+    requires gap { IsGap known classes.now }
+    ensures { IfSome result (λ gap. StandsAlone classes.now at gap) }
+{
+    let class = &classes[at];
+    if known.has(class.start(), class.saved_end()) || known.misses >= MOST_MISSES {
+        return gap_round(classes, known, at);
+    }
+    if !are_others_elsewhere(classes, at) {
+        return None;
+    }
+    Some(known.missed())
 }

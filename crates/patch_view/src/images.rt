@@ -8,7 +8,7 @@ ghost use Rattle.patch_view.specs.Gaps.{no_gap, of_first};
 ghost use Rattle.patch_view.specs.Images.{bared, IsForgotten, StaysIf, IsDrawnOf, KeepsSpan, IsCopied, IsTrimmed, KnownGap, DepartsIn};
 
 use crate::classes::Class;
-use crate::gaps::{Gap, gap_round};
+use crate::gaps::{Gap, gap_left};
 use patch_model::{BLOCK, OutOfMemory};
 use std::alloc::{Allocator, Global};
 use std::marker::Model;
@@ -153,8 +153,8 @@ pub(crate) fn draw_unless_known<A: Allocator>(
     }
 }
 
-/// What becomes of the image where a class departs: it has the block's own bytes where the class saved some, and the gap round
-/// these. If the class doesn't stand alone there, nothing is known.
+/// What becomes of the image where a class departs: it has the block's own bytes where the class saved some, and the gap that is
+/// left. If the class doesn't stand alone there, nothing is known.
 pub(crate) fn keep_span<A: Allocator>(
     image: &mut Option<Image<A>>,
     block: &[u8],
@@ -203,7 +203,8 @@ pub(crate) fn copy_image<A: Allocator>(image: &Option<Image<A>>, copy: &mut [u8]
     }
 }
 
-/// The gap in which the class at a place stands alone, where the image is known, and the class may be taken.
+/// The gap that is left once the class at a place departed, where the image is known, and the class may be taken and stands
+/// alone.
 pub(crate) fn gap_of_departing<A: Allocator>(
     image: &Option<Image<A>>,
     classes: &[Class<A>],
@@ -215,8 +216,8 @@ pub(crate) fn gap_of_departing<A: Allocator>(
 {
     match image {
         Some(image) => {
-            if image.is_known && classes[at].is_takeable() {
-                gap_round(classes, image.gap, at)
+            if image.is_known() && classes[at].is_takeable() {
+                gap_left(classes, image.gap, at)
             } else {
                 None
             }
