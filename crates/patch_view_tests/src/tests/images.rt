@@ -168,6 +168,23 @@ fn one_after_another_is_sent_in_a_gap(rt: HostRuntime) -> Result<(), Fail> {
     send_in_gaps(&rt, rt.alloc())
 }
 
+// Rounds by turns between the heaps and before them, each elsewhere than the one before, and one on a byte where a class waits.
+fn send_by_turns(rt: &impl Abort, alloc: Global) -> Result<(), Fail> {
+    let mut pair = two_heaps(rt, alloc)?;
+    for turn in 0..12u32 {
+        pair.round(rt, WAITING + 2 * turn, 2000 + turn as usize)?;
+        pair.round(rt, WAITING + 2 * turn + 1, 500 + turn as usize)?;
+    }
+    pair.round(rt, 64, 1004)?;
+    pair.round(rt, 65, 2005)?;
+    Ok(())
+}
+
+#[test]
+fn each_is_sent_elsewhere_than_the_last(rt: HostRuntime) -> Result<(), Fail> {
+    send_by_turns(&rt, rt.alloc())
+}
+
 // In a gap where some were sent another one comes to wait, and more are sent there.
 fn send_where_one_waits(rt: &impl Abort, pair: &mut Pair) -> Result<(), OutOfMemory> {
     pair.round(rt, 50, 2000)?;
