@@ -14,6 +14,9 @@ use json::Scratch;
 use serde_json::Value;
 use std::alloc::Global;
 
+/// So many lines behind one that isn't plain are read as trees at once: the lines of a script are mostly alike.
+const TREES: usize = 7;
+
 /// A reader of lines of one kind. Each is a JSON object with an op, which is a text.
 pub trait LineReader {
     /// What a line asks for.
@@ -122,11 +125,12 @@ fn read_any_object<K: ObjectReader>(
     read_object(alloc, reader, &Object::of_value(&value))
 }
 
-/// What is on a line, nothing on a blank one.
+/// What is on a line, nothing on a blank one. So many of the next ones are read as trees at once.
 pub fn read_object_line<K: ObjectReader>(
     alloc: Global,
     reader: &K,
     scratch: &mut Scratch,
+    trees: &mut usize,
     bytes: &[u8],
 ) -> Result<Option<K::Line>, LineError>
     ensures { Gives result (line_by (K.says reader.now) bytes.now) }
@@ -134,8 +138,13 @@ pub fn read_object_line<K: ObjectReader>(
     if is_blank_line(bytes) {
         return Ok(None);
     }
+    if *trees > 0 {
+        *trees -= 1;
+        return Ok(Some(read_any_object(alloc, reader, bytes)?));
+    }
     if let Some(object) = read_plain_object(alloc, bytes, scratch)? {
         return Ok(Some(read_object(alloc, reader, &object)?));
     }
+    *trees = TREES;
     Ok(Some(read_any_object(alloc, reader, bytes)?))
 }

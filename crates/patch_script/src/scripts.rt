@@ -75,11 +75,12 @@ pub fn read_objects<K: ObjectReader>(
     ensures { Reads result (lines_by (K.says reader.now) text.now) }
 {
     let mut scratch = Scratch::new(alloc);
+    let mut trees = 0;
     let mut found = Vec::new(alloc);
     let mut number = 0;
     for bytes in Lines::of(text) {
         number += 1;
-        match read_object_line(alloc, reader, &mut scratch, bytes) {
+        match read_object_line(alloc, reader, &mut scratch, &mut trees, bytes) {
             Ok(None) => (),
             Ok(Some(line)) => {
                 if found.push(line).is_err() {

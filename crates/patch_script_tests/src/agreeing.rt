@@ -242,3 +242,45 @@ fn nested_lines_are_read_from_objects_as_from_trees(rt: HostRuntime) -> Result<(
     }
     Ok(())
 }
+
+const DISTANCES: [usize; 6] = [1, 2, 7, 8, 9, 20];
+
+/// Twenty lines, of which one each so many isn't plain, with another line at a place.
+fn mixed_script(
+    alloc: Global,
+    distance: usize,
+    place: usize,
+    line: &str,
+) -> Result<String, AllocError> {
+    let mut text = String::new(alloc);
+    for at in 0..20usize {
+        if at == place {
+            text.push_str(line)?;
+        } else if at % distance.max(1) == 0 {
+            text.push_str("{\"op\":\"sync\",\"group\":6,\"x\":{}}")?;
+        } else {
+            text.push_str("{\"op\":\"send\",\"block\":1}")?;
+        }
+        text.push_str("\n")?;
+    }
+    Ok(text)
+}
+
+fn expect_same_among(rt: &impl Abort, alloc: Global, line: &str) -> Result<(), AllocError> {
+    for distance in DISTANCES.iter() {
+        for place in 0..20 {
+            let script = mixed_script(alloc, *distance, place, line)?;
+            expect_same(rt, alloc, script.as_bytes())?;
+        }
+    }
+    Ok(())
+}
+
+#[test]
+fn lines_among_others_are_read_from_objects_as_from_trees(rt: HostRuntime) -> Result<(), Fail> {
+    let alloc = rt.alloc();
+    for line in LINES.iter() {
+        expect_same_among(&rt, alloc, *line)?;
+    }
+    Ok(())
+}
