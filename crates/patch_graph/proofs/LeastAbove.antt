@@ -1,7 +1,7 @@
 -- What lies between two classes, by what leads to the second one.
-use Rattle.std.proofs.Common.{◌≡◌, ℕ, ◌≤◌, ◌⊎◌, ◌∙◌, inl, inr, Bool, true, false, not, List, length, sym, ap, arith, subst, Option, Some, None, Bor}
+use Rattle.std.proofs.Common.{◌≡◌, ℕ, ◌≤◌, ◌∙◌, inl, inr, Bool, true, false, not, List, length, sym, ap, arith, subst, Option, Some, None, Bor}
 use Rattle.std.specs.Prelude.{◌==◌, ◌&&◌, ◌≢◌}
-use Rattle.std.proofs.lemmas.Bool.{cases_eq, and_parts, and_from, both_ways, eqb-true, eq-eqb, ne_eqb, not-true}
+use Rattle.std.proofs.lemmas.Bool.{and_parts, and_from, both_ways, eqb-true, eq-eqb, ne_eqb, not-true}
 use Rattle.patch_model.specs.Entry.{Entry, is_live}
 use Rattle.patch_model.specs.Dependency.{Path, LiesBetween}
 use Rattle.patch_model.specs.Member.{list_any-at, list_any-from}
@@ -14,6 +14,7 @@ use Rattle.patch_graph.specs.Search.{depends_at, steps, IsReachable}
 use Rattle.patch_graph.specs.declared.searching.Way.TheVariants.{Up, Among}
 use Rattle.patch_graph.specs.Between.{lies, IsLeastOf, HasNoRing, IsLeastBetween}
 use Rattle.patch_graph.proofs.Places.{place-of}
+use Rattle.patch_graph.proofs.Settling.{marked_below}
 use Rattle.patch_graph.proofs.ReadySet.{placed, class_same}
 use Rattle.patch_graph.proofs.Going.{depends}
 use Rattle.patch_graph.proofs.Reaching.{target, Leads-path, path-leads, joined-leads, one-key, reached-up, reached-among}
@@ -37,24 +38,19 @@ module _ (g : Graph) (all : List Entry) (r : Represents g all) where
         | inr p ↦ elim (Leads-path g all r j k d c back at2 at) [ inl e ↦ differ (sym e) | inr q ↦ no_ring c.name d.name differ p q ]
       ]
 
-  module _ (from to : ℕ) (marks : List Bool) (low : KeysFit g.slots (length marks)) (up : IsReachable (steps g.slots g.numbers Up) to from marks) where
-    -- a class that leads to the second end is marked, or it leads to the first one, which is
-    above : (k : ℕ) → Leads g.slots g.numbers k to → (is_marked marks k ≡ true) ⊎ ((is_marked marks from ≡ true) × Leads g.slots g.numbers k from)
-    above k (one c at t) = elim (cases_eq to from) [
-      | inl e ↦ inr (subst (λ z. is_marked marks z ≡ true) e up.first, subst (λ z. Leads g.slots g.numbers k z) e (one c at t))
-      | inr other ↦ inl (up.closed to k up.first other (depends g.slots g.numbers k to c at t) (low k c at))
-    ]
-    above k (onward {j = j} c at t rest) = elim (above j rest) [
-      | inl m ↦ elim (cases_eq j from) [
-        | inl e ↦ inr (subst (λ z. is_marked marks z ≡ true) e m, subst (λ z. Leads g.slots g.numbers k z) e (one c at t))
-        | inr other ↦ inl (up.closed j k m other (depends g.slots g.numbers k j c at t) (low k c at))
-      ]
-      | inr q ↦ inr (q.0, onward c at t q.1)
-    ]
+  module _ (to : ℕ) (marks : List Bool) (low : KeysFit g.slots (length marks)) (up : IsReachable (steps g.slots g.numbers Up) to (length marks) marks) where
+    -- no marked class is where the search may stop
+    no_stop : (k : ℕ) → is_marked marks k ≡ true → k ≢ length marks
+    no_stop k m e = let h = marked_below marks k m in absurd (omega (arith, h, e))
 
-  module _ (x y from to : ℕ) (cx cy : Class) (keys : List ℕ) (marks : Bor (List Bool)) (met dead : List Bool) (none : AreClear dead) (low : KeysFit g.slots (length marks.now)) (room : length marks.now ≤ length met) (no_ring : HasNoRing all)
+    -- a class that leads to the second end is marked
+    above : (k : ℕ) → Leads g.slots g.numbers k to → is_marked marks k ≡ true
+    above k (one c at t) = up.closed to k up.first (no_stop to up.first) (depends g.slots g.numbers k to c at t) (low k c at)
+    above k (onward {j = j} c at t rest) = let m = above j rest in up.closed j k m (no_stop j m) (depends g.slots g.numbers k j c at t) (low k c at)
+
+  module _ (x y from to : ℕ) (cx cy : Class) (keys : List ℕ) (marks : Bor (List Bool)) (met dead : List Bool) (none : AreClear dead) (low : KeysFit g.slots (length marks.now)) (wide : KeysFit g.slots (length met)) (no_ring : HasNoRing all)
       (held : HoldsMarked met keys) (ax : class_at g.slots from ≡ Some cx) (ay : class_at g.slots to ≡ Some cy) (nx : cx.name ≡ x) (ny : cy.name ≡ y)
-      (up : IsReachable (steps g.slots g.numbers Up) to from marks.now) (hit : is_marked marks.now from ≡ true) (down : IsReachable (steps g.slots g.numbers (Among marks)) from to met) where
+      (up : IsReachable (steps g.slots g.numbers Up) to (length marks.now) marks.now) (down : IsReachable (steps g.slots g.numbers (Among marks)) from to met) where
     test-lies : (k : ℕ) (c : Class) → class_at g.slots k ≡ Some c → lies met dead from to k ≡ true → LiesBetween all x y c.name
     test-lies k c at t =
         let t1 = lies-parts met dead from to k t in
@@ -76,25 +72,14 @@ module _ (g : Graph) (all : List Entry) (r : Represents g all) where
 
     -- a search among what leads to the second end comes to each class that lies between
     comes : (m : ℕ) → m ≢ to → Leads g.slots g.numbers m to → is_marked marks.now m ≡ true → (cm : Class) → class_at g.slots m ≡ Some cm → (k : ℕ) → is_marked met k ≡ true → k ≢ to → Leads g.slots g.numbers k m → is_marked met m ≡ true
-    comes m not_to on marked cm am k t other (one c at u) = down.closed k m t other (and_from (depends_at g.slots g.numbers k m) (is_marked marks.now m) (depends g.slots g.numbers k m c at u) marked) (let h = low m cm am in omega (arith, h, room))
+    comes m not_to on marked cm am k t other (one c at u) = down.closed k m t other (and_from (depends_at g.slots g.numbers k m) (is_marked marks.now m) (depends g.slots g.numbers k m c at u) marked) (wide m cm am)
     comes m not_to on marked cm am k t other (onward {j = j} c at u rest) =
         let w = target g all r c j u in
         let cj = w.1 in
         let aj = w.4 in
         let not_last : j ≢ to = λ e. apart no_ring m to cm cy am ay not_to on (subst (λ z. Leads g.slots g.numbers z m) e rest) in
-        let marked_j : is_marked marks.now j ≡ true = elim (above from to marks.now low up j (joined-leads g all r j m to rest on)) [
-          | inl h ↦ h
-          | inr q ↦ elim (cases_eq j from) [
-            | inl e ↦ ap (is_marked marks.now) e ∙ hit
-            | inr d ↦
-                let out : Leads g.slots g.numbers from j = elim (reached-among g.slots g.numbers marks from k (down.reached k t)) [
-                  | inl e ↦ subst (λ z. Leads g.slots g.numbers z j) (sym e) (one c at u)
-                  | inr way ↦ joined-leads g all r from k j way.0 (one c at u)
-                ] in
-                absurd (apart no_ring j from cj cx aj ax d q.1 out)
-          ]
-        ] in
-        comes m not_to on marked cm am j (down.closed k j t other (and_from (depends_at g.slots g.numbers k j) (is_marked marks.now j) (depends g.slots g.numbers k j c at u) marked_j) (let h = low j cj aj in omega (arith, h, room))) not_last rest
+        let marked_j : is_marked marks.now j ≡ true = above to marks.now low up j (joined-leads g all r j m to rest on) in
+        comes m not_to on marked cm am j (down.closed k j t other (and_from (depends_at g.slots g.numbers k j) (is_marked marks.now j) (depends g.slots g.numbers k j c at u) marked_j) (wide j cj aj)) not_last rest
 
     lies-test : (m : ℕ) → LiesBetween all x y m → (k : ℕ) × (c : Class) × (class_at g.slots k ≡ Some c) × (lies met dead from to k ≡ true) × (c.name ≡ m)
     lies-test m b =
@@ -107,7 +92,7 @@ module _ (g : Graph) (all : List Entry) (r : Represents g all) where
         let not_to : f.0 ≢ to = λ k. b.not_last (sym named ∙ ap (λ z. z.name) (class_same f.1 cy (sym f.3 ∙ ap (class_at g.slots) k ∙ ay)) ∙ ny) in
         let out : Leads g.slots g.numbers from f.0 = elim (path-leads g all r x m from f.0 cx f.1 b.from nx named ax f.3) [ inl k ↦ absurd (not_from (sym k)) | inr q ↦ q ] in
         let on : Leads g.slots g.numbers f.0 to = elim (path-leads g all r m y f.0 to f.1 cy b.to named ny f.3 ay) [ inl k ↦ absurd (not_to k) | inr q ↦ q ] in
-        let marked : is_marked marks.now f.0 ≡ true = elim (above from to marks.now low up f.0 on) [ inl h ↦ h | inr q ↦ absurd (apart no_ring f.0 from f.1 cx f.3 ax not_from q.1 out) ] in
+        let marked : is_marked marks.now f.0 ≡ true = above to marks.now low up f.0 on in
         let not_last : from ≢ to = λ k. apart no_ring f.0 from f.1 cx f.3 ax not_from (subst (λ z. Leads g.slots g.numbers f.0 z) (sym k) on) out in
         let t = comes f.0 not_to on marked f.1 f.3 from down.first not_last out in
         (f.0, f.1, f.3, lies-from met dead from to f.0 none t (and_from _ _ (ap not (ne_eqb f.0 from not_from)) (ap not (ne_eqb f.0 to not_to))), named)
@@ -128,18 +113,18 @@ module _ (g : Graph) (all : List Entry) (r : Represents g all) where
           let e = k.4 in omega arith,
     )
 
-pub above_is : (g : Graph) (all : List Entry) (a b x y from to : ℕ) (keys : List ℕ) (marks : Bor (List Bool)) (met dead : List Bool) (o : Option ℕ) → AreClear dead → Represents g all → HasNoRing all → KeysFit g.slots (length marks.now) → length marks.now ≤ length met
+pub above_is : (g : Graph) (all : List Entry) (a b x y from to : ℕ) (keys : List ℕ) (marks : Bor (List Bool)) (met dead : List Bool) (o : Option ℕ) → AreClear dead → Represents g all → HasNoRing all → KeysFit g.slots (length marks.now) → KeysFit g.slots (length met)
     → IsLiveClass all a x → IsLiveClass all b y → find g.numbers a ≡ Some from → find g.numbers b ≡ Some to → HoldsMarked met keys
-    → IsReachable (steps g.slots g.numbers Up) to from marks.now → is_marked marks.now from ≡ true → IsReachable (steps g.slots g.numbers (Among marks)) from to met
+    → IsReachable (steps g.slots g.numbers Up) to (length marks.now) marks.now → IsReachable (steps g.slots g.numbers (Among marks)) from to met
     → IsLeastOf g.slots (lies met dead from to) keys (length keys) o → IsLeastBetween all x y o
-above_is g all a b x y from to keys marks met dead o none r no_ring low room la lb fa fb held up hit down least =
+above_is g all a b x y from to keys marks met dead o none r no_ring low wide la lb fa fb held up down least =
     let qa = placed g all r la.0 from la.1 (ap (find g.numbers) la.2 ∙ fa) in
     let qb = placed g all r lb.0 to lb.1 (ap (find g.numbers) lb.2 ∙ fb) in
-    least-lies g all r x y from to qa.0 qb.0 keys marks met dead none low room no_ring held qa.1 qb.1 (qa.2 ∙ la.4) (qb.2 ∙ lb.4) up hit down o least
+    least-lies g all r x y from to qa.0 qb.0 keys marks met dead none low wide no_ring held qa.1 qb.1 (qa.2 ∙ la.4) (qb.2 ∙ lb.4) up down o least
 
 -- where no path leads from the one class to the other, nothing lies between
 pub never_reached : (g : Graph) (all : List Entry) (a b x y from to : ℕ) (marks : List Bool) → Represents g all → KeysFit g.slots (length marks) → IsLiveClass all a x → IsLiveClass all b y
-    → find g.numbers a ≡ Some from → find g.numbers b ≡ Some to → IsReachable (steps g.slots g.numbers Up) to from marks → is_marked marks from ≡ false → IsLeastBetween all x y None
+    → find g.numbers a ≡ Some from → find g.numbers b ≡ Some to → IsReachable (steps g.slots g.numbers Up) to (length marks) marks → is_marked marks from ≡ false → IsLeastBetween all x y None
 never_reached g all a b x y from to marks r low la lb fa fb up off m between =
     let qa = placed g all r la.0 from la.1 (ap (find g.numbers) la.2 ∙ fa) in
     let qb = placed g all r lb.0 to lb.1 (ap (find g.numbers) lb.2 ∙ fb) in
@@ -147,5 +132,5 @@ never_reached g all a b x y from to marks r low la lb fa fb up off m between =
     let ny : qb.0.name ≡ y = qb.2 ∙ lb.4 in
     elim (path-leads g all r x y from to qa.0 qb.0 (Path-append between.from between.to) nx ny qa.1 qb.1) [
       | inl e ↦ both_ways _ off (ap (is_marked marks) e ∙ up.first)
-      | inr way ↦ elim (above g all r from to marks low up from way) [ inl h ↦ both_ways _ off h | inr q ↦ both_ways _ off q.0 ]
+      | inr way ↦ both_ways _ off (above g all r to marks low up from way)
     ]

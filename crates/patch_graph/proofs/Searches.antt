@@ -227,6 +227,13 @@ found-held goes from stop marks queue head tail s room key t =
     let l = length-take tail queue in
     at-place (take tail queue) w.0 key (omega arith) (take-place queue tail w.0 w.1 ∙ w.2)
 
+-- the marked ones are the first of a queue that is as long as the marks
+pub course_held : (goes : ℕ → ℕ → Bool) (from stop : ℕ) (marks : List Bool) (queue : List ℕ) (head tail : ℕ) → IsSearch goes from stop marks queue head tail
+    → length marks ≤ length queue → HoldsMarked marks (take tail queue)
+course_held goes from stop marks queue head tail s long =
+    let most = tail-within goes from stop marks queue head tail s in
+    found-held goes from stop marks queue head tail s (omega (arith, most, long))
+
 -- a queue that is at its end
 pub found-all : (goes : ℕ → ℕ → Bool) (from stop : ℕ) (marks : List Bool) (queue : List ℕ) (head tail : ℕ) → IsSearch goes from stop marks queue head tail
     → tail ≤ head → IsReachable goes from stop marks

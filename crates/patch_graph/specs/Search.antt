@@ -6,6 +6,7 @@ use Rattle.patch_model.specs.Member.{In}
 use Rattle.patch_links.specs.State.{Slots, Numbers, find, class_at, leads, leads_at}
 use Rattle.patch_graph.specs.State.{Graph}
 use Rattle.patch_graph.specs.Marks.{is_marked, marked_count}
+use Rattle.patch_graph.specs.declared.searching.Course.{Course}
 use Rattle.patch_graph.specs.declared.searching.Way.{Way}
 use Rattle.patch_graph.specs.declared.searching.Way.TheVariants.{Down, Up, Among}
 
@@ -57,6 +58,14 @@ pub record IsReachable (goes : ℕ → ℕ → Bool) (from stop : ℕ) (marks : 
   pub first : is_marked marks from ≡ true
   pub reached : (key : ℕ) → is_marked marks key ≡ true → Reaches goes from key
   pub closed : (k j : ℕ) → is_marked marks k ≡ true → k ≢ stop → goes k j ≡ true → j < length marks → is_marked marks j ≡ true
+
+-- a search has come so far
+abbrev pub IsUnderWay : Graph → Way → ℕ → List Bool → List ℕ → Course → Type 0
+IsUnderWay g way stop marks queue c = IsSearch (steps g.slots g.numbers way) c.from stop marks queue c.head c.count
+
+-- any search from the key has come so far
+abbrev pub HasBegun : ℕ → List Bool → List ℕ → Course → Type 0
+HasBegun from marks queue c = (c.from ≡ from) × ((goes : ℕ → ℕ → Bool) (stop : ℕ) → IsSearch goes c.from stop marks queue c.head c.count)
 
 -- the class of the number was marked and put at the queue's end
 pub record IsOpened (numbers : Numbers) (way : Way) (n : ℕ) (old new : List Bool) (old_queue queue : List ℕ) (tail end : ℕ) : Type 0 where

@@ -1,10 +1,10 @@
 //! What is asked of the classes.
-ghost use Rattle.std.specs.Prelude.{◌≡◌, ◌≤◌, true, false, None, length, IfOk, IfSome, IsSome};
+ghost use Rattle.std.specs.Prelude.{◌≡◌, ◌≤◌, false, None, length, IfOk};
 ghost use Rattle.patch_graph.specs.State.{KeysFit};
 ghost use Rattle.patch_graph.specs.Ready.{AreReady, TellsReady};
 ghost use Rattle.patch_graph.specs.Between.{LacksAKey, TellsBetweenKeys, TellsLeastBetween, TellsReach, is_newest};
 ghost use Rattle.patch_graph.specs.Marks.{AreClear, HoldsMarked};
-ghost use Rattle.patch_graph.specs.Search.{IsReachable, steps};
+ghost use Rattle.patch_graph.specs.Search.{IsReachable, IsUnderWay, steps};
 ghost use Rattle.patch_graph.specs.declared.searching.Way.TheVariants.{Down, Up};
 
 use crate::between::{copy_without, least_name, rests_on_leaves};
@@ -12,15 +12,12 @@ use crate::marks::{clear, is_marked};
 use crate::ready::{list_keys, mark_ready, marked_numbers, settle};
 use crate::register::Register;
 use crate::scratch::Scratch;
-use crate::searching::{Way, search};
+use crate::searching::{Course, Way, begin, go_on, search};
 use patch_model::{BlockNo, PatchNo, laws};
 use std::alloc::{AllocError, Allocator};
 
-/// So many steps the first search for what lies between two classes may take.
-const FEW: usize = 64;
-
-/// So many times as many may the next one take.
-const MORE: usize = 4;
+/// At so many numbers more a search for what lies between two classes looks in each turn.
+const TURN: usize = 64;
 
 /// The numbers that a send of the block takes, rising, by a search among all classes.
 pub fn numbers_searched<A: Allocator, B: Allocator>(
@@ -92,9 +89,9 @@ fn reaches_exactly<A: Allocator>(
     if from >= marks.len() {
         return false;
     }
-    let all = search(register, Way::Down, from, to, None, marks, queue);
+    let count = search(register, Way::Down, from, to, marks, queue);
     let reaches = is_marked(marks, to);
-    clear(&queue[..all.count], marks);
+    clear(&queue[..count], marks);
     reaches
 }
 
@@ -140,10 +137,10 @@ fn least_among<A: Allocator>(
     found: &mut [usize],
 ) -> Option<PatchNo>
     requires fits { KeysFit register.now.slots (length marks.now) }
-    requires met_fit { length marks.now ≤ length met.old }
+    requires fits_met { KeysFit register.now.slots (length met.old) }
     requires found_fit { length met.old ≤ length found.old }
     requires clear { AreClear met.old }
-    requires above { IsReachable (steps register.now.slots register.now.numbers Up) to from marks.now }
+    requires above { IsReachable (steps register.now.slots register.now.numbers Up) to (length marks.now) marks.now }
     ensures answer { TellsBetweenKeys register.now from to result }
     ensures cleared { AreClear met.new }
 {
@@ -154,8 +151,8 @@ fn least_among<A: Allocator>(
     if from >= met.len() {
         return None;
     }
-    let all = search(register, Way::Among(marks), from, to, None, met, found);
-    let keys = &found[..all.count];
+    let count = search(register, Way::Among(marks), from, to, met, found);
+    let keys = &found[..count];
     let least = least_name(register, keys, met, &[], from, to);
     clear(keys, met);
     least
@@ -190,115 +187,118 @@ fn least_leading<A: Allocator>(
     least
 }
 
-/// The least name of a third class on a path from the class at the one key to that at the other, by a search down from the first, of
-/// no more steps than the limit; nothing where it takes more.
-fn least_below<A: Allocator>(
-    register: &Register<A>,
-    from: usize,
-    to: usize,
-    limit: usize,
-    marks: &mut [bool],
-    queue: &mut [usize],
-    dead_ends: &mut [bool],
-) -> Option<Option<PatchNo>>
-    requires fits { KeysFit register.now.slots (length marks.old) }
-    requires queue_fits { length marks.old ≤ length queue.old }
-    requires dead_ends_fit { length marks.old ≤ length dead_ends.old }
-    requires clear { AreClear marks.old }
-    requires clear_ends { AreClear dead_ends.old }
-    ensures answer { IfSome result (TellsBetweenKeys register.now from to) }
-    ensures cleared { AreClear marks.new }
-    ensures cleared_ends { AreClear dead_ends.new }
-    ensures length { length marks.new ≡ length marks.old }
-    ensures length_queue { length queue.new ≡ length queue.old }
-    ensures length_ends { length dead_ends.new ≡ length dead_ends.old }
-{
-    // Not reached: there is a class at the key, and marks for all of them.
-    if from >= marks.len() {
-        return Some(None);
-    }
-    let below = search(register, Way::Down, from, to, Some(limit), marks, queue);
-    let found = &mut queue[..below.count];
-    if !below.is_whole {
-        clear(found, marks);
-        return None;
-    }
-    if !is_marked(marks, to) {
-        clear(found, marks);
-        return Some(None);
-    }
-    let least = least_leading(register, from, to, found, marks, dead_ends);
-    clear(found, marks);
-    Some(least)
+/// Two searches for what lies between two classes.
+struct Sides {
+    /// Up from the second class.
+    above: Course,
+    /// Down from the first one.
+    below: Course,
 }
 
-/// `least_among`, where all that leads to the second class was found.
-fn least_if_whole<A: Allocator>(
+/// Lets two searches go on by turns until one of them is whole, in each turn by some numbers more. The one up stops at no class:
+/// where classes form a ring, one may lead to the second class through the first.
+fn take_turns<A: Allocator>(
     register: &Register<A>,
-    from: usize,
     to: usize,
-    marks: &[bool],
-    met: &mut [bool],
-    found: &mut [usize],
-    is_whole: bool,
-) -> Option<Option<PatchNo>>
-    requires fits { KeysFit register.now.slots (length marks.now) }
-    requires met_fit { length marks.now ≤ length met.old }
-    requires found_fit { length met.old ≤ length found.old }
-    requires clear { AreClear met.old }
-    requires above { is_whole ≡ true → IsReachable (steps register.now.slots register.now.numbers Up) to from marks.now }
-    ensures answer { IfSome result (TellsBetweenKeys register.now from to) }
-    ensures whole { is_whole ≡ true → IsSome result }
-    ensures cleared { AreClear met.new }
-    ensures length { length met.new ≡ length met.old }
-{
-    if is_whole {
-        Some(least_among(register, from, to, marks, met, found))
-    } else {
-        None
-    }
-}
-
-/// The least name of a third class on a path from the class at the one key to that at the other, by a search up from the second,
-/// of no more steps than the limit, if there is one; nothing where it takes more.
-fn least_above<A: Allocator>(
-    register: &Register<A>,
-    from: usize,
-    to: usize,
-    limit: Option<usize>,
     marks: &mut [bool],
     queue: &mut [usize],
     met: &mut [bool],
     found: &mut [usize],
-) -> Option<Option<PatchNo>>
-    requires fits { KeysFit register.now.slots (length marks.old) }
+    begun: Sides,
+) -> Sides
     requires queue_fits { length marks.old ≤ length queue.old }
-    requires met_fit { length marks.old ≤ length met.old }
     requires found_fit { length met.old ≤ length found.old }
-    requires clear { AreClear marks.old }
-    requires clear_met { AreClear met.old }
-    ensures answer { IfSome result (TellsBetweenKeys register.now from to) }
-    ensures whole { limit ≡ None → IsSome result }
-    ensures cleared { AreClear marks.new }
-    ensures cleared_met { AreClear met.new }
+    requires above { IsUnderWay register.now Up (length met.old) met.old found.old begun.above }
+    requires below { IsUnderWay register.now Down to marks.old queue.old begun.below }
+    ensures above { IsUnderWay register.now Up (length met.new) met.new found.new result.above }
+    ensures below { IsUnderWay register.now Down to marks.new queue.new result.below }
+    ensures from_above { result.above.from ≡ begun.above.from }
+    ensures from_below { result.below.from ≡ begun.below.from }
     ensures length { length marks.new ≡ length marks.old }
     ensures length_queue { length queue.new ≡ length queue.old }
     ensures length_met { length met.new ≡ length met.old }
     ensures length_found { length found.new ≡ length found.old }
 {
-    // Not reached: there is a class at the key, and marks for all of them.
-    if to >= marks.len() {
-        return Some(None);
+    let nowhere = met.len();
+    let Sides {
+        mut above,
+        mut below,
+    } = begun;
+    let mut limit = Some(TURN);
+    while let Some(most) = limit {
+        above = go_on(register, Way::Up, nowhere, limit, met, found, above);
+        if above.is_whole() {
+            return Sides { above, below };
+        }
+        below = go_on(register, Way::Down, to, limit, marks, queue, below);
+        if below.is_whole() {
+            return Sides { above, below };
+        }
+        limit = most.checked_add(TURN);
     }
-    let above = search(register, Way::Up, to, from, limit, marks, queue);
-    let least = least_if_whole(register, from, to, marks, met, found, above.is_whole);
-    clear(&queue[..above.count], marks);
+    Sides { above, below }
+}
+
+/// The least name of a third class on a path from the class at the one key to that at the other, where a search down from the first is
+/// whole.
+fn least_below<A: Allocator>(
+    register: &Register<A>,
+    to: usize,
+    below: Course,
+    marks: &mut [bool],
+    queue: &mut [usize],
+    dead_ends: &mut [bool],
+) -> Option<PatchNo>
+    requires fits { KeysFit register.now.slots (length marks.old) }
+    requires queue_fits { length marks.old ≤ length queue.old }
+    requires dead_ends_fit { length marks.old ≤ length dead_ends.old }
+    requires below { IsUnderWay register.now Down to marks.old queue.old below }
+    requires whole { below.count ≤ below.head }
+    requires clear { AreClear dead_ends.old }
+    ensures answer { TellsBetweenKeys register.now below.from to result }
+    ensures cleared { AreClear marks.new }
+    ensures cleared_ends { AreClear dead_ends.new }
+{
+    let found = &mut queue[..below.count];
+    if !is_marked(marks, to) {
+        clear(found, marks);
+        return None;
+    }
+    let least = least_leading(register, below.from, to, found, marks, dead_ends);
+    clear(found, marks);
+    least
+}
+
+/// The same, where a search up from the second class has come some way.
+fn least_above<A: Allocator>(
+    register: &Register<A>,
+    from: usize,
+    above: Course,
+    marks: &mut [bool],
+    queue: &mut [usize],
+    met: &mut [bool],
+    found: &mut [usize],
+) -> Option<PatchNo>
+    requires fits { KeysFit register.now.slots (length marks.old) }
+    requires fits_met { KeysFit register.now.slots (length met.old) }
+    requires queue_fits { length marks.old ≤ length queue.old }
+    requires found_fit { length met.old ≤ length found.old }
+    requires above { IsUnderWay register.now Up (length marks.old) marks.old queue.old above }
+    requires clear { AreClear met.old }
+    ensures answer { TellsBetweenKeys register.now from above.from result }
+    ensures cleared { AreClear marks.new }
+    ensures cleared_met { AreClear met.new }
+{
+    let nowhere = marks.len();
+    let all = go_on(register, Way::Up, nowhere, None, marks, queue, above);
+    let least = least_among(register, from, all.from, marks, met, found);
+    clear(&queue[..all.count], marks);
     least
 }
 
 /// The least name of a third class on a path from the class at the one key to that at the other, on two rows of marks and two
-/// queues. It is looked for above the second class and below the first by turns, in some steps, then in more: little may
-/// lie on the one side where there is much on the other.
+/// queues. It is looked for above the second class and below the first by turns: little may lie on the one side where there is
+/// much on the other.
 fn least_between<A: Allocator>(
     register: &Register<A>,
     from: usize,
@@ -318,18 +318,21 @@ fn least_between<A: Allocator>(
     ensures cleared { AreClear marks.new }
     ensures cleared_met { AreClear met.new }
 {
-    let mut limit = Some(FEW);
-    while let Some(most) = limit {
-        if let Some(least) = least_above(register, from, to, limit, marks, queue, met, found) {
-            return least;
-        }
-        if let Some(least) = least_below(register, from, to, most, marks, queue, met) {
-            return least;
-        }
-        limit = most.checked_mul(MORE);
+    // Not reached: there are classes at the keys, and marks for all of them.
+    if from >= marks.len() || to >= met.len() {
+        return None;
     }
-    // There is an answer: nothing limits the search.
-    least_above(register, from, to, None, marks, queue, met, found).unwrap_or(None)
+    let begun = Sides {
+        above: begin(to, met, found),
+        below: begin(from, marks, queue),
+    };
+    let Sides { above, below } = take_turns(register, to, marks, queue, met, found, begun);
+    if !below.is_whole() {
+        clear(&queue[..below.count], marks);
+        return least_above(register, from, above, met, found, marks, queue);
+    }
+    clear(&found[..above.count], met);
+    least_below(register, to, below, marks, queue, met)
 }
 
 /// The least name of a third class on a path from the class of the one patch to that of the other. There is mostly none, and

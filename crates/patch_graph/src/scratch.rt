@@ -8,8 +8,8 @@ use std::marker::Model;
 /// How many keys room is made for at once.
 const STEP: usize = 64;
 
-/// Room for two searches among as many classes, one within what the other found: which of them each met, in what order. The marks of
-/// the second are also those of the dead ends, where a search down found what leads on. Between two questions nothing is marked.
+/// Room for two searches among as many classes: which of them each met, in what order. When the one is whole, the other's is room for
+/// what is looked for in what was met: for a search among it, or for its dead ends. Between two questions nothing is marked.
 #[derive(Drop)]
 pub struct Scratch<A: Allocator = Global> {
     pub marks: Vec<bool, A>,

@@ -1,7 +1,7 @@
 //! Searches through the classes.
-ghost use Rattle.std.specs.Prelude.{◌≡◌, ◌<◌, ◌≤◌, length, take, true, false, None};
+ghost use Rattle.std.specs.Prelude.{◌≡◌, ◌<◌, ◌≤◌, length, nat_le, take, false, None};
 ghost use Rattle.patch_graph.specs.Marks.{is_marked, AreClear, HoldsMarked};
-ghost use Rattle.patch_graph.specs.Search.{admits, steps, AreNext, IsReachable, HasFollowed, HasLooked, Visited, walk};
+ghost use Rattle.patch_graph.specs.Search.{admits, steps, AreNext, IsReachable, IsUnderWay, HasBegun, HasFollowed, HasLooked, Visited, walk};
 
 use crate::marks::is_marked;
 use crate::register::Register;
@@ -19,13 +19,38 @@ pub enum Way<'a> {
     Among(&'a [bool]),
 }
 
-/// What a search met.
+/// How far a search has come.
 #[derive(Clone, Copy)]
-pub struct Met {
-    /// How many classes. Their keys are the first of the queue.
+pub struct Course {
+    /// The key of the class at which it began.
+    pub from: usize,
+    /// How many classes it met. Their keys are the first of the queue.
     pub count: usize,
-    /// Whether these are all, since it was not broken off.
-    pub is_whole: bool,
+    /// From so many of these it went on.
+    pub head: usize,
+    /// How many numbers it looked at.
+    pub looked: usize,
+}
+
+impl Course {
+    /// Whether it went on from all that it met.
+    pub fn is_whole(self) -> bool
+        ensures { result ≡ nat_le self.count self.head }
+    {
+        self.count <= self.head
+    }
+
+    /// The same search further on.
+    fn moved(self, count: usize, head: usize, looked: usize) -> Course
+        ensures { result ≡ record self { count = count; head = head; looked = looked } }
+    {
+        Course {
+            from: self.from,
+            count,
+            head,
+            looked,
+        }
+    }
 }
 
 /// Whether a search may come to a key.
@@ -145,45 +170,79 @@ fn is_over(limit: Option<usize>, steps: usize) -> bool
     }
 }
 
-/// Marks what a search comes to from the class at `from`, and itself, but not what is reached through the key `stop` alone. The
-/// marked ones are the first of the queue. Where it would have to look at more numbers than the limit, if there is one, it is broken off.
-pub fn search<A: Allocator>(
-    register: &Register<A>,
-    way: Way<'_>,
-    from: usize,
-    stop: usize,
-    limit: Option<usize>,
-    marks: &mut [bool],
-    queue: &mut [usize],
-) -> Met
+/// Begins a search: marks the class at a key and puts it into the queue.
+pub fn begin(from: usize, marks: &mut [bool], queue: &mut [usize]) -> Course
     requires queue_fits { length marks.old ≤ length queue.old }
     requires low { from < length marks.old }
     requires clear { AreClear marks.old }
-    ensures found { result.is_whole ≡ true → IsReachable (steps register.now.slots register.now.numbers way.entry) from stop marks.new }
-    ensures whole { limit ≡ None → result.is_whole ≡ true }
-    ensures held { HoldsMarked marks.new (take result.count queue.new) }
-    ensures within { result.count ≤ length queue.new }
+    ensures begun { HasBegun from marks.new queue.new result }
     ensures length { length marks.new ≡ length marks.old }
     ensures length_queue { length queue.new ≡ length queue.old }
 {
     marks[from] = true;
     queue[0] = from;
-    let mut head = 0;
-    let mut tail = 1;
-    let mut taken: usize = 0;
+    Course {
+        from,
+        count: 1,
+        head: 0,
+        looked: 0,
+    }
+}
+
+/// Goes on with a search: marks what it comes to, but not what is reached through the key `stop` alone. The marked ones are the
+/// first of the queue. It ends where it would have to look at more numbers than the limit, if there is one, from its beginning on.
+pub fn go_on<A: Allocator>(
+    register: &Register<A>,
+    way: Way<'_>,
+    stop: usize,
+    limit: Option<usize>,
+    marks: &mut [bool],
+    queue: &mut [usize],
+    course: Course,
+) -> Course
+    requires queue_fits { length marks.old ≤ length queue.old }
+    requires under_way { IsUnderWay register.now way stop marks.old queue.old course }
+    ensures under_way { IsUnderWay register.now way.entry stop marks.new queue.new result }
+    ensures from { result.from ≡ course.from }
+    ensures whole { limit ≡ None → result.count ≤ result.head }
+    ensures length { length marks.new ≡ length marks.old }
+    ensures length_queue { length queue.new ≡ length queue.old }
+{
+    let mut head = course.head;
+    let mut tail = course.count;
+    let mut looked = course.looked;
     while head < tail && head < queue.len() {
-        taken = taken.saturating_add(steps_at(register, way, stop, queue[head]));
-        if is_over(limit, taken) {
-            return Met {
-                count: tail,
-                is_whole: false,
-            };
+        let sum = looked.saturating_add(steps_at(register, way, stop, queue[head]));
+        if is_over(limit, sum) {
+            return course.moved(tail, head, looked);
         }
+        looked = sum;
         tail = look(register, way, stop, marks, queue, head, tail);
         head += 1;
     }
-    Met {
-        count: tail,
-        is_whole: true,
-    }
+    course.moved(tail, head, looked)
+}
+
+/// Marks what a search comes to from the class at `from`, and itself, but not what is reached through the key `stop` alone.
+/// Answers how many these are: they are the first of the queue.
+pub fn search<A: Allocator>(
+    register: &Register<A>,
+    way: Way<'_>,
+    from: usize,
+    stop: usize,
+    marks: &mut [bool],
+    queue: &mut [usize],
+) -> usize
+    requires queue_fits { length marks.old ≤ length queue.old }
+    requires low { from < length marks.old }
+    requires clear { AreClear marks.old }
+    ensures found { IsReachable (steps register.now.slots register.now.numbers way.entry) from stop marks.new }
+    ensures held { HoldsMarked marks.new (take result queue.new) }
+    ensures within { result ≤ length queue.new }
+    ensures length { length marks.new ≡ length marks.old }
+    ensures length_queue { length queue.new ≡ length queue.old }
+{
+    let begun = begin(from, marks, queue);
+    let course = go_on(register, way, stop, None, marks, queue, begun);
+    course.count
 }

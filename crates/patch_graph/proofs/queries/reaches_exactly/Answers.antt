@@ -1,4 +1,4 @@
-use Rattle.std.proofs.Common.{subst, refl, sym, arith, ◌<◌, length}
+use Rattle.std.proofs.Common.{subst, sym, arith, ◌<◌, length}
 use Rattle.patch_graph.specs.State.{KeysFit}
 use Rattle.patch_graph.proofs.Reaching.{reaches_is, reaches-not, has-keys, is_found, is_low}
 use Rattle.patch_graph.proofs.queries.reaches_exactly.Goals as goal
@@ -16,9 +16,9 @@ returns-then-from-marks-clause-answer g c all x y r la lb =
 
 pub returns-clause-answer : goal.returns-clause-answer
 returns-clause-answer g c all x y r la lb = rw c.is_marked-reaches.ensures
-    (reaches_is c.args.register.now all c.args.a c.args.b x y c.in-Some.from c.in-Some-find.to c.search-all.new.marks r
-    (subst (KeysFit c.args.register.now.slots) (sym c.search-all.ensures.length) c.requires.fits) la lb (λ e. c.if-from-to.false e) (sym c.in-Some.ensures) (sym c.in-Some-find.ensures)
-    (c.search-all.ensures.found (c.search-all.ensures.whole refl)))
+    (reaches_is c.args.register.now all c.args.a c.args.b x y c.in-Some.from c.in-Some-find.to c.search-count.new.marks r
+    (subst (KeysFit c.args.register.now.slots) (sym c.search-count.ensures.length) c.requires.fits) la lb (λ e. c.if-from-to.false e) (sym c.in-Some.ensures) (sym c.in-Some-find.ensures)
+    c.search-count.ensures.found)
 
 pub returns-then-from-to-clause-answer : goal.returns-then-from-to-clause-answer
 returns-then-from-to-clause-answer g c all x y r la lb = (
