@@ -285,8 +285,8 @@ pub class_is : (cs : List Class) (at : ℕ) (c : Class) → at < length cs → c
 class_is cs at c w is = is ∙ get_or_default cs at c no_class w
 
 -- with another gap
-pub trimmed_image : (old new : Option Image) (cs : List Class) (bytes : List ℕ) (count : ℕ) → IsTrimmed count old new → KnownImage old cs bytes → KnownImage new cs bytes
-trimmed_image old new cs bytes count t k m is on = let b = t m is on in b.bytes ∙ k b.before b.was b.known
+pub trimmed_image : (old new : Option Image) (cs : List Class) (bytes : List ℕ) (from to : ℕ) → IsTrimmed from to old new → KnownImage old cs bytes → KnownImage new cs bytes
+trimmed_image old new cs bytes from to t k m is on = let b = t m is on in b.bytes ∙ k b.before b.was b.known
 
 pub next_alone : (cs : List Class) (at n : ℕ) → IsAloneBelow cs at n → IsApartAt cs at n → IsAloneBelow cs at (n + 1)
 next_alone cs at n a p k w = elim (cases_eq k n) [

@@ -1,5 +1,5 @@
 -- What lies between the bytes that a block's classes saved.
-use Rattle.std.specs.Prelude.{ℕ, Bool, true, false, ◌≡◌, ◌≢◌, ◌<◌, ◌≤◌, ◌+◌, ◌&&◌, nat_le, nat_lt, min, List, length, slice_index_or, if◌then◌else◌}
+use Rattle.std.specs.Prelude.{ℕ, Bool, true, false, ◌≡◌, ◌≢◌, ◌<◌, ◌≤◌, ◌+◌, ◌-◌, ◌&&◌, nat_le, nat_lt, min, List, length, slice_index_or, if◌then◌else◌}
 use Rattle.patch_model.specs.declared.blocks.TheConstants.{BLOCK}
 use Rattle.patch_view.specs.State.{Class, no_class, is_takeable}
 use Rattle.patch_view.specs.declared.gaps.Gap.{Gap}
@@ -16,8 +16,9 @@ saved_end c = c.start + length c.saved
 abbrev pub no_gap : Gap
 no_gap = record { count = 0; start = 0; stop = BLOCK; misses = 0 }
 
-abbrev pub of_first : Gap → ℕ → Gap
-of_first g count = record g { count = min g.count count }
+-- without the classes from one place up to another: of the first ones those are left that don't lie there
+abbrev pub without_places : Gap → ℕ → ℕ → Gap
+without_places g from to = record g { count = g.count - (min g.count to - min g.count from) }
 
 -- a class more departed elsewhere, as far as a usize counts
 abbrev pub missed : Gap → Gap

@@ -2,7 +2,7 @@
 use Rattle.std.specs.Prelude.{ℕ, Bool, true, false, ◌≡◌, ◌≢◌, ◌⊎◌, ◌<◌, ◌≤◌, List, [], ◌∷◌, length, slice_index_or, slice_range, Option, Some}
 use Rattle.patch_model.specs.declared.blocks.TheConstants.{BLOCK}
 use Rattle.patch_view.specs.State.{Class, no_class, is_takeable, uncovered, laid_over}
-use Rattle.patch_view.specs.Gaps.{no_gap, of_first, saves_any, saved_end, IsGap, IsGapBut}
+use Rattle.patch_view.specs.Gaps.{no_gap, without_places, saves_any, saved_end, IsGap, IsGapBut}
 use Rattle.patch_view.specs.declared.gaps.Gap.{Gap}
 
 -- bytes, whether they are known to be those of a block without such classes, and a gap beside what its first classes saved
@@ -39,20 +39,20 @@ pub record HasSpan (bytes : List ℕ) (start stop : ℕ) (old : Option Image) (m
   pub known : before.known ≡ true
   pub is : m.bytes ≡ laid_over start (slice_range bytes start stop) before.bytes
 
--- that is so, and only with the gap round the bytes of a class that stands alone
+-- that is so, and only where a gap is left, which is known from then on
 abbrev pub KeepsSpan : Option Gap → List ℕ → ℕ → ℕ → Option Image → Option Image → Type 0
 KeepsSpan gap bytes start stop old new = (m : Image) → new ≡ Some m → m.known ≡ true → (gap ≡ Some m.gap) × HasSpan bytes start stop old m
 
--- what is known was known before, but for the gap, which is beside no more than so many classes
-pub record IsTrimmedTo (count : ℕ) (old : Option Image) (m : Image) : Type 0 where
+-- what is known was known before, but for the gap, which no longer counts the classes from one place up to another
+pub record IsTrimmedTo (from to : ℕ) (old : Option Image) (m : Image) : Type 0 where
   pub before : Image
   pub was : old ≡ Some before
   pub known : before.known ≡ true
   pub bytes : m.bytes ≡ before.bytes
-  pub gap : m.gap ≡ of_first before.gap count
+  pub gap : m.gap ≡ without_places before.gap from to
 
-abbrev pub IsTrimmed : ℕ → Option Image → Option Image → Type 0
-IsTrimmed count old new = (m : Image) → new ≡ Some m → m.known ≡ true → IsTrimmedTo count old m
+abbrev pub IsTrimmed : ℕ → ℕ → Option Image → Option Image → Type 0
+IsTrimmed from to old new = (m : Image) → new ≡ Some m → m.known ≡ true → IsTrimmedTo from to old m
 
 -- where the bytes are known, each of the gap's classes is beside it
 abbrev pub KnownGap : Option Image → List Class → Type 0
@@ -86,6 +86,6 @@ pub record StandsAlone (cs : List Class) (at : ℕ) (g : Gap) : Type 0 where
   pub gap : IsGapBut g cs at
 
 -- the class at a place may be taken and stands alone, and leaves the gap
-pub record DepartsIn (cs : List Class) (at : ℕ) (g : Gap) : Type 0 where
+pub record DepartsAlone (cs : List Class) (at : ℕ) (g : Gap) : Type 0 where
   pub takeable : is_takeable (slice_index_or cs at no_class) ≡ true
   pub alone : StandsAlone cs at g

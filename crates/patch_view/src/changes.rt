@@ -69,8 +69,8 @@ impl<A: Allocator> BlockState<A> {
     }
 
     /// Lays a patch on the block, in memory and a class of its own, with the bytes that are kept of it. Its number is above
-    /// those of the block's other patches, its bytes are at least one, and what it names was made before it. Without memory
-    /// nothing is changed.
+    /// those of the block's other patches, its bytes are at least one, and what it names was made before it: that it names a
+    /// patch which is laid only later may be forgotten. Without memory nothing is changed.
     pub fn lay(
         &mut self,
         no: PatchNo,
@@ -126,7 +126,7 @@ impl<A: Allocator> BlockState<A> {
         A: Clone,
         ensures { IfOk result (λ kept. KeepsNames self.now after.now kept.items) }
     {
-        let lowest = self.lowest_within(after.len());
+        let lowest = self.lowest_for(after);
         let mut kept = NumberList::none();
         for no in after {
             if self.may_have_from(lowest, *no) {
@@ -493,7 +493,7 @@ impl<A: Allocator> BlockState<A> {
         ensures { self.new ≡ with_landed self.old }
     {
         drop(self.classes.drain(flying.from..flying.to));
-        trim_gap(&mut self.image, flying.from);
+        trim_gap(&mut self.image, flying.from, flying.to);
         self.taken = self.taken.spread(self.classes.len());
         self.flying = Places::none();
     }
@@ -517,8 +517,8 @@ impl<A: Allocator> BlockState<A> {
     fn land_over_all(&mut self)
         ensures { self.new ≡ with_landed self.old }
     {
+        trim_gap(&mut self.image, 0, self.classes.len());
         self.classes.retain(|class| !class.is_flying());
-        trim_gap(&mut self.image, 0);
         self.taken = self.taken.spread(self.classes.len());
         self.flying = Places::none();
     }
@@ -529,7 +529,7 @@ impl<A: Allocator> BlockState<A> {
     {
         let gone = self.classes.remove(at);
         forget_unless(&mut self.image, !gone.is_takeable());
-        trim_gap(&mut self.image, at);
+        trim_gap(&mut self.image, at, at + 1);
         self.taken = self.taken.spread(self.classes.len());
         self.flying = self.flying.spread(self.classes.len());
     }

@@ -5,7 +5,7 @@
 //! with the others alone.
 ghost use Rattle.std.specs.Prelude.{◌≡◌, ◌<◌, length, slice_index_or, IfSome, IsTrue};
 ghost use Rattle.patch_view.specs.State.{no_class};
-ghost use Rattle.patch_view.specs.Gaps.{no_gap, of_first, missed, has_bytes, begun_gap, saved_end, IsRound, IsNarrowed, IsGap, IsGapRound};
+ghost use Rattle.patch_view.specs.Gaps.{no_gap, without_places, missed, has_bytes, begun_gap, saved_end, IsRound, IsNarrowed, IsGap, IsGapRound};
 ghost use Rattle.patch_view.specs.Images.{IsAloneBelow, IsApartAt, StandsAlone};
 
 use crate::classes::Class;
@@ -38,12 +38,13 @@ impl Gap {
         }
     }
 
-    /// Of no more than so many classes.
-    pub(crate) fn of_first(self, count: usize) -> Gap
-        ensures { result ≡ of_first self count }
+    /// Without the classes from one place up to another, which go: it counts those of its own that are left.
+    pub(crate) fn without(self, from: usize, to: usize) -> Gap
+        ensures { result ≡ without_places self from to }
     {
+        let gone = self.count.min(to).saturating_sub(self.count.min(from));
         Gap {
-            count: self.count.min(count),
+            count: self.count - gone,
             start: self.start,
             stop: self.stop,
             misses: self.misses,

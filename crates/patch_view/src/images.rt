@@ -4,8 +4,8 @@
 ghost use Rattle.std.specs.Prelude.{◌≡◌, ◌<◌, ◌≤◌, length, true, false, slice_range, IfOk, IfSome, IsTrue, IsFalse};
 ghost use Rattle.patch_model.specs.declared.blocks.TheConstants.{BLOCK};
 ghost use Rattle.patch_view.specs.State.{laid_over};
-ghost use Rattle.patch_view.specs.Gaps.{no_gap, of_first};
-ghost use Rattle.patch_view.specs.Images.{bared, IsForgotten, StaysIf, IsDrawnOf, KeepsSpan, IsCopied, IsTrimmed, KnownGap, DepartsIn};
+ghost use Rattle.patch_view.specs.Gaps.{no_gap, without_places};
+ghost use Rattle.patch_view.specs.Images.{bared, IsForgotten, StaysIf, IsDrawnOf, KeepsSpan, IsCopied, IsTrimmed, KnownGap, DepartsAlone};
 
 use crate::classes::Class;
 use crate::gaps::{Gap, gap_left};
@@ -80,10 +80,10 @@ impl<A: Allocator> Image<A> {
         self.gap = gap;
     }
 
-    fn trim_gap(&mut self, count: usize)
-        ensures { self.new ≡ record self.old { gap = of_first self.old.gap count } }
+    fn trim_gap(&mut self, from: usize, to: usize)
+        ensures { self.new ≡ record self.old { gap = without_places self.old.gap from to } }
     {
-        self.gap = self.gap.of_first(count);
+        self.gap = self.gap.without(from, to);
     }
 
     fn copy_to(&self, copy: &mut [u8])
@@ -175,12 +175,12 @@ pub(crate) fn keep_span<A: Allocator>(
     }
 }
 
-/// Leaves the gap beside no more than so many classes.
-pub(crate) fn trim_gap<A: Allocator>(image: &mut Option<Image<A>>, count: usize)
-    ensures { IsTrimmed count image.old image.new }
+/// Leaves the gap beside those of its classes that stay, where the ones from one place up to another go.
+pub(crate) fn trim_gap<A: Allocator>(image: &mut Option<Image<A>>, from: usize, to: usize)
+    ensures { IsTrimmed from to image.old image.new }
 {
     if let Some(image) = image {
-        image.trim_gap(count);
+        image.trim_gap(from, to);
     }
 }
 
@@ -212,7 +212,7 @@ pub(crate) fn gap_of_departing<A: Allocator>(
 ) -> Option<Gap>
     requires there { at < length classes.now }
     requires gap { KnownGap image.now classes.now }
-    ensures { IfSome result (λ gap. DepartsIn classes.now at gap) }
+    ensures { IfSome result (λ gap. DepartsAlone classes.now at gap) }
 {
     match image {
         Some(image) => {

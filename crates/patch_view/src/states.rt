@@ -144,12 +144,12 @@ impl<A: Allocator> BlockState<A> {
         lowest.0 <= no.0 && self.may_have(no)
     }
 
-    /// A number below which no record has a member: the least member, where there are no more records than this. Of the names of a
-    /// patch most may be older, as in a chain of groups.
-    pub(crate) fn lowest_within(&self, most: usize) -> PatchNo
+    /// A number below which no record has a member: the least member, where there are no more records than names, of which some may be
+    /// a member. Of the names of a patch most may be older, as in a chain of groups.
+    pub(crate) fn lowest_for(&self, names: &[PatchNo]) -> PatchNo
         ensures { HasNoneBelow self.now result }
     {
-        if most < self.classes.len() {
+        if names.len() < self.classes.len() || self.are_all_newer(names) {
             return PatchNo(0);
         }
         let mut lowest = u32::MAX;
@@ -157,6 +157,11 @@ impl<A: Allocator> BlockState<A> {
             lowest = lowest.min(class.lowest());
         }
         PatchNo(lowest)
+    }
+
+    /// Whether all of these numbers are known to be above the members of the records.
+    fn are_all_newer(&self, numbers: &[PatchNo]) -> bool {
+        numbers.iter().all(|no| self.members.are_below(*no))
     }
 
     pub(crate) fn len(&self) -> usize

@@ -4,7 +4,7 @@ use Rattle.patch_view.specs.State.{Class, no_class, departed}
 use Rattle.std.specs.Prelude.{Some}
 use Rattle.patch_view.specs.declared.gaps.Gap.{Gap}
 use Rattle.patch_view.specs.Gaps.{saved_end}
-use Rattle.patch_view.specs.Images.{DepartsIn, KeepsSpan}
+use Rattle.patch_view.specs.Images.{DepartsAlone, KeepsSpan}
 use Rattle.patch_view.proofs.Standing.{kept_within, set_within}
 use Rattle.patch_view.proofs.Apart.{set_apart}
 use Rattle.patch_view.proofs.Covering.{IsLike, like_there, set_rests}
@@ -25,8 +25,8 @@ invariant_of-self g c =
     } in
     let was = c.index_mut-class.ensures.value ∙ get_or_default c.self.inside.classes.items c.args.at c.index_mut-class.result.now no_class within in
     let there = like_there c.self.inside.classes.items c.args.at c.index_mut-class.result.now c.depart.new.self within c.index_mut-class.ensures.value like in
-    let alone : (gap : Gap) → c.gap_of_departing-gap.result ≡ Some gap → DepartsIn c.self.inside.classes.items c.args.at gap =
-    λ gap some. subst (λ cs. DepartsIn cs c.args.at gap) c.as_slice.ensures.value (some-is _ _ gap some c.gap_of_departing-gap.ensures) in
+    let alone : (gap : Gap) → c.gap_of_departing-gap.result ≡ Some gap → DepartsAlone c.self.inside.classes.items c.args.at gap =
+    λ gap some. subst (λ cs. DepartsAlone cs c.args.at gap) c.as_slice.ensures.value (some-is _ _ gap some c.gap_of_departing-gap.ensures) in
     let keeps =
     subst (λ bs. KeepsSpan c.gap_of_departing-gap.result bs c.start-start.result c.saved_end-stop.result c.self.inside.image c.keep_span.new.image) c.as_slice-2.ensures.value c.keep_span.ensures in (
       c.self.invariant.0,

@@ -1,4 +1,4 @@
-use Rattle.std.proofs.Common.{◌<◌, ◌≤◌, length, sym, subst, arith, refl, ap, not, ◌∙◌}
+use Rattle.std.proofs.Common.{◌+◌, ◌<◌, ◌≤◌, length, sym, subst, arith, refl, ap, not, ◌∙◌}
 use Rattle.std.specs.List.{remove}
 use Rattle.patch_view.specs.State.{Class, is_takeable}
 use Rattle.patch_view.proofs.Standing.{removed_within}
@@ -21,7 +21,7 @@ invariant_of-self g c =
       rw gone (removed_apart c.self.inside.classes.items c.args.at c.self.inside.members within c.self.invariant.2),
       rw gone (removed_rests c.self.inside.classes.items c.args.at c.self.inside.members c.self.inside.rests within c.self.invariant.3),
       rw (c.spread-self-inside-2.ensures, c.len-2.ensures, gone) (removed_within (λ (k : Class). k.flying) refl c.self.inside.classes.items c.args.at c.self.inside.flying c.remove-gone.new.self.len fits_too within c.self.invariant.4),
-      trimmed_image c.forget_unless.new.image c.trim_gap.new.image c.remove-gone.new.self.items c.self.inside.bytes.items c.args.at c.trim_gap.ensures
+      trimmed_image c.forget_unless.new.image c.trim_gap.new.image c.remove-gone.new.self.items c.self.inside.bytes.items c.args.at (c.args.at + 1) c.trim_gap.ensures
           (rw gone (removed_image c.self.inside.image c.forget_unless.new.image c.self.inside.classes.items c.args.at c.self.inside.bytes.items c.is_takeable.result within
           (c.is_takeable.ensures ∙ ap is_takeable (class_is c.self.inside.classes.items c.args.at c.remove-gone.result within c.remove-gone.ensures.value))
           c.forget_unless.ensures c.self.invariant.5)),

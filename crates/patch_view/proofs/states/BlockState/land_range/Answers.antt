@@ -35,7 +35,7 @@ invariant_of-self g c =
       rw is (filtered_apart (λ k. not k.flying) c.self.inside.classes.items c.self.inside.members c.self.invariant.2),
       rw is (filtered_rests (λ k. not k.flying) c.self.inside.classes.items c.self.inside.members c.self.inside.rests c.self.invariant.3),
       rw is (none_flying c.self.inside.classes.items _),
-      trimmed_image c.self.inside.image c.trim_gap.new.image c.drop.new.self.0.items c.self.inside.bytes.items c.args.flying.from c.trim_gap.ensures
+      trimmed_image c.self.inside.image c.trim_gap.new.image c.drop.new.self.0.items c.self.inside.bytes.items c.args.flying.from c.args.flying.to c.trim_gap.ensures
           (rw is (filtered_image c.self.inside.image c.self.inside.classes.items c.self.inside.bytes.items c.self.invariant.5)),
       rw (out g c) (cut_gap c.self.inside.image c.trim_gap.new.image c.self.inside.classes.items c.args.flying.from c.args.flying.to c.requires.range.0
           (subst (λ (b : Block). c.args.flying.to ≤ length b.classes) (sym c.self.view_is) c.requires.range.1) c.trim_gap.ensures c.self.invariant.6),
