@@ -135,8 +135,8 @@ impl<A: Allocator> Links<A> {
         self.nodes.get(key).is_some()
     }
 
-    /// A number of each other class that depends on the class at a key, for each time that it does. Some of them lead nowhere any
-    /// more, or to the class itself.
+    /// A number of each other class that depends on the class at a key, for each time that it does. Some of them may lead to the
+    /// class itself.
     pub fn followers(&self, key: usize) -> &[PatchNo]
         ensures { AreFollowers self.now.slots self.now.numbers key result.now }
     {

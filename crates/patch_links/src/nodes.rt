@@ -53,8 +53,8 @@ pub struct Node<A: Allocator = Global> {
     pub ready: bool,
     /// How many of the numbers that it depends on keep it out of there.
     pub waits: usize,
-    /// A number of each class that depends on it, for each time that it does. Those that lead nowhere any more, or to the
-    /// class itself, are skipped.
+    /// A number of each class that depends on it, for each time that it does. Those that lead to the class itself are
+    /// skipped, and those that lead nowhere, as some do while classes land.
     pub followers: NumberList<A>,
 }
 

@@ -136,8 +136,8 @@ impl<A: Allocator> Table<A> {
         self.pass_unused();
     }
 
-    /// Passes over a page where no number has a key any more, the first of those that aren't known to be so. One page at a time is
-    /// enough: each has as many numbers as keys are taken away before it is passed over.
+    /// Passes over a page where no number has a key any more, the first of those that aren't known to be so. One page at a time: what
+    /// lies behind it without a key is passed over as more keys are taken away.
     fn pass_unused(&mut self)
         ensures { self.new ≡ self.old }
     {
