@@ -310,6 +310,7 @@ fn trim_start<A: Allocator>(spans: &mut Vec<Span, A>, last: usize, top: &Span) -
     ensures len { vec_len spans.new ≡ vec_len spans.old }
     ensures capacity { vec_capacity spans.new ≡ vec_capacity spans.old }
 {
+    // Not reached: the other one meets a span, which begins before its end.
     if last == 0 {
         return 0;
     }
