@@ -42,7 +42,7 @@ fn word_of(part: &[u8]) -> u64 {
     }
     let mut word = 0;
     for byte in part {
-        word = word << 8 & 0xffff_ff00 | u64::from(*byte);
+        word = word << 8 | u64::from(*byte);
     }
     word
 }
