@@ -56,13 +56,31 @@ pub fn run_on_new(
     put_report(alloc, &mut device, digest)
 }
 
-/// Puts what a store holds into the digest.
-fn put_report(alloc: Global, device: &mut MemDevice, digest: &mut Digest) -> Result<()> {
+/// The report of what a store holds.
+fn report_of(alloc: Global, device: &mut MemDevice) -> Result<Vec<u8>> {
     let mut report = Sink::new(Vec::new(alloc));
     let status = check_disk(alloc, &mut report, device);
     if status != Status::Done {
         bail!("a disk wasn't read: {status:?}");
     }
-    digest.put(report.into_inner().as_slice());
+    Ok(report.into_inner())
+}
+
+/// Puts what a store holds into the digest.
+fn put_report(alloc: Global, device: &mut MemDevice, digest: &mut Digest) -> Result<()> {
+    let report = report_of(alloc, device)?;
+    digest.put(report.as_slice());
+    Ok(())
+}
+
+/// Puts the keys of a store into the digest, with the lengths of their values. In which extents these lie may depend on the order in
+/// which threads ran, so that isn't put in.
+pub fn put_entries(alloc: Global, device: &mut MemDevice, digest: &mut Digest) -> Result<()> {
+    let report = report_of(alloc, device)?;
+    for line in report.as_slice().split(|byte| *byte == b'\n') {
+        if line.starts_with(b"entry ") {
+            digest.put(line);
+        }
+    }
     Ok(())
 }
