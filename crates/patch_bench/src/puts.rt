@@ -50,6 +50,14 @@ pub fn reclaim(script: &mut String, extent: u32) -> Result<(), AllocError> {
     writeln!(script, "{{\"op\":\"reclaim\",\"extent\":{extent}}}")
 }
 
+/// Gets of a hundred keys, each so far behind the one before.
+pub fn get_hundred(script: &mut String, apart: u32) -> Result<(), AllocError> {
+    for turn in 0..100u32 {
+        get(script, turn.saturating_mul(apart))?;
+    }
+    Ok(())
+}
+
 /// A script with a group, of which its syncs are.
 pub fn new_script(alloc: Global) -> Result<String, AllocError> {
     let mut script = String::new(alloc);
@@ -85,8 +93,8 @@ pub fn small_values(alloc: Global, random: &mut Random) -> Result<String, AllocE
     Ok(script)
 }
 
-/// Values of 1,000 bytes under a hundred keys, so many times. After each hundred there is a sync, and the two oldest of sixteen extents
-/// are emptied.
+/// Values of 1,000 bytes under a hundred keys, so many times, and a get of each. After each hundred puts there is a sync, and the two
+/// oldest of sixteen extents are emptied.
 pub fn overwrites(alloc: Global, random: &mut Random, count: u32) -> Result<String, AllocError> {
     let mut script = new_script(alloc)?;
     for turn in 0..count {
@@ -99,6 +107,7 @@ pub fn overwrites(alloc: Global, random: &mut Random, count: u32) -> Result<Stri
         }
     }
     sync(&mut script)?;
+    get_hundred(&mut script, 1)?;
     Ok(script)
 }
 
@@ -135,7 +144,7 @@ pub fn mixed(alloc: Global, random: &mut Random, count: u32) -> Result<String, A
     Ok(script)
 }
 
-/// Values of 96 bytes under a thousand keys, and a sync after each.
+/// Values of 96 bytes under a thousand keys, a sync after each, and a get of each tenth key at the end.
 pub fn synced(alloc: Global, random: &mut Random, count: u32) -> Result<String, AllocError> {
     let mut script = new_script(alloc)?;
     for _ in 0..count {
@@ -143,5 +152,6 @@ pub fn synced(alloc: Global, random: &mut Random, count: u32) -> Result<String, 
         put_spelled(&mut script, random, key, 12)?;
         sync(&mut script)?;
     }
+    get_hundred(&mut script, 10)?;
     Ok(script)
 }

@@ -1,5 +1,5 @@
 //! Scripts after which much waits for other blocks: groups in a chain, and values that reclaims move.
-use crate::puts::{get, new_script, put, reclaim, sync};
+use crate::puts::{get, get_hundred, new_script, put, reclaim, sync};
 use crate::random::Random;
 use std::alloc::{AllocError, Global};
 
@@ -14,8 +14,8 @@ fn order(script: &mut String, op: &str, group: u32) -> Result<(), AllocError> {
     writeln!(script, "{{\"op\":\"{op}\",\"group\":{group}}}")
 }
 
-/// Groups that depend each on the one before, and so many puts of 40 bytes in each, over 300 keys. Where there is no sync behind each
-/// group there is one at the end.
+/// Groups that depend each on the one before, and so many puts of 40 bytes in each, over 300 keys. At the end there is a sync, and
+/// a get of each third key.
 pub fn chain(
     alloc: Global,
     random: &mut Random,
@@ -43,6 +43,7 @@ pub fn chain(
         }
     }
     sync(&mut script)?;
+    get_hundred(&mut script, 3)?;
     Ok(script)
 }
 
