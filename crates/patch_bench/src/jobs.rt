@@ -41,23 +41,33 @@ pub fn run<T: Threads + Wait + Sync>(rt: &T, alloc: Global, request: Request<'_>
 /// Stores that are filled: small values, large ones, and such as are written again and again. SIZE is how many stores of each kind.
 fn values(alloc: Global, random: &mut Random, size: u32, digest: &mut Digest) -> Result<()> {
     for _ in 0..size {
-        let script = small_values(alloc, random)?;
-        run_on_new(alloc, small_extents(16, 3), &script, digest)?;
-        let script = large_values(alloc, random)?;
-        run_on_new(alloc, small_extents(1, 65), &script, digest)?;
-        let script = overwrites(alloc, random, 5_000)?;
-        run_on_new(alloc, small_extents(2, 16), &script, digest)?;
+        fill(alloc, random, 5_000, digest)?;
     }
     Ok(())
+}
+
+/// One of each of these, the last with so many puts.
+fn fill(alloc: Global, random: &mut Random, puts: u32, digest: &mut Digest) -> Result<()> {
+    let script = small_values(alloc, random)?;
+    run_on_new(alloc, small_extents(16, 3), &script, digest)?;
+    let script = large_values(alloc, random)?;
+    run_on_new(alloc, small_extents(1, 65), &script, digest)?;
+    let script = overwrites(alloc, random, puts)?;
+    run_on_new(alloc, small_extents(2, 16), &script, digest)
 }
 
 /// Stores that are read, written and emptied. SIZE is how many there are.
 fn mix(alloc: Global, random: &mut Random, size: u32, digest: &mut Digest) -> Result<()> {
     for _ in 0..size {
-        let script = mixed(alloc, random, 8_000)?;
-        run_on_new(alloc, small_extents(8, 48), &script, digest)?;
+        mix_each(alloc, random, 8_000, digest)?;
     }
     Ok(())
+}
+
+/// One of these, with so many calls.
+fn mix_each(alloc: Global, random: &mut Random, calls: u32, digest: &mut Digest) -> Result<()> {
+    let script = mixed(alloc, random, calls)?;
+    run_on_new(alloc, small_extents(8, 48), &script, digest)
 }
 
 /// Large stores with a sync behind each put. SIZE is how many there are.
@@ -123,13 +133,25 @@ fn write<T: Threads + Wait + Sync>(
     digest: &mut Digest,
 ) -> Result<()> {
     for _ in 0..size {
-        let script = of_writers(alloc, random, 28_000)?;
-        serve_on_new(rt, alloc, small_extents(16, 64), &script, digest)?;
+        write_each(rt, alloc, random, 28_000, digest)?;
     }
     Ok(())
 }
 
-/// A little of each job but those whose measure is a whole store.
+/// One of these, with so many calls.
+fn write_each<T: Threads + Wait + Sync>(
+    rt: &T,
+    alloc: Global,
+    random: &mut Random,
+    calls: u32,
+    digest: &mut Digest,
+) -> Result<()> {
+    let script = of_writers(alloc, random, calls)?;
+    serve_on_new(rt, alloc, small_extents(16, 64), &script, digest)
+}
+
+/// A little of each job: stores with so many hundreds of calls, stores with so many groups, and caches with two thousand patches and
+/// with two groups.
 fn each<T: Threads + Wait + Sync>(
     rt: &T,
     alloc: Global,
@@ -137,9 +159,11 @@ fn each<T: Threads + Wait + Sync>(
     size: u32,
     digest: &mut Digest,
 ) -> Result<()> {
-    sync_each(alloc, random, size, digest)?;
+    let calls = size.saturating_mul(100);
+    fill(alloc, random, calls, digest)?;
+    mix_each(alloc, random, calls, digest)?;
+    sync_each(alloc, random, calls, digest)?;
     wait(alloc, random, size, digest)?;
-    patch_each(alloc, random, 1, digest)?;
-    let script = of_writers(alloc, random, size)?;
-    serve_on_new(rt, alloc, small_extents(16, 64), &script, digest)
+    patch_each(alloc, random, 2, digest)?;
+    write_each(rt, alloc, random, calls, digest)
 }
