@@ -52,7 +52,7 @@ fn write(script: &mut String, block: u32) -> Result<(), AllocError> {
     writeln!(script, "{{\"op\":\"complete\",\"block\":{block}}}")
 }
 
-/// Patches of eight bytes, each four bytes further than the one before, and writes of their block.
+/// Patches of eight bytes, each four bytes further than the one before, and a write of their block.
 pub fn overlapping(alloc: Global, random: &mut Random, count: u32) -> Result<String, AllocError> {
     let mut script = String::new(alloc);
     let first = random.below(1_000);
@@ -64,7 +64,7 @@ pub fn overlapping(alloc: Global, random: &mut Random, count: u32) -> Result<Str
     Ok(script)
 }
 
-/// Patches of one block that wait for one of another block, and rounds of a patch of other bytes, its write and a look.
+/// Patches of one block that wait for one of another block, and rounds of a patch of other bytes and its write.
 pub fn behind_another(
     alloc: Global,
     random: &mut Random,
@@ -106,7 +106,7 @@ pub fn all_over(alloc: Global, random: &mut Random, count: u32) -> Result<String
     Ok(script)
 }
 
-/// Groups that depend each on the one before, and so many patches in each, which are written at the end.
+/// Groups that depend each on the one before, and so many patches in each, which a sync behind the group writes.
 pub fn group_chain(
     alloc: Global,
     random: &mut Random,
