@@ -1,4 +1,5 @@
 pub mod Json
+pub mod Numerals
 pub mod Rows
 pub mod Parsing
 pub mod Cutting

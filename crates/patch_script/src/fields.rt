@@ -1,18 +1,17 @@
-//! The fields of a line's object, each by its name and kind.
-ghost use Rattle.std.specs.Prelude.{IfOk, IfErr, Some, false, ◌≡◌, ◌<◌, ◌≤◌, []};
+//! The fields of a line's object that is a tree of values, each by its name and kind, and why a line gave nothing.
+ghost use Rattle.std.specs.Prelude.{IfOk, IfErr, Some, false, ◌≡◌, []};
 ghost use Rattle.patch_script.specs.Gives.{Gives, Fails};
-ghost use Rattle.patch_script.specs.Field.{whole, wholes, wholes_of, positive, writer_number, hex_bytes, needed, optional, given};
+ghost use Rattle.patch_script.specs.Field.{whole, wholes, positive, writer_number, hex_bytes, needed, optional};
 ghost use Rattle.patch_script.specs.declared.defects.Defect.TheVariants.{Missing, Wrong};
 ghost use Rattle.patch_script.specs.declared.defects.Name.TheVariants.{Op, Writer};
 ghost use Rattle.patch_script.specs.Name.{name_of};
 ghost use Rattle.patch_script.specs.declared.fields.LineError.TheVariants.{OutOfMemory, Unreadable};
-ghost use Rattle.std.specs.Result.{result_ok};
-ghost use Rattle.hex.specs.Hex.{decode_of};
 ghost use Rattle.serde_json.specs.Find.{as_bool, as_str, get};
-ghost use Rattle.serde_json.specs.View.{view, items_view};
+ghost use Rattle.serde_json.specs.View.{view};
 
 use crate::defects::{Defect, Name};
-use patch_model::{Bytes, Items, MAX_WRITER, Numbers, PatchNo, WriterNo};
+use crate::objects::Object;
+use patch_model::{Bytes, Numbers, WriterNo};
 use serde_json::Value;
 use std::alloc::{AllocError, AllocFailed, Global};
 
@@ -54,163 +53,69 @@ pub fn wrong(name: Name) -> LineError
     LineError::Unreadable(Defect::Wrong(name))
 }
 
-// Kinds of values. The name is told where the value is of another kind.
-
-/// A whole number of 32 bits.
-pub(crate) fn as_whole(value: &Value, name: Name) -> Result<u32, LineError>
-    ensures { Gives result (whole (view value.now)) }
-{
-    match value.as_u64() {
-        Some(number) if number <= u32::MAX as u64 => Ok(number as u32),
-        _ => Err(wrong(name)),
-    }
-}
-
-pub(crate) fn as_flag(value: &Value, name: Name) -> Result<bool, LineError>
-    ensures { Gives result (as_bool (view value.now)) }
-{
-    value.as_bool().ok_or(wrong(name))
-}
-
-/// The bytes of hexadecimal text.
-fn as_bytes(alloc: Global, value: &Value, name: Name) -> Result<Bytes, LineError>
-    ensures { Gives result (hex_bytes (view value.now)) }
-{
-    let text = value.as_str().ok_or(wrong(name))?;
-    decoded(alloc, text, name)
-}
-
-pub(crate) fn decoded(alloc: Global, text: &str, name: Name) -> Result<Bytes, LineError>
-    ensures { Gives result (result_ok (decode_of text.now)) }
-{
-    match hex::decode(alloc, text) {
-        Ok(bytes) => Ok(Items::from_vec(bytes)),
-        Err(hex::FromHexError::OutOfMemory) => Err(LineError::OutOfMemory),
-        Err(_) => Err(wrong(name)),
-    }
-}
-
-/// The bytes of a text, in UTF-8.
-fn as_text(alloc: Global, value: &Value, name: Name) -> Result<Bytes, LineError>
-    ensures { Gives result (as_str (view value.now)) }
-{
-    let text = value.as_str().ok_or(wrong(name))?;
-    Ok(Items::from_vec(Vec::from_slice(alloc, text.as_bytes())?))
-}
-
-pub(crate) fn as_numbers(alloc: Global, value: &Value, name: Name) -> Result<Numbers, LineError>
-    ensures { Gives result (wholes (view value.now)) }
-{
-    match value.as_array() {
-        Some(values) => numbers_in(alloc, values, name),
-        None => Err(wrong(name)),
-    }
-}
-
-fn numbers_in(alloc: Global, values: &Vec<Value>, name: Name) -> Result<Numbers, LineError>
-    ensures { Gives result (wholes_of (items_view values.now.items)) }
-{
-    let mut numbers = Vec::new(alloc);
-    for value in values {
-        numbers.push(PatchNo(as_whole(value, name)?))?;
-    }
-    Ok(Items::from_vec(numbers))
-}
-
 // Fields.
 
 /// A number that has to be there.
 pub fn number(line: &Value, name: Name) -> Result<u32, LineError>
     ensures { Gives result (needed whole (name_of name) (view line.now)) }
 {
-    match line.get(name.as_str()) {
-        Some(value) => as_whole(value, name),
-        None => Err(missing(name)),
-    }
+    Object::of_value(line).number(name)
 }
 
 /// A number that may be missing.
 pub fn number_or(line: &Value, name: Name, default: u32) -> Result<u32, LineError>
     ensures { Gives result (optional whole default (name_of name) (view line.now)) }
 {
-    match line.get(name.as_str()) {
-        Some(value) => as_whole(value, name),
-        None => Ok(default),
-    }
+    Object::of_value(line).number_or(name, default)
 }
 
 /// A number above 0 that has to be there.
 pub fn positive_number(line: &Value, name: Name) -> Result<u32, LineError>
     ensures { Gives result (needed positive (name_of name) (view line.now)) }
 {
-    let value = line.get(name.as_str()).ok_or(missing(name))?;
-    match as_whole(value, name)? {
-        0 => Err(wrong(name)),
-        number => Ok(number),
-    }
+    Object::of_value(line).positive_number(name)
 }
 
 /// The line's writer, 0 where it names none.
 pub fn writer(line: &Value) -> Result<WriterNo, LineError>
     ensures { Gives result (optional writer_number 0 (name_of Writer) (view line.now)) }
 {
-    let Some(value) = line.get(Name::Writer.as_str()) else {
-        return Ok(WriterNo(0));
-    };
-    match as_whole(value, Name::Writer)? {
-        number if number <= MAX_WRITER as u32 => Ok(WriterNo(number as u8)),
-        _ => Err(wrong(Name::Writer)),
-    }
+    Object::of_value(line).writer()
 }
 
 /// A flag, which isn't set where it is missing.
 pub fn flag(line: &Value, name: Name) -> Result<bool, LineError>
     ensures { Gives result (optional as_bool false (name_of name) (view line.now)) }
 {
-    match line.get(name.as_str()) {
-        Some(value) => as_flag(value, name),
-        None => Ok(false),
-    }
+    Object::of_value(line).flag(name)
 }
 
 /// Bytes that have to be there.
 pub fn bytes(alloc: Global, line: &Value, name: Name) -> Result<Bytes, LineError>
     ensures { Gives result (needed hex_bytes (name_of name) (view line.now)) }
 {
-    match line.get(name.as_str()) {
-        Some(value) => as_bytes(alloc, value, name),
-        None => Err(missing(name)),
-    }
+    Object::of_value(line).bytes(alloc, name)
 }
 
 /// The bytes of a text that has to be there, in UTF-8.
 pub fn text(alloc: Global, line: &Value, name: Name) -> Result<Bytes, LineError>
     ensures { Gives result (needed as_str (name_of name) (view line.now)) }
 {
-    match line.get(name.as_str()) {
-        Some(value) => as_text(alloc, value, name),
-        None => Err(missing(name)),
-    }
+    Object::of_value(line).text(alloc, name)
 }
 
 /// Numbers that have to be there.
 pub fn numbers(alloc: Global, line: &Value, name: Name) -> Result<Numbers, LineError>
     ensures { Gives result (needed wholes (name_of name) (view line.now)) }
 {
-    match line.get(name.as_str()) {
-        Some(value) => as_numbers(alloc, value, name),
-        None => Err(missing(name)),
-    }
+    Object::of_value(line).numbers(alloc, name)
 }
 
 /// Numbers that may be missing.
 pub fn numbers_or_none(alloc: Global, line: &Value, name: Name) -> Result<Numbers, LineError>
     ensures { Gives result (optional wholes [] (name_of name) (view line.now)) }
 {
-    match line.get(name.as_str()) {
-        Some(value) => as_numbers(alloc, value, name),
-        None => Ok(Items::from_vec(Vec::new(alloc))),
-    }
+    Object::of_value(line).numbers_or_none(alloc, name)
 }
 
 /// The name of what the line asks for; where it isn't a text, that is wrong with it.

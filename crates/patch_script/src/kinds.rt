@@ -14,8 +14,12 @@ use json::Scratch;
 use serde_json::Value;
 use std::alloc::Global;
 
-/// So many lines behind one that isn't plain are read as trees at once: the lines of a script are mostly alike.
+/// Behind a line that isn't plain, this many times its bytes are read as trees at once, since the lines of a script are mostly alike:
+/// of the bytes up to the last such line, no more than an eighth is read twice.
 const TREES: usize = 7;
+
+/// The bytes of a line from which on the room that plain lines are read in isn't kept beside its tree, which takes as much anew.
+const LONG: usize = 16_384;
 
 /// A reader of lines of one kind. Each is a JSON object with an op, which is a text.
 pub trait LineReader {
@@ -125,7 +129,8 @@ fn read_any_object<K: ObjectReader>(
     read_object(alloc, reader, &Object::of_value(&value))
 }
 
-/// What is on a line, nothing on a blank one. So many of the next ones are read as trees at once.
+/// What is on a line, nothing on a blank one. So many bytes of lines, `trees`, are read as trees at once, this one's among them; a
+/// line that turns out not to be plain sets how many those behind it are.
 pub fn read_object_line<K: ObjectReader>(
     alloc: Global,
     reader: &K,
@@ -139,12 +144,15 @@ pub fn read_object_line<K: ObjectReader>(
         return Ok(None);
     }
     if *trees > 0 {
-        *trees -= 1;
+        *trees = trees.saturating_sub(bytes.len());
         return Ok(Some(read_any_object(alloc, reader, bytes)?));
     }
     if let Some(object) = read_plain_object(alloc, bytes, scratch)? {
         return Ok(Some(read_object(alloc, reader, &object)?));
     }
-    *trees = TREES;
+    *trees = bytes.len().saturating_mul(TREES);
+    if bytes.len() >= LONG {
+        *scratch = Scratch::new(alloc);
+    }
     Ok(Some(read_any_object(alloc, reader, bytes)?))
 }

@@ -7,11 +7,12 @@ ghost use Rattle.patch_script.specs.Name.{name_of};
 ghost use Rattle.patch_script.specs.Object.{numbers_data, plain_data, entry_data, row_data, object_data};
 ghost use Rattle.patch_script.specs.declared.defects.Name.TheVariants.{Op, Writer};
 ghost use Rattle.serde_json.specs.Find.{as_bool, as_str, get};
-ghost use Rattle.serde_json.specs.View.{view};
+ghost use Rattle.serde_json.specs.View.{view, items_view};
+ghost use Rattle.std.specs.Result.{result_ok};
+ghost use Rattle.hex.specs.Hex.{decode_of};
 
 use crate::defects::{Defect, Name};
-use crate::fields;
-use crate::fields::{LineError, decoded, missing, wrong};
+use crate::fields::{LineError, missing, wrong};
 use patch_model::{Bytes, Items, MAX_WRITER, Numbers, PatchNo, WriterNo};
 use serde_json::Value;
 use std::alloc::Global;
@@ -103,13 +104,17 @@ fn found_at<'o>(line: &'o Object<'o>, name: Name) -> Option<Entry<'o>>
 
 // Kinds of values. The name is told where the value is of another kind.
 
+/// A whole number of 32 bits.
 fn as_whole(found: Entry<'_>, name: Name) -> Result<u32, LineError>
     ensures { Gives result (whole (entry_data found.entry)) }
 {
     match found {
         Entry::Plain(Plain::Whole(number)) => Ok(*number),
         Entry::Plain(_) => Err(wrong(name)),
-        Entry::Tree(value) => fields::as_whole(value, name),
+        Entry::Tree(value) => match value.as_u64() {
+            Some(number) if number <= u32::MAX as u64 => Ok(number as u32),
+            _ => Err(wrong(name)),
+        },
     }
 }
 
@@ -119,7 +124,7 @@ fn as_flag(found: Entry<'_>, name: Name) -> Result<bool, LineError>
     match found {
         Entry::Plain(Plain::Flag(flag)) => Ok(*flag),
         Entry::Plain(_) => Err(wrong(name)),
-        Entry::Tree(value) => fields::as_flag(value, name),
+        Entry::Tree(value) => value.as_bool().ok_or(wrong(name)),
     }
 }
 
@@ -133,6 +138,17 @@ fn as_str<'e>(found: Entry<'e>) -> Option<&'e str>
     }
 }
 
+/// The bytes of hexadecimal text.
+fn decoded(alloc: Global, text: &str, name: Name) -> Result<Bytes, LineError>
+    ensures { Gives result (result_ok (decode_of text.now)) }
+{
+    match hex::decode(alloc, text) {
+        Ok(bytes) => Ok(Items::from_vec(bytes)),
+        Err(hex::FromHexError::OutOfMemory) => Err(LineError::OutOfMemory),
+        Err(_) => Err(wrong(name)),
+    }
+}
+
 fn as_bytes(alloc: Global, found: Entry<'_>, name: Name) -> Result<Bytes, LineError>
     ensures { Gives result (hex_bytes (entry_data found.entry)) }
 {
@@ -142,6 +158,7 @@ fn as_bytes(alloc: Global, found: Entry<'_>, name: Name) -> Result<Bytes, LineEr
     }
 }
 
+/// The bytes of a text, in UTF-8.
 fn as_text(alloc: Global, found: Entry<'_>, name: Name) -> Result<Bytes, LineError>
     ensures { Gives result (as_str (entry_data found.entry)) }
 {
@@ -162,13 +179,27 @@ fn as_patches(alloc: Global, wholes: &[u32]) -> Result<Numbers, LineError>
     Ok(Items::from_vec(numbers))
 }
 
+/// The numbers of a list of JSON values.
+fn numbers_in(alloc: Global, values: &Vec<Value>, name: Name) -> Result<Numbers, LineError>
+    ensures { Gives result (wholes_of (items_view values.now.items)) }
+{
+    let mut numbers = Vec::new(alloc);
+    for value in values {
+        numbers.push(PatchNo(as_whole(Entry::Tree(value), name)?))?;
+    }
+    Ok(Items::from_vec(numbers))
+}
+
 fn as_numbers(alloc: Global, found: Entry<'_>, name: Name) -> Result<Numbers, LineError>
     ensures { Gives result (wholes (entry_data found.entry)) }
 {
     match found {
         Entry::Plain(Plain::Wholes(wholes)) => as_patches(alloc, wholes.as_slice()),
         Entry::Plain(_) => Err(wrong(name)),
-        Entry::Tree(value) => fields::as_numbers(alloc, value, name),
+        Entry::Tree(value) => match value.as_array() {
+            Some(values) => numbers_in(alloc, values, name),
+            None => Err(wrong(name)),
+        },
     }
 }
 

@@ -1,5 +1,5 @@
 //! The reading of plain objects, with no tree of values.
-ghost use Rattle.std.specs.Prelude.{◌≡◌, ◌<◌, ◌==◌, length, slice_index, IfOk, OnSome, IfSome, Some, false};
+ghost use Rattle.std.specs.Prelude.{◌≡◌, ◌<◌, length, IfOk, OnSome, IfSome, Some, false};
 ghost use Rattle.serde_json.specs.Data.{unsigned};
 ghost use Rattle.serde_json.specs.Read.{read, number_of, number_from};
 ghost use Rattle.patch_script.specs.Kind.{json_of};
@@ -14,15 +14,13 @@ use std::alloc::{AllocError, Global};
 /// For so many members of an object room is made at once. No step of a script reads more.
 const MEMBERS: usize = 8;
 
-fn has_minus(bytes: &[u8]) -> bool
-    ensures { result ≡ (slice_index bytes.now 0 == 45) }
-{
-    !bytes.is_empty() && bytes[0] == b'-'
-}
+/// The most members of a plain object. An object of more is held as a tree, which keeps one value of a name that is repeated.
+const MOST_MEMBERS: usize = 64;
 
 /// The integer of 64 bits that a numeral without a sign writes, if it has neither point nor exponent.
 fn unsigned_of(numeral: &Numeral<'_>) -> Option<u64>
-    ensures { IfSome result (λ n. number_from false numeral.now ≡ Some (unsigned n)) }
+    ensures digits { OnSome result (0 < length numeral.now.whole) }
+    ensures value { IfSome result (λ n. number_from false numeral.now ≡ Some (unsigned n)) }
 {
     numeral.to_u64()
 }
@@ -32,9 +30,6 @@ fn whole_of(text: &str) -> Option<u32>
     ensures { IfSome result (λ n. number_of text.now ≡ Some (unsigned n)) }
 {
     let bytes = text.as_bytes();
-    if has_minus(bytes) {
-        return None;
-    }
     let number = unsigned_of(&Numeral::scan(bytes))?;
     if number <= u32::MAX as u64 {
         Some(number as u32)
@@ -107,6 +102,9 @@ fn read_members<'a>(
         let Some(name) = key else {
             return Ok(Some(row));
         };
+        if row.len() == MOST_MEMBERS {
+            return Ok(None);
+        }
         let Some(value) = read_plain(alloc, reader)? else {
             return Ok(None);
         };

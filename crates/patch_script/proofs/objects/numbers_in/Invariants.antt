@@ -1,7 +1,7 @@
 use Rattle.std.proofs.Common.{◌≡◌, drop}
 use Rattle.patch_script.specs.Field.{wholes_of, with_front}
 use Rattle.serde_json.specs.View.{items_view}
-use Rattle.patch_script.proofs.fields.numbers_in.Given as goal
+use Rattle.patch_script.proofs.objects.numbers_in.Given as goal
 
 -- the numbers so far and those of what is left are those of all
 abbrev pub invariant-loop-value : goal.invariant-loop-value
