@@ -56,7 +56,7 @@ const MEMBERS: [(&str, &str); 13] = [
     ("on", "7"),
 ];
 
-const VALUES: [&str; 34] = [
+pub(crate) const VALUES: [&str; 34] = [
     "0",
     "7",
     "8",
@@ -118,21 +118,22 @@ fn push_changed(
     }
 }
 
-/// A line of an op whose member at a place is changed.
-fn changed_line(
-    alloc: Global,
-    op: &str,
+/// A change of the member at a place.
+#[derive(Clone, Copy)]
+struct Changed<'v> {
     place: usize,
-    value: &str,
+    value: &'v str,
     change: Change,
-) -> Result<String, AllocError> {
+}
+
+/// A line of an op with these changes, each of another member.
+fn changed_line(alloc: Global, op: &str, changes: &[Changed<'_>]) -> Result<String, AllocError> {
     let mut text = String::new(alloc);
     write!(text, "{{\"op\":{op}")?;
     for (at, member) in MEMBERS.iter().enumerate() {
-        if at == place {
-            push_changed(&mut text, *member, value, change)?;
-        } else {
-            push_member(&mut text, member.0, member.1)?;
+        match changes.iter().find(|it| it.place == at) {
+            Some(it) => push_changed(&mut text, *member, it.value, it.change)?,
+            None => push_member(&mut text, member.0, member.1)?,
         }
     }
     write!(text, "}}")?;
@@ -153,7 +154,7 @@ fn told(alloc: Global, read: Result<Vec<Line>, ScriptError>) -> Result<String, A
     Ok(text)
 }
 
-fn expect_same(rt: &impl Abort, alloc: Global, text: &[u8]) -> Result<(), AllocError> {
+pub(crate) fn expect_same(rt: &impl Abort, alloc: Global, text: &[u8]) -> Result<(), AllocError> {
     if passes_limit(text) {
         return Ok(());
     }
@@ -163,12 +164,30 @@ fn expect_same(rt: &impl Abort, alloc: Global, text: &[u8]) -> Result<(), AllocE
     Ok(())
 }
 
+/// A line of an op with one change, of each kind.
+fn expect_same_with(
+    rt: &impl Abort,
+    alloc: Global,
+    op: &str,
+    place: usize,
+    value: &str,
+) -> Result<(), AllocError> {
+    for change in CHANGES.iter() {
+        let changed = Changed {
+            place,
+            value,
+            change: *change,
+        };
+        let line = changed_line(alloc, op, &[changed])?;
+        expect_same(rt, alloc, line.as_bytes())?;
+    }
+    Ok(())
+}
+
 fn expect_same_of(rt: &impl Abort, alloc: Global, op: &str) -> Result<(), AllocError> {
     for place in 0..MEMBERS.len() {
-        for (at, value) in VALUES.iter().enumerate() {
-            let change = CHANGES[(at + place) % CHANGES.len()];
-            let line = changed_line(alloc, op, place, *value, change)?;
-            expect_same(rt, alloc, line.as_bytes())?;
+        for value in VALUES.iter() {
+            expect_same_with(rt, alloc, op, place, *value)?;
         }
     }
     Ok(())
@@ -179,6 +198,72 @@ fn changed_lines_are_read_from_objects_as_from_trees(rt: HostRuntime) -> Result<
     let alloc = rt.alloc();
     for op in OPS.iter() {
         expect_same_of(&rt, alloc, *op)?;
+    }
+    Ok(())
+}
+
+/// How two members are changed at once. No member may have such a value. Those of text alone leave a line plain.
+const DEFECTS: [(Change, &str); 4] = [
+    (Change::Without, ""),
+    (Change::Instead, "\"0\""),
+    (Change::Instead, "-1"),
+    (Change::Instead, "[0,true]"),
+];
+
+/// A line of an op with a change at one place, and each change at another.
+fn expect_same_beside(
+    rt: &impl Abort,
+    alloc: Global,
+    op: &str,
+    first: Changed<'_>,
+    place: usize,
+) -> Result<(), AllocError> {
+    for (change, value) in DEFECTS.iter() {
+        let second = Changed {
+            place,
+            value: *value,
+            change: *change,
+        };
+        let line = changed_line(alloc, op, &[first, second])?;
+        expect_same(rt, alloc, line.as_bytes())?;
+    }
+    Ok(())
+}
+
+/// Lines of an op with a change at one place, and one at a place behind it.
+fn expect_same_behind(
+    rt: &impl Abort,
+    alloc: Global,
+    op: &str,
+    first: Changed<'_>,
+) -> Result<(), AllocError> {
+    for place in 0..MEMBERS.len() {
+        if place > first.place {
+            expect_same_beside(rt, alloc, op, first, place)?;
+        }
+    }
+    Ok(())
+}
+
+fn expect_same_of_two(rt: &impl Abort, alloc: Global, op: &str) -> Result<(), AllocError> {
+    for place in 0..MEMBERS.len() {
+        for (change, value) in DEFECTS.iter() {
+            let first = Changed {
+                place,
+                value: *value,
+                change: *change,
+            };
+            expect_same_behind(rt, alloc, op, first)?;
+        }
+    }
+    Ok(())
+}
+
+#[test]
+fn of_two_defects_the_same_one_is_told(rt: HostRuntime) -> Result<(), Fail> {
+    let alloc = rt.alloc();
+    for op in OPS.iter() {
+        expect_same_of_two(&rt, alloc, *op)?;
     }
     Ok(())
 }
@@ -239,48 +324,6 @@ fn nested_lines_are_read_from_objects_as_from_trees(rt: HostRuntime) -> Result<(
     for depth in 0..140 {
         let line = nested_line(alloc, depth)?;
         expect_same(&rt, alloc, line.as_bytes())?;
-    }
-    Ok(())
-}
-
-const DISTANCES: [usize; 6] = [1, 2, 7, 8, 9, 20];
-
-/// Twenty lines, of which one each so many isn't plain, with another line at a place.
-fn mixed_script(
-    alloc: Global,
-    distance: usize,
-    place: usize,
-    line: &str,
-) -> Result<String, AllocError> {
-    let mut text = String::new(alloc);
-    for at in 0..20usize {
-        if at == place {
-            text.push_str(line)?;
-        } else if at % distance.max(1) == 0 {
-            text.push_str("{\"op\":\"sync\",\"group\":6,\"x\":{}}")?;
-        } else {
-            text.push_str("{\"op\":\"send\",\"block\":1}")?;
-        }
-        text.push_str("\n")?;
-    }
-    Ok(text)
-}
-
-fn expect_same_among(rt: &impl Abort, alloc: Global, line: &str) -> Result<(), AllocError> {
-    for distance in DISTANCES.iter() {
-        for place in 0..20 {
-            let script = mixed_script(alloc, *distance, place, line)?;
-            expect_same(rt, alloc, script.as_bytes())?;
-        }
-    }
-    Ok(())
-}
-
-#[test]
-fn lines_among_others_are_read_from_objects_as_from_trees(rt: HostRuntime) -> Result<(), Fail> {
-    let alloc = rt.alloc();
-    for line in LINES.iter() {
-        expect_same_among(&rt, alloc, *line)?;
     }
     Ok(())
 }

@@ -4,8 +4,14 @@
 #[cfg(test)]
 mod agreeing;
 #[cfg(test)]
+mod among;
+#[cfg(test)]
+mod old_fields;
+#[cfg(test)]
 mod rows;
 #[cfg(test)]
 mod tests;
+#[cfg(test)]
+mod tree_fields;
 #[cfg(test)]
 mod tree_lines;

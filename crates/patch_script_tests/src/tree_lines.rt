@@ -3,10 +3,9 @@ ghost use Rattle.patch_script.specs.Gives.{Gives};
 ghost use Rattle.patch_script.specs.Form.{patch_line, merge_line, view_line, engage_line, disengage_line, depend_line, span_of, group_op_line, op_line};
 ghost use Rattle.serde_json.specs.View.{view};
 
+use crate::tree_fields::{bytes, flag, number, numbers, numbers_or_none, positive_number, writer};
 use patch_model::{BlockNo, GroupNo, PatchNo, Undo};
-use patch_script::fields::{
-    LineError, bytes, flag, number, numbers, numbers_or_none, positive_number, writer, wrong,
-};
+use patch_script::fields::{LineError, wrong};
 use patch_script::{Defect, Line, LineReader, Name, Span};
 use serde_json::Value;
 use std::alloc::Global;
