@@ -15,28 +15,14 @@ enum Change {
     Without,
 }
 
-const CHANGES: [Change; 4] = [
-    Change::Instead,
-    Change::Before,
-    Change::Behind,
-    Change::Without,
-];
+/// Those that depend on a value.
+const CHANGES: [Change; 3] = [Change::Instead, Change::Before, Change::Behind];
 
-const OPS: [&str; 13] = [
-    "\"put\"",
-    "\"get\"",
-    "\"delete\"",
-    "\"reclaim\"",
-    "\"group\"",
-    "\"engage\"",
-    "\"disengage\"",
-    "\"depend\"",
-    "\"close\"",
-    "\"pending\"",
-    "\"sync\"",
-    "\"fly\"",
-    "7",
-];
+const KEY_OPS: [&str; 4] = ["\"put\"", "\"get\"", "\"delete\"", "\"reclaim\""];
+
+const GROUP_OPS: [&str; 4] = ["\"group\"", "\"engage\"", "\"disengage\"", "\"depend\""];
+
+const OTHER_OPS: [&str; 5] = ["\"close\"", "\"pending\"", "\"sync\"", "\"fly\"", "7"];
 
 const MEMBERS: [(&str, &str); 7] = [
     ("key", "\"k\""),
@@ -159,7 +145,7 @@ fn expect_same(rt: &impl Abort, alloc: Global, text: &[u8]) -> Result<(), AllocE
     Ok(())
 }
 
-/// A line of an op with one change, of each kind.
+/// A line of an op with one change, of each kind that depends on a value.
 fn expect_same_with(
     rt: &impl Abort,
     alloc: Global,
@@ -181,6 +167,13 @@ fn expect_same_with(
 
 fn expect_same_of(rt: &impl Abort, alloc: Global, op: &str) -> Result<(), AllocError> {
     for place in 0..MEMBERS.len() {
+        let without = Changed {
+            place,
+            value: "",
+            change: Change::Without,
+        };
+        let line = changed_line(alloc, op, &[without])?;
+        expect_same(rt, alloc, line.as_bytes())?;
         for value in VALUES.iter() {
             expect_same_with(rt, alloc, op, place, *value)?;
         }
@@ -188,12 +181,32 @@ fn expect_same_of(rt: &impl Abort, alloc: Global, op: &str) -> Result<(), AllocE
     Ok(())
 }
 
-#[test]
-fn changed_lines_are_read_from_objects_as_from_trees(rt: HostRuntime) -> Result<(), Fail> {
-    let alloc = rt.alloc();
-    for op in OPS.iter() {
-        expect_same_of(&rt, alloc, *op)?;
+fn expect_same_of_each(rt: &impl Abort, alloc: Global, ops: &[&str]) -> Result<(), AllocError> {
+    for op in ops {
+        expect_same_of(rt, alloc, *op)?;
     }
+    Ok(())
+}
+
+#[test]
+fn changed_lines_of_keys_are_read_from_objects_as_from_trees(rt: HostRuntime) -> Result<(), Fail> {
+    expect_same_of_each(&rt, rt.alloc(), &KEY_OPS)?;
+    Ok(())
+}
+
+#[test]
+fn changed_lines_of_groups_are_read_from_objects_as_from_trees(
+    rt: HostRuntime,
+) -> Result<(), Fail> {
+    expect_same_of_each(&rt, rt.alloc(), &GROUP_OPS)?;
+    Ok(())
+}
+
+#[test]
+fn changed_lines_of_other_ops_are_read_from_objects_as_from_trees(
+    rt: HostRuntime,
+) -> Result<(), Fail> {
+    expect_same_of_each(&rt, rt.alloc(), &OTHER_OPS)?;
     Ok(())
 }
 
@@ -255,12 +268,28 @@ fn expect_same_of_two(rt: &impl Abort, alloc: Global, op: &str) -> Result<(), Al
     Ok(())
 }
 
-#[test]
-fn of_two_defects_the_same_one_is_told(rt: HostRuntime) -> Result<(), Fail> {
-    let alloc = rt.alloc();
-    for op in OPS.iter() {
-        expect_same_of_two(&rt, alloc, *op)?;
+fn expect_same_of_two_each(rt: &impl Abort, alloc: Global, ops: &[&str]) -> Result<(), AllocError> {
+    for op in ops {
+        expect_same_of_two(rt, alloc, *op)?;
     }
+    Ok(())
+}
+
+#[test]
+fn of_two_defects_of_keys_the_same_one_is_told(rt: HostRuntime) -> Result<(), Fail> {
+    expect_same_of_two_each(&rt, rt.alloc(), &KEY_OPS)?;
+    Ok(())
+}
+
+#[test]
+fn of_two_defects_of_groups_the_same_one_is_told(rt: HostRuntime) -> Result<(), Fail> {
+    expect_same_of_two_each(&rt, rt.alloc(), &GROUP_OPS)?;
+    Ok(())
+}
+
+#[test]
+fn of_two_defects_of_other_ops_the_same_one_is_told(rt: HostRuntime) -> Result<(), Fail> {
+    expect_same_of_two_each(&rt, rt.alloc(), &OTHER_OPS)?;
     Ok(())
 }
 

@@ -13,49 +13,49 @@ const PLAIN: &str = "{\"op\":\"send\",\"block\":1}";
 struct Mix {
     odd: usize,
     plain: usize,
-    /// How many plain lines behind one that isn't are read as trees: the first of which seven times the other's bytes are no more.
+    /// How many plain lines behind one that isn't are read as trees: the least number that has seven times its bytes.
     trees: usize,
 }
 
 const MIXES: [Mix; 8] = [
     Mix {
-        odd: 29,
-        plain: 22,
+        odd: 30,
+        plain: 23,
         trees: 10,
     },
     Mix {
-        odd: 29,
-        plain: 28,
+        odd: 30,
+        plain: 29,
         trees: 8,
     },
     Mix {
-        odd: 29,
-        plain: 29,
-        trees: 7,
-    },
-    Mix {
-        odd: 29,
+        odd: 30,
         plain: 30,
         trees: 7,
     },
     Mix {
-        odd: 29,
-        plain: 202,
+        odd: 30,
+        plain: 31,
+        trees: 7,
+    },
+    Mix {
+        odd: 30,
+        plain: 209,
         trees: 2,
     },
     Mix {
-        odd: 29,
-        plain: 203,
+        odd: 30,
+        plain: 210,
         trees: 1,
     },
     Mix {
-        odd: 29,
-        plain: 204,
+        odd: 30,
+        plain: 211,
         trees: 1,
     },
     Mix {
-        odd: 290,
-        plain: 29,
+        odd: 300,
+        plain: 30,
         trees: 70,
     },
 ];
@@ -98,7 +98,7 @@ fn expect_same_at(
     distance: usize,
     line: &str,
 ) -> Result<(), AllocError> {
-    for beside in 0..4 {
+    for beside in 0..3 {
         let script = mixed_script(alloc, mix, distance, beside, line)?;
         expect_same(rt, alloc, script.as_bytes())?;
         let last = mix.trees.saturating_add(beside).saturating_sub(1);
@@ -112,9 +112,8 @@ fn expect_same_at(
 fn expect_same_in(rt: &impl Abort, alloc: Global, mix: Mix, line: &str) -> Result<(), AllocError> {
     expect_same_at(rt, alloc, mix, 1, line)?;
     expect_same_at(rt, alloc, mix, 2, line)?;
-    for beside in 0..4 {
-        let distance = mix.trees.saturating_add(beside).saturating_sub(1);
-        expect_same_at(rt, alloc, mix, distance, line)?;
+    for beside in 0..3 {
+        expect_same_at(rt, alloc, mix, mix.trees.saturating_add(beside), line)?;
     }
     expect_same_at(rt, alloc, mix, usize::MAX, line)
 }
