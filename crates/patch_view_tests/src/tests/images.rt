@@ -185,6 +185,45 @@ fn each_is_sent_elsewhere_than_the_last(rt: HostRuntime) -> Result<(), Fail> {
     send_by_turns(&rt, rt.alloc())
 }
 
+// After two rounds the gap before the heaps is known. It is left for good, by turns for one between the heaps and one behind them,
+// and after seven that missed it the next one is measured anew.
+fn left_gap(rt: &impl Abort, alloc: Global, rounds: u32) -> Result<Pair, OutOfMemory> {
+    assert!(rt; rounds <= 20);
+    let mut pair = two_heaps(rt, alloc)?;
+    pair.round(rt, WAITING, 500)?;
+    pair.round(rt, WAITING + 1, 501)?;
+    for turn in 0..rounds {
+        let side = if turn % 2 == 0 { 2000 } else { 3500 };
+        pair.round(rt, WAITING + 2 + turn, side + turn as usize)?;
+    }
+    Ok(pair)
+}
+
+// One is sent on a byte of a heap where a class waits, and one behind the heaps.
+fn send_on_one(rt: &impl Abort, mut pair: Pair) -> Result<(), OutOfMemory> {
+    pair.round(rt, 70, 1004)?;
+    pair.round(rt, 71, 3600)
+}
+
+// While one is in flight behind the heaps another comes to wait there, and one is sent on that.
+fn send_beside_a_flight(rt: &impl Abort, mut pair: Pair) -> Result<(), OutOfMemory> {
+    pair.lay(rt, 70, 3590, 9)?;
+    pair.send(rt, &[PatchNo(70)])?;
+    pair.lay(rt, 71, 3600, 5)?;
+    pair.lay(rt, 72, 3600, 9)?;
+    pair.send(rt, &[PatchNo(72)])?;
+    pair.end(rt)
+}
+
+#[test]
+fn many_in_a_row_are_sent_outside_the_gap(rt: HostRuntime) -> Result<(), Fail> {
+    for rounds in [7, 8, 9, 20] {
+        send_on_one(&rt, left_gap(&rt, rt.alloc(), rounds)?)?;
+        send_beside_a_flight(&rt, left_gap(&rt, rt.alloc(), rounds)?)?;
+    }
+    Ok(())
+}
+
 // In a gap where some were sent another one comes to wait, and more are sent there.
 fn send_where_one_waits(rt: &impl Abort, pair: &mut Pair) -> Result<(), OutOfMemory> {
     pair.round(rt, 50, 2000)?;
