@@ -176,6 +176,136 @@ fn held_flights_are_landed(rt: HostRuntime) -> Result<(), Fail> {
     landed
 }
 
+// Begins a write of the block, if one can begin, and holds its flight. Whether one did.
+fn send_if_ready(bench: &mut Bench<Global>, device: &mut MemDevice, block: BlockNo) -> bool {
+    let ask = Ask::Send { block };
+    let answer = bench.cache.answer(&mut bench.flights, device, &ask);
+    matches!(answer, Answer::Sent { .. })
+}
+
+// Begins a write of each block of which one can begin: each block is asked in turn. Whether there was such a block.
+fn send_over_all(bench: &mut Bench<Global>, device: &mut MemDevice) -> bool {
+    let mut sent = false;
+    for at in 0..bench.cache.blocks() {
+        let more = send_if_ready(bench, device, BlockNo(at));
+        sent = sent || more;
+    }
+    sent
+}
+
+// A flush of which each wave goes over all blocks.
+fn flush_over_all(bench: &mut Bench<Global>, device: &mut MemDevice) -> Result<(), Fail> {
+    let turns = u64::from(bench.cache.live()) + 1;
+    land(bench, device)?;
+    for _ in 0..turns {
+        if !send_over_all(bench, device) {
+            return Ok(());
+        }
+        land(bench, device)?;
+    }
+    Ok(())
+}
+
+// Whose waves: those of the cache's own flush, or those that go over all blocks.
+#[derive(Clone, Copy)]
+enum Waves {
+    OfFlush,
+    OverAll,
+}
+
+fn flush_in(bench: &mut Bench<Global>, device: &mut MemDevice, waves: Waves) -> Result<(), Fail> {
+    match waves {
+        Waves::OfFlush => Ok(flush(bench, device)?),
+        Waves::OverAll => flush_over_all(bench, device),
+    }
+}
+
+fn drawn(seed: u32) -> u32 {
+    seed.wrapping_mul(1_664_525).wrapping_add(1_013_904_223)
+}
+
+// Makes a patch on a drawn block. About every second one names one of the sixteen before it. Its block.
+fn make_drawn(cache: &mut Cache, seed: u32) -> Result<BlockNo, CreateRefusal> {
+    let block = BlockNo((seed >> 8) % cache.blocks().max(1));
+    let start = (seed >> 16) as usize % 64;
+    let back = (seed >> 24) % 32 + 1;
+    match cache.made().checked_sub(back) {
+        Some(no) if back <= 16 => cache.create(block, start, b"up", &[PatchNo(no)], Undo::Keep)?,
+        _ => cache.create(block, start, b"on", &[], Undo::Keep)?,
+    };
+    Ok(block)
+}
+
+// Makes 24 patches. After every sixth one a write of its block begins, if one can begin. The last seed.
+fn make_many(
+    bench: &mut Bench<Global>,
+    device: &mut MemDevice,
+    first: u32,
+) -> Result<u32, CreateRefusal> {
+    let mut seed = first;
+    for at in 0..24u32 {
+        seed = drawn(seed);
+        let block = make_drawn(&mut bench.cache, seed)?;
+        if at % 6 == 5 {
+            send_if_ready(bench, device, block);
+        }
+    }
+    Ok(seed)
+}
+
+fn go_rounds(
+    rt: &impl Abort,
+    bench: &mut Bench<Global>,
+    device: &mut MemDevice,
+    waves: Waves,
+) -> Result<(), Fail> {
+    let mut seed = bench.cache.blocks();
+    for _ in 0..8u32 {
+        seed = make_many(bench, device, seed)?;
+        flush_in(bench, device, waves)?;
+        expect_equal(rt, "live", bench.cache.live(), 0);
+    }
+    Ok(())
+}
+
+// A device of so many blocks, after eight rounds that are flushed in these waves. Writes are under way as each flush begins.
+fn written_in(
+    rt: &impl Abort,
+    alloc: Global,
+    blocks: u32,
+    waves: Waves,
+) -> Result<MemDevice, Fail> {
+    let mut device = MemDevice::new(alloc, blocks)?;
+    let cache = open_zeros(rt, alloc, blocks as usize)?;
+    let mut bench = Bench {
+        cache,
+        flights: Flights::new(alloc),
+    };
+    let gone = go_rounds(rt, &mut bench, &mut device, waves);
+    close(bench);
+    gone?;
+    Ok(device)
+}
+
+// The same blocks were written, in the same order, with the same bytes.
+fn expect_same_writes(rt: &impl Abort, device: &MemDevice, want: &MemDevice) {
+    expect_equal(rt, "writes", device.writes().len(), want.writes().len());
+    for (write, wanted) in device.writes().iter().zip(want.writes()) {
+        expect_equal(rt, "block", write.0, wanted.0);
+        assert!(rt; write.1.as_slice() == wanted.1.as_slice());
+    }
+}
+
+#[test]
+fn a_flush_writes_as_waves_over_all_blocks(rt: HostRuntime) -> Result<(), Fail> {
+    for blocks in [1, 2, 63, 64, 65, 129, 200] {
+        let device = written_in(&rt, rt.alloc(), blocks, Waves::OfFlush)?;
+        let want = written_in(&rt, rt.alloc(), blocks, Waves::OverAll)?;
+        expect_same_writes(&rt, &device, &want);
+    }
+    Ok(())
+}
+
 type Two<D> = FaultyDevice<FaultyDevice<D>>;
 
 type Four<D> = Two<Two<D>>;
