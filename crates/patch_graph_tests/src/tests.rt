@@ -1,4 +1,4 @@
-//! Walks through the calls, and each allocation refused in turn.
+//! Walks through the calls, what lies between classes beside a search through all, and each allocation refused in turn.
 use linked_list_allocator::LocalHeap;
 use patch_graph::laws::ready_slow;
 use patch_graph::{Added, Graph, LiveClass};
@@ -6,6 +6,9 @@ use patch_model::{BLOCK, BlockNo, MAX_LIVE, MAX_PATCHES, Mark, OutOfMemory, Patc
 use std::alloc::{Allocator, Global};
 use std::process::Abort;
 use std::test::Fail;
+
+mod between;
+mod plain;
 
 // A patch to be made: its block, its span, what it names, and what becomes of its undo bytes.
 #[derive(Clone, Copy)]
