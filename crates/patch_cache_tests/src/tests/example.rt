@@ -6,11 +6,16 @@ use std::alloc::Global;
 fn write_in_order(alloc: Global) -> Result<MemDevice, Fail> {
     let mut device = MemDevice::new(alloc, 2)?;
     let mut cache = Cache::open(alloc, load(alloc, &mut device)?)?;
+    write_both(&mut cache, &mut device)?;
+    Ok(device)
+}
+
+fn write_both(cache: &mut Cache, device: &mut MemDevice) -> Result<(), Fail> {
     let data = cache.create(BlockNo(0), 0, b"data", &[], Undo::Keep)?;
     cache.create(BlockNo(1), 0, b"name", &[data], Undo::Keep)?; // reaches the disk after the data
-    write_block(&mut cache, &mut device, BlockNo(0))?;
-    write_block(&mut cache, &mut device, BlockNo(1))?;
-    Ok(device)
+    write_block(cache, device, BlockNo(0))?;
+    write_block(cache, device, BlockNo(1))?;
+    Ok(())
 }
 
 // Writes all of a block that may go to the disk now, as one image.
