@@ -7,7 +7,7 @@ use crate::opening::{open_file, open_store};
 use crate::reporting::{write_entries, write_extents};
 use patch_device::Device;
 use patch_replay::{Output, Sink};
-use patch_store::Report;
+use patch_store::{Report, Store};
 use std::alloc::Global;
 use std::fs::OpenFile;
 use std::os::unix::fs::FileExt;
@@ -20,6 +20,10 @@ fn report_of<D: Device>(alloc: Global, device: &mut D) -> Result<Report, Stop>
     ensures had { D.is_honest device.old → D.had device.new ≡ D.had device.old }
 {
     let store = open_store(alloc, device)?;
+    report_on(&store)
+}
+
+fn report_on(store: &Store) -> Result<Report, Stop> {
     Ok(store.check()?)
 }
 

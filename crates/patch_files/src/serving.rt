@@ -112,10 +112,13 @@ fn finish<W: Output, D: Lasting + Drop>(
         (Appends (W.contents writer.old.inner) (W.contents writer.new.inner) (all_text (replies_in finished.replies.items))) }
 {
     let Finished {
+        store,
         mut device,
         replies,
-        ..
+        book,
     } = finished;
+    drop(store);
+    drop(book);
     match last_and_tell(alloc, writer, &mut device, replies.as_slice()) {
         Ok(()) => Ok(device),
         Err(why) => Err(Unserved {

@@ -17,15 +17,24 @@ fn upgrade_store(store: &mut Store) -> Result<(), Stop> {
     }
 }
 
+/// Upgrades the store, brings that to the device, and tells it.
+fn upgrade_and_tell<W: Output, D: Lasting>(
+    writer: &mut Sink<W>,
+    store: &mut Store,
+    device: &mut D,
+) -> Result<(), Stop> {
+    upgrade_store(store)?;
+    save(store, device)?;
+    Ok(writer.write_all(b"upgraded\n")?)
+}
+
 fn upgrade<W: Output, D: Lasting>(
     alloc: Global,
     writer: &mut Sink<W>,
     device: &mut D,
 ) -> Result<(), Stop> {
     let mut store = open_store(alloc, device)?;
-    upgrade_store(&mut store)?;
-    save(&mut store, device)?;
-    Ok(writer.write_all(b"upgraded\n")?)
+    upgrade_and_tell(writer, &mut store, device)
 }
 
 /// Makes the store of a device one of version 2, whose extents have as many blocks as before, and writes `upgraded`.
