@@ -135,36 +135,40 @@ pub(crate) fn run_threads<
                 return Err(Cause::NoThread);
             };
             let mut writers = Vec::new(alloc);
-            let mut whole = writers.reserve(jobs.len()).is_ok();
+            let mut short = writers.reserve(jobs.len()).is_err();
+            let mut started = true;
             let mut place = 0;
             for seat in seats {
-                if !whole || place >= jobs.len() {
+                if short || !started || place >= jobs.len() {
                     break;
                 }
                 let mine = jobs[place].as_slice();
                 match scope.spawn(move || write_all(rt, alloc, desk, bell, gate, mine, seat)) {
                     Ok(writer) => {
                         if writers.push(writer).is_err() {
-                            whole = false;
+                            short = true;
                         }
                     }
-                    Err(_) => whole = false,
+                    Err(_) => started = false,
                 }
                 place += 1;
             }
-            if !whole {
+            if short || !started {
                 bell.stop(rt);
             }
             let mut written = Vec::new(alloc);
             for writer in writers {
                 if written.push(writer.join(rt)).is_err() {
-                    whole = false;
+                    short = true;
                 }
             }
             let flushed = flusher.join(rt);
             let completed = completer.join(rt);
-            if !whole {
+            if !started {
                 return Err(Cause::NoThread);
+            }
+            if short {
+                return Err(Cause::OutOfMemory);
             }
             Ok(Joined {
                 written,
