@@ -9,8 +9,11 @@ use std::alloc::Global;
 use std::process::Abort;
 use std::test::Fail;
 
+mod crashes;
+mod damages;
 mod faults;
 mod files;
+mod rows;
 mod scripts;
 mod tickers;
 mod writers;
@@ -29,6 +32,16 @@ const COUNT: u32 = 35;
 struct End(Status, u8, &'static str);
 
 const EMPTY_STORE: End = End(Status::Done, 0, "extent 0 0 0 0\nextent 1 0 0 0\nclean\n");
+
+// A command that is done, and has written this.
+fn done(text: &'static str) -> End {
+    End(Status::Done, 0, text)
+}
+
+// One that a fault of the disk has stopped.
+fn failed(text: &'static str) -> End {
+    End(Status::Failed, 4, text)
+}
 
 fn write_superblock(device: &mut MemDevice, superblock: &BlockBytes) -> Result<(), Fail> {
     match device.write(0, superblock.as_slice()) {

@@ -56,6 +56,20 @@ fn a_device_that_gives_up_ends_a_run_behind_its_answers(rt: HostRuntime) -> Resu
     Ok(())
 }
 
+#[test]
+fn eight_refusals_of_a_write_end_a_run_and_seven_do_not(rt: HostRuntime) -> Result<(), Fail> {
+    let alloc = rt.alloc();
+    let mut eight = failing_often(failing_often(new_device(alloc)?));
+    let gave_up = failed("ok\nfault DeviceGaveUp 3\n");
+    expect_run(&rt, alloc, &mut eight, files::PUT.as_bytes(), gave_up);
+    let call = u64::from(COUNT);
+    let three = failing(failing(failing(new_device(alloc)?, call), call), call);
+    let mut seven = failing_often(three);
+    expect_run(&rt, alloc, &mut seven, files::PUT.as_bytes(), files::OK);
+    expect_check(&rt, alloc, &mut seven, files::HELD);
+    Ok(())
+}
+
 /// A reader that fails at once.
 #[derive(Drop)]
 struct Torn;

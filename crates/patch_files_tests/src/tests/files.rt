@@ -1,85 +1,136 @@
-//! Stores in files of the system.
+//! Commands on a file, one behind another: how each ends, and what the file holds.
 use super::*;
-use patch_files::{check_file, make_file, run_file, upgrade_file};
-use std::fs;
-use std::fs::{File, OpenFile};
-use std::io::Read;
+use patch_files::{check_file, make_file, run_file, serve_file, upgrade_file};
+use std::fs::OpenFile;
 use std::os::unix::fs::FileExt;
 use std::rt::Files;
+use std::sync::Wait;
+use std::thread::Threads;
+use std::{fs, io};
 
-const PATH: &str = "patch_files_disk";
-
-const MADE: End = End(Status::Done, 0, "made 35\n");
-
-const DISK: End = End(Status::Failed, 4, "fault Disk\n");
-
-fn expect_made<F: FileExt + OpenFile + Drop, H: Files<File = F>>(
-    rt: &impl Abort,
-    files: &H,
-    alloc: Global,
-    geometry: Geometry,
-    end: End,
-) {
-    let mut out = Sink::new(Vec::new(alloc));
-    let status = make_file(files, alloc, &mut out, PATH, geometry);
-    expect_end(rt, status, out.into_inner().as_slice(), end);
+/// What is done with a file.
+#[derive(Clone, Copy)]
+pub(super) enum Deed<'a> {
+    Make(Geometry),
+    Run(&'a str),
+    /// The lines of so many writers run on threads.
+    Serve(u32, &'a str),
+    Check,
+    Upgrade,
 }
 
-fn expect_checked<F: FileExt + OpenFile + Drop, H: Files<File = F>>(
-    rt: &impl Abort,
-    files: &H,
+pub(super) type Turn<'a> = (Deed<'a>, End);
+
+// How the command ends on the file of this path, and what it writes.
+fn end_of<F: FileExt + OpenFile + Drop + Send, H: Files<File = F> + Threads + Wait + Abort + Sync>(
+    rt: &H,
     alloc: Global,
-    end: End,
-) {
+    path: &str,
+    deed: &Deed<'_>,
+) -> (Status, Vec<u8>) {
     let mut out = Sink::new(Vec::new(alloc));
-    let status = check_file(files, alloc, &mut out, PATH);
-    expect_end(rt, status, out.into_inner().as_slice(), end);
+    let status = match deed {
+        Deed::Make(geometry) => make_file(rt, alloc, &mut out, path, *geometry),
+        Deed::Run(script) => {
+            let mut source = Source::new(script.as_bytes());
+            run_file(rt, alloc, &mut source, &mut out, path, &mut Quiet)
+        }
+        Deed::Serve(writers, script) => {
+            assert!(rt; 0 < *writers && *writers <= 8);
+            let mut source = Source::new(script.as_bytes());
+            serve_file(rt, alloc, &mut source, &mut out, path, *writers)
+        }
+        Deed::Check => check_file(rt, alloc, &mut out, path),
+        Deed::Upgrade => upgrade_file(rt, alloc, &mut out, path),
+    };
+    (status, out.into_inner())
 }
 
-fn expect_file_run<F: FileExt + OpenFile + Drop, H: Files<File = F>>(
-    rt: &impl Abort,
-    files: &H,
-    alloc: Global,
-    script: &[u8],
-    end: End,
-) {
-    let mut out = Sink::new(Vec::new(alloc));
-    let mut source = Source::new(script);
-    let status = run_file(files, alloc, &mut source, &mut out, PATH, &mut Quiet);
-    expect_end(rt, status, out.into_inner().as_slice(), end);
+/// The commands end so, one behind another.
+pub(super) fn follow<
+    F: FileExt + OpenFile + Drop + Send,
+    H: Files<File = F> + Threads + Wait + Abort + Sync,
+>(rt: &H, alloc: Global, path: &str, turns: &[Turn<'_>]) {
+    for (deed, end) in turns {
+        let (status, text) = end_of(rt, alloc, path, deed);
+        expect_end(rt, status, text.as_slice(), *end);
+    }
 }
 
-fn expect_upgraded<F: FileExt + OpenFile + Drop, H: Files<File = F>>(
-    rt: &impl Abort,
-    files: &H,
-    alloc: Global,
-    end: End,
-) {
-    let mut out = Sink::new(Vec::new(alloc));
-    let status = upgrade_file(files, alloc, &mut out, PATH);
-    expect_end(rt, status, out.into_inner().as_slice(), end);
+/// The same on a file that isn't there at first, nor at last.
+pub(super) fn follow_anew<
+    F: FileExt + OpenFile + Drop + Send,
+    H: Files<File = F> + Threads + Wait + Abort + Sync,
+>(rt: &H, alloc: Global, path: &str, turns: &[Turn<'_>]) -> Result<(), io::Error> {
+    let _old = fs::remove_file(rt, path);
+    follow(rt, alloc, path, turns);
+    fs::remove_file(rt, path)
 }
 
-const PUT: &[u8] = br#"{"op":"put","key":"k","hex":"0102"}"#;
+/// Bytes, and where in the file they stand.
+pub(super) type Piece<'a> = (usize, &'a [u8]);
 
-const HELD: End = End(
+// Lays the bytes over those from this place on.
+fn lay(bytes: &mut [u8], from: usize, piece: &[u8]) {
+    for (at, byte) in piece.iter().enumerate() {
+        if let Some(place) = bytes.get_mut(from.saturating_add(at)) {
+            *place = *byte;
+        }
+    }
+}
+
+/// The file has so many bytes, which are these pieces over zeros.
+pub(super) fn expect_bytes(
+    rt: &impl Abort,
+    files: &HostRuntime,
+    path: &str,
+    length: usize,
+    pieces: &[Piece<'_>],
+) -> Result<(), Fail> {
+    let mut want = vec![in files.alloc(); 0; length]?;
+    for (from, piece) in pieces {
+        lay(&mut want, *from, piece);
+    }
+    let held = fs::read(files, path)?;
+    assert_eq!(rt; held.len(), length);
+    assert!(rt; held.as_slice() == want.as_slice(), "{path}");
+    Ok(())
+}
+
+/// How many bytes a file of [`SMALL`] has.
+pub(super) const LENGTH: usize = 143_360;
+
+pub(super) const MADE: End = End(Status::Done, 0, "made 35\n");
+
+pub(super) const OK: End = End(Status::Done, 0, "ok\n");
+
+pub(super) const PUT: &str = r#"{"op":"put","key":"k","hex":"0102"}"#;
+
+/// What a check writes behind that put.
+pub(super) const HELD: End = End(
     Status::Done,
     0,
     "entry 6b 2\nextent 0 0 19 19\nextent 1 0 0 0\nclean\n",
 );
 
+const DISK: End = End(Status::Failed, 4, "fault Disk\n");
+
 #[test]
 fn a_store_is_kept_in_a_file(rt: HostRuntime) -> Result<(), Fail> {
-    let alloc = rt.alloc();
-    let _old = fs::remove_file(&rt, PATH);
-    expect_checked(&rt, &rt, alloc, DISK);
-    expect_file_run(&rt, &rt, alloc, PUT, DISK);
-    expect_made(&rt, &rt, alloc, SMALL, MADE);
-    expect_file_run(&rt, &rt, alloc, PUT, End(Status::Done, 0, "ok\n"));
-    expect_made(&rt, &rt, alloc, SMALL, DISK);
-    expect_checked(&rt, &rt, alloc, HELD);
-    expect_upgraded(&rt, &rt, alloc, End(Status::Done, 0, "upgraded\n"));
-    expect_checked(&rt, &rt, alloc, HELD);
-    fs::remove_file(&rt, PATH)?;
+    follow_anew(
+        &rt,
+        rt.alloc(),
+        "patch_files_disk",
+        &[
+            (Deed::Check, DISK),
+            (Deed::Run(PUT), DISK),
+            (Deed::Make(SMALL), MADE),
+            (Deed::Run(PUT), OK),
+            (Deed::Make(SMALL), DISK),
+            (Deed::Check, HELD),
+            (Deed::Upgrade, done("upgraded\n")),
+            (Deed::Check, HELD),
+        ],
+    )?;
     Ok(())
 }

@@ -80,14 +80,13 @@ fn a_script_with_an_unreadable_line_does_nothing(rt: HostRuntime) -> Result<(), 
 
 #[test]
 fn a_script_that_is_too_long_does_nothing(rt: HostRuntime) -> Result<(), Fail> {
-    let script = vec![in rt.alloc(); b'\n'; 100_001]?;
     let why = Status::Unreadable(BadScript::TooLong);
-    expect_refused(
-        &rt,
-        rt.alloc(),
-        &script,
-        End(why, 3, "fault ScriptTooLong\n"),
-    )
+    let end = End(why, 3, "fault ScriptTooLong\n");
+    for (byte, count) in [(b' ', 16_777_217), (b'\n', 100_001)] {
+        let script = vec![in rt.alloc(); byte; count]?;
+        expect_refused(&rt, rt.alloc(), &script, end)?;
+    }
+    Ok(())
 }
 
 const PUT_LONG: &str = r#"{"op":"put","key":"v","hex":"09","times":65488}"#;

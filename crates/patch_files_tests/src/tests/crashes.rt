@@ -1,0 +1,50 @@
+//! A run that is stopped behind some of its writes: what the disk holds then.
+use super::files::{HELD, OK, PUT};
+use super::*;
+
+const GET: &str = r#"{"op":"get","key":"k"}"#;
+
+// A new disk with these writes done to it.
+fn disk_behind(alloc: Global, writes: &[(u32, BlockBytes)]) -> Result<MemDevice, Fail> {
+    let mut disk = new_device(alloc)?;
+    for (block, bytes) in writes {
+        if disk.write(*block, bytes.as_slice()).is_err() {
+            return Err(Fail::from("a device in memory refused a write"));
+        }
+    }
+    Ok(disk)
+}
+
+// What a check of the disk writes, and how a reading of the key is answered.
+fn expect_disk(
+    rt: &impl Abort,
+    alloc: Global,
+    disk: &mut MemDevice,
+    held: End,
+    answer: &'static str,
+) {
+    expect_check(rt, alloc, disk, held);
+    expect_run(rt, alloc, disk, GET.as_bytes(), done(answer));
+}
+
+// The run of one put makes three writes: of the frame, the pointer and the slot. Before them a new disk has one.
+#[test]
+fn a_put_is_there_with_the_last_of_its_writes(rt: HostRuntime) -> Result<(), Fail> {
+    let alloc = rt.alloc();
+    let mut device = new_device(alloc)?;
+    expect_run(&rt, alloc, &mut device, PUT.as_bytes(), OK);
+    let writes = device.writes();
+    assert_eq!(&rt; writes.len(), 4);
+    let pointed = done("extent 0 0 19 0\nextent 1 0 0 0\nclean\n");
+    for (count, held, answer) in [
+        (1, EMPTY_STORE, "none\n"),
+        (2, EMPTY_STORE, "none\n"),
+        (3, pointed, "none\n"),
+        (4, HELD, "value 0102\n"),
+    ] {
+        assert!(&rt; 1 <= count && count <= writes.len());
+        let mut disk = disk_behind(alloc, &writes[1..count])?;
+        expect_disk(&rt, alloc, &mut disk, held, answer);
+    }
+    Ok(())
+}
