@@ -10,6 +10,7 @@ use std::process::Abort;
 use std::test::Fail;
 
 mod closed;
+mod flights;
 mod flushes;
 mod memory;
 mod opening;
@@ -136,6 +137,27 @@ fn expect_value<A: Allocator + Copy>(
         Ok(None) => assert!(rt; value.is_none()),
         Err(_) => assert!(rt; false, "a key could not be read"),
     }
+}
+
+// A key, and its value.
+type Pair<'a> = (&'a [u8], Option<&'a [u8]>);
+
+fn expect_values<A: Allocator + Copy>(rt: &impl Abort, store: &Store<A>, pairs: &[Pair<'_>]) {
+    for (key, value) in pairs {
+        expect_value(rt, store, key, *value);
+    }
+}
+
+// The blocks open, and these keys have these values.
+fn expect_opened(
+    rt: &impl Abort,
+    alloc: Global,
+    blocks: Vec<BlockBytes>,
+    pairs: &[Pair<'_>],
+) -> Result<(), Fail> {
+    let store = opened(rt, alloc, blocks)?;
+    expect_values(rt, &store, pairs);
+    Ok(())
 }
 
 #[test]

@@ -1,4 +1,4 @@
-//! What the patches of a store name, and the disks that hold closed sets of them.
+//! What the patches of a store name, which sets of them are closed, and the disks that hold these.
 use super::walks::{Ask, Said, behind, put};
 use super::*;
 use patch_model::{BlockNo, PatchNo, Step};
@@ -23,10 +23,14 @@ fn named_by(steps: &[Step], no: usize) -> &[PatchNo] {
     &[]
 }
 
+fn drained(store: &mut Store) -> Result<Vec<Step>, Fail> {
+    Ok(store.drain_trace()?)
+}
+
 // The steps of these commands, on a new disk of three extents.
 fn steps_of(rt: &impl Abort, alloc: Global, turns: &[(Ask<'_>, Said)]) -> Result<Vec<Step>, Fail> {
     let mut store = behind(rt, alloc, ROOMY, turns)?;
-    Ok(store.drain_trace()?)
+    drained(&mut store)
 }
 
 fn expect_named(
@@ -72,26 +76,154 @@ fn a_slot_of_a_longer_frame_goes_behind_the_upgrade(rt: HostRuntime) -> Result<(
     )
 }
 
+// A patch of some steps: where it stands, what it depends on directly, and its class; patches are told by their bits.
+#[derive(Clone, Copy)]
+struct Node {
+    block: BlockNo,
+    start: usize,
+    stop: usize,
+    after: u32,
+    class: u32,
+}
+
+fn bit(no: usize) -> u32 {
+    let places = u32::try_from(no).unwrap_or(u32::MAX);
+    1u32.checked_shl(places).unwrap_or(0)
+}
+
+fn bits(numbers: &[usize]) -> u32 {
+    let mut bits = 0;
+    for no in numbers {
+        bits |= bit(*no);
+    }
+    bits
+}
+
+// The next patch: it depends on those that it names, and on those that share a byte with it.
+fn push_node(
+    nodes: &mut Vec<Node>,
+    block: BlockNo,
+    start: usize,
+    stop: usize,
+    names: &[PatchNo],
+) -> Result<(), OutOfMemory> {
+    let mut after = 0;
+    for name in names {
+        after |= bit(name.0 as usize);
+    }
+    for (no, node) in nodes.iter().enumerate() {
+        if node.block == block && node.start < stop && start < node.stop {
+            after |= bit(no);
+        }
+    }
+    let class = bit(nodes.len());
+    nodes.push(Node {
+        block,
+        start,
+        stop,
+        after,
+        class,
+    })?;
+    Ok(())
+}
+
+fn class_of(nodes: &[Node], no: PatchNo) -> u32 {
+    match nodes.get(no.0 as usize) {
+        Some(node) => node.class,
+        None => 0,
+    }
+}
+
+// The classes of the two are one.
+fn join(nodes: &mut [Node], a: PatchNo, b: PatchNo) {
+    let class = class_of(nodes, a) | class_of(nodes, b);
+    for node in nodes.iter_mut() {
+        if node.class & class != 0 {
+            node.class = class;
+        }
+    }
+}
+
+fn nodes_of(alloc: Global, steps: &[Step]) -> Result<Vec<Node>, OutOfMemory> {
+    let mut nodes = Vec::new(alloc);
+    for step in steps {
+        match step {
+            Step::Create {
+                block,
+                start,
+                bytes,
+                after,
+                ..
+            } => {
+                let stop = start.saturating_add(bytes.as_slice().len());
+                push_node(&mut nodes, *block, *start, stop, after.as_slice())?;
+            }
+            Step::Merge { a, b } => join(&mut nodes, *a, *b),
+            _ => {}
+        }
+    }
+    Ok(nodes)
+}
+
+// Whether the set has, with each of its patches, the class of that and what it depends on.
+fn is_closed(nodes: &[Node], held: u32) -> bool {
+    nodes.iter().enumerate().all(|(no, node)| held & bit(no) == 0
+        || (node.class | node.after) & !held == 0)
+}
+
 // Two puts, the deletes of both, and a put that claims the lowest slot.
+const CLAIMED: [(Ask<'static>, Said); 5] = [
+    (
+        Ask::Put {
+            key: b"b",
+            byte: 1,
+            len: 1,
+        },
+        Said::Done,
+    ),
+    (
+        Ask::Put {
+            key: b"a",
+            byte: 1,
+            len: 1,
+        },
+        Said::Done,
+    ),
+    (Ask::Delete { key: b"b" }, Said::Done),
+    (Ask::Delete { key: b"a" }, Said::Done),
+    (
+        Ask::Put {
+            key: b"a",
+            byte: 2,
+            len: 1,
+        },
+        Said::Done,
+    ),
+];
+
 #[test]
 fn a_claimed_slot_goes_behind_the_last_delete(rt: HostRuntime) -> Result<(), Fail> {
-    expect_named(
-        &rt,
-        rt.alloc(),
-        &[
-            (put(b"b", 1, 1), Said::Done),
-            (put(b"a", 1, 1), Said::Done),
-            (Ask::Delete { key: b"b" }, Said::Done),
-            (Ask::Delete { key: b"a" }, Said::Done),
-            (put(b"a", 2, 1), Said::Done),
-        ],
-        10,
-        &[PatchNo(9), PatchNo(7)],
-    )
+    let names = [PatchNo(9), PatchNo(7)];
+    expect_named(&rt, rt.alloc(), &CLAIMED, 10, &names)
+}
+
+// Of the patches of slots the delete of `a` is the one in slot 1, and the last put's is in slot 0, which the delete of `b` cleared.
+fn expect_places(rt: &impl Abort, nodes: &[Node]) {
+    for (no, start) in [(6, 0), (7, 64), (10, 0)] {
+        let place = nodes.get(no).map(|node| (node.block, node.start));
+        assert_eq!(rt; place, Some((BlockNo(1), start)), "patch {no}");
+    }
+}
+
+#[test]
+fn the_lowest_empty_slot_is_claimed(rt: HostRuntime) -> Result<(), Fail> {
+    let steps = steps_of(&rt, rt.alloc(), &CLAIMED)?;
+    expect_places(&rt, &nodes_of(rt.alloc(), &steps)?);
+    Ok(())
 }
 
 // A patch's bytes, on a disk that holds it.
-fn lay(blocks: &mut [BlockBytes], block: BlockNo, start: usize, bytes: &[u8]) {
+pub(super) fn lay(blocks: &mut [BlockBytes], block: BlockNo, start: usize, bytes: &[u8]) {
     if let Some(block) = blocks.get_mut(block.0 as usize) {
         if bytes.len() <= BLOCK && start <= BLOCK - bytes.len() {
             block.write(start, bytes);
@@ -120,20 +252,6 @@ fn disk_of(alloc: Global, steps: &[Step], held: &[usize]) -> Result<Vec<BlockByt
     Ok(blocks)
 }
 
-// The disk opens, and two keys have these values.
-fn expect_opened(
-    rt: &impl Abort,
-    alloc: Global,
-    blocks: Vec<BlockBytes>,
-    a: Option<&[u8]>,
-    b: Option<&[u8]>,
-) -> Result<(), Fail> {
-    let store = opened(rt, alloc, blocks)?;
-    expect_value(rt, &store, b"a", a);
-    expect_value(rt, &store, b"b", b);
-    Ok(())
-}
-
 // A closed set, and the values of `a` and `b` on the disk that holds it.
 type Closed = (
     &'static [usize],
@@ -153,20 +271,46 @@ const CLOSED: [Closed; 8] = [
     (&[0, 1, 2, 3, 4, 5, 6], None, Some(&[2])),
 ];
 
-#[test]
-fn the_disk_of_each_closed_set_opens(rt: HostRuntime) -> Result<(), Fail> {
-    let alloc = rt.alloc();
-    let steps = steps_of(
-        &rt,
+// The steps of these commands.
+fn steps_of_closed(rt: &impl Abort, alloc: Global) -> Result<Vec<Step>, Fail> {
+    steps_of(
+        rt,
         alloc,
         &[
             (put(b"a", 1, 1), Said::Done),
             (Ask::Delete { key: b"a" }, Said::Done),
             (put(b"b", 2, 1), Said::Done),
         ],
-    )?;
+    )
+}
+
+fn expect_each_opened(rt: &impl Abort, alloc: Global, steps: &[Step]) -> Result<(), Fail> {
     for (held, a, b) in &CLOSED {
-        expect_opened(&rt, alloc, disk_of(alloc, &steps, held)?, *a, *b)?;
+        let blocks = disk_of(alloc, steps, held)?;
+        expect_opened(rt, alloc, blocks, &[(b"a", *a), (b"b", *b)])?;
     }
+    Ok(())
+}
+
+#[test]
+fn the_disk_of_each_closed_set_opens(rt: HostRuntime) -> Result<(), Fail> {
+    let steps = steps_of_closed(&rt, rt.alloc())?;
+    expect_each_opened(&rt, rt.alloc(), &steps)
+}
+
+// The closed sets of these patches are those that are listed.
+fn expect_listed(rt: &impl Abort, nodes: &[Node]) {
+    assert_eq!(rt; nodes.len(), 7);
+    assert_eq!(rt; class_of(nodes, PatchNo(1)), bits(&[1, 5]));
+    for set in 0..bit(7) {
+        let listed = CLOSED.iter().any(|closed| bits(closed.0) == set);
+        assert_eq!(rt; is_closed(nodes, set), listed, "set {set}");
+    }
+}
+
+#[test]
+fn there_are_no_other_closed_sets(rt: HostRuntime) -> Result<(), Fail> {
+    let steps = steps_of_closed(&rt, rt.alloc())?;
+    expect_listed(&rt, &nodes_of(rt.alloc(), &steps)?);
     Ok(())
 }

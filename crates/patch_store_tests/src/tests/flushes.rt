@@ -69,27 +69,27 @@ fn blocks_of<D: Device>(alloc: Global, device: &mut D) -> Result<Vec<BlockBytes>
     }
 }
 
-// A key has a value of so many bytes.
-fn has_length(store: &Store, key: &[u8], len: usize) -> bool {
-    match store.get(key) {
-        Ok(Some(value)) => value.len() == len,
-        _ => false,
-    }
-}
-
 // The device's blocks open as the map of the commands.
 fn expect_on_disk<D: Device>(rt: &impl Abort, alloc: Global, device: &mut D) -> Result<(), Fail> {
-    let store = opened(rt, alloc, blocks_of(alloc, device)?)?;
-    assert!(rt; has_length(&store, b"a", 5000));
-    expect_value(rt, &store, b"b", Some(&[3, 3]));
-    Ok(())
+    let blocks = blocks_of(alloc, device)?;
+    let a = [1; 5000];
+    expect_opened(
+        rt,
+        alloc,
+        blocks,
+        &[(b"a", Some(&a)), (b"b", Some(&[3, 3]))],
+    )
+}
+
+fn flush_all<D: Device>(rt: &impl Abort, store: &mut Store, device: &mut D) {
+    assert!(rt; flush(store, device).is_ok());
+    assert_eq!(rt; store.cache().live(), 0);
 }
 
 // Flushes the commands to the device, all of them.
 fn expect_flushed<D: Device>(rt: &impl Abort, alloc: Global, device: &mut D) -> Result<(), Fail> {
     let mut store = behind(rt, alloc, SMALL, &TURNS)?;
-    assert!(rt; flush(&mut store, device).is_ok());
-    assert_eq!(rt; store.cache().live(), 0);
+    flush_all(rt, &mut store, device);
     Ok(())
 }
 
@@ -102,18 +102,39 @@ fn a_flushed_disk_is_opened_again(rt: HostRuntime) -> Result<(), Fail> {
     expect_on_disk(&rt, rt.alloc(), &mut device)
 }
 
-// One write fails, landing or not: it is tried again.
-fn flush_over_a_fault(rt: &impl Abort, alloc: Global, at: u64, lands: bool) -> Result<(), Fail> {
+// Whether one of so many calls more of the device fails, and the next one.
+fn fails_still<D: Device>(device: &mut D, calls: u64) -> bool {
+    for _ in 0..calls.saturating_add(1) {
+        if device.read(0, &mut [0; BLOCK]).is_err() {
+            return true;
+        }
+    }
+    false
+}
+
+// This call fails, landing or not: it is tried again. Whether it was met.
+fn flush_over_a_fault(rt: &impl Abort, alloc: Global, at: u64, lands: bool) -> Result<bool, Fail> {
     let mut device = FaultyDevice::new(new_device(alloc)?, at, lands);
     expect_flushed(rt, alloc, &mut device)?;
-    expect_on_disk(rt, alloc, &mut device)
+    let met = !fails_still(&mut device, at);
+    expect_on_disk(rt, alloc, &mut device)?;
+    Ok(met)
+}
+
+// How many calls of a flush can fail, each in its turn, until none is left.
+fn count_faults(rt: &impl Abort, alloc: Global, lands: bool) -> Result<u64, Fail> {
+    for at in 0..1000 {
+        if !flush_over_a_fault(rt, alloc, at, lands)? {
+            return Ok(at);
+        }
+    }
+    Err(Fail::from("there was no end of calls"))
 }
 
 #[test]
 fn a_write_that_fails_once_is_tried_again(rt: HostRuntime) -> Result<(), Fail> {
-    for at in 0..WRITES {
-        flush_over_a_fault(&rt, rt.alloc(), at, false)?;
-        flush_over_a_fault(&rt, rt.alloc(), at, true)?;
+    for lands in [false, true] {
+        assert_eq!(&rt; count_faults(&rt, rt.alloc(), lands)?, WRITES);
     }
     Ok(())
 }

@@ -1,4 +1,4 @@
-//! Each allocation of a call refused in turn, and what that leaves.
+//! Each allocation of a call refused in turn: what that leaves, and that the same call is done by the same store with memory.
 use super::*;
 use linked_list_allocator::LocalHeap;
 use patch_device::MemDevice;
@@ -6,16 +6,31 @@ use patch_model::{RefusalKind, Refuses};
 use patch_store::flush;
 use patch_testing::{fill, hole_of};
 
-// How many bytes the heap has: a cache of 51 blocks, and more.
+// How many bytes the heap has: a cache of 67 blocks, and more.
 const HEAP: usize = 1_048_576;
 
 const WRITER: WriterNo = WriterNo(0);
 
 const ROOMY: Geometry = Geometry {
     index: 1,
-    extents: 3,
+    extents: 4,
     format: Format::One,
 };
+
+// How many blocks that has.
+const COUNT: u32 = 67;
+
+// The first extent is full, and has the frames of `o` and `p` at its front: it isn't the one that puts append to.
+const FULL: [Piece<'static>; 5] = [
+    (3, 0, b"FCH1\x01\0\0\0\0\0\0\x03oold1HCF"),
+    (3, 20, b"FCH1\x01\0\0\0\0\0\0\x04pmore1HCF"),
+    (2, 0, b"\0\0\0\0\0\x01\0\0"),
+    (1, 0, b"\x01\x01\0\0\0\0\0\0\0\0\0\0\0\0\0\x14o"),
+    (1, 64, b"\x01\x01\0\0\0\0\0\0\0\0\0\x14\0\0\0\x15p"),
+];
+
+// The longest value of these tests.
+const LONG: [u8; 100] = [7; 100];
 
 // What is called where only one hole is left in the heap.
 #[derive(Clone, Copy)]
@@ -36,16 +51,16 @@ fn put(store: &mut HeapStore<'_>, key: &[u8], value: &[u8]) -> Result<(), Refusa
     }
 }
 
-// A value of `a`, and two of `b`: where these are long, the second no longer fits into the first extent.
-fn furnish(store: &mut HeapStore<'_>, long: &[u8]) -> Result<(), RefusalKind> {
+// A value of `a`, and two of `b`.
+fn furnish(store: &mut HeapStore<'_>) -> Result<(), RefusalKind> {
     put(store, b"a", b"first")?;
-    put(store, b"b", long)?;
-    put(store, b"b", long)
+    put(store, b"b", &LONG)?;
+    put(store, b"b", &LONG)
 }
 
-fn furnished<'a>(rt: &impl Abort, heap: &'a LocalHeap, long: &[u8]) -> Result<HeapStore<'a>, Fail> {
-    let mut store = open_with(rt, heap, ROOMY, &[])?;
-    assert!(rt; furnish(&mut store, long).is_ok());
+fn furnished<'a>(rt: &impl Abort, heap: &'a LocalHeap) -> Result<HeapStore<'a>, Fail> {
+    let mut store = open_with(rt, heap, ROOMY, &FULL)?;
+    assert!(rt; furnish(&mut store).is_ok());
     Ok(store)
 }
 
@@ -87,55 +102,66 @@ fn call_in_hole(
     Ok(answer)
 }
 
-// The same on a device of its own, which has its memory elsewhere.
-fn call_beside(
-    alloc: Global,
-    heap: &LocalHeap,
-    hole: usize,
-    store: &mut HeapStore<'_>,
-    call: Call,
-) -> Result<Result<(), RefusalKind>, OutOfMemory> {
-    let mut device = MemDevice::new(alloc, 51)?;
-    call_in_hole(alloc, heap, hole, store, &mut device, call)
+// The values of `a` and `c`; the others are as at first.
+fn expect_values(rt: &impl Abort, store: &HeapStore<'_>, a: Option<&[u8]>, c: Option<&[u8]>) {
+    expect_value(rt, store, b"a", a);
+    expect_value(rt, store, b"b", Some(&LONG));
+    expect_value(rt, store, b"c", c);
+    expect_value(rt, store, b"o", Some(b"old"));
+    expect_value(rt, store, b"p", Some(b"more"));
 }
 
-// Each key has the value that it had.
-fn expect_unchanged(rt: &impl Abort, store: &HeapStore<'_>, long: &[u8]) {
-    expect_value(rt, store, b"a", Some(b"first"));
-    expect_value(rt, store, b"b", Some(long));
-    expect_value(rt, store, b"c", None);
+// Every key has the value that it had.
+fn expect_unchanged(rt: &impl Abort, store: &HeapStore<'_>) {
+    expect_values(rt, store, Some(b"first"), None);
 }
 
-// Whether the call is refused by this store, where only a hole of this size is left.
-fn refuses(
+// What the keys have behind the call.
+fn expect_done(rt: &impl Abort, store: &HeapStore<'_>, call: Call) {
+    match call {
+        Call::Put => expect_values(rt, store, Some(b"first"), Some(b"new")),
+        Call::Replace => expect_values(rt, store, Some(b"second"), None),
+        Call::Delete => expect_values(rt, store, None, None),
+        Call::Reclaim => expect_unchanged(rt, store),
+        Call::Flush => {
+            expect_unchanged(rt, store);
+            assert_eq!(rt; store.cache().live(), 0);
+        }
+    }
+}
+
+// Calls where only a hole of this size is left, and again with memory where that is refused. Whether it was.
+fn call_twice(
     rt: &impl Abort,
     alloc: Global,
     heap: &LocalHeap,
-    store: &mut HeapStore<'_>,
-    long: &[u8],
     hole: usize,
+    store: &mut HeapStore<'_>,
     call: Call,
 ) -> Result<bool, OutOfMemory> {
-    let answer = call_beside(alloc, heap, hole, store, call)?;
-    if answer.is_ok() {
-        return Ok(false);
+    let mut device = MemDevice::new(alloc, COUNT)?;
+    let answer = call_in_hole(alloc, heap, hole, store, &mut device, call)?;
+    if answer.is_err() {
+        assert_eq!(rt; answer, Err(RefusalKind::OutOfMemory));
+        expect_unchanged(rt, store);
+        assert_eq!(rt; call_on(store, &mut device, call), Ok(()));
     }
-    assert_eq!(rt; answer, Err(RefusalKind::OutOfMemory));
-    expect_unchanged(rt, store, long);
-    Ok(true)
+    expect_done(rt, store, call);
+    Ok(answer.is_err())
 }
 
-// Whether a call is refused where only a hole of this size is left.
-fn is_refused(
+// The same of a new store.
+fn call_anew(
     rt: &impl Abort,
     alloc: Global,
     heap: &LocalHeap,
-    long: &[u8],
     hole: usize,
     call: Call,
 ) -> Result<bool, Fail> {
-    let mut store = furnished(rt, heap, long)?;
-    Ok(refuses(rt, alloc, heap, &mut store, long, hole, call)?)
+    let mut store = furnished(rt, heap)?;
+    let refused = call_twice(rt, alloc, heap, hole, &mut store, call);
+    drop(store);
+    Ok(refused?)
 }
 
 // Each hole is larger than the one before it, so that one allocation more succeeds now and then, until all do. A flush takes
@@ -144,14 +170,13 @@ fn refuse_each_in(
     rt: &impl Abort,
     alloc: Global,
     heap: &LocalHeap,
-    long: &[u8],
     call: Call,
     stride: usize,
 ) -> Result<(), Fail> {
     let mut refused = false;
     for turn in 0..1000usize {
         let hole = hole_of(turn.saturating_mul(stride));
-        let again = is_refused(rt, alloc, heap, long, hole, call)?;
+        let again = call_anew(rt, alloc, heap, hole, call)?;
         assert_eq!(rt; heap.used(), 0);
         if !again {
             assert!(rt; refused);
@@ -162,39 +187,32 @@ fn refuse_each_in(
     Err(Fail::from("refused in the largest hole"))
 }
 
-fn refuse_each(
-    rt: &impl Abort,
-    alloc: Global,
-    call: Call,
-    len: usize,
-    stride: usize,
-) -> Result<(), Fail> {
-    let long = vec![in alloc; 7; len]?;
+fn refuse_each(rt: &impl Abort, alloc: Global, call: Call, stride: usize) -> Result<(), Fail> {
     let heap = LocalHeap::new(alloc, HEAP)?;
-    refuse_each_in(rt, alloc, &heap, &long, call, stride)
+    refuse_each_in(rt, alloc, &heap, call, stride)
 }
 
 #[test]
 fn a_put_is_refused_whole(rt: HostRuntime) -> Result<(), Fail> {
-    refuse_each(&rt, rt.alloc(), Call::Put, 100, 1)
+    refuse_each(&rt, rt.alloc(), Call::Put, 1)
 }
 
 #[test]
 fn a_put_in_place_of_a_value_is_refused_whole(rt: HostRuntime) -> Result<(), Fail> {
-    refuse_each(&rt, rt.alloc(), Call::Replace, 100, 1)
+    refuse_each(&rt, rt.alloc(), Call::Replace, 1)
 }
 
 #[test]
 fn a_delete_is_refused_whole(rt: HostRuntime) -> Result<(), Fail> {
-    refuse_each(&rt, rt.alloc(), Call::Delete, 100, 1)
+    refuse_each(&rt, rt.alloc(), Call::Delete, 1)
 }
 
 #[test]
 fn a_reclaim_that_is_refused_loses_no_value(rt: HostRuntime) -> Result<(), Fail> {
-    refuse_each(&rt, rt.alloc(), Call::Reclaim, 32_768, 1)
+    refuse_each(&rt, rt.alloc(), Call::Reclaim, 1)
 }
 
 #[test]
 fn a_flush_that_is_refused_loses_no_value(rt: HostRuntime) -> Result<(), Fail> {
-    refuse_each(&rt, rt.alloc(), Call::Flush, 100, 8)
+    refuse_each(&rt, rt.alloc(), Call::Flush, 8)
 }

@@ -50,25 +50,27 @@ fn expect_fault(
 
 #[test]
 fn a_new_disk_holds_no_key(rt: HostRuntime) -> Result<(), Fail> {
-    let store = open_with(&rt, rt.alloc(), SMALL, &[])?;
-    assert_eq!(&rt; store.cache().blocks(), 35);
-    expect_value(&rt, &store, b"k", None);
-    Ok(())
+    let blocks = disk_with(rt.alloc(), SMALL, &[])?;
+    assert_eq!(&rt; blocks.len(), 35);
+    expect_opened(&rt, rt.alloc(), blocks, &[(b"k", None)])
 }
 
 #[test]
 fn a_slot_gives_its_key_the_value_of_its_frame(rt: HostRuntime) -> Result<(), Fail> {
-    let store = open_with(&rt, rt.alloc(), SMALL, &[FRAME, POINTER, SLOT])?;
-    expect_value(&rt, &store, b"k", Some(&[1, 2]));
-    expect_value(&rt, &store, b"l", None);
-    Ok(())
+    let blocks = disk_with(rt.alloc(), SMALL, &[FRAME, POINTER, SLOT])?;
+    let pairs: [Pair<'_>; 2] = [(b"k", Some(&[1, 2])), (b"l", None)];
+    expect_opened(&rt, rt.alloc(), blocks, &pairs)
+}
+
+fn expect_deleted(rt: &impl Abort, store: &mut Store) {
+    assert!(rt; store.delete(WriterNo(0), b"k").is_ok());
+    expect_value(rt, store, b"k", None);
 }
 
 #[test]
 fn a_key_is_deleted_from_an_opened_disk(rt: HostRuntime) -> Result<(), Fail> {
     let mut store = open_with(&rt, rt.alloc(), SMALL, &[FRAME, POINTER, SLOT])?;
-    assert!(&rt; store.delete(WriterNo(0), b"k").is_ok());
-    expect_value(&rt, &store, b"k", None);
+    expect_deleted(&rt, &mut store);
     Ok(())
 }
 

@@ -1,0 +1,194 @@
+//! Writes that are under way together: which blocks they are of, and what the disk holds as each part of them has landed.
+use super::closed::lay;
+use super::walks::{Ask, Said, behind, put};
+use super::*;
+use patch_cache::{Flight, Landed, write_out};
+use patch_device::MemDevice;
+use patch_model::BlockNo;
+
+// A block, and what a write of it brings there.
+type Image = (BlockNo, BlockBytes);
+
+// Why a write could not begin, or not end.
+type Why = &'static str;
+
+// Writes the flight out and ends it. Its block.
+fn end(store: &mut Store, device: &mut MemDevice, flight: Flight) -> Result<BlockNo, Why> {
+    match write_out(device, flight) {
+        Ok(landed) => complete(store, landed),
+        Err((flight, _)) => {
+            flight.abandon();
+            Err("a device in memory refused a write")
+        }
+    }
+}
+
+fn complete(store: &mut Store, landed: Landed) -> Result<BlockNo, Why> {
+    match store.complete(landed) {
+        Ok(done) => Ok(done.block),
+        Err(stranger) => {
+            stranger.abandon();
+            Err("a write of the store's own was a stranger")
+        }
+    }
+}
+
+// Begins the next write and ends it. Its block.
+fn write_next(store: &mut Store, device: &mut MemDevice) -> Result<Option<BlockNo>, Why> {
+    match store.send() {
+        Ok(Some(flight)) => Ok(Some(end(store, device, flight)?)),
+        Ok(None) => Ok(None),
+        Err(OutOfMemory) => Err("no memory"),
+    }
+}
+
+// What the flight is to bring to its block. It never ends.
+fn image_of(alloc: Global, flight: Flight) -> Result<Image, OutOfMemory> {
+    let block = flight.block();
+    let image = BlockBytes::from_slice(alloc, flight.image());
+    flight.abandon();
+    Ok((block, image?))
+}
+
+// Begins writes until none can begin while these are under way.
+fn push_images(alloc: Global, store: &mut Store, images: &mut Vec<Image>) -> Result<(), Fail> {
+    for _ in 0..store.cache().blocks() {
+        match store.send()? {
+            Some(flight) => images.push(image_of(alloc, flight)?)?,
+            None => return Ok(()),
+        }
+    }
+    Err(Fail::from("there was no end of writes"))
+}
+
+// Ends so many writes, and then begins those that are under way together.
+fn push_images_behind(
+    rt: &impl Abort,
+    alloc: Global,
+    store: &mut Store,
+    ended: usize,
+    images: &mut Vec<Image>,
+) -> Result<(), Fail> {
+    let mut device = MemDevice::new(alloc, 35)?;
+    for _ in 0..ended {
+        assert!(rt; write_next(store, &mut device)?.is_some());
+    }
+    push_images(alloc, store, images)
+}
+
+// The writes that are under way together when so many have ended, of a put of a value of three blocks on a new disk.
+fn push_images_after(
+    rt: &impl Abort,
+    alloc: Global,
+    ended: usize,
+    images: &mut Vec<Image>,
+) -> Result<(), Fail> {
+    let mut store = behind(rt, alloc, SMALL, &[(put(b"a", 0x61, 12_288), Said::Done)])?;
+    push_images_behind(rt, alloc, &mut store, ended, images)
+}
+
+// The disk as it was made, with those of these images that are told: each by its own bit.
+fn disk_of(alloc: Global, images: &[Image], landed: u32) -> Result<Vec<BlockBytes>, OutOfMemory> {
+    let mut blocks = disk_with(alloc, SMALL, &[])?;
+    let mut left = landed;
+    for (block, image) in images {
+        if left % 2 == 1 {
+            lay(&mut blocks, *block, 0, image.as_slice());
+        }
+        left /= 2;
+    }
+    Ok(blocks)
+}
+
+// The value of `a`.
+const VALUE: [u8; 12_288] = [0x61; 12_288];
+
+// The disk with each part of the first four landed, and then each of the others not landed and landed, opens, and has the value
+// where all have.
+fn expect_each_opened(rt: &impl Abort, alloc: Global, images: &[Image]) -> Result<(), Fail> {
+    for landed in (0..16u32).chain([15, 31, 31]) {
+        expect_opened(rt, alloc, disk_of(alloc, images, landed)?, &[(b"a", None)])?;
+    }
+    expect_opened(
+        rt,
+        alloc,
+        disk_of(alloc, images, 63)?,
+        &[(b"a", Some(&VALUE))],
+    )
+}
+
+// The frame's four blocks are under way together, then the pointer's, and then the slot's.
+fn push_all_images(rt: &impl Abort, alloc: Global, images: &mut Vec<Image>) -> Result<(), Fail> {
+    for (ended, count) in [(0, 4), (4, 5), (5, 6)] {
+        push_images_after(rt, alloc, ended, images)?;
+        assert_eq!(rt; images.len(), count);
+    }
+    Ok(())
+}
+
+fn expect_blocks(rt: &impl Abort, images: &[Image]) {
+    let blocks = [3, 4, 5, 6, 2, 1];
+    assert!(rt; images.iter().map(|image| image.0.0).eq(blocks.iter().copied()));
+}
+
+#[test]
+fn a_put_of_four_blocks_is_there_when_all_have_landed(rt: HostRuntime) -> Result<(), Fail> {
+    let mut images = Vec::new(rt.alloc());
+    push_all_images(&rt, rt.alloc(), &mut images)?;
+    expect_blocks(&rt, &images);
+    expect_each_opened(&rt, rt.alloc(), &images)
+}
+
+// Ends all writes that can begin, none of them of the first two blocks. How many did.
+fn write_others(rt: &impl Abort, store: &mut Store, device: &mut MemDevice) -> Result<u32, Why> {
+    for count in 0..store.cache().blocks() {
+        match write_next(store, device)? {
+            Some(block) => assert!(rt; block.0 > 1, "block {block}"),
+            None => return Ok(count),
+        }
+    }
+    Err("there was no end of writes")
+}
+
+// The upgrade's write is held while all others end that can: how many. Then it ends: its block.
+fn hold_upgrade(
+    rt: &impl Abort,
+    store: &mut Store,
+    device: &mut MemDevice,
+    upgrade: Flight,
+) -> Result<(u32, BlockNo), Why> {
+    let others = write_others(rt, store, device);
+    let block = end(store, device, upgrade);
+    Ok((others?, block?))
+}
+
+fn hold_first(
+    rt: &impl Abort,
+    store: &mut Store,
+    device: &mut MemDevice,
+) -> Result<(u32, BlockNo), Why> {
+    match store.send() {
+        Ok(Some(flight)) => hold_upgrade(rt, store, device, flight),
+        _ => Err("nothing was sent"),
+    }
+}
+
+fn write_behind_upgrade(rt: &impl Abort, alloc: Global, store: &mut Store) -> Result<(), Fail> {
+    let mut device = MemDevice::new(alloc, 35)?;
+    assert_eq!(rt; hold_first(rt, store, &mut device), Ok((11, BlockNo(0))));
+    assert_eq!(rt; write_next(store, &mut device), Ok(Some(BlockNo(1))));
+    assert_eq!(rt; write_next(store, &mut device), Ok(None));
+    Ok(())
+}
+
+// The slot of a longer frame waits for the upgrade: with ten blocks of the frame and the pointer on the disk, nothing can be
+// written until block 0 is.
+#[test]
+fn the_slot_of_a_longer_frame_waits_for_the_upgrade(rt: HostRuntime) -> Result<(), Fail> {
+    let turns = [
+        (Ask::Upgrade, Said::Done),
+        (put(b"a", 1, 40_000), Said::Done),
+    ];
+    let mut store = behind(&rt, rt.alloc(), SMALL, &turns)?;
+    write_behind_upgrade(&rt, rt.alloc(), &mut store)
+}
