@@ -7,6 +7,7 @@ use std::fmt::Debug;
 use std::process::Abort;
 use std::test::Fail;
 
+mod agreeing;
 mod calls;
 mod example;
 mod memory;

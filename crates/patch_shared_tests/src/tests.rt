@@ -25,6 +25,7 @@ mod books;
 mod crashes;
 mod devices;
 mod gates;
+mod memory;
 mod serving;
 
 // One index block and two extents: 35 blocks.
@@ -133,6 +134,13 @@ fn job_of(alloc: Global, asks: &[Ask<'_>]) -> Result<Vec<Command>, OutOfMemory> 
         job.push(command_of(alloc, ask)?)?;
     }
     Ok(job)
+}
+
+// One writer puts a value and reads it, and another puts one and reads a key that has none.
+fn two_jobs(alloc: Global) -> Result<Vec<Vec<Command>>, OutOfMemory> {
+    let first = job_of(alloc, &[Ask::Put(b"a", &[1]), Ask::Get(b"a")])?;
+    let second = job_of(alloc, &[Ask::Put(b"b", &[2]), Ask::Get(b"c")])?;
+    Ok(vec![in alloc; first, second]?)
 }
 
 fn is_told(reply: &Reply, told: &Told<'_>) -> bool {

@@ -220,7 +220,7 @@ fn flush_in(bench: &mut Bench<Global>, device: &mut MemDevice, waves: Waves) -> 
     }
 }
 
-fn drawn(seed: u32) -> u32 {
+pub(super) fn drawn(seed: u32) -> u32 {
     seed.wrapping_mul(1_664_525).wrapping_add(1_013_904_223)
 }
 

@@ -113,9 +113,13 @@ fn send_elsewhere(
     Ok(())
 }
 
+fn send_to_another(rt: &impl Abort, alloc: Global, one: &mut Book) -> Result<(), Fail> {
+    let mut other = new_book(alloc)?;
+    send_elsewhere(rt, alloc, one, &mut other)
+}
+
 #[test]
 fn a_write_of_another_book_is_a_stranger(rt: HostRuntime) -> Result<(), Fail> {
     let mut one = new_book(rt.alloc())?;
-    let mut other = new_book(rt.alloc())?;
-    send_elsewhere(&rt, rt.alloc(), &mut one, &mut other)
+    send_to_another(&rt, rt.alloc(), &mut one)
 }

@@ -97,15 +97,27 @@ fn advance(rt: &impl Abort, store: &Store, rounds: &mut [u8; 4]) {
     }
 }
 
+// The disk opens, and has this.
+fn advance_on(
+    rt: &impl Abort,
+    alloc: Global,
+    disk: &mut MemDevice,
+    rounds: &mut [u8; 4],
+) -> Result<(), Fail> {
+    let store = opened(alloc, disk)?;
+    advance(rt, &store, rounds);
+    Ok(())
+}
+
 // A new disk is opened, and again after each of these writes. At last all keys are at these rounds.
 fn follow(rt: &impl Abort, alloc: Global, writes: &[(u32, BlockBytes)]) -> Result<[u8; 4], Fail> {
     let mut disk = new_device(alloc)?;
     let mut rounds = [0; 4];
-    advance(rt, &opened(alloc, &mut disk)?, &mut rounds);
+    advance_on(rt, alloc, &mut disk, &mut rounds)?;
     assert_eq!(rt; rounds, [0; 4]);
     for (block, bytes) in writes {
         assert!(rt; disk.write(*block, bytes.as_slice()).is_ok());
-        advance(rt, &opened(alloc, &mut disk)?, &mut rounds);
+        advance_on(rt, alloc, &mut disk, &mut rounds)?;
     }
     Ok(rounds)
 }
@@ -126,4 +138,29 @@ fn each_crash_leaves_what_was_put_last_or_before(rt: HostRuntime) -> Result<(), 
     let rounds = follow(&rt, alloc, &writes[COUNT as usize..])?;
     assert_eq!(&rt; rounds, [ROUNDS; 4]);
     Ok(())
+}
+
+fn open(alloc: Global, disk: &mut MemDevice) -> Result<(), Fail> {
+    let _store = opened(alloc, disk)?;
+    Ok(())
+}
+
+// A new disk opens, and again after each of these writes.
+fn open_each(rt: &impl Abort, alloc: Global, writes: &[(u32, BlockBytes)]) -> Result<(), Fail> {
+    let mut disk = new_device(alloc)?;
+    open(alloc, &mut disk)?;
+    for (block, bytes) in writes {
+        assert!(rt; disk.write(*block, bytes.as_slice()).is_ok());
+        open(alloc, &mut disk)?;
+    }
+    Ok(())
+}
+
+#[test]
+fn the_disk_of_two_writers_opens_behind_each_write(rt: HostRuntime) -> Result<(), Fail> {
+    let alloc = rt.alloc();
+    let outcome = serve_well(&rt, alloc, new_device(alloc)?, two_jobs(alloc)?, &OpenGate)?;
+    let writes = outcome.device.writes();
+    assert!(&rt; writes.len() >= COUNT as usize + 3);
+    open_each(&rt, alloc, &writes[COUNT as usize..])
 }

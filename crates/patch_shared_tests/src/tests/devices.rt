@@ -3,7 +3,7 @@ ghost use Rattle.std.specs.Prelude.{◌≡◌, ◌≤◌};
 ghost use Rattle.patch_device.specs.Device.{most_faults};
 
 use super::*;
-use patch_device::DeviceRefusal;
+use patch_device::{DeviceRefusal, FaultyDevice};
 
 // How many calls a run of the one put makes: it writes three blocks, and reads all of them back.
 const WRITES: u64 = 3;
@@ -197,19 +197,26 @@ fn a_device_that_forgets_is_found_out(rt: HostRuntime) -> Result<(), Fail> {
     }
 }
 
-// The run goes to its end, and makes just one call more for each that is refused.
+// The run goes to its end, and makes just one call more for each that is refused. How many were.
+fn borne<R: Threads + Wait + Abort + Sync>(rt: &R, alloc: Global, plan: Plan) -> Result<u64, Fail> {
+    let device = Failing::new(new_device(alloc)?, plan);
+    let mut outcome = serve_well(rt, alloc, device, one_put(alloc)?, &OpenGate)?;
+    let faults = outcome.device.faults;
+    assert_eq!(rt; outcome.device.calls, CALLS.saturating_add(faults));
+    outcome.device.plan.refused = 0;
+    assert_eq!(rt; outcome.sends, WRITES);
+    expect_writer(rt, &outcome, 0, &[Told::Done]);
+    expect_settled(rt, alloc, &mut outcome);
+    Ok(faults)
+}
+
+// The same, where all are refused that are to be.
 fn expect_borne<R: Threads + Wait + Abort + Sync>(
     rt: &R,
     alloc: Global,
     plan: Plan,
 ) -> Result<(), Fail> {
-    let device = Failing::new(new_device(alloc)?, plan);
-    let mut outcome = serve_well(rt, alloc, device, one_put(alloc)?, &OpenGate)?;
-    assert_eq!(rt; outcome.device.faults, plan.refused);
-    assert_eq!(rt; outcome.device.calls, CALLS.saturating_add(plan.refused));
-    assert_eq!(rt; outcome.sends, WRITES);
-    expect_writer(rt, &outcome, 0, &[Told::Done]);
-    expect_settled(rt, alloc, &mut outcome);
+    assert_eq!(rt; borne(rt, alloc, plan)?, plan.refused);
     Ok(())
 }
 
@@ -274,18 +281,60 @@ fn once(passed: u64, lands: bool) -> Plan {
     }
 }
 
+// How many calls can fail, each in its turn, until a run meets no fault.
+fn count_faults<R: Threads + Wait + Abort + Sync>(
+    rt: &R,
+    alloc: Global,
+    lands: bool,
+) -> Result<u64, Fail> {
+    for passed in 0..1000 {
+        if borne(rt, alloc, once(passed, lands))? == 0 {
+            return Ok(passed);
+        }
+    }
+    Err(Fail::from("there was no end of calls"))
+}
+
 #[test]
 fn each_call_may_fail_once(rt: HostRuntime) -> Result<(), Fail> {
-    for passed in 0..CALLS {
-        expect_borne(&rt, rt.alloc(), once(passed, false))?;
+    for lands in [false, true] {
+        assert_eq!(&rt; count_faults(&rt, rt.alloc(), lands)?, CALLS);
     }
     Ok(())
 }
 
+// A device that refuses the first write, which doesn't land.
+fn refusing<D: Device>(inner: D) -> FaultyDevice<D> {
+    FaultyDevice::new(inner, 0, false)
+}
+
+// Four of them, one in another.
+fn refusing_four_times<D: Device>(
+    inner: D,
+) -> FaultyDevice<FaultyDevice<FaultyDevice<FaultyDevice<D>>>> {
+    refusing(refusing(refusing(refusing(inner))))
+}
+
 #[test]
-fn each_write_may_land_and_fail_once(rt: HostRuntime) -> Result<(), Fail> {
-    for passed in 0..WRITES {
-        expect_borne(&rt, rt.alloc(), once(passed, true))?;
+fn eight_devices_in_one_another_end_the_run(rt: HostRuntime) -> Result<(), Fail> {
+    let device = refusing_four_times(refusing_four_times(new_device(rt.alloc())?));
+    match serve_put(&rt, rt.alloc(), device)? {
+        Ok(_) => Err(Fail::from("a device that gives up was borne with")),
+        Err(fault) => {
+            assert!(&rt; fault.cause == Cause::DeviceGaveUp(BlockNo(3)));
+            assert!(&rt; fault.device.is_some());
+            Ok(())
+        }
     }
+}
+
+#[test]
+fn seven_devices_in_one_another_do_not(rt: HostRuntime) -> Result<(), Fail> {
+    let alloc = rt.alloc();
+    let three = refusing(refusing(refusing(new_device(alloc)?)));
+    let device = refusing_four_times(three);
+    let mut outcome = serve_well(&rt, alloc, device, one_put(alloc)?, &OpenGate)?;
+    expect_writer(&rt, &outcome, 0, &[Told::Done]);
+    expect_settled(&rt, alloc, &mut outcome);
     Ok(())
 }

@@ -59,11 +59,8 @@ impl<R: Clock + Drop> Gate for TwoWriters<R> {
 #[test]
 fn gate_two_writers(rt: HostRuntime) -> Result<(), Fail> {
     let alloc = rt.alloc();
-    let first = job_of(alloc, &[Ask::Put(b"a", &[1]), Ask::Get(b"a")])?;
-    let second = job_of(alloc, &[Ask::Put(b"b", &[2]), Ask::Get(b"c")])?;
-    let jobs = vec![in alloc; first, second]?;
     let gate = TwoWriters::new(rt, TURNS);
-    let mut outcome = serve_well(&rt, alloc, new_device(alloc)?, jobs, &gate)?;
+    let mut outcome = serve_well(&rt, alloc, new_device(alloc)?, two_jobs(alloc)?, &gate)?;
     assert!(&rt; !gate.is_late());
     expect_writer(&rt, &outcome, 0, &[Told::Done, Told::Value(&[1])]);
     expect_writer(&rt, &outcome, 1, &[Told::Done, Told::Absent]);

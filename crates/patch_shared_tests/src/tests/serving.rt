@@ -83,6 +83,15 @@ fn is_value(store: &Store, key: &[u8], value: &[u8]) -> bool {
     }
 }
 
+// Each key has the value that was put last.
+fn expect_last_values(rt: &impl Abort, alloc: Global, device: &mut MemDevice) -> Result<(), Fail> {
+    let store = opened(alloc, device)?;
+    for n in 0..8u8 {
+        assert!(rt; is_value(&store, &[n], &[n, ROUNDS]), "key {n}");
+    }
+    Ok(())
+}
+
 #[test]
 fn eight_writers_are_answered_in_order(rt: HostRuntime) -> Result<(), Fail> {
     let alloc = rt.alloc();
@@ -92,11 +101,7 @@ fn eight_writers_are_answered_in_order(rt: HostRuntime) -> Result<(), Fail> {
     assert_eq!(&rt; outcome.calls, 8 * (ROUNDS as usize * 2 + 3));
     assert_eq!(&rt; outcome.counts.writers, [ROUNDS as u64 * 2 + 3; 8]);
     expect_settled(&rt, alloc, &mut outcome);
-    let store = opened(alloc, &mut outcome.device)?;
-    for n in 0..8u8 {
-        assert!(&rt; is_value(&store, &[n], &[n, ROUNDS]), "key {n}");
-    }
-    Ok(())
+    expect_last_values(&rt, alloc, &mut outcome.device)
 }
 
 #[test]
