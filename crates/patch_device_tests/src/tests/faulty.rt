@@ -81,23 +81,33 @@ fn nested_devices_fail_in_turn(rt: HostRuntime) -> Result<(), Fail> {
     Ok(())
 }
 
-// Loads a device of four blocks, and again where that was refused.
-fn load_until_done<D: Device>(rt: &impl Abort, alloc: Global, device: &mut D, k: u64) {
-    let first = loaded(alloc, device);
-    if k < 4 {
+// Loads a device of four blocks of which this call fails, and again where that was refused. Whether it was.
+fn load_over_a_fault(rt: &impl Abort, alloc: Global, k: u64, lands: bool) -> Result<bool, Fail> {
+    let mut device = FaultyDevice::new(MemDevice::new(alloc, 4)?, k, lands);
+    let first = loaded(alloc, &mut device);
+    if first.is_err() {
         assert_eq!(rt; first, Err(LoadFault::Fault), "k {k}");
-        assert_eq!(rt; loaded(alloc, device), Ok(4));
-    } else {
-        assert_eq!(rt; first, Ok(4), "k {k}");
+        assert_eq!(rt; loaded(alloc, &mut device), Ok(4));
+        return Ok(true);
     }
+    assert_eq!(rt; first, Ok(4), "k {k}");
+    Ok(false)
+}
+
+// How many calls of a load can fail, each in its turn, until none is left.
+fn count_faults(rt: &impl Abort, alloc: Global, lands: bool) -> Result<u64, Fail> {
+    for k in 0..1000 {
+        if !load_over_a_fault(rt, alloc, k, lands)? {
+            return Ok(k);
+        }
+    }
+    Err(Fail::from("there was no end of calls"))
 }
 
 #[test]
 fn each_read_of_a_load_fails_in_turn(rt: HostRuntime) -> Result<(), Fail> {
-    for k in 0..16u64 {
-        let device = MemDevice::new(rt.alloc(), 4)?;
-        let mut device = FaultyDevice::new(device, k / 2, k % 2 == 1);
-        load_until_done(&rt, rt.alloc(), &mut device, k / 2);
+    for lands in [false, true] {
+        assert_eq!(rt; count_faults(&rt, rt.alloc(), lands)?, 4);
     }
     Ok(())
 }

@@ -1,8 +1,8 @@
 //! Syncs over devices that fail.
 use super::lines::asks_in;
 use super::*;
-use patch_device::{Device, FaultyDevice, MemDevice};
-use patch_model::Mark;
+use patch_device::{Device, FaultyDevice, MemDevice, load};
+use patch_model::{BLOCK, Mark};
 use std::alloc::Global;
 
 // A cache of one block with a patch of one group, and the flights that it waits for.
@@ -203,4 +203,59 @@ fn writes_go_in_order(rt: HostRuntime) -> Result<(), Fail> {
     }
     let mut device = failing_eight_times(MemDevice::new(rt.alloc(), 6)?, 4);
     sync_second(&rt, rt.alloc(), &mut device, Ok(()), 1)
+}
+
+// The device's blocks begin with these letters.
+fn expect_letters<D: Device>(
+    rt: &impl Abort,
+    alloc: Global,
+    device: &mut D,
+    letters: &[u8],
+) -> Result<(), Fail> {
+    let Ok(blocks) = load(alloc, device) else {
+        return Err(Fail::from("a device was not loaded"));
+    };
+    expect_equal(rt, "blocks", blocks.len(), letters.len());
+    for (block, letter) in blocks.iter().zip(letters) {
+        expect_equal(rt, "letter", block.as_slice().first(), Some(letter));
+    }
+    Ok(())
+}
+
+// Whether one of so many calls more of the device fails, and the next one.
+fn fails_still<D: Device>(device: &mut D, calls: u64) -> bool {
+    for _ in 0..calls.saturating_add(1) {
+        if device.read(0, &mut [0; BLOCK]).is_err() {
+            return true;
+        }
+    }
+    false
+}
+
+// This call of a sync of the second group fails, landing or not: it is tried again. Whether it was met.
+fn sync_over_a_fault(rt: &impl Abort, alloc: Global, at: u64, lands: bool) -> Result<bool, Fail> {
+    let mut device = FaultyDevice::new(MemDevice::new(alloc, 6)?, at, lands);
+    sync_second(rt, alloc, &mut device, Ok(()), 1)?;
+    let met = !fails_still(&mut device, at);
+    expect_letters(rt, alloc, &mut device, b"zb\0ap\0")?;
+    Ok(met)
+}
+
+// How many calls of the sync can fail, each in its turn, until none is left.
+fn count_faults(rt: &impl Abort, alloc: Global, lands: bool) -> Result<u64, Fail> {
+    for at in 0..1000 {
+        if !sync_over_a_fault(rt, alloc, at, lands)? {
+            return Ok(at);
+        }
+    }
+    Err(Fail::from("there was no end of calls"))
+}
+
+#[test]
+fn a_write_that_fails_once_is_tried_again(rt: HostRuntime) -> Result<(), Fail> {
+    for lands in [false, true] {
+        let faults = count_faults(&rt, rt.alloc(), lands)?;
+        assert_eq!(&rt; faults, WRITTEN.len() as u64);
+    }
+    Ok(())
 }
