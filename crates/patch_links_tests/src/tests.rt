@@ -182,21 +182,21 @@ fn step(rt: &impl Abort, pair: &mut Pair, source: &mut Source) -> Result<(), Fai
     Ok(())
 }
 
-fn walk(rt: &impl Abort, alloc: Global, seed: u64) -> Result<(), Fail> {
-    let mut pair = Pair::new(alloc);
-    let mut source = Source { state: seed };
+fn walk(rt: &impl Abort, pair: &mut Pair, source: &mut Source) -> Result<(), Fail> {
     for _ in 0..300 {
-        step(rt, &mut pair, &mut source)?;
+        step(rt, pair, source)?;
         pair.expect(rt)?;
     }
-    assert!(rt; pair.joined > 10);
     Ok(())
 }
 
 // Three hundred asks: after each the links answer for every block what the slow model computes.
 #[test]
 fn a_long_walk_agrees_with_the_model(rt: HostRuntime) -> Result<(), Fail> {
-    walk(&rt, rt.alloc(), 1)
+    let mut pair = Pair::new(rt.alloc());
+    walk(&rt, &mut pair, &mut Source { state: 1 })?;
+    assert!(&rt; pair.joined > 10);
+    Ok(())
 }
 
 fn expect_ready(rt: &impl Abort, pair: &Pair, block: u32, numbers: &[u32]) -> Result<(), Fail> {
@@ -206,98 +206,112 @@ fn expect_ready(rt: &impl Abort, pair: &Pair, block: u32, numbers: &[u32]) -> Re
 }
 
 // A chain through two blocks: each link may be sent once the one before it is durable.
+fn go_link_by_link(rt: &impl Abort, pair: &mut Pair) -> Result<(), Fail> {
+    pair.add(rt, 0, &[])?;
+    pair.add(rt, 1, &[0])?;
+    pair.add(rt, 0, &[1])?;
+    expect_ready(rt, pair, 0, &[0])?;
+    expect_ready(rt, pair, 1, &[])?;
+    pair.fly(0)?;
+    expect_ready(rt, pair, 1, &[])?;
+    pair.land(0);
+    expect_ready(rt, pair, 1, &[1])?;
+    expect_ready(rt, pair, 0, &[])?;
+    pair.fly(1)?;
+    pair.land(1);
+    expect_ready(rt, pair, 0, &[2])
+}
+
 #[test]
 fn a_chain_goes_link_by_link(rt: HostRuntime) -> Result<(), Fail> {
     let mut pair = Pair::new(rt.alloc());
-    pair.add(&rt, 0, &[])?;
-    pair.add(&rt, 1, &[0])?;
-    pair.add(&rt, 0, &[1])?;
-    expect_ready(&rt, &pair, 0, &[0])?;
-    expect_ready(&rt, &pair, 1, &[])?;
-    pair.fly(0)?;
-    expect_ready(&rt, &pair, 1, &[])?;
-    pair.land(0);
-    expect_ready(&rt, &pair, 1, &[1])?;
-    expect_ready(&rt, &pair, 0, &[])?;
-    pair.fly(1)?;
-    pair.land(1);
-    expect_ready(&rt, &pair, 0, &[2])
+    go_link_by_link(&rt, &mut pair)
 }
 
 // Two hundred patches are made durable. One that names them all, and a live one behind them, waits for that one alone; so does
 // one that names the live one first.
-#[test]
-fn durable_patches_keep_nothing_out(rt: HostRuntime) -> Result<(), Fail> {
-    let mut pair = Pair::new(rt.alloc());
-    let mut after = Vec::new(rt.alloc());
+fn name_many_durable(rt: &impl Abort, pair: &mut Pair) -> Result<(), Fail> {
+    let mut after = Vec::new(pair.slow.alloc);
     for no in 0..200 {
-        pair.add(&rt, 0, &[])?;
+        pair.add(rt, 0, &[])?;
         pair.fly(0)?;
         pair.land(0);
         after.push(no)?;
     }
-    pair.add(&rt, 1, &[])?;
+    pair.add(rt, 1, &[])?;
     after.push(200)?;
-    pair.add(&rt, 0, after.as_slice())?;
-    pair.add(&rt, 0, &[200, 3, 199])?;
-    expect_ready(&rt, &pair, 0, &[])?;
-    pair.expect(&rt)?;
+    pair.add(rt, 0, after.as_slice())?;
+    pair.add(rt, 0, &[200, 3, 199])?;
+    expect_ready(rt, pair, 0, &[])?;
+    pair.expect(rt)?;
     pair.fly(1)?;
     pair.land(1);
-    expect_ready(&rt, &pair, 0, &[201, 202])?;
-    pair.expect(&rt)
+    expect_ready(rt, pair, 0, &[201, 202])?;
+    pair.expect(rt)
+}
+
+#[test]
+fn durable_patches_keep_nothing_out(rt: HostRuntime) -> Result<(), Fail> {
+    let mut pair = Pair::new(rt.alloc());
+    name_many_durable(&rt, &mut pair)
 }
 
 // A diamond within a block is ready at once; with one side elsewhere, its top waits for that.
+fn wait_for_both_sides(rt: &impl Abort, pair: &mut Pair) -> Result<(), Fail> {
+    pair.add(rt, 0, &[])?;
+    pair.add(rt, 0, &[0])?;
+    pair.add(rt, 1, &[0])?;
+    pair.add(rt, 0, &[1, 2])?;
+    expect_ready(rt, pair, 0, &[0, 1])?;
+    pair.fly(0)?;
+    pair.land(0);
+    expect_ready(rt, pair, 0, &[])?;
+    expect_ready(rt, pair, 1, &[2])?;
+    pair.fly(1)?;
+    pair.land(1);
+    expect_ready(rt, pair, 0, &[3])?;
+    pair.expect(rt)
+}
+
 #[test]
 fn a_diamond_waits_for_both_sides(rt: HostRuntime) -> Result<(), Fail> {
     let mut pair = Pair::new(rt.alloc());
-    pair.add(&rt, 0, &[])?;
-    pair.add(&rt, 0, &[0])?;
-    pair.add(&rt, 1, &[0])?;
-    pair.add(&rt, 0, &[1, 2])?;
-    expect_ready(&rt, &pair, 0, &[0, 1])?;
-    pair.fly(0)?;
-    pair.land(0);
-    expect_ready(&rt, &pair, 0, &[])?;
-    expect_ready(&rt, &pair, 1, &[2])?;
-    pair.fly(1)?;
-    pair.land(1);
-    expect_ready(&rt, &pair, 0, &[3])?;
-    pair.expect(&rt)
+    wait_for_both_sides(&rt, &mut pair)
 }
 
 // A class that may be sent joins one that waits: neither may be sent, nor what depends on the first, until what they wait
 // for is durable.
+fn join_a_waiting_one(rt: &impl Abort, pair: &mut Pair) -> Result<(), Fail> {
+    pair.add(rt, 1, &[])?;
+    pair.add(rt, 0, &[])?;
+    pair.add(rt, 0, &[1])?;
+    pair.add(rt, 0, &[0])?;
+    expect_ready(rt, pair, 0, &[1, 2])?;
+    pair.join(rt, 1, 3)?;
+    expect_ready(rt, pair, 0, &[])?;
+    pair.fly(1)?;
+    pair.land(1);
+    expect_ready(rt, pair, 0, &[1, 2, 3])?;
+    pair.expect(rt)
+}
+
 #[test]
 fn a_ready_class_joins_a_waiting_one(rt: HostRuntime) -> Result<(), Fail> {
     let mut pair = Pair::new(rt.alloc());
-    pair.add(&rt, 1, &[])?;
-    pair.add(&rt, 0, &[])?;
-    pair.add(&rt, 0, &[1])?;
-    pair.add(&rt, 0, &[0])?;
-    expect_ready(&rt, &pair, 0, &[1, 2])?;
-    pair.join(&rt, 1, 3)?;
-    expect_ready(&rt, &pair, 0, &[])?;
-    pair.fly(1)?;
-    pair.land(1);
-    expect_ready(&rt, &pair, 0, &[1, 2, 3])?;
-    pair.expect(&rt)
+    join_a_waiting_one(&rt, &mut pair)
 }
 
 // Two classes of which one waits for the other alone, elsewhere kept out: joined they wait for the rest.
-#[test]
-fn what_waits_for_itself_waits_no_more(rt: HostRuntime) -> Result<(), Fail> {
-    let mut pair = Pair::new(rt.alloc());
-    pair.add(&rt, 1, &[])?;
-    pair.add(&rt, 0, &[0])?;
-    pair.add(&rt, 0, &[1, 1])?;
-    expect_ready(&rt, &pair, 0, &[])?;
-    pair.join(&rt, 2, 1)?;
-    expect_ready(&rt, &pair, 0, &[])?;
+fn join_what_waits_for_itself(rt: &impl Abort, pair: &mut Pair) -> Result<(), Fail> {
+    pair.add(rt, 1, &[])?;
+    pair.add(rt, 0, &[0])?;
+    pair.add(rt, 0, &[1, 1])?;
+    expect_ready(rt, pair, 0, &[])?;
+    pair.join(rt, 2, 1)?;
+    expect_ready(rt, pair, 0, &[])?;
     pair.fly(1)?;
     pair.land(1);
-    expect_ready(&rt, &pair, 0, &[1, 2])?;
+    expect_ready(rt, pair, 0, &[1, 2])?;
     let key = pair.links.find(PatchNo(1)).unwrap_or(0);
     let name = match pair.links.class_at(key) {
         Some(class) => class.name,
@@ -307,5 +321,11 @@ fn what_waits_for_itself_waits_no_more(rt: HostRuntime) -> Result<(), Fail> {
     pair.fly(0)?;
     pair.land(0);
     assert!(rt; pair.links.is_empty_of(BlockNo(0)));
-    pair.expect(&rt)
+    pair.expect(rt)
+}
+
+#[test]
+fn what_waits_for_itself_waits_no_more(rt: HostRuntime) -> Result<(), Fail> {
+    let mut pair = Pair::new(rt.alloc());
+    join_what_waits_for_itself(&rt, &mut pair)
 }

@@ -151,27 +151,49 @@ fn groups_in(heap: &LocalHeap) -> Result<Groups<&LocalHeap>, Fail> {
     Ok(groups)
 }
 
-fn open_bench<'a>(rt: &impl Abort, alloc: Global, heap: &'a LocalHeap) -> Result<Bench<'a>, Fail> {
-    let geometry = Geometry {
-        index: 1,
-        extents: 2,
-        format: Format::One,
-    };
-    let cache = open_cache(rt, heap, 35, &[])?;
+const SMALL: Geometry = Geometry {
+    index: 1,
+    extents: 2,
+    format: Format::One,
+};
+
+fn extents_in<'a>(
+    rt: &impl Abort,
+    heap: &'a LocalHeap,
+    cache: &Cache<&'a LocalHeap>,
+) -> Option<Extents<&'a LocalHeap>> {
     assert!(rt; cache.blocks() == 35);
+    Extents::open(heap, cache, SMALL).ok()
+}
+
+// Whether extents aren't opened where only a small hole is left.
+fn is_not_opened_in_hole<'a>(
+    rt: &impl Abort,
+    alloc: Global,
+    heap: &'a LocalHeap,
+    cache: &Cache<&'a LocalHeap>,
+) -> Result<bool, OutOfMemory> {
     let ballast = fill(alloc, heap, 16)?;
-    let refused = Extents::open(heap, &cache, geometry).is_err();
+    let refused = extents_in(rt, heap, cache).is_none();
     drop(ballast);
-    expect_equal(rt, "opened without memory", refused, true);
-    let extents = Extents::open(heap, &cache, geometry)?;
+    Ok(refused)
+}
+
+fn open_bench<'a>(rt: &impl Abort, alloc: Global, heap: &'a LocalHeap) -> Result<Bench<'a>, Fail> {
     let groups = groups_in(heap)?;
-    Ok(Bench {
-        alloc,
-        heap,
-        cache,
-        groups,
-        extents,
-    })
+    let cache = open_cache(rt, heap, 35, &[])?;
+    let refused = is_not_opened_in_hole(rt, alloc, heap, &cache);
+    expect_equal(rt, "opened without memory", refused, Ok(true));
+    match extents_in(rt, heap, &cache) {
+        Some(extents) => Ok(Bench {
+            alloc,
+            heap,
+            cache,
+            groups,
+            extents,
+        }),
+        None => Err(Fail::from("extents were not opened")),
+    }
 }
 
 fn call_anew(

@@ -6,6 +6,7 @@ use std::alloc::Global;
 use std::process::Abort;
 use std::test::Fail;
 
+// How many patches of one byte wait at first.
 const WAITING: u32 = 40;
 
 // Two blocks on which the same is done. Views of the second forget what is kept of it.
@@ -42,6 +43,29 @@ impl Pair {
         self.end(rt)
     }
 
+    fn join(&mut self, a: u32, b: u32) -> Result<(), OutOfMemory> {
+        join_by(&mut self.kept, a, b)?;
+        join_by(&mut self.plain, a, b)
+    }
+
+    fn land(&mut self, rt: &impl Abort, no: u32) -> Result<(), OutOfMemory> {
+        self.kept.land(PatchNo(no));
+        self.plain.land(PatchNo(no));
+        self.expect_same(rt)
+    }
+
+    fn harden(&mut self, rt: &impl Abort) -> Result<(), OutOfMemory> {
+        self.kept.harden();
+        self.plain.harden();
+        self.expect_same(rt)
+    }
+
+    fn unlay(&mut self, rt: &impl Abort) -> Result<(), OutOfMemory> {
+        self.kept.unlay();
+        self.plain.unlay();
+        self.expect_same(rt)
+    }
+
     fn expect_same(&mut self, rt: &impl Abort) -> Result<(), OutOfMemory> {
         let mut sent = Vec::from_slice(self.alloc, self.kept.bytes())?;
         self.kept.take_all_from(sent.as_mut_slice());
@@ -54,204 +78,268 @@ impl Pair {
     }
 }
 
-fn waiting(rt: &impl Abort, alloc: Global) -> Result<Pair, OutOfMemory> {
-    let mut pair = Pair {
-        alloc,
-        kept: bare(alloc)?,
-        plain: bare(alloc)?,
-    };
-    for no in 0..WAITING {
-        pair.lay(rt, no, no as usize, 7)?;
-    }
-    Ok(pair)
+// What is done to both blocks.
+#[derive(Clone, Copy)]
+enum Deed<'a> {
+    // A patch of this number, at this place, of this byte.
+    Lay(u32, usize, u8),
+    // These depart.
+    Send(&'a [u32]),
+    // What is in flight is made durable.
+    End,
+    // Patches from this number on, each laid at its place, sent and made durable before the next.
+    Rounds(u32, &'a [usize]),
+    // The newest is made hard, or taken off.
+    Harden,
+    Unlay,
+    Join(u32, u32),
+    // One alone is made durable.
+    Land(u32),
+    // What is sent is compared.
+    Look,
 }
 
-// Rounds of one patch each, on its own byte and on one where a class waits.
-fn send_one_by_one(rt: &impl Abort, alloc: Global) -> Result<(), Fail> {
-    let mut pair = waiting(rt, alloc)?;
-    for turn in 0..8u32 {
-        pair.lay(rt, WAITING + turn, 1000 + turn as usize / 2, 9)?;
-        pair.expect_same(rt)?;
-        pair.send(rt, &[PatchNo(WAITING + turn)])?;
-        pair.end(rt)?;
+use Deed::{End, Harden, Join, Land, Lay, Look, Rounds, Send, Unlay};
+
+fn go_rounds(
+    rt: &impl Abort,
+    pair: &mut Pair,
+    first: u32,
+    starts: &[usize],
+) -> Result<(), OutOfMemory> {
+    let mut no = first;
+    for start in starts {
+        pair.round(rt, no, *start)?;
+        no = no.saturating_add(1);
     }
-    pair.lay(rt, 50, 5, 9)?;
-    pair.send(rt, &[PatchNo(50)])?;
-    pair.send(rt, &[PatchNo(5)])?;
-    pair.end(rt)?;
     Ok(())
 }
+
+fn send_each(rt: &impl Abort, pair: &mut Pair, numbers: &[u32]) -> Result<(), OutOfMemory> {
+    let mut all = Vec::new(pair.alloc);
+    for no in numbers {
+        all.push(PatchNo(*no))?;
+    }
+    pair.send(rt, &all)
+}
+
+fn act(rt: &impl Abort, pair: &mut Pair, deed: &Deed<'_>) -> Result<(), OutOfMemory> {
+    match deed {
+        Lay(no, start, byte) => pair.lay(rt, *no, *start, *byte),
+        Send(numbers) => send_each(rt, pair, numbers),
+        End => pair.end(rt),
+        Rounds(first, starts) => go_rounds(rt, pair, *first, starts),
+        Harden => pair.harden(rt),
+        Unlay => pair.unlay(rt),
+        Join(a, b) => pair.join(*a, *b),
+        Land(no) => pair.land(rt, *no),
+        Look => pair.expect_same(rt),
+    }
+}
+
+// Where the patches stand that wait at first.
+#[derive(Clone, Copy)]
+enum Places {
+    // On the first bytes.
+    InARow,
+    // On even bytes behind 1,000 and odd ones behind 3,000.
+    InTwoHeaps,
+}
+
+fn place_of(places: Places, no: u32) -> usize {
+    match places {
+        Places::InARow => no as usize,
+        Places::InTwoHeaps if no % 2 == 0 => (no as usize).saturating_add(1000),
+        Places::InTwoHeaps => (no as usize).saturating_add(3000),
+    }
+}
+
+fn act_each(
+    rt: &impl Abort,
+    pair: &mut Pair,
+    places: Places,
+    deeds: &[Deed<'_>],
+) -> Result<(), OutOfMemory> {
+    for no in 0..WAITING {
+        pair.lay(rt, no, place_of(places, no), 7)?;
+    }
+    for deed in deeds {
+        act(rt, pair, deed)?;
+    }
+    Ok(())
+}
+
+fn walk(rt: &impl Abort, alloc: Global, places: Places, deeds: &[Deed<'_>]) -> Result<(), Fail> {
+    let kept = bare(alloc)?;
+    let plain = bare(alloc)?;
+    let mut pair = Pair { alloc, kept, plain };
+    let walked = act_each(rt, &mut pair, places, deeds);
+    drop(pair);
+    Ok(walked?)
+}
+
+// Eight, each laid on its own byte or on that of the one before, and one on a byte where another waits.
+const BESIDE: [Deed<'static>; 36] = [
+    Lay(40, 1000, 9),
+    Look,
+    Send(&[40]),
+    End,
+    Lay(41, 1000, 9),
+    Look,
+    Send(&[41]),
+    End,
+    Lay(42, 1001, 9),
+    Look,
+    Send(&[42]),
+    End,
+    Lay(43, 1001, 9),
+    Look,
+    Send(&[43]),
+    End,
+    Lay(44, 1002, 9),
+    Look,
+    Send(&[44]),
+    End,
+    Lay(45, 1002, 9),
+    Look,
+    Send(&[45]),
+    End,
+    Lay(46, 1003, 9),
+    Look,
+    Send(&[46]),
+    End,
+    Lay(47, 1003, 9),
+    Look,
+    Send(&[47]),
+    End,
+    Lay(50, 5, 9),
+    Send(&[50]),
+    Send(&[5]),
+    End,
+];
 
 #[test]
 fn one_is_sent_beside_many(rt: HostRuntime) -> Result<(), Fail> {
-    send_one_by_one(&rt, rt.alloc())
+    walk(&rt, rt.alloc(), Places::InARow, &BESIDE)
 }
 
 // One on which another rests departs first, and several at once.
-fn send_lower_ones(rt: &impl Abort, alloc: Global) -> Result<(), Fail> {
-    let mut pair = waiting(rt, alloc)?;
-    pair.lay(rt, 50, 1000, 9)?;
-    pair.send(rt, &[PatchNo(50)])?;
-    pair.lay(rt, 51, 7, 9)?;
-    pair.send(rt, &[PatchNo(7)])?;
-    pair.send(rt, &[PatchNo(1), PatchNo(2), PatchNo(51)])?;
-    pair.end(rt)?;
-    pair.send(
-        rt,
-        &[PatchNo(3), PatchNo(4), PatchNo(8), PatchNo(9), PatchNo(10)],
-    )?;
-    pair.end(rt)?;
-    Ok(())
-}
+const LOWER: [Deed<'static>; 8] = [
+    Lay(50, 1000, 9),
+    Send(&[50]),
+    Lay(51, 7, 9),
+    Send(&[7]),
+    Send(&[1, 2, 51]),
+    End,
+    Send(&[3, 4, 8, 9, 10]),
+    End,
+];
 
 #[test]
 fn lower_ones_are_sent(rt: HostRuntime) -> Result<(), Fail> {
-    send_lower_ones(&rt, rt.alloc())
+    walk(&rt, rt.alloc(), Places::InARow, &LOWER)
 }
 
 // Between the writes classes are made hard, taken off, merged and landed alone.
-fn send_after_changes(rt: &impl Abort, alloc: Global) -> Result<(), Fail> {
-    let mut pair = waiting(rt, alloc)?;
-    pair.send(rt, &[PatchNo(0)])?;
-    pair.lay(rt, 50, 6, 9)?;
-    pair.kept.harden();
-    pair.plain.harden();
-    pair.expect_same(rt)?;
-    pair.lay(rt, 51, 8, 9)?;
-    pair.kept.unlay();
-    pair.plain.unlay();
-    pair.send(rt, &[PatchNo(12)])?;
-    join_by(&mut pair.kept, 20, 21)?;
-    join_by(&mut pair.plain, 20, 21)?;
-    pair.expect_same(rt)?;
-    pair.send(rt, &[PatchNo(30)])?;
-    pair.kept.land(PatchNo(31));
-    pair.plain.land(PatchNo(31));
-    pair.expect_same(rt)?;
-    pair.end(rt)?;
-    Ok(())
-}
+const CHANGES: [Deed<'static>; 11] = [
+    Send(&[0]),
+    Lay(50, 6, 9),
+    Harden,
+    Lay(51, 8, 9),
+    Unlay,
+    Send(&[12]),
+    Join(20, 21),
+    Look,
+    Send(&[30]),
+    Land(31),
+    End,
+];
 
 #[test]
 fn what_is_kept_follows_changes(rt: HostRuntime) -> Result<(), Fail> {
-    send_after_changes(&rt, rt.alloc())
+    walk(&rt, rt.alloc(), Places::InARow, &CHANGES)
 }
 
-// Forty wait in two heaps, on even bytes behind 1,000 and odd ones behind 3,000.
-fn two_heaps(rt: &impl Abort, alloc: Global) -> Result<Pair, OutOfMemory> {
-    let mut pair = Pair {
-        alloc,
-        kept: bare(alloc)?,
-        plain: bare(alloc)?,
-    };
-    for no in 0..WAITING {
-        let heap = if no % 2 == 0 { 1000 } else { 3000 };
-        pair.lay(rt, no, heap + no as usize, 7)?;
-    }
-    Ok(pair)
-}
-
-// Rounds of one patch each, between the heaps, before and behind them, in them and on bytes where a class waits.
-fn send_in_gaps(rt: &impl Abort, alloc: Global) -> Result<(), Fail> {
-    let starts = [
-        2000, 2001, 2500, 500, 2100, 3500, 2100, 1004, 2002, 1001, 999, 1039, 3000, 2003,
-    ];
-    let mut pair = two_heaps(rt, alloc)?;
-    for turn in 0..14u32 {
-        pair.round(rt, WAITING + turn, starts[turn as usize])?;
-    }
-    Ok(())
-}
+// Between the heaps, before and behind them, in them and on bytes where a class waits.
+const IN_GAPS: [usize; 14] = [
+    2000, 2001, 2500, 500, 2100, 3500, 2100, 1004, 2002, 1001, 999, 1039, 3000, 2003,
+];
 
 #[test]
 fn one_after_another_is_sent_in_a_gap(rt: HostRuntime) -> Result<(), Fail> {
-    send_in_gaps(&rt, rt.alloc())
+    walk(
+        &rt,
+        rt.alloc(),
+        Places::InTwoHeaps,
+        &[Rounds(WAITING, &IN_GAPS)],
+    )
 }
 
-// Rounds by turns between the heaps and before them, each elsewhere than the one before, and one on a byte where a class waits.
-fn send_by_turns(rt: &impl Abort, alloc: Global) -> Result<(), Fail> {
-    let mut pair = two_heaps(rt, alloc)?;
-    for turn in 0..12u32 {
-        pair.round(rt, WAITING + 2 * turn, 2000 + turn as usize)?;
-        pair.round(rt, WAITING + 2 * turn + 1, 500 + turn as usize)?;
-    }
-    pair.round(rt, 64, 1004)?;
-    pair.round(rt, 65, 2005)?;
-    Ok(())
-}
+// By turns between the heaps and before them, each elsewhere than the one before, and one on a byte where a class waits.
+const BY_TURNS: [usize; 26] = [
+    2000, 500, 2001, 501, 2002, 502, 2003, 503, 2004, 504, 2005, 505, 2006, 506, 2007, 507, 2008,
+    508, 2009, 509, 2010, 510, 2011, 511, 1004, 2005,
+];
 
 #[test]
 fn each_is_sent_elsewhere_than_the_last(rt: HostRuntime) -> Result<(), Fail> {
-    send_by_turns(&rt, rt.alloc())
+    walk(
+        &rt,
+        rt.alloc(),
+        Places::InTwoHeaps,
+        &[Rounds(WAITING, &BY_TURNS)],
+    )
 }
 
 // After two rounds the gap before the heaps is known. It is left for good, by turns for one between the heaps and one behind them,
 // and after seven that missed it the next one is measured anew.
-fn left_gap(rt: &impl Abort, alloc: Global, rounds: u32) -> Result<Pair, OutOfMemory> {
-    assert!(rt; rounds <= 20);
-    let mut pair = two_heaps(rt, alloc)?;
-    pair.round(rt, WAITING, 500)?;
-    pair.round(rt, WAITING + 1, 501)?;
-    for turn in 0..rounds {
-        let side = if turn % 2 == 0 { 2000 } else { 3500 };
-        pair.round(rt, WAITING + 2 + turn, side + turn as usize)?;
-    }
-    Ok(pair)
-}
+const OUTSIDE: [usize; 22] = [
+    500, 501, 2000, 3501, 2002, 3503, 2004, 3505, 2006, 3507, 2008, 3509, 2010, 3511, 2012, 3513,
+    2014, 3515, 2016, 3517, 2018, 3519,
+];
 
-// One is sent on a byte of a heap where a class waits, and one behind the heaps.
-fn send_on_one(rt: &impl Abort, mut pair: Pair) -> Result<(), OutOfMemory> {
-    pair.round(rt, 70, 1004)?;
-    pair.round(rt, 71, 3600)
-}
-
-// While one is in flight behind the heaps another comes to wait there, and one is sent on that.
-fn send_beside_a_flight(rt: &impl Abort, mut pair: Pair) -> Result<(), OutOfMemory> {
-    pair.lay(rt, 70, 3590, 9)?;
-    pair.send(rt, &[PatchNo(70)])?;
-    pair.lay(rt, 71, 3600, 5)?;
-    pair.lay(rt, 72, 3600, 9)?;
-    pair.send(rt, &[PatchNo(72)])?;
-    pair.end(rt)
+// What is sent behind so many rounds that left the gap: one on a byte of a heap where a class waits, and one behind the heaps.
+// Or one that is in flight there while another comes to wait, and one that is sent on that.
+fn send_outside(rt: &impl Abort, alloc: Global, starts: &[usize]) -> Result<(), Fail> {
+    let before = Rounds(WAITING, starts);
+    let on_one = [before, Rounds(70, &[1004, 3600])];
+    walk(rt, alloc, Places::InTwoHeaps, &on_one)?;
+    let beside_a_flight = [
+        before,
+        Lay(70, 3590, 9),
+        Send(&[70]),
+        Lay(71, 3600, 5),
+        Lay(72, 3600, 9),
+        Send(&[72]),
+        End,
+    ];
+    walk(rt, alloc, Places::InTwoHeaps, &beside_a_flight)
 }
 
 #[test]
 fn many_in_a_row_are_sent_outside_the_gap(rt: HostRuntime) -> Result<(), Fail> {
-    for rounds in [7, 8, 9, 20] {
-        send_on_one(&rt, left_gap(&rt, rt.alloc(), rounds)?)?;
-        send_beside_a_flight(&rt, left_gap(&rt, rt.alloc(), rounds)?)?;
-    }
-    Ok(())
+    send_outside(&rt, rt.alloc(), &OUTSIDE[..9])?;
+    send_outside(&rt, rt.alloc(), &OUTSIDE[..10])?;
+    send_outside(&rt, rt.alloc(), &OUTSIDE[..11])?;
+    send_outside(&rt, rt.alloc(), &OUTSIDE)
 }
 
-// In a gap where some were sent another one comes to wait, and more are sent there.
-fn send_where_one_waits(rt: &impl Abort, pair: &mut Pair) -> Result<(), OutOfMemory> {
-    pair.round(rt, 50, 2000)?;
-    pair.lay(rt, 51, 2100, 5)?;
-    pair.round(rt, 52, 2101)?;
-    pair.round(rt, 53, 2100)?;
-    pair.round(rt, 54, 2050)
-}
-
-// The lowest one goes, and one is sent on another that waits in the gap, and then that one.
-fn send_after_the_lowest(rt: &impl Abort, pair: &mut Pair) -> Result<(), OutOfMemory> {
-    pair.send(rt, &[PatchNo(0)])?;
-    pair.kept.land(PatchNo(0));
-    pair.plain.land(PatchNo(0));
-    pair.lay(rt, 55, 2060, 3)?;
-    pair.round(rt, 56, 2060)?;
-    pair.send(rt, &[PatchNo(55)])?;
-    pair.end(rt)
-}
-
-fn send_as_the_gap_changes(rt: &impl Abort, alloc: Global) -> Result<(), Fail> {
-    let mut pair = two_heaps(rt, alloc)?;
-    send_where_one_waits(rt, &mut pair)?;
-    send_after_the_lowest(rt, &mut pair)?;
-    Ok(())
-}
+// In a gap where some were sent another one comes to wait, and more are sent there. Then the lowest one goes, and one is sent on
+// another that waits in the gap, and then that one.
+const AS_IT_CHANGES: [Deed<'static>; 10] = [
+    Rounds(50, &[2000]),
+    Lay(51, 2100, 5),
+    Rounds(52, &[2101, 2100, 2050]),
+    Send(&[0]),
+    Land(0),
+    Lay(55, 2060, 3),
+    Rounds(56, &[2060]),
+    Send(&[55]),
+    End,
+    Look,
+];
 
 #[test]
 fn in_a_gap_one_comes_to_wait(rt: HostRuntime) -> Result<(), Fail> {
-    send_as_the_gap_changes(&rt, rt.alloc())
+    walk(&rt, rt.alloc(), Places::InTwoHeaps, &AS_IT_CHANGES)
 }
