@@ -71,11 +71,13 @@ fn command_in_hole<'a>(
     Ok(came)
 }
 
-// A book in which `a` has a value.
-fn furnished<'a>(rt: &impl Abort, heap: &'a LocalHeap) -> Result<HeapBook<'a>, Fail> {
+// A book of so many calls, in which `a` has a value.
+fn furnished<'a>(rt: &impl Abort, heap: &'a LocalHeap, calls: u64) -> Result<HeapBook<'a>, Fail> {
     let first = put(heap, b"a", b"first")?;
     let mut book = new_book(heap)?;
-    assert_eq!(rt; came_of(book.command(WRITER, &first)), Some(Came::Done));
+    for _ in 0..calls {
+        assert_eq!(rt; came_of(book.command(WRITER, &first)), Some(Came::Done));
+    }
     Ok(book)
 }
 
@@ -85,9 +87,9 @@ fn expect_left(rt: &impl Abort, book: &HeapBook<'_>, before: Standing, came: Cam
     if came == Came::Refused {
         assert_eq!(rt; now, before);
     }
-    let more = if came == Came::Starved { 1u64 } else { 0 };
-    assert_eq!(rt; now.entries as u64, more + 1);
-    assert_eq!(rt; now.counts.writers[0], more + 1);
+    let calls = before.counts.writers[0];
+    let more = calls.saturating_add(if came == Came::Starved { 1 } else { 0 });
+    assert_eq!(rt; (now.entries as u64, now.counts.writers[0]), (more, more));
     assert!(rt; has(book, b"a", Some(b"first")) && has(book, b"c", None));
 }
 
@@ -113,16 +115,22 @@ fn put_twice<'a>(
 }
 
 // The same in a new book.
-fn put_anew(rt: &impl Abort, alloc: Global, heap: &LocalHeap, hole: usize) -> Result<Came, Fail> {
-    let mut book = furnished(rt, heap)?;
+fn put_anew(
+    rt: &impl Abort,
+    alloc: Global,
+    heap: &LocalHeap,
+    calls: u64,
+    hole: usize,
+) -> Result<Came, Fail> {
+    let mut book = furnished(rt, heap, calls)?;
     put_twice(rt, alloc, heap, hole, &mut book)
 }
 
 // Each hole is larger than the one before it, so that one allocation more succeeds now and then, until all do.
-fn put_in_each(rt: &impl Abort, alloc: Global, heap: &LocalHeap) -> Result<(), Fail> {
+fn put_in_each(rt: &impl Abort, alloc: Global, heap: &LocalHeap, calls: u64) -> Result<(), Fail> {
     let (mut refused, mut starved) = (false, false);
     for turn in 0..1000 {
-        let came = put_anew(rt, alloc, heap, hole_of(turn))?;
+        let came = put_anew(rt, alloc, heap, calls, hole_of(turn))?;
         assert_eq!(rt; heap.used(), 0);
         match came {
             Came::Refused => refused = true,
@@ -136,10 +144,12 @@ fn put_in_each(rt: &impl Abort, alloc: Global, heap: &LocalHeap) -> Result<(), F
     Err(Fail::from("refused in the largest hole"))
 }
 
+// The list of calls has room for another one behind the first, and none behind the fourth.
 #[test]
 fn a_command_is_refused_whole_or_answered(rt: HostRuntime) -> Result<(), Fail> {
     let heap = LocalHeap::new(rt.alloc(), HEAP)?;
-    put_in_each(&rt, rt.alloc(), &heap)
+    put_in_each(&rt, rt.alloc(), &heap, 1)?;
+    put_in_each(&rt, rt.alloc(), &heap, 4)
 }
 
 // Begins a write, which never ends. Of which block; none where there was no room.
@@ -192,7 +202,7 @@ fn send_twice(
 
 // The same in a new book.
 fn send_anew(rt: &impl Abort, alloc: Global, heap: &LocalHeap, hole: usize) -> Result<bool, Fail> {
-    let mut book = furnished(rt, heap)?;
+    let mut book = furnished(rt, heap, 1)?;
     let refused = send_twice(rt, alloc, heap, hole, &mut book);
     drop(book);
     Ok(refused?)
