@@ -2,3 +2,4 @@ pub mod Keeping
 pub mod Lengths
 pub mod Told
 pub mod Calls
+pub mod Served

@@ -16,7 +16,7 @@ use std::snapshot::Snapshot;
 use std::sync::ledger::{Ledger, Share};
 use std::sync::{Mutex, Wait};
 use std::thread;
-use std::thread::{Promise, Threads};
+use std::thread::{JoinHandle, Promise, Scope, Threads};
 
 /// What came back from the threads.
 #[derive(Drop)]
@@ -134,47 +134,123 @@ pub(crate) fn run_threads<
             let Ok(flusher) = scope.spawn(move || flush_all(rt, desk, bell, gate, to, sends)) else {
                 return Err(Cause::NoThread);
             };
-            let mut writers = Vec::new(alloc);
-            let mut short = writers.reserve(jobs.len()).is_err();
-            let mut started = true;
-            let mut place = 0;
-            for seat in seats {
-                if short || !started || place >= jobs.len() {
-                    break;
-                }
-                let mine = jobs[place].as_slice();
-                match scope.spawn(move || write_all(rt, alloc, desk, bell, gate, mine, seat)) {
-                    Ok(writer) => {
-                        if writers.push(writer).is_err() {
-                            short = true;
-                        }
-                    }
-                    Err(_) => started = false,
-                }
-                place += 1;
-            }
-            if short || !started {
-                bell.stop(rt);
-            }
-            let mut written = Vec::new(alloc);
-            for writer in writers {
-                if written.push(writer.join(rt)).is_err() {
-                    short = true;
-                }
-            }
+            let written = run_writers(scope, rt, alloc, desk, bell, gate, jobs, seats);
             let flushed = flusher.join(rt);
             let completed = completer.join(rt);
-            if !started {
-                return Err(Cause::NoThread);
+            match written {
+                Ok(written) => Ok(Joined {
+                    written,
+                    flushed,
+                    completed,
+                }),
+                Err(cause) => Err(cause),
             }
-            if short {
-                return Err(Cause::OutOfMemory);
-            }
-            Ok(Joined {
-                written,
-                flushed,
-                completed,
-            })
         },
     )
+}
+
+/// Starts the writers, and joins them.
+fn run_writers<
+    's,
+    E,
+    G: Gate + Sync,
+    C: Ledger + Send + Sync,
+    S: Ledger + Send + Sync,
+    T: Ledger + Send + Sync,
+    R: Threads + Wait + Sync,
+>(
+    scope: &Scope<'s, E>,
+    rt: &'s R,
+    alloc: Global,
+    desk: &'s Mutex<Desk<C, S, T>>,
+    bell: &'s Bell,
+    gate: &'s G,
+    jobs: &'s [Vec<Command>],
+    seats: Vec<Seat<C>>,
+) -> Result<Vec<Written<C>>, Cause>
+    ensures other { IfErr result (λ cause. (block : ℕ) → cause ≡ Cause.DeviceGaveUp block → ⊥) }
+{
+    let (writers, lack) = start_writers(scope, rt, alloc, desk, bell, gate, jobs, seats);
+    let written = join_writers(rt, alloc, writers);
+    match lack {
+        Some(cause) => Err(cause),
+        None => written,
+    }
+}
+
+/// Starts a thread for each seat. Where not all of them can be, the flusher is told to stop, and the cause stands beside those
+/// that were.
+fn start_writers<
+    's,
+    E,
+    G: Gate + Sync,
+    C: Ledger + Send + Sync,
+    S: Ledger + Send + Sync,
+    T: Ledger + Send + Sync,
+    R: Threads + Wait + Sync,
+>(
+    scope: &Scope<'s, E>,
+    rt: &'s R,
+    alloc: Global,
+    desk: &'s Mutex<Desk<C, S, T>>,
+    bell: &'s Bell,
+    gate: &'s G,
+    jobs: &'s [Vec<Command>],
+    seats: Vec<Seat<C>>,
+) -> (Vec<JoinHandle<Written<C>>>, Option<Cause>)
+    ensures other { IfSome result.1 (λ cause. (block : ℕ) → cause ≡ Cause.DeviceGaveUp block → ⊥) }
+{
+    let mut writers = Vec::new(alloc);
+    let mut short = writers.reserve(jobs.len()).is_err();
+    let mut started = true;
+    let mut place = 0;
+    for seat in seats {
+        if short || !started || place >= jobs.len() {
+            break;
+        }
+        let mine = jobs[place].as_slice();
+        match scope.spawn(move || write_all(rt, alloc, desk, bell, gate, mine, seat)) {
+            Ok(writer) => short = writers.push(writer).is_err(),
+            Err(_) => started = false,
+        }
+        place += 1;
+    }
+    if short || !started {
+        bell.stop(rt);
+    }
+    (writers, lack_of(short, started))
+}
+
+/// Why not all writers were started, if they were not.
+fn lack_of(short: bool, started: bool) -> Option<Cause>
+    ensures other { IfSome result (λ cause. (block : ℕ) → cause ≡ Cause.DeviceGaveUp block → ⊥) }
+{
+    if !started {
+        Some(Cause::NoThread)
+    } else if short {
+        Some(Cause::OutOfMemory)
+    } else {
+        None
+    }
+}
+
+/// Joins the writers.
+fn join_writers<C: Ledger + Send, R: Threads>(
+    rt: &R,
+    alloc: Global,
+    writers: Vec<JoinHandle<Written<C>>>,
+) -> Result<Vec<Written<C>>, Cause>
+    ensures other { IfErr result (λ cause. (block : ℕ) → cause ≡ Cause.DeviceGaveUp block → ⊥) }
+{
+    let mut written = Vec::new(alloc);
+    let mut short = false;
+    for writer in writers {
+        if written.push(writer.join(rt)).is_err() {
+            short = true;
+        }
+    }
+    if short {
+        return Err(Cause::OutOfMemory);
+    }
+    Ok(written)
 }

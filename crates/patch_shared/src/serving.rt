@@ -1,11 +1,11 @@
 //! How several writers are served by one store.
-ghost use Rattle.std.specs.Prelude.{ℕ, List, ◌≡◌, ◌<◌, ◌≤◌, length, vec_len, map, sum_by, [], IfOk, IfErr, OnOk, true};
+ghost use Rattle.std.specs.Prelude.{ℕ, List, ◌≡◌, ◌<◌, ◌≤◌, length, vec_len, map, sum_by, [], IfOk, IfErr, IfSome, OnOk, true};
 ghost use Rattle.patch_device.specs.SameDevice.{IsSameDevice};
 ghost use Rattle.patch_cache.specs.Meaning.{Represents as IsCacheOf};
 ghost use Rattle.patch_store.specs.Flushing.{HoldCached};
 ghost use Rattle.patch_shared.specs.Kept.{IsKept, IsFresh, IsNew, run_of, no_counts};
 ghost use Rattle.patch_shared.specs.Telling.{AreTold, IsSettled, commands_in, replies_in};
-ghost use Rattle.patch_shared.specs.Serving.{RisesIf, IsFaultWith, IsGivenBack, book_of};
+ghost use Rattle.patch_shared.specs.Serving.{RisesIf, RisesAtEnd, IsFaultWith, IsGivenBack, IsServed, book_of};
 
 use crate::blocks::copy_cached;
 use crate::books::Book;
@@ -23,7 +23,7 @@ use patch_model::BlockBytes;
 use patch_store::Store;
 use std::alloc::Global;
 use std::marker::Brand;
-use std::sync::ledger::{Blank, Ledger};
+use std::sync::ledger::{Blank, Ledger, Share};
 use std::sync::{Mutex, Wait};
 use std::thread::Threads;
 
@@ -44,6 +44,15 @@ struct Ran<D: Device> {
     replies: Vec<Vec<Reply>>,
     sent: u64,
     completed: u64,
+}
+
+// The device and the replies when all threads have ended as they should, and the tallies of the two that wrote.
+#[derive(Drop)]
+struct Counted<D: Device, S: Ledger, T: Ledger> {
+    device: D,
+    replies: Vec<Vec<Reply>>,
+    sends: Tally<S>,
+    completions: Tally<T>,
 }
 
 /// Runs the threads over one book. Each command, send and completion that a thread counts is in the book, and no other.
@@ -79,16 +88,51 @@ fn run_book<
     let (commands, mut all) = blanks.0.open::<C>();
     let (sends, all_sends) = blanks.1.open::<S>();
     let (completions, all_completions) = blanks.2.open::<T>();
-    let Some(seats) = seats(alloc, &mut all, jobs.len()) else {
+    let desk = Mutex::new(Desk::new(book, commands, sends, completions));
+    let tallies = (Tally::new(all_sends), Tally::new(all_completions));
+    match run_desk(
+        rt, alloc, &desk, device, jobs, gate, &mut all, tallies, blocks,
+    ) {
+        Ok(counted) => Ok(closed(desk.into_inner(), all, counted)),
+        Err(fault) => Err(fault),
+    }
+}
+
+/// Runs the threads over a desk. The writers' parts of the ledger of commands are put together again.
+fn run_desk<
+    D: Device + Drop + Send,
+    G: Gate + Sync,
+    C: Ledger + Send + Sync,
+    S: Ledger + Send + Sync,
+    T: Ledger + Send + Sync,
+    R: Threads + Wait + Sync,
+>(
+    rt: &R,
+    alloc: Global,
+    desk: &Mutex<Desk<C, S, T>>,
+    device: D,
+    jobs: &[Vec<Command>],
+    gate: &G,
+    all: &mut Share<C>,
+    tallies: (Tally<S>, Tally<T>),
+    blocks: usize,
+) -> Result<Counted<D, S, T>, ServeFault<D>>
+    requires jobs { length jobs.now ≤ 8 }
+    requires parts { (all.old.parts ≡ length jobs.now) × (all.old.amount ≡ 0) }
+    ensures many { IfOk result (λ counted. vec_len counted.replies ≡ length jobs.now) }
+    ensures parts { IfOk result (λ counted. all.new.parts ≡ length jobs.now) }
+    ensures amount { IfOk result (λ counted. all.new.amount ≡ sum_by (λ list. vec_len list) counted.replies.items) }
+    ensures device { IfOk result (λ counted. IsSameDevice D.Device device counted.device) }
+    ensures fault { IfErr result (IsFaultWith D.Device device) }
+{
+    let Some(seats) = seats(alloc, all, jobs.len()) else {
         return Err(ServeFault::bare(Cause::OutOfMemory));
     };
-    let desk = Mutex::new(Desk::new(book, commands, sends, completions));
-    let sends = Tally::new(all_sends);
-    let completions = Tally::new(all_completions);
-    let joined = match run_threads(
+    let (sends, completions) = tallies;
+    match run_threads(
         rt,
         alloc,
-        &desk,
+        desk,
         device,
         jobs,
         gate,
@@ -97,9 +141,27 @@ fn run_book<
         completions,
         blocks,
     ) {
-        Ok(joined) => joined,
-        Err(cause) => return Err(ServeFault::bare(cause)),
-    };
+        Ok(joined) => sum_up(alloc, joined, all, jobs.len()),
+        Err(cause) => Err(ServeFault::bare(cause)),
+    }
+}
+
+/// What the threads counted, where each of them came to its end.
+fn sum_up<D: Device + Drop, C: Ledger, S: Ledger, T: Ledger>(
+    alloc: Global,
+    joined: Joined<D, C, S, T>,
+    all: &mut Share<C>,
+    writers: usize,
+) -> Result<Counted<D, S, T>, ServeFault<D>>
+    requires none { (all.old.parts ≡ 0) × (all.old.amount ≡ 0) }
+    ensures many { IfOk result (λ counted. vec_len counted.replies ≡ writers) }
+    ensures parts { IfOk result (λ counted. all.new.parts ≡ writers) }
+    ensures amount { IfOk result (λ counted. all.new.amount ≡ sum_by (λ list. vec_len list) counted.replies.items) }
+    ensures device { IfOk result (λ counted. counted.device ≡ joined.completed.device) }
+    ensures fault { (before : ℕ) → RisesAtEnd joined.completed.end before (D.fault_count joined.completed.device)
+        → IfErr result (λ fault. IsGivenBack D.Device before fault.cause fault.device) }
+{
+    let cause = cause_of(&joined);
     let Joined {
         written,
         flushed,
@@ -107,41 +169,75 @@ fn run_book<
     } = joined;
     let Completed {
         device,
-        tally: last_tally,
-        end,
+        tally: completions,
+        end: _,
     } = completed;
-    match end {
-        End::Done => {}
-        End::GaveUp(block) => {
-            return Err(ServeFault {
-                cause: Cause::DeviceGaveUp(block),
-                device: Some(device),
-            });
-        }
-        End::Strange => return Err(ServeFault::bare(Cause::Disagreed)),
+    let Flushed {
+        tally: sends,
+        whole: _,
+    } = flushed;
+    if let Some(cause) = cause {
+        return Err(with_device(cause, device));
     }
-    if !flushed.whole {
-        return Err(ServeFault::bare(Cause::OutOfMemory));
-    }
-    let Some(replies) = gathered(alloc, written, &mut all) else {
+    let Some(replies) = gathered(alloc, written, all) else {
         return Err(ServeFault::bare(Cause::OutOfMemory));
     };
-    if replies.len() != jobs.len() {
+    if replies.len() != writers {
         return Err(ServeFault::bare(Cause::Disagreed));
     }
-    let Flushed { tally, whole: _ } = flushed;
-    let sent = tally.count();
-    let completed = last_tally.count();
-    let book = desk
-        .into_inner()
-        .close(all, tally.into_share(), last_tally.into_share());
-    Ok(Ran {
+    Ok(Counted {
+        device,
+        replies,
+        sends,
+        completions,
+    })
+}
+
+/// Why the threads that write ended before all was done, if they did.
+fn cause_of<D: Device, C: Ledger, S: Ledger, T: Ledger>(
+    joined: &Joined<D, C, S, T>,
+) -> Option<Cause>
+    ensures { (before now : ℕ) → RisesAtEnd joined.now.completed.end before now → IfSome result (λ cause. RisesIf cause before now) }
+{
+    match joined.completed.end {
+        End::GaveUp(block) => Some(Cause::DeviceGaveUp(block)),
+        End::Strange => Some(Cause::Disagreed),
+        End::Done if joined.flushed.whole => None,
+        End::Done => Some(Cause::OutOfMemory),
+    }
+}
+
+/// The book, with what was counted beside it.
+fn closed<D: Device, C: Ledger, S: Ledger, T: Ledger>(
+    desk: Desk<C, S, T>,
+    all: Share<C>,
+    counted: Counted<D, S, T>,
+) -> Ran<D>
+    requires commands { all.parts ≡ C.parts }
+    requires sends { S.parts ≡ 1 }
+    requires completions { T.parts ≡ 1 }
+    ensures kept { IsKept result.book }
+    ensures commands { length result.book.calls ≡ all.amount }
+    ensures writes { (result.book.counts.flusher ≡ result.sent) × (result.book.counts.completer ≡ result.completed) }
+    ensures replies { result.replies ≡ counted.replies }
+    ensures device { result.device ≡ counted.device }
+{
+    let Counted {
+        device,
+        replies,
+        sends,
+        completions,
+    } = counted;
+    let sent = sends.count();
+    let completed = completions.count();
+    let book = desk.close(all, sends.into_share(), completions.into_share());
+    Ran {
         book,
         device,
         replies,
         sent,
         completed,
-    })
+    }
 }
 
 /// Whether the book holds what the threads did, over these opening blocks, and all of it is on the disk.
@@ -229,18 +325,69 @@ pub fn serve<D: Device + Drop + Send, G: Gate + Sync, R: Threads + Wait + Sync>(
     ensures device { IfOk result (λ finished. IsSameDevice D.Device device finished.device) }
     ensures fault { IfErr result (IsFaultWith D.Device device) }
 {
+    serve_lists(rt, alloc, store, device, jobs.as_slice(), gate)
+}
+
+/// Serves a writer for each list.
+fn serve_lists<D: Device + Drop + Send, G: Gate + Sync, R: Threads + Wait + Sync>(
+    rt: &R,
+    alloc: Global,
+    store: Store,
+    device: D,
+    jobs: &[Vec<Command>],
+    gate: &G,
+) -> Result<Finished<D>, ServeFault<D>>
+    requires new { IsNew store }
+    requires jobs { length jobs.now ≤ 8 }
+    ensures served { (blocks : List (List ℕ)) → IsFresh store blocks → IfOk result (IsServed D.Device device blocks (commands_in jobs.now)) }
+    ensures fault { IfErr result (IsFaultWith D.Device device) }
+{
     let Ok(opening) = copy_cached(alloc, store.cache()) else {
         return Err(ServeFault::bare(Cause::OutOfMemory));
     };
+    serve_over(rt, alloc, store, device, jobs, gate, opening)
+}
+
+/// Serves the writers on a store that holds these blocks.
+fn serve_over<D: Device + Drop + Send, G: Gate + Sync, R: Threads + Wait + Sync>(
+    rt: &R,
+    alloc: Global,
+    store: Store,
+    device: D,
+    jobs: &[Vec<Command>],
+    gate: &G,
+    opening: Vec<BlockBytes>,
+) -> Result<Finished<D>, ServeFault<D>>
+    requires new { IsNew store }
+    requires jobs { length jobs.now ≤ 8 }
+    ensures served { IfOk result (IsServed D.Device device opening.items (commands_in jobs.now)) }
+    ensures fault { IfErr result (IsFaultWith D.Device device) }
+{
     let Some(book) = Book::open(alloc, store).ok() else {
         return Err(ServeFault::bare(Cause::OutOfMemory));
     };
     let blanks = (Blank::new(jobs.len() as u64), Blank::new(1), Blank::new(1));
     let blocks = opening.len();
-    let jobs = jobs.as_slice();
-    let ran = run_book::<D, G, Brand, Brand, Brand, R>(
+    match run_book::<D, G, Brand, Brand, Brand, R>(
         rt, alloc, book, device, jobs, gate, blanks, blocks,
-    )?;
+    ) {
+        Ok(ran) => compared(ran, opening, jobs),
+        Err(fault) => Err(fault),
+    }
+}
+
+/// All that is left, where the book holds what the threads did over these opening blocks.
+fn compared<D: Device + Drop>(
+    ran: Ran<D>,
+    opening: Vec<BlockBytes>,
+    jobs: &[Vec<Command>],
+) -> Result<Finished<D>, ServeFault<D>>
+    requires jobs { length jobs.now ≤ 8 }
+    requires kept { IsKept ran.book }
+    requires all { length ran.book.calls ≡ sum_by (λ list. vec_len list) ran.replies.items }
+    ensures served { IfOk result (IsServed D.Device ran.device opening.items (commands_in jobs.now)) }
+    ensures fault { IfErr result (IsFaultWith D.Device ran.device) }
+{
     if !agrees(&ran, opening.as_slice(), jobs) {
         return Err(ServeFault::bare(Cause::Disagreed));
     }

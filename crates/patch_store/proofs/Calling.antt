@@ -1,13 +1,15 @@
 -- Commands that are answered one after another, and the reply to one that reads a key.
-use Rattle.std.proofs.Common.{◌≡◌, ℕ, ◌+◌, ◌<◌, ◌∙◌, inl, false, List, [], ◌∷◌, ◌++◌, length, map, get_or, refl, sym, ap, subst, arith}
+use Rattle.std.proofs.Common.{◌≡◌, ◌≢◌, ℕ, ◌+◌, ◌<◌, ◌∙◌, inl, false, List, [], ◌∷◌, ◌++◌, length, map, get_or, refl, sym, ap, subst, arith}
 use Rattle.std.proofs.lemmas.List.{append_assoc, append-nil, length-append, length-map}
-use Rattle.std.specs.Prelude.{Option, Some, None, flat_map}
+use Rattle.std.specs.Prelude.{Option, Some, None, Result, Ok, Err, flat_map}
+use Rattle.patch_model.specs.declared.refusals.Refusal.{Refusal}
 use Rattle.patch_model.specs.Step.{Step}
 use Rattle.patch_cache.specs.Refusals.{IsCause}
 use Rattle.patch_history.specs.declared.commands.Command.{Command as CodeCommand}
+use Rattle.patch_history.specs.declared.commands.Command.TheVariants as code
 use Rattle.patch_history.specs.declared.commands.Reply.{Reply as CodeReply}
 use Rattle.patch_history.specs.declared.refusals.GetRefusal.{GetRefusal}
-use Rattle.patch_history.specs.Command.{Command, Get, Value, Absent, Refused, unless, is_refused}
+use Rattle.patch_history.specs.Command.{Command, Reply, Put, Get, Done, Value, Absent, GroupMade, Refused, unless, is_refused}
 use Rattle.patch_history.specs.Commands.{command_of, reply_told}
 use Rattle.patch_history.specs.History.{History, Call, standing_of, steps_in}
 use Rattle.patch_history.specs.Laws.{HistoriesExtend}
@@ -15,6 +17,7 @@ use Rattle.patch_history.specs.Refusals.{get_cause}
 use Rattle.patch_history.specs.Refusing.{why_no_key, found}
 use Rattle.patch_recovery.specs.Ledger.{value_in}
 use Rattle.patch_store.specs.Meaning.{Store, Represents, HasAnswered, Answers}
+use Rattle.patch_store.specs.Replies.{reply_to}
 use Rattle.patch_store.specs.Running.{commands_of, calls, with_calls, HasRun}
 use Rattle.patch_store.proofs.Gaining.{answered, refused, right_refused, steps_push}
 
@@ -98,3 +101,27 @@ next_run h commands replies c reply old mid new within at so_far answer =
           ∙ append_assoc old.cache.trace (flat_map steps_in before) one.steps
           ∙ ap (λ steps. old.cache.trace ++ steps) (sym (ap (λ events. flat_map steps_in events) is ∙ steps_push before event));
     }
+
+-- One command that is answered.
+
+-- an answer is one to what was asked, as it was told
+pub told_so : {h : History} {writer : ℕ} {asked command : Command} {told reply : Reply} {old new : Store} → asked ≡ command → told ≡ reply
+    → HasAnswered h writer command reply old new → HasAnswered h writer asked told old new
+told_so {h = h} {writer = writer} {asked = asked} {reply = reply} {old = old} {new = new} a t answer =
+    subst (λ r. HasAnswered h writer asked r old new) (sym t) (subst (λ q. HasAnswered h writer q reply old new) (sym a) answer)
+
+-- no value is told where a command is done
+pub done_no_value : {X E : Type 0} (cause : E → Refusal) (outcome : Result X E) (told : Reply) (bytes : List ℕ)
+    → told ≡ reply_to cause (λ _. Done) outcome → told ≢ Value bytes
+done_no_value cause (Ok x) told bytes is value = let same : Done ≡ Value bytes = sym is ∙ value in cc
+done_no_value cause (Err refusal) told bytes is value = let same : Refused (cause refusal) ≡ Value bytes = sym is ∙ value in cc
+
+-- nor where a group is made
+pub made_no_value : {E : Type 0} (cause : E → Refusal) (outcome : Result ℕ E) (told : Reply) (bytes : List ℕ)
+    → told ≡ reply_to cause (λ group. GroupMade group) outcome → told ≢ Value bytes
+made_no_value cause (Ok group) told bytes is value = let same : GroupMade group ≡ Value bytes = sym is ∙ value in cc
+made_no_value cause (Err refusal) told bytes is value = let same : Refused (cause refusal) ≡ Value bytes = sym is ∙ value in cc
+
+pub asked_put : {A : Type 0} (command : CodeCommand A) (key value k v : List ℕ) → command ≡ code.Put key value → k ≡ key → v ≡ value
+    → command_of command ≡ Put k v
+asked_put command key value k v is same_key same_value = rw (is, same_key, same_value) refl

@@ -1,6 +1,7 @@
 //! How a list of commands is gone through.
 ghost use Rattle.std.specs.Prelude.{ℕ, List, ◌≡◌, ◌<◌, length, OnOk, OnErr};
-ghost use Rattle.patch_history.specs.Command.{Done, Get, Value};
+ghost use Rattle.patch_group.specs.Refusals.{group_cause};
+ghost use Rattle.patch_history.specs.Command.{Done, Get, Value, GroupMade, Count};
 ghost use Rattle.patch_history.specs.Commands.{command_of, reply_told};
 ghost use Rattle.patch_store.specs.Laws.{CachedDisksOpen, ClosedDisksOpen, CrashDisksOpen};
 ghost use Rattle.patch_store.specs.Meaning.{Answers};
@@ -56,18 +57,12 @@ impl<A: Allocator + Copy> Store<A> {
             Command::Delete { key } => done_or_refused(self.delete(writer, key.as_slice())),
             Command::Reclaim { extent } => done_or_refused(self.reclaim(*extent)),
             Command::Upgrade => done_or_refused(self.upgrade()),
-            Command::Group => match self.create_group() {
-                Ok(group) => Reply::GroupMade(group),
-                Err(refusal) => Reply::Refused(refusal.refusal()),
-            },
+            Command::Group => made_or_refused(self.create_group()),
             Command::Engage { group } => done_or_refused(self.engage(writer, *group)),
             Command::Disengage { group } => done_or_refused(self.disengage(writer, *group)),
             Command::Depend { group, on } => done_or_refused(self.depend(*group, *on)),
             Command::CloseGroup { group } => done_or_refused(self.close_group(*group)),
-            Command::Pending { group } => match self.pending(*group) {
-                Ok(count) => Reply::Count(count),
-                Err(refusal) => Reply::Refused(refusal.refusal()),
-            },
+            Command::Pending { group } => count_or_refused(self.pending(*group)),
         }
     }
 
@@ -90,6 +85,26 @@ fn done_or_refused<E: Refuses, A: Allocator>(outcome: Result<(), E>) -> Reply<A>
 {
     match outcome {
         Ok(()) => Reply::Done,
+        Err(refusal) => Reply::Refused(refusal.refusal()),
+    }
+}
+
+/// The reply to a command that makes a group.
+fn made_or_refused<A: Allocator>(outcome: Result<GroupNo, GroupRefusal>) -> Reply<A>
+    ensures { reply_told result ≡ reply_to group_cause (λ group. GroupMade group) outcome }
+{
+    match outcome {
+        Ok(group) => Reply::GroupMade(group),
+        Err(refusal) => Reply::Refused(refusal.refusal()),
+    }
+}
+
+/// The reply to a command that counts patches.
+fn count_or_refused<A: Allocator>(outcome: Result<u32, GroupRefusal>) -> Reply<A>
+    ensures { reply_told result ≡ reply_to group_cause (λ count. Count count) outcome }
+{
+    match outcome {
+        Ok(count) => Reply::Count(count),
         Err(refusal) => Reply::Refused(refusal.refusal()),
     }
 }

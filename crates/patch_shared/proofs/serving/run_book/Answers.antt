@@ -1,11 +1,19 @@
-use Rattle.std.proofs.Common.{refl, subst}
-use Rattle.patch_shared.specs.declared.working.End.{End}
-use Rattle.patch_shared.specs.Serving.{RisesAtEnd}
+use Rattle.std.proofs.Common.{ℕ, ◌∙◌, sym, ap, subst}
+use Rattle.std.specs.Prelude.{Vec, vec_len, sum_by}
+use Rattle.std.specs.declared.alloc.Global.{Global}
+use Rattle.patch_device.specs.SameDevice.{IsSameDevice}
+use Rattle.patch_history.specs.declared.commands.Reply.{Reply as CodeReply}
 use Rattle.patch_shared.proofs.serving.run_book.Goals as goal
 
-pub returns-in-GaveUp-clause-fault : goal.returns-in-GaveUp-clause-fault
-returns-in-GaveUp-clause-fault g c = (
-  c.in-Ok.joined.completed.device,
-  refl,
-  subst (λ (end : End). RisesAtEnd end (g.D.Device.fault_count c.args.device) (g.D.Device.fault_count c.in-Ok.joined.completed.device)) c.in-GaveUp.is c.in-Ok.ensures.gave_up,
-)
+pub returns-in-Ok : goal.returns-in-Ok
+returns-in-Ok g c =
+    let told = c.in-Ok.ensures in
+    let closed = c.closed.ensures in
+    record {
+      kept = closed.kept;
+      many = ◌∙◌ {A = ℕ} (ap (λ (rs : Vec (Vec (CodeReply Global) Global) Global). vec_len rs) closed.replies) told.many;
+      commands = ◌∙◌ {A = ℕ} closed.commands (◌∙◌ {A = ℕ} told.amount (ap (λ (rs : Vec (Vec (CodeReply Global) Global) Global). sum_by (λ list. vec_len list) rs.items) (sym closed.replies)));
+      writes = closed.writes;
+      device = subst (IsSameDevice g.D.Device c.args.device) (sym closed.device) told.device;
+      fault = tt;
+    }

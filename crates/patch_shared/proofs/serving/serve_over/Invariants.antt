@@ -1,4 +1,4 @@
-use Rattle.patch_shared.proofs.serving.serve.Given as goal
+use Rattle.patch_shared.proofs.serving.serve_over.Given as goal
 
 abbrev pub ghosts-run_book-C-Ledger : goal.ghosts-run_book-C-Ledger
 ghosts-run_book-C-Ledger g a = record { name = a.blanks.0.name; parts = a.blanks.0.parts }

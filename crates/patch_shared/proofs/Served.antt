@@ -1,0 +1,90 @@
+-- What is left of writers that were served, and faults with a device.
+use Rattle.std.proofs.Common.{◌≡◌, ◌≤◌, ◌∙◌, ℕ, inl, inr, refl, sym, ap, subst, length, arith}
+use Rattle.std.specs.Prelude.{List, Option, None, Result, Ok, Err, IfOk, IfErr, Vec, vec_len, sum_by}
+use Rattle.std.specs.declared.alloc.Global.{Global}
+use Rattle.patch_device.specs.declared.devices.Device.{Ghosts}
+use Rattle.patch_device.specs.SameDevice.{IsSameDevice, same_both}
+use Rattle.patch_cache.specs.Waves.{HasGivenUp}
+use Rattle.patch_history.specs.declared.commands.Reply.{Reply as CodeReply}
+use Rattle.patch_history.specs.Command.{Command}
+use Rattle.patch_store.specs.Flushing.{HoldCached}
+use Rattle.patch_shared.specs.declared.faults.Cause.{Cause}
+use Rattle.patch_shared.specs.declared.faults.Cause.TheVariants as cause
+use Rattle.patch_shared.specs.declared.faults.ServeFault.{ServeFault}
+use Rattle.patch_shared.specs.declared.serving.Finished.{Finished}
+use Rattle.patch_shared.specs.Kept.{Book, IsKept, run_of}
+use Rattle.patch_shared.specs.Telling.{AreTold, IsSettled, replies_in}
+use Rattle.patch_shared.specs.Serving.{IsFaultWith, IsGivenBack, IsServed, book_of}
+
+-- what holds of the result by another fact of it
+pub also : {T E : Type 0} → (P Q : T → Type 0) (r : Result T E) → ((x : T) → P x → Q x) → IfOk r P → IfOk r Q
+also P Q (Ok x) f h = f x h
+also P Q (Err e) f h = tt
+
+also_err : {T E : Type 0} → (P Q : E → Type 0) (r : Result T E) → ((x : E) → P x → Q x) → IfErr r P → IfErr r Q
+also_err P Q (Ok x) f h = tt
+also_err P Q (Err e) f h = f e h
+
+-- Faults.
+
+more : (first before now : ℕ) → first ≤ before → HasGivenUp before now → HasGivenUp first now
+more first before now low (inl up) = inl (omega arith)
+more first before now low (inr top) = inr top
+
+-- a fault that rests on a rise rests on one from before too
+given_back : {D : Type 0} (g : Ghosts D) (first before : ℕ) (why : Cause) (back : Option D) → first ≤ before → IsGivenBack g before why back → IsGivenBack g first why back
+given_back g first before (cause.DeviceGaveUp block) back low h = (h.0, h.1, more first before (g.fault_count h.0) low h.2)
+given_back g first before cause.Disagreed back low h = h
+given_back g first before (cause.ReadBack block) back low h = h
+given_back g first before cause.NoThread back low h = h
+given_back g first before cause.OutOfMemory back low h = h
+
+pub fault_before : {T D : Type 0} (g : Ghosts D) (first mid : D) (r : Result T (ServeFault D)) → IsSameDevice g first mid
+    → IfErr r (IsFaultWith g mid) → IfErr r (IsFaultWith g first)
+fault_before g first mid r same = also_err _ _ r (λ fault is. given_back g (g.fault_count first) (g.fault_count mid) fault.cause fault.device same.faults is)
+
+none_back : {D : Type 0} (g : Ghosts D) (before : ℕ) (why : Cause) → ((block : ℕ) → why ≡ cause.DeviceGaveUp block → ⊥) → IsGivenBack g before why None
+none_back g before (cause.DeviceGaveUp block) other = absurd (other block refl)
+none_back g before cause.Disagreed other = refl
+none_back g before (cause.ReadBack block) other = refl
+none_back g before cause.NoThread other = refl
+none_back g before cause.OutOfMemory other = refl
+
+-- with a cause of which the device is none no device comes back
+pub fault_without : {D : Type 0} (g : Ghosts D) (before : ℕ) (why : Cause) (fault : ServeFault D) → ((block : ℕ) → why ≡ cause.DeviceGaveUp block → ⊥)
+    → fault.cause ≡ why → fault.device ≡ None → IsGivenBack g before fault.cause fault.device
+fault_without g before why fault other is none =
+    subst (λ w. IsGivenBack g before w fault.device) (sym is) (subst (IsGivenBack g before why) (sym none) (none_back g before why other))
+
+-- What is left.
+
+pub served_so : {D : Type 0} (g : Ghosts D) (book : Book) (device : D) (replies : Vec (Vec (CodeReply Global) Global) Global) (opening : List (List ℕ))
+    (jobs : List (List Command)) (r : Result (Finished D) (ServeFault D)) → IfOk r (λ f. book_of f ≡ book) → IfOk r (λ f. f.replies ≡ replies)
+    → (g.is_honest device → IfOk r (λ f. HoldCached (run_of book) (g.contents f.device))) → IfOk r (λ f. IsSameDevice g device f.device)
+    → book.opening ≡ opening → IsKept book → AreTold book.calls jobs (replies_in replies.items) → length book.calls ≡ sum_by (λ list. vec_len list) replies.items
+    → IsSettled (run_of book) → IfOk r (IsServed g device opening jobs)
+served_so g book device replies opening jobs (Ok f) is same holds kind on kept told all settled = record {
+  opening_is = ap (λ (b : Book). b.opening) is ∙ on;
+  kept = subst IsKept (sym is) kept;
+  told = subst (λ (b : Book). AreTold b.calls jobs (replies_in f.replies.items)) (sym is)
+      (subst (λ (rs : Vec (Vec (CodeReply Global) Global) Global). AreTold book.calls jobs (replies_in rs.items)) (sym same) told);
+  all = ap (λ (b : Book). length b.calls) is ∙ all
+      ∙ ap (λ (rs : Vec (Vec (CodeReply Global) Global) Global). sum_by (λ list. vec_len list) rs.items) (sym same);
+  settled = subst (λ (b : Book). IsSettled (run_of b)) (sym is) settled;
+  holds = λ honest. subst (λ (b : Book). HoldCached (run_of b) (g.contents f.device)) (sym is) (holds (kind.honesty.1 honest));
+  same = kind;
+}
+served_so g book device replies opening jobs (Err fault) is same holds kind on kept told all settled = tt
+
+-- and of a device from before
+pub served_before : {D : Type 0} (g : Ghosts D) (first mid : D) (opening : List (List ℕ)) (jobs : List (List Command)) (r : Result (Finished D) (ServeFault D))
+    → IsSameDevice g first mid → IfOk r (IsServed g mid opening jobs) → IfOk r (IsServed g first opening jobs)
+served_before g first mid opening jobs r same = also _ _ r (λ f is. record {
+  opening_is = is.opening_is;
+  kept = is.kept;
+  told = is.told;
+  all = is.all;
+  settled = is.settled;
+  holds = is.holds;
+  same = same_both g first mid f.device same is.same;
+})
