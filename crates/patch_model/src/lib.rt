@@ -23,8 +23,3 @@ pub use piling::pile;
 pub use refusals::{OutOfMemory, Refusal, RefusalKind};
 pub use refuses::Refuses;
 pub use steps::{Step, Steps};
-
-#[cfg(test)]
-mod rows;
-#[cfg(test)]
-mod tests;

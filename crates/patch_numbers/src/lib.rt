@@ -2,7 +2,5 @@
 #![tactic(auto)]
 
 mod number_lists;
-#[cfg(test)]
-mod tests;
 
 pub use number_lists::NumberList;

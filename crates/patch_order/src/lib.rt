@@ -2,7 +2,5 @@
 #![tactic(auto)]
 
 mod orders;
-#[cfg(test)]
-mod tests;
 
 pub use orders::Order;

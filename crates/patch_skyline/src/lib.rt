@@ -2,7 +2,5 @@
 #![tactic(auto)]
 
 mod skylines;
-#[cfg(test)]
-mod tests;
 
 pub use skylines::{Skyline, Span};

@@ -3,7 +3,5 @@
 
 mod pages;
 mod tables;
-#[cfg(test)]
-mod tests;
 
 pub use tables::Table;

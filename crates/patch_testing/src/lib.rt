@@ -3,8 +3,6 @@
 
 mod blocks;
 mod heaps;
-#[cfg(test)]
-mod tests;
 
 pub use blocks::zeros;
 pub use heaps::{Ballast, HEAP, fill, hole_of};

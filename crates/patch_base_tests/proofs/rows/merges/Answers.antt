@@ -4,7 +4,7 @@ use Rattle.std.specs.Prelude.{IsTrue}
 use Rattle.patch_model.specs.State.{entries_of}
 use Rattle.patch_model.specs.Dependency.{class_depends, Path, one, onward}
 use Rattle.patch_model.specs.Rows.{beside}
-use Rattle.patch_model.proofs.rows.merges.Goals as goal
+use Rattle.patch_base_tests.proofs.rows.merges.Goals as goal
 
 none_depends : (a b : ℕ) → IsTrue (class_depends (entries_of beside) a b) → ⊥
 none_depends a b h = grind (arith, nat_tests)

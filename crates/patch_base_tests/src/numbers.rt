@@ -1,6 +1,7 @@
 //! Numbers put into lists that are short, long, and long again.
-use super::*;
+use crate::expecting::expect_eq;
 use patch_model::PatchNo;
+use patch_numbers::NumberList;
 use std::test::Fail;
 
 const NUMBERS: [PatchNo; 5] = [PatchNo(9), PatchNo(3), PatchNo(7), PatchNo(1), PatchNo(4)];
@@ -33,11 +34,11 @@ fn numbers_stand_in_the_order_they_came(rt: HostRuntime) -> Result<(), Fail> {
 fn short_and_long_lists_are_sorted(rt: HostRuntime) -> Result<(), Fail> {
     let mut few = NumberList::from_slice(rt.alloc(), &NUMBERS[..2])?;
     few.sort();
-    assert_eq!(rt; few.as_slice(), [PatchNo(3), PatchNo(9)].as_slice());
+    expect_eq(&rt, &few.as_slice(), &[PatchNo(3), PatchNo(9)].as_slice());
     let mut many = NumberList::from_slice(rt.alloc(), &NUMBERS)?;
     many.sort();
     let rising = [PatchNo(1), PatchNo(3), PatchNo(4), PatchNo(7), PatchNo(9)];
-    assert_eq!(rt; many.as_slice(), rising.as_slice());
+    expect_eq(&rt, &many.as_slice(), &rising.as_slice());
     assert!(rt; NumberList::new(rt.alloc()).as_slice().is_empty());
     Ok(())
 }
@@ -48,7 +49,7 @@ fn room_that_was_made_is_enough(rt: HostRuntime) -> Result<(), Fail> {
     list.reserve(2)?;
     list.reserve(5)?;
     list.extend_from_slice(&NUMBERS)?;
-    assert_eq!(rt; list.as_slice(), NUMBERS.as_slice());
+    expect_eq(&rt, &list.as_slice(), &NUMBERS.as_slice());
     Ok(())
 }
 
@@ -59,6 +60,6 @@ fn numbers_come_one_by_one_where_there_is_room(rt: HostRuntime) -> Result<(), Fa
         list.reserve(1)?;
         list.push_reserved(no);
     }
-    assert_eq!(rt; list.as_slice(), NUMBERS.as_slice());
+    expect_eq(&rt, &list.as_slice(), &NUMBERS.as_slice());
     Ok(())
 }

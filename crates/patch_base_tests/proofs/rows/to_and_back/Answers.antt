@@ -1,7 +1,7 @@
 use Rattle.std.proofs.Common.{[], ◌∷◌, refl}
 use Rattle.patch_model.specs.History.{history_of}
 use Rattle.patch_model.specs.Rows.{overlapping}
-use Rattle.patch_model.proofs.rows.to_and_back.Goals as goal
+use Rattle.patch_base_tests.proofs.rows.to_and_back.Goals as goal
 
 pub returns : goal.returns
 returns c = record {

@@ -1,7 +1,8 @@
 //! Blocks of zeros, and heaps that are full but for one hole.
-use super::*;
+use crate::expecting::expect_eq;
 use linked_list_allocator::LocalHeap;
 use patch_model::BLOCK;
+use patch_testing::{HEAP, fill, hole_of, zeros};
 use std::alloc::Global;
 use std::process::Abort;
 use std::test::Fail;
@@ -9,9 +10,9 @@ use std::test::Fail;
 #[test]
 fn blocks_are_zeros(rt: HostRuntime) -> Result<(), Fail> {
     let blocks = zeros(rt.alloc(), 3)?;
-    assert_eq!(rt; blocks.len(), 3);
+    expect_eq(&rt, &blocks.len(), &3);
     for block in &blocks {
-        assert_eq!(rt; block.as_slice(), [0; BLOCK].as_slice());
+        expect_eq(&rt, &block.as_slice(), &[0; BLOCK].as_slice());
     }
     Ok(())
 }
@@ -42,7 +43,7 @@ fn look_at_holes(rt: &impl Abort, alloc: Global, heap: &LocalHeap) -> Result<(),
 fn a_full_heap_has_one_hole(rt: HostRuntime) -> Result<(), Fail> {
     let heap = LocalHeap::new(rt.alloc(), HEAP)?;
     look_at_holes(&rt, rt.alloc(), &heap)?;
-    assert_eq!(rt; heap.used(), 0);
+    expect_eq(&rt, &heap.used(), &0);
     Ok(())
 }
 
@@ -56,7 +57,7 @@ fn holes_grow(rt: HostRuntime) -> Result<(), Fail> {
         (1_064, 65_024),
         (2_000, 65_024),
     ] {
-        assert_eq!(rt; hole_of(turn), hole, "turn {turn}");
+        expect_eq(&rt, &(&turn, &hole_of(turn)), &(&turn, &hole));
     }
     Ok(())
 }

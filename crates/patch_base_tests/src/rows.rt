@@ -83,7 +83,7 @@ fn at_full_length()
 fn to_and_back()
     ensures permitted { IsPermitted (history_of overlapping 0) [] (Take 1 ∷ Take 0 ∷ Back 0 ∷ Back 1 ∷ []) }
 {
-    crate::laws::holding_is_tested();
+    patch_model::laws::holding_is_tested();
 }
 
 // Which patches are hard: those that ask for it, over durable ones and hard ones of their block.

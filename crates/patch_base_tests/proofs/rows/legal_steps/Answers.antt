@@ -8,7 +8,7 @@ use Rattle.patch_model.specs.Step.{Merge, Send}
 use Rattle.patch_model.specs.Legal.{IsLegalCreate}
 use Rattle.patch_model.specs.Dependency.{class_depends, Path, one, onward}
 use Rattle.patch_model.specs.Rows.{patch}
-use Rattle.patch_model.proofs.rows.legal_steps.Goals as goal
+use Rattle.patch_base_tests.proofs.rows.legal_steps.Goals as goal
 
 -- the two patches before they are merged
 abbrev two : State

@@ -1,5 +1,6 @@
 //! Numbers are put in and taken out at the front, in the middle and behind the last.
-use super::*;
+use crate::expecting::expect_eq;
+use patch_order::Order;
 use std::test::Fail;
 
 #[test]
@@ -9,10 +10,10 @@ fn numbers_stand_where_they_are_put(rt: HostRuntime) -> Result<(), Fail> {
     order.insert(0, 3);
     order.insert(2, 9);
     order.insert(1, 4);
-    assert_eq!(rt; order.as_slice(), [3, 4, 5, 9].as_slice());
-    assert_eq!(rt; order.len(), 4);
+    expect_eq(&rt, &order.as_slice(), &[3, 4, 5, 9].as_slice());
+    expect_eq(&rt, &order.len(), &4);
     order.remove(3);
     order.remove(0);
-    assert_eq!(rt; order.as_slice(), [4, 5].as_slice());
+    expect_eq(&rt, &order.as_slice(), &[4, 5].as_slice());
     Ok(())
 }

@@ -1,6 +1,7 @@
 //! Spans laid over others, side by side and across each other, compared with a last writer noted for each byte.
-use super::*;
+use crate::expecting::expect_eq;
 use patch_model::PatchNo;
+use patch_skyline::{Skyline, Span};
 use std::alloc::AllocError;
 use std::test::Fail;
 
@@ -72,8 +73,8 @@ fn one_span_is_the_only_top(rt: HostRuntime) -> Result<(), Fail> {
         no: PatchNo(3),
     };
     let line = Skyline::of(rt.alloc(), top)?;
-    assert_eq!(rt; line.tops(7, 20).len(), 1);
-    assert_eq!(rt; writer_at(&line, 7), Some(PatchNo(3)));
+    expect_eq(&rt, &line.tops(7, 20).len(), &1);
+    expect_eq(&rt, &writer_at(&line, 7), &Some(PatchNo(3)));
     assert!(rt; line.tops(8, 20).is_empty());
     assert!(rt; line.tops(0, 4).is_empty());
     Ok(())
@@ -94,11 +95,11 @@ fn a_span_is_laid_where_room_was_made(rt: HostRuntime) -> Result<(), Fail> {
     };
     let mut line = Skyline::of(rt.alloc(), below)?;
     line.reserve()?;
-    assert_eq!(rt; line.tops(0, 20).len(), 1);
+    expect_eq(&rt, &line.tops(0, 20).len(), &1);
     line.lay_reserved(above);
-    assert_eq!(rt; line.tops(0, 20).len(), 3);
-    assert_eq!(rt; writer_at(&line, 4), Some(PatchNo(3)));
-    assert_eq!(rt; writer_at(&line, 5), Some(PatchNo(4)));
-    assert_eq!(rt; writer_at(&line, 7), Some(PatchNo(3)));
+    expect_eq(&rt, &line.tops(0, 20).len(), &3);
+    expect_eq(&rt, &writer_at(&line, 4), &Some(PatchNo(3)));
+    expect_eq(&rt, &writer_at(&line, 5), &Some(PatchNo(4)));
+    expect_eq(&rt, &writer_at(&line, 7), &Some(PatchNo(3)));
     Ok(())
 }

@@ -1,0 +1,19 @@
+//! Tests of the crates below the views: words of the cache, orders, tables, skylines, lists of numbers, and what tests share.
+#![tactic(auto)]
+
+#[cfg(test)]
+mod expecting;
+#[cfg(test)]
+mod model;
+#[cfg(test)]
+mod numbers;
+#[cfg(test)]
+mod order;
+#[cfg(test)]
+mod rows;
+#[cfg(test)]
+mod skyline;
+#[cfg(test)]
+mod table;
+#[cfg(test)]
+mod testing;
