@@ -1,6 +1,5 @@
 //! Runs of the program: what it answers to words and a script.
-use crate::running::{Errors, run};
-use crate::words;
+use patch_program::{Errors, run, words};
 use std::alloc::{AllocError, Global};
 use std::env::{Env, FillError};
 use std::fs::OpenFile;

@@ -2,8 +2,8 @@
 ghost use Rattle.std.specs.Prelude.{◌≡◌, ◌≢◌, ◌<◌, ◌≤◌, IfErr, IfSome};
 ghost use Rattle.std.specs.IoError.{error_kind};
 ghost use Rattle.std.specs.declared.io.ErrorKind.TheVariants.{InvalidData};
-ghost use Rattle.patch_tool.specs.Asked.{AreWriters, MayBeAsked};
-ghost use Rattle.patch_tool.specs.Ending.{HasStarved, IsExitOf};
+ghost use Rattle.patch_program.specs.Asked.{AreWriters, MayBeAsked};
+ghost use Rattle.patch_program.specs.Ending.{HasStarved, IsExitOf};
 
 use crate::arguments;
 use crate::arguments::Request;

@@ -1,11 +1,13 @@
 //! The command line.
 ghost use Rattle.std.specs.Prelude.{IfOk, IfSome};
-ghost use Rattle.patch_tool.specs.Asked.{AreWriters, MayBeAsked};
+ghost use Rattle.patch_program.specs.Asked.{AreWriters, MayBeAsked};
 
 use clap::{Arg, ArgMatches, Command, Error, value_parser};
 use patch_frame::{Format, Geometry};
 use patch_model::MAX_BLOCKS;
 use std::alloc::Global;
+use std::env::Env;
+use std::io;
 
 /// How many blocks there are where the command line doesn't say.
 const DEFAULT_BLOCKS: &str = "8";
@@ -61,6 +63,12 @@ pub enum Request<'a> {
     Upgrade {
         path: &'a str,
     },
+}
+
+/// The words of the command line. One that is no UTF-8 text is invalid data.
+pub fn words(rt: &(impl Env + AllocGlobal)) -> io::Result<Vec<String>> {
+    let words = std::env::args(rt)?.collect(rt.alloc())?;
+    Ok(words)
 }
 
 // The arguments.
@@ -125,75 +133,68 @@ fn named<'a>(alloc: Global, name: &'a str, about: &'a str, after_help: &'a str) 
         .after_help(after_help)
 }
 
+/// The command with one argument more.
+fn with<'a>(command: Result<Command<'a>, Error>, argument: Arg<'a>) -> Result<Command<'a>, Error> {
+    Ok(command?.arg(argument)?)
+}
+
+/// The program with one command more.
+fn and<'a>(
+    program: Result<Command<'a>, Error>,
+    command: Result<Command<'a>, Error>,
+) -> Result<Command<'a>, Error> {
+    let command = command?;
+    Ok(program?.subcommand(command)?)
+}
+
 fn replay_command<'a>(alloc: Global) -> Result<Command<'a>, Error> {
     let about =
         "Replays a script of patches, sends and views from standard input, on blocks of zeros";
-    Ok(named(alloc, "replay", about, AFTER_REPLAY).arg(blocks(alloc))?)
+    let command = named(alloc, "replay", about, AFTER_REPLAY);
+    with(Ok(command), blocks(alloc))
 }
 
 fn make_command<'a>(alloc: Global) -> Result<Command<'a>, Error> {
     let about = "Makes a file that holds an empty store, where there is nothing of its name";
-    let command = named(alloc, "make", about, AFTER_MAKE).arg(file(alloc))?;
-    let command = command.arg(index(alloc))?;
-    let command = command.arg(extents(alloc))?;
-    Ok(command.arg(length(alloc))?)
+    let command = named(alloc, "make", about, AFTER_MAKE);
+    let command = with(Ok(command), file(alloc));
+    let command = with(command, index(alloc));
+    let command = with(command, extents(alloc));
+    with(command, length(alloc))
 }
 
 fn run_command<'a>(alloc: Global) -> Result<Command<'a>, Error> {
     let about =
         "Runs a script of puts, gets and deletes from standard input on the store of a file";
-    let command = named(alloc, "run", about, AFTER_RUN).arg(file(alloc))?;
-    Ok(command.arg(writers(alloc))?)
+    let command = named(alloc, "run", about, AFTER_RUN);
+    with(with(Ok(command), file(alloc)), writers(alloc))
 }
 
 fn check_command<'a>(alloc: Global) -> Result<Command<'a>, Error> {
     let about = "Opens the store of a file, and reports what it holds; writes nothing to it";
-    Ok(named(alloc, "check", about, AFTER_CHECK).arg(file(alloc))?)
+    let command = named(alloc, "check", about, AFTER_CHECK);
+    with(Ok(command), file(alloc))
 }
 
 fn upgrade_command<'a>(alloc: Global) -> Result<Command<'a>, Error> {
     let about = "Makes the store of a file one of version 2, which takes longer values";
-    Ok(named(alloc, "upgrade", about, AFTER_UPGRADE).arg(file(alloc))?)
+    let command = named(alloc, "upgrade", about, AFTER_UPGRADE);
+    with(Ok(command), file(alloc))
 }
 
 fn program<'a>(alloc: Global) -> Result<Command<'a>, Error> {
     let about =
         "Keeps keys and values in a file that opens after every crash, and replays scripts of patches";
-    Ok(
-        named(alloc, "fstch", about, AFTER_HELP)
-            .version("0.1.0")
-            .bin_name("fstch")?
-            .subcommand_required(true),
-    )
-}
-
-fn with_replay<'a>(alloc: Global, program: Command<'a>) -> Result<Command<'a>, Error> {
-    Ok(program.subcommand(replay_command(alloc)?)?)
-}
-
-fn with_make<'a>(alloc: Global, program: Command<'a>) -> Result<Command<'a>, Error> {
-    Ok(program.subcommand(make_command(alloc)?)?)
-}
-
-fn with_run<'a>(alloc: Global, program: Command<'a>) -> Result<Command<'a>, Error> {
-    Ok(program.subcommand(run_command(alloc)?)?)
-}
-
-fn with_check<'a>(alloc: Global, program: Command<'a>) -> Result<Command<'a>, Error> {
-    Ok(program.subcommand(check_command(alloc)?)?)
-}
-
-fn with_upgrade<'a>(alloc: Global, program: Command<'a>) -> Result<Command<'a>, Error> {
-    Ok(program.subcommand(upgrade_command(alloc)?)?)
+    let program = named(alloc, "fstch", about, AFTER_HELP).version("0.1.0");
+    Ok(program.bin_name("fstch")?.subcommand_required(true))
 }
 
 fn command<'a>(alloc: Global) -> Result<Command<'a>, Error> {
-    let program = program(alloc)?;
-    let program = with_make(alloc, program)?;
-    let program = with_run(alloc, program)?;
-    let program = with_check(alloc, program)?;
-    let program = with_upgrade(alloc, program)?;
-    with_replay(alloc, program)
+    let program = and(program(alloc), make_command(alloc));
+    let program = and(program, run_command(alloc));
+    let program = and(program, check_command(alloc));
+    let program = and(program, upgrade_command(alloc));
+    and(program, replay_command(alloc))
 }
 
 // What was asked for.

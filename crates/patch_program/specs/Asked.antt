@@ -1,8 +1,8 @@
 -- What a command line may ask for.
 use Rattle.std.specs.Prelude.{ℕ, ◌<◌, ◌≤◌, IfSome}
 use Rattle.patch_model.specs.declared.limits.TheConstants.{MAX_BLOCKS}
-use Rattle.patch_tool.specs.declared.arguments.Request.{Request}
-use Rattle.patch_tool.specs.declared.arguments.Request.TheVariants.{Replay, Make, Run, Check, Upgrade}
+use Rattle.patch_program.specs.declared.arguments.Request.{Request}
+use Rattle.patch_program.specs.declared.arguments.Request.TheVariants.{Replay, Make, Run, Check, Upgrade}
 
 -- so many writers may have a thread each
 abbrev pub AreWriters : ℕ → Type 0
