@@ -5,6 +5,8 @@
 #[cfg(test)]
 mod agreeing;
 #[cfg(test)]
+mod expecting;
+#[cfg(test)]
 mod rows;
 #[cfg(test)]
 mod tests;

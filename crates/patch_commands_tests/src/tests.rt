@@ -1,4 +1,5 @@
 //! Lines of each form, what is wrong with those that aren't readable, limits, and the texts of replies.
+use crate::expecting::expect_eq;
 use patch_commands::*;
 use patch_history::Reply;
 use patch_model::{Bytes, GroupNo, Items, OutOfMemory, Refusal, RefusalKind};
@@ -75,7 +76,7 @@ fn forms_of(alloc: Global, text: &[u8]) -> Result<String, Fail> {
 #[test]
 fn reads_fields(rt: HostRuntime) -> Result<(), Fail> {
     let forms = forms_of(rt.alloc(), LINES.as_bytes())?;
-    assert_eq!(rt; forms.as_str(), FORMS);
+    expect_eq(&rt, &forms.as_str(), &FORMS);
     Ok(())
 }
 
@@ -221,19 +222,21 @@ fn defect_of(alloc: Global, text: &[u8]) -> Option<Defect> {
 fn expect_words(rt: &impl Abort, alloc: Global, line: &str, want: &str) -> Result<(), Fail> {
     let defect = defect_of(alloc, line.as_bytes()).ok_or("readable")?;
     let words = format!(in alloc; "{defect}")?;
-    assert_eq!(rt; words.as_str(), want, "{line}");
+    expect_eq(rt, &(&line, &words.as_str()), &(&line, &want));
+    Ok(())
+}
+
+fn expect_words_of_each(rt: &impl Abort, alloc: Global, rows: &[(&str, &str)]) -> Result<(), Fail> {
+    for (line, want) in rows {
+        expect_words(rt, alloc, *line, *want)?;
+    }
     Ok(())
 }
 
 #[test]
 fn says_what_is_wrong(rt: HostRuntime) -> Result<(), Fail> {
-    for (line, want) in UNREADABLE {
-        expect_words(&rt, rt.alloc(), line, want)?;
-    }
-    for (line, want) in UNREADABLE_OTHERS {
-        expect_words(&rt, rt.alloc(), line, want)?;
-    }
-    Ok(())
+    expect_words_of_each(&rt, rt.alloc(), &UNREADABLE)?;
+    expect_words_of_each(&rt, rt.alloc(), &UNREADABLE_OTHERS)
 }
 
 // Blank lines ask for nothing and count, and lines behind the first unreadable one don't matter.
@@ -254,8 +257,8 @@ const SCRIPTS: [(&[u8], Reading); 6] = [
 
 #[test]
 fn reads_whole_scripts(rt: HostRuntime) {
-    for (index, (text, want)) in SCRIPTS.into_iter().enumerate() {
-        assert_eq!(rt; read(rt.alloc(), text), want, "script {index}");
+    for (index, (text, want)) in SCRIPTS.iter().enumerate() {
+        expect_eq(&rt, &(&index, &read(rt.alloc(), *text)), &(&index, want));
     }
 }
 
@@ -334,10 +337,18 @@ fn read_long(alloc: Global, long: &Long) -> Result<Reading, AllocError> {
 fn reads_long_values(rt: HostRuntime) -> Result<(), Fail> {
     for (index, long) in LONG.iter().enumerate() {
         let got = read_long(rt.alloc(), long)?;
-        assert_eq!(rt; got, long.want, "put {index}");
+        expect_eq(&rt, &(&index, &got), &(&index, &long.want));
     }
     Ok(())
 }
+
+// A piece, how often it is repeated, and what it makes.
+const VALUES: [(&[u8], u32, &[u8]); 4] = [
+    (&[1, 2], 3, &[1, 2, 1, 2, 1, 2]),
+    (&[7], 1, &[7]),
+    (&[7], 0, &[]),
+    (&[], 4_294_967_295, &[]),
+];
 
 fn expect_value(
     rt: &impl Abort,
@@ -347,16 +358,15 @@ fn expect_value(
     want: &[u8],
 ) -> Result<(), OutOfMemory> {
     let value = laid_out(alloc, piece, times)?;
-    assert_eq!(rt; value.as_slice(), want);
+    expect_eq(rt, &value.as_slice(), &want);
     Ok(())
 }
 
 #[test]
 fn lays_values_out(rt: HostRuntime) -> Result<(), Fail> {
-    expect_value(&rt, rt.alloc(), &[1, 2], 3, &[1, 2, 1, 2, 1, 2])?;
-    expect_value(&rt, rt.alloc(), &[7], 1, &[7])?;
-    expect_value(&rt, rt.alloc(), &[7], 0, &[])?;
-    expect_value(&rt, rt.alloc(), &[], 4_294_967_295, &[])?;
+    for (piece, times, want) in VALUES.iter() {
+        expect_value(&rt, rt.alloc(), *piece, *times, *want)?;
+    }
     Ok(())
 }
 
@@ -367,9 +377,10 @@ fn length_of(alloc: Global, piece: &[u8], times: u32) -> Option<usize> {
 
 #[test]
 fn lays_a_long_value_out(rt: HostRuntime) {
-    assert_eq!(rt;
-        length_of(rt.alloc(), &[1, 2, 3, 4], 262_144),
-        Some(MAX_VALUE_TEXT)
+    expect_eq(
+        &rt,
+        &length_of(rt.alloc(), &[1, 2, 3, 4], 262_144),
+        &Some(MAX_VALUE_TEXT),
     );
 }
 
@@ -431,14 +442,14 @@ fn text_of(alloc: Global, told: Told) -> Result<String, AllocError> {
 
 fn expect_text(rt: &impl Abort, alloc: Global, told: Told, want: &str) -> Result<(), Fail> {
     let text = text_of(alloc, told)?;
-    assert_eq!(rt; text.as_str(), want);
+    expect_eq(rt, &text.as_str(), &want);
     Ok(())
 }
 
 #[test]
 fn writes_replies(rt: HostRuntime) -> Result<(), Fail> {
-    for (told, want) in TOLD {
-        expect_text(&rt, rt.alloc(), told, want)?;
+    for (told, want) in TOLD.iter() {
+        expect_text(&rt, rt.alloc(), *told, *want)?;
     }
     Ok(())
 }
@@ -446,6 +457,6 @@ fn writes_replies(rt: HostRuntime) -> Result<(), Fail> {
 #[test]
 fn tells_a_sync(rt: HostRuntime) -> Result<(), Fail> {
     let text = synced_line(rt.alloc())?;
-    assert_eq!(rt; text.as_str(), "synced\n");
+    expect_eq(&rt, &text.as_str(), &"synced\n");
     Ok(())
 }

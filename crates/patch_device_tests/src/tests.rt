@@ -1,8 +1,9 @@
 //! Devices in memory, with a failing call and over a file, and each refusal in its turn.
 use linked_list_allocator::LocalHeap;
 use patch_device::*;
-use patch_model::{BLOCK, RefusalKind, Refuses};
-use std::alloc::{AllocError, Allocator, Global};
+use patch_model::{BLOCK, BlockBytes, Refuses};
+use std::alloc::{Allocator, Global};
+use std::fmt::{Debug, Display};
 use std::fs;
 use std::fs::File;
 use std::process::Abort;
@@ -12,6 +13,11 @@ mod faulty;
 mod files;
 mod full_disk;
 mod memory;
+
+// Ends the test, telling both, unless what came is what is wanted. A call takes the prover less than `assert_eq!` where it stands.
+fn expect_eq<T: PartialEq + Debug>(rt: &impl Abort, got: &T, want: &T) {
+    assert_eq!(rt; *got, *want);
+}
 
 // Whether the device's block holds this byte throughout.
 fn is_filled<D: Device>(device: &mut D, n: u32, byte: u8) -> bool {
@@ -23,6 +29,12 @@ fn expect_filled<D: Device>(rt: &impl Abort, device: &mut D, n: u32, byte: u8) {
     assert!(rt; is_filled(device, n, byte), "block {n}, byte {byte}");
 }
 
+fn expect_all_filled<D: Device>(rt: &impl Abort, device: &mut D, rows: &[(u32, u8)]) {
+    for (n, byte) in rows {
+        expect_filled(rt, device, *n, *byte);
+    }
+}
+
 // Writes a block of this byte.
 fn expect_write<D: Device>(
     rt: &impl Abort,
@@ -31,15 +43,21 @@ fn expect_write<D: Device>(
     byte: u8,
     want: Result<(), DeviceRefusal>,
 ) {
-    assert_eq!(rt;
-        device.write(n, &[byte; BLOCK]),
-        want,
-        "block {n}, byte {byte}"
+    expect_eq(
+        rt,
+        &(&byte, &device.write(n, &[byte; BLOCK])),
+        &(&byte, &want),
     );
 }
 
 fn expect_unread<D: Device>(rt: &impl Abort, device: &mut D, n: u32, want: DeviceRefusal) {
-    assert_eq!(rt; device.read(n, &mut [1; BLOCK]), Err(want));
+    expect_eq(rt, &device.read(n, &mut [1; BLOCK]), &Err(want));
+}
+
+// A block that isn't there is neither written nor read.
+fn expect_no_block<D: Device>(rt: &impl Abort, device: &mut D, n: u32) {
+    expect_write(rt, device, n, 1, Err(DeviceRefusal::NoSuchBlock));
+    expect_unread(rt, device, n, DeviceRefusal::NoSuchBlock);
 }
 
 // How many blocks a load of the device gives.
@@ -55,11 +73,15 @@ fn expect_loaded<D: Device>(
     bytes: &[u8],
 ) -> Result<(), Fail> {
     let blocks = load(alloc, device)?;
-    assert_eq!(rt; blocks.len(), bytes.len());
-    for (block, byte) in blocks.iter().zip(bytes) {
-        assert_eq!(rt; block.as_slice(), [*byte; BLOCK].as_slice());
-    }
+    expect_blocks(rt, &blocks, bytes);
     Ok(())
+}
+
+fn expect_blocks(rt: &impl Abort, blocks: &[BlockBytes], bytes: &[u8]) {
+    expect_eq(rt, &blocks.len(), &bytes.len());
+    for (block, byte) in blocks.iter().zip(bytes) {
+        expect_eq(rt, &block.as_slice(), &[*byte; BLOCK].as_slice());
+    }
 }
 
 // An empty folder of the test's own.
@@ -75,55 +97,58 @@ fn make_file(rt: &HostRuntime, path: &str, length: u64) -> Result<(), Fail> {
     Ok(())
 }
 
-// Asserts the number and the name of a refusal, and its text, which is the name.
-fn expect_named(
+// The length of a file.
+fn expect_length(
     rt: &impl Abort,
-    shown: (u8, u8, &str),
-    told: Result<String, AllocError>,
-    want: (u8, &str),
+    files: &HostRuntime,
+    path: &str,
+    length: u64,
 ) -> Result<(), Fail> {
-    assert_eq!(rt; shown, (want.0, want.0, want.1));
-    assert_eq!(rt; told?.as_str(), want.1);
+    expect_eq(rt, &fs::metadata(files, path)?.len(), &length);
+    Ok(())
+}
+
+// The number of a refusal and of its kind, and its name, which is its text.
+fn expect_named<R: Refuses + Display + Copy>(
+    rt: &impl Abort,
+    alloc: Global,
+    refusal: R,
+    code: u8,
+    name: &str,
+) -> Result<(), Fail> {
+    expect_eq(rt, &refusal.kind().code(), &code);
+    expect_eq(rt, &refusal.code(), &code);
+    expect_eq(rt, &refusal.name(), &name);
+    expect_eq(rt, &format!(in alloc; "{refusal}")?.as_str(), &name);
+    Ok(())
+}
+
+fn expect_each_named<R: Refuses + Display + Copy>(
+    rt: &impl Abort,
+    alloc: Global,
+    rows: &[(R, u8, &str)],
+) -> Result<(), Fail> {
+    for (refusal, code, name) in rows {
+        expect_named(rt, alloc, *refusal, *code, name)?;
+    }
     Ok(())
 }
 
 #[test]
 fn refusals_have_their_numbers_names_and_texts(rt: HostRuntime) -> Result<(), Fail> {
-    for (refusal, number, text) in [
+    let of_devices = [
         (DeviceRefusal::NoSuchBlock, 2, "NoSuchBlock"),
         (DeviceRefusal::Fault, 3, "Fault"),
-    ] {
-        let shown = (refusal.kind().code(), refusal.code(), refusal.name());
-        expect_named(
-            &rt,
-            shown,
-            format!(in rt.alloc(); "{refusal}"),
-            (number, text),
-        )?;
-    }
-    for (refusal, number, text) in [
+    ];
+    expect_each_named(&rt, rt.alloc(), &of_devices)?;
+    let of_files = [
         (FileRefusal::Disk, 4, "Disk"),
         (FileRefusal::FileSize, 5, "FileSize"),
-    ] {
-        let shown = (refusal.kind().code(), refusal.code(), refusal.name());
-        expect_named(
-            &rt,
-            shown,
-            format!(in rt.alloc(); "{refusal}"),
-            (number, text),
-        )?;
-    }
-    for (refusal, number, text) in [
+    ];
+    expect_each_named(&rt, rt.alloc(), &of_files)?;
+    let of_loads = [
         (LoadFault::Fault, 3, "Fault"),
         (LoadFault::OutOfMemory, 1, "OutOfMemory"),
-    ] {
-        let shown = (refusal.kind().code(), refusal.code(), refusal.name());
-        expect_named(
-            &rt,
-            shown,
-            format!(in rt.alloc(); "{refusal}"),
-            (number, text),
-        )?;
-    }
-    Ok(())
+    ];
+    expect_each_named(&rt, rt.alloc(), &of_loads)
 }

@@ -1,4 +1,6 @@
 //! Worked appends, resets and reads in both versions, the limit of live patches, want of memory, and the texts of refusals.
+ghost use Rattle.std.specs.Prelude.{◌≡◌};
+
 use patch_cache::Cache;
 use patch_extent::{
     AppendRefusal, Appended, Extents, ExtentsFault, Place, ReadRefusal, ResetRefusal,
@@ -22,6 +24,14 @@ fn expect_equal<T: Copy + Debug + PartialEq>(rt: &impl Abort, what: &str, got: T
     assert_eq!(rt; got, want, "{what}");
 }
 
+fn write_records<A: Allocator + Copy>(blocks: &mut [BlockBytes<A>], records: &[u8]) {
+    if let Some(third) = blocks.get_mut(2) {
+        if records.len() <= BLOCK {
+            third.write(0, records);
+        }
+    }
+}
+
 // So many blocks of zeros, the third of which begins with these bytes.
 fn blocks_with<A: Allocator + Copy>(
     alloc: A,
@@ -29,11 +39,7 @@ fn blocks_with<A: Allocator + Copy>(
     records: &[u8],
 ) -> Result<Vec<BlockBytes<A>, A>, OutOfMemory> {
     let mut blocks = zeros(alloc, count)?;
-    if let Some(third) = blocks.get_mut(2) {
-        if records.len() <= BLOCK {
-            third.write(0, records);
-        }
-    }
+    write_records(&mut blocks, records);
     Ok(blocks)
 }
 
@@ -56,4 +62,67 @@ fn geometry_of(format: Format) -> Geometry {
         extents: 2,
         format,
     }
+}
+
+// A cache, with its groups and its extents.
+#[derive(Drop)]
+struct Bench {
+    alloc: Global,
+    cache: Cache,
+    groups: Groups,
+    extents: Extents,
+    // How many appends there were.
+    appends: u8,
+}
+
+// How many blocks a disk of this geometry has.
+fn count_blocks(rt: &impl Abort, geometry: Geometry) -> usize {
+    assert!(rt; geometry.is_valid());
+    geometry.block_count() as usize
+}
+
+fn open_extents(
+    rt: &impl Abort,
+    alloc: Global,
+    cache: &Cache,
+    geometry: Geometry,
+) -> Result<Extents, ExtentsFault> {
+    assert!(rt; geometry.is_valid());
+    assert!(rt; cache.blocks() == geometry.block_count());
+    Extents::open(alloc, cache, geometry)
+}
+
+fn open_bench(
+    rt: &impl Abort,
+    alloc: Global,
+    geometry: Geometry,
+    records: &[u8],
+) -> Result<Bench, Fail> {
+    let cache = open_cache(rt, alloc, count_blocks(rt, geometry), records)?;
+    let extents = open_extents(rt, alloc, &cache, geometry)?;
+    Ok(Bench {
+        alloc,
+        cache,
+        groups: Groups::new(alloc),
+        extents,
+        appends: 0,
+    })
+}
+
+// Appends these bytes, of which there is one at least.
+fn append_bytes<A: Allocator + Copy>(
+    cache: &mut Cache<A>,
+    groups: &mut Groups<A>,
+    extents: &mut Extents<A>,
+    writer: Option<WriterNo>,
+    extent: u32,
+    bytes: &[u8],
+    after: &[PatchNo],
+) -> Result<Appended, AppendRefusal>
+    ensures { extents.new.geometry ≡ extents.old.geometry }
+{
+    if bytes.is_empty() {
+        return Err(AppendRefusal::OutOfMemory);
+    }
+    extents.append(cache, groups, writer, extent, bytes, after)
 }

@@ -6,6 +6,7 @@ use patch_model::BlockBytes;
 use patch_replay::{Sink, Source};
 use patch_store::make;
 use std::alloc::Global;
+use std::fmt::Debug;
 use std::process::Abort;
 use std::test::Fail;
 
@@ -17,6 +18,11 @@ mod rows;
 mod scripts;
 mod tickers;
 mod writers;
+
+// Ends the test, telling both, unless what came is what is wanted. A call takes the prover less than `assert_eq!` where it stands.
+fn expect_eq<T: PartialEq + Debug>(rt: &impl Abort, got: &T, want: &T) {
+    assert_eq!(rt; *got, *want);
+}
 
 // One index block and two extents: 35 blocks.
 const SMALL: Geometry = Geometry {
@@ -43,8 +49,8 @@ fn failed(text: &'static str) -> End {
     End(Status::Failed, 4, text)
 }
 
-fn write_superblock(device: &mut MemDevice, superblock: &BlockBytes) -> Result<(), Fail> {
-    match device.write(0, superblock.as_slice()) {
+fn write_block(device: &mut MemDevice, n: u32, block: &BlockBytes) -> Result<(), Fail> {
+    match device.write(n, block.as_slice()) {
         Ok(()) => Ok(()),
         Err(_) => Err(Fail::from("a device in memory refused a write")),
     }
@@ -57,7 +63,7 @@ fn new_device(alloc: Global) -> Result<MemDevice, Fail> {
     };
     let mut device = MemDevice::new(alloc, COUNT)?;
     match blocks.first() {
-        Some(first) => write_superblock(&mut device, first)?,
+        Some(first) => write_block(&mut device, 0, first)?,
         None => return Err(Fail::from("a disk has no block")),
     }
     Ok(device)
@@ -65,9 +71,9 @@ fn new_device(alloc: Global) -> Result<MemDevice, Fail> {
 
 fn expect_end(rt: &impl Abort, ended: Status, text: &[u8], end: End) {
     let End(status, code, want) = end;
-    assert_eq!(rt; ended, status);
-    assert_eq!(rt; ended.code(), code);
-    assert_eq!(rt; text, want.as_bytes());
+    expect_eq(rt, &ended, &status);
+    expect_eq(rt, &ended.code(), &code);
+    expect_eq(rt, &text, &want.as_bytes());
 }
 
 // A script's run on a device ends so.
@@ -81,6 +87,18 @@ fn expect_run<D: Lasting>(rt: &impl Abort, alloc: Global, device: &mut D, script
         &mut Quiet,
     );
     expect_end(rt, status, out.into_inner().as_slice(), end);
+}
+
+// A script's run ends so, and then a check of the device.
+fn expect_run_and_check<D: Lasting>(
+    rt: &impl Abort,
+    alloc: Global,
+    device: &mut D,
+    script: &[u8],
+    ends: (End, End),
+) {
+    expect_run(rt, alloc, device, script, ends.0);
+    expect_check(rt, alloc, device, ends.1);
 }
 
 // A check of a device ends so.

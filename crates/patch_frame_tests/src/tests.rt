@@ -2,11 +2,17 @@
 use linked_list_allocator::LocalHeap;
 use patch_frame::*;
 use patch_model::{BlockBytes, OutOfMemory, RefusalKind, Refuses};
-use std::alloc::Global;
+use std::alloc::{Allocator, Global};
+use std::fmt::{Debug, Display};
 use std::process::Abort;
 use std::test::Fail;
 
 mod damaged;
+
+// Ends the test, telling both, unless what came is what is wanted. A call takes the prover less than `assert_eq!` where it stands.
+fn expect_eq<T: PartialEq + Debug>(rt: &impl Abort, got: &T, want: &T) {
+    assert_eq!(rt; *got, *want);
+}
 
 // The frame of the key `k` with the empty value.
 const EMPTY: [u8; 17] = *b"FCH1\x01\0\0\0\0\0\0\0k1HCF";
@@ -43,22 +49,30 @@ fn disk(extents: u32, format: Format) -> Geometry {
 }
 
 // The frame of the key `k` with this value.
-fn expect_frame(
+fn encode_value<A: Allocator + Copy>(
     rt: &impl Abort,
-    alloc: Global,
+    alloc: A,
+    value: &[u8],
+) -> Result<Vec<u8, A>, OutOfMemory> {
+    assert!(rt; value.len() <= 32_769);
+    encode(alloc, b"k", value)
+}
+
+fn expect_frame<A: Allocator + Copy>(
+    rt: &impl Abort,
+    alloc: A,
     value: &[u8],
     want: &[u8],
 ) -> Result<(), OutOfMemory> {
-    assert!(rt; value.len() < 3);
-    let frame = encode(alloc, b"k", value)?;
-    assert_eq!(rt; frame.as_slice(), want);
+    let frame = encode_value(rt, alloc, value)?;
+    expect_eq(rt, &frame.as_slice(), &want);
     Ok(())
 }
 
 fn expect_pointer(rt: &impl Abort, pointer: Pointer, want: [u8; 8]) {
     assert!(rt; pointer.offset <= MAX_POINTER);
-    assert_eq!(rt; write_pointer(pointer), want);
-    assert_eq!(rt; read_pointer_within(&want, MAX_POINTER), Ok(pointer));
+    expect_eq(rt, &write_pointer(pointer), &want);
+    expect_eq(rt, &read_pointer_within(&want, MAX_POINTER), &Ok(pointer));
 }
 
 #[test]
@@ -70,25 +84,25 @@ fn one_put_on_a_new_disk_writes_this_frame_and_pointer(rt: HostRuntime) -> Resul
         offset: 19,
     };
     expect_pointer(&rt, pointer, POINTER);
-    assert_eq!(rt; read_pointer(&POINTER), Ok(pointer));
+    expect_eq(&rt, &read_pointer(&POINTER), &Ok(pointer));
     Ok(())
 }
 
-// The bytes are this front, and zeros up to a slot's end.
+// The bytes are this front, and zeros up to their end.
 fn expect_padded(rt: &impl Abort, alloc: Global, bytes: &[u8], front: &[u8]) -> Result<(), Fail> {
-    let want = padded(alloc, front, SLOT_BYTES)?;
-    assert_eq!(rt; bytes, want.as_slice());
+    let want = padded(alloc, front, bytes.len())?;
+    expect_eq(rt, &bytes, &want.as_slice());
     Ok(())
 }
 
 fn expect_slot(rt: &impl Abort, bytes: &[u8], want: Result<SlotState, FrameFault>) {
     assert!(rt; bytes.len() == SLOT_BYTES);
-    assert_eq!(rt; read_slot(bytes), want);
+    expect_eq(rt, &read_slot(bytes), &want);
 }
 
 fn expect_slot_within(rt: &impl Abort, bytes: &[u8], want: Result<SlotState, FrameFault>) {
     assert!(rt; bytes.len() == SLOT_BYTES);
-    assert_eq!(rt; read_slot_within(bytes, MAX_FRAME), want);
+    expect_eq(rt, &read_slot_within(bytes, MAX_FRAME), &want);
 }
 
 #[test]
@@ -101,38 +115,39 @@ fn one_put_writes_this_slot(rt: HostRuntime) -> Result<(), Fail> {
         length: 19,
     });
     let slot = write_slot(rt.alloc(), &used)?;
-    expect_padded(&rt, rt.alloc(), &slot, &SLOT)?;
     expect_slot(&rt, &slot, Ok(used));
-    Ok(())
+    expect_padded(&rt, rt.alloc(), &slot, &SLOT)
 }
 
 #[test]
 fn an_empty_slot_is_zeros(rt: HostRuntime) -> Result<(), Fail> {
     let slot = write_slot(rt.alloc(), &SlotState::Empty)?;
-    expect_padded(&rt, rt.alloc(), &slot, &[])?;
     expect_slot(&rt, &slot, Ok(SlotState::Empty));
-    Ok(())
+    expect_padded(&rt, rt.alloc(), &slot, &[])
 }
 
-fn expect_superblock(
+fn expect_superblock(rt: &impl Abort, bytes: &[u8], want: Result<Geometry, FrameFault>) {
+    assert!(rt; bytes.len() == 4096);
+    expect_eq(rt, &read_superblock(bytes), &want);
+}
+
+fn expect_written(
     rt: &impl Abort,
     alloc: Global,
     geometry: Geometry,
     front: &[u8],
 ) -> Result<(), Fail> {
     assert!(rt; geometry.is_valid());
-    let want = padded(alloc, front, 4096)?;
     let written = write_superblock(alloc, geometry)?;
-    assert_eq!(rt; written.as_slice(), want.as_slice());
-    assert_eq!(rt; read_superblock(written.as_slice()), Ok(geometry));
-    Ok(())
+    expect_superblock(rt, written.as_slice(), Ok(geometry));
+    expect_padded(rt, alloc, written.as_slice(), front)
 }
 
 #[test]
 fn superblocks_of_both_versions_are_read_again(rt: HostRuntime) -> Result<(), Fail> {
     let two = Format::Two { length: 64 };
-    expect_superblock(&rt, rt.alloc(), disk(2, Format::One), &SUPERBLOCK)?;
-    expect_superblock(&rt, rt.alloc(), disk(2, two), &SUPERBLOCK_TWO)
+    expect_written(&rt, rt.alloc(), disk(2, Format::One), &SUPERBLOCK)?;
+    expect_written(&rt, rt.alloc(), disk(2, two), &SUPERBLOCK_TWO)
 }
 
 #[test]
@@ -158,23 +173,35 @@ fn each_byte_of_a_slot_has_its_place(rt: HostRuntime) -> Result<(), Fail> {
         length: 0x0001_f00f,
     });
     let slot = write_slot(rt.alloc(), &used)?;
-    expect_padded(&rt, rt.alloc(), &slot, &EVERY_BYTE)?;
     expect_slot_within(&rt, &slot, Ok(used));
     expect_slot(&rt, &slot, Err(FrameFault::BadValue));
-    Ok(())
+    expect_padded(&rt, rt.alloc(), &slot, &EVERY_BYTE)
+}
+
+fn expect_blocks_of_version_one(rt: &impl Abort) {
+    let one = disk(2, Format::One);
+    assert!(rt; one.is_valid());
+    expect_eq(rt, &one.block_count(), &35);
+    expect_eq(rt, &one.pointer_block(), &2);
+    expect_eq(rt, &one.slot_count(), &64);
+    expect_eq(rt, &one.first_block(0), &3);
+    expect_eq(rt, &one.first_block(1), &19);
+}
+
+fn expect_blocks_of_version_two(rt: &impl Abort) {
+    let two = disk(2, Format::Two { length: 64 });
+    assert!(rt; two.is_valid());
+    expect_eq(rt, &two.block_count(), &131);
+    expect_eq(rt, &two.first_block(1), &67);
 }
 
 #[test]
 fn blocks_and_records_have_their_places(rt: HostRuntime) {
-    let one = disk(2, Format::One);
-    let two = disk(2, Format::Two { length: 64 });
-    assert!(rt; one.is_valid() && two.is_valid());
-    assert_eq!(rt; (one.block_count(), two.block_count()), (35, 131));
-    assert_eq!(rt; (one.pointer_block(), one.slot_count()), (2, 64));
-    let firsts = (one.first_block(0), one.first_block(1), two.first_block(1));
-    assert_eq!(rt; firsts, (3, 19, 67));
-    let starts = (slot_block(64), slot_start(65), pointer_start(3));
-    assert_eq!(rt; starts, (2, 64, 24));
+    expect_blocks_of_version_one(&rt);
+    expect_blocks_of_version_two(&rt);
+    expect_eq(&rt, &slot_block(64), &2);
+    expect_eq(&rt, &slot_start(65), &64);
+    expect_eq(&rt, &pointer_start(3), &24);
 }
 
 // The version, the blocks of an extent, the largest pointer, the longest value and the longest frame.
@@ -187,7 +214,7 @@ fn expect_limits(rt: &impl Abort, format: Format, want: [u32; 5]) {
         format.value_limit(),
         format.longest_frame(),
     ];
-    assert_eq!(rt; limits, want);
+    expect_eq(rt, &limits, &want);
 }
 
 #[test]
@@ -204,29 +231,31 @@ fn each_version_has_its_limits(rt: HostRuntime) {
     }
 }
 
+// How many index blocks, how many extents, and whether a disk may be divided so.
+const DIVISIONS: [(u32, u32, Format, bool); 12] = [
+    (1, 2, Format::One, true),
+    (16, 254, Format::One, true),
+    (0, 2, Format::One, false),
+    (17, 2, Format::One, false),
+    (1, 1, Format::One, false),
+    (1, 255, Format::One, false),
+    (1, 2, Format::Two { length: 15 }, false),
+    (1, 2, Format::Two { length: 16 }, true),
+    (1, 2, Format::Two { length: 65 }, false),
+    (5, 141, Format::Two { length: 29 }, true),
+    (6, 141, Format::Two { length: 29 }, false),
+    (16, 254, Format::Two { length: 64 }, false),
+];
+
 #[test]
 fn some_divisions_of_a_disk_are_valid(rt: HostRuntime) {
-    let table = [
-        (1, 2, Format::One, true),
-        (16, 254, Format::One, true),
-        (0, 2, Format::One, false),
-        (17, 2, Format::One, false),
-        (1, 1, Format::One, false),
-        (1, 255, Format::One, false),
-        (1, 2, Format::Two { length: 15 }, false),
-        (1, 2, Format::Two { length: 16 }, true),
-        (1, 2, Format::Two { length: 65 }, false),
-        (5, 141, Format::Two { length: 29 }, true),
-        (6, 141, Format::Two { length: 29 }, false),
-        (16, 254, Format::Two { length: 64 }, false),
-    ];
-    for (index, extents, format, valid) in table {
+    for (row, (index, extents, format, valid)) in DIVISIONS.iter().enumerate() {
         let geometry = Geometry {
-            index,
-            extents,
-            format,
+            index: *index,
+            extents: *extents,
+            format: *format,
         };
-        assert_eq!(rt; geometry.is_valid(), valid, "{geometry:?}");
+        expect_eq(&rt, &(&row, &geometry.is_valid()), &(&row, valid));
     }
 }
 
@@ -236,63 +265,80 @@ const TWO_AND_A_BYTE: [u8; 35] = *b"FCH1\x01\0\0\0\0\0\0\0k1HCFFCH1\x01\0\0\0\0\
 #[test]
 fn frames_that_end_badly_are_refused(rt: HostRuntime) {
     let short = decode(&EMPTY[..16]);
-    assert_eq!(rt; short, Err(FrameFault::Short));
+    expect_eq(&rt, &short, &Err(FrameFault::Short));
     let other = decode(b"FCH1\x01\0\0\0\0\0\0\0k1HCf");
-    assert_eq!(rt; other, Err(FrameFault::BadMagic));
+    expect_eq(&rt, &other, &Err(FrameFault::BadMagic));
+}
+
+// What is read is these frames, or is refused so.
+fn expect_run(
+    rt: &impl Abort,
+    read: &Result<Vec<Frame<'_>>, FramesRefusal>,
+    want: Result<&[Frame<'_>], FramesRefusal>,
+) {
+    let read = match read {
+        Ok(run) => Ok(run.as_slice()),
+        Err(refusal) => Err(*refusal),
+    };
+    expect_eq(rt, &read, &want);
 }
 
 #[test]
-fn runs_of_frames_are_read(rt: HostRuntime) -> Result<(), Fail> {
+fn runs_of_frames_are_read(rt: HostRuntime) {
     let frame = Frame {
         key: b"k",
         value: &[],
         length: 17,
     };
-    let two = frames(rt.alloc(), &TWO_AND_A_BYTE[..34])?;
-    assert_eq!(rt; two.as_slice(), [frame, frame].as_slice());
-    assert!(rt; frames(rt.alloc(), &[])?.is_empty());
-    Ok(())
+    expect_run(
+        &rt,
+        &frames(rt.alloc(), &TWO_AND_A_BYTE[..34]),
+        Ok(&[frame, frame]),
+    );
+    expect_run(&rt, &frames(rt.alloc(), &[]), Ok(&[]));
 }
 
 #[test]
 fn a_run_that_ends_badly_is_refused(rt: HostRuntime) {
-    let refusal = frames(rt.alloc(), &TWO_AND_A_BYTE).err();
-    assert_eq!(rt; refusal, Some(FramesRefusal::Fault(FrameFault::Short)));
+    let refusal = FramesRefusal::Fault(FrameFault::Short);
+    expect_run(&rt, &frames(rt.alloc(), &TWO_AND_A_BYTE), Err(refusal));
 }
 
 // The longest value of the first version.
 fn expect_narrow(rt: &impl Abort, alloc: Global, value: &[u8]) -> Result<(), OutOfMemory> {
-    assert!(rt; value.len() == 32_768);
-    let bytes = encode(alloc, b"v", value)?;
+    let bytes = encode_value(rt, alloc, value)?;
     let frame = Frame {
-        key: b"v",
+        key: b"k",
         value,
         length: 32_785,
     };
-    assert_eq!(rt; decode(&bytes), Ok(frame));
+    expect_eq(rt, &decode(&bytes), &Ok(frame));
     Ok(())
 }
 
 fn expect_wide(rt: &impl Abort, bytes: &[u8], frame: Frame) {
-    assert_eq!(rt; decode(bytes), Err(FrameFault::BadValue));
-    assert_eq!(rt; decode_within(bytes, 32_768), Err(FrameFault::BadValue));
-    assert_eq!(rt; decode_within(bytes, 32_769), Ok(frame));
+    expect_eq(rt, &decode(bytes), &Err(FrameFault::BadValue));
+    expect_eq(
+        rt,
+        &decode_within(bytes, 32_768),
+        &Err(FrameFault::BadValue),
+    );
+    expect_eq(rt, &decode_within(bytes, 32_769), &Ok(frame));
 }
 
 fn expect_wide_run(rt: &impl Abort, alloc: Global, bytes: &[u8], frame: Frame) -> Result<(), Fail> {
-    let refusal = frames(alloc, bytes).err();
-    assert_eq!(rt; refusal, Some(FramesRefusal::Fault(FrameFault::BadValue)));
+    let refusal = FramesRefusal::Fault(FrameFault::BadValue);
+    expect_run(rt, &frames(alloc, bytes), Err(refusal));
     let run = frames_within(alloc, bytes, MAX_VALUE)?;
-    assert_eq!(rt; run.as_slice(), [frame].as_slice());
+    expect_eq(rt, &run.as_slice(), &[frame].as_slice());
     Ok(())
 }
 
 // One byte more.
 fn expect_too_wide(rt: &impl Abort, alloc: Global, value: &[u8]) -> Result<(), Fail> {
-    assert!(rt; value.len() == 32_769);
-    let bytes = encode(alloc, b"v", value)?;
+    let bytes = encode_value(rt, alloc, value)?;
     let frame = Frame {
-        key: b"v",
+        key: b"k",
         value,
         length: 32_786,
     };
@@ -304,7 +350,8 @@ fn expect_too_wide(rt: &impl Abort, alloc: Global, value: &[u8]) -> Result<(), F
 fn values_are_read_up_to_their_limits(rt: HostRuntime) -> Result<(), Fail> {
     let value = vec![in rt.alloc(); 7; 32_769]?;
     expect_narrow(&rt, rt.alloc(), &value[..32_768])?;
-    expect_too_wide(&rt, rt.alloc(), &value)
+    expect_too_wide(&rt, rt.alloc(), &value)?;
+    Ok(())
 }
 
 // A byte that is changed, or the length to which the bytes are cut, and the refusal that follows.
@@ -314,18 +361,22 @@ enum Break {
     Cut(usize),
 }
 
-fn broken(alloc: Global, bytes: &[u8], breaks: [Break; 2]) -> Result<Vec<u8>, Fail> {
-    let mut bytes = Vec::from_slice(alloc, bytes)?;
-    for next in breaks {
-        match next {
-            Break::Byte(place, byte) => {
-                if let Some(old) = bytes.get_mut(place) {
-                    *old = byte;
-                }
+fn break_one(bytes: &mut Vec<u8>, next: Break) {
+    match next {
+        Break::Byte(place, byte) => {
+            if let Some(old) = bytes.get_mut(place) {
+                *old = byte;
             }
-            Break::Cut(length) => bytes.truncate(length),
         }
+        Break::Cut(length) => bytes.truncate(length),
     }
+}
+
+// The bytes, and zeros up to a length, broken twice.
+fn broken(alloc: Global, front: &[u8], length: usize, breaks: [Break; 2]) -> Result<Vec<u8>, Fail> {
+    let mut bytes = padded(alloc, front, length)?;
+    break_one(&mut bytes, breaks[0]);
+    break_one(&mut bytes, breaks[1]);
     Ok(bytes)
 }
 
@@ -378,8 +429,8 @@ fn expect_bad_frame(
     breaks: [Break; 2],
     want: FrameFault,
 ) -> Result<(), Fail> {
-    let bytes = broken(alloc, &FRAME, breaks)?;
-    assert_eq!(rt; decode(&bytes), Err(want));
+    let bytes = broken(alloc, &FRAME, FRAME.len(), breaks)?;
+    expect_eq(rt, &decode(&bytes), &Err(want));
     Ok(())
 }
 
@@ -400,8 +451,7 @@ fn expect_bad_slot(
     breaks: [Break; 2],
     want: FrameFault,
 ) -> Result<(), Fail> {
-    let whole = padded(alloc, &SLOT, SLOT_BYTES)?;
-    let bytes = broken(alloc, &whole, breaks)?;
+    let bytes = broken(alloc, &SLOT, SLOT_BYTES, breaks)?;
     expect_slot(rt, &bytes, Err(want));
     Ok(())
 }
@@ -423,10 +473,8 @@ fn expect_bad_superblock(
     breaks: [Break; 2],
     want: FrameFault,
 ) -> Result<(), Fail> {
-    let whole = padded(alloc, front, 4096)?;
-    let bytes = broken(alloc, &whole, breaks)?;
-    assert!(rt; bytes.len() == 4096);
-    assert_eq!(rt; read_superblock(&bytes), Err(want));
+    let bytes = broken(alloc, front, 4096, breaks)?;
+    expect_superblock(rt, &bytes, Err(want));
     Ok(())
 }
 
@@ -455,64 +503,54 @@ fn pointers_past_the_end_are_refused(rt: HostRuntime) {
         generation: 0,
         offset: 65_537,
     };
-    assert_eq!(rt; read_pointer(&over), Err(FrameFault::BadValue));
-    assert_eq!(rt; read_pointer_within(&over, 65_537), Ok(wide));
-    assert_eq!(rt;
-        read_pointer_within(&over, 65_536),
-        Err(FrameFault::BadValue)
+    expect_eq(&rt, &read_pointer(&over), &Err(FrameFault::BadValue));
+    expect_eq(&rt, &read_pointer_within(&over, 65_537), &Ok(wide));
+    expect_eq(
+        &rt,
+        &read_pointer_within(&over, 65_536),
+        &Err(FrameFault::BadValue),
     );
 }
 
-// A refusal of one frame, alone and of a run.
-fn expect_fault(
-    rt: &impl Abort,
-    alloc: Global,
-    fault: FrameFault,
-    code: u8,
-    name: &str,
-) -> Result<(), Fail> {
-    assert_eq!(rt; (fault.code(), fault.name()), (code, name));
-    assert_eq!(rt; format!(in alloc; "{fault}")?.as_str(), name);
-    let refusal = FramesRefusal::Fault(fault);
-    assert_eq!(rt; refusal.kind(), fault.kind());
-    expect_refusal(rt, alloc, refusal, code, name)
-}
+const FAULTS: [(FrameFault, RefusalKind, u8, &str); 5] = [
+    (FrameFault::BadMagic, RefusalKind::BadMagic, 52, "BadMagic"),
+    (FrameFault::BadKey, RefusalKind::BadKey, 53, "BadKey"),
+    (FrameFault::BadValue, RefusalKind::BadValue, 54, "BadValue"),
+    (FrameFault::Short, RefusalKind::Short, 55, "Short"),
+    (FrameFault::NotZero, RefusalKind::NotZero, 56, "NotZero"),
+];
 
-fn expect_refusal(
+// The refusal's kind, its number, and its name, which is its text.
+fn expect_refusal<R: Refuses + Display + Copy>(
     rt: &impl Abort,
     alloc: Global,
-    refusal: FramesRefusal,
+    refusal: R,
+    kind: RefusalKind,
     code: u8,
     name: &str,
 ) -> Result<(), Fail> {
-    assert_eq!(rt; (refusal.code(), refusal.name()), (code, name));
-    assert_eq!(rt; format!(in alloc; "{refusal}")?.as_str(), name);
+    expect_eq(rt, &refusal.kind(), &kind);
+    expect_eq(rt, &refusal.code(), &code);
+    expect_eq(rt, &refusal.name(), &name);
+    expect_eq(rt, &format!(in alloc; "{refusal}")?.as_str(), &name);
     Ok(())
 }
 
+// Each refusal of a frame, alone and of a run.
 #[test]
 fn refusals_have_numbers_and_names(rt: HostRuntime) -> Result<(), Fail> {
-    let table = [
-        (FrameFault::BadMagic, 52, "BadMagic"),
-        (FrameFault::BadKey, 53, "BadKey"),
-        (FrameFault::BadValue, 54, "BadValue"),
-        (FrameFault::Short, 55, "Short"),
-        (FrameFault::NotZero, 56, "NotZero"),
-    ];
-    for (fault, code, name) in table {
-        expect_fault(&rt, rt.alloc(), fault, code, name)?;
+    for (fault, kind, code, name) in &FAULTS {
+        expect_refusal(&rt, rt.alloc(), *fault, *kind, *code, name)?;
+        let run = FramesRefusal::Fault(*fault);
+        expect_refusal(&rt, rt.alloc(), run, *kind, *code, name)?;
     }
-    let refusal = FramesRefusal::OutOfMemory;
-    assert_eq!(rt; refusal.kind(), RefusalKind::OutOfMemory);
-    expect_refusal(&rt, rt.alloc(), refusal, 1, "OutOfMemory")
+    let (kind, refusal) = (RefusalKind::OutOfMemory, FramesRefusal::OutOfMemory);
+    expect_refusal(&rt, rt.alloc(), refusal, kind, 1, "OutOfMemory")
 }
 
-// All that takes memory, on one heap.
-fn write_each(rt: &impl Abort, heap: &LocalHeap) -> Result<(), OutOfMemory> {
-    let frame = encode(heap, b"k", &[1, 2])?;
-    assert!(rt; frame.as_slice() == FRAME.as_slice());
+fn write_empty(rt: &impl Abort, heap: &LocalHeap) -> Result<(), OutOfMemory> {
     let slot = write_slot(heap, &SlotState::Empty)?;
-    assert_eq!(rt; slot.len(), SLOT_BYTES);
+    expect_eq(rt, &slot.len(), &SLOT_BYTES);
     Ok(())
 }
 
@@ -520,24 +558,24 @@ fn write_block(rt: &impl Abort, heap: &LocalHeap) -> Result<(), OutOfMemory> {
     let geometry = disk(2, Format::One);
     assert!(rt; geometry.is_valid());
     let superblock: BlockBytes<&LocalHeap> = write_superblock(heap, geometry)?;
-    assert_eq!(rt; read_superblock(superblock.as_slice()), Ok(geometry));
+    expect_superblock(rt, superblock.as_slice(), Ok(geometry));
     Ok(())
 }
 
 fn read_nine(rt: &impl Abort, heap: &LocalHeap, bytes: &[u8]) -> Result<(), OutOfMemory> {
     match frames(heap, bytes) {
         Ok(read) => {
-            assert_eq!(rt; read.len(), 9);
+            expect_eq(rt, &read.len(), &9);
             Ok(())
         }
         Err(refusal) => {
-            assert_eq!(rt; refusal, FramesRefusal::OutOfMemory);
+            expect_eq(rt, &refusal, &FramesRefusal::OutOfMemory);
             Err(OutOfMemory)
         }
     }
 }
 
-// In a heap of this size. Whether it was too small.
+// All that takes memory, in a heap of this size. Whether it was too small.
 fn is_refused(
     rt: &impl Abort,
     alloc: Global,
@@ -546,20 +584,20 @@ fn is_refused(
 ) -> Result<bool, OutOfMemory> {
     let heap = LocalHeap::new(alloc, size)?;
     Ok(
-        write_each(rt, &heap).is_err()
+        expect_frame(rt, &heap, &[1, 2], &FRAME).is_err()
+            || write_empty(rt, &heap).is_err()
             || write_block(rt, &heap).is_err()
             || read_nine(rt, &heap, bytes).is_err(),
     )
 }
 
-// How many heaps are too small, each larger than the one before it.
-fn count_small(rt: &impl Abort, alloc: Global, bytes: &[u8]) -> Result<u32, Fail> {
-    let mut refused = 0u32;
-    for size in 0..1200usize {
-        if !is_refused(rt, alloc, 64 + size * 16, bytes)? {
-            return Ok(refused);
+// Each heap is larger than the one before it, and more than two hundred are too small.
+fn refuse_in_turn(rt: &impl Abort, alloc: Global, bytes: &[u8]) -> Result<(), Fail> {
+    for turn in 0..1200usize {
+        if !is_refused(rt, alloc, 64 + turn * 16, bytes)? {
+            expect_eq(rt, &(&turn, &(turn > 200)), &(&turn, &true));
+            return Ok(());
         }
-        refused = refused.saturating_add(1);
     }
     Err(Fail::from("refused in the largest heap"))
 }
@@ -575,7 +613,5 @@ fn nine_frames(alloc: Global) -> Result<Vec<u8>, OutOfMemory> {
 #[test]
 fn each_allocation_is_refused_in_turn(rt: HostRuntime) -> Result<(), Fail> {
     let bytes = nine_frames(rt.alloc())?;
-    let refused = count_small(&rt, rt.alloc(), &bytes)?;
-    assert!(rt; refused > 200, "refused {refused}");
-    Ok(())
+    refuse_in_turn(&rt, rt.alloc(), &bytes)
 }

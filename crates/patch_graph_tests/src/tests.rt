@@ -4,11 +4,17 @@ use patch_graph::laws::ready_slow;
 use patch_graph::{Added, Graph, LiveClass};
 use patch_model::{BLOCK, BlockNo, MAX_LIVE, MAX_PATCHES, Mark, OutOfMemory, PatchNo, Undo};
 use std::alloc::{Allocator, Global};
+use std::fmt::Debug;
 use std::process::Abort;
 use std::test::Fail;
 
 mod between;
 mod plain;
+
+// Ends the test, telling both, unless what came is what is wanted. A call takes the prover less than `assert_eq!` where it stands.
+fn expect_eq<T: PartialEq + Debug>(rt: &impl Abort, got: &T, want: &T) {
+    assert_eq!(rt; *got, *want);
+}
 
 // A patch to be made: its block, its span, what it names, and what becomes of its undo bytes.
 #[derive(Clone, Copy)]
@@ -50,14 +56,14 @@ fn add<A: Allocator + Copy>(
 }
 
 // What is expected of a patch that may drop its undo bytes.
-#[derive(Clone, Copy, PartialEq, Eq)]
+#[derive(Clone, Copy)]
 enum Hardness {
     Hard,
     Soft,
 }
 
 // Whether a path is expected from one class to another.
-#[derive(Clone, Copy, PartialEq, Eq)]
+#[derive(Clone, Copy)]
 enum Path {
     There,
     Missing,
@@ -90,7 +96,7 @@ fn make<A: Allocator + Copy>(
 ) -> Result<Added, Fail> {
     let made = graph.made();
     let added = add(rt, graph, ask)?;
-    assert_eq!(rt; added.no, PatchNo(made));
+    expect_eq(rt, &added.no, &PatchNo(made));
     Ok(added)
 }
 
@@ -103,14 +109,23 @@ fn make_loose(
 ) -> Result<(), Fail> {
     let mut ask = ask_for(block, 0, 1, after);
     ask.undo = Undo::MayDrop;
-    assert_eq!(rt; make(rt, graph, &ask)?.hard, hardness == Hardness::Hard);
+    let added = make(rt, graph, &ask)?;
+    let hard = matches!(hardness, Hardness::Hard);
+    expect_eq(rt, &added.hard, &hard);
     Ok(())
 }
 
 fn merge(rt: &impl Abort, graph: &mut Graph, a: u32, b: u32, name: u32) -> Result<(), Fail> {
     let merged = graph.merge(PatchNo(a), PatchNo(b))?;
-    assert_eq!(rt; merged, PatchNo(name));
+    expect_eq(rt, &merged, &PatchNo(name));
     Ok(())
+}
+
+fn expect_numbers(rt: &impl Abort, ready: &[PatchNo], numbers: &[u32]) {
+    expect_eq(rt, &ready.len(), &numbers.len());
+    for at in 0..numbers.len() {
+        expect_eq(rt, &ready.get(at), &Some(&PatchNo(numbers[at])));
+    }
 }
 
 fn expect_ready<A: Allocator + Copy>(
@@ -120,9 +135,9 @@ fn expect_ready<A: Allocator + Copy>(
     block: u32,
     numbers: &[u32],
 ) -> Result<(), Fail> {
+    expect_eq(rt, &graph.any_ready(BlockNo(block)), &!numbers.is_empty());
     let ready = graph.ready(alloc, BlockNo(block))?;
-    assert!(rt; ready.iter().map(|no| no.0).eq(numbers.iter().copied()));
-    assert_eq!(rt; graph.any_ready(BlockNo(block)), !numbers.is_empty());
+    expect_numbers(rt, ready.as_slice(), numbers);
     Ok(())
 }
 
@@ -134,20 +149,21 @@ fn expect_paths(
     path: Path,
     between: Option<PatchNo>,
 ) {
-    assert_eq!(rt; graph.reaches(PatchNo(a), PatchNo(b)), path == Path::There);
-    assert_eq!(rt; graph.between(PatchNo(a), PatchNo(b)), between);
+    let there = matches!(path, Path::There);
+    expect_eq(rt, &graph.reaches(PatchNo(a), PatchNo(b)), &there);
+    expect_eq(rt, &graph.between(PatchNo(a), PatchNo(b)), &between);
 }
 
 fn expect_mark(rt: &impl Abort, graph: &Graph, no: u32, mark: Option<Mark>) {
-    assert_eq!(rt; graph.mark_of(PatchNo(no)), mark);
+    expect_eq(rt, &graph.mark_of(PatchNo(no)), &mark);
 }
 
 fn expect_class(rt: &impl Abort, graph: &Graph, no: u32, name: Option<PatchNo>) {
-    assert_eq!(rt; graph.class_of(PatchNo(no)), name);
+    expect_eq(rt, &graph.class_of(PatchNo(no)), &name);
 }
 
 fn expect_live(rt: &impl Abort, graph: &Graph, no: u32, class: Option<LiveClass>) {
-    assert_eq!(rt; graph.live_class(PatchNo(no)), class);
+    expect_eq(rt, &graph.live_class(PatchNo(no)), &class);
 }
 
 fn step(rt: &impl Abort, alloc: Global, graph: &mut Graph, next: &Move) -> Result<(), Fail> {
@@ -413,7 +429,7 @@ const LAST_FILLED: u32 = MAX_LIVE - BLOCK as u32;
 
 fn expect_one_more(rt: &impl Abort, graph: &mut Graph) -> Result<(), Fail> {
     let last = add(rt, graph, &ask_for(FILLED - 1, 0, BLOCK, None))?;
-    assert_eq!(rt; last.no, PatchNo(MAX_LIVE));
+    expect_eq(rt, &last.no, &PatchNo(MAX_LIVE));
     expect_paths(rt, graph, MAX_LIVE, LAST_FILLED, Path::There, None);
     expect_paths(rt, graph, MAX_LIVE, LAST_FILLED - 1, Path::Missing, None);
     Ok(())
@@ -441,9 +457,13 @@ fn expect_unmade(
     block: u32,
     made: u32,
 ) -> Result<(), Fail> {
-    assert_eq!(rt; (graph.made(), graph.mark_of(PatchNo(made))), (made, None));
+    expect_eq(
+        rt,
+        &(graph.made(), graph.mark_of(PatchNo(made))),
+        &(made, None),
+    );
     let before = graph.ready(alloc, BlockNo(block))?;
-    assert_eq!(rt; before.len(), made as usize);
+    expect_eq(rt, &before.len(), &(made as usize));
     Ok(())
 }
 
@@ -473,7 +493,7 @@ fn add_twice(
 // What the classes of the first two patches are called.
 fn expect_names(rt: &impl Abort, graph: &Graph<&LocalHeap>, first: u32, second: u32) {
     let names = (graph.class_of(PatchNo(0)), graph.class_of(PatchNo(1)));
-    assert_eq!(rt; names, (Some(PatchNo(first)), Some(PatchNo(second))));
+    expect_eq(rt, &names, &(Some(PatchNo(first)), Some(PatchNo(second))));
 }
 
 // Whether a merge of the first two was refused.
@@ -488,7 +508,7 @@ fn merge_twice(
     expect_names(rt, graph, 0, 1);
     give_back(ballast);
     let merged = graph.merge(PatchNo(0), PatchNo(1))?;
-    assert_eq!(rt; merged, PatchNo(0));
+    expect_eq(rt, &merged, &PatchNo(0));
     Ok(true)
 }
 
@@ -544,7 +564,7 @@ fn count_small(rt: &impl Abort, alloc: Global) -> Result<u32, Fail> {
 #[test]
 fn each_refused_call_changes_nothing(rt: HostRuntime) -> Result<(), Fail> {
     let refused = count_small(&rt, rt.alloc())?;
-    assert!(rt; refused > 5, "refused {refused}");
+    expect_eq(&rt, &(&refused, &(refused > 5)), &(&refused, &true));
     Ok(())
 }
 
@@ -554,23 +574,33 @@ const ANSWERED: usize = 64;
 // How many heaps are tried for an answer.
 const HEAPS: u32 = 40;
 
-// Whether an answer in a heap of this size was refused.
+// Whether an answer in this heap was refused.
 fn ready_in(rt: &impl Abort, graph: &mut Graph, heap: &LocalHeap) -> bool {
     match graph.ready(heap, BlockNo(0)) {
         Ok(numbers) => {
-            assert_eq!(rt; numbers.len(), ANSWERED);
+            expect_eq(rt, &numbers.len(), &ANSWERED);
             false
         }
         Err(_) => true,
     }
 }
 
+// The same, in a heap of this size.
+fn ready_in_size(
+    rt: &impl Abort,
+    alloc: Global,
+    graph: &mut Graph,
+    size: usize,
+) -> Result<bool, Fail> {
+    let heap = LocalHeap::new(alloc, size)?;
+    Ok(ready_in(rt, graph, &heap))
+}
+
 // How many heaps, each larger than the one before it, are too small for the answer.
 fn count_refused(rt: &impl Abort, alloc: Global, graph: &mut Graph) -> Result<u32, Fail> {
     let mut refused = 0u32;
     for size in 0..HEAPS as usize {
-        let heap = LocalHeap::new(alloc, 32 + size * 32)?;
-        if ready_in(rt, graph, &heap) {
+        if ready_in_size(rt, alloc, graph, 32 + size * 32)? {
             refused = refused.saturating_add(1);
         }
     }
@@ -582,7 +612,11 @@ fn expect_refused(rt: &impl Abort, alloc: Global, graph: &mut Graph) -> Result<(
         add(rt, graph, &ask_for(0, byte, byte + 1, None))?;
     }
     let refused = count_refused(rt, alloc, graph)?;
-    assert!(rt; refused > 0 && refused < HEAPS, "refused {refused}");
+    expect_eq(
+        rt,
+        &(&refused, &(refused > 0 && refused < HEAPS)),
+        &(&refused, &true),
+    );
     Ok(())
 }
 
@@ -718,9 +752,9 @@ fn expect_agreement(
     block: BlockNo,
 ) -> Result<(), Fail> {
     let slow = ready_slow(graph, alloc, block)?;
+    expect_eq(rt, &graph.any_ready(block), &!slow.is_empty());
     let ready = graph.ready(alloc, block)?;
-    assert!(rt; ready.iter().map(|no| no.0).eq(slow.iter().map(|no| no.0)));
-    assert_eq!(rt; graph.any_ready(block), !slow.is_empty());
+    expect_eq(rt, &ready.as_slice(), &slow.as_slice());
     Ok(())
 }
 
@@ -741,6 +775,8 @@ fn walk_by_chance(
         step_by_chance(rt, graph, chance)?;
         expect_agreements(rt, alloc, graph)?;
     }
+    let is_long = chance.merges > 20 && graph.made() > 400;
+    expect_eq(rt, &(&chance.merges, &is_long), &(&chance.merges, &true));
     Ok(())
 }
 
@@ -753,8 +789,5 @@ fn ready_agrees(rt: HostRuntime) -> Result<(), Fail> {
         merges: 0,
     };
     let mut graph = Graph::new(rt.alloc());
-    walk_by_chance(&rt, rt.alloc(), &mut graph, &mut chance)?;
-    let merges = chance.merges;
-    assert!(rt; merges > 20 && graph.made() > 400, "merges {merges}");
-    Ok(())
+    walk_by_chance(&rt, rt.alloc(), &mut graph, &mut chance)
 }

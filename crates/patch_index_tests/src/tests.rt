@@ -2,6 +2,7 @@
 use patch_index::{Entry, Index, Key, LiveSlots};
 use patch_model::OutOfMemory;
 use std::alloc::{Allocator, Global};
+use std::fmt::Debug;
 use std::process::Abort;
 use std::test::Fail;
 
@@ -22,6 +23,11 @@ enum Move<'a> {
 }
 
 use Move::{Clear, Fill};
+
+// Ends the test, telling both, unless what came is what is wanted. A call takes the prover less than `assert_eq!` where it stands.
+fn expect_eq<T: PartialEq + Debug>(rt: &impl Abort, got: &T, want: &T) {
+    assert_eq!(rt; *got, *want);
+}
 
 // What is answered then: the lowest empty slot, the slot of the key `k`, and the live slots of extent 1.
 #[derive(Clone, Copy)]
@@ -72,18 +78,18 @@ fn make_move<A: Allocator>(rt: &impl Abort, index: &mut Index<A>, step: Move) {
 }
 
 fn expect_slots(rt: &impl Abort, got: &LiveSlots, want: &[u32]) {
-    assert_eq!(rt; got.len(), want.len());
+    expect_eq(rt, &got.len(), &want.len());
     for at in 0..want.len() {
-        assert_eq!(rt; got.get(at), Some(want[at]));
+        expect_eq(rt, &got.get(at), &Some(want[at]));
     }
 }
 
 fn expect_answers<A: Allocator>(rt: &impl Abort, index: &Index<A>, want: Answers) {
-    assert_eq!(rt; index.empty_slot(), want.empty);
-    assert_eq!(rt; index.slot_of(b"k"), want.slot_of_k);
+    expect_eq(rt, &index.empty_slot(), &want.empty);
+    expect_eq(rt, &index.slot_of(b"k"), &want.slot_of_k);
     expect_slots(rt, &index.live_slots(1), want.live);
     assert!(rt; want.live.len() <= 4);
-    assert_eq!(rt; index.live_bytes(1), 18 * want.live.len() as u32);
+    expect_eq(rt, &index.live_bytes(1), &(18 * want.live.len() as u32));
 }
 
 fn walk(rt: &impl Abort, alloc: Global, steps: &[(Move, Answers)]) -> Result<(), Fail> {

@@ -3,14 +3,25 @@ use crate::model::Slow;
 use patch_links::{Class, Links};
 use patch_model::{BlockNo, Mark, PatchNo};
 use patch_numbers::NumberList;
-use std::alloc::Global;
+use std::alloc::{AllocError, Global};
+use std::fmt::Debug;
 use std::process::Abort;
 use std::test::Fail;
+
+// Ends the test, telling both, unless what came is what is wanted. A call takes the prover less than `assert_eq!` where it stands.
+fn expect_eq<T: PartialEq + Debug>(rt: &impl Abort, got: &T, want: &T) {
+    assert_eq!(rt; *got, *want);
+}
 
 // How many blocks the walks go over.
 const BLOCKS: u32 = 4;
 
-fn new_class(alloc: Global, no: u32, block: u32, after: &[u32]) -> Result<Class<Global>, Fail> {
+fn new_class(
+    alloc: Global,
+    no: u32,
+    block: u32,
+    after: &[u32],
+) -> Result<Class<Global>, AllocError> {
     let mut depends = NumberList::new(alloc);
     for other in after {
         depends.push(PatchNo(*other))?;
@@ -27,25 +38,64 @@ fn new_class(alloc: Global, no: u32, block: u32, after: &[u32]) -> Result<Class<
     })
 }
 
+fn expect_numbers(rt: &impl Abort, ready: &[PatchNo], numbers: &[u32]) {
+    expect_eq(rt, &ready.len(), &numbers.len());
+    for at in 0..numbers.len() {
+        expect_eq(rt, &ready.get(at), &Some(&PatchNo(numbers[at])));
+    }
+}
+
+// What may be sent of the block are these.
+fn expect_ready(
+    rt: &impl Abort,
+    links: &Links<Global>,
+    alloc: Global,
+    block: u32,
+    numbers: &[u32],
+) -> Result<(), AllocError> {
+    let ready = links.ready(alloc, BlockNo(block))?;
+    expect_numbers(rt, ready.as_slice(), numbers);
+    expect_eq(rt, &links.any_ready(BlockNo(block)), &!numbers.is_empty());
+    Ok(())
+}
+
 fn expect_block(
     rt: &impl Abort,
     links: &Links<Global>,
     slow: &Slow,
     block: u32,
-) -> Result<(), Fail> {
-    let numbers = slow.ready_numbers(block)?;
-    let ready = links.ready(slow.alloc, BlockNo(block))?;
-    assert!(rt; ready.iter().map(|no| no.0).eq(numbers.iter().copied()));
-    assert_eq!(rt; links.any_ready(BlockNo(block)), !numbers.is_empty());
+) -> Result<(), AllocError> {
     let none = !slow.classes.iter().any(|class| class.block == block);
-    assert_eq!(rt; links.is_empty_of(BlockNo(block)), none);
-    Ok(())
+    expect_eq(rt, &links.is_empty_of(BlockNo(block)), &none);
+    let numbers = slow.ready_numbers(block)?;
+    expect_ready(rt, links, slow.alloc, block, numbers.as_slice())
 }
 
-fn expect_all(rt: &impl Abort, links: &Links<Global>, slow: &Slow) -> Result<(), Fail> {
+fn expect_all(rt: &impl Abort, links: &Links<Global>, slow: &Slow) -> Result<(), AllocError> {
     for block in 0..BLOCKS {
         expect_block(rt, links, slow, block)?;
     }
+    Ok(())
+}
+
+// The class of a patch is found at this key.
+fn expect_key(rt: &impl Abort, links: &Links<Global>, no: u32, key: usize) {
+    expect_eq(rt, &links.find(PatchNo(no)), &Some(key));
+}
+
+// Puts in a class, which then stands at the key that was told.
+fn put_in(
+    rt: &impl Abort,
+    links: &mut Links<Global>,
+    class: Class<Global>,
+) -> Result<(), AllocError> {
+    assert!(rt; links.may_add(&class));
+    let no = class.name.0;
+    let key = links.next_key();
+    let added = links.add(class)?;
+    expect_eq(rt, &added, &key);
+    expect_key(rt, links, no, key);
+    assert!(rt; links.contains(key));
     Ok(())
 }
 
@@ -72,24 +122,17 @@ impl Pair {
         }
     }
 
-    fn add(&mut self, rt: &impl Abort, block: u32, after: &[u32]) -> Result<(), Fail> {
+    fn add(&mut self, rt: &impl Abort, block: u32, after: &[u32]) -> Result<(), AllocError> {
         let no = self.made;
         let class = new_class(self.slow.alloc, no, block, after)?;
-        assert!(rt; self.links.may_add(&class));
-        let next = self.links.next_key();
-        let key = self.links.add(class)?;
-        assert_eq!(rt; key, next);
-        assert_eq!(rt; self.links.find(PatchNo(no)), Some(key));
-        assert!(rt; self.links.contains(key));
-        self.slow.add(no, block, after)?;
+        put_in(rt, &mut self.links, class)?;
         self.made = no.wrapping_add(1);
-        Ok(())
+        self.slow.add(no, block, after)
     }
 
-    fn fly(&mut self, block: u32) -> Result<(), Fail> {
+    fn fly(&mut self, block: u32) -> Result<(), AllocError> {
         self.links.fly(BlockNo(block));
-        self.slow.fly(block)?;
-        Ok(())
+        self.slow.fly(block)
     }
 
     fn land(&mut self, block: u32) {
@@ -98,32 +141,41 @@ impl Pair {
     }
 
     // Joins the classes of two patches, where that makes no ring.
-    fn join(&mut self, rt: &impl Abort, keep: u32, gone: u32) -> Result<(), Fail> {
-        let (Some(one), Some(other)) = (
-            self.links.find(PatchNo(keep)),
-            self.links.find(PatchNo(gone)),
-        ) else {
-            return Ok(());
-        };
+    fn join(&mut self, rt: &impl Abort, keep: u32, gone: u32) -> Result<(), AllocError> {
         let may = self.slow.may_join(keep, gone);
         if may && self.slow.makes_ring(keep, gone)? {
             return Ok(());
         }
-        self.links.join(one, other)?;
-        if may {
-            self.slow.join(keep, gone)?;
-            self.joined = self.joined.wrapping_add(1);
-            assert!(rt; !self.links.contains(other));
-        }
-        assert_eq!(rt; self.links.find(PatchNo(keep)), Some(one));
-        assert_eq!(rt;
+        match (
+            self.links.find(PatchNo(keep)),
             self.links.find(PatchNo(gone)),
-            Some(if may { one } else { other })
-        );
-        Ok(())
+        ) {
+            (Some(one), Some(other)) => self.join_at(rt, (keep, one), (gone, other), may),
+            _ => Ok(()),
+        }
     }
 
-    fn expect(&self, rt: &impl Abort) -> Result<(), Fail> {
+    // Joins them, with their keys, if they may be joined. Else nothing changes.
+    fn join_at(
+        &mut self,
+        rt: &impl Abort,
+        keep: (u32, usize),
+        gone: (u32, usize),
+        may: bool,
+    ) -> Result<(), AllocError> {
+        self.links.join(keep.1, gone.1)?;
+        expect_key(rt, &self.links, keep.0, keep.1);
+        if !may {
+            expect_key(rt, &self.links, gone.0, gone.1);
+            return Ok(());
+        }
+        expect_key(rt, &self.links, gone.0, keep.1);
+        assert!(rt; !self.links.contains(gone.1));
+        self.joined = self.joined.wrapping_add(1);
+        self.slow.join(keep.0, gone.0)
+    }
+
+    fn expect(&self, rt: &impl Abort) -> Result<(), AllocError> {
         expect_all(rt, &self.links, &self.slow)
     }
 }
@@ -135,7 +187,7 @@ struct Source {
 }
 
 impl Source {
-    // A number below this one.
+    // A number up to this one.
     fn below(&mut self, bound: u32) -> u32 {
         self.state = self
             .state
@@ -148,7 +200,7 @@ impl Source {
 }
 
 // Numbers of patches that were made, most of them lately.
-fn some_numbers(alloc: Global, source: &mut Source, made: u32) -> Result<Vec<u32>, Fail> {
+fn some_numbers(alloc: Global, source: &mut Source, made: u32) -> Result<Vec<u32>, AllocError> {
     let mut all = Vec::new(alloc);
     if made == 0 {
         return Ok(all);
@@ -160,7 +212,7 @@ fn some_numbers(alloc: Global, source: &mut Source, made: u32) -> Result<Vec<u32
     Ok(all)
 }
 
-fn join_some(rt: &impl Abort, pair: &mut Pair, source: &mut Source) -> Result<(), Fail> {
+fn join_some(rt: &impl Abort, pair: &mut Pair, source: &mut Source) -> Result<(), AllocError> {
     let keep = pair.made.saturating_sub(source.below(9));
     for back in 1..6 {
         pair.join(rt, keep, keep.saturating_sub(back))?;
@@ -168,25 +220,35 @@ fn join_some(rt: &impl Abort, pair: &mut Pair, source: &mut Source) -> Result<()
     Ok(())
 }
 
-fn step(rt: &impl Abort, pair: &mut Pair, source: &mut Source) -> Result<(), Fail> {
-    let block = source.below(BLOCKS - 1);
-    match source.below(14) {
-        0 | 1 | 2 | 3 | 4 => {
-            let after = some_numbers(pair.slow.alloc, source, pair.made)?;
-            pair.add(rt, block, after.as_slice())?;
-        }
-        5 | 6 => pair.fly(block)?,
-        7 | 8 => pair.land(block),
-        _ => join_some(rt, pair, source)?,
-    }
-    Ok(())
+fn add_some(
+    rt: &impl Abort,
+    pair: &mut Pair,
+    source: &mut Source,
+    block: u32,
+) -> Result<(), AllocError> {
+    let after = some_numbers(pair.slow.alloc, source, pair.made)?;
+    pair.add(rt, block, after.as_slice())
 }
 
-fn walk(rt: &impl Abort, pair: &mut Pair, source: &mut Source) -> Result<(), Fail> {
+fn step_by_chance(rt: &impl Abort, pair: &mut Pair, source: &mut Source) -> Result<(), AllocError> {
+    let block = source.below(BLOCKS - 1);
+    match source.below(14) {
+        0 | 1 | 2 | 3 | 4 => add_some(rt, pair, source, block),
+        5 | 6 => pair.fly(block),
+        7 | 8 => {
+            pair.land(block);
+            Ok(())
+        }
+        _ => join_some(rt, pair, source),
+    }
+}
+
+fn walk_by_chance(rt: &impl Abort, pair: &mut Pair, source: &mut Source) -> Result<(), AllocError> {
     for _ in 0..300 {
-        step(rt, pair, source)?;
+        step_by_chance(rt, pair, source)?;
         pair.expect(rt)?;
     }
+    assert!(rt; pair.joined > 10);
     Ok(())
 }
 
@@ -194,138 +256,192 @@ fn walk(rt: &impl Abort, pair: &mut Pair, source: &mut Source) -> Result<(), Fai
 #[test]
 fn a_long_walk_agrees_with_the_model(rt: HostRuntime) -> Result<(), Fail> {
     let mut pair = Pair::new(rt.alloc());
-    walk(&rt, &mut pair, &mut Source { state: 1 })?;
-    assert!(&rt; pair.joined > 10);
+    Ok(walk_by_chance(&rt, &mut pair, &mut Source { state: 1 })?)
+}
+
+// A move of a walk, and what is expected of it.
+#[derive(Clone, Copy)]
+enum Move<'a> {
+    // A patch on a block, which depends on these.
+    Add(u32, &'a [u32]),
+    // One that depends on all before it.
+    AddOnAll(u32),
+    // So many on the first block, each made durable before the next.
+    AddDurable(u32),
+    // What may be sent of a block is in flight.
+    Send(u32),
+    // What is in flight of a block is durable.
+    Complete(u32),
+    // The classes of two patches become one, at the first one's key.
+    Join(u32, u32),
+    // What may be sent of a block.
+    Ready(u32, &'a [u32]),
+    // The name of a patch's class.
+    Name(u32, u32),
+    // The block has no class.
+    Empty(u32),
+    // The links answer for every block what the slow model computes.
+    Agree,
+}
+
+fn add_on_all(rt: &impl Abort, pair: &mut Pair, block: u32) -> Result<(), AllocError> {
+    let mut after = Vec::new(pair.slow.alloc);
+    after.extend(0..pair.made)?;
+    pair.add(rt, block, after.as_slice())
+}
+
+fn add_durable(rt: &impl Abort, pair: &mut Pair, count: u32) -> Result<(), AllocError> {
+    for _ in 0..count {
+        pair.add(rt, 0, &[])?;
+        pair.fly(0)?;
+        pair.land(0);
+    }
     Ok(())
 }
 
-fn expect_ready(rt: &impl Abort, pair: &Pair, block: u32, numbers: &[u32]) -> Result<(), Fail> {
-    let ready = pair.links.ready(pair.slow.alloc, BlockNo(block))?;
-    assert!(rt; ready.iter().map(|no| no.0).eq(numbers.iter().copied()));
+fn expect_name(rt: &impl Abort, links: &Links<Global>, no: u32, name: u32) {
+    let key = links.find(PatchNo(no)).unwrap_or(0);
+    let found = match links.class_at(key) {
+        Some(class) => Some(class.name),
+        None => None,
+    };
+    expect_eq(rt, &found, &Some(PatchNo(name)));
+}
+
+fn step(rt: &impl Abort, pair: &mut Pair, next: &Move) -> Result<(), AllocError> {
+    match next {
+        Move::Add(block, after) => return pair.add(rt, *block, after),
+        Move::AddOnAll(block) => return add_on_all(rt, pair, *block),
+        Move::AddDurable(count) => return add_durable(rt, pair, *count),
+        Move::Send(block) => return pair.fly(*block),
+        Move::Complete(block) => pair.land(*block),
+        Move::Join(keep, gone) => return pair.join(rt, *keep, *gone),
+        Move::Ready(block, numbers) => {
+            return expect_ready(rt, &pair.links, pair.slow.alloc, *block, numbers);
+        }
+        Move::Name(no, name) => expect_name(rt, &pair.links, *no, *name),
+        Move::Empty(block) => assert!(rt; pair.links.is_empty_of(BlockNo(*block))),
+        Move::Agree => return pair.expect(rt),
+    }
     Ok(())
+}
+
+fn take_steps(rt: &impl Abort, pair: &mut Pair, moves: &[Move]) -> Result<(), AllocError> {
+    for next in moves {
+        step(rt, pair, next)?;
+    }
+    Ok(())
+}
+
+fn walk(rt: &impl Abort, alloc: Global, moves: &[Move]) -> Result<(), Fail> {
+    let mut pair = Pair::new(alloc);
+    Ok(take_steps(rt, &mut pair, moves)?)
 }
 
 // A chain through two blocks: each link may be sent once the one before it is durable.
-fn go_link_by_link(rt: &impl Abort, pair: &mut Pair) -> Result<(), Fail> {
-    pair.add(rt, 0, &[])?;
-    pair.add(rt, 1, &[0])?;
-    pair.add(rt, 0, &[1])?;
-    expect_ready(rt, pair, 0, &[0])?;
-    expect_ready(rt, pair, 1, &[])?;
-    pair.fly(0)?;
-    expect_ready(rt, pair, 1, &[])?;
-    pair.land(0);
-    expect_ready(rt, pair, 1, &[1])?;
-    expect_ready(rt, pair, 0, &[])?;
-    pair.fly(1)?;
-    pair.land(1);
-    expect_ready(rt, pair, 0, &[2])
-}
+const LINK_BY_LINK: [Move<'static>; 13] = [
+    Move::Add(0, &[]),
+    Move::Add(1, &[0]),
+    Move::Add(0, &[1]),
+    Move::Ready(0, &[0]),
+    Move::Ready(1, &[]),
+    Move::Send(0),
+    Move::Ready(1, &[]),
+    Move::Complete(0),
+    Move::Ready(1, &[1]),
+    Move::Ready(0, &[]),
+    Move::Send(1),
+    Move::Complete(1),
+    Move::Ready(0, &[2]),
+];
 
 #[test]
 fn a_chain_goes_link_by_link(rt: HostRuntime) -> Result<(), Fail> {
-    let mut pair = Pair::new(rt.alloc());
-    go_link_by_link(&rt, &mut pair)
+    walk(&rt, rt.alloc(), &LINK_BY_LINK)
 }
 
 // Two hundred patches are made durable. One that names them all, and a live one behind them, waits for that one alone; so does
 // one that names the live one first.
-fn name_many_durable(rt: &impl Abort, pair: &mut Pair) -> Result<(), Fail> {
-    let mut after = Vec::new(pair.slow.alloc);
-    for no in 0..200 {
-        pair.add(rt, 0, &[])?;
-        pair.fly(0)?;
-        pair.land(0);
-        after.push(no)?;
-    }
-    pair.add(rt, 1, &[])?;
-    after.push(200)?;
-    pair.add(rt, 0, after.as_slice())?;
-    pair.add(rt, 0, &[200, 3, 199])?;
-    expect_ready(rt, pair, 0, &[])?;
-    pair.expect(rt)?;
-    pair.fly(1)?;
-    pair.land(1);
-    expect_ready(rt, pair, 0, &[201, 202])?;
-    pair.expect(rt)
-}
+const MANY_DURABLE: [Move<'static>; 10] = [
+    Move::AddDurable(200),
+    Move::Add(1, &[]),
+    Move::AddOnAll(0),
+    Move::Add(0, &[200, 3, 199]),
+    Move::Ready(0, &[]),
+    Move::Agree,
+    Move::Send(1),
+    Move::Complete(1),
+    Move::Ready(0, &[201, 202]),
+    Move::Agree,
+];
 
 #[test]
 fn durable_patches_keep_nothing_out(rt: HostRuntime) -> Result<(), Fail> {
-    let mut pair = Pair::new(rt.alloc());
-    name_many_durable(&rt, &mut pair)
+    walk(&rt, rt.alloc(), &MANY_DURABLE)
 }
 
 // A diamond within a block is ready at once; with one side elsewhere, its top waits for that.
-fn wait_for_both_sides(rt: &impl Abort, pair: &mut Pair) -> Result<(), Fail> {
-    pair.add(rt, 0, &[])?;
-    pair.add(rt, 0, &[0])?;
-    pair.add(rt, 1, &[0])?;
-    pair.add(rt, 0, &[1, 2])?;
-    expect_ready(rt, pair, 0, &[0, 1])?;
-    pair.fly(0)?;
-    pair.land(0);
-    expect_ready(rt, pair, 0, &[])?;
-    expect_ready(rt, pair, 1, &[2])?;
-    pair.fly(1)?;
-    pair.land(1);
-    expect_ready(rt, pair, 0, &[3])?;
-    pair.expect(rt)
-}
+const DIAMOND: [Move<'static>; 13] = [
+    Move::Add(0, &[]),
+    Move::Add(0, &[0]),
+    Move::Add(1, &[0]),
+    Move::Add(0, &[1, 2]),
+    Move::Ready(0, &[0, 1]),
+    Move::Send(0),
+    Move::Complete(0),
+    Move::Ready(0, &[]),
+    Move::Ready(1, &[2]),
+    Move::Send(1),
+    Move::Complete(1),
+    Move::Ready(0, &[3]),
+    Move::Agree,
+];
 
 #[test]
 fn a_diamond_waits_for_both_sides(rt: HostRuntime) -> Result<(), Fail> {
-    let mut pair = Pair::new(rt.alloc());
-    wait_for_both_sides(&rt, &mut pair)
+    walk(&rt, rt.alloc(), &DIAMOND)
 }
 
 // A class that may be sent joins one that waits: neither may be sent, nor what depends on the first, until what they wait
 // for is durable.
-fn join_a_waiting_one(rt: &impl Abort, pair: &mut Pair) -> Result<(), Fail> {
-    pair.add(rt, 1, &[])?;
-    pair.add(rt, 0, &[])?;
-    pair.add(rt, 0, &[1])?;
-    pair.add(rt, 0, &[0])?;
-    expect_ready(rt, pair, 0, &[1, 2])?;
-    pair.join(rt, 1, 3)?;
-    expect_ready(rt, pair, 0, &[])?;
-    pair.fly(1)?;
-    pair.land(1);
-    expect_ready(rt, pair, 0, &[1, 2, 3])?;
-    pair.expect(rt)
-}
+const JOINED_TO_A_WAITING_ONE: [Move<'static>; 11] = [
+    Move::Add(1, &[]),
+    Move::Add(0, &[]),
+    Move::Add(0, &[1]),
+    Move::Add(0, &[0]),
+    Move::Ready(0, &[1, 2]),
+    Move::Join(1, 3),
+    Move::Ready(0, &[]),
+    Move::Send(1),
+    Move::Complete(1),
+    Move::Ready(0, &[1, 2, 3]),
+    Move::Agree,
+];
 
 #[test]
 fn a_ready_class_joins_a_waiting_one(rt: HostRuntime) -> Result<(), Fail> {
-    let mut pair = Pair::new(rt.alloc());
-    join_a_waiting_one(&rt, &mut pair)
+    walk(&rt, rt.alloc(), &JOINED_TO_A_WAITING_ONE)
 }
 
 // Two classes of which one waits for the other alone, elsewhere kept out: joined they wait for the rest.
-fn join_what_waits_for_itself(rt: &impl Abort, pair: &mut Pair) -> Result<(), Fail> {
-    pair.add(rt, 1, &[])?;
-    pair.add(rt, 0, &[0])?;
-    pair.add(rt, 0, &[1, 1])?;
-    expect_ready(rt, pair, 0, &[])?;
-    pair.join(rt, 2, 1)?;
-    expect_ready(rt, pair, 0, &[])?;
-    pair.fly(1)?;
-    pair.land(1);
-    expect_ready(rt, pair, 0, &[1, 2])?;
-    let key = pair.links.find(PatchNo(1)).unwrap_or(0);
-    let name = match pair.links.class_at(key) {
-        Some(class) => class.name,
-        None => PatchNo(9),
-    };
-    assert_eq!(rt; name, PatchNo(1));
-    pair.fly(0)?;
-    pair.land(0);
-    assert!(rt; pair.links.is_empty_of(BlockNo(0)));
-    pair.expect(rt)
-}
+const WAITING_FOR_ITSELF: [Move<'static>; 14] = [
+    Move::Add(1, &[]),
+    Move::Add(0, &[0]),
+    Move::Add(0, &[1, 1]),
+    Move::Ready(0, &[]),
+    Move::Join(2, 1),
+    Move::Ready(0, &[]),
+    Move::Send(1),
+    Move::Complete(1),
+    Move::Ready(0, &[1, 2]),
+    Move::Name(1, 1),
+    Move::Send(0),
+    Move::Complete(0),
+    Move::Empty(0),
+    Move::Agree,
+];
 
 #[test]
 fn what_waits_for_itself_waits_no_more(rt: HostRuntime) -> Result<(), Fail> {
-    let mut pair = Pair::new(rt.alloc());
-    join_what_waits_for_itself(&rt, &mut pair)
+    walk(&rt, rt.alloc(), &WAITING_FOR_ITSELF)
 }

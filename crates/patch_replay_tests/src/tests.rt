@@ -11,10 +11,16 @@ use patch_replay::{
 };
 use patch_script::{Answer, Defect, Line, Name};
 use std::alloc::{AllocError, Global};
+use std::fmt::Debug;
 use std::io;
 use std::io::{BufWriter, ErrorKind, Read, Write};
 use std::process::Abort;
 use std::test::Fail;
+
+// Ends the test, telling both, unless what came is what is wanted. A call takes the prover less than `assert_eq!` where it stands.
+fn expect_eq<T: PartialEq + Debug>(rt: &impl Abort, got: &T, want: &T) {
+    assert_eq!(rt; *got, *want);
+}
 
 const SCRIPT: &str = r#"{"op":"patch","block":0,"start":0,"hex":"a1a2a3a4"}
 
@@ -34,11 +40,14 @@ fn replayed(alloc: Global, script: &[u8], blocks: u32) -> (Status, Vec<u8>)
 }
 
 fn check(rt: &impl Abort, alloc: Global, row: &Row) {
-    let name = row.name;
     assert!(rt; 0 < row.blocks && row.blocks <= DEFAULT_BLOCKS);
     let (status, answers) = replayed(alloc, row.script.as_bytes(), row.blocks);
-    assert_eq!(rt; status, row.status, "{name}");
-    assert_eq!(rt; answers.as_slice(), row.answers.as_bytes(), "{name}");
+    expect_eq(rt, &(&row.name, &status), &(&row.name, &row.status));
+    expect_eq(
+        rt,
+        &(&row.name, &answers.as_slice()),
+        &(&row.name, &row.answers.as_bytes()),
+    );
 }
 
 fn check_each(rt: &impl Abort, alloc: Global, rows: &[Row]) {
@@ -55,44 +64,98 @@ fn worked_scripts(rt: HostRuntime) {
     check_each(&rt, rt.alloc(), &ROWS_OF_GROUPS);
 }
 
-// The replay of a script of one byte so many times.
-fn replayed_long(alloc: Global, byte: u8, count: usize) -> Result<(Status, Vec<u8>), AllocError> {
-    let script = vec![in alloc; byte; count]?;
+// A script of one byte so many times, how its replay ends, and what it writes.
+#[derive(Clone, Copy)]
+struct Long {
+    byte: u8,
+    count: usize,
+    status: Status,
+    answers: &'static str,
+}
+
+const TOO_LONG: Status = Status::Unreadable(BadScript::TooLong);
+
+// As many bytes and lines as there may be, and one more.
+const LONG: [Long; 4] = [
+    Long {
+        byte: b' ',
+        count: 16_777_216,
+        status: Status::Done,
+        answers: "",
+    },
+    Long {
+        byte: b' ',
+        count: 16_777_217,
+        status: TOO_LONG,
+        answers: "fault ScriptTooLong\n",
+    },
+    Long {
+        byte: b'\n',
+        count: 100_000,
+        status: Status::Done,
+        answers: "",
+    },
+    Long {
+        byte: b'\n',
+        count: 100_001,
+        status: TOO_LONG,
+        answers: "fault ScriptTooLong\n",
+    },
+];
+
+fn replayed_long(alloc: Global, long: &Long) -> Result<(Status, Vec<u8>), AllocError> {
+    let script = vec![in alloc; long.byte; long.count]?;
     Ok(replayed(alloc, &script, DEFAULT_BLOCKS))
+}
+
+fn check_long(rt: &impl Abort, alloc: Global, long: &Long) -> Result<(), AllocError> {
+    let (status, answers) = replayed_long(alloc, long)?;
+    expect_eq(rt, &(&long.count, &status), &(&long.count, &long.status));
+    expect_eq(
+        rt,
+        &(&long.count, &answers.as_slice()),
+        &(&long.count, &long.answers.as_bytes()),
+    );
+    Ok(())
 }
 
 #[test]
 fn long_scripts(rt: HostRuntime) -> Result<(), Fail> {
-    let too_long = "fault ScriptTooLong\n";
-    let refused = Status::Unreadable(BadScript::TooLong);
-    for (byte, count, answers, status) in [
-        (b' ', 16_777_216, "", Status::Done),
-        (b' ', 16_777_217, too_long, refused),
-        (b'\n', 100_000, "", Status::Done),
-        (b'\n', 100_001, too_long, refused),
-    ] {
-        let (ended, text) = replayed_long(rt.alloc(), byte, count)?;
-        assert_eq!(rt; ended, status);
-        assert_eq!(rt; text.as_slice(), answers.as_bytes());
+    for long in LONG.iter() {
+        check_long(&rt, rt.alloc(), long)?;
     }
+    Ok(())
+}
+
+const WORDS: [(BadScript, &str); 2] = [
+    (
+        BadScript::TooLong,
+        "the script has more than 16777216 bytes or 100000 lines",
+    ),
+    (
+        BadScript::BadLine {
+            line: 3,
+            defect: Defect::Missing(Name::Hex),
+        },
+        "line 3: \"hex\" is missing",
+    ),
+];
+
+fn expect_words(
+    rt: &impl Abort,
+    alloc: Global,
+    why: BadScript,
+    want: &str,
+) -> Result<(), AllocError> {
+    let words = format!(in alloc; "{why}")?;
+    expect_eq(rt, &words.as_str(), &want);
     Ok(())
 }
 
 #[test]
 fn says_why_a_script_is_not_replayed(rt: HostRuntime) -> Result<(), Fail> {
-    let defect = Defect::Missing(Name::Hex);
-    for (why, want) in [
-        (
-            BadScript::TooLong,
-            "the script has more than 16777216 bytes or 100000 lines",
-        ),
-        (
-            BadScript::BadLine { line: 3, defect },
-            "line 3: \"hex\" is missing",
-        ),
-    ] {
-        let words = format!(in rt.alloc(); "{why}")?;
-        assert_eq!(rt; words.as_str(), want);
+    for (why, want) in WORDS.iter() {
+        expect_words(&rt, rt.alloc(), *why, *want)?;
     }
     Ok(())
 }
@@ -125,7 +188,7 @@ fn as_many_patches_as_may_be_live(rt: HostRuntime) -> Result<(), Fail> {
     let mut answers = String::new(rt.alloc());
     push_numbers(&mut answers)?;
     let (status, text) = replayed_live(rt.alloc())?;
-    assert_eq!(rt; status, Status::Done);
+    expect_eq(&rt, &status, &Status::Done);
     assert!(rt; text.as_slice() == answers.as_bytes());
     Ok(())
 }
@@ -170,8 +233,8 @@ fn end_of<R: Read, W: Output>(alloc: Global, reader: &mut Source<R>, writer: &mu
 fn expect_from<R: Read + Drop>(rt: &impl Abort, alloc: Global, reader: R, end: End, text: &str) {
     let mut reader = Source::new(reader);
     let mut writer = Sink::new(Vec::new(alloc));
-    assert_eq!(rt; end_of(alloc, &mut reader, &mut writer), end);
-    assert_eq!(rt; writer.into_inner().as_slice(), text.as_bytes());
+    expect_eq(rt, &end_of(alloc, &mut reader, &mut writer), &end);
+    expect_eq(rt, &writer.into_inner().as_slice(), &text.as_bytes());
 }
 
 /// The end of a replay that gave up its reader behind so many reads, of which one has failed or none.
@@ -285,13 +348,13 @@ fn expect_into(rt: &impl Abort, alloc: Global, calls: usize, end: End, count: us
     let taken = Vec::new(alloc);
     let mut reader = Source::new(SCRIPT.as_bytes());
     let mut writer = Sink::new(Writer { taken, calls });
-    assert_eq!(rt;
-        end_of(alloc, &mut reader, &mut writer),
-        end,
-        "{calls} calls"
+    expect_eq(
+        rt,
+        &(&calls, &end_of(alloc, &mut reader, &mut writer)),
+        &(&calls, &end),
     );
     let want = ANSWERS.as_bytes().get(..count);
-    assert_eq!(rt; Some(writer.into_inner().taken.as_slice()), want);
+    expect_eq(rt, &Some(writer.into_inner().taken.as_slice()), &want);
 }
 
 /// The end of a replay that gave up its writer.
@@ -314,14 +377,18 @@ fn failing_writers(rt: HostRuntime) {
     expect_into(&rt, rt.alloc(), 8, done(2), ANSWERS.len());
 }
 
+fn expect_passed_on(rt: &impl Abort, alloc: Global, buffered: BufWriter<Vec<u8>>) {
+    let mut reader = Source::new(SCRIPT.as_bytes());
+    let mut writer = Sink::new(buffered);
+    expect_eq(rt, &end_of(alloc, &mut reader, &mut writer), &done(2));
+    let buffered = writer.into_inner();
+    expect_eq(rt, &buffered.get_ref().as_slice(), &ANSWERS.as_bytes());
+}
+
 #[test]
 fn answers_are_not_kept_back(rt: HostRuntime) -> Result<(), Fail> {
-    let alloc = rt.alloc();
-    let mut writer = Sink::new(BufWriter::new(alloc, Vec::new(alloc))?);
-    let mut reader = Source::new(SCRIPT.as_bytes());
-    assert_eq!(rt; end_of(alloc, &mut reader, &mut writer), done(2));
-    let buffered = writer.into_inner();
-    assert_eq!(rt; buffered.get_ref().as_slice(), ANSWERS.as_bytes());
+    let buffered = BufWriter::new(rt.alloc(), Vec::new(rt.alloc()))?;
+    expect_passed_on(&rt, rt.alloc(), buffered);
     Ok(())
 }
 
@@ -343,32 +410,39 @@ impl Core for Starved {
     }
 }
 
+/// A replay over a core, and what it writes.
+fn replayed_over<C: Core>(alloc: Global, core: &mut C) -> (Status, Vec<u8>) {
+    let mut out = Sink::new(Vec::new(alloc));
+    let status = replay_over(alloc, &mut Source::new(SCRIPT.as_bytes()), &mut out, core);
+    (status, out.into_inner())
+}
+
 /// A replay over a core that answers so many lines.
 fn replayed_over_starved(alloc: Global, lines: u32) -> Result<(Status, Vec<u8>), OutOfMemory> {
     let disk = CachedDisk::new(alloc, DEFAULT_BLOCKS)?;
     let mut core = Starved { disk, lines };
-    let mut out = Sink::new(Vec::new(alloc));
-    let status = replay_over(
-        alloc,
-        &mut Source::new(SCRIPT.as_bytes()),
-        &mut out,
-        &mut core,
-    );
+    let replayed = replayed_over(alloc, &mut core);
     let Starved { disk, lines: _ } = core;
     disk.close();
-    Ok((status, out.into_inner()))
+    Ok(replayed)
+}
+
+fn check_starved(
+    rt: &impl Abort,
+    alloc: Global,
+    lines: u32,
+    want: &str,
+) -> Result<(), OutOfMemory> {
+    let (status, text) = replayed_over_starved(alloc, lines)?;
+    expect_eq(rt, &(status, status.code()), &(Status::OutOfMemory, 5));
+    expect_eq(rt, &text.as_slice(), &want.as_bytes());
+    Ok(())
 }
 
 #[test]
 fn starved_cores(rt: HostRuntime) -> Result<(), Fail> {
-    for (lines, want) in [
-        (0, "fault OutOfMemory\n"),
-        (1, "patch 0\nfault OutOfMemory\n"),
-        (2, "patch 0\npatch 1\nfault OutOfMemory\n"),
-    ] {
-        let (status, text) = replayed_over_starved(rt.alloc(), lines)?;
-        assert_eq!(rt; (status, status.code()), (Status::OutOfMemory, 5));
-        assert_eq!(rt; text.as_slice(), want.as_bytes());
-    }
+    check_starved(&rt, rt.alloc(), 0, "fault OutOfMemory\n")?;
+    check_starved(&rt, rt.alloc(), 1, "patch 0\nfault OutOfMemory\n")?;
+    check_starved(&rt, rt.alloc(), 2, "patch 0\npatch 1\nfault OutOfMemory\n")?;
     Ok(())
 }

@@ -1,4 +1,7 @@
 //! Lines of many forms, which are read from their objects as from trees of values: what they ask for, and what is wrong with them.
+ghost use Rattle.std.specs.Prelude.{◌<◌, length};
+
+use crate::expecting::expect_eq;
 use crate::tree_lines::TreeLines;
 use patch_script::*;
 use std::alloc::{AllocError, Global};
@@ -117,42 +120,70 @@ struct Changed<'v> {
     change: Change,
 }
 
-/// A line of an op with these changes, each of another member.
-fn changed_line(alloc: Global, op: &str, changes: &[Changed<'_>]) -> Result<String, AllocError> {
-    let mut text = String::new(alloc);
+fn push_line(text: &mut String, op: &str, changes: &[Changed<'_>]) -> Result<(), AllocError> {
     write!(text, "{{\"op\":{op}")?;
     for (at, member) in MEMBERS.iter().enumerate() {
         match changes.iter().find(|it| it.place == at) {
-            Some(it) => push_changed(&mut text, *member, it.value, it.change)?,
-            None => push_member(&mut text, member.0, member.1)?,
+            Some(it) => push_changed(text, *member, it.value, it.change)?,
+            None => push_member(text, member.0, member.1)?,
         }
     }
-    write!(text, "}}")?;
-    Ok(text)
+    text.push_str("}")
+}
+
+fn push_lines(text: &mut String, lines: &[Line]) -> Result<(), AllocError> {
+    for line in lines {
+        writeln!(text, "{line:?}")?;
+    }
+    Ok(())
+}
+
+fn push_told(text: &mut String, read: &Result<Vec<Line>, ScriptError>) -> Result<(), AllocError> {
+    match read {
+        Ok(lines) => push_lines(text, lines),
+        Err(error) => writeln!(text, "{error:?}"),
+    }
 }
 
 /// What is told of a script that was read.
-fn told(alloc: Global, read: Result<Vec<Line>, ScriptError>) -> Result<String, AllocError> {
+fn told(alloc: Global, read: &Result<Vec<Line>, ScriptError>) -> Result<String, AllocError> {
     let mut text = String::new(alloc);
-    match read {
-        Ok(lines) => {
-            for line in lines.as_slice() {
-                writeln!(text, "{line:?}")?;
-            }
-        }
-        Err(error) => writeln!(text, "{error:?}")?,
-    }
+    push_told(&mut text, read)?;
     Ok(text)
+}
+
+/// The same is told of both.
+fn expect_same_told(
+    rt: &impl Abort,
+    alloc: Global,
+    from_objects: &Result<Vec<Line>, ScriptError>,
+    from_trees: &Result<Vec<Line>, ScriptError>,
+) -> Result<(), AllocError> {
+    let from_objects = told(alloc, from_objects)?;
+    let from_trees = told(alloc, from_trees)?;
+    expect_eq(rt, &from_objects.as_str(), &from_trees.as_str());
+    Ok(())
 }
 
 pub(crate) fn expect_same(rt: &impl Abort, alloc: Global, text: &[u8]) -> Result<(), AllocError> {
     if passes_limit(text) {
         return Ok(());
     }
-    let from_objects = told(alloc, read_script(alloc, text))?;
-    let from_trees = told(alloc, read_lines(alloc, &TreeLines, text))?;
-    assert_eq!(rt; from_objects.as_str(), from_trees.as_str());
-    Ok(())
+    let from_objects = read_script(alloc, text);
+    let from_trees = read_lines(alloc, &TreeLines, text);
+    expect_same_told(rt, alloc, &from_objects, &from_trees)
+}
+
+/// A line of an op with these changes, each of another member.
+fn expect_same_changed(
+    rt: &impl Abort,
+    alloc: Global,
+    op: &str,
+    changes: &[Changed<'_>],
+) -> Result<(), AllocError> {
+    let mut line = String::new(alloc);
+    push_line(&mut line, op, changes)?;
+    expect_same(rt, alloc, line.as_bytes())
 }
 
 /// A line of an op with one change, of each kind that depends on a value.
@@ -169,8 +200,7 @@ fn expect_same_with(
             value,
             change: *change,
         };
-        let line = changed_line(alloc, op, &[changed])?;
-        expect_same(rt, alloc, line.as_bytes())?;
+        expect_same_changed(rt, alloc, op, &[changed])?;
     }
     Ok(())
 }
@@ -182,8 +212,7 @@ fn expect_same_of(rt: &impl Abort, alloc: Global, op: &str) -> Result<(), AllocE
             value: "",
             change: Change::Without,
         };
-        let line = changed_line(alloc, op, &[without])?;
-        expect_same(rt, alloc, line.as_bytes())?;
+        expect_same_changed(rt, alloc, op, &[without])?;
         for value in VALUES.iter() {
             expect_same_with(rt, alloc, op, place, *value)?;
         }
@@ -191,7 +220,7 @@ fn expect_same_of(rt: &impl Abort, alloc: Global, op: &str) -> Result<(), AllocE
     Ok(())
 }
 
-fn expect_same_of_each(rt: &impl Abort, alloc: Global, ops: &[&str]) -> Result<(), AllocError> {
+fn expect_same_of_each(rt: &impl Abort, alloc: Global, ops: &[&str]) -> Result<(), Fail> {
     for op in ops {
         expect_same_of(rt, alloc, *op)?;
     }
@@ -202,30 +231,26 @@ fn expect_same_of_each(rt: &impl Abort, alloc: Global, ops: &[&str]) -> Result<(
 fn changed_lines_of_patches_are_read_from_objects_as_from_trees(
     rt: HostRuntime,
 ) -> Result<(), Fail> {
-    expect_same_of_each(&rt, rt.alloc(), &PATCH_OPS)?;
-    Ok(())
+    expect_same_of_each(&rt, rt.alloc(), &PATCH_OPS)
 }
 
 #[test]
 fn changed_lines_of_looks_are_read_from_objects_as_from_trees(rt: HostRuntime) -> Result<(), Fail> {
-    expect_same_of_each(&rt, rt.alloc(), &LOOK_OPS)?;
-    Ok(())
+    expect_same_of_each(&rt, rt.alloc(), &LOOK_OPS)
 }
 
 #[test]
 fn changed_lines_of_groups_are_read_from_objects_as_from_trees(
     rt: HostRuntime,
 ) -> Result<(), Fail> {
-    expect_same_of_each(&rt, rt.alloc(), &GROUP_OPS)?;
-    Ok(())
+    expect_same_of_each(&rt, rt.alloc(), &GROUP_OPS)
 }
 
 #[test]
 fn changed_lines_of_other_ops_are_read_from_objects_as_from_trees(
     rt: HostRuntime,
 ) -> Result<(), Fail> {
-    expect_same_of_each(&rt, rt.alloc(), &OTHER_OPS)?;
-    Ok(())
+    expect_same_of_each(&rt, rt.alloc(), &OTHER_OPS)
 }
 
 /// How two members are changed at once. No member may have such a value. Those of text alone leave a line plain.
@@ -250,8 +275,7 @@ fn expect_same_beside(
             value: *value,
             change: *change,
         };
-        let line = changed_line(alloc, op, &[first, second])?;
-        expect_same(rt, alloc, line.as_bytes())?;
+        expect_same_changed(rt, alloc, op, &[first, second])?;
     }
     Ok(())
 }
@@ -285,7 +309,7 @@ fn expect_same_of_two(rt: &impl Abort, alloc: Global, op: &str) -> Result<(), Al
     Ok(())
 }
 
-fn expect_same_of_two_each(rt: &impl Abort, alloc: Global, ops: &[&str]) -> Result<(), AllocError> {
+fn expect_same_of_two_each(rt: &impl Abort, alloc: Global, ops: &[&str]) -> Result<(), Fail> {
     for op in ops {
         expect_same_of_two(rt, alloc, *op)?;
     }
@@ -294,26 +318,22 @@ fn expect_same_of_two_each(rt: &impl Abort, alloc: Global, ops: &[&str]) -> Resu
 
 #[test]
 fn of_two_defects_of_patches_the_same_one_is_told(rt: HostRuntime) -> Result<(), Fail> {
-    expect_same_of_two_each(&rt, rt.alloc(), &PATCH_OPS)?;
-    Ok(())
+    expect_same_of_two_each(&rt, rt.alloc(), &PATCH_OPS)
 }
 
 #[test]
 fn of_two_defects_of_looks_the_same_one_is_told(rt: HostRuntime) -> Result<(), Fail> {
-    expect_same_of_two_each(&rt, rt.alloc(), &LOOK_OPS)?;
-    Ok(())
+    expect_same_of_two_each(&rt, rt.alloc(), &LOOK_OPS)
 }
 
 #[test]
 fn of_two_defects_of_groups_the_same_one_is_told(rt: HostRuntime) -> Result<(), Fail> {
-    expect_same_of_two_each(&rt, rt.alloc(), &GROUP_OPS)?;
-    Ok(())
+    expect_same_of_two_each(&rt, rt.alloc(), &GROUP_OPS)
 }
 
 #[test]
 fn of_two_defects_of_other_ops_the_same_one_is_told(rt: HostRuntime) -> Result<(), Fail> {
-    expect_same_of_two_each(&rt, rt.alloc(), &OTHER_OPS)?;
-    Ok(())
+    expect_same_of_two_each(&rt, rt.alloc(), &OTHER_OPS)
 }
 
 const LINES: [&str; 10] = [
@@ -329,16 +349,28 @@ const LINES: [&str; 10] = [
     "{\"op\":\"sync\",\"group\":6,\"é\":\"é\"}",
 ];
 
-/// The first bytes of a line, and the others once more behind something else.
+/// A line with another byte at a place.
+fn expect_same_but_for(
+    rt: &impl Abort,
+    alloc: Global,
+    line: &[u8],
+    at: usize,
+    byte: u8,
+) -> Result<(), AllocError>
+    requires { at < length line.now }
+{
+    let mut other = Vec::from_slice(alloc, line)?;
+    other[at] = byte;
+    expect_same(rt, alloc, other.as_slice())
+}
+
+/// A line's first bytes, the others, and the line with another byte where those begin.
 fn expect_same_pieces(rt: &impl Abort, alloc: Global, line: &[u8]) -> Result<(), AllocError> {
     for end in 0..line.len() {
         expect_same(rt, alloc, &line[..end])?;
         expect_same(rt, alloc, &line[end..])?;
-        let mut other = Vec::from_slice(alloc, line)?;
-        other[end] = b'7';
-        expect_same(rt, alloc, other.as_slice())?;
-        other[end] = 0xff;
-        expect_same(rt, alloc, other.as_slice())?;
+        expect_same_but_for(rt, alloc, line, end, b'7')?;
+        expect_same_but_for(rt, alloc, line, end, 0xff)?;
     }
     Ok(())
 }
@@ -347,31 +379,33 @@ fn expect_same_pieces(rt: &impl Abort, alloc: Global, line: &[u8]) -> Result<(),
 fn pieces_of_lines_are_read_from_objects_as_from_trees(rt: HostRuntime) -> Result<(), Fail> {
     let alloc = rt.alloc();
     for line in LINES.iter() {
-        expect_same(&rt, alloc, line.as_bytes())?;
         expect_same_pieces(&rt, alloc, line.as_bytes())?;
     }
     Ok(())
 }
 
 /// A line with a member that nests so deep.
-fn nested_line(alloc: Global, depth: usize) -> Result<String, AllocError> {
-    let mut text = String::from_str(alloc, "{\"op\":\"group\",\"x\":")?;
+fn push_nested(text: &mut String, depth: usize) -> Result<(), AllocError> {
+    text.push_str("{\"op\":\"group\",\"x\":")?;
     for _ in 0..depth {
         text.push_str("[")?;
     }
     for _ in 0..depth {
         text.push_str("]")?;
     }
-    text.push_str("}")?;
-    Ok(text)
+    text.push_str("}")
+}
+
+fn expect_same_nested(rt: &impl Abort, alloc: Global, depth: usize) -> Result<(), AllocError> {
+    let mut line = String::new(alloc);
+    push_nested(&mut line, depth)?;
+    expect_same(rt, alloc, line.as_bytes())
 }
 
 #[test]
 fn nested_lines_are_read_from_objects_as_from_trees(rt: HostRuntime) -> Result<(), Fail> {
-    let alloc = rt.alloc();
     for depth in 0..140 {
-        let line = nested_line(alloc, depth)?;
-        expect_same(&rt, alloc, line.as_bytes())?;
+        expect_same_nested(&rt, rt.alloc(), depth)?;
     }
     Ok(())
 }

@@ -70,24 +70,36 @@ fn push_padded(text: &mut String, line: &str, len: usize) -> Result<(), AllocErr
 }
 
 /// So many lines of a mix, of which one each so many isn't plain, with another line at a place.
-fn mixed_script(
+fn push_mixed(
+    text: &mut String,
+    mix: Mix,
+    distance: usize,
+    place: usize,
+    line: &str,
+) -> Result<(), AllocError> {
+    for at in 0..mix.trees.saturating_mul(2).saturating_add(4) {
+        if at == place {
+            push_padded(text, line, 0)?;
+        } else if at % distance.max(1) == 0 {
+            push_padded(text, ODD, mix.odd)?;
+        } else {
+            push_padded(text, PLAIN, mix.plain)?;
+        }
+    }
+    Ok(())
+}
+
+fn expect_same_mixed(
+    rt: &impl Abort,
     alloc: Global,
     mix: Mix,
     distance: usize,
     place: usize,
     line: &str,
-) -> Result<String, AllocError> {
-    let mut text = String::new(alloc);
-    for at in 0..mix.trees.saturating_mul(2).saturating_add(4) {
-        if at == place {
-            push_padded(&mut text, line, 0)?;
-        } else if at % distance.max(1) == 0 {
-            push_padded(&mut text, ODD, mix.odd)?;
-        } else {
-            push_padded(&mut text, PLAIN, mix.plain)?;
-        }
-    }
-    Ok(text)
+) -> Result<(), AllocError> {
+    let mut script = String::new(alloc);
+    push_mixed(&mut script, mix, distance, place, line)?;
+    expect_same(rt, alloc, script.as_bytes())
 }
 
 /// The line right behind one that isn't plain, the last that is read as a tree, and those beside them.
@@ -99,11 +111,9 @@ fn expect_same_at(
     line: &str,
 ) -> Result<(), AllocError> {
     for beside in 0..3 {
-        let script = mixed_script(alloc, mix, distance, beside, line)?;
-        expect_same(rt, alloc, script.as_bytes())?;
+        expect_same_mixed(rt, alloc, mix, distance, beside, line)?;
         let last = mix.trees.saturating_add(beside).saturating_sub(1);
-        let script = mixed_script(alloc, mix, distance, last, line)?;
-        expect_same(rt, alloc, script.as_bytes())?;
+        expect_same_mixed(rt, alloc, mix, distance, last, line)?;
     }
     Ok(())
 }
@@ -139,15 +149,18 @@ fn lines_among_others_are_read_from_objects_as_from_trees(rt: HostRuntime) -> Re
 }
 
 /// A line that isn't plain and has a text of so many letters, and then lines with other texts.
-fn long_script(alloc: Global, letters: usize) -> Result<String, AllocError> {
-    let mut text = String::from_str(alloc, "{\"op\":\"group\",\"\\u0061\":\"")?;
+fn push_long(text: &mut String, letters: usize) -> Result<(), AllocError> {
+    text.push_str("{\"op\":\"group\",\"\\u0061\":\"")?;
     for _ in 0..letters {
         text.push_str("x")?;
     }
-    text.push_str(
-        "\",\"n\":null}\n{\"op\":\"\\u0067roup\"}\n{\"\\u006fp\":\"send\",\"block\":7}\n",
-    )?;
-    Ok(text)
+    text.push_str("\",\"n\":null}\n{\"op\":\"\\u0067roup\"}\n{\"\\u006fp\":\"send\",\"block\":7}\n")
+}
+
+fn expect_same_long(rt: &impl Abort, alloc: Global, letters: usize) -> Result<(), AllocError> {
+    let mut script = String::new(alloc);
+    push_long(&mut script, letters)?;
+    expect_same(rt, alloc, script.as_bytes())
 }
 
 /// The bytes of such a line beside its letters.
@@ -155,10 +168,8 @@ const BESIDE: usize = 35;
 
 #[test]
 fn long_lines_are_read_from_objects_as_from_trees(rt: HostRuntime) -> Result<(), Fail> {
-    let alloc = rt.alloc();
     for len in [1_000usize, 16_382, 16_383, 16_384, 16_385, 100_000].iter() {
-        let script = long_script(alloc, len.saturating_sub(BESIDE))?;
-        expect_same(&rt, alloc, script.as_bytes())?;
+        expect_same_long(&rt, rt.alloc(), len.saturating_sub(BESIDE))?;
     }
     Ok(())
 }
@@ -171,21 +182,32 @@ enum Names {
 }
 
 /// A line of so many members, one after another in value, and another line behind it.
-fn line_of_members(
-    alloc: Global,
+fn push_line_of_members(
+    text: &mut String,
     names: Names,
     count: usize,
     last: &str,
-) -> Result<String, AllocError> {
-    let mut text = String::from_str(alloc, "{\"op\":\"send\"")?;
+) -> Result<(), AllocError> {
+    text.push_str("{\"op\":\"send\"")?;
     for at in 2..count {
         match names {
             Names::Alike => write!(text, ",\"block\":{at}")?,
             Names::Apart => write!(text, ",\"n{at}\":{at}")?,
         }
     }
-    write!(text, "{last}}}\n{PLAIN}\n")?;
-    Ok(text)
+    write!(text, "{last}}}\n{PLAIN}\n")
+}
+
+fn expect_same_behind_members(
+    rt: &impl Abort,
+    alloc: Global,
+    names: Names,
+    count: usize,
+    last: &str,
+) -> Result<(), AllocError> {
+    let mut script = String::new(alloc);
+    push_line_of_members(&mut script, names, count, last)?;
+    expect_same(rt, alloc, script.as_bytes())
 }
 
 const LASTS: [&str; 6] = [
@@ -204,8 +226,7 @@ fn expect_same_members(
     count: usize,
 ) -> Result<(), AllocError> {
     for last in LASTS.iter() {
-        let script = line_of_members(alloc, names, count, *last)?;
-        expect_same(rt, alloc, script.as_bytes())?;
+        expect_same_behind_members(rt, alloc, names, count, *last)?;
     }
     Ok(())
 }

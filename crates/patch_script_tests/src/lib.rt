@@ -6,6 +6,8 @@ mod agreeing;
 #[cfg(test)]
 mod among;
 #[cfg(test)]
+mod expecting;
+#[cfg(test)]
 mod old_fields;
 #[cfg(test)]
 mod rows;

@@ -1,4 +1,5 @@
 //! Scripts of every kind, and the texts of answers.
+use crate::expecting::expect_eq;
 use patch_model::{BlockNo, Bytes, GroupNo, Items, Numbers, PatchNo, Refusal, RefusalKind};
 use patch_script::*;
 use std::alloc::{AllocError, Global};
@@ -29,7 +30,7 @@ fn read(alloc: Global, text: &[u8]) -> Reading {
 // Each line, as a script of its own, is read like that.
 fn expect_each(rt: &impl Abort, alloc: Global, lines: &str, want: Reading) {
     for line in lines.lines() {
-        assert_eq!(rt; read(alloc, line.as_bytes()), want, "{line}");
+        expect_eq(rt, &(&line, &read(alloc, line.as_bytes())), &(&line, &want));
     }
 }
 
@@ -279,113 +280,101 @@ const UNREADABLE_SYNCS: &str = r#"{"op":"sync"}
 {"op":"sync","group":null}
 {"op":"sync","group":[0]}"#;
 
+const UNREADABLE_OF_EACH_OP: [&str; 11] = [
+    UNREADABLE,
+    UNREADABLE_MERGES,
+    UNREADABLE_SENDS,
+    UNREADABLE_COMPLETIONS,
+    UNREADABLE_DISKS,
+    UNREADABLE_ENGAGEMENTS,
+    UNREADABLE_DISENGAGEMENTS,
+    UNREADABLE_ORDERS,
+    UNREADABLE_CLOSINGS,
+    UNREADABLE_COUNTS,
+    UNREADABLE_SYNCS,
+];
+
 #[test]
 fn refuses_unreadable_lines(rt: HostRuntime) {
-    for lines in [
-        UNREADABLE,
-        UNREADABLE_MERGES,
-        UNREADABLE_SENDS,
-        UNREADABLE_COMPLETIONS,
-        UNREADABLE_DISKS,
-        UNREADABLE_ENGAGEMENTS,
-        UNREADABLE_DISENGAGEMENTS,
-        UNREADABLE_ORDERS,
-        UNREADABLE_CLOSINGS,
-        UNREADABLE_COUNTS,
-        UNREADABLE_SYNCS,
-    ] {
-        expect_each(&rt, rt.alloc(), lines, Reading::BadLine(1));
+    for lines in UNREADABLE_OF_EACH_OP.iter() {
+        expect_each(&rt, rt.alloc(), *lines, Reading::BadLine(1));
     }
 }
 
-const WHOLE: &str = "a whole number from 0 to 4294967295";
-
-const LIST: &str = "a list of whole numbers from 0 to 4294967295";
-
 const OPS: &str =
-    "one of patch, merge, send, complete, view, show, disk, group, engage, disengage, depend, close, pending and sync";
+    "\"op\" is not one of patch, merge, send, complete, view, show, disk, group, engage, disengage, depend, close, pending and sync";
 
-const DIGITS: &str = "a text of hexadecimal digits, two for each byte";
+const WRITER: &str = "\"writer\" is not a whole number from 0 to 7";
 
-// What is said of an unreadable line: its words, and what the value has to be.
-const WORDS: [(&str, &str, &str); 25] = [
-    (
-        r#"{"op":"#,
-        "not JSON, or nested deeper than 127 levels",
-        "",
-    ),
-    (r#"["op"]"#, "not a JSON object", ""),
-    (r#"{"block":0}"#, "\"op\" is missing", ""),
-    (r#"{"op":"send"}"#, "\"block\" is missing", ""),
+// What is said of an unreadable line.
+const WORDS: [(&str, &str); 25] = [
+    (r#"{"op":"#, "not JSON, or nested deeper than 127 levels"),
+    (r#"["op"]"#, "not a JSON object"),
+    (r#"{"block":0}"#, "\"op\" is missing"),
+    (r#"{"op":"send"}"#, "\"block\" is missing"),
     (
         r#"{"op":"patch","block":0,"start":0}"#,
         "\"hex\" is missing",
-        "",
     ),
-    (r#"{"op":"view"}"#, "\"take\" is missing", ""),
+    (r#"{"op":"view"}"#, "\"take\" is missing"),
+    (r#"{"op":"show","block":0,"start":0}"#, "\"len\" is missing"),
+    (r#"{"op":7}"#, OPS),
+    (r#"{"op":"fly"}"#, OPS),
     (
-        r#"{"op":"show","block":0,"start":0}"#,
-        "\"len\" is missing",
-        "",
+        r#"{"op":"send","block":-1}"#,
+        "\"block\" is not a whole number from 0 to 4294967295",
     ),
-    (r#"{"op":7}"#, "\"op\" is not ", OPS),
-    (r#"{"op":"fly"}"#, "\"op\" is not ", OPS),
-    (r#"{"op":"send","block":-1}"#, "\"block\" is not ", WHOLE),
     (
         r#"{"op":"show","block":0,"start":1.0}"#,
-        "\"start\" is not ",
-        WHOLE,
+        "\"start\" is not a whole number from 0 to 4294967295",
     ),
-    (r#"{"op":"merge","a":"0"}"#, "\"a\" is not ", WHOLE),
+    (
+        r#"{"op":"merge","a":"0"}"#,
+        "\"a\" is not a whole number from 0 to 4294967295",
+    ),
     (
         r#"{"op":"merge","a":0,"b":4294967296}"#,
-        "\"b\" is not ",
-        WHOLE,
+        "\"b\" is not a whole number from 0 to 4294967295",
     ),
     (
         r#"{"op":"disk","block":0,"start":0,"len":0}"#,
-        "\"len\" is not ",
-        "a whole number from 1 to 4294967295",
+        "\"len\" is not a whole number from 1 to 4294967295",
     ),
     (
         r#"{"op":"patch","block":0,"start":0,"hex":"abc"}"#,
-        "\"hex\" is not ",
-        DIGITS,
+        "\"hex\" is not a text of hexadecimal digits, two for each byte",
     ),
     (
         r#"{"op":"patch","block":0,"start":0,"hex":"","after":[-1]}"#,
-        "\"after\" is not ",
-        LIST,
+        "\"after\" is not a list of whole numbers from 0 to 4294967295",
     ),
     (
         r#"{"op":"patch","block":0,"start":0,"hex":"","drop":1}"#,
-        "\"drop\" is not ",
-        "true or false",
+        "\"drop\" is not true or false",
     ),
     (
         r#"{"op":"patch","block":0,"start":0,"hex":"","writer":8}"#,
-        "\"writer\" is not ",
-        "a whole number from 0 to 7",
+        WRITER,
     ),
-    (r#"{"op":"view","take":0}"#, "\"take\" is not ", LIST),
+    (
+        r#"{"op":"view","take":0}"#,
+        "\"take\" is not a list of whole numbers from 0 to 4294967295",
+    ),
     (
         r#"{"op":"view","take":[],"back":[[]]}"#,
-        "\"back\" is not ",
-        LIST,
+        "\"back\" is not a list of whole numbers from 0 to 4294967295",
     ),
-    (r#"{"op":"sync"}"#, "\"group\" is missing", ""),
-    (r#"{"op":"depend","group":0}"#, "\"on\" is missing", ""),
-    (r#"{"op":"close","group":-1}"#, "\"group\" is not ", WHOLE),
+    (r#"{"op":"sync"}"#, "\"group\" is missing"),
+    (r#"{"op":"depend","group":0}"#, "\"on\" is missing"),
+    (
+        r#"{"op":"close","group":-1}"#,
+        "\"group\" is not a whole number from 0 to 4294967295",
+    ),
     (
         r#"{"op":"depend","group":0,"on":"0"}"#,
-        "\"on\" is not ",
-        WHOLE,
+        "\"on\" is not a whole number from 0 to 4294967295",
     ),
-    (
-        r#"{"op":"engage","writer":8}"#,
-        "\"writer\" is not ",
-        "a whole number from 0 to 7",
-    ),
+    (r#"{"op":"engage","writer":8}"#, WRITER),
 ];
 
 // What is wrong with a script's first line, where that is unreadable.
@@ -399,13 +388,17 @@ fn defect_of(alloc: Global, text: &[u8]) -> Option<Defect> {
     }
 }
 
+fn expect_words(rt: &impl Abort, alloc: Global, line: &str, want: &str) -> Result<(), Fail> {
+    let defect = defect_of(alloc, line.as_bytes()).ok_or("readable")?;
+    let words = format!(in alloc; "{defect}")?;
+    expect_eq(rt, &(&line, &words.as_str()), &(&line, &want));
+    Ok(())
+}
+
 #[test]
 fn says_what_is_wrong(rt: HostRuntime) -> Result<(), Fail> {
-    for (line, said, wanted) in WORDS {
-        let defect = defect_of(rt.alloc(), line.as_bytes()).ok_or("readable")?;
-        let words = format!(in rt.alloc(); "{defect}")?;
-        let want = format!(in rt.alloc(); "{said}{wanted}")?;
-        assert_eq!(rt; words.as_str(), want.as_str(), "{line}");
+    for (line, want) in WORDS.iter() {
+        expect_words(&rt, rt.alloc(), *line, *want)?;
     }
     Ok(())
 }
@@ -445,8 +438,8 @@ const SCRIPTS: [(&[u8], Reading); 12] = [
 
 #[test]
 fn reads_whole_scripts(rt: HostRuntime) {
-    for (index, (text, want)) in SCRIPTS.into_iter().enumerate() {
-        assert_eq!(rt; read(rt.alloc(), text), want, "script {index}");
+    for (index, (text, want)) in SCRIPTS.iter().enumerate() {
+        expect_eq(&rt, &(&index, &read(rt.alloc(), *text)), &(&index, want));
     }
 }
 
@@ -508,7 +501,7 @@ fn forms_of(alloc: Global, text: &[u8]) -> Result<String, Fail> {
 #[test]
 fn reads_fields(rt: HostRuntime) -> Result<(), Fail> {
     let forms = forms_of(rt.alloc(), LINES.as_bytes())?;
-    assert_eq!(rt; forms.as_str(), FORMS);
+    expect_eq(&rt, &forms.as_str(), &FORMS);
     Ok(())
 }
 
@@ -592,7 +585,7 @@ fn read_long(alloc: Global, long: &Long) -> Result<Reading, AllocError> {
 fn reads_long_scripts(rt: HostRuntime) -> Result<(), Fail> {
     for (index, long) in LONG.iter().enumerate() {
         let got = read_long(rt.alloc(), long)?;
-        assert_eq!(rt; got, long.want, "script {index}");
+        expect_eq(&rt, &(&index, &got), &(&index, &long.want));
     }
     Ok(())
 }
@@ -687,14 +680,14 @@ fn text_of(alloc: Global, told: Told) -> Result<String, AllocError> {
 
 fn expect_text(rt: &impl Abort, alloc: Global, told: Told, want: &str) -> Result<(), Fail> {
     let text = text_of(alloc, told)?;
-    assert_eq!(rt; text.as_str(), want);
+    expect_eq(rt, &text.as_str(), &want);
     Ok(())
 }
 
 #[test]
 fn writes_answers(rt: HostRuntime) -> Result<(), Fail> {
-    for (told, want) in TOLD {
-        expect_text(&rt, rt.alloc(), told, want)?;
+    for (told, want) in TOLD.iter() {
+        expect_text(&rt, rt.alloc(), *told, *want)?;
     }
     Ok(())
 }

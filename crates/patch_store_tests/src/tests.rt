@@ -2,10 +2,11 @@
 //! share.
 use patch_cache::Cache;
 use patch_frame::{Format, Geometry};
-use patch_history::MakeRefusal;
+use patch_history::{MakeRefusal, OpenFault};
 use patch_model::{BLOCK, BlockBytes, MAX_BLOCKS, OutOfMemory, WriterNo};
 use patch_store::{Store, make};
 use std::alloc::{Allocator, Global};
+use std::fmt::Debug;
 use std::process::Abort;
 use std::test::Fail;
 
@@ -15,6 +16,11 @@ mod flushes;
 mod memory;
 mod opening;
 mod walks;
+
+// Ends the test, telling both, unless what came is what is wanted. A call takes the prover less than `assert_eq!` where it stands.
+fn expect_eq<T: PartialEq + Debug>(rt: &impl Abort, got: &T, want: &T) {
+    assert_eq!(rt; *got, *want);
+}
 
 // One index block and two extents: 35 blocks.
 const SMALL: Geometry = Geometry {
@@ -39,20 +45,26 @@ fn disk(index: u32, extents: u32, format: Format) -> Geometry {
     }
 }
 
+const ZEROS: [u8; BLOCK] = [0; BLOCK];
+
 // So many blocks, of which the first one begins so and the others are zeros.
 fn expect_disk(rt: &impl Abort, blocks: &[BlockBytes], count: usize, front: &[u8]) {
-    assert_eq!(rt; blocks.len(), count);
-    for n in 0..blocks.len() {
-        let bytes = blocks[n].as_slice();
-        if n == 0 {
-            assert!(rt; bytes.starts_with(front));
+    expect_eq(rt, &blocks.len(), &count);
+    for (no, block) in blocks.iter().enumerate() {
+        let bytes = block.as_slice();
+        let is_new = if no == 0 {
+            bytes.starts_with(front)
         } else {
-            assert!(rt; bytes.iter().all(|byte| *byte == 0));
-        }
+            bytes == ZEROS.as_slice()
+        };
+        expect_eq(rt, &(&no, &is_new), &(&no, &true));
     }
 }
 
-fn made(alloc: Global, geometry: Geometry) -> Result<Vec<BlockBytes>, OutOfMemory> {
+fn made<A: Allocator + Copy>(
+    alloc: A,
+    geometry: Geometry,
+) -> Result<Vec<BlockBytes<A>, A>, OutOfMemory> {
     match make(alloc, geometry) {
         Ok(blocks) => Ok(blocks),
         Err(_) => Err(OutOfMemory),
@@ -67,15 +79,7 @@ fn expect_no_geometry(rt: &impl Abort, alloc: Global, geometry: Geometry) {
     assert!(rt; refused);
 }
 
-// The blocks of a new disk divided like this, with these pieces over them.
-fn disk_with<A: Allocator + Copy>(
-    alloc: A,
-    geometry: Geometry,
-    pieces: &[Piece<'_>],
-) -> Result<Vec<BlockBytes<A>, A>, OutOfMemory> {
-    let Ok(mut blocks) = make(alloc, geometry) else {
-        return Err(OutOfMemory);
-    };
+fn lay_pieces<A: Allocator + Copy>(blocks: &mut [BlockBytes<A>], pieces: &[Piece<'_>]) {
     for (block, start, bytes) in pieces {
         if let Some(block) = blocks.get_mut(*block) {
             if bytes.len() <= BLOCK && *start <= BLOCK - bytes.len() {
@@ -83,6 +87,16 @@ fn disk_with<A: Allocator + Copy>(
             }
         }
     }
+}
+
+// The blocks of a new disk divided like this, with these pieces over them.
+fn disk_with<A: Allocator + Copy>(
+    alloc: A,
+    geometry: Geometry,
+    pieces: &[Piece<'_>],
+) -> Result<Vec<BlockBytes<A>, A>, OutOfMemory> {
+    let mut blocks = made(alloc, geometry)?;
+    lay_pieces(&mut blocks, pieces);
     Ok(blocks)
 }
 
@@ -95,6 +109,14 @@ fn cache_of<A: Allocator + Copy>(
     Cache::open(alloc, blocks)
 }
 
+// The store of a cache, or what is wrong with it.
+fn open_store<A: Allocator + Copy>(
+    alloc: A,
+    cache: Cache<A>,
+) -> Result<Store<A>, (Cache<A>, OpenFault)> {
+    Store::open(alloc, cache)
+}
+
 // The store that the blocks hold.
 fn opened<A: Allocator + Copy>(
     rt: &impl Abort,
@@ -102,7 +124,7 @@ fn opened<A: Allocator + Copy>(
     blocks: Vec<BlockBytes<A>, A>,
 ) -> Result<Store<A>, Fail> {
     let cache = cache_of(rt, alloc, blocks)?;
-    match Store::open(alloc, cache).ok() {
+    match open_store(alloc, cache).ok() {
         Some(store) => Ok(store),
         None => Err(Fail::from("a good disk was not opened")),
     }
@@ -169,14 +191,20 @@ fn new_disks_begin_with_a_superblock_and_are_zeros(rt: HostRuntime) -> Result<()
     Ok(())
 }
 
+// How many index blocks and extents, and which format, no disk may have together.
+const REFUSED: [(u32, u32, Format); 6] = [
+    (0, 2, Format::One),
+    (17, 2, Format::One),
+    (1, 1, Format::One),
+    (1, 255, Format::One),
+    (1, 2, Format::Two { length: 65 }),
+    (1, 64, Format::Two { length: 64 }),
+];
+
 #[test]
 fn disks_that_none_may_be_divided_like_are_refused(rt: HostRuntime) -> Result<(), Fail> {
-    let alloc = rt.alloc();
-    expect_no_geometry(&rt, alloc, disk(0, 2, Format::One));
-    expect_no_geometry(&rt, alloc, disk(17, 2, Format::One));
-    expect_no_geometry(&rt, alloc, disk(1, 1, Format::One));
-    expect_no_geometry(&rt, alloc, disk(1, 255, Format::One));
-    expect_no_geometry(&rt, alloc, disk(1, 2, Format::Two { length: 65 }));
-    expect_no_geometry(&rt, alloc, disk(1, 64, Format::Two { length: 64 }));
+    for (index, extents, format) in &REFUSED {
+        expect_no_geometry(&rt, rt.alloc(), disk(*index, *extents, *format));
+    }
     Ok(())
 }

@@ -2,6 +2,7 @@
 use patch_model::{BlockBytes, OutOfMemory, PatchNo};
 use patch_view::{BlockState, TakeRefusal};
 use std::alloc::Allocator;
+use std::fmt::Debug;
 use std::process::Abort;
 
 mod images;
@@ -9,6 +10,11 @@ mod memory;
 mod names;
 mod rests;
 mod walks;
+
+// Ends the test, telling both, unless what came is what is wanted. A call takes the prover less than `assert_eq!` where it stands.
+fn expect_eq<T: PartialEq + Debug>(rt: &impl Abort, got: &T, want: &T) {
+    assert_eq!(rt; *got, *want);
+}
 
 // A block of zeros.
 fn bare<A: Allocator + Copy>(alloc: A) -> Result<BlockState<A>, OutOfMemory> {
@@ -36,10 +42,18 @@ fn join_by<A: Allocator + Clone>(
 }
 
 fn expect_taken(rt: &impl Abort, answer: Result<(), TakeRefusal>, want: Result<(), TakeRefusal>) {
-    assert_eq!(rt; answer, want);
+    expect_eq(rt, &answer, &want);
 }
 
 // The first four of these bytes are the wanted ones.
 fn expect_bytes(rt: &impl Abort, bytes: &[u8], want: [u8; 4]) {
-    assert_eq!(rt; bytes.get(..4), Some(want.as_slice()));
+    expect_eq(rt, &bytes.get(..4), &Some(want.as_slice()));
+}
+
+// A view that takes all shows these bytes. It is put right again.
+fn expect_without_all(rt: &impl Abort, block: &mut BlockState, want: &[u8]) {
+    let mut view = block.view();
+    view.take_all();
+    assert!(rt; view.bytes() == want);
+    view.restore();
 }

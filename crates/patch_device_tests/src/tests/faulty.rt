@@ -56,27 +56,28 @@ fn refused_writes<D: Device>(device: &mut D) -> u32 {
 }
 
 fn expect_refused<D: Device>(rt: &impl Abort, device: &mut D, refused: u32) {
-    assert_eq!(rt; refused_writes(device), refused);
+    expect_eq(rt, &refused_writes(device), &refused);
     expect_filled(rt, device, 0, 4);
 }
 
-fn expect_seven<D: Device + Drop>(rt: &impl Abort, inner: D, lands: bool, refused: u32) {
-    let four = four_failing(inner, lands);
-    let mut seven = failing(failing(failing(four, lands), lands), lands);
-    expect_refused(rt, &mut seven, refused);
+fn expect_three_more<D: Device + Drop>(rt: &impl Abort, inner: D, lands: bool, refused: u32) {
+    let mut outer = failing(failing(failing(inner, lands), lands), lands);
+    expect_refused(rt, &mut outer, refused);
 }
 
-fn expect_eight<D: Device + Drop>(rt: &impl Abort, inner: D, lands: bool, refused: u32) {
-    let four = four_failing(inner, lands);
-    let mut eight = four_failing(four, lands);
-    expect_refused(rt, &mut eight, refused);
+fn expect_four_more<D: Device + Drop>(rt: &impl Abort, inner: D, lands: bool, refused: u32) {
+    let mut outer = four_failing(inner, lands);
+    expect_refused(rt, &mut outer, refused);
 }
 
+// Seven devices around one in memory, and eight.
 #[test]
 fn nested_devices_fail_in_turn(rt: HostRuntime) -> Result<(), Fail> {
     for (lands, after_seven, after_eight) in [(false, 7, 8), (true, 1, 1)] {
-        expect_seven(&rt, MemDevice::new(rt.alloc(), 1)?, lands, after_seven);
-        expect_eight(&rt, MemDevice::new(rt.alloc(), 1)?, lands, after_eight);
+        let four = four_failing(MemDevice::new(rt.alloc(), 1)?, lands);
+        expect_three_more(&rt, four, lands, after_seven);
+        let four = four_failing(MemDevice::new(rt.alloc(), 1)?, lands);
+        expect_four_more(&rt, four, lands, after_eight);
     }
     Ok(())
 }
@@ -85,13 +86,12 @@ fn nested_devices_fail_in_turn(rt: HostRuntime) -> Result<(), Fail> {
 fn load_over_a_fault(rt: &impl Abort, alloc: Global, k: u64, lands: bool) -> Result<bool, Fail> {
     let mut device = FaultyDevice::new(MemDevice::new(alloc, 4)?, k, lands);
     let first = loaded(alloc, &mut device);
-    if first.is_err() {
-        assert_eq!(rt; first, Err(LoadFault::Fault), "k {k}");
-        assert_eq!(rt; loaded(alloc, &mut device), Ok(4));
-        return Ok(true);
+    if first == Ok(4) {
+        return Ok(false);
     }
-    assert_eq!(rt; first, Ok(4), "k {k}");
-    Ok(false)
+    expect_eq(rt, &(&k, &first), &(&k, &Err(LoadFault::Fault)));
+    expect_eq(rt, &(&k, &loaded(alloc, &mut device)), &(&k, &Ok(4)));
+    Ok(true)
 }
 
 // How many calls of a load can fail, each in its turn, until none is left.
@@ -107,21 +107,29 @@ fn count_faults(rt: &impl Abort, alloc: Global, lands: bool) -> Result<u64, Fail
 #[test]
 fn each_read_of_a_load_fails_in_turn(rt: HostRuntime) -> Result<(), Fail> {
     for lands in [false, true] {
-        assert_eq!(rt; count_faults(&rt, rt.alloc(), lands)?, 4);
+        expect_eq(&rt, &count_faults(&rt, rt.alloc(), lands)?, &4);
     }
     Ok(())
 }
 
-// Whether each of so many reads in a row is refused.
+fn is_read_refused<D: Device>(device: &mut D) -> bool {
+    device.read(0, &mut [7; BLOCK]).is_err()
+}
+
+// Whether each of three reads in a row is refused.
 fn refused_reads<D: Device>(device: &mut D) -> [bool; 3] {
-    [0, 1, 2].map(|_| device.read(0, &mut [7; BLOCK]).is_err())
+    [
+        is_read_refused(device),
+        is_read_refused(device),
+        is_read_refused(device),
+    ]
 }
 
 #[test]
 fn a_nested_device_counts_each_read_once(rt: HostRuntime) -> Result<(), Fail> {
     let inner = FaultyDevice::new(MemDevice::new(rt.alloc(), 1)?, 1, false);
     let mut outer = FaultyDevice::new(inner, 3, false);
-    assert_eq!(rt; refused_reads(&mut outer), [false, true, false]);
-    assert_eq!(rt; refused_reads(&mut outer), [true, false, false]);
+    expect_eq(&rt, &refused_reads(&mut outer), &[false, true, false]);
+    expect_eq(&rt, &refused_reads(&mut outer), &[true, false, false]);
     Ok(())
 }

@@ -2,16 +2,6 @@
 use super::*;
 use std::fs::OpenOptions;
 
-fn expect_length(
-    rt: &impl Abort,
-    files: &HostRuntime,
-    path: &str,
-    length: u64,
-) -> Result<(), Fail> {
-    assert_eq!(rt; fs::metadata(files, path)?.len(), length);
-    Ok(())
-}
-
 fn expect_not_made(
     rt: &impl Abort,
     files: &HostRuntime,
@@ -20,23 +10,22 @@ fn expect_not_made(
     refusal: FileRefusal,
 ) {
     let made = FileDevice::create(files, path, blocks).err();
-    assert_eq!(rt; made, Some(refusal), "{path}");
+    expect_eq(rt, &(&path, &made), &(&path, &Some(refusal)));
 }
 
 fn expect_not_taken(rt: &impl Abort, files: &HostRuntime, path: &str, refusal: FileRefusal) {
     let taken = FileDevice::of(files, path).err();
-    assert_eq!(rt; taken, Some(refusal), "{path}");
+    expect_eq(rt, &(&path, &taken), &(&path, &Some(refusal)));
 }
 
 // Writes a device of three blocks.
 fn write_each<D: Device>(rt: &impl Abort, device: &mut D) {
-    assert_eq!(rt; device.count(), 3);
-    for (n, byte) in [(2, 7), (1, 8), (2, 9)] {
-        expect_write(rt, device, n, byte, Ok(()));
-        expect_filled(rt, device, n, byte);
+    expect_eq(rt, &device.count(), &3);
+    for (n, byte) in &[(2, 7), (1, 8), (2, 9)] {
+        expect_write(rt, device, *n, *byte, Ok(()));
+        expect_filled(rt, device, *n, *byte);
     }
-    expect_write(rt, device, 3, 1, Err(DeviceRefusal::NoSuchBlock));
-    expect_unread(rt, device, 3, DeviceRefusal::NoSuchBlock);
+    expect_no_block(rt, device, 3);
 }
 
 fn make(rt: &impl Abort, files: &HostRuntime, path: &str) -> Result<(), Fail> {
@@ -50,16 +39,23 @@ fn take(rt: &impl Abort, files: &HostRuntime, path: &str) -> Result<(), Fail> {
     expect_loaded(rt, files.alloc(), &mut taken, &[0, 8, 9])
 }
 
+fn make_and_take(rt: &impl Abort, files: &HostRuntime, path: &str) -> Result<(), Fail> {
+    make(rt, files, path)?;
+    expect_not_made(rt, files, path, 1, FileRefusal::Disk);
+    expect_length(rt, files, path, 12_288)?;
+    take(rt, files, path)
+}
+
 #[test]
 fn makes_takes_and_loads(rt: HostRuntime) -> Result<(), Fail> {
     make_folder(&rt, "patch_device_made")?;
-    let path = "patch_device_made/disk";
-    make(&rt, &rt, path)?;
-    expect_not_made(&rt, &rt, path, 1, FileRefusal::Disk);
-    expect_length(&rt, &rt, path, 12_288)?;
-    take(&rt, &rt, path)?;
+    make_and_take(&rt, &rt, "patch_device_made/disk")?;
     fs::remove_dir_all(&rt, "patch_device_made")?;
     Ok(())
+}
+
+fn count_taken(files: &HostRuntime, path: &str) -> Result<u32, FileRefusal> {
+    Ok(FileDevice::of(files, path)?.count())
 }
 
 // A file of this length is taken as so many blocks, or not at all, and stays as it is.
@@ -71,58 +67,75 @@ fn expect_taken(
     blocks: Option<u32>,
 ) -> Result<(), Fail> {
     make_file(files, path, length)?;
-    let taken = FileDevice::of(files, path).map(|device| device.count());
-    assert_eq!(rt;
-        taken,
-        blocks.ok_or(FileRefusal::FileSize),
-        "length {length}"
+    let taken = count_taken(files, path);
+    expect_eq(
+        rt,
+        &(&length, &taken),
+        &(&length, &blocks.ok_or(FileRefusal::FileSize)),
     );
     expect_length(rt, files, path, length)
+}
+
+// Lengths of files, and how many blocks they are, where they are whole blocks and few enough.
+const LENGTHS: [(u64, Option<u32>); 11] = [
+    (0, None),
+    (1, None),
+    (4095, None),
+    (4096, Some(1)),
+    (4097, None),
+    (143_359, None),
+    (143_360, Some(35)),
+    (16_777_216, Some(4096)),
+    (16_777_217, None),
+    (16_781_312, None),
+    (17_179_869_184, None),
+];
+
+fn expect_none_made(rt: &impl Abort, files: &HostRuntime, path: &str) {
+    for blocks in &[0, 4097, u32::MAX] {
+        expect_not_made(rt, files, path, *blocks, FileRefusal::FileSize);
+        assert!(rt; fs::metadata(files, path).is_err());
+    }
+}
+
+fn expect_each_taken(rt: &impl Abort, files: &HostRuntime, path: &str) -> Result<(), Fail> {
+    for (length, blocks) in &LENGTHS {
+        expect_taken(rt, files, path, *length, *blocks)?;
+    }
+    Ok(())
 }
 
 #[test]
 fn wants_whole_blocks(rt: HostRuntime) -> Result<(), Fail> {
     make_folder(&rt, "patch_device_lengths")?;
-    let path = "patch_device_lengths/disk";
-    for blocks in [0, 4097, u32::MAX] {
-        expect_not_made(&rt, &rt, path, blocks, FileRefusal::FileSize);
-        assert!(rt; fs::metadata(&rt, path).is_err());
-    }
-    for (length, blocks) in [
-        (0, None),
-        (1, None),
-        (4095, None),
-        (4096, Some(1)),
-        (4097, None),
-        (143_359, None),
-        (143_360, Some(35)),
-        (16_777_216, Some(4096)),
-        (16_777_217, None),
-        (16_781_312, None),
-        (17_179_869_184, None),
-    ] {
-        expect_taken(&rt, &rt, path, length, blocks)?;
-    }
+    expect_none_made(&rt, &rt, "patch_device_lengths/disk");
+    expect_each_taken(&rt, &rt, "patch_device_lengths/disk")?;
     fs::remove_dir_all(&rt, "patch_device_lengths")?;
     Ok(())
+}
+
+// Paths of no file that can be written. The system lets nobody write the file of a program that runs.
+const UNWRITABLE: [&str; 4] = [
+    "",
+    "patch_device_paths",
+    "patch_device_paths/file/x",
+    "/proc/self/exe",
+];
+
+fn expect_unwritable(rt: &impl Abort, files: &HostRuntime) {
+    for path in &UNWRITABLE {
+        expect_not_taken(rt, files, path, FileRefusal::Disk);
+        expect_not_made(rt, files, path, 1, FileRefusal::Disk);
+    }
+    expect_not_taken(rt, files, "patch_device_paths/none", FileRefusal::Disk);
+    expect_not_made(rt, files, "patch_device_paths/no/x", 1, FileRefusal::Disk);
 }
 
 #[test]
 fn wants_a_file_that_can_be_written(rt: HostRuntime) -> Result<(), Fail> {
     make_folder(&rt, "patch_device_paths")?;
     make_file(&rt, "patch_device_paths/file", 4096)?;
-    // The system lets nobody write the file of a program that runs.
-    for path in [
-        "",
-        "patch_device_paths",
-        "patch_device_paths/file/x",
-        "/proc/self/exe",
-    ] {
-        expect_not_taken(&rt, &rt, path, FileRefusal::Disk);
-        expect_not_made(&rt, &rt, path, 1, FileRefusal::Disk);
-    }
-    expect_not_taken(&rt, &rt, "patch_device_paths/none", FileRefusal::Disk);
-    expect_not_made(&rt, &rt, "patch_device_paths/no/x", 1, FileRefusal::Disk);
+    expect_unwritable(&rt, &rt);
     expect_length(&rt, &rt, "patch_device_paths/file", 4096)?;
     fs::remove_dir_all(&rt, "patch_device_paths")?;
     Ok(())
@@ -140,9 +153,9 @@ fn cut(rt: &HostRuntime, path: &str, length: u64) -> Result<(), Fail> {
 fn expect_cut<D: Device>(rt: &impl Abort, alloc: Global, device: &mut D) {
     expect_filled(rt, device, 0, 0);
     expect_unread(rt, device, 1, DeviceRefusal::Fault);
-    assert_eq!(rt; loaded(alloc, device), Err(LoadFault::Fault));
+    expect_eq(rt, &loaded(alloc, device), &Err(LoadFault::Fault));
     expect_write(rt, device, 1, 1, Ok(()));
-    assert_eq!(rt; loaded(alloc, device), Ok(2));
+    expect_eq(rt, &loaded(alloc, device), &Ok(2));
 }
 
 #[test]

@@ -121,37 +121,36 @@ impl Files for FullDisk<'_> {
     }
 }
 
-// Makes a file of three blocks where only so many fit.
-fn make_on_full(rt: &impl Abort, files: &HostRuntime, path: &str, blocks: u64) -> Result<(), Fail> {
+// Makes a file of three blocks where only so many fit. Whether the last one is zeros.
+fn make_zeros(files: &HostRuntime, path: &str, blocks: u64) -> Result<bool, FileRefusal> {
     let end = blocks.saturating_mul(4096);
-    match FileDevice::create(&FullDisk { rt: files, end }, path, 3) {
-        Ok(mut device) => {
-            expect_filled(rt, &mut device, 2, 0);
-            assert!(rt; blocks >= 3 && fs::metadata(files, path)?.len() == 12_288);
-            fs::remove_file(files, path)?;
-        }
-        Err(refusal) => {
-            assert_eq!(rt; (refusal, blocks < 3), (FileRefusal::Disk, true));
-            assert!(rt; fs::metadata(files, path).is_err());
-        }
+    let mut made = FileDevice::create(&FullDisk { rt: files, end }, path, 3)?;
+    Ok(is_filled(&mut made, 2, 0))
+}
+
+fn make_on_full(rt: &impl Abort, files: &HostRuntime, path: &str, blocks: u64) -> Result<(), Fail> {
+    let made = make_zeros(files, path, blocks);
+    if blocks < 3 {
+        expect_eq(rt, &(&blocks, &made), &(&blocks, &Err(FileRefusal::Disk)));
+        assert!(rt; fs::metadata(files, path).is_err());
+        return Ok(());
     }
+    expect_eq(rt, &(&blocks, &made), &(&blocks, &Ok(true)));
+    expect_length(rt, files, path, 12_288)?;
+    fs::remove_file(files, path)?;
     Ok(())
 }
 
 // Writes a file of three blocks where only one fits.
 fn write_on_full(rt: &impl Abort, files: &HostRuntime, path: &str) -> Result<(), Fail> {
-    let mut device = FileDevice::of(
-        &FullDisk {
-            rt: files,
-            end: 4096,
-        },
-        path,
-    )?;
+    let full = FullDisk {
+        rt: files,
+        end: 4096,
+    };
+    let mut device = FileDevice::of(&full, path)?;
     expect_write(rt, &mut device, 0, 1, Ok(()));
     expect_write(rt, &mut device, 1, 2, Err(DeviceRefusal::Fault));
-    for (n, byte) in [(0, 1), (1, 0), (2, 0)] {
-        expect_filled(rt, &mut device, n, byte);
-    }
+    expect_all_filled(rt, &mut device, &[(0, 1), (1, 0), (2, 0)]);
     Ok(())
 }
 

@@ -1,22 +1,23 @@
 //! Memory: what it holds, its list of writes, and want of memory.
 use super::*;
 
+// The blocks that are written, one after another, and the byte of each.
+const WRITES: [(u32, u8); 3] = [(2, 7), (0, 8), (2, 9)];
+
 fn write_each(rt: &impl Abort, device: &mut MemDevice) {
-    assert_eq!(rt; device.count(), 3);
-    for (n, byte) in [(2, 7), (0, 8), (2, 9)] {
-        expect_write(rt, device, n, byte, Ok(()));
+    expect_eq(rt, &device.count(), &3);
+    for (n, byte) in &WRITES {
+        expect_write(rt, device, *n, *byte, Ok(()));
     }
-    for (n, byte) in [(0, 8), (1, 0), (2, 9)] {
-        expect_filled(rt, device, n, byte);
-    }
-    expect_write(rt, device, 3, 1, Err(DeviceRefusal::NoSuchBlock));
-    expect_unread(rt, device, 3, DeviceRefusal::NoSuchBlock);
+    expect_all_filled(rt, device, &[(0, 8), (1, 0), (2, 9)]);
+    expect_no_block(rt, device, 3);
 }
 
 fn expect_writes(rt: &impl Abort, device: &MemDevice) {
-    assert_eq!(rt; device.writes().len(), 3);
-    for ((n, bytes), (block, byte)) in device.writes().iter().zip([(2u32, 7u8), (0, 8), (2, 9)]) {
-        assert!(rt; *n == block && bytes.as_slice() == [byte; BLOCK].as_slice());
+    expect_eq(rt, &device.writes().len(), &3);
+    for ((n, bytes), (block, byte)) in device.writes().iter().zip(&WRITES) {
+        expect_eq(rt, n, block);
+        expect_eq(rt, &bytes.as_slice(), &[*byte; BLOCK].as_slice());
     }
 }
 
@@ -34,17 +35,26 @@ fn expect_in_order(rt: &impl Abort, alloc: Global) {
         next: 0,
         in_order: true,
     };
-    assert_eq!(rt; loaded(alloc, &mut counter), Ok(5));
-    assert_eq!(rt; (counter.next, counter.in_order), (5, true));
+    expect_eq(rt, &loaded(alloc, &mut counter), &Ok(5));
+    expect_eq(rt, &counter.next, &5);
+    assert!(rt; counter.in_order);
+}
+
+fn load_three(rt: &impl Abort, alloc: Global) -> Result<(), Fail> {
+    let mut device = MemDevice::new(alloc, 3)?;
+    expect_write(rt, &mut device, 1, 5, Ok(()));
+    expect_loaded(rt, alloc, &mut device, &[0, 5, 0])
+}
+
+fn load_none(rt: &impl Abort, alloc: Global) -> Result<(), Fail> {
+    let mut device = MemDevice::new(alloc, 0)?;
+    expect_loaded(rt, alloc, &mut device, &[])
 }
 
 #[test]
 fn loads_each_block_once_in_order(rt: HostRuntime) -> Result<(), Fail> {
-    let mut device = MemDevice::new(rt.alloc(), 3)?;
-    expect_write(&rt, &mut device, 1, 5, Ok(()));
-    expect_loaded(&rt, rt.alloc(), &mut device, &[0, 5, 0])?;
-    let mut empty = MemDevice::new(rt.alloc(), 0)?;
-    expect_loaded(&rt, rt.alloc(), &mut empty, &[])?;
+    load_three(&rt, rt.alloc())?;
+    load_none(&rt, rt.alloc())?;
     expect_in_order(&rt, rt.alloc());
     Ok(())
 }
@@ -102,7 +112,7 @@ impl Device for InOrder {
 }
 
 // What a heap was too small for.
-#[derive(Clone, Copy, Debug, PartialEq, Eq)]
+#[derive(Clone, Copy, PartialEq)]
 enum Refused {
     New,
     FirstWrite,
@@ -119,14 +129,30 @@ fn is_written(
     left: u8,
 ) -> bool {
     let written = device.write(1, &[byte; BLOCK]);
-    if written.is_err() {
-        assert_eq!(rt;
-            (written, device.writes().len()),
-            (Err(DeviceRefusal::Fault), writes)
-        );
-        expect_filled(rt, device, 1, left);
+    if written.is_ok() {
+        return true;
     }
-    written.is_ok()
+    expect_eq(rt, &written, &Err(DeviceRefusal::Fault));
+    expect_eq(rt, &device.writes().len(), &writes);
+    expect_filled(rt, device, 1, left);
+    false
+}
+
+// Loads the device into the other heap. What is refused there is loaded here.
+fn is_loaded(
+    rt: &impl Abort,
+    device: &mut MemDevice<&LocalHeap>,
+    here: &LocalHeap,
+    there: &LocalHeap,
+) -> bool {
+    let first = loaded(there, device);
+    expect_filled(rt, device, 1, 7);
+    if first == Ok(2) {
+        return true;
+    }
+    expect_eq(rt, &first, &Err(LoadFault::OutOfMemory));
+    expect_eq(rt, &loaded(here, device), &Ok(2));
+    false
 }
 
 // Writes twice, and loads the device into the other heap.
@@ -142,13 +168,7 @@ fn write_load(
     if !is_written(rt, device, 7, 1, 6) {
         return Some(Refused::SecondWrite);
     }
-    let first = loaded(there, device);
-    expect_filled(rt, device, 1, 7);
-    if first.is_err() {
-        assert_eq!(rt;
-            (first, loaded(here, device)),
-            (Err(LoadFault::OutOfMemory), Ok(2))
-        );
+    if !is_loaded(rt, device, here, there) {
         return Some(Refused::Load);
     }
     None
@@ -162,36 +182,46 @@ fn make_write_load(rt: &impl Abort, here: &LocalHeap, there: &LocalHeap) -> Opti
     }
 }
 
-// How often what is refused changes as one heap grows beside an ample one, up to where nothing is.
-fn count_changes(
+// What a heap of this size is too small for, where the other of the two is ample.
+fn refused_at(
     rt: &impl Abort,
     alloc: Global,
     ample: &LocalHeap,
     is_made: bool,
-) -> Result<u32, Fail> {
+    size: usize,
+) -> Result<Option<Refused>, Fail> {
+    let heap = LocalHeap::new(alloc, size)?;
+    Ok(if is_made {
+        make_write_load(rt, &heap, ample)
+    } else {
+        make_write_load(rt, ample, &heap)
+    })
+}
+
+// What is refused changes so often as one heap grows beside an ample one, up to where nothing is.
+fn expect_changes(
+    rt: &impl Abort,
+    alloc: Global,
+    ample: &LocalHeap,
+    is_made: bool,
+    want: u32,
+) -> Result<(), Fail> {
     let mut changes = 0u32;
     let mut last = Some(if is_made { Refused::New } else { Refused::Load });
     for size in (32..24_000).step_by(32) {
-        let heap = LocalHeap::new(alloc, size)?;
-        let (here, there) = if is_made {
-            (&heap, ample)
-        } else {
-            (ample, &heap)
-        };
-        let next = make_write_load(rt, here, there);
+        let next = refused_at(rt, alloc, ample, is_made, size)?;
         changes = changes.saturating_add(u32::from(next != last));
         last = next;
     }
-    assert_eq!(rt; last, None);
-    Ok(changes)
+    assert!(rt; last.is_none());
+    expect_eq(rt, &changes, &want);
+    Ok(())
 }
 
 // From the first refused call over each later one to none.
 #[test]
 fn each_allocation_refused_in_turn(rt: HostRuntime) -> Result<(), Fail> {
     let ample = LocalHeap::new(rt.alloc(), 100_000)?;
-    for (is_made, changes) in [(true, 3), (false, 1)] {
-        assert_eq!(rt; count_changes(&rt, rt.alloc(), &ample, is_made)?, changes);
-    }
-    Ok(())
+    expect_changes(&rt, rt.alloc(), &ample, true, 3)?;
+    expect_changes(&rt, rt.alloc(), &ample, false, 1)
 }

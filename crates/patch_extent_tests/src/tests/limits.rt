@@ -16,41 +16,45 @@ const END: u32 = 135_164;
 // How many patches live, how many were made, and how many steps there were; whether the last byte can be read, and one more.
 type Shown = (u32, u32, usize, bool, bool);
 
-fn can_read(cache: &Cache, extents: &Extents, offset: u32) -> bool {
+fn can_read(bench: &Bench, offset: u32) -> bool {
     let byte = Place {
         extent: 0,
         generation: 0,
         offset,
         len: 1,
     };
-    extents.read(cache, byte).is_ok()
+    bench.extents.read(&bench.cache, byte).is_ok()
 }
 
-fn shown(cache: &Cache, extents: &Extents) -> Shown {
-    let last = can_read(cache, extents, END - 1);
-    let past = can_read(cache, extents, END);
+fn shown(bench: &Bench) -> Shown {
+    let last = can_read(bench, END - 1);
+    let past = can_read(bench, END);
+    let cache = &bench.cache;
     (cache.live(), cache.made(), cache.trace().len(), last, past)
 }
 
-fn append_all(
-    cache: &mut Cache,
-    groups: &mut Groups,
-    extents: &mut Extents,
-) -> Result<(), AppendRefusal> {
-    extents.append(cache, groups, None, 0, &[7; LONG], &[])?;
+fn append_to_first(bench: &mut Bench, bytes: &[u8]) -> Result<(), AppendRefusal> {
+    let Bench {
+        cache,
+        groups,
+        extents,
+        ..
+    } = bench;
+    append_bytes(cache, groups, extents, None, 0, bytes, &[])?;
+    Ok(())
+}
+
+fn append_all(bench: &mut Bench) -> Result<(), AppendRefusal> {
+    append_to_first(bench, &[7; LONG])?;
     for _ in 0..APPENDS {
-        extents.append(cache, groups, None, 0, &[7; SHORT], &[])?;
+        append_to_first(bench, &[7; SHORT])?;
     }
     Ok(())
 }
 
-fn append_one_more(
-    cache: &mut Cache,
-    groups: &mut Groups,
-    extents: &mut Extents,
-) -> Option<RefusalKind> {
-    match extents.append(cache, groups, None, 0, &[7], &[]) {
-        Ok(_) => None,
+fn append_one_more(bench: &mut Bench) -> Option<RefusalKind> {
+    match append_to_first(bench, &[7]) {
+        Ok(()) => None,
         Err(refusal) => Some(refusal.kind()),
     }
 }
@@ -62,37 +66,34 @@ fn create_one(cache: &mut Cache) -> Option<RefusalKind> {
     }
 }
 
-// An append needs two, and there is room for one: it changes nothing, and a patch alone still fits.
-fn expect_room_for_one(
-    rt: &impl Abort,
-    cache: &mut Cache,
-    groups: &mut Groups,
-    extents: &mut Extents,
-) {
-    let before = shown(cache, extents);
+// An append needs two, and there is room for one: it changes nothing.
+fn expect_no_append(rt: &impl Abort, bench: &mut Bench) {
+    let before = shown(bench);
     expect_equal(rt, "last", before.0, MAX_LIVE - 1);
     expect_equal(rt, "pointer", (before.3, before.4), (true, false));
-    let refused = append_one_more(cache, groups, extents);
+    let refused = append_one_more(bench);
     expect_equal(rt, "append", refused, Some(RefusalKind::TooManyLive));
-    expect_equal(rt, "shown", shown(cache, extents), before);
+    expect_equal(rt, "shown", shown(bench), before);
+}
+
+// A patch alone still fits, and no more.
+fn expect_room_for_one(rt: &impl Abort, cache: &mut Cache) {
     expect_equal(rt, "patch", create_one(cache), None);
     expect_equal(rt, "full", cache.live(), MAX_LIVE);
-    expect_equal(
-        rt,
-        "one more",
-        create_one(cache),
-        Some(RefusalKind::TooManyLive),
-    );
+    let refused = create_one(cache);
+    expect_equal(rt, "one more", refused, Some(RefusalKind::TooManyLive));
+}
+
+fn expect_filled(rt: &impl Abort, bench: &mut Bench) {
+    assert!(rt; append_all(bench).is_ok());
+    expect_no_append(rt, bench);
+    expect_room_for_one(rt, &mut bench.cache);
 }
 
 #[test]
 fn an_append_is_refused_where_too_many_patches_live(rt: HostRuntime) -> Result<(), Fail> {
     let geometry = geometry_of(Format::Two { length: 64 });
-    let mut groups = Groups::new(rt.alloc());
-    let mut cache = open_cache(&rt, rt.alloc(), 131, &[])?;
-    assert!(rt; geometry.is_valid() && cache.blocks() == geometry.block_count());
-    let mut extents = Extents::open(rt.alloc(), &cache, geometry)?;
-    assert!(rt; append_all(&mut cache, &mut groups, &mut extents).is_ok());
-    expect_room_for_one(&rt, &mut cache, &mut groups, &mut extents);
+    let mut bench = open_bench(&rt, rt.alloc(), geometry, &[])?;
+    expect_filled(&rt, &mut bench);
     Ok(())
 }

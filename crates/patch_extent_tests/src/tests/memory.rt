@@ -39,10 +39,13 @@ fn front(len: u32) -> Place {
 
 // Whether the bytes are 100 sevens, and more eights.
 fn are_as_appended(bytes: &[u8]) -> bool {
-    bytes
-        .iter()
-        .enumerate()
-        .all(|(at, byte)| *byte == if at < 100 { 7 } else { 8 })
+    for (at, byte) in bytes.iter().enumerate() {
+        let value = if at < 100 { 7 } else { 8 };
+        if *byte != value {
+            return false;
+        }
+    }
+    true
 }
 
 fn read_front(bench: &Bench, len: u32) -> Result<(), RefusalKind> {
@@ -68,17 +71,14 @@ fn shown(bench: &Bench) -> Shown {
     )
 }
 
-fn append_bytes(bench: &mut Bench, bytes: &[u8]) -> Result<(), RefusalKind> {
-    if bytes.is_empty() {
-        return Ok(());
-    }
+fn append_engaged(bench: &mut Bench, bytes: &[u8]) -> Result<(), RefusalKind> {
     let Bench {
         cache,
         groups,
         extents,
         ..
     } = bench;
-    match extents.append(cache, groups, Some(WriterNo(0)), 0, bytes, &[]) {
+    match append_bytes(cache, groups, extents, Some(WriterNo(0)), 0, bytes, &[]) {
         Ok(_) => Ok(()),
         Err(refusal) => Err(refusal.kind()),
     }
@@ -94,7 +94,7 @@ fn reset_first(bench: &mut Bench) -> Result<(), RefusalKind> {
 
 fn make_call(bench: &mut Bench, call: Call) -> Result<(), RefusalKind> {
     match call {
-        Call::Append => append_bytes(bench, &[8; 5000]),
+        Call::Append => append_engaged(bench, &[8; 5000]),
         Call::Read => read_front(bench, 5100),
         Call::Reset => reset_first(bench),
     }
@@ -204,24 +204,28 @@ fn call_anew(
     refused: &mut [u32],
 ) -> Result<(), Fail> {
     let mut bench = open_bench(rt, alloc, heap)?;
-    expect_equal(rt, "first", append_bytes(&mut bench, &[7; 100]), Ok(()));
+    expect_equal(rt, "first", append_engaged(&mut bench, &[7; 100]), Ok(()));
     call_each(rt, &mut bench, hole, refused)
 }
 
 // Each hole is larger than the one before it, so that one allocation more succeeds now and then, until all do. How many of
 // the calls were refused.
-#[test]
-fn each_call_is_refused_and_repeated(rt: HostRuntime) -> Result<(), Fail> {
-    let heap = LocalHeap::new(rt.alloc(), HEAP)?;
+fn refuse_each(rt: &impl Abort, alloc: Global, heap: &LocalHeap) -> Result<(), Fail> {
     let mut refused = [0u32; 3];
     for size in 0..400usize {
         let before = refused;
-        call_anew(&rt, rt.alloc(), &heap, hole_of(size), &mut refused)?;
-        expect_equal(&rt, "used", heap.used(), 0);
+        call_anew(rt, alloc, heap, hole_of(size), &mut refused)?;
+        expect_equal(rt, "used", heap.used(), 0);
         if refused == before {
-            expect_equal(&rt, "never refused", refused.contains(&0), false);
+            expect_equal(rt, "never refused", refused.contains(&0), false);
             return Ok(());
         }
     }
     Err(Fail::from("refused in the largest hole"))
+}
+
+#[test]
+fn each_call_is_refused_and_repeated(rt: HostRuntime) -> Result<(), Fail> {
+    let heap = LocalHeap::new(rt.alloc(), HEAP)?;
+    refuse_each(&rt, rt.alloc(), &heap)
 }

@@ -2,6 +2,7 @@
 use super::*;
 use patch_model::Refuses;
 use std::alloc::AllocError;
+use std::fmt::Display;
 
 const TOLD: &str = "\
 BadPointer: 48 BadPointer
@@ -24,78 +25,61 @@ TooManyLive: 18 TooManyLive
 OutOfMemory: 1 OutOfMemory
 ";
 
-fn tell_fault(told: &mut String, fault: ExtentsFault) -> Result<(), AllocError> {
-    let code = fault.code();
-    let name = fault.name();
-    writeln!(told, "{fault}: {code} {name}")
-}
+const FAULTS: [ExtentsFault; 2] = [ExtentsFault::BadPointer, ExtentsFault::OutOfMemory];
 
-fn tell_append(told: &mut String, refusal: AppendRefusal) -> Result<(), AllocError> {
+const APPENDS: [AppendRefusal; 6] = [
+    AppendRefusal::NoSuchExtent,
+    AppendRefusal::ExtentFull,
+    AppendRefusal::UnknownDependency,
+    AppendRefusal::NumbersSpent,
+    AppendRefusal::TooManyLive,
+    AppendRefusal::OutOfMemory,
+];
+
+const READS: [ReadRefusal; 4] = [
+    ReadRefusal::NoSuchExtent,
+    ReadRefusal::OldGeneration,
+    ReadRefusal::PastPointer,
+    ReadRefusal::OutOfMemory,
+];
+
+const RESETS: [ResetRefusal; 6] = [
+    ResetRefusal::NoSuchExtent,
+    ResetRefusal::GenerationSpent,
+    ResetRefusal::UnknownDependency,
+    ResetRefusal::NumbersSpent,
+    ResetRefusal::TooManyLive,
+    ResetRefusal::OutOfMemory,
+];
+
+// The refusal's text, and the number and the name of its kind.
+fn tell<R: Refuses + Copy + Display>(told: &mut String, refusal: R) -> Result<(), AllocError> {
     let code = refusal.code();
     let name = refusal.name();
     writeln!(told, "{refusal}: {code} {name}")
 }
 
-fn tell_read(told: &mut String, refusal: ReadRefusal) -> Result<(), AllocError> {
-    let code = refusal.code();
-    let name = refusal.name();
-    writeln!(told, "{refusal}: {code} {name}")
-}
-
-fn tell_reset(told: &mut String, refusal: ResetRefusal) -> Result<(), AllocError> {
-    let code = refusal.code();
-    let name = refusal.name();
-    writeln!(told, "{refusal}: {code} {name}")
-}
-
-fn tell_appends(told: &mut String) -> Result<(), AllocError> {
-    for refusal in [
-        AppendRefusal::NoSuchExtent,
-        AppendRefusal::ExtentFull,
-        AppendRefusal::UnknownDependency,
-        AppendRefusal::NumbersSpent,
-        AppendRefusal::TooManyLive,
-        AppendRefusal::OutOfMemory,
-    ] {
-        tell_append(told, refusal)?;
+fn tell_each<R>(told: &mut String, refusals: &[R]) -> Result<(), AllocError>
+where
+    R: Refuses + Copy + Display,
+{
+    for refusal in refusals {
+        tell(told, *refusal)?;
     }
     Ok(())
 }
 
-fn tell_reads(told: &mut String) -> Result<(), AllocError> {
-    for refusal in [
-        ReadRefusal::NoSuchExtent,
-        ReadRefusal::OldGeneration,
-        ReadRefusal::PastPointer,
-        ReadRefusal::OutOfMemory,
-    ] {
-        tell_read(told, refusal)?;
-    }
-    Ok(())
-}
-
-fn tell_resets(told: &mut String) -> Result<(), AllocError> {
-    for refusal in [
-        ResetRefusal::NoSuchExtent,
-        ResetRefusal::GenerationSpent,
-        ResetRefusal::UnknownDependency,
-        ResetRefusal::NumbersSpent,
-        ResetRefusal::TooManyLive,
-        ResetRefusal::OutOfMemory,
-    ] {
-        tell_reset(told, refusal)?;
-    }
-    Ok(())
+fn tell_all(told: &mut String) -> Result<(), AllocError> {
+    tell_each(told, &FAULTS)?;
+    tell_each(told, &APPENDS)?;
+    tell_each(told, &READS)?;
+    tell_each(told, &RESETS)
 }
 
 #[test]
 fn refusals_tell_what_they_are(rt: HostRuntime) -> Result<(), Fail> {
     let mut told = String::new(rt.alloc());
-    tell_fault(&mut told, ExtentsFault::BadPointer)?;
-    tell_fault(&mut told, ExtentsFault::OutOfMemory)?;
-    tell_appends(&mut told)?;
-    tell_reads(&mut told)?;
-    tell_resets(&mut told)?;
+    tell_all(&mut told)?;
     expect_equal(&rt, "told", told.as_str(), TOLD);
     Ok(())
 }

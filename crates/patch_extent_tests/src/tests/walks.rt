@@ -53,16 +53,6 @@ enum Move {
 
 use Move::{Append, Behind, By, Engage, Group, Leave, Order, Read, Reset, Trace};
 
-#[derive(Drop)]
-struct Bench {
-    alloc: Global,
-    cache: Cache,
-    groups: Groups,
-    extents: Extents,
-    // How many appends there were.
-    appends: u8,
-}
-
 // 5,000 bytes, 10 more, a reset, and one byte.
 const WORKED: [Move; 17] = [
     Append {
@@ -306,23 +296,48 @@ fn tell_read(told: &mut String, bench: &Bench, place: Place) -> Result<(), Fail>
     }
 }
 
+// So many bytes of the value of the count of appends.
 fn append_some(
     bench: &mut Bench,
     writer: Option<WriterNo>,
     extent: u32,
-    bytes: &[u8],
+    len: usize,
     after: &[PatchNo],
 ) -> Result<Appended, AppendRefusal> {
-    if bytes.is_empty() {
+    bench.appends = bench.appends.saturating_add(1);
+    let Ok(bytes) = vec![in bench.alloc; bench.appends; len] else {
         return Err(AppendRefusal::OutOfMemory);
-    }
+    };
     let Bench {
         cache,
         groups,
         extents,
         ..
     } = bench;
-    extents.append(cache, groups, writer, extent, bytes, after)
+    append_bytes(
+        cache,
+        groups,
+        extents,
+        writer,
+        extent,
+        bytes.as_slice(),
+        after,
+    )
+}
+
+fn tell_appended(told: &mut String, appended: &Appended) -> Result<(), Fail> {
+    let Place {
+        extent,
+        generation,
+        offset,
+        len,
+    } = appended.place;
+    let by = appended.pointer_patch;
+    write!(
+        told,
+        "append extent {extent} generation {generation} offset {offset} len {len} by {by}"
+    )?;
+    Ok(())
 }
 
 fn tell_append(
@@ -333,26 +348,13 @@ fn tell_append(
     len: usize,
     after: &[PatchNo],
 ) -> Result<(), Fail> {
-    bench.appends = bench.appends.saturating_add(1);
-    let bytes = vec![in bench.alloc; bench.appends; len]?;
-    match append_some(bench, writer, extent, bytes.as_slice(), after) {
-        Ok(
-            Appended {
-                place: Place {
-                    extent,
-                    generation,
-                    offset,
-                    len,
-                },
-                pointer_patch,
-            },
-        ) => write!(
-            told,
-            "append extent {extent} generation {generation} offset {offset} len {len} by {pointer_patch}"
-        )?,
-        Err(refusal) => write!(told, "append refused {refusal}")?,
+    match append_some(bench, writer, extent, len, after) {
+        Ok(appended) => tell_appended(told, &appended),
+        Err(refusal) => {
+            write!(told, "append refused {refusal}")?;
+            Ok(())
+        }
     }
-    Ok(())
 }
 
 fn tell_reset(told: &mut String, bench: &mut Bench, extent: u32) -> Result<(), Fail> {
@@ -426,38 +428,17 @@ fn tell_each(told: &mut String, bench: &mut Bench, moves: &[Move]) -> Result<(),
     Ok(())
 }
 
-// How many blocks a disk of this geometry has.
-fn count_blocks(rt: &impl Abort, geometry: Geometry) -> usize {
-    assert!(rt; geometry.is_valid());
-    geometry.block_count() as usize
-}
-
-fn open_extents(
+// What is told of the moves is this.
+fn expect_told(
     rt: &impl Abort,
-    alloc: Global,
-    cache: &Cache,
-    geometry: Geometry,
-) -> Result<Extents, ExtentsFault> {
-    assert!(rt; geometry.is_valid());
-    assert!(rt; cache.blocks() == geometry.block_count());
-    Extents::open(alloc, cache, geometry)
-}
-
-fn open_bench(
-    rt: &impl Abort,
-    alloc: Global,
-    geometry: Geometry,
-    records: &[u8],
-) -> Result<Bench, Fail> {
-    let cache = open_cache(rt, alloc, count_blocks(rt, geometry), records)?;
-    let extents = open_extents(rt, alloc, &cache, geometry)?;
-    Ok(Bench {
-        alloc,
-        cache,
-        groups: Groups::new(alloc),
-        extents,
-        appends: 0,
-    })
+    bench: &mut Bench,
+    moves: &[Move],
+    told: &mut String,
+    want: &str,
+) -> Result<(), Fail> {
+    tell_each(told, bench, moves)?;
+    expect_equal(rt, "told", told.as_str(), want);
+    Ok(())
 }
 
 // Walks through the moves on a disk of this format with these pointer records, and what is told is this.
@@ -471,9 +452,7 @@ fn walk(
 ) -> Result<(), Fail> {
     let mut bench = open_bench(rt, alloc, geometry_of(format), records)?;
     let mut told = String::new(alloc);
-    tell_each(&mut told, &mut bench, moves)?;
-    expect_equal(rt, "told", told.as_str(), want);
-    Ok(())
+    expect_told(rt, &mut bench, moves, &mut told, want)
 }
 
 #[test]
@@ -498,6 +477,33 @@ fn the_last_generation_stays(rt: HostRuntime) -> Result<(), Fail> {
     walk(&rt, rt.alloc(), Format::One, &records, &SPENT, SPENT_TOLD)
 }
 
+// Pointer records on a disk of this format, and why it isn't opened: a pointer past its extent, and a byte behind the records. The
+// largest pointer of each version is opened.
+const RECORDS: [(&'static str, Format, &'static [u8], Option<ExtentsFault>); 5] = [
+    ("full", Format::One, b"\0\0\0\0\0\x01\0\0", None),
+    ("past", Format::One, b"\0\0\0\0\0\x01\0\x01", BAD_POINTER),
+    (
+        "behind",
+        Format::One,
+        b"\0\0\0\0\0\0\0\0\0\0\0\0\0\0\0\0\x01",
+        BAD_POINTER,
+    ),
+    (
+        "long",
+        Format::Two { length: 64 },
+        b"\0\0\0\0\0\x01\0\x01",
+        None,
+    ),
+    (
+        "longest",
+        Format::Two { length: 64 },
+        b"\0\0\0\0\0\x04\0\0",
+        None,
+    ),
+];
+
+const BAD_POINTER: Option<ExtentsFault> = Some(ExtentsFault::BadPointer);
+
 fn fault_of(
     rt: &impl Abort,
     alloc: Global,
@@ -509,27 +515,12 @@ fn fault_of(
     Ok(open_extents(rt, alloc, &cache, geometry).err())
 }
 
-// A pointer past its extent, and a byte behind the records, are refused; the largest pointer of each version isn't.
 #[test]
 fn bad_pointers_are_refused(rt: HostRuntime) -> Result<(), Fail> {
-    let one = Format::One;
-    let long = Format::Two { length: 64 };
-    let full = [0, 0, 0, 0, 0, 1, 0, 0];
-    let past = [0, 0, 0, 0, 0, 1, 0, 1];
-    let longest = [0, 0, 0, 0, 0, 4, 0, 0];
-    let mut behind = [0; 17];
-    behind[16] = 1;
-    let bad = Some(ExtentsFault::BadPointer);
-    expect_equal(&rt, "full", fault_of(&rt, rt.alloc(), one, &full)?, None);
-    expect_equal(&rt, "past", fault_of(&rt, rt.alloc(), one, &past)?, bad);
-    expect_equal(&rt, "behind", fault_of(&rt, rt.alloc(), one, &behind)?, bad);
-    expect_equal(&rt, "long", fault_of(&rt, rt.alloc(), long, &past)?, None);
-    expect_equal(
-        &rt,
-        "longest",
-        fault_of(&rt, rt.alloc(), long, &longest)?,
-        None,
-    );
+    for (what, format, records, fault) in &RECORDS {
+        let got = fault_of(&rt, rt.alloc(), *format, records)?;
+        expect_equal(&rt, what, got, *fault);
+    }
     Ok(())
 }
 
@@ -542,7 +533,7 @@ fn move_pointer(
 ) -> Result<(), Fail>
     requires { 1 < extents.old.geometry.extents }
 {
-    extents.append(cache, groups, None, 1, b"bytes", &[])?;
+    append_bytes(cache, groups, extents, None, 1, b"bytes", &[])?;
     expect_equal(rt, "appended", extents.pointer(1), (0, 5));
     extents.reset(cache, 1, &[])?;
     expect_equal(rt, "reset", extents.pointer(1), (1, 0));

@@ -1,5 +1,5 @@
 //! Files with damaged bytes, and what a check of each writes.
-use super::files::{Deed, HELD, LENGTH, MADE, OK, PUT, follow};
+use super::files::{Deed, HELD, LENGTH, MADE, OK, PUT, Turn, follow};
 use super::*;
 use patch_files::check_file;
 use patch_model::BLOCK;
@@ -101,82 +101,83 @@ fn expect_each(
     Ok(())
 }
 
-#[test]
-fn a_damaged_file_of_no_entries_is_refused(rt: HostRuntime) -> Result<(), Fail> {
-    let path = "patch_files_new";
-    let _old = fs::remove_file(&rt, path);
-    follow(
-        &rt,
-        rt.alloc(),
-        path,
-        &[(Deed::Make(SMALL), MADE), (Deed::Check, EMPTY_STORE)],
-    );
-    let good = fs::read(&rt, path)?;
-    assert_eq!(&rt; good.len(), LENGTH);
-    expect_each(
-        &rt,
-        &rt,
-        path,
-        &good,
-        &[
-            (Damage::Cut(LENGTH - 1), failed("fault FileSize\n")),
-            (Damage::Changed(0, 0), failed("fault BadSuper\n")),
-            (Damage::Changed(4144, 1), failed("fault BadSlot 0\n")),
-        ],
-    )?;
-    fs::remove_file(&rt, path)?;
-    Ok(())
-}
-
-// What a check writes where the one slot is lost.
-const WITHOUT_SLOT: &str = "extent 0 0 19 0\nextent 1 0 0 0\nclean\n";
-
-// Checks of the file behind one put, for each damage that is told by its own words.
+// The same of the file as it stands, which isn't there at last.
 fn expect_damages(
     rt: &impl Abort,
     files: &HostRuntime,
     path: &str,
-    good: &[u8],
+    damages: &[(Damage, End)],
 ) -> Result<(), Fail> {
-    let (size, superblock) = (failed("fault FileSize\n"), failed("fault BadSuper\n"));
-    let (pointer, frame) = (failed("fault BadPointer\n"), failed("fault BadFrame 0\n"));
-    expect_each(
-        rt,
-        files,
-        path,
-        good,
-        &[
-            (Damage::Zeroed(0), superblock),
-            (Damage::Swapped(0, 1), superblock),
-            (Damage::Zeroed(1), done(WITHOUT_SLOT)),
-            (Damage::Zeroed(2), frame),
-            (Damage::Zeroed(3), frame),
-            (Damage::Swapped(3, 4), frame),
-            (Damage::Swapped(1, 2), pointer),
-            (Damage::Swapped(2, 3), pointer),
-            (Damage::Swapped(1, 3), failed("fault BadSlot 0\n")),
-            (Damage::Cut(34 * BLOCK), size),
-            (Damage::Cut(0), size),
-            (Damage::Cut(LENGTH - 1), size),
-            (
-                Damage::Changed(BLOCK + 63 * SLOT, 2),
-                failed("fault BadSlot 63\n"),
-            ),
-            (Damage::Repeated(5), failed("fault DuplicateKey 5\n")),
-        ],
-    )
+    let good = fs::read(files, path)?;
+    expect_eq(rt, &good.len(), &LENGTH);
+    expect_each(rt, files, path, &good, damages)?;
+    fs::remove_file(files, path)?;
+    Ok(())
 }
 
+const SIZE: End = End(Status::Failed, 4, "fault FileSize\n");
+
+const SUPERBLOCK: End = End(Status::Failed, 4, "fault BadSuper\n");
+
+const POINTER: End = End(Status::Failed, 4, "fault BadPointer\n");
+
+const SLOT_0: End = End(Status::Failed, 4, "fault BadSlot 0\n");
+
+const FRAME: End = End(Status::Failed, 4, "fault BadFrame 0\n");
+
+const OF_NO_ENTRIES: &[(Damage, End)] = &[
+    (Damage::Cut(LENGTH - 1), SIZE),
+    (Damage::Changed(0, 0), SUPERBLOCK),
+    (Damage::Changed(4144, 1), SLOT_0),
+];
+
+const MADE_AND_CHECKED: &[Turn<'static>] = &[(Deed::Make(SMALL), MADE), (Deed::Check, EMPTY_STORE)];
+
+#[test]
+fn a_damaged_file_of_no_entries_is_refused(rt: HostRuntime) -> Result<(), Fail> {
+    let path = "patch_files_new";
+    let _old = fs::remove_file(&rt, path);
+    follow(&rt, rt.alloc(), path, MADE_AND_CHECKED);
+    expect_damages(&rt, &rt, path, OF_NO_ENTRIES)
+}
+
+// Damages of the file behind one put that are told by their own words.
+const OF_ONE_PUT: &[(Damage, End)] = &[
+    (Damage::Zeroed(0), SUPERBLOCK),
+    (Damage::Swapped(0, 1), SUPERBLOCK),
+    // The one slot is lost.
+    (
+        Damage::Zeroed(1),
+        End(Status::Done, 0, "extent 0 0 19 0\nextent 1 0 0 0\nclean\n"),
+    ),
+    (Damage::Zeroed(2), FRAME),
+    (Damage::Zeroed(3), FRAME),
+    (Damage::Swapped(3, 4), FRAME),
+    (Damage::Swapped(1, 2), POINTER),
+    (Damage::Swapped(2, 3), POINTER),
+    (Damage::Swapped(1, 3), SLOT_0),
+    (Damage::Cut(34 * BLOCK), SIZE),
+    (Damage::Cut(0), SIZE),
+    (Damage::Cut(LENGTH - 1), SIZE),
+    (
+        Damage::Changed(BLOCK + 63 * SLOT, 2),
+        End(Status::Failed, 4, "fault BadSlot 63\n"),
+    ),
+    (
+        Damage::Repeated(5),
+        End(Status::Failed, 4, "fault DuplicateKey 5\n"),
+    ),
+];
+
+const ONE_PUT: &[Turn<'static>] = &[(Deed::Make(SMALL), MADE), (Deed::Run(PUT), OK)];
+
 // The blocks that no slot names aren't looked at.
-fn expect_unseen(
-    rt: &impl Abort,
-    files: &HostRuntime,
-    path: &str,
-    good: &[u8],
-) -> Result<(), Fail> {
+fn expect_unseen(rt: &impl Abort, files: &HostRuntime, path: &str) -> Result<(), Fail> {
+    let good = fs::read(files, path)?;
     for block in 4..35 {
-        expect_each(rt, files, path, good, &[(Damage::Zeroed(block), HELD)])?;
+        expect_each(rt, files, path, &good, &[(Damage::Zeroed(block), HELD)])?;
     }
+    fs::write(files, path, good.as_slice())?;
     Ok(())
 }
 
@@ -184,15 +185,7 @@ fn expect_unseen(
 fn each_damage_of_a_file_is_told(rt: HostRuntime) -> Result<(), Fail> {
     let path = "patch_files_damaged";
     let _old = fs::remove_file(&rt, path);
-    follow(
-        &rt,
-        rt.alloc(),
-        path,
-        &[(Deed::Make(SMALL), MADE), (Deed::Run(PUT), OK)],
-    );
-    let good = fs::read(&rt, path)?;
-    expect_damages(&rt, &rt, path, &good)?;
-    expect_unseen(&rt, &rt, path, &good)?;
-    fs::remove_file(&rt, path)?;
-    Ok(())
+    follow(&rt, rt.alloc(), path, ONE_PUT);
+    expect_unseen(&rt, &rt, path)?;
+    expect_damages(&rt, &rt, path, OF_ONE_PUT)
 }

@@ -51,23 +51,30 @@ fn failing_often<D: Device>(
 fn a_device_that_gives_up_ends_a_run_behind_its_answers(rt: HostRuntime) -> Result<(), Fail> {
     let mut device = failing_often(failing_often(new_device(rt.alloc())?));
     let end = End(Status::Failed, 4, "ok\nvalue 01\nfault DeviceGaveUp 3\n");
-    expect_run(&rt, rt.alloc(), &mut device, PUT, end);
-    expect_check(&rt, rt.alloc(), &mut device, EMPTY_STORE);
+    expect_run_and_check(&rt, rt.alloc(), &mut device, PUT, (end, EMPTY_STORE));
+    Ok(())
+}
+
+fn expect_given_up(rt: &impl Abort, alloc: Global) -> Result<(), Fail> {
+    let mut device = failing_often(failing_often(new_device(alloc)?));
+    let end = failed("ok\nfault DeviceGaveUp 3\n");
+    expect_run(rt, alloc, &mut device, files::PUT.as_bytes(), end);
+    Ok(())
+}
+
+fn expect_borne(rt: &impl Abort, alloc: Global) -> Result<(), Fail> {
+    let call = COUNT as u64;
+    let three = failing(failing(failing(new_device(alloc)?, call), call), call);
+    let mut device = failing_often(three);
+    let ends = (files::OK, files::HELD);
+    expect_run_and_check(rt, alloc, &mut device, files::PUT.as_bytes(), ends);
     Ok(())
 }
 
 #[test]
 fn eight_refusals_of_a_write_end_a_run_and_seven_do_not(rt: HostRuntime) -> Result<(), Fail> {
-    let alloc = rt.alloc();
-    let mut eight = failing_often(failing_often(new_device(alloc)?));
-    let gave_up = failed("ok\nfault DeviceGaveUp 3\n");
-    expect_run(&rt, alloc, &mut eight, files::PUT.as_bytes(), gave_up);
-    let call = u64::from(COUNT);
-    let three = failing(failing(failing(new_device(alloc)?, call), call), call);
-    let mut seven = failing_often(three);
-    expect_run(&rt, alloc, &mut seven, files::PUT.as_bytes(), files::OK);
-    expect_check(&rt, alloc, &mut seven, files::HELD);
-    Ok(())
+    expect_given_up(&rt, rt.alloc())?;
+    expect_borne(&rt, rt.alloc())
 }
 
 /// A reader that fails at once.
@@ -125,10 +132,11 @@ fn a_writer_that_fails_ends_the_run(rt: HostRuntime) -> Result<(), Fail> {
         &mut device,
         &mut Quiet,
     );
-    assert_eq!(rt; status, Status::Failed);
-    assert_eq!(rt;
-        check_disk(rt.alloc(), &mut closed, &mut device),
-        Status::Failed
+    expect_eq(&rt, &status, &Status::Failed);
+    expect_eq(
+        &rt,
+        &check_disk(rt.alloc(), &mut closed, &mut device),
+        &Status::Failed,
     );
     Ok(())
 }

@@ -1,12 +1,15 @@
 //! Commands on a file, one behind another: how each ends, and what the file holds.
+ghost use Rattle.std.specs.Prelude.{◌<◌, ◌≤◌};
+
 use super::*;
 use patch_files::{check_file, make_file, run_file, serve_file, upgrade_file};
+use std::alloc::AllocError;
+use std::fs;
 use std::fs::OpenFile;
 use std::os::unix::fs::FileExt;
 use std::rt::Files;
 use std::sync::Wait;
 use std::thread::Threads;
-use std::{fs, io};
 
 /// What is done with a file.
 #[derive(Clone, Copy)]
@@ -21,29 +24,34 @@ pub(super) enum Deed<'a> {
 
 pub(super) type Turn<'a> = (Deed<'a>, End);
 
-// How the command ends on the file of this path, and what it writes.
+fn expect_few(rt: &impl Abort, writers: u32)
+    ensures { (0 < writers) × (writers ≤ 8) }
+{
+    assert!(rt; 0 < writers && writers <= 8);
+}
+
+// How the command ends on the file of this path.
 fn end_of<F: FileExt + OpenFile + Drop + Send, H: Files<File = F> + Threads + Wait + Abort + Sync>(
     rt: &H,
     alloc: Global,
     path: &str,
     deed: &Deed<'_>,
-) -> (Status, Vec<u8>) {
-    let mut out = Sink::new(Vec::new(alloc));
-    let status = match deed {
-        Deed::Make(geometry) => make_file(rt, alloc, &mut out, path, *geometry),
+    out: &mut Sink<Vec<u8>>,
+) -> Status {
+    match deed {
+        Deed::Make(geometry) => make_file(rt, alloc, out, path, *geometry),
         Deed::Run(script) => {
             let mut source = Source::new(script.as_bytes());
-            run_file(rt, alloc, &mut source, &mut out, path, &mut Quiet)
+            run_file(rt, alloc, &mut source, out, path, &mut Quiet)
         }
         Deed::Serve(writers, script) => {
-            assert!(rt; 0 < *writers && *writers <= 8);
+            expect_few(rt, *writers);
             let mut source = Source::new(script.as_bytes());
-            serve_file(rt, alloc, &mut source, &mut out, path, *writers)
+            serve_file(rt, alloc, &mut source, out, path, *writers)
         }
-        Deed::Check => check_file(rt, alloc, &mut out, path),
-        Deed::Upgrade => upgrade_file(rt, alloc, &mut out, path),
-    };
-    (status, out.into_inner())
+        Deed::Check => check_file(rt, alloc, out, path),
+        Deed::Upgrade => upgrade_file(rt, alloc, out, path),
+    }
 }
 
 /// The commands end so, one behind another.
@@ -52,8 +60,9 @@ pub(super) fn follow<
     H: Files<File = F> + Threads + Wait + Abort + Sync,
 >(rt: &H, alloc: Global, path: &str, turns: &[Turn<'_>]) {
     for (deed, end) in turns {
-        let (status, text) = end_of(rt, alloc, path, deed);
-        expect_end(rt, status, text.as_slice(), *end);
+        let mut out = Sink::new(Vec::new(alloc));
+        let status = end_of(rt, alloc, path, deed, &mut out);
+        expect_end(rt, status, out.into_inner().as_slice(), *end);
     }
 }
 
@@ -61,10 +70,11 @@ pub(super) fn follow<
 pub(super) fn follow_anew<
     F: FileExt + OpenFile + Drop + Send,
     H: Files<File = F> + Threads + Wait + Abort + Sync,
->(rt: &H, alloc: Global, path: &str, turns: &[Turn<'_>]) -> Result<(), io::Error> {
+>(rt: &H, alloc: Global, path: &str, turns: &[Turn<'_>]) -> Result<(), Fail> {
     let _old = fs::remove_file(rt, path);
     follow(rt, alloc, path, turns);
-    fs::remove_file(rt, path)
+    fs::remove_file(rt, path)?;
+    Ok(())
 }
 
 /// Bytes, and where in the file they stand.
@@ -79,6 +89,15 @@ fn lay(bytes: &mut [u8], from: usize, piece: &[u8]) {
     }
 }
 
+// So many bytes, which are these pieces over zeros.
+fn laid(alloc: Global, length: usize, pieces: &[Piece<'_>]) -> Result<Vec<u8>, AllocError> {
+    let mut bytes = vec![in alloc; 0; length]?;
+    for (from, piece) in pieces {
+        lay(&mut bytes, *from, piece);
+    }
+    Ok(bytes)
+}
+
 /// The file has so many bytes, which are these pieces over zeros.
 pub(super) fn expect_bytes(
     rt: &impl Abort,
@@ -87,13 +106,14 @@ pub(super) fn expect_bytes(
     length: usize,
     pieces: &[Piece<'_>],
 ) -> Result<(), Fail> {
-    let mut want = vec![in files.alloc(); 0; length]?;
-    for (from, piece) in pieces {
-        lay(&mut want, *from, piece);
-    }
+    let want = laid(files.alloc(), length, pieces)?;
     let held = fs::read(files, path)?;
-    assert_eq!(rt; held.len(), length);
-    assert!(rt; held.as_slice() == want.as_slice(), "{path}");
+    expect_eq(rt, &held.len(), &length);
+    expect_eq(
+        rt,
+        &(&path, &(held.as_slice() == want.as_slice())),
+        &(&path, &true),
+    );
     Ok(())
 }
 
@@ -103,6 +123,8 @@ pub(super) const LENGTH: usize = 143_360;
 pub(super) const MADE: End = End(Status::Done, 0, "made 35\n");
 
 pub(super) const OK: End = End(Status::Done, 0, "ok\n");
+
+pub(super) const UPGRADED: End = End(Status::Done, 0, "upgraded\n");
 
 pub(super) const PUT: &str = r#"{"op":"put","key":"k","hex":"0102"}"#;
 
@@ -115,22 +137,18 @@ pub(super) const HELD: End = End(
 
 const DISK: End = End(Status::Failed, 4, "fault Disk\n");
 
+const KEPT: &[Turn<'static>] = &[
+    (Deed::Check, DISK),
+    (Deed::Run(PUT), DISK),
+    (Deed::Make(SMALL), MADE),
+    (Deed::Run(PUT), OK),
+    (Deed::Make(SMALL), DISK),
+    (Deed::Check, HELD),
+    (Deed::Upgrade, UPGRADED),
+    (Deed::Check, HELD),
+];
+
 #[test]
 fn a_store_is_kept_in_a_file(rt: HostRuntime) -> Result<(), Fail> {
-    follow_anew(
-        &rt,
-        rt.alloc(),
-        "patch_files_disk",
-        &[
-            (Deed::Check, DISK),
-            (Deed::Run(PUT), DISK),
-            (Deed::Make(SMALL), MADE),
-            (Deed::Run(PUT), OK),
-            (Deed::Make(SMALL), DISK),
-            (Deed::Check, HELD),
-            (Deed::Upgrade, done("upgraded\n")),
-            (Deed::Check, HELD),
-        ],
-    )?;
-    Ok(())
+    follow_anew(&rt, rt.alloc(), "patch_files_disk", KEPT)
 }

@@ -24,10 +24,8 @@ const HELD: &str = "entry 61 3\nentry 62 2\nextent 0 0 56 39\nextent 1 0 0 0\ncl
 fn a_script_is_answered_and_stands_on_the_disk(rt: HostRuntime) -> Result<(), Fail> {
     let mut device = new_device(rt.alloc())?;
     expect_check(&rt, rt.alloc(), &mut device, EMPTY_STORE);
-    let end = End(Status::Done, 0, ANSWERS);
-    expect_run(&rt, rt.alloc(), &mut device, SCRIPT.as_bytes(), end);
-    let held = End(Status::Done, 0, HELD);
-    expect_check(&rt, rt.alloc(), &mut device, held);
+    let ends = (done(ANSWERS), done(HELD));
+    expect_run_and_check(&rt, rt.alloc(), &mut device, SCRIPT.as_bytes(), ends);
     let again = End(Status::Done, 0, "value 0102\n");
     let get = br#"{"op":"get","key":"b"}"#;
     expect_run(&rt, rt.alloc(), &mut device, get, again);
@@ -65,7 +63,7 @@ fn expect_refused(rt: &impl Abort, alloc: Global, script: &[u8], end: End) -> Re
     let mut device = new_device(alloc)?;
     let before = device.writes().len();
     expect_run(rt, alloc, &mut device, script, end);
-    assert_eq!(rt; device.writes().len(), before);
+    expect_eq(rt, &device.writes().len(), &before);
     Ok(())
 }
 

@@ -6,7 +6,7 @@ use patch_files::{Progress, Ticker};
 fn expect_shown(rt: &impl Abort, alloc: Global, lines: usize, want: &str) {
     let mut shown = Vec::new(alloc);
     tick(&mut Ticker::new(&mut shown), lines);
-    assert_eq!(rt; shown.as_slice(), want.as_bytes());
+    expect_eq(rt, &shown.as_slice(), &want.as_bytes());
 }
 
 fn tick<P: Progress>(ticker: &mut P, lines: usize) {

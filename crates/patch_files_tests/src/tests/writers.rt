@@ -93,7 +93,7 @@ fn expect_unread<T: Threads + Wait + Abort + Sync>(
     let before = device.writes().len();
     let end = End(Status::Unreadable(why), 3, text);
     let device = expect_served(rt, alloc, device, 2, script, end)?;
-    assert_eq!(rt; device.writes().len(), before);
+    expect_eq(rt, &device.writes().len(), &before);
     Ok(())
 }
 

@@ -1,5 +1,5 @@
 //! Readers against plain ones, written from the tables of the formats, on damaged bytes.
-use super::disk;
+use super::{disk, expect_eq};
 use patch_frame::*;
 use patch_model::OutOfMemory;
 use std::alloc::Global;
@@ -27,9 +27,24 @@ fn word(bytes: &[u8], from: usize) -> u32 {
 }
 
 fn zeros(bytes: &[u8], from: usize, to: usize) -> bool {
-    bytes
-        .get(from..to)
-        .is_some_and(|part| part.iter().all(|byte| *byte == 0))
+    let Some(part) = bytes.get(from..to) else {
+        return false;
+    };
+    for byte in part {
+        if *byte != 0 {
+            return false;
+        }
+    }
+    true
+}
+
+// The length of a key, which stands in one byte.
+fn plain_key_length(bytes: &[u8], at: usize) -> Result<usize, FrameFault> {
+    let length = (number(bytes, at, at.saturating_add(1)) % 256) as usize;
+    if length == 0 || length > 32 {
+        return Err(FrameFault::BadKey);
+    }
+    Ok(length)
 }
 
 fn plain_frame(bytes: &[u8], limit: u64) -> Result<Frame<'_>, FrameFault> {
@@ -39,10 +54,7 @@ fn plain_frame(bytes: &[u8], limit: u64) -> Result<Frame<'_>, FrameFault> {
     if !stands(bytes, 0, b"FCH1") {
         return Err(FrameFault::BadMagic);
     }
-    let key_length = (number(bytes, 4, 5) % 256) as usize;
-    if !(1..=32).contains(&key_length) {
-        return Err(FrameFault::BadKey);
-    }
+    let key_length = plain_key_length(bytes, 4)?;
     if !zeros(bytes, 5, 8) {
         return Err(FrameFault::NotZero);
     }
@@ -50,8 +62,17 @@ fn plain_frame(bytes: &[u8], limit: u64) -> Result<Frame<'_>, FrameFault> {
     if value_length > limit {
         return Err(FrameFault::BadValue);
     }
+    plain_parts(bytes, key_length, value_length as usize)
+}
+
+// The key and the value of a frame, whose lengths are known.
+fn plain_parts(
+    bytes: &[u8],
+    key_length: usize,
+    value_length: usize,
+) -> Result<Frame<'_>, FrameFault> {
     let key_end = key_length.saturating_add(12);
-    let value_end = key_end.saturating_add(value_length as usize);
+    let value_end = key_end.saturating_add(value_length);
     let length = value_end.saturating_add(4);
     if bytes.len() < length {
         return Err(FrameFault::Short);
@@ -67,21 +88,16 @@ fn plain_frame(bytes: &[u8], limit: u64) -> Result<Frame<'_>, FrameFault> {
 }
 
 fn plain_slot(bytes: &[u8], longest: u64) -> Result<SlotState<'_>, FrameFault> {
-    let state = number(bytes, 0, 1);
-    if state > 1 {
-        return Err(FrameFault::BadMagic);
+    match number(bytes, 0, 1) {
+        0 if zeros(bytes, 0, 64) => Ok(SlotState::Empty),
+        0 => Err(FrameFault::NotZero),
+        1 => Ok(SlotState::Used(plain_used(bytes, longest)?)),
+        _ => Err(FrameFault::BadMagic),
     }
-    if state == 0 && zeros(bytes, 0, 64) {
-        return Ok(SlotState::Empty);
-    }
-    if state == 0 {
-        return Err(FrameFault::NotZero);
-    }
-    let key_length = (number(bytes, 1, 2) % 256) as usize;
-    if !(1..=32).contains(&key_length) {
-        return Err(FrameFault::BadKey);
-    }
-    let key_end = key_length.saturating_add(16);
+}
+
+fn plain_used(bytes: &[u8], longest: u64) -> Result<Slot<'_>, FrameFault> {
+    let key_end = plain_key_length(bytes, 1)?.saturating_add(16);
     if !zeros(bytes, key_end, 48) || !zeros(bytes, 48, 64) {
         return Err(FrameFault::NotZero);
     }
@@ -89,13 +105,13 @@ fn plain_slot(bytes: &[u8], longest: u64) -> Result<SlotState<'_>, FrameFault> {
     if length < 17 || length > longest {
         return Err(FrameFault::BadValue);
     }
-    Ok(SlotState::Used(Slot {
+    Ok(Slot {
         key: bytes.get(16..key_end).unwrap_or(&[]),
         extent: (number(bytes, 2, 4) % 65_536) as u16,
         generation: word(bytes, 4),
         offset: word(bytes, 8),
         length: word(bytes, 12),
-    }))
+    })
 }
 
 fn plain_pointer(bytes: &[u8], largest: u64) -> Result<Pointer, FrameFault> {
@@ -109,38 +125,45 @@ fn plain_pointer(bytes: &[u8], largest: u64) -> Result<Pointer, FrameFault> {
     })
 }
 
-fn plain_superblock(bytes: &[u8]) -> Result<Geometry, FrameFault> {
-    let version = number(bytes, 8, 12);
-    if !stands(bytes, 0, b"FSTCHUNK") || !(1..=2).contains(&version) {
-        return Err(FrameFault::BadMagic);
-    }
-    let index = number(bytes, 12, 16);
-    let extents = number(bytes, 16, 20);
-    let length = if version == 1 {
-        16
-    } else {
-        number(bytes, 20, 24)
-    };
+// Whether a disk may be divided so.
+fn in_range(index: u64, extents: u64, length: u64) -> bool {
     let blocks = extents
         .wrapping_mul(length)
         .wrapping_add(index)
         .wrapping_add(2);
-    let ranges = (1..=16).contains(&index)
+    (1..=16).contains(&index)
         && (2..=254).contains(&extents)
-        && (16..=64).contains(&length);
-    if !ranges || blocks > 4096 {
+        && (16..=64).contains(&length)
+        && blocks <= 4096
+}
+
+fn plain_superblock(bytes: &[u8]) -> Result<Geometry, FrameFault> {
+    if !stands(bytes, 0, b"FSTCHUNK") {
+        return Err(FrameFault::BadMagic);
+    }
+    match number(bytes, 8, 12) {
+        1 => plain_geometry(bytes, 16, 20, Format::One),
+        2 => {
+            let length = word(bytes, 20);
+            plain_geometry(bytes, u64::from(length), 24, Format::Two { length })
+        }
+        _ => Err(FrameFault::BadMagic),
+    }
+}
+
+// How a disk is divided whose extents have this length, and whose superblock is zeros from this byte on.
+fn plain_geometry(
+    bytes: &[u8],
+    length: u64,
+    end: usize,
+    format: Format,
+) -> Result<Geometry, FrameFault> {
+    if !in_range(number(bytes, 12, 16), number(bytes, 16, 20), length) {
         return Err(FrameFault::BadValue);
     }
-    if !zeros(bytes, if version == 1 { 20 } else { 24 }, 4096) {
+    if !zeros(bytes, end, 4096) {
         return Err(FrameFault::NotZero);
     }
-    let format = if version == 1 {
-        Format::One
-    } else {
-        Format::Two {
-            length: word(bytes, 20),
-        }
-    };
     Ok(Geometry {
         index: word(bytes, 12),
         extents: word(bytes, 16),
@@ -170,6 +193,18 @@ impl Chance {
     }
 }
 
+// Another byte: a neighbour, one that lengths and states often have, or any.
+fn changed(chance: &mut Chance, byte: u8) -> u8 {
+    let other = (chance.next() % 256) as u8;
+    match chance.below(5) {
+        0 => 0,
+        1 => byte.wrapping_add(1),
+        2 => byte.wrapping_sub(1),
+        3 => 1,
+        _ => other,
+    }
+}
+
 // Some bytes changed a little or a lot, most of them among the first forty.
 fn damage(chance: &mut Chance, bytes: &mut Vec<u8>) {
     for _ in 0..=chance.below(3) {
@@ -179,16 +214,8 @@ fn damage(chance: &mut Chance, bytes: &mut Vec<u8>) {
             bytes.len().min(40)
         };
         let place = chance.below(reach);
-        let other = (chance.next() % 256) as u8;
-        let how = chance.below(5);
         if let Some(byte) = bytes.get_mut(place) {
-            *byte = match how {
-                0 => 0,
-                1 => byte.wrapping_add(1),
-                2 => byte.wrapping_sub(1),
-                3 => 1,
-                _ => other,
-            };
+            *byte = changed(chance, *byte);
         }
     }
 }
@@ -238,34 +265,38 @@ fn whole(rt: &impl Abort, alloc: Global, which: usize) -> Result<Vec<u8>, OutOfM
 // Each reader answers what the plain one does. Whether the bytes were accepted.
 fn agrees_on_a_frame(rt: &impl Abort, bytes: &[u8], turn: usize) -> bool {
     let read = decode(bytes);
-    assert_eq!(rt; read, plain_frame(bytes, 32_768), "{turn}");
+    expect_eq(rt, &(&turn, &read), &(&turn, &plain_frame(bytes, 32_768)));
     let within = decode_within(bytes, 39);
-    assert_eq!(rt; within, plain_frame(bytes, 39), "{turn}");
+    expect_eq(rt, &(&turn, &within), &(&turn, &plain_frame(bytes, 39)));
     read.is_ok()
 }
 
 fn agrees_on_a_slot(rt: &impl Abort, bytes: &[u8], turn: usize) -> bool {
     assert!(rt; bytes.len() == SLOT_BYTES);
     let read = read_slot(bytes);
-    assert_eq!(rt; read, plain_slot(bytes, 32_816), "{turn}");
+    expect_eq(rt, &(&turn, &read), &(&turn, &plain_slot(bytes, 32_816)));
     let within = read_slot_within(bytes, MAX_FRAME);
-    assert_eq!(rt; within, plain_slot(bytes, 131_120), "{turn}");
+    expect_eq(rt, &(&turn, &within), &(&turn, &plain_slot(bytes, 131_120)));
     read.is_ok()
 }
 
 fn agrees_on_a_pointer(rt: &impl Abort, bytes: &[u8], turn: usize) -> bool {
     assert!(rt; bytes.len() == POINTER_BYTES);
     let read = read_pointer(bytes);
-    assert_eq!(rt; read, plain_pointer(bytes, 65_536), "{turn}");
+    expect_eq(rt, &(&turn, &read), &(&turn, &plain_pointer(bytes, 65_536)));
     let within = read_pointer_within(bytes, 262_144);
-    assert_eq!(rt; within, plain_pointer(bytes, 262_144), "{turn}");
+    expect_eq(
+        rt,
+        &(&turn, &within),
+        &(&turn, &plain_pointer(bytes, 262_144)),
+    );
     read.is_ok()
 }
 
 fn agrees_on_a_superblock(rt: &impl Abort, bytes: &[u8], turn: usize) -> bool {
     assert!(rt; bytes.len() == 4096);
     let read = read_superblock(bytes);
-    assert_eq!(rt; read, plain_superblock(bytes), "{turn}");
+    expect_eq(rt, &(&turn, &read), &(&turn, &plain_superblock(bytes)));
     read.is_ok()
 }
 
@@ -298,15 +329,22 @@ fn damage_one(
     Ok(agrees(rt, &bytes, turn))
 }
 
-#[test]
-fn damaged_bytes_are_read_as_by_plain_readers(rt: HostRuntime) -> Result<(), Fail> {
+// How many of ten thousand damaged formats are accepted.
+fn count_accepted(rt: &impl Abort, alloc: Global) -> Result<u32, OutOfMemory> {
     let mut chance = Chance { state: 1 };
     let mut accepted = 0u32;
-    for turn in 0..10_000usize {
-        if damage_one(&rt, rt.alloc(), &mut chance, turn)? {
+    for turn in 0..10_000 {
+        if damage_one(rt, alloc, &mut chance, turn)? {
             accepted = accepted.saturating_add(1);
         }
     }
-    assert!(rt; accepted > 500 && accepted < 9_500, "accepted {accepted}");
+    Ok(accepted)
+}
+
+#[test]
+fn damaged_bytes_are_read_as_by_plain_readers(rt: HostRuntime) -> Result<(), Fail> {
+    let accepted = count_accepted(&rt, rt.alloc())?;
+    let is_fair = accepted > 500 && accepted < 9_500;
+    expect_eq(&rt, &(&accepted, &is_fair), &(&accepted, &true));
     Ok(())
 }

@@ -1,6 +1,6 @@
 //! What a graph tells between two classes, beside what one search through all below the upper one finds, on graphs of many shapes.
 use super::plain::Plain;
-use super::{Chance, Move, Path, walk};
+use super::{Chance, Move, Path, expect_eq, walk};
 use patch_graph::Graph;
 use patch_model::{BlockNo, MAX_PATCHES, PatchNo, Undo};
 use std::alloc::Global;
@@ -56,8 +56,8 @@ impl Pair {
     fn merge(&mut self, rt: &impl Abort, a: PatchNo, b: PatchNo) -> Result<(), Fail> {
         self.graph.merge(a, b)?;
         self.plain.merge(a, b)?;
-        assert_eq!(rt; self.graph.class_of(a), self.plain.class_of(a));
-        assert_eq!(rt; self.graph.class_of(b), self.plain.class_of(b));
+        expect_eq(rt, &self.graph.class_of(a), &self.plain.class_of(a));
+        expect_eq(rt, &self.graph.class_of(b), &self.plain.class_of(b));
         Ok(())
     }
 
@@ -75,13 +75,13 @@ impl Pair {
     // Both tell the same between two patches. What they tell.
     fn expect(&mut self, rt: &impl Abort, a: PatchNo, b: PatchNo) -> Result<Option<PatchNo>, Fail> {
         let least = self.plain.between(a, b)?;
-        assert_eq!(rt; self.graph.between(a, b), least, "between {a} and {b}");
+        assert!(rt; self.graph.between(a, b) == least, "between {a} and {b}");
         Ok(least)
     }
 }
 
 // How classes lie above the lower of two, and others below the upper one.
-#[derive(Clone, Copy, Debug)]
+#[derive(Clone, Copy)]
 enum Shape {
     // Each depends on the next one by its name.
     Chain,
@@ -94,7 +94,7 @@ enum Shape {
 }
 
 // Which classes are made one.
-#[derive(Clone, Copy, Debug)]
+#[derive(Clone, Copy)]
 enum Joining {
     // None.
     Apart,
@@ -112,7 +112,7 @@ enum Joining {
 
 // A graph to be made: how many classes are on the way from the upper class to the lower one, if there is a way, and how many numbers
 // a search comes to above the lower one and below the upper one, those of the way among them.
-#[derive(Clone, Copy, Debug)]
+#[derive(Clone, Copy)]
 struct Plan {
     shape: Shape,
     joining: Joining,
@@ -208,6 +208,21 @@ fn named_above(shape: Shape, lower: PatchNo, above: Side, place: u32) -> Option<
     }
 }
 
+// Makes a class of a side, which names two others at most.
+fn make_naming(
+    rt: &impl Abort,
+    pair: &mut Pair,
+    byte: usize,
+    names: (Option<PatchNo>, Option<PatchNo>),
+) -> Result<PatchNo, Fail> {
+    match names {
+        (Some(a), Some(b)) => pair.make(rt, SIDES, byte, &[a, b]),
+        (Some(no), None) => pair.make(rt, SIDES, byte, &[no]),
+        (None, Some(no)) => pair.make(rt, SIDES, byte, &[no]),
+        (None, None) => pair.make(rt, SIDES, byte, &[]),
+    }
+}
+
 // Makes the classes above the lower one.
 fn lay_above(rt: &impl Abort, pair: &mut Pair, plan: &Plan, lower: PatchNo) -> Result<Side, Fail> {
     let above = Side {
@@ -216,29 +231,22 @@ fn lay_above(rt: &impl Abort, pair: &mut Pair, plan: &Plan, lower: PatchNo) -> R
     };
     for place in 0..above.count {
         let byte = next_byte(pair, plan.shape, above);
-        match named_above(plan.shape, lower, above, place) {
-            Some(no) => pair.make(rt, SIDES, byte, &[no])?,
-            None => pair.make(rt, SIDES, byte, &[])?,
-        };
+        let named = named_above(plan.shape, lower, above, place);
+        make_naming(rt, pair, byte, (named, None))?;
     }
     Ok(above)
 }
 
-// Puts those among the numbers that the class at this place below the upper one names, counted from the last one made.
-fn push_below(names: &mut Vec<PatchNo>, shape: Shape, below: Side, place: u32) -> Result<(), Fail> {
-    let next = match shape {
-        Shape::Chain => [below.back(place.saturating_add(1)), None],
-        Shape::Tree => [
+// Which ones the class at this place below the upper one names, counted from the last one made.
+fn named_below(shape: Shape, below: Side, place: u32) -> (Option<PatchNo>, Option<PatchNo>) {
+    match shape {
+        Shape::Chain => (below.back(place.saturating_add(1)), None),
+        Shape::Tree => (
             below.back(place.saturating_mul(2).saturating_add(1)),
             below.back(place.saturating_mul(2).saturating_add(2)),
-        ],
-        Shape::Pile => [None, None],
-        Shape::Fan => [None, None],
-    };
-    for no in next.iter().flatten() {
-        names.push(*no)?;
+        ),
+        _ => (None, None),
     }
-    Ok(())
 }
 
 // Makes the classes below the upper one, the last of them first.
@@ -247,12 +255,9 @@ fn lay_below(rt: &impl Abort, pair: &mut Pair, plan: &Plan) -> Result<Side, Fail
         first: pair.graph.made(),
         count: plan.count_below(),
     };
-    let mut names = Vec::new(pair.alloc);
     for place in (0..below.count).rev() {
-        push_below(&mut names, plan.shape, below, place)?;
         let byte = next_byte(pair, plan.shape, below);
-        pair.make(rt, SIDES, byte, names.as_slice())?;
-        names.clear();
+        make_naming(rt, pair, byte, named_below(plan.shape, below, place))?;
     }
     Ok(below)
 }
@@ -274,6 +279,21 @@ fn lay_way(
     Ok(Some(last))
 }
 
+// The last of the way, and so many of those below.
+fn names_of_upper(
+    alloc: Global,
+    way: Option<PatchNo>,
+    below: Side,
+    count: u32,
+) -> Result<Vec<PatchNo>, Fail> {
+    let mut names = Vec::new(alloc);
+    names.extend(way)?;
+    for place in 0..count {
+        names.extend(below.back(place))?;
+    }
+    Ok(names)
+}
+
 // Makes the upper class, which names the last of the way and those below.
 fn lay_upper(
     rt: &impl Abort,
@@ -282,15 +302,11 @@ fn lay_upper(
     way: Option<PatchNo>,
     below: Side,
 ) -> Result<PatchNo, Fail> {
-    let mut names = Vec::new(pair.alloc);
-    names.extend(way)?;
     let count = match plan.shape {
         Shape::Fan => below.count,
         _ => below.count.min(1),
     };
-    for place in 0..count {
-        names.extend(below.back(place))?;
-    }
+    let names = names_of_upper(pair.alloc, way, below, count)?;
     pair.make(rt, WAY, 1, names.as_slice())
 }
 
@@ -377,14 +393,33 @@ fn wanted(plan: &Plan, ends: &Ends) -> Option<PatchNo> {
     }
 }
 
-fn expect_plan(rt: &impl Abort, alloc: Global, plan: &Plan) -> Result<(), Fail> {
-    let mut pair = Pair::new(alloc);
-    let ends = lay(rt, &mut pair, plan)?;
-    join(rt, &mut pair, plan.joining, &ends)?;
+fn name_of(shape: Shape) -> &'static str {
+    match shape {
+        Shape::Chain => "chain",
+        Shape::Pile => "pile",
+        Shape::Fan => "fan",
+        Shape::Tree => "tree",
+    }
+}
+
+// What lies between is wanted, and a failure tells of which plan.
+fn expect_wanted(rt: &impl Abort, plan: &Plan, least: Option<PatchNo>, want: Option<PatchNo>) {
+    let told = (name_of(plan.shape), plan.way, plan.above, plan.below);
+    expect_eq(rt, &(told, least), &(told, want));
+}
+
+fn follow(rt: &impl Abort, pair: &mut Pair, plan: &Plan) -> Result<(), Fail> {
+    let ends = lay(rt, pair, plan)?;
+    join(rt, pair, plan.joining, &ends)?;
     let least = pair.expect(rt, ends.upper, ends.lower)?;
-    assert_eq!(rt; least, wanted(plan, &ends), "{plan:?}");
+    expect_wanted(rt, plan, least, wanted(plan, &ends));
     pair.expect(rt, ends.lower, ends.upper)?;
     Ok(())
+}
+
+fn expect_plan(rt: &impl Abort, alloc: Global, plan: &Plan) -> Result<(), Fail> {
+    let mut pair = Pair::new(alloc);
+    follow(rt, &mut pair, plan)
 }
 
 // How many numbers a search comes to above the lower class, and below the upper one. It is looked for on both sides by turns, at 64
@@ -604,13 +639,22 @@ fn chance_from(seed: u32) -> Chance {
     }
 }
 
+fn expect_graph(
+    rt: &impl Abort,
+    alloc: Global,
+    size: u32,
+    seed: u32,
+    rarity: u32,
+) -> Result<u32, Fail> {
+    let mut chance = chance_from(seed);
+    let mut pair = Pair::new(alloc);
+    grow_by_chance(rt, &mut pair, &mut chance, size, rarity)
+}
+
 fn expect_rarities(rt: &impl Abort, alloc: Global, size: u32, seed: u32) -> Result<u32, Fail> {
     let mut told: u32 = 0;
     for rarity in RARITIES {
-        let mut chance = chance_from(seed);
-        let mut pair = Pair::new(alloc);
-        let more = grow_by_chance(rt, &mut pair, &mut chance, size, rarity)?;
-        told = told.saturating_add(more);
+        told = told.saturating_add(expect_graph(rt, alloc, size, seed, rarity)?);
     }
     Ok(told)
 }
@@ -630,9 +674,7 @@ fn between_agrees_on_graphs_made_by_chance(rt: HostRuntime) -> Result<(), Fail> 
     for seed in 0..SEEDS {
         told = told.saturating_add(expect_sizes(&rt, rt.alloc(), seed)?);
     }
-    assert!(rt;
-        told > 300 && told < SEEDS * 32 * QUESTIONS - 300,
-        "told {told}"
-    );
+    let is_often = told > 300 && told < SEEDS * 32 * QUESTIONS - 300;
+    expect_eq(&rt, &(&told, &is_often), &(&told, &true));
     Ok(())
 }

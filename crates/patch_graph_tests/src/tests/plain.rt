@@ -62,6 +62,14 @@ fn lesser(a: Option<PatchNo>, b: Option<PatchNo>) -> Option<PatchNo> {
     }
 }
 
+// Puts a class into another one.
+fn take_in(class: &mut PlainClass, other: &PlainClass) -> Result<(), AllocError> {
+    class.members.extend_from_slice(other.members.as_slice())?;
+    class.after.extend_from_slice(other.after.as_slice())?;
+    class.name = PatchNo(class.name.0.min(other.name.0));
+    Ok(())
+}
+
 // What is asked of the classes.
 impl Plain {
     /// No class.
@@ -314,12 +322,12 @@ impl Plain {
     // The numbers that a patch of this span names, and of each of its bytes the patch that wrote it last.
     fn dependencies(
         &mut self,
+        no: PatchNo,
         block: usize,
         start: usize,
         stop: usize,
         names: &[PatchNo],
     ) -> Result<Vec<PatchNo>, AllocError> {
-        let no = PatchNo(u32::try_from(self.keys.len()).unwrap_or(u32::MAX));
         let mut after = Vec::from_slice(self.alloc, names)?;
         for byte in start..stop {
             if let Some(writer) = self.write(block, byte, no)? {
@@ -338,14 +346,15 @@ impl Plain {
         names: &[PatchNo],
     ) -> Result<(), AllocError> {
         let no = PatchNo(u32::try_from(self.keys.len()).unwrap_or(u32::MAX));
-        let class = PlainClass {
+        self.keys.push(self.classes.len())?;
+        let members = vec![in self.alloc; no]?;
+        let after = self.dependencies(no, block, start, stop, names)?;
+        self.classes.push(Some(PlainClass {
             name: no,
             block,
-            members: vec![in self.alloc; no]?,
-            after: self.dependencies(block, start, stop, names)?,
-        };
-        self.keys.push(self.classes.len())?;
-        self.classes.push(Some(class))?;
+            members,
+            after,
+        }))?;
         Ok(())
     }
 
@@ -386,12 +395,10 @@ impl Plain {
             return Ok(());
         };
         self.redirect(other.members.as_slice(), keep);
-        if let Some(Some(class)) = self.classes.get_mut(keep) {
-            class.members.extend_from_slice(other.members.as_slice())?;
-            class.after.extend_from_slice(other.after.as_slice())?;
-            class.name = PatchNo(class.name.0.min(other.name.0));
+        match self.classes.get_mut(keep) {
+            Some(Some(class)) => take_in(class, &other),
+            _ => Ok(()),
         }
-        Ok(())
     }
 
     /// Makes one class of the classes of two patches, where they are two of one block.

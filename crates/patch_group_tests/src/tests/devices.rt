@@ -62,12 +62,8 @@ fn expect_synced<D: Device>(
     let answer = sync(groups, cache, flights, device, GroupNo(0));
     expect_equal(rt, "sync", answer, want);
     expect_equal(rt, "mark", cache.mark_of(PatchNo(0)), Some(mark));
-    expect_equal(
-        rt,
-        "pending",
-        groups.pending(GroupNo(0), cache),
-        Ok(pending),
-    );
+    let pending_now = groups.pending(GroupNo(0), cache);
+    expect_equal(rt, "pending", pending_now, Ok(pending));
 }
 
 // Syncs the group twice: the first time with this answer, and then all is on the disk.
@@ -83,6 +79,15 @@ fn sync_twice<D: Device>(
     expect_synced(rt, bench, device, first, mark, pending);
     expect_synced(rt, bench, device, Ok(()), Mark::Durable, 0);
     Ok(())
+}
+
+fn open_bench(rt: &impl Abort, alloc: Global, count: usize) -> Result<Bench, OutOfMemory> {
+    let cache = open_zeros(rt, alloc, count)?;
+    Ok(Bench {
+        groups: Groups::new(alloc),
+        cache,
+        flights: Flights::new(alloc),
+    })
 }
 
 fn close(bench: Bench) {
@@ -102,11 +107,7 @@ fn walk<D: Device>(
     mark: Mark,
     pending: u32,
 ) -> Result<(), Fail> {
-    let mut bench = Bench {
-        groups: Groups::new(alloc),
-        cache: open_zeros(rt, alloc, 1)?,
-        flights: Flights::new(alloc),
-    };
+    let mut bench = open_bench(rt, alloc, 1)?;
     let walked = sync_twice(rt, &mut bench, device, first, mark, pending);
     close(bench);
     walked
@@ -159,10 +160,42 @@ fn ask_all<D: Device>(
         cache,
         flights,
     } = bench;
-    match groups.run(cache, flights, device, &asks_in(alloc, lines)?) {
+    let asks = asks_in(alloc, lines)?;
+    match groups.run(cache, flights, device, &asks) {
         Ok(_) => Ok(()),
         Err(_) => Err(Fail::from("no memory")),
     }
+}
+
+// What a sync of the second group answers, and how many patches are live then.
+fn expect_second_synced<D: Device>(
+    rt: &impl Abort,
+    bench: &mut Bench,
+    device: &mut D,
+    want: Result<(), SyncRefusal>,
+    live: u32,
+) {
+    let Bench {
+        groups,
+        cache,
+        flights,
+    } = bench;
+    let answer = sync(groups, cache, flights, device, GroupNo(1));
+    expect_equal(rt, "sync", answer, want);
+    expect_equal(rt, "live", cache.live(), live);
+}
+
+fn ask_and_sync<D: Device>(
+    rt: &impl Abort,
+    alloc: Global,
+    bench: &mut Bench,
+    device: &mut D,
+    want: Result<(), SyncRefusal>,
+    live: u32,
+) -> Result<(), Fail> {
+    ask_all(alloc, bench, device, &ORDER)?;
+    expect_second_synced(rt, bench, device, want, live);
+    Ok(())
 }
 
 // Asks for all of it, and what a sync of the second group answers then over this device.
@@ -173,22 +206,22 @@ fn sync_second<D: Device>(
     want: Result<(), SyncRefusal>,
     live: u32,
 ) -> Result<(), Fail> {
-    let mut bench = Bench {
-        groups: Groups::new(alloc),
-        cache: open_zeros(rt, alloc, 6)?,
-        flights: Flights::new(alloc),
-    };
-    let asked = ask_all(alloc, &mut bench, device, &ORDER);
-    let Bench {
-        groups,
-        cache,
-        flights,
-    } = &mut bench;
-    let answer = sync(groups, cache, flights, device, GroupNo(1));
-    expect_equal(rt, "sync", answer, want);
-    expect_equal(rt, "live", cache.live(), live);
+    let mut bench = open_bench(rt, alloc, 6)?;
+    let synced = ask_and_sync(rt, alloc, &mut bench, device, want, live);
     close(bench);
-    asked
+    synced
+}
+
+// The same over a device that refuses this write eight times.
+fn sync_in_vain(
+    rt: &impl Abort,
+    alloc: Global,
+    at: u64,
+    want: Result<(), SyncRefusal>,
+    live: u32,
+) -> Result<(), Fail> {
+    let mut device = failing_eight_times(MemDevice::new(alloc, 6)?, at);
+    sync_second(rt, alloc, &mut device, want, live)
 }
 
 // The device that refuses one write eight times names the block of it: so each write of the sync is known, and that there is none
@@ -196,13 +229,11 @@ fn sync_second<D: Device>(
 #[test]
 fn writes_go_in_order(rt: HostRuntime) -> Result<(), Fail> {
     for at in 0..4u32 {
-        let mut device = failing_eight_times(MemDevice::new(rt.alloc(), 6)?, u64::from(at));
         let block = BlockNo(WRITTEN[at as usize]);
         let gave_up = Err(SyncRefusal::DeviceGaveUp(block));
-        sync_second(&rt, rt.alloc(), &mut device, gave_up, 5 - at)?;
+        sync_in_vain(&rt, rt.alloc(), u64::from(at), gave_up, 5 - at)?;
     }
-    let mut device = failing_eight_times(MemDevice::new(rt.alloc(), 6)?, 4);
-    sync_second(&rt, rt.alloc(), &mut device, Ok(()), 1)
+    sync_in_vain(&rt, rt.alloc(), 4, Ok(()), 1)
 }
 
 // The device's blocks begin with these letters.

@@ -47,33 +47,41 @@ fn shown(bench: &Bench) -> Shown {
     (first, second, bench.cache.made(), bench.cache.live())
 }
 
-fn kind_of(refusal: GroupRefusal) -> RefusalKind {
-    refusal.kind()
+fn kind_of<T: Copy>(answer: Result<T, GroupRefusal>) -> Result<(), RefusalKind> {
+    match answer {
+        Ok(_) => Ok(()),
+        Err(refusal) => Err(refusal.kind()),
+    }
+}
+
+fn make_patch<'a>(bench: &mut Bench<'a>, ask: &GroupAsk<&'a LocalHeap>) -> Result<(), RefusalKind> {
+    let GroupAsk::Patch {
+        writer,
+        block,
+        start,
+        bytes,
+        after,
+        undo,
+    } = ask
+    else {
+        return Ok(());
+    };
+    let Bench { groups, cache, .. } = bench;
+    let (bytes, after) = (bytes.as_slice(), after.as_slice());
+    match groups.create_patch(cache, Some(*writer), *block, *start, bytes, after, *undo) {
+        Ok(_) => Ok(()),
+        Err(refusal) => Err(refusal.kind()),
+    }
 }
 
 fn call_named<'a>(bench: &mut Bench<'a>, ask: &GroupAsk<&'a LocalHeap>) -> Result<(), RefusalKind> {
-    let Bench { groups, cache, .. } = bench;
+    let groups = &mut bench.groups;
     match ask {
-        GroupAsk::Group => groups.create().map(|_| ()).map_err(kind_of),
-        GroupAsk::Engage { writer, group } => groups.engage(*writer, *group).map_err(kind_of),
-        GroupAsk::Depend { group, on } => groups.depend(*group, *on).map_err(kind_of),
-        GroupAsk::Disengage { writer, group } => {
-            groups.disengage(*writer, *group).map_err(kind_of)
-        }
-        GroupAsk::Patch {
-            writer,
-            block,
-            start,
-            bytes,
-            after,
-            undo,
-        } => {
-            let (bytes, after) = (bytes.as_slice(), after.as_slice());
-            match groups.create_patch(cache, Some(*writer), *block, *start, bytes, after, *undo) {
-                Ok(_) => Ok(()),
-                Err(refusal) => Err(refusal.kind()),
-            }
-        }
+        GroupAsk::Group => kind_of(groups.create()),
+        GroupAsk::Engage { writer, group } => kind_of(groups.engage(*writer, *group)),
+        GroupAsk::Depend { group, on } => kind_of(groups.depend(*group, *on)),
+        GroupAsk::Disengage { writer, group } => kind_of(groups.disengage(*writer, *group)),
+        GroupAsk::Patch { .. } => make_patch(bench, ask),
         GroupAsk::Plain(_) | GroupAsk::Close { .. } | GroupAsk::Pending { .. } => Ok(()),
     }
 }
@@ -140,74 +148,82 @@ fn call_listed<'a>(
     }
 }
 
-// What is called, with its ask made beforehand where it is one.
-#[derive(Drop)]
-struct Line<'a> {
-    line: &'static str,
-    asks: Vec<GroupAsk<&'a LocalHeap>, &'a LocalHeap>,
-}
-
-fn call<'a>(bench: &mut Bench<'a>, one: &Line<'a>, how: How) -> Result<(), RefusalKind> {
-    if let Some(word) = one.line.strip_prefix("after ") {
+// Calls what the line says; its ask was made beforehand, where it is one.
+fn call<'a>(
+    bench: &mut Bench<'a>,
+    line: &str,
+    asks: &[GroupAsk<&'a LocalHeap>],
+    how: How,
+) -> Result<(), RefusalKind> {
+    if let Some(word) = line.strip_prefix("after ") {
         return list_after(bench, word);
     }
-    if let Some(word) = one.line.strip_prefix("sync ") {
+    if let Some(word) = line.strip_prefix("sync ") {
         return sync_group(bench, word);
     }
-    match (how, one.asks.as_slice()) {
+    match (how, asks) {
         (How::Named, [ask]) => call_named(bench, ask),
-        (_, asks) => call_listed(bench, asks),
+        _ => call_listed(bench, asks),
     }
 }
 
-fn prepare<'a>(heap: &'a LocalHeap, line: &'static str) -> Result<Line<'a>, Fail> {
-    let is_aside = line.starts_with("after") || line.starts_with("sync");
-    let asks = if is_aside {
-        Vec::new(heap)
-    } else {
-        asks_in(heap, &[line])?
-    };
-    Ok(Line { line, asks })
+// The ask of a line, if it is one.
+fn prepare<'a>(
+    heap: &'a LocalHeap,
+    line: &str,
+) -> Result<Vec<GroupAsk<&'a LocalHeap>, &'a LocalHeap>, Fail> {
+    if line.starts_with("after") || line.starts_with("sync") {
+        return Ok(Vec::new(heap));
+    }
+    asks_in(heap, &[line])
 }
 
 // Calls where only a hole of this size is left.
 fn call_in_hole<'a>(
     bench: &mut Bench<'a>,
-    one: &Line<'a>,
+    line: &str,
+    asks: &[GroupAsk<&'a LocalHeap>],
     how: How,
     hole: usize,
 ) -> Result<Result<(), RefusalKind>, OutOfMemory> {
     let ballast = fill(bench.alloc, bench.heap, hole)?;
-    let answer = call(bench, one, how);
+    let answer = call(bench, line, asks, how);
     drop(ballast);
     Ok(answer)
 }
 
-fn expect_answer(rt: &impl Abort, answer: Result<(), RefusalKind>, want: Result<(), RefusalKind>) {
-    expect_equal(rt, "answer", answer, want);
-}
-
 // Calls where only a hole of this size is left, and again with memory where that is refused. Whether it was. What was refused
 // changed nothing; but of a sync, what it had written stays.
-fn call_twice(
+fn call_twice<'a>(
     rt: &impl Abort,
-    bench: &mut Bench,
-    line: &'static str,
+    bench: &mut Bench<'a>,
+    line: &str,
+    asks: &[GroupAsk<&'a LocalHeap>],
     how: How,
     hole: usize,
 ) -> Result<bool, Fail> {
-    let one = prepare(bench.heap, line)?;
     let before = shown(bench);
-    let first = call_in_hole(bench, &one, how, hole)?;
+    let first = call_in_hole(bench, line, asks, how, hole)?;
     if first.is_ok() {
         return Ok(false);
     }
-    expect_answer(rt, first, Err(RefusalKind::OutOfMemory));
+    expect_equal(rt, "answer", first, Err(RefusalKind::OutOfMemory));
     if !line.starts_with("sync") {
         expect_equal(rt, "shown", shown(bench), before);
     }
-    expect_answer(rt, call(bench, &one, how), Ok(()));
+    expect_equal(rt, "answer", call(bench, line, asks, how), Ok(()));
     Ok(true)
+}
+
+fn call_line(
+    rt: &impl Abort,
+    bench: &mut Bench,
+    line: &str,
+    how: How,
+    hole: usize,
+) -> Result<bool, Fail> {
+    let asks = prepare(bench.heap, line)?;
+    call_twice(rt, bench, line, &asks, how, hole)
 }
 
 // Calls each in turn, twice, and counts those that were refused at first.
@@ -219,7 +235,7 @@ fn call_each(
     refused: &mut [u32],
 ) -> Result<(), Fail> {
     for (line, count) in LINES.iter().zip(refused.iter_mut()) {
-        if call_twice(rt, bench, line, how, hole)? {
+        if call_line(rt, bench, line, how, hole)? {
             *count = count.saturating_add(1);
         }
     }
@@ -239,6 +255,23 @@ fn close(bench: Bench) {
     flights.abandon();
 }
 
+fn open_bench<'a>(
+    rt: &impl Abort,
+    alloc: Global,
+    heap: &'a LocalHeap,
+) -> Result<Bench<'a>, OutOfMemory> {
+    let device = MemDevice::new(alloc, 2)?;
+    let cache = open_zeros(rt, heap, 2)?;
+    Ok(Bench {
+        alloc,
+        heap,
+        groups: Groups::new(heap),
+        cache,
+        flights: Flights::new(heap),
+        device,
+    })
+}
+
 fn call_anew(
     rt: &impl Abort,
     alloc: Global,
@@ -247,15 +280,7 @@ fn call_anew(
     hole: usize,
     refused: &mut [u32],
 ) -> Result<(), Fail> {
-    let device = MemDevice::new(alloc, 2)?;
-    let mut bench = Bench {
-        alloc,
-        heap,
-        groups: Groups::new(heap),
-        cache: open_zeros(rt, heap, 2)?,
-        flights: Flights::new(heap),
-        device,
-    };
+    let mut bench = open_bench(rt, alloc, heap)?;
     let called = call_each(rt, &mut bench, how, hole, refused);
     close(bench);
     called
@@ -276,20 +301,22 @@ fn refuse_each(rt: &impl Abort, alloc: Global, heap: &LocalHeap, how: How) -> Re
     Err(Fail::from("refused in the largest hole"))
 }
 
+// So many of the lines are refused in a heap of their own.
+fn expect_refused(rt: &impl Abort, alloc: Global, how: How, lines: usize) -> Result<(), Fail> {
+    let heap = LocalHeap::new(alloc, HEAP)?;
+    let refused = refuse_each(rt, alloc, &heap, how)?;
+    expect_equal(rt, "refused", refused, lines);
+    Ok(())
+}
+
 // All but the second group, which has room beside the first, the end of an engagement, and the second engagement.
 #[test]
 fn of_calls(rt: HostRuntime) -> Result<(), Fail> {
-    let heap = LocalHeap::new(rt.alloc(), HEAP)?;
-    let refused = refuse_each(&rt, rt.alloc(), &heap, How::Named)?;
-    expect_equal(&rt, "refused", refused, 7);
-    Ok(())
+    expect_refused(&rt, rt.alloc(), How::Named, 7)
 }
 
 // All of them, since an answer takes room.
 #[test]
 fn of_lists_of_one_ask(rt: HostRuntime) -> Result<(), Fail> {
-    let heap = LocalHeap::new(rt.alloc(), HEAP)?;
-    let refused = refuse_each(&rt, rt.alloc(), &heap, How::Listed)?;
-    expect_equal(&rt, "refused", refused, 10);
-    Ok(())
+    expect_refused(&rt, rt.alloc(), How::Listed, 10)
 }

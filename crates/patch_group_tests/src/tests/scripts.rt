@@ -251,19 +251,27 @@ fn answer_list(bench: &mut Bench, asks: &[GroupAsk]) -> Result<Vec<GroupAnswer>,
     }
 }
 
-fn answer_each(bench: &mut Bench, asks: Vec<GroupAsk>) -> Result<Vec<GroupAnswer>, Fail> {
+fn push_answers(
+    answers: &mut Vec<GroupAnswer>,
+    bench: &mut Bench,
+    asks: Vec<GroupAsk>,
+) -> Result<(), AllocError> {
     let Bench {
-        alloc,
         groups,
         cache,
         flights,
         device,
         ..
     } = bench;
-    let mut answers = Vec::new(*alloc);
     for ask in asks {
         answers.push(groups.answer(cache, flights, device, ask))?;
     }
+    Ok(())
+}
+
+fn answer_each(bench: &mut Bench, asks: Vec<GroupAsk>) -> Result<Vec<GroupAnswer>, Fail> {
+    let mut answers = Vec::new(bench.alloc);
+    push_answers(&mut answers, bench, asks)?;
     Ok(answers)
 }
 
@@ -415,11 +423,12 @@ fn close(bench: Bench) {
 
 fn open_bench(rt: &impl Abort, alloc: Global, asking: Asking) -> Result<Bench, OutOfMemory> {
     let device = MemDevice::new(alloc, 8)?;
+    let cache = open_zeros(rt, alloc, 8)?;
     Ok(Bench {
         alloc,
         asking,
         groups: Groups::new(alloc),
-        cache: open_zeros(rt, alloc, 8)?,
+        cache,
         flights: Flights::new(alloc),
         device,
     })
@@ -461,11 +470,7 @@ fn begin_all(rt: &impl Abort, groups: &mut Groups) -> Result<(), Fail> {
 fn groups_are_limited(rt: HostRuntime) -> Result<(), Fail> {
     let mut groups = Groups::new(rt.alloc());
     begin_all(&rt, &mut groups)?;
-    expect_equal(
-        &rt,
-        "one more",
-        groups.create(),
-        Err(GroupRefusal::TooManyGroups),
-    );
+    let refused = Err(GroupRefusal::TooManyGroups);
+    expect_equal(&rt, "one more", groups.create(), refused);
     Ok(())
 }

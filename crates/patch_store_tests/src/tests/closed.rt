@@ -1,5 +1,5 @@
 //! What the patches of a store name, which sets of them are closed, and the disks that hold these.
-use super::walks::{Ask, Said, behind, put};
+use super::walks::{Ask, LONGER, Said, Turn, behind};
 use super::*;
 use patch_model::{BlockNo, PatchNo, Step};
 
@@ -28,7 +28,7 @@ fn drained(store: &mut Store) -> Result<Vec<Step>, Fail> {
 }
 
 // The steps of these commands, on a new disk of three extents.
-fn steps_of(rt: &impl Abort, alloc: Global, turns: &[(Ask<'_>, Said)]) -> Result<Vec<Step>, Fail> {
+fn steps_of(rt: &impl Abort, alloc: Global, turns: &[Turn<'_>]) -> Result<Vec<Step>, Fail> {
     let mut store = behind(rt, alloc, ROOMY, turns)?;
     drained(&mut store)
 }
@@ -36,44 +36,32 @@ fn steps_of(rt: &impl Abort, alloc: Global, turns: &[(Ask<'_>, Said)]) -> Result
 fn expect_named(
     rt: &impl Abort,
     alloc: Global,
-    turns: &[(Ask<'_>, Said)],
+    turns: &[Turn<'_>],
     no: usize,
     names: &[PatchNo],
 ) -> Result<(), Fail> {
     let steps = steps_of(rt, alloc, turns)?;
-    assert_eq!(rt; named_by(&steps, no), names);
+    expect_eq(rt, &named_by(&steps, no), &names);
     Ok(())
 }
 
-// Each value takes nine blocks: patches 0 to 10, 11 to 21, and 22 to 32 for the move. The reset is 33.
+// Two values that take nine blocks each, and a move of the first: patches 0 to 10, 11 to 21, and 22 to 32. The reset is 33.
+const WON_BACK: [Turn<'static>; 3] = [
+    (Ask::Put(b"a", 0x61, 32_768), Said::Done),
+    (Ask::Put(b"b", 0x62, 32_768), Said::Done),
+    (Ask::Reclaim(0), Said::Done),
+];
+
 #[test]
 fn a_reset_goes_behind_the_slots_that_left_its_extent(rt: HostRuntime) -> Result<(), Fail> {
-    expect_named(
-        &rt,
-        rt.alloc(),
-        &[
-            (put(b"a", 0x61, 32_768), Said::Done),
-            (put(b"b", 0x62, 32_768), Said::Done),
-            (Ask::Reclaim { extent: 0 }, Said::Done),
-        ],
-        33,
-        &[PatchNo(32)],
-    )
+    expect_named(&rt, rt.alloc(), &WON_BACK, 33, &[PatchNo(32)])
 }
 
 // The upgrade is patch 0. The frame of 40,017 bytes takes ten blocks, its pointer patch is 11.
 #[test]
 fn a_slot_of_a_longer_frame_goes_behind_the_upgrade(rt: HostRuntime) -> Result<(), Fail> {
-    expect_named(
-        &rt,
-        rt.alloc(),
-        &[
-            (Ask::Upgrade, Said::Done),
-            (put(b"a", 1, 40_000), Said::Done),
-        ],
-        12,
-        &[PatchNo(11), PatchNo(0)],
-    )
+    let names = [PatchNo(11), PatchNo(0)];
+    expect_named(&rt, rt.alloc(), &LONGER, 12, &names)
 }
 
 // A patch of some steps: where it stands, what it depends on directly, and its class; patches are told by their bits.
@@ -144,8 +132,7 @@ fn join(nodes: &mut [Node], a: PatchNo, b: PatchNo) {
     }
 }
 
-fn nodes_of(alloc: Global, steps: &[Step]) -> Result<Vec<Node>, OutOfMemory> {
-    let mut nodes = Vec::new(alloc);
+fn push_nodes(nodes: &mut Vec<Node>, steps: &[Step]) -> Result<(), OutOfMemory> {
     for step in steps {
         match step {
             Step::Create {
@@ -156,49 +143,38 @@ fn nodes_of(alloc: Global, steps: &[Step]) -> Result<Vec<Node>, OutOfMemory> {
                 ..
             } => {
                 let stop = start.saturating_add(bytes.as_slice().len());
-                push_node(&mut nodes, *block, *start, stop, after.as_slice())?;
+                push_node(nodes, *block, *start, stop, after.as_slice())?;
             }
-            Step::Merge { a, b } => join(&mut nodes, *a, *b),
+            Step::Merge { a, b } => join(nodes, *a, *b),
             _ => {}
         }
     }
+    Ok(())
+}
+
+fn nodes_of(alloc: Global, steps: &[Step]) -> Result<Vec<Node>, OutOfMemory> {
+    let mut nodes = Vec::new(alloc);
+    push_nodes(&mut nodes, steps)?;
     Ok(nodes)
 }
 
 // Whether the set has, with each of its patches, the class of that and what it depends on.
 fn is_closed(nodes: &[Node], held: u32) -> bool {
-    nodes.iter().enumerate().all(|(no, node)| held & bit(no) == 0
-        || (node.class | node.after) & !held == 0)
+    for (no, node) in nodes.iter().enumerate() {
+        if held & bit(no) != 0 && (node.class | node.after) & !held != 0 {
+            return false;
+        }
+    }
+    true
 }
 
 // Two puts, the deletes of both, and a put that claims the lowest slot.
-const CLAIMED: [(Ask<'static>, Said); 5] = [
-    (
-        Ask::Put {
-            key: b"b",
-            byte: 1,
-            len: 1,
-        },
-        Said::Done,
-    ),
-    (
-        Ask::Put {
-            key: b"a",
-            byte: 1,
-            len: 1,
-        },
-        Said::Done,
-    ),
-    (Ask::Delete { key: b"b" }, Said::Done),
-    (Ask::Delete { key: b"a" }, Said::Done),
-    (
-        Ask::Put {
-            key: b"a",
-            byte: 2,
-            len: 1,
-        },
-        Said::Done,
-    ),
+const CLAIMED: [Turn<'static>; 5] = [
+    (Ask::Put(b"b", 1, 1), Said::Done),
+    (Ask::Put(b"a", 1, 1), Said::Done),
+    (Ask::Delete(b"b"), Said::Done),
+    (Ask::Delete(b"a"), Said::Done),
+    (Ask::Put(b"a", 2, 1), Said::Done),
 ];
 
 #[test]
@@ -207,11 +183,19 @@ fn a_claimed_slot_goes_behind_the_last_delete(rt: HostRuntime) -> Result<(), Fai
     expect_named(&rt, rt.alloc(), &CLAIMED, 10, &names)
 }
 
+fn place_of(nodes: &[Node], no: usize) -> Option<(BlockNo, usize)> {
+    let node = nodes.get(no)?;
+    Some((node.block, node.start))
+}
+
 // Of the patches of slots the delete of `a` is the one in slot 1, and the last put's is in slot 0, which the delete of `b` cleared.
 fn expect_places(rt: &impl Abort, nodes: &[Node]) {
     for (no, start) in [(6, 0), (7, 64), (10, 0)] {
-        let place = nodes.get(no).map(|node| (node.block, node.start));
-        assert_eq!(rt; place, Some((BlockNo(1), start)), "patch {no}");
+        expect_eq(
+            rt,
+            &(&no, &place_of(nodes, no)),
+            &(&no, &Some((BlockNo(1), start))),
+        );
     }
 }
 
@@ -231,9 +215,8 @@ pub(super) fn lay(blocks: &mut [BlockBytes], block: BlockNo, start: usize, bytes
     }
 }
 
-// The new disk with the patches of these numbers.
-fn disk_of(alloc: Global, steps: &[Step], held: &[usize]) -> Result<Vec<BlockBytes>, OutOfMemory> {
-    let mut blocks = disk_with(alloc, ROOMY, &[])?;
+// Lays the patches of these numbers on the disk.
+fn lay_all(blocks: &mut [BlockBytes], steps: &[Step], held: &[usize]) {
     let mut made = 0usize;
     for step in steps {
         if let Step::Create {
@@ -244,11 +227,16 @@ fn disk_of(alloc: Global, steps: &[Step], held: &[usize]) -> Result<Vec<BlockByt
         } = step
         {
             if held.contains(&made) {
-                lay(&mut blocks, *block, *start, bytes.as_slice());
+                lay(blocks, *block, *start, bytes.as_slice());
             }
             made = made.saturating_add(1);
         }
     }
+}
+
+fn disk_of(alloc: Global, steps: &[Step], held: &[usize]) -> Result<Vec<BlockBytes>, OutOfMemory> {
+    let mut blocks = disk_with(alloc, ROOMY, &[])?;
+    lay_all(&mut blocks, steps, held);
     Ok(blocks)
 }
 
@@ -260,6 +248,12 @@ type Closed = (
 );
 
 // A put of `a`, its delete, and a put of `b`: the patches 0 to 2, 3, and 4 to 6. The pointer patches 1 and 5 are one class.
+const PUT_TWICE: [Turn<'static>; 3] = [
+    (Ask::Put(b"a", 1, 1), Said::Done),
+    (Ask::Delete(b"a"), Said::Done),
+    (Ask::Put(b"b", 2, 1), Said::Done),
+];
+
 const CLOSED: [Closed; 8] = [
     (&[], None, None),
     (&[0], None, None),
@@ -271,19 +265,6 @@ const CLOSED: [Closed; 8] = [
     (&[0, 1, 2, 3, 4, 5, 6], None, Some(&[2])),
 ];
 
-// The steps of these commands.
-fn steps_of_closed(rt: &impl Abort, alloc: Global) -> Result<Vec<Step>, Fail> {
-    steps_of(
-        rt,
-        alloc,
-        &[
-            (put(b"a", 1, 1), Said::Done),
-            (Ask::Delete { key: b"a" }, Said::Done),
-            (put(b"b", 2, 1), Said::Done),
-        ],
-    )
-}
-
 fn expect_each_opened(rt: &impl Abort, alloc: Global, steps: &[Step]) -> Result<(), Fail> {
     for (held, a, b) in &CLOSED {
         let blocks = disk_of(alloc, steps, held)?;
@@ -294,23 +275,35 @@ fn expect_each_opened(rt: &impl Abort, alloc: Global, steps: &[Step]) -> Result<
 
 #[test]
 fn the_disk_of_each_closed_set_opens(rt: HostRuntime) -> Result<(), Fail> {
-    let steps = steps_of_closed(&rt, rt.alloc())?;
+    let steps = steps_of(&rt, rt.alloc(), &PUT_TWICE)?;
     expect_each_opened(&rt, rt.alloc(), &steps)
+}
+
+fn is_listed(set: u32) -> bool {
+    for (held, _, _) in &CLOSED {
+        if bits(held) == set {
+            return true;
+        }
+    }
+    false
 }
 
 // The closed sets of these patches are those that are listed.
 fn expect_listed(rt: &impl Abort, nodes: &[Node]) {
-    assert_eq!(rt; nodes.len(), 7);
-    assert_eq!(rt; class_of(nodes, PatchNo(1)), bits(&[1, 5]));
+    expect_eq(rt, &nodes.len(), &7);
+    expect_eq(rt, &class_of(nodes, PatchNo(1)), &bits(&[1, 5]));
     for set in 0..bit(7) {
-        let listed = CLOSED.iter().any(|closed| bits(closed.0) == set);
-        assert_eq!(rt; is_closed(nodes, set), listed, "set {set}");
+        expect_eq(
+            rt,
+            &(&set, &is_closed(nodes, set)),
+            &(&set, &is_listed(set)),
+        );
     }
 }
 
 #[test]
 fn there_are_no_other_closed_sets(rt: HostRuntime) -> Result<(), Fail> {
-    let steps = steps_of_closed(&rt, rt.alloc())?;
+    let steps = steps_of(&rt, rt.alloc(), &PUT_TWICE)?;
     expect_listed(&rt, &nodes_of(rt.alloc(), &steps)?);
     Ok(())
 }

@@ -1,6 +1,6 @@
 //! Writes that are under way together: which blocks they are of, and what the disk holds as each part of them has landed.
 use super::closed::lay;
-use super::walks::{Ask, Said, behind, put};
+use super::walks::{Ask, LONGER, Said, Turn, behind};
 use super::*;
 use patch_cache::{Flight, Landed, write_out};
 use patch_device::MemDevice;
@@ -33,9 +33,14 @@ fn complete(store: &mut Store, landed: Landed) -> Result<BlockNo, Why> {
     }
 }
 
+// The next write, if one can begin.
+fn send(store: &mut Store) -> Result<Option<Flight>, OutOfMemory> {
+    store.send()
+}
+
 // Begins the next write and ends it. Its block.
 fn write_next(store: &mut Store, device: &mut MemDevice) -> Result<Option<BlockNo>, Why> {
-    match store.send() {
+    match send(store) {
         Ok(Some(flight)) => Ok(Some(end(store, device, flight)?)),
         Ok(None) => Ok(None),
         Err(OutOfMemory) => Err("no memory"),
@@ -53,7 +58,7 @@ fn image_of(alloc: Global, flight: Flight) -> Result<Image, OutOfMemory> {
 // Begins writes until none can begin while these are under way.
 fn push_images(alloc: Global, store: &mut Store, images: &mut Vec<Image>) -> Result<(), Fail> {
     for _ in 0..store.cache().blocks() {
-        match store.send()? {
+        match send(store)? {
             Some(flight) => images.push(image_of(alloc, flight)?)?,
             None => return Ok(()),
         }
@@ -76,27 +81,34 @@ fn push_images_behind(
     push_images(alloc, store, images)
 }
 
-// The writes that are under way together when so many have ended, of a put of a value of three blocks on a new disk.
+// A put of a value of three blocks.
+const PUT: [Turn<'static>; 1] = [(Ask::Put(b"a", 0x61, 12_288), Said::Done)];
+
+// The writes that are under way together when so many have ended, of the put on a new disk.
 fn push_images_after(
     rt: &impl Abort,
     alloc: Global,
     ended: usize,
     images: &mut Vec<Image>,
 ) -> Result<(), Fail> {
-    let mut store = behind(rt, alloc, SMALL, &[(put(b"a", 0x61, 12_288), Said::Done)])?;
+    let mut store = behind(rt, alloc, SMALL, &PUT)?;
     push_images_behind(rt, alloc, &mut store, ended, images)
 }
 
-// The disk as it was made, with those of these images that are told: each by its own bit.
-fn disk_of(alloc: Global, images: &[Image], landed: u32) -> Result<Vec<BlockBytes>, OutOfMemory> {
-    let mut blocks = disk_with(alloc, SMALL, &[])?;
+// Lays those of these images on the disk that are told: each by its own bit.
+fn lay_all(blocks: &mut [BlockBytes], images: &[Image], landed: u32) {
     let mut left = landed;
     for (block, image) in images {
         if left % 2 == 1 {
-            lay(&mut blocks, *block, 0, image.as_slice());
+            lay(blocks, *block, 0, image.as_slice());
         }
         left /= 2;
     }
+}
+
+fn disk_of(alloc: Global, images: &[Image], landed: u32) -> Result<Vec<BlockBytes>, OutOfMemory> {
+    let mut blocks = disk_with(alloc, SMALL, &[])?;
+    lay_all(&mut blocks, images, landed);
     Ok(blocks)
 }
 
@@ -106,29 +118,27 @@ const VALUE: [u8; 12_288] = [0x61; 12_288];
 // The disk with each part of the first four landed, and then each of the others not landed and landed, opens, and has the value
 // where all have.
 fn expect_each_opened(rt: &impl Abort, alloc: Global, images: &[Image]) -> Result<(), Fail> {
-    for landed in (0..16u32).chain([15, 31, 31]) {
-        expect_opened(rt, alloc, disk_of(alloc, images, landed)?, &[(b"a", None)])?;
+    for landed in (0..16u32).chain([15, 31, 31, 63]) {
+        let value: Option<&[u8]> = if landed == 63 { Some(&VALUE) } else { None };
+        expect_opened(rt, alloc, disk_of(alloc, images, landed)?, &[(b"a", value)])?;
     }
-    expect_opened(
-        rt,
-        alloc,
-        disk_of(alloc, images, 63)?,
-        &[(b"a", Some(&VALUE))],
-    )
+    Ok(())
 }
 
 // The frame's four blocks are under way together, then the pointer's, and then the slot's.
 fn push_all_images(rt: &impl Abort, alloc: Global, images: &mut Vec<Image>) -> Result<(), Fail> {
     for (ended, count) in [(0, 4), (4, 5), (5, 6)] {
         push_images_after(rt, alloc, ended, images)?;
-        assert_eq!(rt; images.len(), count);
+        expect_eq(rt, &images.len(), &count);
     }
     Ok(())
 }
 
 fn expect_blocks(rt: &impl Abort, images: &[Image]) {
-    let blocks = [3, 4, 5, 6, 2, 1];
-    assert!(rt; images.iter().map(|image| image.0.0).eq(blocks.iter().copied()));
+    expect_eq(rt, &images.len(), &6);
+    for (image, block) in images.iter().zip([3, 4, 5, 6, 2, 1]) {
+        expect_eq(rt, &image.0.0, &block);
+    }
 }
 
 #[test]
@@ -167,17 +177,23 @@ fn hold_first(
     store: &mut Store,
     device: &mut MemDevice,
 ) -> Result<(u32, BlockNo), Why> {
-    match store.send() {
+    match send(store) {
         Ok(Some(flight)) => hold_upgrade(rt, store, device, flight),
         _ => Err("nothing was sent"),
     }
 }
 
+fn expect_writes(rt: &impl Abort, store: &mut Store, device: &mut MemDevice) {
+    let held = hold_first(rt, store, device);
+    expect_eq(rt, &held, &Ok((11, BlockNo(0))));
+    for block in [Some(BlockNo(1)), None] {
+        expect_eq(rt, &write_next(store, device), &Ok(block));
+    }
+}
+
 fn write_behind_upgrade(rt: &impl Abort, alloc: Global, store: &mut Store) -> Result<(), Fail> {
     let mut device = MemDevice::new(alloc, 35)?;
-    assert_eq!(rt; hold_first(rt, store, &mut device), Ok((11, BlockNo(0))));
-    assert_eq!(rt; write_next(store, &mut device), Ok(Some(BlockNo(1))));
-    assert_eq!(rt; write_next(store, &mut device), Ok(None));
+    expect_writes(rt, store, &mut device);
     Ok(())
 }
 
@@ -185,10 +201,6 @@ fn write_behind_upgrade(rt: &impl Abort, alloc: Global, store: &mut Store) -> Re
 // written until block 0 is.
 #[test]
 fn the_slot_of_a_longer_frame_waits_for_the_upgrade(rt: HostRuntime) -> Result<(), Fail> {
-    let turns = [
-        (Ask::Upgrade, Said::Done),
-        (put(b"a", 1, 40_000), Said::Done),
-    ];
-    let mut store = behind(&rt, rt.alloc(), SMALL, &turns)?;
+    let mut store = behind(&rt, rt.alloc(), SMALL, &LONGER)?;
     write_behind_upgrade(&rt, rt.alloc(), &mut store)
 }

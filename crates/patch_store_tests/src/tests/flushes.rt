@@ -1,5 +1,5 @@
 //! Flushes: what the disk holds then, and devices that fail.
-use super::walks::{Ask, Said, behind, put};
+use super::walks::{Ask, Said, Turn, behind};
 use super::*;
 use patch_device::{Device, FaultyDevice, MemDevice, load};
 use patch_store::flush;
@@ -11,33 +11,15 @@ const COUNT: u32 = 35;
 const WRITES: u64 = 4;
 
 // What a store of a small disk has gone through before it is flushed.
-const TURNS: [(Ask<'static>, Said); 4] = [
-    (
-        Ask::Put {
-            key: b"a",
-            byte: 1,
-            len: 5000,
-        },
-        Said::Done,
-    ),
-    (
-        Ask::Put {
-            key: b"b",
-            byte: 2,
-            len: 1,
-        },
-        Said::Done,
-    ),
-    (Ask::Delete { key: b"b" }, Said::Done),
-    (
-        Ask::Put {
-            key: b"b",
-            byte: 3,
-            len: 2,
-        },
-        Said::Done,
-    ),
+const TURNS: [Turn<'static>; 4] = [
+    (Ask::Put(b"a", 1, 5000), Said::Done),
+    (Ask::Put(b"b", 2, 1), Said::Done),
+    (Ask::Delete(b"b"), Said::Done),
+    (Ask::Put(b"b", 3, 2), Said::Done),
 ];
+
+// The map of these commands.
+const MAP: [Pair<'static>; 2] = [(b"a", Some(&[1; 5000])), (b"b", Some(&[3, 3]))];
 
 fn write_all(device: &mut MemDevice, blocks: &[BlockBytes]) -> Result<(), Fail> {
     let mut number = 0u32;
@@ -72,18 +54,12 @@ fn blocks_of<D: Device>(alloc: Global, device: &mut D) -> Result<Vec<BlockBytes>
 // The device's blocks open as the map of the commands.
 fn expect_on_disk<D: Device>(rt: &impl Abort, alloc: Global, device: &mut D) -> Result<(), Fail> {
     let blocks = blocks_of(alloc, device)?;
-    let a = [1; 5000];
-    expect_opened(
-        rt,
-        alloc,
-        blocks,
-        &[(b"a", Some(&a)), (b"b", Some(&[3, 3]))],
-    )
+    expect_opened(rt, alloc, blocks, &MAP)
 }
 
 fn flush_all<D: Device>(rt: &impl Abort, store: &mut Store, device: &mut D) {
     assert!(rt; flush(store, device).is_ok());
-    assert_eq!(rt; store.cache().live(), 0);
+    expect_eq(rt, &store.cache().live(), &0);
 }
 
 // Flushes the commands to the device, all of them.
@@ -93,13 +69,18 @@ fn expect_flushed<D: Device>(rt: &impl Abort, alloc: Global, device: &mut D) -> 
     Ok(())
 }
 
+fn expect_written(rt: &impl Abort, alloc: Global, device: &mut MemDevice) -> Result<(), Fail> {
+    let before = device.writes().len() as u64;
+    expect_flushed(rt, alloc, device)?;
+    let writes = device.writes().len() as u64;
+    expect_eq(rt, &writes, &before.saturating_add(WRITES));
+    expect_on_disk(rt, alloc, device)
+}
+
 #[test]
 fn a_flushed_disk_is_opened_again(rt: HostRuntime) -> Result<(), Fail> {
     let mut device = new_device(rt.alloc())?;
-    let before = device.writes().len() as u64;
-    expect_flushed(&rt, rt.alloc(), &mut device)?;
-    assert_eq!(&rt; device.writes().len() as u64, before.saturating_add(WRITES));
-    expect_on_disk(&rt, rt.alloc(), &mut device)
+    expect_written(&rt, rt.alloc(), &mut device)
 }
 
 // Whether one of so many calls more of the device fails, and the next one.
@@ -134,7 +115,7 @@ fn count_faults(rt: &impl Abort, alloc: Global, lands: bool) -> Result<u64, Fail
 #[test]
 fn a_write_that_fails_once_is_tried_again(rt: HostRuntime) -> Result<(), Fail> {
     for lands in [false, true] {
-        assert_eq!(&rt; count_faults(&rt, rt.alloc(), lands)?, WRITES);
+        expect_eq(&rt, &count_faults(&rt, rt.alloc(), lands)?, &WRITES);
     }
     Ok(())
 }

@@ -44,11 +44,24 @@ enum Call {
 
 type HeapStore<'a> = Store<&'a LocalHeap>;
 
-fn put(store: &mut HeapStore<'_>, key: &[u8], value: &[u8]) -> Result<(), RefusalKind> {
-    match store.put(WRITER, key, value) {
+// Of which kind the refusal is.
+fn kind_of<R: Refuses>(answer: Result<(), R>) -> Result<(), RefusalKind> {
+    match answer {
         Ok(()) => Ok(()),
         Err(refusal) => Err(refusal.kind()),
     }
+}
+
+fn put(store: &mut HeapStore<'_>, key: &[u8], value: &[u8]) -> Result<(), RefusalKind> {
+    kind_of(store.put(WRITER, key, value))
+}
+
+fn delete(store: &mut HeapStore<'_>, key: &[u8]) -> Result<(), RefusalKind> {
+    kind_of(store.delete(WRITER, key))
+}
+
+fn reclaim(store: &mut HeapStore<'_>, extent: u32) -> Result<(), RefusalKind> {
+    kind_of(store.reclaim(extent))
 }
 
 // A value of `a`, and two of `b`.
@@ -72,18 +85,9 @@ fn call_on(
     match call {
         Call::Put => put(store, b"c", b"new"),
         Call::Replace => put(store, b"a", b"second"),
-        Call::Delete => match store.delete(WRITER, b"a") {
-            Ok(()) => Ok(()),
-            Err(refusal) => Err(refusal.kind()),
-        },
-        Call::Reclaim => match store.reclaim(0) {
-            Ok(()) => Ok(()),
-            Err(refusal) => Err(refusal.kind()),
-        },
-        Call::Flush => match flush(store, device) {
-            Ok(()) => Ok(()),
-            Err(refusal) => Err(refusal.kind()),
-        },
+        Call::Delete => delete(store, b"a"),
+        Call::Reclaim => reclaim(store, 0),
+        Call::Flush => kind_of(flush(store, device)),
     }
 }
 
@@ -125,12 +129,31 @@ fn expect_done(rt: &impl Abort, store: &HeapStore<'_>, call: Call) {
         Call::Reclaim => expect_unchanged(rt, store),
         Call::Flush => {
             expect_unchanged(rt, store);
-            assert_eq!(rt; store.cache().live(), 0);
+            expect_eq(rt, &store.cache().live(), &0);
         }
     }
 }
 
 // Calls where only a hole of this size is left, and again with memory where that is refused. Whether it was.
+fn call_with(
+    rt: &impl Abort,
+    alloc: Global,
+    heap: &LocalHeap,
+    hole: usize,
+    store: &mut HeapStore<'_>,
+    device: &mut MemDevice,
+    call: Call,
+) -> Result<bool, OutOfMemory> {
+    let answer = call_in_hole(alloc, heap, hole, store, device, call)?;
+    if answer.is_err() {
+        expect_eq(rt, &answer, &Err(RefusalKind::OutOfMemory));
+        expect_unchanged(rt, store);
+        expect_eq(rt, &call_on(store, device, call), &Ok(()));
+    }
+    expect_done(rt, store, call);
+    Ok(answer.is_err())
+}
+
 fn call_twice(
     rt: &impl Abort,
     alloc: Global,
@@ -140,14 +163,7 @@ fn call_twice(
     call: Call,
 ) -> Result<bool, OutOfMemory> {
     let mut device = MemDevice::new(alloc, COUNT)?;
-    let answer = call_in_hole(alloc, heap, hole, store, &mut device, call)?;
-    if answer.is_err() {
-        assert_eq!(rt; answer, Err(RefusalKind::OutOfMemory));
-        expect_unchanged(rt, store);
-        assert_eq!(rt; call_on(store, &mut device, call), Ok(()));
-    }
-    expect_done(rt, store, call);
-    Ok(answer.is_err())
+    call_with(rt, alloc, heap, hole, store, &mut device, call)
 }
 
 // The same of a new store.
@@ -177,7 +193,7 @@ fn refuse_each_in(
     for turn in 0..1000usize {
         let hole = hole_of(turn.saturating_mul(stride));
         let again = call_anew(rt, alloc, heap, hole, call)?;
-        assert_eq!(rt; heap.used(), 0);
+        expect_eq(rt, &heap.used(), &0);
         if !again {
             assert!(rt; refused);
             return Ok(());

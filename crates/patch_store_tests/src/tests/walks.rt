@@ -3,21 +3,21 @@ use super::*;
 use patch_history::{Command, Reply};
 use patch_model::{Bytes, RefusalKind};
 
-// What is asked. A value is so many of one byte.
+// What is asked. The value of a put is so many of one byte.
 #[derive(Clone, Copy)]
 pub(super) enum Ask<'a> {
-    Put { key: &'a [u8], byte: u8, len: usize },
-    Get { key: &'a [u8] },
-    Delete { key: &'a [u8] },
-    Reclaim { extent: u32 },
+    Put(&'a [u8], u8, usize),
+    Get(&'a [u8]),
+    Delete(&'a [u8]),
+    Reclaim(u32),
     Upgrade,
 }
 
-// What is answered.
+// What is answered. A value is so many of one byte.
 #[derive(Clone, Copy)]
 pub(super) enum Said {
     Done,
-    Value { byte: u8, len: usize },
+    Value(u8, usize),
     Absent,
     Refused(RefusalKind),
 }
@@ -29,6 +29,9 @@ use Said::{Absent, Done, Refused, Value};
 
 const WRITER: WriterNo = WriterNo(0);
 
+// A key of 32 bytes, as many as there may be.
+const LONGEST_KEY: &[u8] = b"xxxxxxxxxxxxxxxxxxxxxxxxxxxxxxxx";
+
 // A key of 33 bytes, one too many.
 const LONG_KEY: &[u8] = b"xxxxxxxxxxxxxxxxxxxxxxxxxxxxxxxxx";
 
@@ -38,10 +41,6 @@ const KEYS: &[u8] = b"0123456789ABCDEFGHIJKLMNOPQRSTUVWXYZabcdefghijklmnopqrstuv
 // One index block and so many extents.
 fn with_extents(extents: u32) -> Geometry {
     disk(1, extents, Format::One)
-}
-
-pub(super) fn put(key: &[u8], byte: u8, len: usize) -> Ask<'_> {
-    Put { key, byte, len }
 }
 
 fn bytes_of(alloc: Global, bytes: &[u8]) -> Result<Bytes, OutOfMemory> {
@@ -58,24 +57,38 @@ fn put_of(alloc: Global, key: Bytes, byte: u8, len: usize) -> Result<Command, Ou
 
 fn command_of(alloc: Global, ask: &Ask<'_>) -> Result<Command, OutOfMemory> {
     match ask {
-        Put { key, byte, len } => put_of(alloc, bytes_of(alloc, key)?, *byte, *len),
-        Get { key } => Ok(Command::Get {
+        Put(key, byte, len) => put_of(alloc, bytes_of(alloc, key)?, *byte, *len),
+        Get(key) => Ok(Command::Get {
             key: bytes_of(alloc, key)?,
         }),
-        Delete { key } => Ok(Command::Delete {
+        Delete(key) => Ok(Command::Delete {
             key: bytes_of(alloc, key)?,
         }),
-        Reclaim { extent } => Ok(Command::Reclaim { extent: *extent }),
+        Reclaim(extent) => Ok(Command::Reclaim { extent: *extent }),
         Upgrade => Ok(Command::Upgrade),
     }
 }
 
-fn commands_of(alloc: Global, turns: &[Turn<'_>]) -> Result<Vec<(WriterNo, Command)>, OutOfMemory> {
-    let mut commands = Vec::with_capacity(alloc, turns.len())?;
+type Commands = Vec<(WriterNo, Command)>;
+
+fn push_commands(
+    alloc: Global,
+    commands: &mut Commands,
+    turns: &[Turn<'_>],
+) -> Result<(), OutOfMemory> {
     for turn in turns {
         commands.push((WRITER, command_of(alloc, &turn.0)?))?;
     }
-    Ok(commands)
+    Ok(())
+}
+
+fn are_all(bytes: &[u8], byte: u8, len: usize) -> bool {
+    for other in bytes {
+        if *other != byte {
+            return false;
+        }
+    }
+    bytes.len() == len
 }
 
 fn is_said(reply: &Reply, said: &Said) -> bool {
@@ -83,21 +96,15 @@ fn is_said(reply: &Reply, said: &Said) -> bool {
         (Reply::Done, Done) => true,
         (Reply::Absent, Absent) => true,
         (Reply::Refused(refusal), Refused(kind)) => refusal.kind == *kind,
-        (Reply::Value(bytes), Value { byte, len }) => {
-            let bytes = bytes.as_slice();
-            bytes.len() == *len && bytes.iter().all(|b| b == byte)
-        }
+        (Reply::Value(bytes), Value(byte, len)) => are_all(bytes.as_slice(), *byte, *len),
         _ => false,
     }
 }
 
 fn expect_replies(rt: &impl Abort, replies: &[Reply], turns: &[Turn<'_>]) {
-    assert_eq!(rt; replies.len(), turns.len());
-    for at in 0..replies.len() {
-        assert!(rt;
-            at < turns.len() && is_said(&replies[at], &turns[at].1),
-            "reply {at}"
-        );
+    expect_eq(rt, &replies.len(), &turns.len());
+    for (at, (reply, turn)) in replies.iter().zip(turns.iter()).enumerate() {
+        expect_eq(rt, &(&at, &is_said(reply, &turn.1)), &(&at, &true));
     }
 }
 
@@ -119,7 +126,8 @@ pub(super) fn go(
 
 // Goes through the commands of these turns, and looks at each reply.
 fn take(rt: &impl Abort, alloc: Global, store: &mut Store, turns: &[Turn<'_>]) -> Result<(), Fail> {
-    let commands = commands_of(alloc, turns)?;
+    let mut commands = Vec::new(alloc);
+    push_commands(alloc, &mut commands, turns)?;
     go(rt, store, &commands, turns)
 }
 
@@ -145,121 +153,100 @@ fn walk(
     Ok(())
 }
 
+// An upgrade, and a longer value than there may be before it.
+pub(super) const LONGER: [Turn<'static>; 2] = [(Upgrade, Done), (Put(b"a", 1, 40_000), Done)];
+
+const ONE_KEY: [Turn<'static>; 8] = [
+    (Put(b"k", 0, 0), Done),
+    (Get(b"k"), Value(0, 0)),
+    (Delete(b"k"), Done),
+    (Get(b"k"), Absent),
+    (Delete(b"k"), Refused(RefusalKind::NoKey)),
+    (Put(b"k", 1, 1), Done),
+    (Put(b"k", 2, 5000), Done),
+    (Get(b"k"), Value(2, 5000)),
+];
+
 #[test]
 fn keys_are_put_read_and_deleted(rt: HostRuntime) -> Result<(), Fail> {
-    walk(
-        &rt,
-        rt.alloc(),
-        with_extents(4),
-        &[
-            (put(b"k", 0, 0), Done),
-            (Get { key: b"k" }, Value { byte: 0, len: 0 }),
-            (Delete { key: b"k" }, Done),
-            (Get { key: b"k" }, Absent),
-            (Delete { key: b"k" }, Refused(RefusalKind::NoKey)),
-            (put(b"k", 1, 1), Done),
-            (put(b"k", 2, 5000), Done),
-            (Get { key: b"k" }, Value { byte: 2, len: 5000 }),
-        ],
-    )
+    walk(&rt, rt.alloc(), with_extents(4), &ONE_KEY)
 }
+
+const LIMITS: [Turn<'static>; 7] = [
+    (Put(LONGEST_KEY, 1, 1), Done),
+    (Put(LONG_KEY, 1, 1), Refused(RefusalKind::KeyLength)),
+    (Put(b"", 1, 1), Refused(RefusalKind::KeyLength)),
+    (Get(b""), Refused(RefusalKind::KeyLength)),
+    (Delete(LONG_KEY), Refused(RefusalKind::KeyLength)),
+    (Put(b"v", 0, 32_768), Done),
+    (Put(b"w", 0, 32_769), Refused(RefusalKind::ValueLength)),
+];
 
 #[test]
 fn keys_and_values_have_their_limits(rt: HostRuntime) -> Result<(), Fail> {
-    walk(
-        &rt,
-        rt.alloc(),
-        with_extents(4),
-        &[
-            (put(&LONG_KEY[1..], 1, 1), Done),
-            (put(LONG_KEY, 1, 1), Refused(RefusalKind::KeyLength)),
-            (put(b"", 1, 1), Refused(RefusalKind::KeyLength)),
-            (Get { key: b"" }, Refused(RefusalKind::KeyLength)),
-            (Delete { key: LONG_KEY }, Refused(RefusalKind::KeyLength)),
-            (put(b"v", 0, 32_768), Done),
-            (put(b"w", 0, 32_769), Refused(RefusalKind::ValueLength)),
-        ],
-    )
+    walk(&rt, rt.alloc(), with_extents(4), &LIMITS)
 }
+
+const LAST_EMPTY: [Turn<'static>; 5] = [
+    (Put(b"a", 0x5a, 32_768), Done),
+    (Put(b"b", 0x5b, 32_768), Refused(RefusalKind::NoSpace)),
+    (Reclaim(0), Refused(RefusalKind::OpenExtent)),
+    (Reclaim(1), Refused(RefusalKind::EmptyExtent)),
+    (Reclaim(2), Refused(RefusalKind::NoSuchExtent)),
+];
 
 #[test]
 fn the_last_empty_extent_is_kept(rt: HostRuntime) -> Result<(), Fail> {
-    walk(
-        &rt,
-        rt.alloc(),
-        with_extents(2),
-        &[
-            (put(b"a", 0x5a, 32_768), Done),
-            (put(b"b", 0x5b, 32_768), Refused(RefusalKind::NoSpace)),
-            (Reclaim { extent: 0 }, Refused(RefusalKind::OpenExtent)),
-            (Reclaim { extent: 1 }, Refused(RefusalKind::EmptyExtent)),
-            (Reclaim { extent: 2 }, Refused(RefusalKind::NoSuchExtent)),
-        ],
-    )
+    walk(&rt, rt.alloc(), with_extents(2), &LAST_EMPTY)
 }
+
+const TWO_WON: [Turn<'static>; 7] = [
+    (Put(b"a", 0x61, 32_768), Done),
+    (Put(b"b", 0x62, 32_768), Done),
+    (Reclaim(0), Done),
+    (Reclaim(1), Done),
+    (Reclaim(1), Refused(RefusalKind::EmptyExtent)),
+    (Get(b"a"), Value(0x61, 32_768)),
+    (Get(b"b"), Value(0x62, 32_768)),
+];
 
 #[test]
 fn two_extents_are_won_back(rt: HostRuntime) -> Result<(), Fail> {
-    walk(
-        &rt,
-        rt.alloc(),
-        with_extents(3),
-        &[
-            (put(b"a", 0x61, 32_768), Done),
-            (put(b"b", 0x62, 32_768), Done),
-            (Reclaim { extent: 0 }, Done),
-            (Reclaim { extent: 1 }, Done),
-            (Reclaim { extent: 1 }, Refused(RefusalKind::EmptyExtent)),
-            (
-                Get { key: b"a" },
-                Value {
-                    byte: 0x61,
-                    len: 32_768,
-                },
-            ),
-            (
-                Get { key: b"b" },
-                Value {
-                    byte: 0x62,
-                    len: 32_768,
-                },
-            ),
-        ],
-    )
+    walk(&rt, rt.alloc(), with_extents(3), &TWO_WON)
 }
+
+const CURRENT_WON: [Turn<'static>; 6] = [
+    (Put(b"k", 0, 0), Done),
+    (Delete(b"k"), Done),
+    (Reclaim(0), Done),
+    (Reclaim(0), Refused(RefusalKind::EmptyExtent)),
+    (Put(b"m", 1, 1), Done),
+    (Get(b"m"), Value(1, 1)),
+];
 
 #[test]
 fn a_current_extent_without_a_live_frame_is_won_back(rt: HostRuntime) -> Result<(), Fail> {
-    walk(
-        &rt,
-        rt.alloc(),
-        with_extents(2),
-        &[
-            (put(b"k", 0, 0), Done),
-            (Delete { key: b"k" }, Done),
-            (Reclaim { extent: 0 }, Done),
-            (Reclaim { extent: 0 }, Refused(RefusalKind::EmptyExtent)),
-            (put(b"m", 1, 1), Done),
-            (Get { key: b"m" }, Value { byte: 1, len: 1 }),
-        ],
-    )
+    walk(&rt, rt.alloc(), with_extents(2), &CURRENT_WON)
 }
+
+const UPGRADED: [Turn<'static>; 5] = [
+    (Put(b"v", 9, 65_488), Refused(RefusalKind::ValueLength)),
+    (Upgrade, Done),
+    (Put(b"v", 9, 65_488), Done),
+    (Put(b"v", 9, 65_489), Refused(RefusalKind::ValueLength)),
+    (Upgrade, Refused(RefusalKind::AlreadyVersion2)),
+];
 
 #[test]
 fn longer_values_fit_behind_an_upgrade(rt: HostRuntime) -> Result<(), Fail> {
-    walk(
-        &rt,
-        rt.alloc(),
-        with_extents(4),
-        &[
-            (put(b"v", 9, 65_488), Refused(RefusalKind::ValueLength)),
-            (Upgrade, Done),
-            (put(b"v", 9, 65_488), Done),
-            (put(b"v", 9, 65_489), Refused(RefusalKind::ValueLength)),
-            (Upgrade, Refused(RefusalKind::AlreadyVersion2)),
-        ],
-    )
+    walk(&rt, rt.alloc(), with_extents(4), &UPGRADED)
 }
+
+const LONGEST: [Turn<'static>; 3] = [
+    (Put(b"a", 7, 131_072), Done),
+    (Put(b"b", 7, 131_073), Refused(RefusalKind::ValueLength)),
+    (Get(b"a"), Value(7, 131_072)),
+];
 
 #[test]
 fn values_are_as_long_as_their_extents_allow(rt: HostRuntime) -> Result<(), Fail> {
@@ -267,39 +254,28 @@ fn values_are_as_long_as_their_extents_allow(rt: HostRuntime) -> Result<(), Fail
         &rt,
         rt.alloc(),
         disk(1, 2, Format::Two { length: 64 }),
-        &[
-            (put(b"a", 7, 131_072), Done),
-            (put(b"b", 7, 131_073), Refused(RefusalKind::ValueLength)),
-            (
-                Get { key: b"a" },
-                Value {
-                    byte: 7,
-                    len: 131_072,
-                },
-            ),
-        ],
+        &LONGEST,
     )
 }
 
 // A put for each slot of an index block, one more, and one of a key that has a slot.
-fn puts_of_all_slots(alloc: Global) -> Result<Vec<Turn<'static>>, OutOfMemory> {
-    let keys = KEYS;
-    let mut turns = Vec::with_capacity(alloc, 66)?;
-    for at in 0..keys.len() {
+fn push_puts(turns: &mut Vec<Turn<'static>>) -> Result<(), OutOfMemory> {
+    for at in 0..KEYS.len() {
         let said = if at < 64 {
             Done
         } else {
             Refused(RefusalKind::IndexFull)
         };
-        turns.push((put(&keys[at..at + 1], 0, 0), said))?;
+        turns.push((Put(&KEYS[at..at + 1], 0, 0), said))?;
     }
-    turns.push((put(b"0", 0, 0), Done))?;
-    Ok(turns)
+    turns.push((Put(b"0", 0, 0), Done))?;
+    Ok(())
 }
 
 #[test]
 fn an_index_is_full_with_64_keys(rt: HostRuntime) -> Result<(), Fail> {
-    let turns = puts_of_all_slots(rt.alloc())?;
+    let mut turns = Vec::new(rt.alloc());
+    push_puts(&mut turns)?;
     walk(&rt, rt.alloc(), with_extents(2), &turns)
 }
 
@@ -310,17 +286,14 @@ const FULL: [Piece<'static>; 3] = [
     (1, 0, b"\x01\x01\0\0\0\0\0\0\0\0\0\0\0\0\0\x12k"),
 ];
 
+const FULL_WON: [Turn<'static>; 3] = [
+    (Reclaim(0), Refused(RefusalKind::NoSpace)),
+    (Reclaim(1), Done),
+    (Get(b"k"), Value(7, 1)),
+];
+
 #[test]
 fn of_two_full_extents_the_one_without_a_frame_is_won_back(rt: HostRuntime) -> Result<(), Fail> {
     let mut store = open_with(&rt, rt.alloc(), SMALL, &FULL)?;
-    take(
-        &rt,
-        rt.alloc(),
-        &mut store,
-        &[
-            (Reclaim { extent: 0 }, Refused(RefusalKind::NoSpace)),
-            (Reclaim { extent: 1 }, Done),
-            (Get { key: b"k" }, Value { byte: 7, len: 1 }),
-        ],
-    )
+    take(&rt, rt.alloc(), &mut store, &FULL_WON)
 }

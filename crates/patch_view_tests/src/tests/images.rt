@@ -1,5 +1,5 @@
 //! What a write sends of a block with many classes, beside the same block of which all are taken one after another.
-use super::{bare, join_by};
+use super::{bare, expect_without_all, join_by};
 use patch_model::{OutOfMemory, PatchNo};
 use patch_view::BlockState;
 use std::alloc::Global;
@@ -69,11 +69,7 @@ impl Pair {
     fn expect_same(&mut self, rt: &impl Abort) -> Result<(), OutOfMemory> {
         let mut sent = Vec::from_slice(self.alloc, self.kept.bytes())?;
         self.kept.take_all_from(sent.as_mut_slice());
-        let mut view = self.plain.view();
-        view.take_all();
-        let is_same = view.bytes() == sent.as_slice();
-        view.restore();
-        assert!(rt; is_same);
+        expect_without_all(rt, &mut self.plain, sent.as_slice());
         Ok(())
     }
 }

@@ -1,11 +1,40 @@
 //! Memory that is given back, and each allocation refused in turn.
-use super::{bare, expect_bytes, expect_taken, has_joint, join_by};
+use super::{bare, expect_bytes, expect_eq, expect_taken, has_joint, join_by};
 use linked_list_allocator::LocalHeap;
 use patch_model::{OutOfMemory, PatchNo};
 use patch_view::{BlockState, TakeRefusal};
 use std::alloc::Global;
 use std::process::Abort;
 use std::test::Fail;
+
+// What is done to a block in a heap.
+#[derive(Clone, Copy)]
+enum Course {
+    GiveMemoryBack,
+    KeepFewNumbers,
+    TakeMemoryOnce,
+    TakeOneIn,
+}
+
+fn follow(
+    rt: &impl Abort,
+    heap: &LocalHeap,
+    block: &mut BlockState<&LocalHeap>,
+    course: Course,
+) -> Result<(), Fail> {
+    match course {
+        Course::GiveMemoryBack => give_memory_back(rt, heap, block),
+        Course::KeepFewNumbers => keep_few_numbers(rt, heap, block),
+        Course::TakeMemoryOnce => take_memory_once(rt, heap, block),
+        Course::TakeOneIn => take_one_in(rt, heap, block),
+    }
+}
+
+fn follow_in_heap(rt: &impl Abort, alloc: Global, course: Course) -> Result<(), Fail> {
+    let heap = LocalHeap::new(alloc, 16384)?;
+    let mut block = bare(&heap)?;
+    follow(rt, &heap, &mut block, course)
+}
 
 fn lay_one_over_another(block: &mut BlockState<&LocalHeap>) -> Result<(), OutOfMemory> {
     block.lay(PatchNo(0), 0, &[1; 500], &[])?;
@@ -34,15 +63,13 @@ fn give_memory_back(
     harden(rt, heap, block);
     let hard = heap.used();
     lay_and_unlay(block)?;
-    assert_eq!(rt; heap.used(), hard);
+    expect_eq(rt, &heap.used(), &hard);
     Ok(())
 }
 
 #[test]
 fn memory_is_given_back(rt: HostRuntime) -> Result<(), Fail> {
-    let heap = LocalHeap::new(rt.alloc(), 16384)?;
-    let mut block = bare(&heap)?;
-    give_memory_back(&rt, &heap, &mut block)
+    follow_in_heap(&rt, rt.alloc(), Course::GiveMemoryBack)
 }
 
 // Lays a patch that names these, and makes it hard.
@@ -66,7 +93,7 @@ fn keep_few_numbers(
     lay_hard(block, 1, &[PatchNo(0)])?;
     let two = heap.used();
     lay_hard(block, 2, &[PatchNo(1), PatchNo(0)])?;
-    assert_eq!(rt; heap.used(), two);
+    expect_eq(rt, &heap.used(), &two);
     lay_hard(block, 3, &[PatchNo(2), PatchNo(1), PatchNo(0)])?;
     assert!(rt; two < heap.used());
     Ok(())
@@ -74,9 +101,7 @@ fn keep_few_numbers(
 
 #[test]
 fn few_numbers_take_no_memory(rt: HostRuntime) -> Result<(), Fail> {
-    let heap = LocalHeap::new(rt.alloc(), 16384)?;
-    let mut block = bare(&heap)?;
-    keep_few_numbers(&rt, &heap, &mut block)
+    follow_in_heap(&rt, rt.alloc(), Course::KeepFewNumbers)
 }
 
 fn lay_two_that_touch(block: &mut BlockState<&LocalHeap>) -> Result<(), OutOfMemory> {
@@ -92,7 +117,7 @@ fn draw_and_let_go(
 ) -> Result<(), Fail> {
     let apart = heap.used();
     assert!(rt; has_joint(block, 1, 0)?);
-    assert_eq!(rt; heap.used(), apart);
+    expect_eq(rt, &heap.used(), &apart);
     Ok(())
 }
 
@@ -119,9 +144,15 @@ fn join_in_place(
     Ok(())
 }
 
+// The two of these bytes from this place on.
+fn expect_two(rt: &impl Abort, bytes: &[u8], from: usize, want: [u8; 2]) {
+    let two = bytes.get(from..from.saturating_add(2));
+    expect_eq(rt, &two, &Some(want.as_slice()));
+}
+
 fn expect_joined(rt: &impl Abort, block: &mut BlockState<&LocalHeap>) {
     expect_taken(rt, block.take(PatchNo(0)), Ok(()));
-    assert_eq!(rt; &block.bytes()[399..401], [0, 0].as_slice());
+    expect_two(rt, block.bytes(), 399, [0, 0]);
 }
 
 fn take_memory_once(
@@ -138,9 +169,7 @@ fn take_memory_once(
 
 #[test]
 fn a_joint_takes_memory_once(rt: HostRuntime) -> Result<(), Fail> {
-    let heap = LocalHeap::new(rt.alloc(), 16384)?;
-    let mut block = bare(&heap)?;
-    take_memory_once(&rt, &heap, &mut block)
+    follow_in_heap(&rt, rt.alloc(), Course::TakeMemoryOnce)
 }
 
 // Two patches that are one, and a third on some of their bytes.
@@ -158,19 +187,17 @@ fn take_one_in(
 ) -> Result<(), Fail> {
     lay_one_within(block)?;
     let apart = heap.used();
-    assert_eq!(rt; join_drawn(heap, block, 2)?, apart);
+    expect_eq(rt, &join_drawn(heap, block, 2)?, &apart);
     assert!(rt; heap.used() < apart);
-    assert_eq!(rt; &block.cached()[99..101], [2, 3].as_slice());
+    expect_two(rt, block.cached(), 99, [2, 3]);
     expect_taken(rt, block.take(PatchNo(2)), Ok(()));
-    assert_eq!(rt; &block.bytes()[99..101], [0, 0].as_slice());
+    expect_two(rt, block.bytes(), 99, [0, 0]);
     Ok(())
 }
 
 #[test]
 fn a_class_takes_one_in_without_memory(rt: HostRuntime) -> Result<(), Fail> {
-    let heap = LocalHeap::new(rt.alloc(), 16384)?;
-    let mut block = bare(&heap)?;
-    take_one_in(&rt, &heap, &mut block)
+    follow_in_heap(&rt, rt.alloc(), Course::TakeOneIn)
 }
 
 // Makes the first two patches one, at once or in two steps.
@@ -237,7 +264,7 @@ fn grow_in(rt: &impl Abort, alloc: Global, size: usize, at_once: bool) -> Result
 fn grow_from_nothing(rt: &impl Abort, alloc: Global, at_once: bool) -> Result<(), Fail> {
     for size in 0..600usize {
         if grow_in(rt, alloc, 4096 + size * 16, at_once)? {
-            assert!(rt; size > 8, "refused {size}");
+            assert!(rt; size > 8);
             return Ok(());
         }
     }

@@ -1,78 +1,99 @@
 //! The names of refusals, and spans exchanged.
+use super::expect_eq;
 use patch_model::{PatchNo, RefusalKind, Refuses};
 use patch_view::{PutBackRefusal, TakeRefusal, swap_span};
 use std::alloc::{AllocError, Global};
+use std::fmt::Display;
 use std::process::Abort;
 use std::test::Fail;
 
 type Names<'a> = (RefusalKind, u8, &'a str);
 
-fn names_of<R: Refuses + Copy>(refusal: R) -> Names<'static> {
-    (refusal.kind(), refusal.code(), refusal.name())
+fn expect_names(rt: &impl Abort, refusal: impl Refuses + Copy, want: Names) {
+    let names = (refusal.kind(), refusal.code(), refusal.name());
+    expect_eq(rt, &names, &want);
 }
 
-// The kind, the code and the name of a refusal are these.
-fn expect_names(rt: &impl Abort, names: Names, kind: RefusalKind, code: u8, name: &str) {
-    assert!(rt;
-        names.0 == kind && names.1 == code && names.2 == name,
-        "{name}"
-    );
+fn expect_text(
+    rt: &impl Abort,
+    alloc: Global,
+    refusal: &impl Display,
+    text: &str,
+) -> Result<(), AllocError> {
+    let told = format!(in alloc; "{refusal}")?;
+    expect_eq(rt, &told.as_str(), &text);
+    Ok(())
 }
 
-// All refusals of views, as they are shown, with commas between.
-fn tell_all(alloc: Global) -> Result<String, AllocError> {
-    let (unknown, flying) = (TakeRefusal::Unknown, TakeRefusal::InFlight);
-    let (hard, taken) = (TakeRefusal::Hard, TakeRefusal::AlreadyTaken);
-    let applied = TakeRefusal::DependentApplied(PatchNo(3));
-    let (back, below) = (
-        PutBackRefusal::NotTaken,
+const TEXTS_OF_TAKES: [(TakeRefusal, &'static str); 5] = [
+    (TakeRefusal::Unknown, "Unknown"),
+    (TakeRefusal::InFlight, "InFlight"),
+    (TakeRefusal::Hard, "Hard"),
+    (TakeRefusal::AlreadyTaken, "AlreadyTaken"),
+    (
+        TakeRefusal::DependentApplied(PatchNo(3)),
+        "DependentApplied 3",
+    ),
+];
+
+const TEXTS_OF_PUT_BACKS: [(PutBackRefusal, &'static str); 2] = [
+    (PutBackRefusal::NotTaken, "NotTaken"),
+    (
         PutBackRefusal::DependencyTaken(PatchNo(70_000)),
-    );
-    format!(in alloc; "{unknown}, {flying}, {hard}, {taken}, {applied}, {back}, {below}")
-}
+        "DependencyTaken 70000",
+    ),
+];
 
 #[test]
 fn refusals_have_their_texts(rt: HostRuntime) -> Result<(), Fail> {
-    assert_eq!(rt;
-        tell_all(rt.alloc())?.as_str(),
-        "Unknown, InFlight, Hard, AlreadyTaken, DependentApplied 3, NotTaken, DependencyTaken 70000"
-    );
+    for (refusal, text) in TEXTS_OF_TAKES {
+        expect_text(&rt, rt.alloc(), &refusal, text)?;
+    }
+    for (refusal, text) in TEXTS_OF_PUT_BACKS {
+        expect_text(&rt, rt.alloc(), &refusal, text)?;
+    }
     Ok(())
 }
 
 #[test]
 fn refusals_of_takes_have_their_names(rt: HostRuntime) {
-    let named = TakeRefusal::DependentApplied(PatchNo(3));
-    for (refusal, kind, code, name) in [
-        (TakeRefusal::Unknown, RefusalKind::Unknown, 6, "Unknown"),
-        (TakeRefusal::InFlight, RefusalKind::InFlight, 8, "InFlight"),
-        (TakeRefusal::Hard, RefusalKind::Hard, 9, "Hard"),
-        (
-            TakeRefusal::AlreadyTaken,
-            RefusalKind::AlreadyTaken,
-            10,
-            "AlreadyTaken",
-        ),
-        (named, RefusalKind::DependentApplied, 11, "DependentApplied"),
-    ] {
-        expect_names(&rt, names_of(refusal), kind, code, name);
-    }
+    let applied = TakeRefusal::DependentApplied(PatchNo(3));
+    expect_names(
+        &rt,
+        TakeRefusal::Unknown,
+        (RefusalKind::Unknown, 6, "Unknown"),
+    );
+    expect_names(
+        &rt,
+        TakeRefusal::InFlight,
+        (RefusalKind::InFlight, 8, "InFlight"),
+    );
+    expect_names(&rt, TakeRefusal::Hard, (RefusalKind::Hard, 9, "Hard"));
+    expect_names(
+        &rt,
+        TakeRefusal::AlreadyTaken,
+        (RefusalKind::AlreadyTaken, 10, "AlreadyTaken"),
+    );
+    expect_names(
+        &rt,
+        applied,
+        (RefusalKind::DependentApplied, 11, "DependentApplied"),
+    );
 }
 
 #[test]
 fn refusals_of_put_backs_have_their_names(rt: HostRuntime) {
-    let named = PutBackRefusal::DependencyTaken(PatchNo(3));
-    for (refusal, kind, code, name) in [
-        (
-            PutBackRefusal::NotTaken,
-            RefusalKind::NotTaken,
-            12,
-            "NotTaken",
-        ),
-        (named, RefusalKind::DependencyTaken, 13, "DependencyTaken"),
-    ] {
-        expect_names(&rt, names_of(refusal), kind, code, name);
-    }
+    let below = PutBackRefusal::DependencyTaken(PatchNo(3));
+    expect_names(
+        &rt,
+        PutBackRefusal::NotTaken,
+        (RefusalKind::NotTaken, 12, "NotTaken"),
+    );
+    expect_names(
+        &rt,
+        below,
+        (RefusalKind::DependencyTaken, 13, "DependencyTaken"),
+    );
 }
 
 #[test]
@@ -80,5 +101,5 @@ fn spans_are_exchanged(rt: HostRuntime) {
     let mut buffer = [1, 2, 3, 4];
     let mut saved = [8, 9];
     swap_span(&mut buffer, 1, &mut saved);
-    assert_eq!(rt; (buffer, saved), ([1, 8, 9, 4], [2, 3]));
+    expect_eq(&rt, &(buffer, saved), &([1, 8, 9, 4], [2, 3]));
 }

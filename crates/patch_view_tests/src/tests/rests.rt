@@ -129,17 +129,13 @@ fn least_dependent(patches: &[Plain], class: u32) -> Option<u32> {
     least
 }
 
-fn rests_on_any(patches: &[Plain], later: &Plain) -> bool {
-    patches.iter().any(|earlier| rests_on(later, earlier))
-}
-
 // Whether a patch rests on a class other than this.
 fn rests_on_another(patches: &[Plain], later: &Plain, class: u32) -> bool {
     patches.iter().any(|earlier| earlier.class != class && rests_on(later, earlier))
 }
 
 fn class_rests(patches: &[Plain], class: u32) -> bool {
-    patches.iter().any(|later| later.class == class && rests_on_any(patches, later))
+    patches.iter().any(|later| later.class == class && rests_on_another(patches, later, class))
 }
 
 fn right_answer(patches: &[Plain], patch: &Plain) -> Result<(), TakeRefusal> {
@@ -255,21 +251,30 @@ fn round(
     Ok(())
 }
 
-fn go_rounds(rt: &impl Abort, alloc: Global, first: u32) -> Result<(), Fail> {
-    let mut block = bare(alloc)?;
-    let mut patches = Vec::new(alloc);
+fn go_rounds(
+    rt: &impl Abort,
+    block: &mut BlockState,
+    patches: &mut Vec<Plain>,
+    first: u32,
+) -> Result<(), Fail> {
     let mut seed = first;
     for no in 0..60u32 {
         seed = drawn(seed);
-        round(rt, &mut block, &mut patches, no, seed)?;
+        round(rt, block, patches, no, seed)?;
     }
     Ok(())
+}
+
+fn go_from(rt: &impl Abort, alloc: Global, first: u32) -> Result<(), Fail> {
+    let mut block = bare(alloc)?;
+    let mut patches = Vec::new(alloc);
+    go_rounds(rt, &mut block, &mut patches, first)
 }
 
 #[test]
 fn takes_answer_as_a_plain_walk(rt: HostRuntime) -> Result<(), Fail> {
     for first in [1, 7, 12_345] {
-        go_rounds(&rt, rt.alloc(), first)?;
+        go_from(&rt, rt.alloc(), first)?;
     }
     Ok(())
 }

@@ -1,8 +1,8 @@
 //! Worked rows of views on one block, each state beside the plain piling.
-ghost use Rattle.std.specs.Prelude.{◌+◌, ◌≤◌, IfOk};
+ghost use Rattle.std.specs.Prelude.{◌+◌, ◌≤◌, All, IfOk};
 ghost use Rattle.patch_model.specs.Pile.{end};
 
-use super::{bare, expect_bytes, expect_taken, has_joint, join_by};
+use super::{bare, expect_bytes, expect_eq, expect_taken, expect_without_all, has_joint, join_by};
 use patch_model::{
     BLOCK, BlockBytes, BlockNo, Bytes, Numbers, OutOfMemory, Patch, PatchNo, Undo, pile,
 };
@@ -63,13 +63,15 @@ fn patch_of(
     })
 }
 
-// What the plain piling leaves of the patches of these lines that aren't out.
-fn piled(
+// The patches of these lines that aren't out.
+fn patches_of(
     rt: &impl Abort,
     alloc: Global,
     lines: &[Line],
     out: &[u32],
-) -> Result<BlockBytes, OutOfMemory> {
+) -> Result<Vec<Patch>, OutOfMemory>
+    ensures { IfOk result (λ patches. All (λ p. end p ≤ BLOCK) patches.items) }
+{
     let mut patches = Vec::new(alloc);
     for line in lines {
         if let Deed::Lay(no, start, bytes, _) = &line.0 {
@@ -78,7 +80,18 @@ fn piled(
             }
         }
     }
+    Ok(patches)
+}
+
+// What the plain piling leaves of the patches of these lines that aren't out.
+fn piled(
+    rt: &impl Abort,
+    alloc: Global,
+    lines: &[Line],
+    out: &[u32],
+) -> Result<BlockBytes, OutOfMemory> {
     let first = BlockBytes::zeros(alloc)?;
+    let patches = patches_of(rt, alloc, lines, out)?;
     pile(alloc, &first, &patches)
 }
 
@@ -109,14 +122,14 @@ fn expect_back(
     answer: Result<(), PutBackRefusal>,
     want: Result<(), PutBackRefusal>,
 ) {
-    assert_eq!(rt; answer, want);
+    expect_eq(rt, &answer, &want);
 }
 
 fn act(rt: &impl Abort, block: &mut BlockState, deed: &Deed) -> Result<(), OutOfMemory> {
     match deed {
         Deed::Lay(no, start, bytes, after) => return lay(rt, block, *no, *start, bytes, *after),
         Deed::Join(a, b) => return block.join(PatchNo(*a), PatchNo(*b)),
-        Deed::Draw(a, b, drawn) => assert_eq!(rt; has_joint(block, *a, *b)?, *drawn),
+        Deed::Draw(a, b, drawn) => expect_eq(rt, &has_joint(block, *a, *b)?, drawn),
         Deed::JoinBy(a, b) => return join_by(block, *a, *b),
         Deed::JoinNothing => block.join_by(None),
         Deed::JoinGone(a, b) => return join_what_is_gone(block, *a, *b),
@@ -128,18 +141,18 @@ fn act(rt: &impl Abort, block: &mut BlockState, deed: &Deed) -> Result<(), OutOf
         Deed::LandEach => block.land_each(),
         Deed::Take(no, answer) => expect_taken(rt, block.take(PatchNo(*no)), *answer),
         Deed::Back(no, answer) => expect_back(rt, block.put_back(PatchNo(*no)), *answer),
-        Deed::TakeAll => {} // `step` has a view do it.
+        Deed::TakeAll => {} // `expect_shown` has a view do it.
         Deed::Restore => block.put_all_back(),
     }
     Ok(())
 }
 
-// A view that takes all shows these bytes. It is put right again.
-fn expect_without_all(rt: &impl Abort, block: &mut BlockState, want: &[u8]) {
-    let mut view = block.view();
-    view.take_all();
-    assert!(rt; view.bytes() == want);
-    view.restore();
+// After a deed the block shows these bytes.
+fn expect_shown(rt: &impl Abort, block: &mut BlockState, deed: &Deed, want: &[u8]) {
+    match deed {
+        Deed::TakeAll => expect_without_all(rt, block, want),
+        _ => assert!(rt; block.bytes() == want),
+    }
 }
 
 // The last of these lines, after which the block shows the piling of the patches that they lay.
@@ -152,10 +165,7 @@ fn step(
 ) -> Result<(), Fail> {
     act(rt, block, &line.0)?;
     let want = piled(rt, alloc, lines, line.1)?;
-    match line.0 {
-        Deed::TakeAll => expect_without_all(rt, block, want.as_slice()),
-        _ => assert!(rt; block.bytes() == want.as_slice()),
-    }
+    expect_shown(rt, block, &line.0, want.as_slice());
     Ok(())
 }
 
