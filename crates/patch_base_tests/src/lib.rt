@@ -1,6 +1,8 @@
-//! Tests of the crates below the views: words of the cache, orders, tables, skylines, lists of numbers, and what tests share.
+//! Tests of the crates below the views: words of the cache, orders, tables, skylines, lists of numbers, devices, and what tests share.
 #![tactic(auto)]
 
+#[cfg(test)]
+mod device;
 #[cfg(test)]
 mod expecting;
 #[cfg(test)]

@@ -1,5 +1,7 @@
-//! Tests of `patch_files`: scripts on disks in memory and in files, and what fails on the way.
+//! Tests of `patch_files`: scripts on disks in memory and in files, and what fails on the way; and beside them those of `patch_program`.
 #![tactic(auto)]
 
+#[cfg(test)]
+mod program;
 #[cfg(test)]
 mod tests;

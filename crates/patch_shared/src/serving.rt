@@ -1,5 +1,5 @@
 //! How several writers are served by one store.
-ghost use Rattle.std.specs.Prelude.{ℕ, List, ◌≡◌, ◌<◌, ◌≤◌, length, vec_len, map, sum_by, [], IfOk, IfErr, IfSome, OnOk, true};
+ghost use Rattle.std.specs.Prelude.{ℕ, List, ◌≡◌, ◌<◌, ◌≤◌, length, vec_len, map, sum_by, [], IfOk, IfErr, IfSome, IsNone, OnOk, true};
 ghost use Rattle.patch_device.specs.SameDevice.{IsSameDevice};
 ghost use Rattle.patch_cache.specs.Meaning.{Represents as IsCacheOf};
 ghost use Rattle.patch_store.specs.Flushing.{HoldCached};
@@ -197,7 +197,8 @@ fn sum_up<D: Device + Drop, C: Ledger, S: Ledger, T: Ledger>(
 fn cause_of<D: Device, C: Ledger, S: Ledger, T: Ledger>(
     joined: &Joined<D, C, S, T>,
 ) -> Option<Cause>
-    ensures { (before now : ℕ) → RisesAtEnd joined.now.completed.end before now → IfSome result (λ cause. RisesIf cause before now) }
+    ensures cause { (before now : ℕ) → RisesAtEnd joined.now.completed.end before now → IfSome result (λ cause. RisesIf cause before now) }
+    ensures whole { IsNone result → joined.now.flushed.whole ≡ true }
 {
     match joined.completed.end {
         End::GaveUp(block) => Some(Cause::DeviceGaveUp(block)),

@@ -315,26 +315,44 @@ fn refusing_four_times<D: Device>(
     refusing(refusing(refusing(refusing(inner))))
 }
 
-#[test]
-fn eight_devices_in_one_another_end_the_run(rt: HostRuntime) -> Result<(), Fail> {
-    let device = refusing_four_times(refusing_four_times(new_device(rt.alloc())?));
-    match serve_put(&rt, rt.alloc(), device)? {
+// The run ends, and gives back the device, in which so many others are.
+fn expect_nested_gave_up<D: Device + Drop + Send, R: Threads + Wait + Abort + Sync>(
+    rt: &R,
+    alloc: Global,
+    device: D,
+) -> Result<(), Fail> {
+    match serve_put(rt, alloc, device)? {
         Ok(_) => Err(Fail::from("a device that gives up was borne with")),
         Err(fault) => {
-            assert!(&rt; fault.cause == Cause::DeviceGaveUp(BlockNo(3)));
-            assert!(&rt; fault.device.is_some());
+            assert!(rt; fault.cause == Cause::DeviceGaveUp(BlockNo(3)));
+            assert!(rt; fault.device.is_some());
             Ok(())
         }
     }
 }
 
+// The run goes to its end.
+fn expect_nested_borne<D: Device + Drop + Send, R: Threads + Wait + Abort + Sync>(
+    rt: &R,
+    alloc: Global,
+    device: D,
+) -> Result<(), Fail> {
+    let mut outcome = serve_well(rt, alloc, device, one_put(alloc)?, &OpenGate)?;
+    expect_writer(rt, &outcome, 0, &[Told::Done]);
+    expect_settled(rt, alloc, &mut outcome);
+    Ok(())
+}
+
+#[test]
+fn eight_devices_in_one_another_end_the_run(rt: HostRuntime) -> Result<(), Fail> {
+    let inner = new_device(rt.alloc())?;
+    let device = refusing_four_times(refusing_four_times(inner));
+    expect_nested_gave_up(&rt, rt.alloc(), device)
+}
+
 #[test]
 fn seven_devices_in_one_another_do_not(rt: HostRuntime) -> Result<(), Fail> {
-    let alloc = rt.alloc();
-    let three = refusing(refusing(refusing(new_device(alloc)?)));
-    let device = refusing_four_times(three);
-    let mut outcome = serve_well(&rt, alloc, device, one_put(alloc)?, &OpenGate)?;
-    expect_writer(&rt, &outcome, 0, &[Told::Done]);
-    expect_settled(&rt, alloc, &mut outcome);
-    Ok(())
+    let inner = new_device(rt.alloc())?;
+    let device = refusing_four_times(refusing(refusing(refusing(inner))));
+    expect_nested_borne(&rt, rt.alloc(), device)
 }

@@ -1,9 +1,10 @@
 //! Devices in memory, with a failing call and over a file, and each refusal in its turn.
+use crate::expecting::expect_eq;
 use linked_list_allocator::LocalHeap;
 use patch_device::*;
 use patch_model::{BLOCK, BlockBytes, Refuses};
 use std::alloc::{Allocator, Global};
-use std::fmt::{Debug, Display};
+use std::fmt::Display;
 use std::fs;
 use std::fs::File;
 use std::process::Abort;
@@ -13,11 +14,6 @@ mod faulty;
 mod files;
 mod full_disk;
 mod memory;
-
-// Ends the test, telling both, unless what came is what is wanted. A call takes the prover less than `assert_eq!` where it stands.
-fn expect_eq<T: PartialEq + Debug>(rt: &impl Abort, got: &T, want: &T) {
-    assert_eq!(rt; *got, *want);
-}
 
 // Whether the device's block holds this byte throughout.
 fn is_filled<D: Device>(device: &mut D, n: u32, byte: u8) -> bool {

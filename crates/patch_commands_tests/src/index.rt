@@ -1,8 +1,8 @@
 //! An index of four slots: what it answers after each move.
+use crate::expecting::expect_eq;
 use patch_index::{Entry, Index, Key, LiveSlots};
 use patch_model::OutOfMemory;
 use std::alloc::{Allocator, Global};
-use std::fmt::Debug;
 use std::process::Abort;
 use std::test::Fail;
 
@@ -23,11 +23,6 @@ enum Move<'a> {
 }
 
 use Move::{Clear, Fill};
-
-// Ends the test, telling both, unless what came is what is wanted. A call takes the prover less than `assert_eq!` where it stands.
-fn expect_eq<T: PartialEq + Debug>(rt: &impl Abort, got: &T, want: &T) {
-    assert_eq!(rt; *got, *want);
-}
 
 // What is answered then: the lowest empty slot, the slot of the key `k`, and the live slots of extent 1.
 #[derive(Clone, Copy)]
