@@ -236,20 +236,23 @@ fn outcome_of<D: Device + Drop>(
     alloc: Global,
     finished: Finished<D>,
 ) -> Result<Outcome<D>, OutOfMemory> {
+    let cached = cached_blocks(alloc, finished.store.cache())?;
+    let sends = sends_in(finished.store.cache().trace());
+    let live = finished.store.cache().live();
     let Finished {
-        store,
         device,
         replies,
         book,
+        ..
     } = finished;
     Ok(Outcome {
         device,
         replies,
         calls: book.calls.len(),
         counts: book.counts,
-        sends: sends_in(store.cache().trace()),
-        live: store.cache().live(),
-        cached: cached_blocks(alloc, store.cache())?,
+        sends,
+        live,
+        cached,
     })
 }
 
