@@ -1,9 +1,41 @@
 //! `fstch`: keeps keys and values in a file, and replays scripts of patches.
 #![tactic(auto)]
 
+ghost use Rattle.std.specs.Prelude.{◌≡◌, IfErr};
+ghost use Rattle.std.specs.IoError.{error_kind};
+ghost use Rattle.std.specs.Process.{exit_status};
+ghost use Rattle.std.specs.declared.io.ErrorKind.TheVariants.{InvalidData};
+
 use patch_program::{Errors, run, words};
-use std::io::IsTerminal;
+use std::alloc::Global;
+use std::fs::OpenFile;
+use std::io;
+use std::io::{IsTerminal, Read, Write};
+use std::os::unix::fs::FileExt;
 use std::process::ExitCode;
+use std::rt::Files;
+use std::sync::Wait;
+use std::thread::Threads;
+
+/// Does what the words ask for, and gives its exit status to the system.
+fn end_of<F, H, R, W, E>(
+    files: &H,
+    alloc: Global,
+    words: io::Result<Vec<String>>,
+    input: R,
+    output: &mut W,
+    errors: &mut Errors<'_, E>,
+) -> ExitCode
+where
+    F: FileExt + OpenFile + Drop + Send,
+    H: Files<File = F> + Threads + Wait + Sync,
+    R: Read + Drop,
+    W: Write + Drop,
+    E: Write,
+    ensures { IfErr words (λ e. error_kind e ≡ InvalidData → exit_status result ≡ 2) }
+{
+    ExitCode::from(run(files, alloc, words, input, output, errors))
+}
 
 fn main(rt: HostRuntime) -> ExitCode {
     let (mut output, mut errors) = (rt.stdout(), rt.stderr());
@@ -13,13 +45,12 @@ fn main(rt: HostRuntime) -> ExitCode {
         stream: &mut errors,
         is_terminal,
     };
-    let status = run(
+    end_of(
         &rt,
         rt.alloc(),
         words,
         rt.reader(),
         &mut output,
         &mut errors,
-    );
-    ExitCode::from(status)
+    )
 }
