@@ -15,10 +15,10 @@ use Rattle.patch_frame.specs.Geometry.{IsGeometry, block_count, largest_pointer,
 use Rattle.patch_frame.specs.Pointer.{Fits, pointer_at}
 use Rattle.patch_recovery.specs.Closed.{cached_blocks}
 use Rattle.patch_recovery.specs.Reading.{block_on, record_at, bad_pointers}
-use Rattle.patch_extent.specs.declared.records.Extent.{Extent}
-use Rattle.patch_extent.specs.Extents.{no_extent}
+use Rattle.patch_plans.specs.declared.records.Extent.{Extent}
+use Rattle.patch_plans.specs.Extents.{no_extent}
 use Rattle.patch_extent.specs.Opening.{IsBadRecord, AreRecords, record_in}
-use Rattle.patch_extent.specs.Meaning.{Represents, is_point, is_reset, patches_of, last_of}
+use Rattle.patch_plans.specs.Meaning.{Represents, is_point, is_reset, patches_of, last_of}
 use Rattle.patch_extent.specs.Answers.{HasNoPoints}
 use Rattle.patch_extent.proofs.Patches.{on_block, of_entries, cached_on}
 

@@ -17,12 +17,12 @@ use Rattle.patch_model.specs.State.{entries_of, next_patch}
 use Rattle.patch_model.specs.History.{history_of, cached}
 use Rattle.patch_frame.specs.declared.geometries.Geometry.{Geometry}
 use Rattle.patch_frame.specs.Geometry.{extent_blocks, largest_pointer, first_block}
-use Rattle.patch_group.specs.Groups.{Groups, named, with_patch}
+use Rattle.patch_plans.specs.Groups.{Groups, named, with_patch}
 use Rattle.patch_recovery.specs.Change.{Change, Data, Point, Made, step_of, block_of, start_of, bytes_of}
-use Rattle.patch_extent.specs.Extents.{Extents, offset_at, generation_at}
-use Rattle.patch_extent.specs.Planning.{touched, part, part_start, part_end, parts, names_behind, append_plan, reset_plan}
-use Rattle.patch_extent.specs.Writing.{after_change, steps_of, merge_behind, merge_with}
-use Rattle.patch_extent.specs.Meaning.{patches_of}
+use Rattle.patch_plans.specs.Extents.{Extents, offset_at, generation_at}
+use Rattle.patch_plans.specs.Planning.{touched, part, part_start, part_end, parts, names_behind, append_plan, reset_plan}
+use Rattle.patch_plans.specs.Writing.{after_change, steps_of, merge_behind, merge_with}
+use Rattle.patch_plans.specs.Meaning.{patches_of}
 use Rattle.patch_extent.proofs.Patches.{StateLaw, on_block, cached_is, cached_on, cached_long, patches_made, patches_stay}
 use Rattle.patch_extent.specs.Answers.{Setting, IsSettingOf, Append, plan_of, plan_steps, cached_bytes}
 use Rattle.patch_extent.specs.Laws.{byte_at}

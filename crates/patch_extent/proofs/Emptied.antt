@@ -6,9 +6,9 @@ use Rattle.std.proofs.lemmas.Bool.Decides.{nat_tests}
 use Rattle.std.proofs.lemmas.List.{length-set}
 use Rattle.patch_frame.specs.Geometry.{largest_pointer}
 use Rattle.patch_frame.specs.Pointer.{Fits}
-use Rattle.patch_extent.specs.declared.records.Extent.{Extent}
-use Rattle.patch_extent.specs.Empties.{passing}
-use Rattle.patch_extent.specs.Extents.{Extents, AreWhole, no_extent, extent_at, offset_at, empty_extents}
+use Rattle.patch_plans.specs.declared.records.Extent.{Extent}
+use Rattle.patch_plans.specs.Empties.{passing}
+use Rattle.patch_plans.specs.Extents.{Extents, AreWhole, no_extent, extent_at, offset_at, empty_extents}
 use Rattle.patch_extent.proofs.Rising.{alike, but, with}
 
 abbrev pub changed : Extents → ℕ → Extent → Extents

@@ -21,14 +21,14 @@ use Rattle.patch_cache.specs.Meaning.{Represents as IsCacheOf}
 use Rattle.patch_cache.specs.Creating.{IsMade}
 use Rattle.patch_cache.specs.Merging.{IsMerged}
 use Rattle.patch_cache.specs.declared.refusals.MergeRefusal.{MergeRefusal}
-use Rattle.patch_group.specs.Groups.{Groups, named, with_patch}
+use Rattle.patch_plans.specs.Groups.{Groups, named, with_patch}
 use Rattle.patch_recovery.specs.Change.{Point, Made, block_of, start_of, bytes_of}
 use Rattle.patch_extent.specs.declared.places.Appended.{Appended}
-use Rattle.patch_extent.specs.declared.records.Extent.{Extent}
-use Rattle.patch_extent.specs.Extents.{Extents, extent_at, generation_at, offset_at, pointed, after_point}
-use Rattle.patch_extent.specs.Planning.{touched, part_start, part_end, part, parts, names_behind, reset_plan}
-use Rattle.patch_extent.specs.Writing.{merge_with, merge_behind}
-use Rattle.patch_extent.specs.Meaning.{Represents}
+use Rattle.patch_plans.specs.declared.records.Extent.{Extent}
+use Rattle.patch_plans.specs.Extents.{Extents, extent_at, generation_at, offset_at, pointed, after_point}
+use Rattle.patch_plans.specs.Planning.{touched, part_start, part_end, part, parts, names_behind, reset_plan}
+use Rattle.patch_plans.specs.Writing.{merge_with, merge_behind}
+use Rattle.patch_plans.specs.Meaning.{Represents}
 use Rattle.patch_extent.specs.Answers.{Setting, setting, IsSettingOf, AreMade, IsWritten, IsBegun, Append, plan_of, place_for, plan_steps}
 use Rattle.patch_extent.specs.Appending.{IsPatched, MergesBehind, IsDone, parts_of}
 use Rattle.patch_extent.proofs.Patches.{StateLaw, patches_made, entries_made, entries_stay, cached_long}

@@ -6,11 +6,11 @@ use Rattle.patch_model.specs.declared.patches.Undo.TheVariants.{MayDrop}
 use Rattle.patch_model.specs.Step.{Merge}
 use Rattle.patch_model.specs.Execution.{Execution, extended, followed_by}
 use Rattle.patch_model.specs.State.{entries_of}
-use Rattle.patch_group.specs.Groups.{Groups, named, with_patch}
-use Rattle.patch_group.specs.Order.{AreGroupsOf, StepsKeep, PatchesKeep}
+use Rattle.patch_plans.specs.Groups.{Groups, named, with_patch}
+use Rattle.patch_plans.specs.Order.{AreGroupsOf, StepsKeep, PatchesKeep}
 use Rattle.patch_recovery.specs.Change.{Change, Data, Point, Fill, Clear, Widen, Made, step_of, block_of, start_of, bytes_of}
-use Rattle.patch_extent.specs.Extents.{Extents, extent_at}
-use Rattle.patch_extent.specs.Writing.{after_change, with_patches, steps_of, merge_behind, merge_with}
+use Rattle.patch_plans.specs.Extents.{Extents, extent_at}
+use Rattle.patch_plans.specs.Writing.{after_change, with_patches, steps_of, merge_behind, merge_with}
 use Rattle.patch_extent.proofs.Patches.{StateLaw, entries_made, entries_stay}
 use Rattle.patch_extent.proofs.Making.{followed_both, followed_none}
 

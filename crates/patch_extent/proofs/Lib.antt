@@ -1,4 +1,3 @@
-pub mod Joining
 pub mod Patches
 pub mod Standing
 pub mod Making

@@ -6,13 +6,13 @@ use Rattle.std.proofs.lemmas.List.{length-append, length-map, length-replicate, 
 use Rattle.patch_model.specs.Step.{Step}
 use Rattle.patch_model.specs.Execution.{Execution, extended, followed_by}
 use Rattle.patch_model.specs.State.{entries_of}
-use Rattle.patch_group.specs.Groups.{Groups, with_patch, named}
+use Rattle.patch_plans.specs.Groups.{Groups, with_patch, named}
 use Rattle.patch_recovery.specs.Change.{Made, step_of}
-use Rattle.patch_extent.specs.Extents.{Extents}
-use Rattle.patch_extent.specs.Planning.{parts, part}
-use Rattle.patch_extent.specs.Writing.{after_change, after_plan, with_patches, steps_of, merge_behind}
+use Rattle.patch_plans.specs.Extents.{Extents}
+use Rattle.patch_plans.specs.Planning.{parts, part}
+use Rattle.patch_plans.specs.Writing.{after_change, after_plan, with_patches, steps_of, merge_behind}
 use Rattle.patch_extent.specs.Answers.{Setting, IsSettingOf, AreMade, plan_steps}
-use Rattle.patch_extent.proofs.Joining.{after_plan-++, with_patches-+, joined, joined_none, no_choices_of}
+use Rattle.patch_plans.specs.Joining.{after_plan-++, with_patches-+, joined, joined_none, no_choices_of}
 use Rattle.patch_extent.proofs.Patches.{StateLaw, entries_made}
 
 -- steps behind steps

@@ -21,7 +21,7 @@ use Rattle.patch_model.specs.Member.{In, Contains-from_In}
 use Rattle.patch_recovery.specs.Closed.{cached_blocks}
 use Rattle.patch_recovery.specs.Reading.{block_on}
 use Rattle.patch_recovery.specs.Store.{makes_nothing}
-use Rattle.patch_extent.specs.Meaning.{patches_of}
+use Rattle.patch_plans.specs.Meaning.{patches_of}
 
 -- what patch_model says of one step more
 abbrev pub StateLaw : Type 0

@@ -6,7 +6,7 @@ use Rattle.std.specs.List.Sorted.{IsPartitionPoint, IsPartitionedBy}
 use Rattle.std.proofs.lemmas.Bool.{cases_Bool, cases_order, cases_eq}
 use Rattle.std.proofs.lemmas.Bool.Decides.{nat_tests}
 use Rattle.std.proofs.lemmas.List.Elements.{filter-append}
-use Rattle.patch_extent.specs.Empties.{passing, AreSome}
+use Rattle.patch_plans.specs.Empties.{passing, AreSome}
 use Rattle.patch_extent.proofs.Making.{range_more}
 
 -- those from a number on, so many of them looked at

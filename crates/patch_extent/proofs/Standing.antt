@@ -21,8 +21,8 @@ use Rattle.patch_frame.specs.Pointer.{Fits, spelling, pointer_of, pointer_at}
 use Rattle.patch_recovery.specs.Closed.{cached_blocks}
 use Rattle.patch_recovery.specs.Reading.{block_on}
 use Rattle.patch_recovery.specs.Store.{makes_nothing}
-use Rattle.patch_extent.specs.Extents.{Extents, no_extent, extent_at, AreWhole, pointed, after_point}
-use Rattle.patch_extent.specs.Meaning.{Represents, is_point, is_reset, patches_of, last_of}
+use Rattle.patch_plans.specs.Extents.{Extents, no_extent, extent_at, AreWhole, pointed, after_point}
+use Rattle.patch_plans.specs.Meaning.{Represents, is_point, is_reset, patches_of, last_of}
 use Rattle.patch_extent.proofs.Patches.{StateLaw, fold_more, cached_here, cached_elsewhere, cached_alike, cached_on, patches_stay}
 
 -- what patch_frame says of pointer records

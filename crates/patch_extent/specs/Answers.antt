@@ -10,15 +10,15 @@ use Rattle.patch_frame.specs.Geometry.{pointer_block}
 use Rattle.patch_cache.specs.Contents.{Contents}
 use Rattle.patch_cache.specs.Meaning.{Represents as IsCacheOf}
 use Rattle.patch_cache.specs.Refusals.{IsCause}
-use Rattle.patch_group.specs.Groups.{Groups}
+use Rattle.patch_plans.specs.Groups.{Groups}
 use Rattle.patch_recovery.specs.Change.{Made}
 use Rattle.patch_recovery.specs.Closed.{cached_blocks}
 use Rattle.patch_recovery.specs.Ledger.{bytes_at}
 use Rattle.patch_recovery.specs.Reading.{bad_pointers, ledger_in}
-use Rattle.patch_extent.specs.Extents.{Extents, generation_at, offset_at}
-use Rattle.patch_extent.specs.Planning.{append_plan, reset_plan, touched}
-use Rattle.patch_extent.specs.Writing.{after_plan, with_patches, steps_of}
-use Rattle.patch_extent.specs.Meaning.{Represents}
+use Rattle.patch_plans.specs.Extents.{Extents, generation_at, offset_at}
+use Rattle.patch_plans.specs.Planning.{append_plan, reset_plan, touched}
+use Rattle.patch_plans.specs.Writing.{after_plan, with_patches, steps_of}
+use Rattle.patch_plans.specs.Meaning.{Represents}
 use Rattle.patch_extent.specs.Refusing.{why_not_appended, why_not_reset}
 use Rattle.patch_extent.specs.Refusals.{append_cause, reset_cause}
 use Rattle.patch_extent.specs.declared.places.Place.{Place}

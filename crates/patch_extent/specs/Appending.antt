@@ -6,12 +6,12 @@ use Rattle.patch_model.specs.Execution.{Execution, extended, followed_by}
 use Rattle.patch_model.specs.State.{entries_of}
 use Rattle.patch_cache.specs.Contents.{Contents}
 use Rattle.patch_cache.specs.Meaning.{Represents as IsCacheOf}
-use Rattle.patch_group.specs.Groups.{Groups, patch_of, with_patch}
+use Rattle.patch_plans.specs.Groups.{Groups, patch_of, with_patch}
 use Rattle.patch_extent.specs.declared.places.Appended.{Appended}
-use Rattle.patch_extent.specs.Extents.{offset_at}
+use Rattle.patch_plans.specs.Extents.{offset_at}
 use Rattle.patch_recovery.specs.Change.{Made}
-use Rattle.patch_extent.specs.Planning.{parts, touched}
-use Rattle.patch_extent.specs.Writing.{merge_with}
+use Rattle.patch_plans.specs.Planning.{parts, touched}
+use Rattle.patch_plans.specs.Writing.{merge_with}
 use Rattle.patch_extent.specs.Answers.{Setting, IsSettingOf, AreMade, IsWritten, IsBegun, Append, plan_of, place_for}
 
 -- a patch was made of a writer, or of none

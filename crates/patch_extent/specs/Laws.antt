@@ -5,24 +5,17 @@ use Rattle.patch_model.specs.State.{entries_of}
 use Rattle.patch_model.specs.Execution.{Execution, extended, followed_by}
 use Rattle.patch_frame.specs.declared.geometries.Geometry.{Geometry}
 use Rattle.patch_frame.specs.Geometry.{largest_pointer}
-use Rattle.patch_group.specs.Groups.{Groups}
-use Rattle.patch_group.specs.Order.{AreGroupsOf}
+use Rattle.patch_plans.specs.Groups.{Groups}
+use Rattle.patch_plans.specs.Order.{AreGroupsOf}
 use Rattle.patch_recovery.specs.Change.{Made}
 use Rattle.patch_recovery.specs.Closed.{cached_blocks}
 use Rattle.patch_recovery.specs.Reading.{ledger_in}
 use Rattle.patch_recovery.specs.Store.{makes_nothing}
-use Rattle.patch_extent.specs.Extents.{Extents, offset_at}
-use Rattle.patch_extent.specs.Planning.{reset_plan}
-use Rattle.patch_extent.specs.Writing.{after_plan, with_patches, steps_of}
-use Rattle.patch_extent.specs.Meaning.{Represents}
+use Rattle.patch_plans.specs.Extents.{Extents, offset_at}
+use Rattle.patch_plans.specs.Planning.{reset_plan}
+use Rattle.patch_plans.specs.Writing.{after_plan, with_patches, steps_of}
+use Rattle.patch_plans.specs.Meaning.{Represents}
 use Rattle.patch_extent.specs.Answers.{Setting, IsSettingOf, Append, plan_of, plan_steps, cached_bytes}
-
--- the steps of two plans, one after the other, are those of the first and then those of the second
-abbrev pub PlansJoin : Type 0
-PlansJoin =
-    (s : Extents) (gs : Groups) (w : Option ℕ) (n : ℕ) (p q : List Made) (cs ds : List Bool) → length cs ≡ length p
-    → steps_of (cs ++ ds) s gs w n (p ++ q)
-    ≡ steps_of cs s gs w n p ++ steps_of ds (after_plan s n p) (with_patches gs w n (length p)) w (n + length p) q
 
 -- a merge, a send or a completion leaves the extents as they are
 abbrev pub OtherStepsLeaveExtents : Type 0

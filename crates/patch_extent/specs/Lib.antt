@@ -1,8 +1,3 @@
-pub mod Empties
-pub mod Extents
-pub mod Planning
-pub mod Writing
-pub mod Meaning
 pub mod Opening
 pub mod Refusing
 pub mod Refusals

@@ -3,8 +3,8 @@ use Rattle.std.specs.Prelude.{ℕ, true, ◌≡◌, ◌+◌, ◌<◌, List, leng
 use Rattle.patch_frame.specs.declared.geometries.Geometry.{Geometry}
 use Rattle.patch_frame.specs.Geometry.{largest_pointer, pointer_start}
 use Rattle.patch_frame.specs.Pointer.{Fits, pointer_at}
-use Rattle.patch_extent.specs.declared.records.Extent.{Extent}
-use Rattle.patch_extent.specs.Extents.{no_extent}
+use Rattle.patch_plans.specs.declared.records.Extent.{Extent}
+use Rattle.patch_plans.specs.Extents.{no_extent}
 
 -- the bytes of an extent's record
 abbrev pub record_in : List ℕ → ℕ → List ℕ

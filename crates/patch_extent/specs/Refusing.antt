@@ -8,18 +8,11 @@ use Rattle.patch_model.specs.Entry.{Entry, is_live}
 use Rattle.patch_model.specs.Refusing.{bare}
 use Rattle.patch_frame.specs.Geometry.{largest_pointer}
 use Rattle.patch_cache.specs.Contents.{Contents}
-use Rattle.patch_extent.specs.Extents.{Extents, generation_at, offset_at}
-use Rattle.patch_extent.specs.Planning.{touched}
+use Rattle.patch_plans.specs.Extents.{Extents, generation_at, offset_at}
+use Rattle.patch_plans.specs.Planning.{touched}
 use Rattle.patch_extent.specs.declared.places.Place.{Place}
 
--- why so many more patches aren't made, where so many were made and so many are live
-abbrev pub why_no_room : (made live count : ℕ) → Option Refusal
-why_no_room made live count =
-    if nat_lt MAX_PATCHES (made + count) then Some (bare kind.NumbersSpent)
-    else if nat_lt MAX_LIVE (live + count) then Some (bare kind.TooManyLive)
-    else None
-
--- nor by a caller who names these
+-- why so many more patches aren't made by a caller who names these, where so many were made and so many are live
 abbrev pub why_not_behind : (made live : ℕ) (after : List ℕ) (count : ℕ) → Option Refusal
 why_not_behind made live after count =
     if list_any (λ n. nat_le made n) after then Some (bare kind.UnknownDependency) else why_no_room made live count

@@ -3,9 +3,9 @@ use Rattle.std.specs.Prelude.{ℕ, List, [], ◌∷◌, length, map, replicate, 
 use Rattle.patch_model.specs.Step.{Step, Create, Merge, Send, Complete}
 use Rattle.patch_frame.specs.declared.geometries.Format.{Format}
 use Rattle.patch_recovery.specs.Change.{Made}
-use Rattle.patch_extent.specs.Extents.{Extents, no_extent}
-use Rattle.patch_extent.specs.Planning.{append_plan, reset_plan}
-use Rattle.patch_extent.specs.Writing.{after_plan, Written}
+use Rattle.patch_plans.specs.Extents.{Extents, no_extent}
+use Rattle.patch_plans.specs.Planning.{append_plan, reset_plan}
+use Rattle.patch_plans.specs.Writing.{after_plan, Written}
 
 abbrev pub at_first : Format → Extents
 at_first format = record { geometry = record { index = 1; extents = 2; format = format }; each = no_extent ∷ no_extent ∷ [] }

@@ -6,7 +6,7 @@ ghost use Rattle.patch_frame.specs.Geometry.{largest_pointer, pointer_block, poi
 ghost use Rattle.patch_frame.specs.Pointer.{Fits, spelling};
 ghost use Rattle.patch_cache.specs.Meaning.{Represents as IsCacheOf};
 ghost use Rattle.patch_extent.specs.declared.refusals.AppendRefusal.TheVariants as append;
-ghost use Rattle.patch_extent.specs.Extents.{offset_at};
+ghost use Rattle.patch_plans.specs.Extents.{offset_at};
 ghost use Rattle.patch_extent.specs.Refusals.{append_cause};
 ghost use Rattle.patch_extent.specs.Refusing.{why_not_appended};
 ghost use Rattle.patch_extent.specs.Answers.{setting, asked, AnswersAppend};

@@ -1,11 +1,11 @@
 //! Which extents are empty.
 ghost use Rattle.std.specs.Prelude.{ℕ, Bool, ◌≡◌, ◌<◌, ◌≤◌, ◌&&◌, ◌||◌, ◌==◌, not, nat_lt, length, slice_index_or};
 ghost use Rattle.std.specs.List.Sorted.{IsPartitionPoint};
-ghost use Rattle.patch_extent.specs.Empties.{passing, AreSome};
-ghost use Rattle.patch_extent.specs.Extents.{is_empty_in};
+ghost use Rattle.patch_plans.specs.Empties.{passing, AreSome};
+ghost use Rattle.patch_plans.specs.Extents.{is_empty_in};
 
-use crate::records::Extent;
 use patch_order::Order;
+use patch_plans::Extent;
 use std::marker::Model;
 
 // The most extents of a disk.

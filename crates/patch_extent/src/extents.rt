@@ -2,7 +2,7 @@
 ghost use Rattle.std.specs.Prelude.{ℕ, ◌≡◌, ◌<◌, ◌≤◌, length, Err, IfOk, OnErr};
 ghost use Rattle.patch_frame.specs.declared.geometries.Format.TheVariants.{One};
 ghost use Rattle.patch_frame.specs.Geometry.{IsGeometry, block_count};
-ghost use Rattle.patch_extent.specs.Extents.{generation_at, offset_at, empty_extents as the_empty_extents};
+ghost use Rattle.patch_plans.specs.Extents.{generation_at, offset_at, empty_extents as the_empty_extents};
 ghost use Rattle.patch_frame.specs.Field.{are_zeros};
 ghost use Rattle.patch_recovery.specs.Change.{widened};
 ghost use Rattle.patch_extent.specs.declared.refusals.ExtentsFault.TheVariants.{BadPointer};
@@ -10,11 +10,11 @@ ghost use Rattle.patch_extent.specs.Opening.{AreRecords, IsRecord, IsBadRecord};
 ghost use Rattle.patch_extent.specs.Answers.{IsOpened};
 
 use crate::empties::EmptyExtents;
-use crate::records::Extent;
 use crate::refusals::ExtentsFault;
 use patch_cache::Cache;
 use patch_frame::{Format, Geometry, POINTER_BYTES, Pointer, pointer_start, read_pointer_within};
 use patch_model::{BLOCK, BlockNo, laws as model_laws};
+use patch_plans::Extent;
 use std::alloc::{Allocator, Global};
 use std::marker::Model;
 
@@ -32,7 +32,7 @@ pub struct Extents<A: Allocator + Copy = Global> {
 
 impl<A: Allocator + Copy> Model for Extents<A> {
     ghost use Rattle.std.specs.Prelude.{◌≡◌};
-    ghost use Rattle.patch_extent.specs.Extents.{Extents as Kept, AreWhole, empty_extents as the_empty_extents};
+    ghost use Rattle.patch_plans.specs.Extents.{Extents as Kept, AreWhole, empty_extents as the_empty_extents};
 
     ghost Value = { Kept };
 

@@ -1,17 +1,12 @@
 //! Laws of plans and of what they leave of the bytes, each the contract of a function that does nothing.
-ghost use Rattle.patch_extent.specs.Laws.{PlansJoin, PlansKeepGroups, OtherStepsLeaveExtents, AppendsPutBytes, AppendsKeepBytes, ResetsKeepBytes};
-
-/// The steps of two plans, one after the other, are those of the first and then those of the second.
-pub fn plans_join()
-    ensures { PlansJoin }
-{}
+ghost use Rattle.patch_extent.specs.Laws.{PlansKeepGroups, OtherStepsLeaveExtents, AppendsPutBytes, AppendsKeepBytes, ResetsKeepBytes};
 
 /// Groups stay those of the execution over a plan: each patch of a group names all patches of all groups before it.
 pub fn plans_keep_groups()
     ensures { PlansKeepGroups }
 {
     patch_model::laws::steps_extend();
-    patch_group::laws::order_is_kept();
+    patch_plans::laws::order_is_kept();
 }
 
 /// Merges, sends and completions leave the extents as they are: only patches move their pointers.

@@ -13,7 +13,6 @@ pub mod laws;
 mod parting;
 mod places;
 mod reading;
-mod records;
 mod refusals;
 mod resetting;
 mod rows;

@@ -1,7 +1,7 @@
 //! How bytes are cut into the parts of the blocks that they touch, and what the patches of a plan name.
 ghost use Rattle.std.specs.Prelude.{◌≡◌, ◌+◌, ◌<◌, ◌≤◌, ◌^◌, ◌++◌, IfOk, option_to_list};
 ghost use Rattle.std.specs.List.{range_with_len};
-ghost use Rattle.patch_extent.specs.Planning.{touched, part_start, part_end};
+ghost use Rattle.patch_plans.specs.Planning.{touched, part_start, part_end};
 
 use patch_model::{BLOCK, OutOfMemory, PatchNo};
 use std::alloc::Allocator;

@@ -6,7 +6,7 @@ ghost use Rattle.patch_cache.specs.Meaning.{Represents as IsCacheOf};
 ghost use Rattle.patch_cache.specs.Refusals.{IsCause};
 ghost use Rattle.patch_extent.specs.Refusals.{read_cause};
 ghost use Rattle.patch_extent.specs.Refusing.{why_not_read};
-ghost use Rattle.patch_extent.specs.Meaning.{Represents};
+ghost use Rattle.patch_plans.specs.Meaning.{Represents};
 ghost use Rattle.patch_extent.specs.Answers.{cached_bytes};
 
 use crate::extents::Extents;

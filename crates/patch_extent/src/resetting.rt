@@ -8,19 +8,19 @@ ghost use Rattle.patch_frame.specs.Geometry.{largest_pointer, pointer_block, poi
 ghost use Rattle.patch_frame.specs.Pointer.{Fits, spelling};
 ghost use Rattle.patch_cache.specs.Creating.{IsMade};
 ghost use Rattle.patch_cache.specs.Meaning.{Represents as IsCacheOf};
-ghost use Rattle.patch_group.specs.Groups.{Groups as TheGroups};
-ghost use Rattle.patch_extent.specs.Extents.{generation_at};
+ghost use Rattle.patch_plans.specs.Groups.{Groups as TheGroups};
+ghost use Rattle.patch_plans.specs.Extents.{generation_at};
 ghost use Rattle.patch_extent.specs.Refusals.{reset_cause};
 ghost use Rattle.patch_extent.specs.Refusing.{why_not_reset};
 ghost use Rattle.patch_extent.specs.Answers.{setting, AnswersReset};
 
 use crate::counting::count_patches;
 use crate::extents::Extents;
-use crate::records::Extent;
 use crate::refusals::ResetRefusal;
 use patch_cache::Cache;
 use patch_frame::{Pointer, laws as frame_laws, pointer_start, write_pointer};
 use patch_model::{BlockNo, OutOfMemory, PatchNo, Undo, laws as model_laws};
+use patch_plans::Extent;
 use std::alloc::Allocator;
 
 impl<A: Allocator + Copy> Extents<A> {

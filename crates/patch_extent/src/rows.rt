@@ -4,9 +4,9 @@ ghost use Rattle.patch_model.specs.declared.refusals.RefusalKind.TheVariants as 
 ghost use Rattle.patch_model.specs.Refusing.{bare};
 ghost use Rattle.patch_model.specs.Step.{Merge};
 ghost use Rattle.patch_frame.specs.declared.geometries.Format.TheVariants.{One, Two};
-ghost use Rattle.patch_extent.specs.Planning.{append_plan};
+ghost use Rattle.patch_plans.specs.Planning.{append_plan};
 ghost use Rattle.patch_extent.specs.Refusing.{why_not_appended, why_not_reset, why_not_read};
-ghost use Rattle.patch_extent.specs.Writing.{written};
+ghost use Rattle.patch_plans.specs.Writing.{written};
 ghost use Rattle.patch_extent.specs.Rows.{at_first, first_plan, second, second_plan, third, third_plan, fourth, fourth_plan, fifth, sevens, outlines, merges, last_bytes};
 
 // Two blocks touched, then the pointer record behind both.

@@ -10,10 +10,11 @@ use Rattle.patch_model.specs.State.{entries_of, state_of, after_step}
 use Rattle.patch_model.specs.Orderly.{IsNumbered}
 use Rattle.patch_cache.specs.Asks.{Ask as CacheAsk, Answer as CacheAnswer, after, extended_by, step_for}
 use Rattle.patch_cache.specs.Asks as cache
-use Rattle.patch_group.specs.Groups.{Groups, named, with_patch}
+use Rattle.patch_plans.specs.Groups.{Groups, named, with_patch}
 use Rattle.patch_group.specs.Asks.{Ask, Answer, Part, Plain, Patch, Group, Engage, Disengage, Depend, Close, Pending, GroupMade, Done, Count, Refused, unless, is_refused, IsGroupAnswer, IsGroupGivenUp, after_parts, part_of, parts, run_after, groups_after, groups_after_all}
-use Rattle.patch_group.specs.Order.{AreGroupsOf, AsksKeep}
-use Rattle.patch_group.proofs.Standing.{steps_keep, patches_keep, begun_keeps, engaged_keeps, disengaged_keeps, ordered_keeps, closed_keeps}
+use Rattle.patch_plans.specs.Order.{AreGroupsOf}
+use Rattle.patch_group.specs.Promise.{AsksKeep}
+use Rattle.patch_plans.specs.Ordering.{steps_keep, patches_keep, begun_keeps, engaged_keeps, disengaged_keeps, ordered_keeps, closed_keeps}
 
 -- a call that isn't refused has no cause against it
 pub accepted : (cause : Option Refusal) (told answer : Answer) → answer ≡ unless cause told → is_refused answer ≡ false → cause ≡ None

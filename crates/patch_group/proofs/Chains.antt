@@ -4,13 +4,13 @@ use Rattle.std.specs.Prelude.{Contains, if◌then◌else◌}
 use Rattle.std.proofs.lemmas.Bool.{cases_Bool, both_ways, cases_eq}
 use Rattle.patch_model.specs.Execution.{Execution}
 use Rattle.patch_model.specs.Member.{In, In-from_Contains, Contains-from_In}
-use Rattle.patch_group.specs.Groups.{Groups, Group as Kept, group_at, before, no_groups, engaged, ordered, closed, with_patch, fresh, why_not_ordered, engaged_by}
+use Rattle.patch_plans.specs.Groups.{Groups, Group as Kept, group_at, before, no_groups, engaged, ordered, closed, with_patch, fresh, why_not_ordered, engaged_by}
 use Rattle.patch_group.specs.Asks.{Ask, Answer, Plain, Patch, Group, Engage, Disengage, Depend, Close, Pending, GroupMade, Done, Count, Refused, is_refused, with_made, with_answer, changed, IsGroupAnswer, IsGroupGivenUp, run_after, groups_after, AreGroupAnswers, groups_after_all}
 use Rattle.patch_cache.specs.Asks.{Answer as CacheAnswer}
 use Rattle.patch_cache.specs.Asks as cache
-use Rattle.patch_group.specs.Order.{Chain, one, onward, order_of, orders_after, BeforeIsAChain}
-use Rattle.patch_group.proofs.Members.{In-append_left, In-append_right, append-In, In-rising, rising-In, at_set}
-use Rattle.patch_group.proofs.Standing.{may_order, IsOrdered, ordered_at, on_sealed, now_before, entered_at, get_or-push}
+use Rattle.patch_group.specs.Promise.{Chain, one, onward, order_of, orders_after, BeforeIsAChain}
+use Rattle.patch_plans.specs.Members.{In-append_left, In-append_right, append-In, In-rising, rising-In, at_set}
+use Rattle.patch_plans.specs.Ordering.{may_order, IsOrdered, ordered_at, on_sealed, now_before, entered_at, get_or-push}
 use Rattle.patch_group.proofs.Asking.{accepted, refusal}
 
 -- the groups before each are those that chains of these orders lead to, and what an order leads to is sealed

@@ -3,10 +3,10 @@ use Rattle.std.proofs.Common.{◌≡◌, ◌≢◌, ℕ, zero, suc, ◌+◌, ◌
 use Rattle.std.specs.Prelude.{◌==◌}
 use Rattle.std.proofs.lemmas.Bool.{cases_Bool, eq-eqb}
 use Rattle.patch_model.specs.Member.{In, In-from_Contains, Contains-from_In, In-filter}
-use Rattle.patch_group.specs.Groups.{Group, AreApart, entered}
+use Rattle.patch_plans.specs.Groups.{Group, AreApart, entered}
 use Rattle.patch_group.specs.declared.records.Record.{Record}
 use Rattle.patch_group.specs.Records.{names_of, HasRoomAt, HaveRoom}
-use Rattle.patch_group.proofs.Members.{append-In, In-map}
+use Rattle.patch_plans.specs.Members.{append-In, In-map}
 
 pub names_of-mine : (es : List (ℕ × ℕ)) (writer : ℕ) (e : ℕ × ℕ) → (e.0 == writer) ≡ true → names_of (es ++ e ∷ []) writer ≡ names_of es writer ++ e.1 ∷ []
 names_of-mine [] writer e t = rw t refl

@@ -4,9 +4,8 @@ use Rattle.std.specs.Prelude.{◌==◌, ◌&&◌}
 use Rattle.std.specs.List.{list_any}
 use Rattle.std.proofs.lemmas.Bool.{both_ways, and_from, eq-eqb}
 use Rattle.std.proofs.lemmas.List.{map-set, length-map}
-use Rattle.std.proofs.lemmas.List.Quantifiers.{all_pairs_push}
 use Rattle.patch_model.specs.Member.{list_any-from, In-from_Contains}
-use Rattle.patch_group.specs.Groups.{Group, Groups, AreApart, fresh, is_open, is_engaged, is_engaged_by, why_not_disengaged, why_not_closed}
+use Rattle.patch_plans.specs.Groups.{Group, Groups, AreApart, fresh, is_open, is_engaged, is_engaged_by, why_not_disengaged, why_not_closed}
 use Rattle.patch_group.specs.declared.records.Record.{Record}
 use Rattle.patch_group.specs.Records.{group_of}
 
@@ -27,18 +26,6 @@ may_disengage gs writer group a b = rw (a, b) refl
 
 pub may_close : (gs : Groups) (group : ℕ) → is_open gs group ≡ true → is_engaged gs group ≡ false → why_not_closed gs group ≡ None
 may_close gs group a b = rw (a, b) refl
-
--- one engagement more, which wasn't there
-pub apart_more : (es : List (ℕ × ℕ)) (writer group : ℕ) → AreApart es → list_any (λ e. e.0 == writer && e.1 == group) es ≡ false → AreApart (es ++ (writer, group) ∷ [])
-apart_more es writer group apart new = all_pairs_push (λ d e. d ≡ e → ⊥) es (writer, group) apart (λ k d l same.
-    let there : get_or es k (get_or es k d) ≡ get_or es k d = same_default es k (get_or es k d) d l in
-    let t : (((get_or es k d).0 == writer) && ((get_or es k d).1 == group)) ≡ true = and_from _ _ (eq-eqb _ _ (ap (λ x. x.0) same)) (eq-eqb _ _ (ap (λ x. x.1) same)) in
-    both_ways _ new (list_any-from (λ e. e.0 == writer && e.1 == group) es (get_or es k d) (In-from_Contains es (get_or es k d) (k, l, there)) t))
-  where
-    same_default : (xs : List (ℕ × ℕ)) (i : ℕ) (d e : ℕ × ℕ) → i < length xs → get_or xs i d ≡ get_or xs i e
-    same_default [] i d e l = absurd (omega (arith, l))
-    same_default (x ∷ xs) zero d e l = refl
-    same_default (x ∷ xs) (suc i) d e l = same_default xs i d e (omega (arith, l))
 
 -- a group that is known is kept
 pub within : {A : Type 0} → (records : List (Record A)) (now : Groups) (group at : ℕ) → map group_of records ≡ now.groups → at ≡ group → group < length now.groups → at < length records

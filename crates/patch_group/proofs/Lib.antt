@@ -1,6 +1,4 @@
-pub mod Members
 pub mod Keeping
-pub mod Standing
 pub mod Asking
 pub mod Chains
 pub mod Promising

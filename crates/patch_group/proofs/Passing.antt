@@ -11,7 +11,7 @@ use Rattle.patch_cache.specs.Asks.{Ask as CacheAsk, Answer as CacheAnswer, after
 use Rattle.patch_cache.specs.Asks as cache
 use Rattle.patch_cache.specs.Running.{IsCrashSafe, CountFaults, HaveWritten}
 use Rattle.patch_cache.specs.declared.flights.Flights.{Flights}
-use Rattle.patch_group.specs.Groups.{Groups}
+use Rattle.patch_plans.specs.Groups.{Groups}
 use Rattle.patch_group.specs.Asks.{Ask, Answer, Part, cache_asks, cache_answers, after_parts, steps_of, part_of, parts, run_after, run_after_all, groups_after, groups_after_all, IsGroupAnswer, IsGroupGivenUp, AreGroupAnswers}
 use Rattle.patch_group.specs.Runs.{asks_of, group_ask_of, group_answer_of, RunsWith, HasPassed, IsGroupAnswered, HasGroupRun}
 use Rattle.patch_group.specs.declared.asks.GroupAsk.{GroupAsk as CodeAsk}

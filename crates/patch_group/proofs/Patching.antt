@@ -22,9 +22,9 @@ use Rattle.patch_cache.specs.Flights.{AreFlightsOf}
 use Rattle.patch_cache.specs.Running.{Runs, IsAnswered, IsCrashSafe, HasWritten, held_by}
 use Rattle.patch_cache.specs.declared.flights.Flight.{Flight}
 use Rattle.patch_cache.specs.declared.flights.Flights.{Flights}
-use Rattle.patch_group.specs.Groups.{Groups, named}
+use Rattle.patch_plans.specs.Groups.{Groups, named}
 use Rattle.patch_group.specs.Asks.{Ask, Answer, Part, Plain, Patch, GroupMade, Done, Count, Refused, IsGroupAnswer, IsGroupGivenUp, after_parts, part_of, run_after, groups_after}
-use Rattle.patch_group.specs.Order.{AreGroupsOf}
+use Rattle.patch_plans.specs.Order.{AreGroupsOf}
 use Rattle.patch_group.specs.Runs.{RunsWith, IsGroupAnswered, IsPatched}
 use Rattle.patch_group.proofs.Asking.{ask_keeps, groups_plain}
 use Rattle.patch_group.proofs.Passing.{unmoved, parts_follow}

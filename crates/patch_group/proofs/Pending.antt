@@ -7,7 +7,7 @@ use Rattle.std.proofs.lemmas.List.Sums.{sum_by-cons}
 use Rattle.patch_model.specs.Entry.{Entry, is_live, marks_durable}
 use Rattle.patch_model.specs.Member.{In, Contains-from_In, list_any-from, list_any-at}
 use Rattle.patch_model.specs.Orderly.{IsOrderly, IsNumbered}
-use Rattle.patch_group.specs.Groups.{is_pending}
+use Rattle.patch_plans.specs.Groups.{is_pending}
 
 pub pending_at : (all : List Entry) (n : ℕ) (e : Entry) → IsOrderly all → In all e → e.patch.no ≡ n → is_pending all n ≡ not (marks_durable e.mark)
 pending_at all n e orderly i named = elim (cases_Bool (is_live e)) [

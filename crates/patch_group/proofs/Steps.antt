@@ -13,7 +13,7 @@ use Rattle.patch_cache.specs.Flights.{AreFlightsOf}
 use Rattle.patch_cache.specs.Joining.{SinceJoin}
 use Rattle.patch_cache.specs.Waves.{is_send, is_write, steps_since, Continues, HasWrittenOne}
 use Rattle.patch_cache.specs.declared.flights.Flight.{Flight}
-use Rattle.patch_group.specs.Groups.{is_pending}
+use Rattle.patch_plans.specs.Groups.{is_pending}
 use Rattle.patch_group.specs.Syncing.{NonePending, SomePending, NoneFly, IsSynced, settled, ended, written}
 use Rattle.patch_group.proofs.Pending.{FailsToo, one_first, none_left}
 use Rattle.patch_group.proofs.Writing.{StatesExtend, LargestLaw, flat, same_run, step_none, stays_past, since_both}

@@ -7,11 +7,11 @@ use Rattle.std.proofs.lemmas.Bool.{cases_lt, cases_eq}
 use Rattle.std.proofs.lemmas.List.{take_more, take_all}
 use Rattle.std.proofs.lemmas.List.Sorted.{Contains-permutation, IsPermutation-sym}
 use Rattle.patch_model.specs.Member.{In, In-from_Contains, Contains-from_In}
-use Rattle.patch_group.specs.Rising.{rising}
+use Rattle.patch_plans.specs.Rising.{rising}
 use Rattle.patch_group.specs.Records.{first_of, numbers_of, numbers_from, patches_in}
 use Rattle.patch_group.specs.declared.records.Run.{Run}
 use Rattle.patch_group.proofs.Arranging.{AreRising, rising_same, rising-rises}
-use Rattle.patch_group.proofs.Members.{In-append_left, In-append_right, append-In, In-rising, rising-In, In-flat_map, flat_map-In}
+use Rattle.patch_plans.specs.Members.{In-append_left, In-append_right, append-In, In-rising, rising-In, In-flat_map, flat_map-In}
 use Rattle.patch_group.proofs.Ranges.{patches_in-push}
 
 range-In : (a n x : ℕ) → In (range_with_len a n) x → (a ≤ x) × (x < a + n)

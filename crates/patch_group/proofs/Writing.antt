@@ -17,9 +17,9 @@ use Rattle.patch_cache.specs.Running.{Runs}
 use Rattle.patch_cache.specs.Waves.{is_send, is_write, steps_since, Continues, HasGoneOn, HasKept, KeepsDisk, HasWrittenOne, IsFlushed}
 use Rattle.patch_cache.specs.Joining.{SinceJoin, StretchesJoin, KeptJoin}
 use Rattle.patch_cache.specs.declared.flights.Flights.{Flights}
-use Rattle.patch_group.specs.Groups.{Groups, is_pending}
-use Rattle.patch_group.specs.Order.{AreGroupsOf, StepsKeep}
-use Rattle.patch_group.proofs.Members.{map-In}
+use Rattle.patch_plans.specs.Groups.{Groups, is_pending}
+use Rattle.patch_plans.specs.Order.{AreGroupsOf, StepsKeep}
+use Rattle.patch_plans.specs.Members.{map-In}
 use Rattle.patch_group.proofs.Pending.{FailsToo}
 
 -- Two stretches of the cache are one.

@@ -9,7 +9,7 @@ use Rattle.patch_model.specs.declared.refusals.Refusal.{Refusal as Cause}
 use Rattle.patch_model.specs.Refusing.{bare}
 use Rattle.patch_cache.specs.Asks.{Ask as CacheAsk, Answer as CacheAnswer, IsAnswer, IsGivenUp, after_all, steps_added}
 use Rattle.patch_cache.specs.Asks as cache
-use Rattle.patch_group.specs.Groups.{Groups, named, why_not_begun, why_not_engaged, why_not_disengaged, why_not_ordered, why_not_closed, why_not_counted, begun, engaged, disengaged, ordered, closed, with_patch, pending}
+use Rattle.patch_plans.specs.Groups.{Groups, named, why_not_begun, why_not_engaged, why_not_disengaged, why_not_ordered, why_not_closed, why_not_counted, begun, engaged, disengaged, ordered, closed, with_patch, pending}
 
 -- an ask of the cache, whose patches are of no writer; a patch of a writer; and the calls of groups
 pub data Ask : Type 0 where

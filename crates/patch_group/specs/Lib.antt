@@ -1,7 +1,5 @@
-pub mod Rising
-pub mod Groups
 pub mod Asks
-pub mod Order
+pub mod Promise
 pub mod Refusals
 pub mod Records
 pub mod Runs

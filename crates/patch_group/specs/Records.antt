@@ -1,7 +1,7 @@
 -- Groups as the code keeps them.
 use Rattle.std.specs.Prelude.{ℕ, ◌+◌, ◌-◌, ◌++◌, ◌<◌, ◌==◌, min, max, List, [], ◌∷◌, map, filter, length, slice_index_or, vec_len, vec_capacity, Contains}
 use Rattle.std.specs.List.{flat_map, range_with_len}
-use Rattle.patch_group.specs.Groups.{Group}
+use Rattle.patch_plans.specs.Groups.{Group}
 use Rattle.patch_group.specs.declared.records.Run.{Run}
 use Rattle.patch_group.specs.declared.records.Record.{Record}
 

@@ -1,7 +1,9 @@
--- What the refusals of groups tell.
+-- What the refusals of groups tell, and of patches that are made with groups.
+use Rattle.std.specs.Prelude.{◌≡◌, ◌⊎◌, Option}
 use Rattle.patch_model.specs.declared.refusals.RefusalKind.TheVariants as kind
 use Rattle.patch_model.specs.declared.refusals.Refusal.{Refusal as Cause}
 use Rattle.patch_model.specs.Refusing.{bare, with_number}
+use Rattle.patch_cache.specs.Refusals.{IsCause}
 use Rattle.patch_cache.specs.declared.refusals.FlushRefusal.{FlushRefusal}
 use Rattle.patch_cache.specs.declared.refusals.FlushRefusal.TheVariants as flush
 use Rattle.patch_group.specs.declared.refusals.GroupRefusal.{GroupRefusal}
@@ -28,3 +30,7 @@ sync_cause sync.OutOfMemory = bare kind.OutOfMemory
 abbrev pub sync_of_flush : FlushRefusal → SyncRefusal
 sync_of_flush (flush.DeviceGaveUp block) = sync.DeviceGaveUp block
 sync_of_flush flush.OutOfMemory = sync.OutOfMemory
+
+-- a patch is refused for this cause, or for want of memory, also where there is one
+abbrev pub IsCauseOf : Option Cause → Cause → Type 0
+IsCauseOf cause refusal = IsCause cause refusal ⊎ (refusal ≡ bare kind.OutOfMemory)

@@ -12,9 +12,9 @@ use Rattle.patch_cache.specs.Asks.{ask_of, answer_of}
 use Rattle.patch_cache.specs.Asks as cache
 use Rattle.patch_cache.specs.Running.{RunsOn, LeavesSafe, CountFaults, HaveAllWritten}
 use Rattle.patch_cache.specs.declared.flights.Flights.{Flights}
-use Rattle.patch_group.specs.Groups.{Groups}
+use Rattle.patch_plans.specs.Groups.{Groups}
 use Rattle.patch_group.specs.Asks.{Ask, Answer, Part, Plain, Patch, Group, Engage, Disengage, Depend, Close, Pending, GroupMade, Done, Count, Refused, IsGroupAnswer, IsGroupGivenUp, cache_asks, cache_answers, after_parts, steps_of, part_of, parts, run_after, groups_after, AreGroupAnswers}
-use Rattle.patch_group.specs.Order.{AreGroupsOf}
+use Rattle.patch_plans.specs.Order.{AreGroupsOf}
 use Rattle.patch_group.specs.Refusals.{group_cause}
 use Rattle.patch_group.specs.declared.asks.GroupAsk.{GroupAsk as CodeAsk}
 use Rattle.patch_group.specs.declared.asks.GroupAsk.TheVariants as code_ask

@@ -8,7 +8,7 @@ use Rattle.patch_cache.specs.Contents.{Contents}
 use Rattle.patch_cache.specs.Flights.{IsLeastReady}
 use Rattle.patch_cache.specs.Waves.{steps_since, HasGivenUp, IsHeldFirst}
 use Rattle.patch_cache.specs.declared.flights.Flights.{Flights}
-use Rattle.patch_group.specs.Groups.{Groups, is_pending}
+use Rattle.patch_plans.specs.Groups.{Groups, is_pending}
 use Rattle.patch_group.specs.Runs.{RunsWith}
 use Rattle.patch_group.specs.declared.refusals.SyncRefusal.{SyncRefusal}
 use Rattle.patch_group.specs.declared.refusals.SyncRefusal.TheVariants as sync

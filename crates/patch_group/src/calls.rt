@@ -1,13 +1,13 @@
 //! Groups, and the calls that begin, engage, order and close them.
 ghost use Rattle.std.specs.Prelude.{◌≡◌, ◌≢◌, ◌<◌, ◌++◌, ◌∷◌, [], Some, None, true, false, length, option_map, IfOk, IfErr, OnOk, OnErr, IsNone};
 ghost use Rattle.patch_cache.specs.Refusals.{IsCause};
-ghost use Rattle.patch_group.specs.Groups.{no_groups, is_open, is_engaged_by, is_engaged, why_not_begun, why_not_engaged, why_not_disengaged, why_not_closed, begun, engaged, disengaged, closed};
+ghost use Rattle.patch_plans.specs.Groups.{no_groups, is_open, is_engaged_by, is_engaged, why_not_begun, why_not_engaged, why_not_disengaged, why_not_closed, begun, engaged, disengaged, closed};
 ghost use Rattle.patch_group.specs.Refusals.{group_cause};
 
-use crate::limits::MAX_GROUPS;
 use crate::records::Record;
 use crate::refusals::GroupRefusal;
 use patch_model::{GroupNo, OutOfMemory, WriterNo};
+use patch_plans::MAX_GROUPS;
 use std::alloc::{Allocator, Global};
 use std::marker::Model;
 
@@ -26,9 +26,9 @@ pub struct Groups<A: Allocator + Copy = Global> {
 
 impl<A: Allocator + Copy> Model for Groups<A> {
     ghost use Rattle.std.specs.Prelude.{◌≤◌, length, map};
-    ghost use Rattle.patch_group.specs.Groups.{Groups as State, AreApart};
+    ghost use Rattle.patch_plans.specs.Groups.{Groups as State, AreApart};
     ghost use Rattle.patch_group.specs.Records.{group_of};
-    ghost use Rattle.patch_group.specs.declared.limits.TheConstants.{MAX_GROUPS};
+    ghost use Rattle.patch_plans.specs.declared.limits.TheConstants.{MAX_GROUPS};
 
     ghost Value = { State };
 

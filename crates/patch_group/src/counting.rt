@@ -4,9 +4,9 @@ ghost use Rattle.patch_model.specs.Execution.{Execution};
 ghost use Rattle.patch_model.specs.Entry.{marks_durable};
 ghost use Rattle.patch_model.specs.State.{entries_of};
 ghost use Rattle.patch_cache.specs.Meaning.{Represents};
-ghost use Rattle.patch_group.specs.Groups.{why_not_counted, pending};
-ghost use Rattle.patch_group.specs.Groups as groups;
-ghost use Rattle.patch_group.specs.Order.{AreGroupsOf};
+ghost use Rattle.patch_plans.specs.Groups.{why_not_counted, pending};
+ghost use Rattle.patch_plans.specs.Groups as groups;
+ghost use Rattle.patch_plans.specs.Order.{AreGroupsOf};
 ghost use Rattle.patch_group.specs.Records.{numbers_of, patches_in};
 ghost use Rattle.patch_group.specs.Refusals.{group_cause};
 

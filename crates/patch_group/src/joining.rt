@@ -6,7 +6,8 @@ ghost use Rattle.patch_model.specs.State.{entries_of};
 ghost use Rattle.patch_model.specs.Step.{Create};
 ghost use Rattle.patch_cache.specs.Meaning.{Represents};
 ghost use Rattle.patch_cache.specs.Refusals.{create_cause};
-ghost use Rattle.patch_group.specs.Groups.{AreApart, with_patch, after_of, entered, patch_of, why_not_patched, IsCauseOf};
+ghost use Rattle.patch_group.specs.Refusals.{IsCauseOf};
+ghost use Rattle.patch_plans.specs.Groups.{AreApart, with_patch, after_of, entered, patch_of, why_not_patched};
 ghost use Rattle.patch_group.specs.Records.{group_of, HasRoomAt, HaveRoom, names_of};
 
 use crate::calls::Groups;

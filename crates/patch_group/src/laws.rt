@@ -1,6 +1,7 @@
 //! What the rules of groups give, each law the contract of a function that does nothing.
 ghost use Rattle.patch_cache.specs.Promise.{TakingBack, MovesArePermitted, LooksShow, ImagesSent, CrashesClosed};
-ghost use Rattle.patch_group.specs.Order.{ClosedSetsHoldBefore, GroupsInOrder, NoneAreOfAny, StepsKeep, PatchesKeep, CallsKeep, AsksKeep, BeforeIsAChain, GroupsAreSmall};
+ghost use Rattle.patch_plans.specs.Order.{ClosedSetsHoldBefore, GroupsAreSmall};
+ghost use Rattle.patch_group.specs.Promise.{GroupsInOrder, AsksKeep, BeforeIsAChain};
 
 /// For every list of asks of a cache with groups: a set of its patches that is closed under dependencies, as those that a crash
 /// can leave, and that holds a patch of a group, holds all patches of all groups before it, to which chains of accepted
@@ -19,19 +20,7 @@ pub fn promise()
     patch_model::laws::executions_are_orderly();
 }
 
-/// Each patch of a group names all patches of all groups before it: so it is where there are no groups, and each step, each
-/// patch that names what it has to and each call that isn't refused keeps it so.
-pub fn order_is_kept()
-    ensures none { NoneAreOfAny }
-    ensures steps { StepsKeep }
-    ensures patches { PatchesKeep }
-    ensures calls { CallsKeep }
-{
-    patch_model::laws::steps_extend();
-    patch_model::laws::executions_are_orderly();
-}
-
-/// And so does every list of asks, as far as they are answered.
+/// Each patch of a group names all patches of all groups before it, after every list of asks, as far as they are answered.
 pub fn asks_keep_order()
     ensures { AsksKeep }
 {

@@ -6,7 +6,6 @@ mod calls;
 mod counting;
 mod joining;
 pub mod laws;
-mod limits;
 mod ordering;
 mod records;
 mod refusals;
@@ -17,7 +16,7 @@ mod waiting;
 
 pub use asks::{GroupAnswer, GroupAsk};
 pub use calls::Groups;
-pub use limits::MAX_GROUPS;
 pub use patch_model::GroupNo;
+pub use patch_plans::MAX_GROUPS;
 pub use refusals::{GroupRefusal, SyncRefusal};
 pub use syncing::sync;

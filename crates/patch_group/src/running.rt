@@ -5,7 +5,8 @@ ghost use Rattle.patch_device.specs.SameDevice.{IsSameDevice};
 ghost use Rattle.patch_cache.specs.Meaning.{Represents};
 ghost use Rattle.patch_cache.specs.Promise.{TakingBack, MovesArePermitted, LooksShow, ImagesSent, CrashesClosed};
 ghost use Rattle.patch_group.specs.Asks.{Patch, Group, Engage, Disengage, Depend, Close, Pending, IsGroupAnswer, parts, part_of, steps_of, groups_after, groups_after_all};
-ghost use Rattle.patch_group.specs.Order.{AreGroupsOf, ClosedSetsHoldBefore, GroupsInOrder};
+ghost use Rattle.patch_plans.specs.Order.{AreGroupsOf, ClosedSetsHoldBefore};
+ghost use Rattle.patch_group.specs.Promise.{GroupsInOrder};
 ghost use Rattle.patch_group.specs.Runs.{asks_of, group_ask_of, group_answer_of, group_answers_in, AnswersAsk, AnswersAsks, IsCalled, IsPatched, HasPatched};
 
 use crate::asks::{GroupAnswer, GroupAsk};

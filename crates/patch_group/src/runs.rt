@@ -1,6 +1,6 @@
 //! Runs of patch numbers.
 ghost use Rattle.std.specs.Prelude.{◌≡◌, ◌<◌, ◌++◌, ◌∷◌, [], true, false, vec_len, vec_capacity, IfOk, OnOk};
-ghost use Rattle.patch_group.specs.Rising.{rising};
+ghost use Rattle.patch_plans.specs.Rising.{rising};
 ghost use Rattle.patch_group.specs.Records.{numbers_of, numbers_from, patches_in};
 
 use crate::records::Run;

@@ -8,17 +8,17 @@ ghost use Rattle.patch_device.specs.SameDevice.{IsSameDevice};
 ghost use Rattle.patch_cache.specs.Meaning.{Represents};
 ghost use Rattle.patch_cache.specs.Running.{Runs, RunsOn, held_by};
 ghost use Rattle.patch_cache.specs.Waves.{steps_since, Continues, HasGoneOn, KeepsDisk, RisesIfGivenUp, IsHeldIfGivenUp};
-ghost use Rattle.patch_group.specs.Groups.{patches_of, pending, why_not_counted};
+ghost use Rattle.patch_plans.specs.Groups.{patches_of, pending, why_not_counted};
 ghost use Rattle.patch_group.specs.Syncing.{NonePending, SomePending, IsSynced, StandsAfter, RisesIfSyncStops, IsHeldIfSyncStops};
 ghost use Rattle.patch_group.specs.declared.refusals.SyncRefusal.TheVariants as refusal;
 
 use crate::calls::Groups;
 use crate::counting::is_pending;
-use crate::laws;
 use crate::refusals::SyncRefusal;
 use patch_cache::{Cache, Flights, FlushRefusal, laws as cache_laws};
 use patch_device::Device;
 use patch_model::{GroupNo, PatchNo, laws as model_laws};
+use patch_plans::laws as plan_laws;
 use std::alloc::Allocator;
 
 /// Brings all patches of the group to the disk: completes all held flights, and then begins a write of the least block of
@@ -55,7 +55,7 @@ pub fn sync<A: Allocator + Copy, D: Device>(
     model_laws::ready_is_largest();
     cache_laws::traces_join();
     cache_laws::stretches_join::<A>();
-    laws::order_is_kept();
+    plan_laws::order_is_kept();
     if !groups.is_open(group) {
         return Err(SyncRefusal::NoSuchGroup);
     }

@@ -3,8 +3,8 @@ ghost use Rattle.std.specs.Prelude.{◌≡◌, ◌++◌, ◌∷◌, [], filter, 
 ghost use Rattle.patch_model.specs.Execution.{Execution};
 ghost use Rattle.patch_model.specs.State.{entries_of};
 ghost use Rattle.patch_cache.specs.Meaning.{Represents};
-ghost use Rattle.patch_group.specs.Groups.{patches_of};
-ghost use Rattle.patch_group.specs.Groups as groups;
+ghost use Rattle.patch_plans.specs.Groups.{patches_of};
+ghost use Rattle.patch_plans.specs.Groups as groups;
 ghost use Rattle.patch_group.specs.Records.{numbers_of, patches_in};
 
 use crate::calls::Groups;

@@ -18,9 +18,9 @@ use Rattle.patch_recovery.specs.Said.{last_said}
 use Rattle.patch_recovery.specs.Store.{makes_nothing}
 use Rattle.patch_recovery.specs.Reading.{has_key}
 use Rattle.patch_history.specs.Given.{Given}
-use Rattle.patch_extent.specs.Extents.{generation_at}
-use Rattle.patch_extent.specs.Planning.{append_plan}
-use Rattle.patch_extent.specs.Writing.{written, steps_by, named_plan}
+use Rattle.patch_plans.specs.Extents.{generation_at}
+use Rattle.patch_plans.specs.Planning.{append_plan}
+use Rattle.patch_plans.specs.Writing.{written, steps_by, named_plan}
 use Rattle.patch_history.specs.Choosing.{slot_of, slot_for, live_frames}
 use Rattle.patch_history.specs.Command.{Command, Reply, Put, Get, Delete, Reclaim, Upgrade, Group, Engage, Disengage}
 use Rattle.patch_history.specs.Command.{Depend, CloseGroup, Pending, Done, is_refused, may_be_cut}

@@ -3,11 +3,11 @@ use Rattle.std.proofs.Common.{◌≡◌, ◌≢◌, ◌+◌, ℕ, Bool, false, L
 use Rattle.std.proofs.Common.{◌∙◌, arith, take, drop}
 use Rattle.std.specs.Prelude.{Option, replicate}
 use Rattle.std.proofs.lemmas.List.{append_assoc, length-replicate, take-append-drop}
-use Rattle.patch_group.specs.Groups.{Groups, named, with_patch}
+use Rattle.patch_plans.specs.Groups.{Groups, named, with_patch}
 use Rattle.patch_recovery.specs.Change.{Made, step_of}
-use Rattle.patch_extent.specs.Extents.{Extents}
-use Rattle.patch_extent.specs.Laws.{PlansJoin}
-use Rattle.patch_extent.specs.Writing.{after_change, after_plan, with_patches, steps_of}
+use Rattle.patch_plans.specs.Extents.{Extents}
+use Rattle.patch_plans.specs.Laws.{PlansJoin}
+use Rattle.patch_plans.specs.Writing.{after_change, after_plan, with_patches, steps_of}
 use Rattle.patch_history.specs.Steps.{FramePut, first_of, appended, filled, steps_made, slot_steps}
 use Rattle.patch_history.specs.Steps.{FramesCompose, AppendsAreCuts, BegunAppendsAreCuts}
 

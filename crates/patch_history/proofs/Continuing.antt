@@ -4,12 +4,12 @@ use Rattle.std.proofs.Common.{ap}
 use Rattle.std.proofs.Common.{◌∙◌, arith}
 use Rattle.std.specs.Prelude.{None, option_to_list}
 use Rattle.std.proofs.lemmas.List.{append_assoc}
-use Rattle.patch_group.specs.Groups.{Groups}
+use Rattle.patch_plans.specs.Groups.{Groups}
 use Rattle.patch_recovery.specs.Change.{Change, Data, Point, Fill, Clear, Widen, Made}
-use Rattle.patch_extent.specs.Extents.{Extents}
-use Rattle.patch_extent.specs.Laws.{PlansJoin}
-use Rattle.patch_extent.specs.Writing.{after_plan, with_patches, Written, written, steps_by, steps_of}
-use Rattle.patch_extent.specs.Writing as extents
+use Rattle.patch_plans.specs.Extents.{Extents}
+use Rattle.patch_plans.specs.Laws.{PlansJoin}
+use Rattle.patch_plans.specs.Writing.{after_plan, with_patches, Written, written, steps_by, steps_of}
+use Rattle.patch_plans.specs.Writing as extents
 use Rattle.patch_history.specs.Shelf.{Shelf, after_change}
 use Rattle.patch_history.specs.Standing.{made_by}
 use Rattle.patch_history.specs.Steps.{ShelvesGoOn, WholesJoin, CutsJoin, WholesAreCuts}

@@ -3,7 +3,7 @@ use Rattle.std.proofs.Common.{◌≡◌, ◌≢◌, suc, List, [], ◌∷◌, �
 use Rattle.std.proofs.Common.{take}
 use Rattle.std.specs.Prelude.{Option, Some, None, option_to_list}
 use Rattle.patch_model.specs.Step.{Step}
-use Rattle.patch_extent.specs.Writing.{Written, steps_by}
+use Rattle.patch_plans.specs.Writing.{Written, steps_by}
 use Rattle.patch_history.specs.Steps.{EndsPlainly, IsFirst, CutsAreFirst}
 
 abbrev tail_of : List Step → List Step

@@ -13,8 +13,8 @@ use Rattle.patch_recovery.specs.Ledger.{Ledger, after_all, value_in}
 use Rattle.patch_recovery.specs.Orders.{AreWellMade}
 use Rattle.patch_recovery.specs.Store.{IsOfStore}
 use Rattle.patch_recovery.specs.Said.{last_said}
-use Rattle.patch_extent.specs.Extents.{Extents}
-use Rattle.patch_extent.specs.Writing.{written, steps_by}
+use Rattle.patch_plans.specs.Extents.{Extents}
+use Rattle.patch_plans.specs.Writing.{written, steps_by}
 use Rattle.patch_history.specs.Choosing.{slot_of, live_frames}
 use Rattle.patch_history.specs.Command.{Command, Reply, is_refused}
 use Rattle.patch_history.specs.Map.{Map, after_reply, after_done}

@@ -10,8 +10,8 @@ use Rattle.patch_frame.specs.Pointer.{Fits, pointer_at, pointer_of}
 use Rattle.patch_recovery.specs.Reading.{block_on, record_at}
 use Rattle.patch_recovery.specs.Closed.{cached_blocks}
 use Rattle.patch_recovery.specs.Wider.{limits_of, geometry_kept}
-use Rattle.patch_extent.specs.Extents.{no_extent, AreWhole}
-use Rattle.patch_extent.specs.Meaning as extents
+use Rattle.patch_plans.specs.Extents.{no_extent, AreWhole}
+use Rattle.patch_plans.specs.Meaning as extents
 use Rattle.patch_history.specs.History.{History, IsLegalHistory, execution_of, standing_of, ledger_of}
 use Rattle.patch_history.specs.Laws.{HistoriesAreRead, ExtentsAreKept}
 use Rattle.patch_history.specs.Given.{Given}

@@ -8,7 +8,7 @@ use Rattle.patch_frame.specs.Geometry.{slot_count, largest_pointer}
 use Rattle.patch_frame.specs.Frame.{Content, length_of}
 use Rattle.patch_recovery.specs.Change.{Made}
 use Rattle.patch_recovery.specs.Ledger.{Ledger, after_all, value_in}
-use Rattle.patch_extent.specs.Extents.{offset_at}
+use Rattle.patch_plans.specs.Extents.{offset_at}
 use Rattle.patch_history.specs.Command.{Done}
 use Rattle.patch_history.specs.Choosing.{current_for, extent_for_move, live_frames}
 use Rattle.patch_history.specs.Planning.{moves}

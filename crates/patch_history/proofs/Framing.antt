@@ -19,8 +19,8 @@ use Rattle.patch_recovery.specs.Ledger.{Ledger, after_all}
 use Rattle.patch_recovery.specs.Putting.{pieces_within, pieces, made_in_order, Put, fields_put, bytes_put, slot_put}
 use Rattle.patch_recovery.specs.Putting.{IsRightPut, IsPutWell}
 use Rattle.patch_history.specs.Given.{Given}
-use Rattle.patch_extent.specs.Extents.{extent_at, generation_at, offset_at}
-use Rattle.patch_extent.specs.Planning.{touched, part, parts}
+use Rattle.patch_plans.specs.Extents.{extent_at, generation_at, offset_at}
+use Rattle.patch_plans.specs.Planning.{touched, part, parts}
 use Rattle.patch_history.specs.Planning.{frame_plan, fill_plan}
 use Rattle.patch_history.specs.Shelf.{Shelf, slot_at}
 use Rattle.patch_history.specs.Standing.{onto}

@@ -10,10 +10,10 @@ use Rattle.patch_model.specs.State.{state_of, entries_of, after_step}
 use Rattle.patch_model.specs.declared.patches.Undo.TheVariants.{MayDrop}
 use Rattle.patch_recovery.specs.Change.{Change, Data, Point, Fill, Clear, Widen, Made, step_of, block_of, start_of, bytes_of}
 use Rattle.patch_recovery.specs.Store.{makes_nothing}
-use Rattle.patch_group.specs.Groups.{Groups, named, with_patch, why_not_engaged, why_not_ordered}
-use Rattle.patch_group.specs.Order.{AreGroupsOf, NoneAreOfAny, StepsKeep, PatchesKeep, CallsKeep}
-use Rattle.patch_extent.specs.Extents.{Extents, extent_at}
-use Rattle.patch_extent.specs.Writing.{after_change, with_patches, named_plan, merge_behind, merge_with, written, steps_by}
+use Rattle.patch_plans.specs.Groups.{Groups, named, with_patch, why_not_engaged, why_not_ordered}
+use Rattle.patch_plans.specs.Order.{AreGroupsOf, NoneAreOfAny, StepsKeep, PatchesKeep, CallsKeep}
+use Rattle.patch_plans.specs.Extents.{Extents, extent_at}
+use Rattle.patch_plans.specs.Writing.{after_change, with_patches, named_plan, merge_behind, merge_with, written, steps_by}
 use Rattle.patch_history.specs.Command.{Command, Reply, Put, Get, Delete, Reclaim, Upgrade, Group, Engage, Disengage, Depend}
 use Rattle.patch_history.specs.Command.{CloseGroup, Pending, Done, is_refused, may_be_cut}
 use Rattle.patch_history.specs.Standing.{Standing, at_opening, made_by, maker_of, plan_for, plan_of, creates, onto, after_call, groups_after}

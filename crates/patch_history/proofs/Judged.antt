@@ -10,7 +10,7 @@ use Rattle.patch_frame.specs.Geometry.{value_limit}
 use Rattle.patch_frame.specs.Frame.{Fits}
 use Rattle.patch_recovery.specs.Change.{Made}
 use Rattle.patch_recovery.specs.Ledger.{value_in}
-use Rattle.patch_extent.specs.Extents.{offset_at, generation_at}
+use Rattle.patch_plans.specs.Extents.{offset_at, generation_at}
 use Rattle.patch_history.specs.Choosing.{slot_for}
 use Rattle.patch_history.specs.Command.{Reply, Put, Delete, Reclaim, unless, is_refused}
 use Rattle.patch_history.specs.Refusing.{why_no_key, why_not_made, why_not_put, why_not_deleted, why_not_reclaimed}

@@ -16,7 +16,7 @@ use Rattle.patch_recovery.specs.Change.{Change, Data, Point, Fill, Clear, Widen,
 use Rattle.patch_recovery.specs.Ledger.{Ledger, after, after_all}
 use Rattle.patch_recovery.specs.Orders.{StandsIn, is_reset, takes_from, names_extent}
 use Rattle.patch_recovery.specs.Naming.{newest, is_point}
-use Rattle.patch_extent.specs.Extents.{no_extent, extent_at, pointed}
+use Rattle.patch_plans.specs.Extents.{no_extent, extent_at, pointed}
 use Rattle.patch_history.specs.Shelf.{Shelf, slot_at, left_of, leaving, opened, opened_extent, after_change, after_plan}
 use Rattle.patch_history.specs.Standing.{creates, Standing, onto, at_opening, made_by, plan_of}
 use Rattle.patch_history.specs.History.{History, Event, Call, Moved, after_event, standing_of}

@@ -9,7 +9,7 @@ use Rattle.std.proofs.lemmas.List.Elements.{All-nil, All-replicate, All-get_or, 
 use Rattle.patch_frame.specs.Slot.{SlotFields}
 use Rattle.patch_recovery.specs.Change.{Change, Data, Point, Fill, Clear, Widen, Made}
 use Rattle.patch_recovery.specs.Ledger.{Ledger}
-use Rattle.patch_extent.specs.Extents.{extent_at, no_extent, pointed}
+use Rattle.patch_plans.specs.Extents.{extent_at, no_extent, pointed}
 use Rattle.patch_history.specs.Shelf.{Shelf, leaving, opened, opened_extent, slot_at, after_change, after_plan}
 use Rattle.patch_history.specs.Standing.{Standing, creates, at_opening, made_by, plan_of}
 use Rattle.patch_history.specs.History.{Event, Call, Moved, after_event}

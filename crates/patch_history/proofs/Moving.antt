@@ -12,7 +12,7 @@ use Rattle.patch_frame.specs.Slot.{SlotFields}
 use Rattle.patch_frame.specs.Frame.{Content, Fits, frame_at, frame_tests, key_length, value_length, value_end}
 use Rattle.patch_frame.specs.Frame.{content_of as content_in}
 use Rattle.patch_recovery.specs.Change.{Made}
-use Rattle.patch_extent.specs.Extents.{offset_at}
+use Rattle.patch_plans.specs.Extents.{offset_at}
 use Rattle.patch_history.specs.Choosing.{current_for, has_room, empty_extents, first_of_any, extent_for_move}
 use Rattle.patch_history.specs.Planning.{frame_plan, content_of, moves}
 use Rattle.patch_history.specs.Shelf.{Shelf, after_plan}

@@ -8,7 +8,7 @@ use Rattle.std.proofs.lemmas.List.{drop-drop, length-drop, take_all}
 use Rattle.std.proofs.Math.Nat.{div-add-mod}
 use Rattle.patch_recovery.specs.Change.{Change, Data, Made}
 use Rattle.patch_recovery.specs.Putting.{pieces_within, pieces}
-use Rattle.patch_extent.specs.Planning.{touched, part_start, part_end, part, parts}
+use Rattle.patch_plans.specs.Planning.{touched, part_start, part_end, part, parts}
 
 -- how far the first block reaches
 rest_of : ℕ → ℕ

@@ -17,7 +17,7 @@ use Rattle.patch_recovery.specs.Right.{IsRight}
 use Rattle.patch_recovery.specs.Orders.{is_reset}
 use Rattle.patch_recovery.specs.Naming.{newest, is_point}
 use Rattle.patch_recovery.specs.Wider.{format_kept, limits_of}
-use Rattle.patch_extent.specs.Meaning as extents
+use Rattle.patch_plans.specs.Meaning as extents
 use Rattle.patch_frame.specs.Passing.{passed, read_is}
 use Rattle.patch_frame.specs.declared.faults.FrameFault.TheVariants.{BadValue}
 use Rattle.patch_frame.specs.declared.geometries.Format.{Format}

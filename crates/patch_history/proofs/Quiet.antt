@@ -5,8 +5,8 @@ use Rattle.std.specs.Prelude.{take}
 use Rattle.patch_recovery.specs.Change.{Change, Data, Point, Fill, Clear, Widen, Made}
 use Rattle.patch_recovery.specs.Ledger.{Ledger, after, after_all}
 use Rattle.patch_recovery.specs.Said.{last_said}
-use Rattle.patch_group.specs.Groups.{Groups, with_patch}
-use Rattle.patch_extent.specs.Writing.{named_plan}
+use Rattle.patch_plans.specs.Groups.{Groups, with_patch}
+use Rattle.patch_plans.specs.Writing.{named_plan}
 use Rattle.patch_history.specs.Standing.{onto}
 
 -- each key has what it had, and the disk is divided as it was

@@ -22,8 +22,8 @@ use Rattle.patch_recovery.specs.Said.{last_said}
 use Rattle.patch_recovery.specs.Putting.{pointer_put, fields_put, slot_put}
 use Rattle.patch_history.specs.Given.{Given}
 use Rattle.patch_recovery.specs.Wider.{format_kept}
-use Rattle.patch_extent.specs.Extents.{offset_at}
-use Rattle.patch_extent.specs.Planning.{append_plan, touched, part, parts, names_behind}
+use Rattle.patch_plans.specs.Extents.{offset_at}
+use Rattle.patch_plans.specs.Planning.{append_plan, touched, part, parts, names_behind}
 use Rattle.patch_history.specs.Choosing.{extent_for_move, current_for}
 use Rattle.patch_history.specs.Planning.{frame_plan, fill_plan, content_of, moves}
 use Rattle.patch_history.specs.Shelf.{Shelf, after_change, after_plan}

@@ -8,13 +8,13 @@ use Rattle.std.proofs.lemmas.List.{take-append-drop}
 use Rattle.patch_model.specs.Step.{Step}
 use Rattle.patch_model.specs.Execution.{Execution, followed_by}
 use Rattle.patch_model.specs.Entry.{is_among}
-use Rattle.patch_group.specs.Groups.{Groups, named, with_patch, after_of}
+use Rattle.patch_plans.specs.Groups.{Groups, named, with_patch, after_of}
 use Rattle.patch_recovery.specs.Change.{Change, Data, Point, Fill, Clear, Widen, Made, step_of, widened}
 use Rattle.patch_recovery.specs.Ledger.{Ledger, after, after_all}
 use Rattle.patch_recovery.specs.Orders.{AreWellMade}
 use Rattle.patch_recovery.specs.Store.{IsOfStore}
-use Rattle.patch_extent.specs.Extents.{Extents, extent_at}
-use Rattle.patch_extent.specs.Writing.{after_change, merge_behind, merge_with, written, steps_by, named_plan}
+use Rattle.patch_plans.specs.Extents.{Extents, extent_at}
+use Rattle.patch_plans.specs.Writing.{after_change, merge_behind, merge_with, written, steps_by, named_plan}
 use Rattle.patch_history.specs.Standing.{creates, onto}
 use Rattle.patch_history.specs.Steps.{PlanFits, EndsPlainly}
 use Rattle.patch_history.proofs.Spelling.{upgrades_spell_alike}

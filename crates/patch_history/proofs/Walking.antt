@@ -8,8 +8,8 @@ use Rattle.patch_model.specs.Execution.{Execution, extended, followed_by}
 use Rattle.patch_recovery.specs.Change.{Change, Data, Point, Fill, Clear, Widen, Made, step_of}
 use Rattle.patch_recovery.specs.Ledger.{Ledger}
 use Rattle.patch_recovery.specs.Store.{IsOfStore, StoresGrow, OtherStepsLeaveStores, makes_nothing}
-use Rattle.patch_extent.specs.Extents.{Extents, extent_at}
-use Rattle.patch_extent.specs.Writing.{after_change, merge_behind, merge_with, written, steps_by}
+use Rattle.patch_plans.specs.Extents.{Extents, extent_at}
+use Rattle.patch_plans.specs.Writing.{after_change, merge_behind, merge_with, written, steps_by}
 use Rattle.patch_history.specs.Standing.{onto}
 use Rattle.patch_history.specs.Steps.{PlanFits, PlansAreOfStores}
 

@@ -12,7 +12,7 @@ use Rattle.patch_recovery.specs.Right.{IsSound, IsRight}
 use Rattle.patch_recovery.specs.Orders.{IsWellMade, AreWellMade, StandsIn}
 use Rattle.patch_history.specs.Given.{Given}
 use Rattle.patch_recovery.specs.Wider.{format_kept, limits_of}
-use Rattle.patch_extent.specs.Extents.{offset_at}
+use Rattle.patch_plans.specs.Extents.{offset_at}
 use Rattle.patch_history.specs.Choosing.{slot_of, slot_for, extent_for_put, current_for, empty_extents, first_of_any}
 use Rattle.patch_history.specs.Choosing.{first_of_two}
 use Rattle.patch_history.specs.Planning.{frame_plan, put_plan}

@@ -5,8 +5,8 @@ use Rattle.std.specs.Option.{option_or}
 use Rattle.patch_frame.specs.Geometry.{largest_pointer}
 use Rattle.patch_frame.specs.Slot.{SlotFields}
 use Rattle.patch_recovery.specs.Reading.{has_key}
-use Rattle.patch_extent.specs.Extents as extents
-use Rattle.patch_extent.specs.Extents.{offset_at}
+use Rattle.patch_plans.specs.Extents as extents
+use Rattle.patch_plans.specs.Extents.{offset_at}
 use Rattle.patch_history.specs.Shelf.{Shelf}
 
 -- the slot of a key

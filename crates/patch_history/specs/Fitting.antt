@@ -6,7 +6,7 @@ use Rattle.patch_frame.specs.Frame.{Content, Fits, length_of}
 use Rattle.patch_recovery.specs.Change.{Made}
 use Rattle.patch_recovery.specs.Ledger.{Ledger, after_all}
 use Rattle.patch_recovery.specs.Right.{IsNamed}
-use Rattle.patch_extent.specs.Extents.{offset_at}
+use Rattle.patch_plans.specs.Extents.{offset_at}
 use Rattle.patch_history.specs.Command.{Put, Reclaim, is_refused}
 use Rattle.patch_history.specs.Shelf.{Shelf, slot_at, after_plan}
 use Rattle.patch_history.specs.Choosing.{slot_for, extent_for_put, extent_for_move, live_frames}

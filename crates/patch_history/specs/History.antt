@@ -10,7 +10,7 @@ use Rattle.patch_frame.specs.Field.{AreBytes}
 use Rattle.patch_recovery.specs.Change.{Made}
 use Rattle.patch_recovery.specs.Ledger.{Ledger, after_all}
 use Rattle.patch_recovery.specs.Reading.{reading}
-use Rattle.patch_extent.specs.Writing.{written, steps_by}
+use Rattle.patch_plans.specs.Writing.{written, steps_by}
 use Rattle.patch_history.specs.Command.{Command, Reply, Refused, is_refused, takes_memory, may_be_cut}
 use Rattle.patch_history.specs.Standing.{Standing, at_opening, made_by, plan_of, after_call}
 use Rattle.patch_history.specs.Refusing.{reply_of}

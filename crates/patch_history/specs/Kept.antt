@@ -6,7 +6,7 @@ use Rattle.patch_recovery.specs.Change.{Change, Data, Point, Fill, Clear, Made}
 use Rattle.patch_recovery.specs.Ledger.{Ledger, after_all}
 use Rattle.patch_recovery.specs.Orders.{StandsIn, is_reset, is_clear, is_widen, takes_from}
 use Rattle.patch_recovery.specs.Naming.{newest, is_point, HasNames}
-use Rattle.patch_extent.specs.Extents.{extent_at}
+use Rattle.patch_plans.specs.Extents.{extent_at}
 use Rattle.patch_history.specs.Shelf.{Shelf, slot_at, left_of}
 use Rattle.patch_history.specs.Standing.{made_by}
 use Rattle.patch_history.specs.History.{History, standing_of, ledger_of}

@@ -3,14 +3,14 @@ use Rattle.std.specs.Prelude.{ℕ, true, ◌≡◌, ◌≤◌, ◌<◌, List, le
 use Rattle.patch_model.specs.Entry.{is_live}
 use Rattle.patch_model.specs.State.{entries_of}
 use Rattle.patch_model.specs.Legal.{IsLegal}
-use Rattle.patch_group.specs.Order.{AreGroupsOf}
+use Rattle.patch_plans.specs.Order.{AreGroupsOf}
 use Rattle.patch_recovery.specs.Ledger.{value_in}
 use Rattle.patch_recovery.specs.Said.{last_said}
 use Rattle.patch_recovery.specs.Store.{IsOfStore}
 use Rattle.patch_recovery.specs.Closed.{Opens, cached_blocks}
 use Rattle.patch_recovery.specs.Lasting.{Tells}
-use Rattle.patch_extent.specs.Extents.{offset_at}
-use Rattle.patch_extent.specs.Meaning as extents
+use Rattle.patch_plans.specs.Extents.{offset_at}
+use Rattle.patch_plans.specs.Meaning as extents
 use Rattle.patch_history.specs.Standing.{made_by, live_of}
 use Rattle.patch_history.specs.History.{History, Event, IsLegalHistory, IsRight, execution_of, standing_of, ledger_of}
 use Rattle.patch_history.specs.History.{with_event}

@@ -5,8 +5,8 @@ use Rattle.patch_frame.specs.Frame.{Content, spelling, length_of}
 use Rattle.patch_frame.specs.Slot.{SlotFields}
 use Rattle.patch_recovery.specs.Change.{Fill, Clear, Widen, Made}
 use Rattle.patch_recovery.specs.Ledger.{value_in}
-use Rattle.patch_extent.specs.Extents.{generation_at, offset_at}
-use Rattle.patch_extent.specs.Planning.{append_plan, reset_plan, touched}
+use Rattle.patch_plans.specs.Extents.{generation_at, offset_at}
+use Rattle.patch_plans.specs.Planning.{append_plan, reset_plan, touched}
 use Rattle.patch_history.specs.Shelf.{Shelf, slot_at, left_of, after_plan}
 use Rattle.patch_history.specs.Choosing.{slot_of, slot_for, extent_for_put, extent_for_move, live_frames}
 

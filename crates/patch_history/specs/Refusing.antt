@@ -9,12 +9,12 @@ use Rattle.patch_model.specs.State.{entries_of}
 use Rattle.patch_frame.specs.declared.geometries.Format.{Format}
 use Rattle.patch_frame.specs.declared.geometries.Format.TheVariants.{One, Two}
 use Rattle.patch_frame.specs.Geometry.{value_limit}
-use Rattle.patch_group.specs.Groups.{why_not_begun, why_not_engaged, why_not_disengaged, why_not_ordered, why_not_closed}
-use Rattle.patch_group.specs.Groups.{why_not_counted, pending}
+use Rattle.patch_plans.specs.Groups.{why_not_begun, why_not_engaged, why_not_disengaged, why_not_ordered, why_not_closed}
+use Rattle.patch_plans.specs.Groups.{why_not_counted, pending}
 use Rattle.patch_recovery.specs.Change.{Made}
 use Rattle.patch_recovery.specs.Ledger.{value_in}
-use Rattle.patch_extent.specs.Extents.{offset_at, generation_at}
-use Rattle.patch_extent.specs.Refusing.{why_no_room}
+use Rattle.patch_plans.specs.Extents.{offset_at, generation_at}
+use Rattle.patch_plans.specs.Room.{why_no_room}
 use Rattle.patch_history.specs.Command.{Command, Reply, Put, Get, Delete, Reclaim, Upgrade, Group, Engage, Disengage}
 use Rattle.patch_history.specs.Command.{Depend, CloseGroup, Pending, Done, Value, Absent, GroupMade, Count, unless}
 use Rattle.patch_history.specs.Shelf.{Shelf}

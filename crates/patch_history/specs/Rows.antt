@@ -4,10 +4,10 @@ use Rattle.std.specs.List.{range_with_len}
 use Rattle.patch_model.specs.Step.{Step}
 use Rattle.patch_frame.specs.declared.geometries.Format.{Format}
 use Rattle.patch_frame.specs.declared.geometries.Format.TheVariants.{One, Two}
-use Rattle.patch_group.specs.Groups.{no_groups}
+use Rattle.patch_plans.specs.Groups.{no_groups}
 use Rattle.patch_recovery.specs.Ledger.{Ledger}
-use Rattle.patch_extent.specs.Extents.{no_extent, generation_at, offset_at}
-use Rattle.patch_extent.specs.Writing.{Written, written, steps_by}
+use Rattle.patch_plans.specs.Extents.{no_extent, generation_at, offset_at}
+use Rattle.patch_plans.specs.Writing.{Written, written, steps_by}
 use Rattle.patch_model.specs.declared.refusals.RefusalKind.{RefusalKind}
 use Rattle.patch_model.specs.Refusing.{bare}
 use Rattle.patch_model.specs.Step.{Send}

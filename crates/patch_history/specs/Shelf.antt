@@ -7,9 +7,9 @@ use Rattle.patch_frame.specs.Geometry.{slot_count, largest_pointer}
 use Rattle.patch_frame.specs.Slot.{SlotFields}
 use Rattle.patch_recovery.specs.Change.{Change, Data, Point, Fill, Clear, Widen, Made}
 use Rattle.patch_recovery.specs.Ledger.{Ledger}
-use Rattle.patch_extent.specs.declared.records.Extent.{Extent}
-use Rattle.patch_extent.specs.Extents.{Extents}
-use Rattle.patch_extent.specs.Writing as extents
+use Rattle.patch_plans.specs.declared.records.Extent.{Extent}
+use Rattle.patch_plans.specs.Extents.{Extents}
+use Rattle.patch_plans.specs.Writing as extents
 
 -- The extents; what each slot says; the extent that puts append to, if one is; the patch of the last delete, and of the
 -- upgrade; and, for each extent, the slot patches since its last reset that took an entry from it.

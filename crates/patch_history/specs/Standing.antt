@@ -4,10 +4,10 @@ use Rattle.patch_model.specs.Step.{Step, Create}
 use Rattle.patch_model.specs.Execution.{Execution, followed_by}
 use Rattle.patch_model.specs.Entry.{is_live}
 use Rattle.patch_model.specs.State.{entries_of}
-use Rattle.patch_group.specs.Groups.{Groups, no_groups, begun, engaged, disengaged, ordered, closed}
+use Rattle.patch_plans.specs.Groups.{Groups, no_groups, begun, engaged, disengaged, ordered, closed}
 use Rattle.patch_recovery.specs.Change.{Made}
 use Rattle.patch_recovery.specs.Ledger.{Ledger, map_of}
-use Rattle.patch_extent.specs.Writing.{with_patches, named_plan}
+use Rattle.patch_plans.specs.Writing.{with_patches, named_plan}
 use Rattle.patch_history.specs.Command.{Command, Reply, Put, Delete, Reclaim, Upgrade, Group, Engage, Disengage, Depend}
 use Rattle.patch_history.specs.Command.{CloseGroup, is_refused}
 use Rattle.patch_history.specs.Map.{Map, after_reply}

@@ -9,10 +9,10 @@ use Rattle.patch_recovery.specs.Change.{Made, step_of, widened}
 use Rattle.patch_recovery.specs.Ledger.{Ledger}
 use Rattle.patch_recovery.specs.Orders.{IsWellMade}
 use Rattle.patch_recovery.specs.Store.{IsOfStore}
-use Rattle.patch_extent.specs.Extents.{Extents}
-use Rattle.patch_extent.specs.Planning.{append_plan}
-use Rattle.patch_extent.specs.Writing.{after_change, after_plan, with_patches, named_plan, Written, written}
-use Rattle.patch_extent.specs.Writing.{steps_by, steps_of}
+use Rattle.patch_plans.specs.Extents.{Extents}
+use Rattle.patch_plans.specs.Planning.{append_plan}
+use Rattle.patch_plans.specs.Writing.{after_change, after_plan, with_patches, named_plan, Written, written}
+use Rattle.patch_plans.specs.Writing.{steps_by, steps_of}
 use Rattle.patch_history.specs.Shelf.{Shelf}
 use Rattle.patch_history.specs.Shelf as shelves
 use Rattle.patch_history.specs.Planning.{frame_plan, fill_plan}

@@ -44,7 +44,7 @@ pub fn frames_compose()
     ensures appended { AppendsAreCuts }
     ensures begun { BegunAppendsAreCuts }
 {
-    patch_extent::laws::plans_join();
+    patch_plans::laws::plans_join();
 }
 
 /// The steps of a plan of no writer, and those of one behind it, are those of both; so are some first ones. The extents of
@@ -55,7 +55,7 @@ pub fn plans_continue()
     ensures cut { CutsJoin }
     ensures stopped { WholesAreCuts }
 {
-    patch_extent::laws::plans_join();
+    patch_plans::laws::plans_join();
 }
 
 /// Some first steps of a plan are the steps of its first patches.
@@ -114,7 +114,7 @@ pub fn groups_are_kept()
     ensures { GroupsAreKept }
 {
     patch_model::laws::steps_extend();
-    patch_group::laws::order_is_kept();
+    patch_plans::laws::order_is_kept();
 }
 
 /// A put that isn't refused finds a slot and an extent with room. The frame of each used slot is there, with the value of

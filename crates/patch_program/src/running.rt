@@ -13,7 +13,7 @@ use patch_files::{
 };
 use patch_frame::Geometry;
 use patch_model::MAX_BLOCKS;
-use patch_replay::{BadScript, Sink, Source, Status, replay};
+use patch_replay::{BadScript, Output, Sink, Source, Status, replay};
 use std::alloc::Global;
 use std::fs::OpenFile;
 use std::io;
@@ -88,6 +88,7 @@ where
     }
 }
 
+/// Does what is asked for. The output gets its bytes in large pieces.
 fn run_request<F, H, R, W, E>(
     files: &H,
     alloc: Global,
@@ -104,19 +105,45 @@ where
     E: Write,
     requires { MayBeAsked request }
 {
+    let Ok(buffered) = BufWriter::new(alloc, &mut *output) else {
+        return out_of_memory(output);
+    };
+    let mut script = Source::new(input);
+    let mut answers = Sink::new(buffered);
+    run_streams(files, alloc, request, &mut script, &mut answers, errors)
+}
+
+fn run_streams<F, H, R, O, E>(
+    files: &H,
+    alloc: Global,
+    request: Request<'_>,
+    script: &mut Source<R>,
+    answers: &mut Sink<O>,
+    errors: &mut Errors<'_, E>,
+) -> u8
+where
+    F: FileExt + OpenFile + Drop + Send,
+    H: Files<File = F> + Threads + Wait + Sync,
+    R: Read,
+    O: Output,
+    E: Write,
+    requires { MayBeAsked request }
+{
     match request {
-        Request::Replay { blocks } => run_replay(alloc, input, output, errors, blocks),
-        Request::Make { path, geometry } => run_make(files, alloc, output, path, geometry),
+        Request::Replay { blocks } => run_replay(alloc, script, answers, errors, blocks),
+        Request::Make { path, geometry } => {
+            make_file(files, alloc, answers, path, geometry).code()
+        }
         Request::Run {
             path,
             writers: None,
-        } => run_script(files, alloc, input, output, errors, path),
+        } => run_script(files, alloc, script, answers, errors, path),
         Request::Run {
             path,
             writers: Some(writers),
-        } => run_writers(files, alloc, input, output, errors, path, writers),
-        Request::Check { path } => run_check(files, alloc, output, path),
-        Request::Upgrade { path } => run_upgrade(files, alloc, output, path),
+        } => run_writers(files, alloc, script, answers, errors, path, writers),
+        Request::Check { path } => check_file(files, alloc, answers, path).code(),
+        Request::Upgrade { path } => upgrade_file(files, alloc, answers, path).code(),
     }
 }
 
@@ -125,67 +152,44 @@ fn say<E: Write>(errors: &mut Errors<'_, E>, why: BadScript) {
     let _ = writeln!(errors.stream, "fstch: {why}");
 }
 
-fn run_replay<R: Read + Drop, W: Write + Drop, E: Write>(
+fn run_replay<R: Read, O: Output, E: Write>(
     alloc: Global,
-    input: R,
-    output: &mut W,
+    script: &mut Source<R>,
+    answers: &mut Sink<O>,
     errors: &mut Errors<'_, E>,
     blocks: u32,
 ) -> u8
     requires some { 0 < blocks }
     requires few { blocks ≤ MAX_BLOCKS }
-    ensures { IfSome (R.remaining input) (λ script. IsExitOf script result) }
+    ensures { IfSome (R.remaining script.old.inner) (λ text. IsExitOf text result) }
 {
-    let Ok(buffered) = BufWriter::new(alloc, &mut *output) else {
-        return out_of_memory(output);
-    };
-    let mut script = Source::new(input);
-    let mut answers = Sink::new(buffered);
-    let status = replay(alloc, &mut script, &mut answers, blocks);
+    let status = replay(alloc, script, answers, blocks);
     if let Status::Unreadable(why) = status {
         say(errors, why);
     }
     status.code()
 }
 
-fn run_make<F: FileExt + OpenFile + Drop, H: Files<File = F>, W: Write + Drop>(
+fn run_script<F, H, R, O, E>(
     files: &H,
     alloc: Global,
-    output: &mut W,
-    path: &str,
-    geometry: Geometry,
-) -> u8 {
-    let Ok(buffered) = BufWriter::new(alloc, &mut *output) else {
-        return out_of_memory(output);
-    };
-    make_file(files, alloc, &mut Sink::new(buffered), path, geometry).code()
-}
-
-fn run_script<F, H, R, W, E>(
-    files: &H,
-    alloc: Global,
-    input: R,
-    output: &mut W,
+    script: &mut Source<R>,
+    answers: &mut Sink<O>,
     errors: &mut Errors<'_, E>,
     path: &str,
 ) -> u8
 where
     F: FileExt + OpenFile + Drop,
     H: Files<File = F>,
-    R: Read + Drop,
-    W: Write + Drop,
+    R: Read,
+    O: Output,
     E: Write,
 {
-    let Ok(buffered) = BufWriter::new(alloc, &mut *output) else {
-        return out_of_memory(output);
-    };
-    let mut script = Source::new(input);
-    let mut answers = Sink::new(buffered);
     let status = if errors.is_terminal {
         let mut ticker = Ticker::new(&mut *errors.stream);
-        run_file(files, alloc, &mut script, &mut answers, path, &mut ticker)
+        run_file(files, alloc, script, answers, path, &mut ticker)
     } else {
-        run_file(files, alloc, &mut script, &mut answers, path, &mut Quiet)
+        run_file(files, alloc, script, answers, path, &mut Quiet)
     };
     if let FileStatus::Unreadable(why) = status {
         say(errors, why);
@@ -193,11 +197,11 @@ where
     status.code()
 }
 
-fn run_writers<F, H, R, W, E>(
+fn run_writers<F, H, R, O, E>(
     files: &H,
     alloc: Global,
-    input: R,
-    output: &mut W,
+    script: &mut Source<R>,
+    answers: &mut Sink<O>,
     errors: &mut Errors<'_, E>,
     path: &str,
     writers: u32,
@@ -205,45 +209,16 @@ fn run_writers<F, H, R, W, E>(
 where
     F: FileExt + OpenFile + Drop + Send,
     H: Files<File = F> + Threads + Wait + Sync,
-    R: Read + Drop,
-    W: Write + Drop,
+    R: Read,
+    O: Output,
     E: Write,
     requires { AreWriters writers }
 {
-    let Ok(buffered) = BufWriter::new(alloc, &mut *output) else {
-        return out_of_memory(output);
-    };
-    let mut script = Source::new(input);
-    let mut answers = Sink::new(buffered);
-    let status = serve_file(files, alloc, &mut script, &mut answers, path, writers);
+    let status = serve_file(files, alloc, script, answers, path, writers);
     if let FileStatus::Unreadable(why) = status {
         say(errors, why);
     }
     status.code()
-}
-
-fn run_check<F: FileExt + OpenFile + Drop, H: Files<File = F>, W: Write + Drop>(
-    files: &H,
-    alloc: Global,
-    output: &mut W,
-    path: &str,
-) -> u8 {
-    let Ok(buffered) = BufWriter::new(alloc, &mut *output) else {
-        return out_of_memory(output);
-    };
-    check_file(files, alloc, &mut Sink::new(buffered), path).code()
-}
-
-fn run_upgrade<F: FileExt + OpenFile + Drop, H: Files<File = F>, W: Write + Drop>(
-    files: &H,
-    alloc: Global,
-    output: &mut W,
-    path: &str,
-) -> u8 {
-    let Ok(buffered) = BufWriter::new(alloc, &mut *output) else {
-        return out_of_memory(output);
-    };
-    upgrade_file(files, alloc, &mut Sink::new(buffered), path).code()
 }
 
 /// Tells that memory ran out before the work began.

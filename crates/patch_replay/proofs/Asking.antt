@@ -12,10 +12,10 @@ use Rattle.patch_cache.specs.Asks.{Ask as CacheAsk, Answer as CacheAnswer, Creat
 use Rattle.patch_cache.specs.Asks as cache
 use Rattle.patch_cache.specs.Running.{Runs, HasWritten, HaveWritten}
 use Rattle.patch_cache.specs.Waves.{HoldImages}
-use Rattle.patch_group.specs.Groups.{Groups}
+use Rattle.patch_plans.specs.Groups.{Groups}
 use Rattle.patch_group.specs.Asks.{Ask, Answer, Part, Plain, Patch, Group, Engage, Disengage, Depend, Close, Pending, GroupMade, Done, Count, Refused, IsPlain, IsGroupAnswer, IsGroupGivenUp, AreGroupAnswers, is_refused, plain_of, answered_by, part_of, parts, cache_asks, cache_answers, after_parts, run_after, groups_after}
 use Rattle.patch_group.specs.Asks as group
-use Rattle.patch_group.specs.Order.{AreGroupsOf}
+use Rattle.patch_plans.specs.Order.{AreGroupsOf}
 use Rattle.patch_group.specs.Runs.{group_answer_of}
 use Rattle.patch_group.specs.declared.asks.GroupAnswer.{GroupAnswer as CodeAnswer}
 use Rattle.patch_script.specs.declared.answers.Answer.{Answer as LineAnswer}

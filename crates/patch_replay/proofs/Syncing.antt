@@ -5,7 +5,7 @@ use Rattle.patch_model.specs.declared.refusals.OutOfMemory.{OutOfMemory}
 use Rattle.patch_model.specs.declared.refusals.RefusalKind.TheVariants as kind
 use Rattle.patch_model.specs.Refusing.{bare}
 use Rattle.patch_device.specs.MemDevice.{contents_of}
-use Rattle.patch_group.specs.Groups.{why_not_counted}
+use Rattle.patch_plans.specs.Groups.{why_not_counted}
 use Rattle.patch_group.specs.declared.refusals.SyncRefusal.{SyncRefusal}
 use Rattle.patch_group.specs.declared.refusals.SyncRefusal.TheVariants.{NoSuchGroup}
 use Rattle.patch_script.specs.declared.answers.Answer.{Answer}

@@ -9,7 +9,7 @@ use Rattle.patch_cache.specs.Asks.{Merge, Send, Complete, View}
 use Rattle.patch_cache.specs.Asks as cache
 use Rattle.patch_cache.specs.Viewing.{bytes_at}
 use Rattle.patch_cache.specs.Waves.{HoldImages}
-use Rattle.patch_group.specs.Groups.{patches_of, why_not_counted}
+use Rattle.patch_plans.specs.Groups.{patches_of, why_not_counted}
 use Rattle.patch_group.specs.Asks.{Ask, Plain, Patch, Group, Engage, Disengage, Depend, Close, Pending, IsGroupAnswer}
 use Rattle.patch_group.specs.Asks as group
 use Rattle.patch_group.specs.Syncing.{IsSynced}

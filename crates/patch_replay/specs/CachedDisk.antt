@@ -7,7 +7,7 @@ use Rattle.patch_cache.specs.Asks as cache
 use Rattle.patch_cache.specs.Running.{Runs}
 use Rattle.patch_cache.specs.Waves.{HoldImages}
 use Rattle.patch_group.specs.Asks.{Answer, Plain, Refused}
-use Rattle.patch_group.specs.Order.{AreGroupsOf}
+use Rattle.patch_plans.specs.Order.{AreGroupsOf}
 use Rattle.patch_replay.specs.World.{World}
 use Rattle.patch_replay.specs.declared.cached_disk.CachedDisk.{CachedDisk}
 

@@ -6,7 +6,7 @@ use Rattle.patch_device.specs.Blocks.{zeros}
 use Rattle.patch_cache.specs.Asks.{Ask as CacheAsk, Create, Merge, Send, Complete, View}
 use Rattle.patch_cache.specs.declared.asks.Move.{Move}
 use Rattle.patch_cache.specs.declared.asks.Move.TheVariants.{Take, Back}
-use Rattle.patch_group.specs.Groups.{Groups, no_groups}
+use Rattle.patch_plans.specs.Groups.{Groups, no_groups}
 use Rattle.patch_group.specs.Asks.{Ask, Answer, plain_of, is_refused, run_after, groups_after}
 
 -- an execution, the groups of its patches, and a disk that is a plain list of blocks

@@ -12,11 +12,12 @@ use crate::cores::Core;
 use crate::line_answers::{answer_of_ask, answer_of_sync_refusal};
 use patch_cache::{Ask, Cache, Flights, Move};
 use patch_device::{Device, MemDevice, load};
-use patch_group::{GroupAsk, Groups, laws as group_laws, sync};
+use patch_group::{GroupAsk, Groups, sync};
 use patch_model::{
     BLOCK, BlockNo, Bytes, Ending, GroupNo, Items, MAX_BLOCKS, Numbers, OutOfMemory, PatchNo,
     RefusalKind, Refuses, laws as model_laws,
 };
+use patch_plans::laws as plan_laws;
 use patch_script::{Answer, Line, Span};
 use std::alloc::{AllocError, Global};
 
@@ -38,7 +39,7 @@ impl CachedDisk {
         requires few { blocks ≤ MAX_BLOCKS }
         ensures { IfOk result (λ disk. IsAt disk (start blocks)) }
     {
-        group_laws::order_is_kept();
+        plan_laws::order_is_kept();
         let mut device = MemDevice::new(alloc, blocks)?;
         let Ok(zeros) = load(alloc, &mut device) else {
             return Err(OutOfMemory);

@@ -5,7 +5,7 @@ use Rattle.std.specs.List.{list_all}
 use Rattle.std.proofs.lemmas.Bool.{and_parts}
 use Rattle.patch_model.specs.Execution.{Execution}
 use Rattle.patch_cache.specs.Asks.{Ask as CacheAsk, Answer as CacheAnswer, IsAnswer}
-use Rattle.patch_group.specs.Groups.{Groups}
+use Rattle.patch_plans.specs.Groups.{Groups}
 use Rattle.patch_group.specs.Asks.{Ask, Answer, Plain, GroupMade, Done, Count, Refused, IsPlain, IsGroupAnswer, plain_of, call_answer}
 use Rattle.patch_script.specs.declared.answers.Answer.{Answer as LineAnswer}
 use Rattle.patch_script.specs.declared.forms.Line.{Line}

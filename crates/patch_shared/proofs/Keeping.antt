@@ -14,8 +14,8 @@ use Rattle.patch_model.specs.declared.steps.Step.{Step as CodeStep}
 use Rattle.patch_model.specs.Legal.{IsLegal}
 use Rattle.patch_cache.specs.Meaning.{Represents as IsCacheOf}
 use Rattle.patch_cache.specs.Waves.{is_send}
-use Rattle.patch_extent.specs.Extents.{Extents, extent_at}
-use Rattle.patch_extent.specs.Writing.{written, steps_by, merge_behind, merge_with, after_change}
+use Rattle.patch_plans.specs.Extents.{Extents, extent_at}
+use Rattle.patch_plans.specs.Writing.{written, steps_by, merge_behind, merge_with, after_change}
 use Rattle.patch_history.specs.Command.{Command, Reply, is_refused, may_be_cut}
 use Rattle.patch_history.specs.History.{History, BookCall, Event, Call, Moved, IsRight, IsWhole, IsCut, steps_in, steps_of, calls_from, calls_of, execution_of, with_event}
 use Rattle.patch_history.specs.Standing.{Standing, plan_of, made_by}

@@ -13,7 +13,7 @@ use Rattle.patch_recovery.specs.Closed.{cached_blocks}
 use Rattle.patch_recovery.specs.Ledger.{Ledger}
 use Rattle.patch_recovery.specs.Reading.{ledger_in}
 use Rattle.patch_extent.specs.Answers.{cached_bytes}
-use Rattle.patch_extent.specs.Extents.{offset_at}
+use Rattle.patch_plans.specs.Extents.{offset_at}
 use Rattle.patch_history.specs.Choosing.{current_for, first_of_any, empty_extents, extent_for_move}
 use Rattle.patch_history.specs.Shelf.{Shelf, slot_at}
 use Rattle.patch_history.specs.Standing.{Standing}

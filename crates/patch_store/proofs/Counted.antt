@@ -6,12 +6,12 @@ use Rattle.std.proofs.lemmas.Bool.{cases_Bool}
 use Rattle.std.proofs.lemmas.Bool.Decides.{nat_tests}
 use Rattle.std.proofs.lemmas.List.{length-append, take-append-le, take-map}
 use Rattle.patch_model.specs.Step.{Step}
-use Rattle.patch_group.specs.Groups.{Groups, named, with_patch}
+use Rattle.patch_plans.specs.Groups.{Groups, named, with_patch}
 use Rattle.patch_recovery.specs.Change.{Change, Data, Point, Fill, Clear, Widen, Made}
-use Rattle.patch_extent.specs.Extents.{Extents, extent_at, generation_at, offset_at}
-use Rattle.patch_extent.specs.Planning.{touched, part, parts, names_behind, append_plan}
-use Rattle.patch_extent.specs.Writing as extents
-use Rattle.patch_extent.specs.Writing.{named_plan, with_patches, merge_with, merge_behind, written, steps_by, steps_of}
+use Rattle.patch_plans.specs.Extents.{Extents, extent_at, generation_at, offset_at}
+use Rattle.patch_plans.specs.Planning.{touched, part, parts, names_behind, append_plan}
+use Rattle.patch_plans.specs.Writing as extents
+use Rattle.patch_plans.specs.Writing.{named_plan, with_patches, merge_with, merge_behind, written, steps_by, steps_of}
 use Rattle.patch_history.specs.History.{IsWhole}
 use Rattle.patch_history.specs.Shelf.{Shelf, after_point, after_change, after_plan}
 use Rattle.patch_history.specs.Standing.{Standing, made_by, creates}

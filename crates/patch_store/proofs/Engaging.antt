@@ -7,8 +7,8 @@ use Rattle.patch_cache.specs.Meaning.{Represents as IsCacheOf}
 use Rattle.patch_cache.specs.Refusals.{IsCause}
 use Rattle.patch_group.specs.declared.refusals.GroupRefusal.{GroupRefusal}
 use Rattle.patch_group.specs.Refusals.{group_cause}
-use Rattle.patch_group.specs.Groups.{Groups, why_not_begun, why_not_engaged, why_not_disengaged, why_not_ordered, why_not_closed, why_not_counted, pending, begun, engaged, disengaged, ordered, closed}
-use Rattle.patch_group.specs.Order.{AreGroupsOf}
+use Rattle.patch_plans.specs.Groups.{Groups, why_not_begun, why_not_engaged, why_not_disengaged, why_not_ordered, why_not_closed, why_not_counted, pending, begun, engaged, disengaged, ordered, closed}
+use Rattle.patch_plans.specs.Order.{AreGroupsOf}
 use Rattle.patch_history.specs.Command.{Command, Group, Engage, Disengage, Depend, CloseGroup, Pending, Done, GroupMade, Count, unless}
 use Rattle.patch_history.specs.Laws.{HistoriesExtend, StandingsRun, GroupsAreKept}
 use Rattle.patch_history.specs.History.{History, Call, IsRight, after_event, execution_of, standing_of}

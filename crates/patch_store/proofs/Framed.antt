@@ -8,7 +8,7 @@ use Rattle.patch_model.specs.State.{entries_of}
 use Rattle.patch_model.specs.declared.patches.Undo.TheVariants.{MayDrop}
 use Rattle.patch_cache.specs.Contents.{Contents}
 use Rattle.patch_cache.specs.Meaning.{Represents as IsCacheOf}
-use Rattle.patch_group.specs.Groups.{Groups, patch_of, with_patch}
+use Rattle.patch_plans.specs.Groups.{Groups, patch_of, with_patch}
 use Rattle.patch_frame.specs.Frame.{Content, spelling, length_of}
 use Rattle.patch_frame.specs.Geometry.{slot_block, slot_start}
 use Rattle.patch_frame.specs.Slot.{SlotFields}
@@ -16,10 +16,10 @@ use Rattle.patch_frame.specs.Slot as slots
 use Rattle.patch_recovery.specs.Change.{Fill, Made}
 use Rattle.patch_extent.specs.Answers.{setting, asked, IsSettingOf}
 use Rattle.patch_extent.specs.Appending.{IsPatched}
-use Rattle.patch_extent.specs.Extents.{offset_at}
-use Rattle.patch_extent.specs.Planning.{touched, append_plan}
-use Rattle.patch_extent.specs.Writing as extents
-use Rattle.patch_extent.specs.Writing.{with_patches, steps_of}
+use Rattle.patch_plans.specs.Extents.{offset_at}
+use Rattle.patch_plans.specs.Planning.{touched, append_plan}
+use Rattle.patch_plans.specs.Writing as extents
+use Rattle.patch_plans.specs.Writing.{with_patches, steps_of}
 use Rattle.patch_history.specs.History.{IsWhole}
 use Rattle.patch_history.specs.Planning.{fields_for}
 use Rattle.patch_history.specs.Shelf.{Shelf, slot_at, leaving, after_change, after_plan}

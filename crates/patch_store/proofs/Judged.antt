@@ -9,9 +9,9 @@ use Rattle.patch_model.specs.Refusing.{bare}
 use Rattle.patch_model.specs.Entry.{is_live}
 use Rattle.patch_model.specs.State.{entries_of}
 use Rattle.patch_recovery.specs.Change.{Made}
-use Rattle.patch_extent.specs.Extents.{generation_at, offset_at}
-use Rattle.patch_extent.specs.Planning.{reset_plan}
-use Rattle.patch_extent.specs.Refusing.{why_no_room}
+use Rattle.patch_plans.specs.Extents.{generation_at, offset_at}
+use Rattle.patch_plans.specs.Planning.{reset_plan}
+use Rattle.patch_plans.specs.Room.{why_no_room}
 use Rattle.patch_history.specs.Choosing.{live_frames}
 use Rattle.patch_history.specs.Command.{Reclaim}
 use Rattle.patch_history.specs.History.{History, execution_of, standing_of}

@@ -7,16 +7,16 @@ use Rattle.std.proofs.lemmas.List.{length-append, take-append-le, get_or-set_sam
 use Rattle.patch_model.specs.Step.{Step, Create, Merge, Send, Complete}
 use Rattle.patch_model.specs.Execution.{followed_by}
 use Rattle.patch_cache.specs.Meaning.{Represents as IsCacheOf}
-use Rattle.patch_group.specs.Groups.{Groups}
+use Rattle.patch_plans.specs.Groups.{Groups}
 use Rattle.patch_frame.specs.Frame.{Content, spelling}
 use Rattle.patch_frame.specs.Slot.{SlotFields}
 use Rattle.patch_recovery.specs.Change.{Point, Made}
-use Rattle.patch_extent.specs.declared.records.Extent.{Extent}
-use Rattle.patch_extent.specs.Extents.{Extents, no_extent, pointed, extent_at, generation_at, offset_at}
-use Rattle.patch_extent.specs.Extents as kept
-use Rattle.patch_extent.specs.Planning.{touched, parts, names_behind, append_plan}
-use Rattle.patch_extent.specs.Writing as extents
-use Rattle.patch_extent.specs.Writing.{named_plan, with_patches, written, steps_by}
+use Rattle.patch_plans.specs.declared.records.Extent.{Extent}
+use Rattle.patch_plans.specs.Extents.{Extents, no_extent, pointed, extent_at, generation_at, offset_at}
+use Rattle.patch_plans.specs.Extents as kept
+use Rattle.patch_plans.specs.Planning.{touched, parts, names_behind, append_plan}
+use Rattle.patch_plans.specs.Writing as extents
+use Rattle.patch_plans.specs.Writing.{named_plan, with_patches, written, steps_by}
 use Rattle.patch_history.specs.Choosing.{extent_for_move}
 use Rattle.patch_history.specs.History.{IsWhole, IsCut}
 use Rattle.patch_history.specs.Planning.{frame_plan, fill_plan, content_of, moves}

@@ -20,9 +20,9 @@ use Rattle.patch_frame.specs.Frame.{Content, Fits, spelling, length_of}
 use Rattle.patch_frame.specs.Geometry.{IsFormat, value_limit, longest_frame, largest_pointer}
 use Rattle.patch_recovery.specs.Change.{Made, Point}
 use Rattle.patch_recovery.specs.Reading.{has_key}
-use Rattle.patch_extent.specs.Extents.{generation_at, offset_at}
-use Rattle.patch_extent.specs.Planning.{touched, parts, names_behind, part}
-use Rattle.patch_extent.specs.Refusing.{why_no_room}
+use Rattle.patch_plans.specs.Extents.{generation_at, offset_at}
+use Rattle.patch_plans.specs.Planning.{touched, parts, names_behind, part}
+use Rattle.patch_plans.specs.Room.{why_no_room}
 use Rattle.patch_history.specs.Choosing.{slot_of, empty_slot, slot_for, has_room, current_for, first_of_any, first_of_two, empty_extents, extent_for_put}
 use Rattle.patch_history.specs.Fitting.{HasPlace}
 use Rattle.patch_history.specs.Kept.{ShelvesAreKept}

@@ -10,8 +10,8 @@ use Rattle.patch_model.specs.Step.{Step}
 use Rattle.patch_cache.specs.Meaning.{Represents as IsCacheOf}
 use Rattle.patch_frame.specs.Frame.{Content, spelling, length_of}
 use Rattle.patch_recovery.specs.Change.{Made}
-use Rattle.patch_extent.specs.Meaning.{Represents as AreExtentsOf}
-use Rattle.patch_extent.specs.Writing.{named_plan, with_patches}
+use Rattle.patch_plans.specs.Meaning.{Represents as AreExtentsOf}
+use Rattle.patch_plans.specs.Writing.{named_plan, with_patches}
 use Rattle.patch_history.specs.Command.{Reply, Put, Done, Refused, unless, is_refused}
 use Rattle.patch_history.specs.Choosing.{slot_for, extent_for_put}
 use Rattle.patch_history.specs.Laws.{HistoriesExtend, StandingsRun, StandingsAgree, ExtentsAreKept}

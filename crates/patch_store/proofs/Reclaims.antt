@@ -18,9 +18,9 @@ use Rattle.patch_recovery.specs.Closed.{cached_blocks}
 use Rattle.patch_recovery.specs.Ledger.{bytes_at}
 use Rattle.patch_recovery.specs.Reading.{ledger_in}
 use Rattle.patch_extent.specs.Answers.{cached_bytes}
-use Rattle.patch_extent.specs.Meaning.{Represents as AreExtentsOf}
-use Rattle.patch_extent.specs.Planning.{reset_plan}
-use Rattle.patch_extent.specs.Writing.{named_plan}
+use Rattle.patch_plans.specs.Meaning.{Represents as AreExtentsOf}
+use Rattle.patch_plans.specs.Planning.{reset_plan}
+use Rattle.patch_plans.specs.Writing.{named_plan}
 use Rattle.patch_history.specs.Choosing.{extent_for_move, live_frames}
 use Rattle.patch_history.specs.Command.{Reclaim, Done, Refused, unless, is_refused}
 use Rattle.patch_history.specs.Fitting.{NextMoves, shelf_behind, next_behind}

@@ -13,16 +13,16 @@ use Rattle.std.proofs.Math.Seq.{map-set_same}
 use Rattle.std.proofs.lemmas.List.{map-set, get_or-map}
 use Rattle.std.proofs.lemmas.List.Quantifiers.{position-Some}
 use Rattle.patch_cache.specs.Contents.{Contents}
-use Rattle.patch_group.specs.Groups.{Groups, patch_of, with_patch}
+use Rattle.patch_plans.specs.Groups.{Groups, patch_of, with_patch}
 use Rattle.patch_extent.specs.Appending.{IsPatched}
-use Rattle.patch_extent.specs.Writing.{named_plan, written, steps_by}
+use Rattle.patch_plans.specs.Writing.{named_plan, written, steps_by}
 use Rattle.patch_frame.specs.Field.{zeros}
 use Rattle.patch_frame.specs.Geometry.{slot_block, slot_start}
 use Rattle.patch_frame.specs.Slot.{SlotFields}
 use Rattle.patch_recovery.specs.Change.{Clear, Made}
 use Rattle.patch_recovery.specs.Ledger.{value_in}
 use Rattle.patch_recovery.specs.Reading.{has_key}
-use Rattle.patch_extent.specs.Refusing.{why_no_room}
+use Rattle.patch_plans.specs.Room.{why_no_room}
 use Rattle.patch_history.specs.Command.{Delete, Done, Refused, unless}
 use Rattle.patch_history.specs.Kept.{ShelvesAreKept}
 use Rattle.patch_history.specs.Laws.{HistoriesExtend, HistoriesAreRead, StandingsAgree}

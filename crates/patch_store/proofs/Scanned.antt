@@ -26,8 +26,8 @@ use Rattle.patch_recovery.specs.Ledger.{Ledger, bytes_at, is_frame_of, names_fra
 use Rattle.patch_recovery.specs.Reading.{Fault, BadSlot, BadFrame, DuplicateKey, block_on, ledger_in, read_as, record_at, slot_bytes, slot_tests, used_tests, has_key}
 use Rattle.patch_extent.specs.Answers.{cached_bytes}
 use Rattle.patch_extent.specs.declared.places.Place.{Place}
-use Rattle.patch_extent.specs.Extents.{Extents, extent_at, generation_at, offset_at}
-use Rattle.patch_extent.specs.Meaning.{Represents as AreExtentsOf}
+use Rattle.patch_plans.specs.Extents.{Extents, extent_at, generation_at, offset_at}
+use Rattle.patch_plans.specs.Meaning.{Represents as AreExtentsOf}
 use Rattle.patch_extent.specs.Refusing.{why_not_read}
 use Rattle.patch_history.specs.declared.refusals.OpenFault.{OpenFault}
 use Rattle.patch_store.specs.Opening.{nothing, unchanged, NoneHolds, IsSpan, IsFirstOf, IsPlaced, IsScanned, AreScanned, frame_tests}

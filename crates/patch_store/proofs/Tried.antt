@@ -9,9 +9,9 @@ use Rattle.std.proofs.lemmas.List.{length-set}
 use Rattle.patch_frame.specs.Frame.{Content, spelling}
 use Rattle.patch_frame.specs.Geometry.{largest_pointer}
 use Rattle.patch_recovery.specs.Change.{Point, Made}
-use Rattle.patch_extent.specs.declared.records.Extent.{Extent}
-use Rattle.patch_extent.specs.Extents.{Extents, extent_at, generation_at, offset_at, no_extent, pointed, after_point}
-use Rattle.patch_extent.specs.Planning.{touched, parts, names_behind, append_plan}
+use Rattle.patch_plans.specs.declared.records.Extent.{Extent}
+use Rattle.patch_plans.specs.Extents.{Extents, extent_at, generation_at, offset_at, no_extent, pointed, after_point}
+use Rattle.patch_plans.specs.Planning.{touched, parts, names_behind, append_plan}
 use Rattle.patch_history.specs.Choosing.{has_room, current_for, first_of_any, empty_extents, extent_for_move}
 use Rattle.patch_history.specs.Planning.{frame_plan, fill_plan}
 use Rattle.patch_history.specs.Shelf.{Shelf, after_plan}

@@ -17,8 +17,8 @@ use Rattle.patch_cache.specs.Contents.{Contents}
 use Rattle.patch_cache.specs.Creating.{IsMade}
 use Rattle.patch_cache.specs.Meaning.{Represents as IsCacheOf}
 use Rattle.patch_recovery.specs.Change.{Widen, widened, step_of, bytes_of}
-use Rattle.patch_extent.specs.Extents.{Extents}
-use Rattle.patch_extent.specs.Refusing.{why_no_room}
+use Rattle.patch_plans.specs.Extents.{Extents}
+use Rattle.patch_plans.specs.Room.{why_no_room}
 use Rattle.patch_history.specs.Command.{Upgrade, Done, Refused, unless}
 use Rattle.patch_history.specs.Kept.{ShelvesAreKept}
 use Rattle.patch_history.specs.Laws.{HistoriesExtend, StandingsAgree}

@@ -3,7 +3,7 @@ use Rattle.std.specs.Prelude.{ℕ, ◌≡◌, List, length, map}
 use Rattle.std.specs.List.{range_with_len}
 use Rattle.patch_frame.specs.Frame.{Content}
 use Rattle.patch_recovery.specs.Ledger.{map_of, value_in}
-use Rattle.patch_extent.specs.Extents.{generation_at, offset_at}
+use Rattle.patch_plans.specs.Extents.{generation_at, offset_at}
 use Rattle.patch_history.specs.History.{History, standing_of, ledger_of}
 use Rattle.patch_history.specs.Shelf.{Shelf}
 use Rattle.patch_index.specs.Reporting.{live_bytes}

@@ -13,9 +13,9 @@ use Rattle.patch_frame.specs.Slot as slots
 use Rattle.patch_recovery.specs.Change.{Fill, Made}
 use Rattle.patch_extent.specs.Answers.{Setting, setting, IsSettingOf, Append, plan_of, IsWritten, IsBegun}
 use Rattle.patch_extent.specs.Appending.{IsPatched}
-use Rattle.patch_extent.specs.Extents.{generation_at, offset_at}
-use Rattle.patch_extent.specs.Planning.{touched}
-use Rattle.patch_extent.specs.Writing.{with_patches}
+use Rattle.patch_plans.specs.Extents.{generation_at, offset_at}
+use Rattle.patch_plans.specs.Planning.{touched}
+use Rattle.patch_plans.specs.Writing.{with_patches}
 use Rattle.patch_history.specs.History.{IsWhole, IsCut}
 use Rattle.patch_history.specs.Shelf.{Shelf, slot_at, after_change, after_plan}
 use Rattle.patch_history.specs.Standing.{Standing, made_by, creates}

@@ -4,7 +4,7 @@ use Rattle.patch_model.specs.Step.{Step}
 use Rattle.patch_cache.specs.Contents.{Contents}
 use Rattle.patch_cache.specs.Meaning.{Represents as IsCacheOf}
 use Rattle.patch_frame.specs.Geometry.{IsGeometry, slot_count}
-use Rattle.patch_group.specs.Groups.{Groups}
+use Rattle.patch_plans.specs.Groups.{Groups}
 use Rattle.patch_history.specs.Command.{Command, Reply}
 use Rattle.patch_history.specs.Shelf.{Shelf}
 use Rattle.patch_history.specs.History.{History, Event, Call, IsLegalHistory, IsRight, execution_of, standing_of, steps_in}

@@ -11,7 +11,7 @@ use Rattle.patch_frame.specs.Geometry.{value_limit}
 use Rattle.patch_frame.specs.Slot.{SlotFields}
 use Rattle.patch_recovery.specs.Change.{Made}
 use Rattle.patch_extent.specs.Answers.{IsSettingOf, cached_bytes}
-use Rattle.patch_extent.specs.Planning.{reset_plan}
+use Rattle.patch_plans.specs.Planning.{reset_plan}
 use Rattle.patch_history.specs.Choosing.{extent_for_move, live_frames}
 use Rattle.patch_history.specs.Command.{Reclaim}
 use Rattle.patch_history.specs.History.{History, IsWhole, IsCut, standing_of}

@@ -12,8 +12,8 @@ use Rattle.patch_frame.specs.Slot.{SlotFields}
 use Rattle.patch_frame.specs.Superblock.{superblock_at}
 use Rattle.patch_recovery.specs.Ledger.{Ledger, bytes_at, names_frame}
 use Rattle.patch_recovery.specs.Reading.{Fault, BadPointer, BadSlot, BadFrame, reading, ledger_in, bad_pointers, slot_tests, block_on}
-use Rattle.patch_extent.specs.Extents.{Extents, offset_at}
-use Rattle.patch_extent.specs.Meaning.{Represents as AreExtentsOf}
+use Rattle.patch_plans.specs.Extents.{Extents, offset_at}
+use Rattle.patch_plans.specs.Meaning.{Represents as AreExtentsOf}
 use Rattle.patch_history.specs.declared.refusals.OpenFault.{OpenFault}
 use Rattle.patch_history.specs.History.{History}
 use Rattle.patch_history.specs.Refusals.{fault_of}

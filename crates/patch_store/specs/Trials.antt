@@ -2,7 +2,7 @@
 use Rattle.std.specs.Prelude.{ℕ, ◌≡◌, ◌<◌, ◌==◌, not, List, filter, length, Option, Some, None, IfSome, MatchOption, option_map}
 use Rattle.patch_frame.specs.Frame.{Content, spelling}
 use Rattle.patch_frame.specs.Geometry.{largest_pointer}
-use Rattle.patch_extent.specs.Extents.{offset_at}
+use Rattle.patch_plans.specs.Extents.{offset_at}
 use Rattle.patch_history.specs.Choosing.{empty_extents, extent_for_move, live_frames}
 use Rattle.patch_history.specs.Planning.{frame_plan, moves}
 use Rattle.patch_history.specs.Shelf.{Shelf, after_plan}

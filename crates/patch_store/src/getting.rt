@@ -2,7 +2,7 @@
 ghost use Rattle.std.specs.Prelude.{◌≡◌, IfOk};
 ghost use Rattle.patch_model.specs.Execution.{Execution};
 ghost use Rattle.patch_cache.specs.Meaning.{Represents as IsCacheOf};
-ghost use Rattle.patch_extent.specs.Meaning.{Represents as AreExtentsOf};
+ghost use Rattle.patch_plans.specs.Meaning.{Represents as AreExtentsOf};
 ghost use Rattle.patch_history.specs.History.{History};
 ghost use Rattle.patch_index.specs.Index.{fields_of};
 ghost use Rattle.patch_store.specs.Getting.{IsGot, value_kept};

@@ -2,10 +2,10 @@
 ghost use Rattle.std.specs.Prelude.{◌≡◌, ◌<◌, ℕ, List, All, length, map, replicate, find, [], IfOk, IfSome, MatchResult};
 ghost use Rattle.std.specs.List.{range_with_len};
 ghost use Rattle.patch_cache.specs.Meaning.{Represents as IsCacheOf};
-ghost use Rattle.patch_extent.specs.Meaning.{Represents as AreExtentsOf};
+ghost use Rattle.patch_plans.specs.Meaning.{Represents as AreExtentsOf};
 ghost use Rattle.patch_frame.specs.Field.{AreBytes};
 ghost use Rattle.patch_frame.specs.Geometry.{IsGeometry, block_count};
-ghost use Rattle.patch_group.specs.Groups.{no_groups};
+ghost use Rattle.patch_plans.specs.Groups.{no_groups};
 ghost use Rattle.patch_store.specs.Laws.{ClosedDisksOpen, CrashDisksOpen};
 ghost use Rattle.patch_store.specs.Opening.{unchanged, Opens, KeepsCache, IsDivided, IsFaultOf, IsFirstOf, IsWholeDisk, IsDiskOf, pointer_tests, is_open, shelf_of};
 

@@ -2,8 +2,8 @@ use Rattle.std.proofs.Common.{◌≡◌, ℕ, ◌+◌, ◌∙◌, ◌++◌, ◌�
 use Rattle.std.proofs.lemmas.Bool.{cases_lt}
 use Rattle.std.proofs.lemmas.List.{length_push, get_or_push, get_or_append_left}
 use Rattle.patch_frame.specs.declared.geometries.Geometry.{Geometry}
-use Rattle.patch_extent.specs.declared.records.Extent.{Extent}
-use Rattle.patch_extent.specs.Extents.{no_extent}
+use Rattle.patch_plans.specs.declared.records.Extent.{Extent}
+use Rattle.patch_plans.specs.Extents.{no_extent}
 use Rattle.patch_extent.specs.Opening.{IsRecord, AreRecords}
 use Rattle.patch_extent.proofs.extents.read_records.Goals as goal
 

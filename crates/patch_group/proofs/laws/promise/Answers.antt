@@ -1,4 +1,4 @@
-use Rattle.patch_group.proofs.Standing.{closed_sets}
+use Rattle.patch_group.proofs.Promising.{closed_sets}
 use Rattle.patch_group.proofs.Promising.{in_order}
 use Rattle.patch_group.proofs.laws.promise.Goals as goal
 

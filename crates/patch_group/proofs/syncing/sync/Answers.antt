@@ -3,7 +3,7 @@ use Rattle.std.specs.Prelude.{count_by}
 use Rattle.patch_model.specs.Execution.{followed_by}
 use Rattle.patch_model.specs.State.{entries_of}
 use Rattle.patch_cache.specs.Waves.{steps_since}
-use Rattle.patch_group.specs.Groups.{is_pending, patches_of}
+use Rattle.patch_plans.specs.Groups.{is_pending, patches_of}
 use Rattle.patch_group.specs.Syncing.{IsSynced}
 use Rattle.patch_group.proofs.Pending.{none_left}
 use Rattle.patch_group.proofs.Steps.{for_all, landed_first}

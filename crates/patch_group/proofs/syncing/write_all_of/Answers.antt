@@ -5,7 +5,7 @@ use Rattle.patch_model.specs.Execution.{followed_by}
 use Rattle.patch_model.specs.State.{entries_of}
 use Rattle.patch_device.specs.SameDevice.{same_both}
 use Rattle.patch_cache.specs.Waves.{steps_since}
-use Rattle.patch_group.specs.Groups.{is_pending}
+use Rattle.patch_plans.specs.Groups.{is_pending}
 use Rattle.patch_group.specs.Syncing.{IsSynced}
 use Rattle.patch_group.proofs.Pending.{none_still, none_pending_of}
 use Rattle.patch_group.proofs.Writing.{continues_both, went_both, keeps_both, since_both, sends_both, stays_past, wrote_none, wrote_some, same_run}

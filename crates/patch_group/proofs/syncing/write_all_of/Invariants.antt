@@ -5,7 +5,7 @@ use Rattle.patch_model.specs.State.{entries_of}
 use Rattle.patch_device.specs.SameDevice.{IsSameDevice}
 use Rattle.patch_cache.specs.Running.{Runs, held_by}
 use Rattle.patch_cache.specs.Waves.{is_send, steps_since, Continues, HasGoneOn, KeepsDisk}
-use Rattle.patch_group.specs.Groups.{is_pending}
+use Rattle.patch_plans.specs.Groups.{is_pending}
 use Rattle.patch_group.proofs.Steps.{LeadsOn}
 use Rattle.patch_group.proofs.syncing.write_all_of.Given as goal
 

@@ -2,7 +2,7 @@ use Rattle.std.proofs.Common.{◌≡◌, ◌++◌, take, filter}
 use Rattle.patch_model.specs.Execution.{Execution}
 use Rattle.patch_model.specs.State.{entries_of}
 use Rattle.patch_cache.specs.Meaning.{Represents}
-use Rattle.patch_group.specs.Groups.{is_pending}
+use Rattle.patch_plans.specs.Groups.{is_pending}
 use Rattle.patch_group.specs.Records.{patches_in}
 use Rattle.patch_group.proofs.waiting.wait_for_each.Given as goal
 

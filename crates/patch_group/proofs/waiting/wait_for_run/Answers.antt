@@ -1,7 +1,7 @@
 use Rattle.std.proofs.Common.{◌∙◌, ◌++◌, ◌∷◌, [], ◌-◌, sym, ap, arith, append_assoc, filter}
 use Rattle.std.specs.List.{range_with_len}
 use Rattle.patch_model.specs.State.{entries_of}
-use Rattle.patch_group.specs.Groups.{is_pending}
+use Rattle.patch_plans.specs.Groups.{is_pending}
 use Rattle.patch_group.proofs.Ranges.{range_next}
 use Rattle.patch_group.proofs.Pending.{filter_both}
 use Rattle.patch_group.proofs.waiting.wait_for_run.Goals as goal

@@ -3,7 +3,7 @@ use Rattle.std.specs.List.{range_with_len}
 use Rattle.patch_model.specs.Execution.{Execution}
 use Rattle.patch_model.specs.State.{entries_of}
 use Rattle.patch_cache.specs.Meaning.{Represents}
-use Rattle.patch_group.specs.Groups.{is_pending}
+use Rattle.patch_plans.specs.Groups.{is_pending}
 use Rattle.patch_group.proofs.waiting.wait_for_run.Given as goal
 
 abbrev pub invariant-loop-no : goal.invariant-loop-no

@@ -1,6 +1,6 @@
 use Rattle.std.proofs.Common.{◌≡◌, List, [], ◌∷◌, Bool, true, false, refl, ap, inl, inr, length, drop, arith, ℕ, ◌<◌}
 use Rattle.patch_frame.specs.Field.{zeros}
-use Rattle.patch_extent.specs.Writing.{Written, steps_by}
+use Rattle.patch_plans.specs.Writing.{Written, steps_by}
 use Rattle.patch_model.specs.Refusal.{code_of}
 use Rattle.patch_history.specs.Command.{Reply, Done, Value, Absent, GroupMade, Count, Refused}
 use Rattle.patch_history.specs.Rows.{put_steps, put_written}

@@ -2,8 +2,8 @@ use Rattle.std.proofs.Common.{◌≡◌, ◌∙◌, ◌++◌, ◌∷◌, [], tru
 use Rattle.std.specs.List.{insert}
 use Rattle.std.proofs.lemmas.List.{get_or_read, length-append}
 use Rattle.std.proofs.lemmas.List.Edits.{insert_end}
-use Rattle.patch_extent.specs.declared.records.Extent.{Extent}
-use Rattle.patch_extent.specs.Extents.{is_empty_in, no_extent}
+use Rattle.patch_plans.specs.declared.records.Extent.{Extent}
+use Rattle.patch_plans.specs.Extents.{is_empty_in, no_extent}
 use Rattle.patch_extent.proofs.Emptied.{same_number, other_number}
 use Rattle.patch_extent.proofs.Rising.{one_passes, one_fails}
 use Rattle.patch_extent.proofs.empties.EmptyExtents.of.Goals as goal

@@ -1,6 +1,6 @@
 use Rattle.std.proofs.Common.{◌≡◌, ◌≤◌, length}
-use Rattle.patch_extent.specs.Empties.{passing}
-use Rattle.patch_extent.specs.Extents.{is_empty_in}
+use Rattle.patch_plans.specs.Empties.{passing}
+use Rattle.patch_plans.specs.Extents.{is_empty_in}
 use Rattle.patch_extent.proofs.empties.EmptyExtents.of.Given as goal
 
 -- the empty ones so far

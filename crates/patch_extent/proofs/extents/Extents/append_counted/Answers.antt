@@ -8,10 +8,10 @@ use Rattle.patch_frame.specs.declared.pointers.Pointer.{Pointer}
 use Rattle.patch_frame.specs.Geometry.{largest_pointer, pointer_block, pointer_start}
 use Rattle.patch_frame.specs.Pointer.{Fits, spelling}
 use Rattle.patch_extent.specs.declared.places.Place.{Place}
-use Rattle.patch_extent.specs.declared.records.Extent.{Extent}
-use Rattle.patch_extent.specs.Extents.{Extents, no_extent, extent_at, generation_at, offset_at}
+use Rattle.patch_plans.specs.declared.records.Extent.{Extent}
+use Rattle.patch_plans.specs.Extents.{Extents, no_extent, extent_at, generation_at, offset_at}
 use Rattle.patch_extent.proofs.Emptied.{is_empty, still_whole, empties_taken}
-use Rattle.patch_extent.specs.Planning.{touched, parts, names_behind}
+use Rattle.patch_plans.specs.Planning.{touched, parts, names_behind}
 use Rattle.patch_extent.specs.Answers.{setting, asked, AreMade, IsBegun, plan_of}
 use Rattle.patch_extent.specs.Appending.{IsPatched, MergesBehind, IsDone}
 use Rattle.patch_extent.proofs.Finishing.{none_begun, append_begun, append_done, some_offset, pointed_is, moved_is}

@@ -1,8 +1,8 @@
 use Rattle.std.proofs.Common.{◌≡◌, ◌<◌, ◌∙◌, [], length, get_or, ap, subst, arith}
 use Rattle.std.proofs.lemmas.List.{get_or_read}
 use Rattle.patch_frame.specs.Geometry.{first_block}
-use Rattle.patch_extent.specs.Extents.{no_extent, offset_at}
-use Rattle.patch_extent.specs.Planning.{touched, part_start, part_end}
+use Rattle.patch_plans.specs.Extents.{no_extent, offset_at}
+use Rattle.patch_plans.specs.Planning.{touched, part_start, part_end}
 use Rattle.patch_extent.specs.Answers.{setting, asked, AreMade}
 use Rattle.patch_extent.specs.Appending.{parts_of}
 use Rattle.patch_extent.proofs.Making.{nothing_made}

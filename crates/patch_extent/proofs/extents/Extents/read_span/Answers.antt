@@ -1,6 +1,6 @@
 use Rattle.std.proofs.Common.{◌+◌, ◌/◌, ◌<◌, ◌≤◌, ◌∙◌, ◌++◌, length, ap, subst, arith}
 use Rattle.patch_frame.specs.Geometry.{first_block, extent_blocks, block_count}
-use Rattle.patch_extent.specs.Planning.{touched, part_start}
+use Rattle.patch_plans.specs.Planning.{touched, part_start}
 use Rattle.patch_extent.proofs.Patches.{cached_long}
 use Rattle.patch_extent.proofs.Spans.{span_more, is_touched, block_there}
 use Rattle.patch_extent.proofs.extents.Extents.read_span.Goals as goal

@@ -1,7 +1,7 @@
 use Rattle.std.proofs.Common.{◌≡◌}
 use Rattle.patch_model.specs.Execution.{Execution}
 use Rattle.patch_cache.specs.Meaning.{Represents as IsCacheOf}
-use Rattle.patch_extent.specs.Meaning.{Represents}
+use Rattle.patch_plans.specs.Meaning.{Represents}
 use Rattle.patch_extent.specs.Answers.{cached_bytes}
 use Rattle.patch_extent.proofs.Spans.{covered}
 use Rattle.patch_extent.proofs.extents.Extents.read_span.Given as goal

@@ -7,8 +7,8 @@ use Rattle.patch_frame.specs.Geometry.{largest_pointer, pointer_block, pointer_s
 use Rattle.patch_frame.specs.Pointer.{Fits, spelling}
 use Rattle.patch_cache.specs.Creating.{IsMade}
 use Rattle.patch_cache.specs.Meaning.{Represents as IsCacheOf}
-use Rattle.patch_extent.specs.declared.records.Extent.{Extent}
-use Rattle.patch_extent.specs.Extents.{Extents, no_extent, extent_at, generation_at, pointed}
+use Rattle.patch_plans.specs.declared.records.Extent.{Extent}
+use Rattle.patch_plans.specs.Extents.{Extents, no_extent, extent_at, generation_at, pointed}
 use Rattle.patch_extent.proofs.Emptied.{is_empty, same_number, still_whole, empties_put}
 use Rattle.patch_extent.specs.Answers.{setting, IsReset}
 use Rattle.patch_extent.proofs.Finishing.{reset_done, moved_is}

@@ -2,7 +2,7 @@ use Rattle.std.proofs.Common.{◌≡◌, ◌∙◌, rules, not, ap, sym, subst, 
 use Rattle.std.specs.Prelude.{◌==◌, ◌&&◌}
 use Rattle.std.proofs.lemmas.Fn.{filter_same}
 use Rattle.std.proofs.lemmas.List.Kept.{AllPairs-filter}
-use Rattle.patch_group.specs.Groups.{Groups, AreApart, disengaged, is_open, is_engaged_by}
+use Rattle.patch_plans.specs.Groups.{Groups, AreApart, disengaged, is_open, is_engaged_by}
 use Rattle.patch_group.specs.Records.{group_of}
 use Rattle.patch_group.proofs.Keeping.{may_disengage}
 use Rattle.patch_group.proofs.calls.Groups.disengage.Goals as goal

@@ -1,7 +1,8 @@
 use Rattle.std.proofs.Common.{◌≡◌, ◌∙◌, ◌≤◌, ◌++◌, ◌∷◌, [], refl, sym, ap, subst, map, true, false, length-set}
-use Rattle.patch_group.specs.Groups.{Group, Groups, AreApart, engaged, is_engaged_by}
+use Rattle.patch_plans.specs.Groups.{Group, Groups, AreApart, engaged, is_engaged_by}
 use Rattle.patch_group.specs.Records.{group_of}
-use Rattle.patch_group.proofs.Keeping.{changed_at, within, apart_more}
+use Rattle.patch_plans.specs.Ordering.{apart_more}
+use Rattle.patch_group.proofs.Keeping.{changed_at, within}
 use Rattle.patch_group.proofs.calls.Groups.engage.Goals as goal
 
 pub invariant_of-self-2 : goal.invariant_of-self-2

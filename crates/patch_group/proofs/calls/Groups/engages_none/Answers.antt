@@ -2,7 +2,7 @@ use Rattle.std.proofs.Common.{◌≡◌, ◌∙◌, ℕ, List, [], Some, sym, ap
 use Rattle.std.specs.Prelude.{IsTrue}
 use Rattle.std.proofs.lemmas.Bool.{eqb-true}
 use Rattle.std.proofs.lemmas.List.{nil_from_length}
-use Rattle.patch_group.specs.Groups.{Groups, after_of, with_patch}
+use Rattle.patch_plans.specs.Groups.{Groups, after_of, with_patch}
 use Rattle.patch_group.proofs.calls.Groups.engages_none.Given.{Over}
 use Rattle.patch_group.proofs.calls.Groups.engages_none.Goals as goal
 

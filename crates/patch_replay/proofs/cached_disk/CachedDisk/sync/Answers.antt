@@ -2,8 +2,8 @@ use Rattle.std.proofs.Common.{◌∙◌, sym, ap, refl, subst}
 use Rattle.patch_model.specs.Execution.{followed_by}
 use Rattle.patch_device.specs.MemDevice.{contents_of}
 use Rattle.patch_cache.specs.Waves.{steps_since, HoldImages}
-use Rattle.patch_group.specs.Groups.{patches_of, why_not_counted}
-use Rattle.patch_group.specs.Order.{AreGroupsOf}
+use Rattle.patch_plans.specs.Groups.{patches_of, why_not_counted}
+use Rattle.patch_plans.specs.Order.{AreGroupsOf}
 use Rattle.patch_group.specs.Syncing.{IsSynced}
 use Rattle.patch_replay.specs.Answering.{IsAnswered}
 use Rattle.patch_replay.specs.World.{World}

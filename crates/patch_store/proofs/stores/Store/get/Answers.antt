@@ -1,6 +1,6 @@
 use Rattle.std.proofs.Common.{◌∙◌, sym, ap, subst}
 use Rattle.std.specs.Prelude.{Some}
-use Rattle.patch_extent.specs.Meaning.{Represents as AreExtentsOf}
+use Rattle.patch_plans.specs.Meaning.{Represents as AreExtentsOf}
 use Rattle.patch_history.specs.Shelf.{Shelf}
 use Rattle.patch_history.specs.History.{execution_of}
 use Rattle.patch_index.specs.Index.{fields_of, told}

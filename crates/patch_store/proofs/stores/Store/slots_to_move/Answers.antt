@@ -1,6 +1,6 @@
 use Rattle.std.proofs.Common.{ℕ, ◌∙◌, sym, ap, arith}
 use Rattle.patch_frame.specs.declared.geometries.Geometry.{Geometry}
-use Rattle.patch_extent.specs.Extents.{generation_at, offset_at}
+use Rattle.patch_plans.specs.Extents.{generation_at, offset_at}
 use Rattle.patch_history.specs.History.{execution_of}
 use Rattle.patch_store.specs.Meaning.{Store}
 use Rattle.patch_store.specs.Moving.{live_slots}

@@ -1,8 +1,8 @@
 use Rattle.std.proofs.Common.{◌+◌, ◌∙◌, ℕ, length, sym, ap, subst, arith}
 use Rattle.patch_frame.specs.declared.geometries.Geometry.{Geometry}
 use Rattle.patch_frame.specs.Geometry.{value_limit}
-use Rattle.patch_extent.specs.Extents.{offset_at}
-use Rattle.patch_extent.specs.Planning.{touched}
+use Rattle.patch_plans.specs.Extents.{offset_at}
+use Rattle.patch_plans.specs.Planning.{touched}
 use Rattle.patch_history.specs.History.{execution_of}
 use Rattle.patch_store.specs.Meaning.{Store, IsWhole}
 use Rattle.patch_store.proofs.Finding.{key_fits}

@@ -3,8 +3,8 @@ use Rattle.std.specs.Prelude.{ℕ, Bool, ◌≡◌, ◌==◌, if◌then◌else�
 use Rattle.patch_frame.specs.declared.geometries.Geometry.{Geometry}
 use Rattle.patch_frame.specs.Geometry.{IsGeometry, largest_pointer}
 use Rattle.patch_frame.specs.Pointer.{Fits}
-use Rattle.patch_extent.specs.declared.records.Extent.{Extent}
-use Rattle.patch_extent.specs.Empties.{passing}
+use Rattle.patch_plans.specs.declared.records.Extent.{Extent}
+use Rattle.patch_plans.specs.Empties.{passing}
 
 -- how the disk is divided, and of each extent its pointer record, the patch of its last reset, and the last patch of its
 -- record, a reset's too

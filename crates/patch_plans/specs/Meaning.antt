@@ -9,7 +9,7 @@ use Rattle.patch_frame.specs.Pointer.{pointer_of, pointer_at}
 use Rattle.patch_frame.specs.Field.{are_zeros}
 use Rattle.patch_recovery.specs.Closed.{cached_blocks}
 use Rattle.patch_recovery.specs.Reading.{block_on, record_at}
-use Rattle.patch_extent.specs.Extents.{Extents, extent_at, AreWhole}
+use Rattle.patch_plans.specs.Extents.{Extents, extent_at, AreWhole}
 
 -- the patch is of the extent's pointer record
 abbrev pub is_point : Geometry → ℕ → Patch → Bool

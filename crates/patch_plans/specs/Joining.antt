@@ -1,11 +1,11 @@
--- Plans one after another.
+-- Lemmas: plans one after another.
 use Rattle.std.proofs.Common.{◌≡◌, ℕ, zero, suc, ◌+◌, List, [], ◌∷◌, ◌++◌, length, Bool, true, false, refl, sym, ap, ◌∙◌, arith}
 use Rattle.std.proofs.lemmas.List.{append_assoc}
 use Rattle.std.specs.Prelude.{Option, option_to_list, replicate}
-use Rattle.patch_group.specs.Groups.{Groups, named, with_patch}
+use Rattle.patch_plans.specs.Groups.{Groups, named, with_patch}
 use Rattle.patch_recovery.specs.Change.{Made, step_of}
-use Rattle.patch_extent.specs.Extents.{Extents}
-use Rattle.patch_extent.specs.Writing.{after_change, after_plan, with_patches, named_plan, Written, written, steps_by, steps_of, merge_behind}
+use Rattle.patch_plans.specs.Extents.{Extents}
+use Rattle.patch_plans.specs.Writing.{after_change, after_plan, with_patches, named_plan, Written, written, steps_by, steps_of, merge_behind}
 
 +-suc : (n k : ℕ) → (n + 1) + k ≡ n + suc k
 +-suc n k = omega arith

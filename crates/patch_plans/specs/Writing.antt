@@ -1,9 +1,9 @@
 -- The steps of a plan.
 use Rattle.std.specs.Prelude.{ℕ, zero, suc, Bool, true, false, ◌+◌, ◌==◌, if◌then◌else◌, List, [], ◌∷◌, ◌++◌, Option, Some, None, option_to_list}
 use Rattle.patch_model.specs.Step.{Step, Merge}
-use Rattle.patch_group.specs.Groups.{Groups, named, with_patch}
+use Rattle.patch_plans.specs.Groups.{Groups, named, with_patch}
 use Rattle.patch_recovery.specs.Change.{Change, Data, Point, Fill, Clear, Widen, Made, step_of, widened}
-use Rattle.patch_extent.specs.Extents.{Extents, extent_at, after_point}
+use Rattle.patch_plans.specs.Extents.{Extents, extent_at, after_point}
 
 -- the extents after a change by the patch n
 abbrev pub after_change : Extents → ℕ → Change → Extents

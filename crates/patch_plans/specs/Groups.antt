@@ -1,5 +1,5 @@
 -- Groups of patches, and in which order they go to the disk.
-use Rattle.std.specs.Prelude.{ℕ, Bool, true, false, ◌≡◌, ◌⊎◌, ◌==◌, ◌&&◌, ◌||◌, not, nat_le, if◌then◌else◌, List, [], ◌∷◌, ◌++◌, length, map, filter, fold, count_by, slice_get, slice_set, slice_index_or, Option, Some, None}
+use Rattle.std.specs.Prelude.{ℕ, Bool, true, false, ◌≡◌, ◌==◌, ◌&&◌, ◌||◌, not, nat_le, if◌then◌else◌, List, [], ◌∷◌, ◌++◌, length, map, filter, fold, count_by, slice_get, slice_set, slice_index_or, Option, Some, None}
 use Rattle.std.specs.List.{list_any, flat_map, AllPairs}
 use Rattle.patch_model.specs.declared.refusals.RefusalKind.TheVariants as kind
 use Rattle.patch_model.specs.Entry.{Entry, is_live}
@@ -9,9 +9,8 @@ use Rattle.patch_model.specs.Execution.{Execution}
 use Rattle.patch_model.specs.State.{entries_of}
 use Rattle.patch_model.specs.declared.refusals.Refusal.{Refusal}
 use Rattle.patch_model.specs.Refusing.{bare, why_not_made}
-use Rattle.patch_cache.specs.Refusals.{IsCause}
-use Rattle.patch_group.specs.declared.limits.TheConstants.{MAX_GROUPS}
-use Rattle.patch_group.specs.Rising.{rising}
+use Rattle.patch_plans.specs.declared.limits.TheConstants.{MAX_GROUPS}
+use Rattle.patch_plans.specs.Rising.{rising}
 
 -- whether it was ever engaged, whether a group depends on it, whether it was closed; all groups before it, on which it depends
 -- directly or through others; and its patches, in order of making
@@ -173,7 +172,3 @@ patch_of gs writer block start bytes after undo = Create block start bytes (name
 -- the first cause against it
 abbrev pub why_not_patched : Execution → Groups → Option ℕ → (block start : ℕ) (bytes after : List ℕ) → Option Refusal
 why_not_patched run gs writer block start bytes after = why_not_made (length run.first) (entries_of run) block start bytes (named gs writer after)
-
--- it is refused for that, or for want of memory, also where there is one
-abbrev pub IsCauseOf : Option Refusal → Refusal → Type 0
-IsCauseOf cause refusal = IsCause cause refusal ⊎ (refusal ≡ bare kind.OutOfMemory)

@@ -1,28 +1,24 @@
--- What the rules of groups keep true.
+-- Lemmas: what each step, each patch and each call of groups keeps true.
 use Rattle.std.proofs.Common.{◌≡◌, ℕ, zero, suc, ◌+◌, ◌<◌, ◌≤◌, ◌⊎◌, ◌∙◌, inl, inr, Bool, true, false, List, [], ◌∷◌, ◌++◌, length, map, filter, refl, sym, ap, subst, arith, get_or, set, get_or-set_same, get_or-set_other, Option, Some, None, length-append, length-set}
 use Rattle.std.proofs.lemmas.List.{length-map}
 use Rattle.std.proofs.lemmas.List.Kept.{AllPairs-filter}
 use Rattle.std.proofs.lemmas.List.Quantifiers.{all_pairs_push}
-use Rattle.std.proofs.lemmas.Map.Made.{IsDistinct-from_AllPairs}
-use Rattle.std.proofs.lemmas.Map.Steps.{length-le_from_distinct_below}
-use Rattle.std.proofs.lemmas.Bool.Decides.{Decides-eqb}
 use Rattle.std.specs.Prelude.{◌==◌, ◌&&◌, ◌||◌, not, if◌then◌else◌, Contains, slice_get}
 use Rattle.std.specs.List.{list_any, flat_map}
-use Rattle.std.proofs.lemmas.Bool.{cases_Bool, cases_lt, eqb-true, eqb-false, eq-eqb, both_ways, or_left, or_parts, false_from_ne_true}
+use Rattle.std.proofs.lemmas.Bool.{cases_Bool, cases_lt, eqb-true, eqb-false, eq-eqb, both_ways, or_parts, and_from, false_from_ne_true}
 use Rattle.patch_model.specs.declared.patches.Undo.{Undo}
 use Rattle.patch_model.specs.declared.refusals.Refusal.{Refusal}
 use Rattle.patch_model.specs.Execution.{Execution, extended}
 use Rattle.patch_model.specs.Step.{Step, Create, Merge, Send, Complete}
-use Rattle.patch_model.specs.Entry.{Entry, is_among, is_flight}
+use Rattle.patch_model.specs.Entry.{Entry, is_flight}
 use Rattle.patch_model.specs.Ready.{has, ready}
 use Rattle.patch_model.specs.State.{State, entries_of, state_of, after_step, joined, sent, landed, class_of}
 use Rattle.patch_model.specs.Orderly.{IsNumbered}
 use Rattle.patch_model.specs.Member.{In, In-from_Contains, Contains-from_In, filter-In, list_any-from, list_any-at}
-use Rattle.patch_group.specs.Rising.{rising, AreRising}
-use Rattle.patch_group.specs.Groups.{Group, Groups, AreApart, fresh, group_at, before, patches_of, is_open, is_engaged, is_engaged_by, engaged_by, after_of, no_groups, begun, engaged, disengaged, ordered, closed, entered, with_patch, named, why_not_engaged, why_not_ordered}
-use Rattle.patch_group.specs.Order.{AreGroupsOf, ClosedSetsHoldBefore, NoneAreOfAny, GroupsAreSmall}
-use Rattle.patch_group.proofs.Members.{In-append_right, append-In, map-In, In-flat_map, rising-In, In-rising, at_set}
-use Rattle.patch_group.proofs.Keeping.{apart_more}
+use Rattle.patch_plans.specs.Rising.{rising, AreRising}
+use Rattle.patch_plans.specs.Groups.{Group, Groups, AreApart, fresh, group_at, before, patches_of, is_open, is_engaged, is_engaged_by, engaged_by, after_of, no_groups, begun, engaged, disengaged, ordered, closed, entered, with_patch, named, why_not_engaged, why_not_ordered}
+use Rattle.patch_plans.specs.Order.{AreGroupsOf, NoneAreOfAny}
+use Rattle.patch_plans.specs.Members.{In-append_right, append-In, map-In, In-flat_map, rising-In, In-rising, at_set}
 
 to : {X : Type 0} → (xs : List X) (x : X) → In xs x → Contains xs x
 to xs x i = Contains-from_In xs x i
@@ -42,21 +38,6 @@ pub none_if : (b : Bool) (cause : Refusal) (rest : Option Refusal) → (if b the
 none_if true cause rest e = absurd (cc)
 none_if false cause rest e = (refl, e)
 
--- Closed sets.
-
-pub closed_sets : ClosedSetsHoldBefore
-closed_sets run gs set a k q p e f ce cf cq cp cm se =
-    let i = of e.patch.after f.patch.no (a.names q p f.patch.no e ce cq cp cm) in
-    let t : is_among e.patch.after f.patch.no ≡ true = list_any-from (λ m. m == f.patch.no) e.patch.after f.patch.no i (eq-eqb _ _ refl) in
-    k e f ce cf se (or_left _ _ t)
-
--- Patches that stand in order, each once and below the count made, are no more than were made.
-pub groups_small : GroupsAreSmall
-groups_small run gs g a =
-    length-le_from_distinct_below (patches_of gs g) (length (entries_of run))
-    (IsDistinct-from_AllPairs Decides-eqb (patches_of gs g) (λ i j d l m same. let below = a.rising g i j d l m in absurd (omega (arith, below, same))))
-    (λ q t. let r = list_any-at (λ x. q == x) (patches_of gs g) t in a.made g q (to _ q (subst (In (patches_of gs g)) (sym (eqb-true _ _ r.2)) r.1)))
-
 -- No groups.
 
 none_at : (g : ℕ) → group_at no_groups g ≡ fresh
@@ -73,6 +54,20 @@ none_of run = record {
   once = λ i j d l m. absurd (omega (arith, m));
   rising = λ g i j d l m. absurd (omega (arith, m));
 }
+
+-- Engagements.
+
+-- one engagement more, which wasn't there
+pub apart_more : (es : List (ℕ × ℕ)) (writer group : ℕ) → AreApart es → list_any (λ e. e.0 == writer && e.1 == group) es ≡ false → AreApart (es ++ (writer, group) ∷ [])
+apart_more es writer group apart new = all_pairs_push (λ d e. d ≡ e → ⊥) es (writer, group) apart (λ k d l same.
+    let there : get_or es k (get_or es k d) ≡ get_or es k d = same_default es k (get_or es k d) d l in
+    let t : (((get_or es k d).0 == writer) && ((get_or es k d).1 == group)) ≡ true = and_from _ _ (eq-eqb _ _ (ap (λ x. x.0) same)) (eq-eqb _ _ (ap (λ x. x.1) same)) in
+    both_ways _ new (list_any-from (λ e. e.0 == writer && e.1 == group) es (get_or es k d) (In-from_Contains es (get_or es k d) (k, l, there)) t))
+  where
+    same_default : (xs : List (ℕ × ℕ)) (i : ℕ) (d e : ℕ × ℕ) → i < length xs → get_or xs i d ≡ get_or xs i e
+    same_default [] i d e l = absurd (omega (arith, l))
+    same_default (x ∷ xs) zero d e l = refl
+    same_default (x ∷ xs) (suc i) d e l = same_default xs i d e (omega (arith, l))
 
 -- Steps.
 

@@ -3,7 +3,7 @@ use Rattle.std.specs.Prelude.{ℕ, ◌+◌, ◌-◌, ◌*◌, ◌/◌, min, max,
 use Rattle.std.specs.List.{range_with_len}
 use Rattle.patch_model.specs.declared.blocks.TheConstants.{BLOCK}
 use Rattle.patch_recovery.specs.Change.{Change, Data, Point, Made}
-use Rattle.patch_extent.specs.Extents.{Extents, extent_at, generation_at, offset_at}
+use Rattle.patch_plans.specs.Extents.{Extents, extent_at, generation_at, offset_at}
 
 -- how many blocks a write of so many bytes touches, of which there is at least one
 abbrev pub touched : (offset len : ℕ) → ℕ

@@ -4,8 +4,8 @@ use patch_model::PatchNo;
 
 /// An extent: its pointer record, the patch of its last reset, and the last patch of its pointer record, a reset's too.
 #[derive(Clone, Copy)]
-pub(crate) struct Extent {
-    pub(crate) pointer: Pointer,
-    pub(crate) reset: Option<PatchNo>,
-    pub(crate) point: Option<PatchNo>,
+pub struct Extent {
+    pub pointer: Pointer,
+    pub reset: Option<PatchNo>,
+    pub point: Option<PatchNo>,
 }

@@ -1,0 +1,13 @@
+pub mod Rising
+pub mod Groups
+pub mod Order
+pub mod Empties
+pub mod Extents
+pub mod Planning
+pub mod Room
+pub mod Writing
+pub mod Meaning
+pub mod Laws
+pub mod Members
+pub mod Ordering
+pub mod Joining
