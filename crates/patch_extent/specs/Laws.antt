@@ -1,5 +1,5 @@
 -- Laws of plans, and of what the extents represent.
-use Rattle.std.specs.Prelude.{ℕ, Bool, ◌≡◌, ◌+◌, ◌<◌, ◌≤◌, List, ◌++◌, length, take, Option, None, IsTrue}
+use Rattle.std.specs.Prelude.{ℕ, Bool, ◌≡◌, ◌+◌, ◌<◌, ◌≤◌, List, length, take, Option, None, IsTrue}
 use Rattle.patch_model.specs.Step.{Step}
 use Rattle.patch_model.specs.State.{entries_of}
 use Rattle.patch_model.specs.Execution.{Execution, extended, followed_by}
@@ -13,7 +13,7 @@ use Rattle.patch_recovery.specs.Reading.{ledger_in}
 use Rattle.patch_recovery.specs.Store.{makes_nothing}
 use Rattle.patch_plans.specs.Extents.{Extents, offset_at}
 use Rattle.patch_plans.specs.Planning.{reset_plan}
-use Rattle.patch_plans.specs.Writing.{after_plan, with_patches, steps_of}
+use Rattle.patch_plans.specs.Writing.{with_patches, steps_of}
 use Rattle.patch_plans.specs.Meaning.{Represents}
 use Rattle.patch_extent.specs.Answers.{Setting, IsSettingOf, Append, plan_of, plan_steps, cached_bytes}
 

@@ -1,7 +1,6 @@
 -- Why a call of the extents is refused: the first cause of its list.
 use Rattle.std.specs.Prelude.{ℕ, ◌+◌, ◌==◌, not, nat_lt, nat_le, if◌then◌else◌, List, length, count_by, Option, Some, None}
 use Rattle.std.specs.List.{list_any}
-use Rattle.patch_model.specs.declared.limits.TheConstants.{MAX_PATCHES, MAX_LIVE}
 use Rattle.patch_model.specs.declared.refusals.RefusalKind.TheVariants as kind
 use Rattle.patch_model.specs.declared.refusals.Refusal.{Refusal}
 use Rattle.patch_model.specs.Entry.{Entry, is_live}
@@ -10,6 +9,7 @@ use Rattle.patch_frame.specs.Geometry.{largest_pointer}
 use Rattle.patch_cache.specs.Contents.{Contents}
 use Rattle.patch_plans.specs.Extents.{Extents, generation_at, offset_at}
 use Rattle.patch_plans.specs.Planning.{touched}
+use Rattle.patch_plans.specs.Room.{why_no_room}
 use Rattle.patch_extent.specs.declared.places.Place.{Place}
 
 -- why so many more patches aren't made by a caller who names these, where so many were made and so many are live

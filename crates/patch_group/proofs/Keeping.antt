@@ -1,11 +1,7 @@
 -- What calls do to the groups that are kept.
-use Rattle.std.proofs.Common.{◌≡◌, ℕ, zero, suc, ◌<◌, ◌∙◌, true, false, List, [], ◌∷◌, ◌++◌, length, map, refl, sym, ap, arith, get_or, set, None}
-use Rattle.std.specs.Prelude.{◌==◌, ◌&&◌}
-use Rattle.std.specs.List.{list_any}
-use Rattle.std.proofs.lemmas.Bool.{both_ways, and_from, eq-eqb}
+use Rattle.std.proofs.Common.{◌≡◌, ℕ, zero, suc, ◌<◌, ◌∙◌, true, false, List, [], ◌∷◌, length, map, refl, sym, ap, arith, get_or, set, None}
 use Rattle.std.proofs.lemmas.List.{map-set, length-map}
-use Rattle.patch_model.specs.Member.{list_any-from, In-from_Contains}
-use Rattle.patch_plans.specs.Groups.{Group, Groups, AreApart, fresh, is_open, is_engaged, is_engaged_by, why_not_disengaged, why_not_closed}
+use Rattle.patch_plans.specs.Groups.{Group, Groups, fresh, is_open, is_engaged, is_engaged_by, why_not_disengaged, why_not_closed}
 use Rattle.patch_group.specs.declared.records.Record.{Record}
 use Rattle.patch_group.specs.Records.{group_of}
 

@@ -1,5 +1,5 @@
 -- The promise of groups, from what each ask keeps and from chains.
-use Rattle.std.proofs.Common.{◌≡◌, ℕ, true, List, length, refl, sym, subst, arith}
+use Rattle.std.proofs.Common.{◌≡◌, true, length, refl, sym, subst, arith}
 use Rattle.std.proofs.lemmas.Map.Made.{IsDistinct-from_AllPairs}
 use Rattle.std.proofs.lemmas.Map.Steps.{length-le_from_distinct_below}
 use Rattle.std.proofs.lemmas.Bool.{eqb-true, eq-eqb, or_left}
