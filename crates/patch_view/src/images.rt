@@ -214,14 +214,10 @@ pub(crate) fn gap_of_departing<A: Allocator>(
     requires gap { KnownGap image.now classes.now }
     ensures { IfSome result (λ gap. DepartsAlone classes.now at gap) }
 {
-    match image {
-        Some(image) => {
-            if image.is_known() && classes[at].is_takeable() {
-                gap_left(classes, image.gap, at)
-            } else {
-                None
-            }
-        }
-        None => None,
+    let image = image.as_ref()?;
+    if image.is_known() && classes[at].is_takeable() {
+        gap_left(classes, image.gap, at)
+    } else {
+        None
     }
 }
