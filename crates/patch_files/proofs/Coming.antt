@@ -11,22 +11,12 @@ use Rattle.patch_store.specs.Opening.{IsOpened, at_opening}
 use Rattle.patch_commands.specs.Reply.{reply_line, synced_line}
 use Rattle.patch_commands.specs.declared.commands.CommandLine.{CommandLine}
 use Rattle.patch_commands.specs.declared.commands.CommandLine.TheVariants as line
+use Rattle.patch_replay.specs.Growing.{twice, same}
 use Rattle.patch_files.specs.declared.endings.Stop.{Stop}
 use Rattle.patch_files.specs.Answering.{call_of, saves, with_call, IsSaved, IsAnswered, AreAnswered}
 use Rattle.patch_files.specs.Ending.{IsDoneBehind}
 use Rattle.patch_files.specs.Reading.{HasLines}
 use Rattle.patch_files.specs.Running.{HasRun, HasRunScript, StandsOn, IsCalled, IsTold, HasSaved, HasAnswered, HasCome}
-
--- known bytes that grow twice, and that don't
-pub twice : (old mid new : Option (List ℕ)) (a b : List ℕ) → Appends old mid a → Appends mid new b → Appends old new (a ++ b)
-twice None mid new a b first second = tt
-twice (Some old) None new a b first second = absurd first
-twice (Some old) (Some mid) None a b first second = absurd second
-twice (Some old) (Some mid) (Some new) a b first second = second ∙ ap (λ (t : List ℕ). t ++ b) first ∙ append_assoc old a b
-
-pub same : (old : Option (List ℕ)) → Appends old old []
-same None = tt
-same (Some old) = sym (append-nil old)
 
 -- One line.
 

@@ -13,7 +13,7 @@ use Rattle.patch_files.specs.declared.endings.Stop.TheVariants as stop
 use Rattle.patch_files.specs.Ending.{status_of, last_line, fault_text, script_text, IsToldOrStarved, IsConcluded}
 use Rattle.patch_files.specs.Reading.{HasLines}
 use Rattle.patch_files.specs.Stopping.{starved, IsStop, IfFailed, IfStopped, AnswersSome, HasWrittenSome, HasStopped}
-use Rattle.patch_files.proofs.Coming.{twice, same}
+use Rattle.patch_replay.specs.Growing.{twice, same}
 use Rattle.patch_files.proofs.Stopping.{no_fault}
 
 -- For what cause it fails.

@@ -2,6 +2,6 @@ pub mod Calling
 pub mod Coming
 pub mod Resting
 pub mod Saving
-pub mod Writers
+pub mod Unused
 pub mod Stopping
 pub mod Concluding

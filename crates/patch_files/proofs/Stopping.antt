@@ -22,7 +22,7 @@ use Rattle.patch_files.specs.declared.endings.Stop.{Stop}
 use Rattle.patch_files.specs.declared.endings.Stop.TheVariants as stop
 use Rattle.patch_files.specs.Running.{HasCome}
 use Rattle.patch_files.specs.Stopping.{starved, stop_of, IsStop, IsNotOpened, IsBroken, HasComeSome, HasWrittenSome}
-use Rattle.patch_files.proofs.Coming.{same}
+use Rattle.patch_replay.specs.Growing.{same}
 
 -- a count that rises does so over what comes before and behind
 pub risen_over : (before mid now later : ℕ) → before ≤ mid → HasRisen mid now → now ≤ later → later ≤ most_faults → HasRisen before later

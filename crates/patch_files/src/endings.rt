@@ -40,7 +40,7 @@ impl Status {
 
 /// Why a command stops.
 #[derive(Clone, Copy, Debug, PartialEq, Eq)]
-pub(crate) enum Stop {
+pub enum Stop {
     Read,
     Write,
     /// What disk, store or memory refused.
@@ -49,7 +49,7 @@ pub(crate) enum Stop {
 
 /// Why there are no lines of a script to be answered.
 #[derive(Clone, Copy, Debug, PartialEq, Eq)]
-pub(crate) enum Unread {
+pub enum Unread {
     /// It is too long, or a line of it unreadable.
     Script(BadScript),
     Stopped(Stop),
@@ -188,11 +188,7 @@ impl From<Fault> for Stop {
 }
 
 /// Writes what is still kept back, behind a last line where the command stopped.
-pub(crate) fn conclude<W: Output>(
-    alloc: Global,
-    writer: &mut Sink<W>,
-    ended: Result<(), Stop>,
-) -> Status
+pub fn conclude<W: Output>(alloc: Global, writer: &mut Sink<W>, ended: Result<(), Stop>) -> Status
     ensures concluded { IsConcluded W.contents W.KeepsNothing writer.old writer.new ended result }
     ensures read { IsRead result }
     ensures done { result ≡ Done → IsDoneBehind ended (W.contents writer.old.inner) (W.contents writer.new.inner) }
@@ -208,7 +204,7 @@ pub(crate) fn conclude<W: Output>(
 }
 
 /// Writes why no line of a script is answered.
-pub(crate) fn refuse<W: Output>(alloc: Global, writer: &mut Sink<W>, why: BadScript) -> Status
+pub fn refuse<W: Output>(alloc: Global, writer: &mut Sink<W>, why: BadScript) -> Status
     ensures told { IsToldOrStarved W.contents W.KeepsNothing writer.old writer.new (script_text why) (Unreadable why) result }
     ensures stops { result ≢ Done }
 {

@@ -5,9 +5,8 @@ ghost use Rattle.patch_device.specs.SameDevice.{IsSameDevice};
 ghost use Rattle.patch_cache.specs.Meaning.{Represents as IsCacheOf};
 ghost use Rattle.patch_history.specs.History.{History};
 ghost use Rattle.patch_store.specs.Opening.{unchanged, IsOpened};
-ghost use Rattle.patch_shared.specs.Kept.{IsNew};
+ghost use Rattle.patch_files.specs.Opening.{IsUntouched, IsUnused};
 ghost use Rattle.patch_files.specs.Running.{StandsOn, HasSaved};
-ghost use Rattle.patch_files.specs.Serving.{IsUntouched};
 ghost use Rattle.patch_files.specs.Stopping.{IsNotOpened, IsStop};
 
 use crate::endings::Stop;
@@ -21,7 +20,7 @@ use std::os::unix::fs::FileExt;
 use std::rt::Files;
 
 /// The file of this name, as a device.
-pub(crate) fn open_file<F: FileExt + OpenFile + Drop, R: Files<File = F>>(
+pub fn open_file<F: FileExt + OpenFile + Drop, R: Files<File = F>>(
     rt: &R,
     path: &str,
 ) -> Result<FileDevice<F>, Stop> {
@@ -64,11 +63,11 @@ fn open_cache<D: Device>(alloc: Global, device: &mut D) -> Result<Cache, Stop>
 }
 
 /// The store that the device holds.
-pub(crate) fn open_store<D: Device>(alloc: Global, device: &mut D) -> Result<Store, Stop>
+pub fn open_store<D: Device>(alloc: Global, device: &mut D) -> Result<Store, Stop>
     ensures device { IsSameDevice D.Device device.old device.new }
     ensures same { D.is_honest device.old → D.contents device.new ≡ D.contents device.old }
     ensures had { D.is_honest device.old → D.had device.new ≡ D.had device.old }
-    ensures new { IfOk result IsNew }
+    ensures new { IfOk result IsUnused }
     ensures opened { D.is_honest device.old → IfOk result (λ store. IsOpened (D.contents device.old) store) }
     ensures stops { D.is_honest device.old → IfErr result (λ why.
         IsStop why (IsNotOpened (D.fault_count device.old) (D.fault_count device.new) (D.contents device.old))) }

@@ -57,7 +57,7 @@ fn parse(
 }
 
 /// All lines of the script that the reader gives. Where it is one of writers on threads, it has lines of so many writers alone.
-pub(crate) fn read_script<R: Read>(
+pub fn read_script<R: Read>(
     alloc: Global,
     reader: &mut Source<R>,
     writers: Option<u32>,

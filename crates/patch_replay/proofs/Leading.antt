@@ -9,21 +9,10 @@ use Rattle.patch_script.specs.Answer.{answer_line}
 use Rattle.patch_script.specs.Script.{script_of}
 use Rattle.patch_replay.specs.Answering.{IsAnswered, AreAnswers}
 use Rattle.patch_replay.specs.World.{World}
+use Rattle.patch_replay.specs.Growing.{twice, same}
 use Rattle.patch_replay.specs.Replay.{answers_text, IsLineTold, HasBegun, HasAnswered, Stopped, lines_in, memory_text, Starved}
 use Rattle.patch_replay.specs.declared.endings.Fault.{Fault}
 use Rattle.patch_replay.specs.declared.endings.Fault.TheVariants as fault
-
--- known bytes that grow twice
-pub twice : (old mid new : Option (List ℕ)) (a b : List ℕ) → Appends old mid a → Appends mid new b → Appends old new (a ++ b)
-twice None mid new a b first second = tt
-twice (Some old) None new a b first second = absurd first
-twice (Some old) (Some mid) None a b first second = absurd second
-twice (Some old) (Some mid) (Some new) a b first second = second ∙ ap (λ (t : List ℕ). t ++ b) first ∙ append_assoc old a b
-
--- and that don't
-pub same : (old : Option (List ℕ)) → Appends old old []
-same None = tt
-same (Some old) = sym (append-nil old)
 
 -- One more line, and its answer.
 

@@ -3,3 +3,4 @@ pub mod Answering
 pub mod Replay
 pub mod CachedDisk
 pub mod Streams
+pub mod Growing

@@ -1,13 +1,13 @@
 use Rattle.std.proofs.Common.{ap}
 use Rattle.patch_files.specs.declared.endings.Stop.TheVariants.{Refused}
-use Rattle.patch_files.proofs.Writers.{new_store}
+use Rattle.patch_files.proofs.Unused.{unused_store}
 use Rattle.patch_files.proofs.Stopping.{open_stops}
 use Rattle.patch_files.proofs.opening.open_store.Goals as goal
 
 pub returns-in-Ok-clause-new : goal.returns-in-Ok-clause-new
 returns-in-Ok-clause-new g c =
     let untouched = c.in_ok-cache.ensures.untouched in
-    new_store c.in-Ok.store _ c.in-Ok.ensures.cache untouched (c.in-Ok.ensures.opened untouched.first untouched.cache_is)
+    unused_store c.in-Ok.store _ c.in-Ok.ensures.cache untouched (c.in-Ok.ensures.opened untouched.first untouched.cache_is)
 
 pub returns-clause-stops : goal.returns-clause-stops
 returns-clause-stops g c honest =

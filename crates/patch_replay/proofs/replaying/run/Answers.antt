@@ -1,4 +1,5 @@
-use Rattle.patch_replay.proofs.Leading.{none_begun, same}
+use Rattle.patch_replay.specs.Growing.{same}
+use Rattle.patch_replay.proofs.Leading.{none_begun}
 use Rattle.patch_replay.proofs.replaying.run.Goals as goal
 
 pub returns-clause-stopped : goal.returns-clause-stopped

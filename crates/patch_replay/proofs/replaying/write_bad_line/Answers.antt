@@ -1,4 +1,5 @@
-use Rattle.patch_replay.proofs.Leading.{none_begun, same}
+use Rattle.patch_replay.specs.Growing.{same}
+use Rattle.patch_replay.proofs.Leading.{none_begun}
 use Rattle.patch_replay.proofs.replaying.write_bad_line.Goals as goal
 
 pub returns-in-Err-clause-stopped : goal.returns-in-Err-clause-stopped

@@ -3,7 +3,7 @@ ghost use Rattle.std.specs.Prelude.{◌≡◌, map, vec_len, IfOk};
 ghost use Rattle.patch_history.specs.Commands.{command_of};
 ghost use Rattle.patch_shared.specs.Telling.{commands_in};
 ghost use Rattle.patch_files.specs.Answering.{call_of};
-ghost use Rattle.patch_files.specs.Serving.{commands_by, jobs_by};
+ghost use Rattle.patch_program.specs.Serving.{commands_by, jobs_by};
 
 use patch_commands::{CommandLine, laid_out};
 use patch_history::Command;

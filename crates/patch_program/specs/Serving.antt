@@ -1,12 +1,9 @@
 -- A script of several writers, each served on a thread of its own.
-use Rattle.std.specs.Prelude.{ℕ, ◌≡◌, ◌==◌, List, [], Option, MatchOption, IfSome, length, map, filter, flat_map, sum_by}
+use Rattle.std.specs.Prelude.{ℕ, ◌≡◌, ◌==◌, List, Option, MatchOption, IfSome, length, map, filter, flat_map, sum_by}
 use Rattle.std.specs.List.{range_with_len}
 use Rattle.std.specs.Io.KnownBytes.{Appends}
-use Rattle.patch_cache.specs.Contents.{Contents}
-use Rattle.patch_cache.specs.Meaning.{Represents as IsCacheOf}
 use Rattle.patch_history.specs.Command.{Command, Reply}
 use Rattle.patch_store.specs.Flushing.{HoldCached}
-use Rattle.patch_store.specs.Opening.{unchanged}
 use Rattle.patch_shared.specs.Kept.{Book, IsKept, run_of}
 use Rattle.patch_shared.specs.Telling.{AreTold, IsSettled}
 use Rattle.patch_commands.specs.Reply.{reply_line}
@@ -58,9 +55,3 @@ abbrev pub ServesOn : {D : Type 0} → (D → List (List ℕ)) → Status → Op
     → (opening : List (List ℕ)) → Type 0
 ServesOn contents status back writers input old new opening =
     status ≡ Done → MatchOption back ⊥ (λ device. HasServedScript writers input old new opening (contents device))
-
--- the cache of some blocks, to which nothing has happened
-pub record IsUntouched (cache : Contents) : Type 0 where
-  pub first : List (List ℕ)
-  pub cache_is : IsCacheOf cache (unchanged first)
-  pub no_steps : cache.trace ≡ []

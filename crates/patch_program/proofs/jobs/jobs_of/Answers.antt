@@ -1,7 +1,7 @@
 use Rattle.std.proofs.Common.{◌∙◌, ap, arith}
 use Rattle.patch_shared.specs.Telling.{commands_in}
-use Rattle.patch_files.proofs.Writers.{jobs_more}
-use Rattle.patch_files.proofs.jobs.jobs_of.Goals as goal
+use Rattle.patch_program.proofs.Writers.{jobs_more}
+use Rattle.patch_program.proofs.jobs.jobs_of.Goals as goal
 
 pub loop-writer-preserved : goal.loop-writer-preserved
 loop-writer-preserved c =

@@ -7,16 +7,14 @@ ghost use Rattle.patch_shared.specs.Kept.{IsFresh, IsNew};
 ghost use Rattle.patch_shared.specs.Telling.{commands_in, replies_in};
 ghost use Rattle.patch_commands.specs.Shared.{shared_commands};
 ghost use Rattle.patch_files.specs.Reading.{IsRunOf};
-ghost use Rattle.patch_files.specs.Serving.{jobs_by, replies_text, all_text, HasServed, ServesOn};
+ghost use Rattle.patch_program.specs.Serving.{jobs_by, replies_text, all_text, HasServed, ServesOn};
 ghost use Rattle.patch_files.specs.declared.endings.Status.TheVariants.{Done, Unreadable};
 ghost use Rattle.patch_replay.specs.declared.endings.BadScript.{BadScript as TheBadScript};
 
-use crate::endings::{Status, Stop, Unread, conclude, refuse};
 use crate::jobs::jobs_of;
-use crate::opening::{open_file, open_store};
-use crate::reading::read_script;
 use patch_commands::{CommandLine, reply_line};
 use patch_device::{Device, Lasting};
+use patch_files::{Status, Stop, Unread, conclude, open_file, open_store, read_script, refuse};
 use patch_history::{Command, Reply};
 use patch_model::{RefusalKind, Refuses};
 use patch_replay::{Output, Sink, Source};

@@ -1,6 +1,6 @@
 use Rattle.std.proofs.Common.{drop}
-use Rattle.patch_files.proofs.Writers.{WritesOn, lines_of_all}
-use Rattle.patch_files.proofs.serving.write_all_replies.Given as goal
+use Rattle.patch_program.proofs.Writers.{WritesOn, lines_of_all}
+use Rattle.patch_program.proofs.serving.write_all_replies.Given as goal
 
 -- the lines of the writers so far were written
 abbrev pub invariant-loop-list : goal.invariant-loop-list

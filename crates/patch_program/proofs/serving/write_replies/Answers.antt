@@ -1,6 +1,6 @@
 use Rattle.std.proofs.Common.{◌∙◌}
-use Rattle.patch_files.proofs.Writers.{line_of, writes_none, writes_more, writes_all, replies_written}
-use Rattle.patch_files.proofs.serving.write_replies.Goals as goal
+use Rattle.patch_program.proofs.Writers.{line_of, writes_none, writes_more, writes_all, replies_written}
+use Rattle.patch_program.proofs.serving.write_replies.Goals as goal
 
 pub loop-reply-init : goal.loop-reply-init
 loop-reply-init g c = writes_none line_of c.args.replies.now (g.W.Write.contents c.args.writer.now.inner)

@@ -1,6 +1,6 @@
 use Rattle.std.proofs.Common.{drop}
-use Rattle.patch_files.proofs.Writers.{WritesOn, line_of}
-use Rattle.patch_files.proofs.serving.write_replies.Given as goal
+use Rattle.patch_program.proofs.Writers.{WritesOn, line_of}
+use Rattle.patch_program.proofs.serving.write_replies.Given as goal
 
 -- the lines of the replies so far were written
 abbrev pub invariant-loop-reply : goal.invariant-loop-reply

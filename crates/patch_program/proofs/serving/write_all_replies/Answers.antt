@@ -1,9 +1,9 @@
 use Rattle.std.proofs.Common.{ap}
 use Rattle.std.specs.Prelude.{map}
 use Rattle.patch_history.specs.Commands.{reply_told}
-use Rattle.patch_files.specs.Serving.{replies_text}
-use Rattle.patch_files.proofs.Writers.{lines_of_all, writes_none, writes_more, writes_all, all_written}
-use Rattle.patch_files.proofs.serving.write_all_replies.Goals as goal
+use Rattle.patch_program.specs.Serving.{replies_text}
+use Rattle.patch_program.proofs.Writers.{lines_of_all, writes_none, writes_more, writes_all, all_written}
+use Rattle.patch_program.proofs.serving.write_all_replies.Goals as goal
 
 pub loop-list-init : goal.loop-list-init
 loop-list-init g c = writes_none lines_of_all c.args.replies.now (g.W.Write.contents c.args.writer.now.inner)

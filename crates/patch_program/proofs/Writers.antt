@@ -7,7 +7,6 @@ use Rattle.std.proofs.lemmas.List.{append-nil, map-append, length-map, drop_all}
 use Rattle.std.proofs.lemmas.List.Folds.{flat_map-map}
 use Rattle.std.proofs.lemmas.List.FromFn.{map-range_with_len_more}
 use Rattle.std.proofs.lemmas.List.Sums.{sum_by-cons}
-use Rattle.patch_cache.specs.Contents.{Contents}
 use Rattle.patch_device.specs.declared.devices.Device.{Ghosts}
 use Rattle.patch_device.specs.SameDevice.{IsSameDevice, same_both}
 use Rattle.patch_history.specs.declared.commands.Command.{Command as CodeCommand}
@@ -24,9 +23,10 @@ use Rattle.patch_shared.specs.declared.serving.Finished.{Finished}
 use Rattle.patch_commands.specs.declared.commands.CommandLine.{CommandLine}
 use Rattle.patch_commands.specs.Reply.{reply_line}
 use Rattle.patch_commands.specs.Shared.{shared_commands}
+use Rattle.patch_replay.specs.Growing.{twice, same}
+use Rattle.patch_files.specs.Opening.{IsUnused}
 use Rattle.patch_files.specs.Reading.{HasLinesBy}
-use Rattle.patch_files.specs.Serving.{commands_by, jobs_by, replies_text, all_text, HasServed, HasServedScript, IsUntouched}
-use Rattle.patch_files.proofs.Coming.{twice, same}
+use Rattle.patch_program.specs.Serving.{commands_by, jobs_by, replies_text, all_text, HasServed, HasServedScript}
 
 -- The commands.
 
@@ -90,11 +90,11 @@ all_written replies old new written =
 
 -- The store.
 
-pub new_store : (s : Store) (cache : Contents) → s.cache ≡ cache → (u : IsUntouched cache) → IsOpened u.first s → IsNew s
-new_store s cache is u opened = (u.first, record { opened = opened; no_steps = ap (λ (x : Contents). x.trace) is ∙ u.no_steps })
+pub new_store : (s : Store) → IsUnused s → IsNew s
+new_store s u = (u.blocks, record { opened = u.opened; no_steps = u.no_steps })
 
-pub fresh_store : (s : Store) (blocks : List (List ℕ)) → IsNew s → IsOpened blocks s → IsFresh s blocks
-fresh_store s blocks new opened = record { opened = opened; no_steps = new.1.no_steps }
+pub fresh_store : (s : Store) (blocks : List (List ℕ)) → IsUnused s → IsOpened blocks s → IsFresh s blocks
+fresh_store s blocks u opened = record { opened = opened; no_steps = u.no_steps }
 
 -- The end.
 

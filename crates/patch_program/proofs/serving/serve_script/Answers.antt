@@ -1,5 +1,5 @@
-use Rattle.patch_files.proofs.Writers.{script_served}
-use Rattle.patch_files.proofs.serving.serve_script.Goals as goal
+use Rattle.patch_program.proofs.Writers.{script_served}
+use Rattle.patch_program.proofs.serving.serve_script.Goals as goal
 
 pub returns-in-Ok-serve_lines-clause-done : goal.returns-in-Ok-serve_lines-clause-done
 returns-in-Ok-serve_lines-clause-done g c honest done =

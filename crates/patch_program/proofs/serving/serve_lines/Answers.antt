@@ -1,8 +1,8 @@
 use Rattle.std.proofs.Common.{◌∙◌, ap}
 use Rattle.patch_shared.specs.Telling.{commands_in}
-use Rattle.patch_files.specs.Serving.{jobs_by}
-use Rattle.patch_files.proofs.Writers.{served_so, same_when}
-use Rattle.patch_files.proofs.serving.serve_lines.Goals as goal
+use Rattle.patch_program.specs.Serving.{jobs_by}
+use Rattle.patch_program.proofs.Writers.{served_so, same_when}
+use Rattle.patch_program.proofs.serving.serve_lines.Goals as goal
 
 pub returns-clause-device : goal.returns-clause-device
 returns-clause-device g c =
