@@ -221,10 +221,8 @@ impl<A: Allocator + Copy> Graph<A> {
     pub fn class_of(&self, no: PatchNo) -> Option<PatchNo>
         ensures { (all : List Entry) → Represents self.now all → MatchOption result (IsNotLive all no) (IsLiveClass all no) }
     {
-        match self.register.find(no) {
-            Some(key) => self.register.name_at(key),
-            None => None,
-        }
+        let key = self.register.find(no)?;
+        self.register.name_at(key)
     }
 
     /// The class of a live patch.
