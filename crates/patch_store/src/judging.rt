@@ -58,10 +58,7 @@ impl<A: Allocator + Copy> Store<A> {
     fn is_in_use(&self, extent: u32, live: &LiveSlots) -> bool
         ensures { live.now ≡ live_slots self.now.shelf extent → result ≡ the_use self.now.shelf extent }
     {
-        match self.current {
-            Some(current) => current == extent && live.len() > 0,
-            None => false,
-        }
+        self.current == Some(extent) && live.len() > 0
     }
 
     /// How many patches the moves of these slots' frames are, unless one of them finds no room.
