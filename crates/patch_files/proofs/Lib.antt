@@ -1,7 +1,1 @@
-pub mod Calling
-pub mod Coming
-pub mod Resting
-pub mod Saving
-pub mod Unused
-pub mod Stopping
-pub mod Concluding
+pub mod Writers

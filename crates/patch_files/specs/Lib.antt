@@ -1,6 +1,1 @@
-pub mod Answering
-pub mod Ending
-pub mod Opening
-pub mod Reading
-pub mod Running
-pub mod Stopping
+pub mod Serving

@@ -1,27 +1,17 @@
-//! A chunk store in a file: how one is made, run on a script, checked and upgraded.
+//! A chunk store in a file: how one is made, run on a script, checked and upgraded, and how several writers are served over one.
 //!
-//! Each command is a function over any reader, writer and device, and answers how it ended: [`run_script`], [`check_disk`] and
-//! [`upgrade_disk`]. [`make_file`], [`run_file`], [`check_file`] and [`upgrade_file`] do the same by the path of a file. Nothing is
-//! written to a device but by a store's flush. What the commands are made of is for others too: [`read_script`], [`open_file`] and
-//! [`open_store`], which answer why they [`Stop`], and the end of the text by [`conclude`] or [`refuse`].
+//! What one thread does is that of `patch_disks`, and passed on here: [`run_script`], [`check_disk`] and [`upgrade_disk`] over any
+//! reader, writer and device, and [`make_file`], [`run_file`], [`check_file`] and [`upgrade_file`] by the path of a file.
+//! [`serve_script`] runs a script of several writers, each on a thread of its own; it takes the device, and gives it back.
+//! [`serve_file`] does so by the path of a file. Nothing is written to a device but by a store's flush, or by the threads that
+//! serve writers.
 #![tactic(auto)]
 
-mod answering;
-mod checking;
-mod endings;
-mod making;
-mod opening;
-mod progress;
-mod reading;
-mod reporting;
-mod running;
-mod upgrading;
+mod jobs;
+mod serving;
 
-pub use checking::{check_disk, check_file};
-pub use endings::{Status, Stop, Unread, conclude, refuse};
-pub use making::make_file;
-pub use opening::{open_file, open_store};
-pub use progress::{Progress, Quiet, Ticker};
-pub use reading::read_script;
-pub use running::{run_file, run_script};
-pub use upgrading::{upgrade_disk, upgrade_file};
+pub use patch_disks::{
+    Progress, Quiet, Status, Ticker, check_disk, check_file, make_file, run_file, run_script,
+    upgrade_disk, upgrade_file,
+};
+pub use serving::{Served, serve_file, serve_script};

@@ -7,10 +7,9 @@ ghost use Rattle.patch_program.specs.Ending.{HasStarved, IsExitOf};
 
 use crate::arguments;
 use crate::arguments::Request;
-use crate::serving::serve_file;
 use clap::error::ErrorKind;
 use patch_files::{
-    Quiet, Status as FileStatus, Ticker, check_file, make_file, run_file, upgrade_file,
+    Quiet, Status as FileStatus, Ticker, check_file, make_file, run_file, serve_file, upgrade_file,
 };
 use patch_frame::Geometry;
 use patch_model::MAX_BLOCKS;

@@ -2,8 +2,7 @@
 ghost use Rattle.std.specs.Prelude.{◌<◌, ◌≤◌};
 
 use super::*;
-use patch_files::{check_file, make_file, run_file, upgrade_file};
-use patch_program::serve_file;
+use patch_files::{check_file, make_file, run_file, serve_file, upgrade_file};
 use std::alloc::AllocError;
 use std::fs;
 use std::fs::OpenFile;

@@ -2,7 +2,7 @@
 ghost use Rattle.std.specs.Prelude.{◌<◌, ◌≤◌};
 
 use super::*;
-use patch_program::{Served, serve_script};
+use patch_files::{Served, serve_script};
 use patch_replay::BadScript;
 use patch_script::Defect;
 use std::sync::Wait;

@@ -1,0 +1,35 @@
+use Rattle.std.proofs.Common.{◌∙◌, ap, sym}
+use Rattle.std.specs.Prelude.{string_bytes}
+use Rattle.patch_history.specs.Command.{is_refused}
+use Rattle.patch_history.specs.Commands.{reply_told}
+use Rattle.patch_commands.specs.Reply.{reply_line}
+use Rattle.patch_disks.proofs.Calling.{not_refused}
+use Rattle.patch_disks.proofs.Coming.{sync_refused, sync_saved}
+use Rattle.patch_disks.proofs.Stopping.{err_so}
+use Rattle.patch_disks.proofs.answering.sync.Goals as goal
+
+pub returns-in-Refused-clause-answered : goal.returns-in-Refused-clause-answered
+returns-in-Refused-clause-answered g c honest h stands =
+    let reply = c.in_ok-reply.reply in
+    let contents = g.D.Device.contents c.args.device.now in
+    let told = c.in_ok-reply_line.ensures ∙ sym (ap (λ r. reply_line (reply_told r)) c.in-Refused.is) in
+    sync_refused h c.args.writer c.args.group (reply_told reply) (string_bytes c.in_ok-reply_line.field-0) c.reply_to.new.store contents
+    (ap (λ r. is_refused (reply_told r)) c.in-Refused.is) told (c.in_ok-reply.ensures h contents stands)
+
+pub returns : goal.returns
+returns g c = record {
+  device = c.save.ensures.device;
+  answered = λ honest h stands.
+      let reply = c.in_ok-reply.reply in
+      let contents = g.D.Device.contents c.args.device.now in
+      let called = c.in_ok-reply.ensures h contents stands in
+      sync_saved h c.args.writer c.args.group (reply_told reply) (string_bytes c.in_ok-synced_line.field-0) c.reply_to.new.store contents
+      c.save.new.store (g.D.Device.contents c.save.new.device) (not_refused reply c.in_default.not-Refused) c.in_ok-synced_line.ensures called
+      (c.in_ok-save.ensures.saved honest _ called.stands);
+  stops = λ honest h stands. tt;
+}
+
+pub returns-in_err-save-clause-stops : goal.returns-in_err-save-clause-stops
+returns-in_err-save-clause-stops g c honest h stands =
+    let called = c.in_ok-reply.ensures h (g.D.Device.contents c.args.device.now) stands in
+    err_so c.from_residual-in_err-save.result c.in_err-save.field-0.0 _ _ c.from_residual-in_err-save.ensures.1 (λ risen. risen) (c.in_err-save.ensures.stops honest _ called.stands)

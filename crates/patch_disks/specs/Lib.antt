@@ -1,0 +1,6 @@
+pub mod Answering
+pub mod Ending
+pub mod Opening
+pub mod Reading
+pub mod Running
+pub mod Stopping

@@ -1,0 +1,94 @@
+-- A script that is run on a store.
+use Rattle.std.specs.Prelude.{ℕ, ◌≡◌, List, Option, Result, Ok, OnOk, IfSome}
+use Rattle.std.specs.Io.KnownBytes.{Appends}
+use Rattle.patch_model.specs.Step.{Step}
+use Rattle.patch_cache.specs.Waves.{HoldImages}
+use Rattle.patch_recovery.specs.Ledger.{Ledger}
+use Rattle.patch_recovery.specs.Reading.{reading}
+use Rattle.patch_history.specs.Command.{Command, Reply}
+use Rattle.patch_history.specs.History.{History, IsLegalHistory, execution_of}
+use Rattle.patch_store.specs.Flushing.{StandsStill, HoldCached}
+use Rattle.patch_store.specs.Meaning.{Store}
+use Rattle.patch_store.specs.Opening.{IsOpened, at_opening}
+use Rattle.patch_commands.specs.Reply.{reply_line}
+use Rattle.patch_commands.specs.declared.commands.CommandLine.{CommandLine}
+use Rattle.patch_disks.specs.declared.endings.Stop.{Stop}
+use Rattle.patch_disks.specs.Answering.{with_call, IsSaved, IsAnswered, AreAnswered}
+use Rattle.patch_disks.specs.Reading.{HasLines}
+
+-- Done: the blocks read as a store's, and over them the lines were answered by calls of one legal history, each right where it
+-- stands. The text of the answers was written. In the end all patches were brought to the disk, whose blocks are the cached ones.
+pub record HasRun (lines : List CommandLine) (old new : Option (List ℕ)) (contents contents_now : List (List ℕ)) : Type 0 where
+  pub ledger : Ledger
+  pub reads : reading contents ≡ Ok ledger
+  pub text : List ℕ
+  pub written : Appends old new text
+  pub answered : History
+  pub answers : AreAnswered (at_opening contents ledger) lines text answered
+  pub last : History
+  pub saved : IsSaved answered last
+  pub legal : IsLegalHistory last
+  pub disk : HoldCached (execution_of last) contents_now
+
+-- what was read had such lines, where it is known
+abbrev pub HasRunScript : (input old new : Option (List ℕ)) (contents contents_now : List (List ℕ)) → Type 0
+HasRunScript input old new contents contents_now =
+    IfSome input (λ text. (lines : List CommandLine) × HasLines text lines × HasRun lines old new contents contents_now)
+
+-- On the way.
+
+-- the store stands at the end of the history with no write under way, and the device's blocks are the images of its blocks
+pub record StandsOn (store : Store) (h : History) (contents : List (List ℕ)) : Type 0 where
+  pub still : StandsStill store h
+  pub images : HoldImages (execution_of h) contents
+
+-- this is said of each history at whose end the store stands on the blocks
+abbrev pub OfEachPast : Store → List (List ℕ) → (History → Type 0) → Type 0
+OfEachPast store contents Said = (past : History) → StandsOn store past contents → Said past
+
+-- this is said of the blocks, if the store was opened on them
+abbrev pub OnceOpened : Store → List (List ℕ) → (List (List ℕ) → Type 0) → Type 0
+OnceOpened store blocks Said = (contents : List (List ℕ)) → contents ≡ blocks → IsOpened contents store → Said contents
+
+-- a call was made and answered
+pub record IsCalled (h : History) (call : ℕ × Command) (reply : Reply) (store : Store) (contents : List (List ℕ)) : Type 0 where
+  pub steps : List Step
+  pub stands : StandsOn store (with_call h call reply steps) contents
+
+-- and its reply is the text
+pub record IsTold (h : History) (call : ℕ × Command) (text : List ℕ) (store : Store) (contents : List (List ℕ)) : Type 0 where
+  pub reply : Reply
+  pub told : text ≡ reply_line reply
+  pub called : IsCalled h call reply store contents
+
+-- all patches were brought to the disk
+pub record HasSaved (h : History) (store : Store) (contents : List (List ℕ)) : Type 0 where
+  pub next : History
+  pub saved : IsSaved h next
+  pub stands : StandsOn store next contents
+  pub disk : HoldCached (execution_of next) contents
+
+-- a line was answered by the text
+pub record HasAnswered (h : History) (asked : CommandLine) (text : List ℕ) (store : Store) (contents : List (List ℕ)) : Type 0 where
+  pub next : History
+  pub answered : IsAnswered h asked text next
+  pub stands : StandsOn store next contents
+
+-- lines were answered, and their texts written
+pub record HasCome (h : History) (lines : List CommandLine) (old new : Option (List ℕ)) (store : Store) (contents : List (List ℕ)) : Type 0 where
+  pub text : List ℕ
+  pub written : Appends old new text
+  pub last : History
+  pub answers : AreAnswered h lines text last
+  pub stands : StandsOn store last contents
+
+-- where all lines are answered, the answers follow each history at whose end the store stands on the blocks
+abbrev pub ComesOn : {T : Type 0} → Result T Stop → (store store_now : Store) → (contents contents_now : List (List ℕ)) → List CommandLine
+    → (old new : Option (List ℕ)) → Type 0
+ComesOn result store store_now contents contents_now lines old new =
+    OfEachPast store contents (λ past. OnOk result (HasCome past lines old new store_now contents_now))
+
+-- where the store was opened on the blocks, and all is done, the script has run
+abbrev pub RunsOpened : {T : Type 0} → Result T Stop → Store → (blocks blocks_now : List (List ℕ)) → List CommandLine
+    → (old new : Option (List ℕ)) → Type 0
+RunsOpened result store blocks blocks_now lines old new = OnceOpened store blocks (λ contents. OnOk result (HasRun lines old new contents blocks_now))

@@ -1,0 +1,168 @@
+//! Runs a script on a store.
+ghost use Rattle.std.specs.Prelude.{◌≡◌, ◌⊎◌, false, OnOk};
+ghost use Rattle.patch_device.specs.SameDevice.{IsSameDevice};
+ghost use Rattle.patch_commands.specs.Command.{commands_of};
+ghost use Rattle.patch_disks.specs.Reading.{IsRunOf};
+ghost use Rattle.patch_disks.specs.Running.{OfEachPast, OnceOpened, ComesOn, RunsOpened, HasRun, HasRunScript};
+ghost use Rattle.patch_disks.specs.Stopping.{IsBroken, IfFailed, HasComeSome, HasWrittenSome, RunsSomeWay, TellsWhyItStops, TellsWhatItAnswered};
+ghost use Rattle.patch_disks.specs.declared.endings.Status.TheVariants.{Done, Unreadable};
+ghost use Rattle.patch_replay.specs.Streams.{IsGivenUp};
+ghost use Rattle.patch_replay.specs.declared.endings.BadScript.{BadScript as TheBadScript};
+
+use crate::answering::answer;
+use crate::endings::{Status, Stop, Unread, conclude, refuse};
+use crate::opening::{open_file, open_store, save};
+use crate::progress::Progress;
+use crate::reading::read_script;
+use patch_commands::CommandLine;
+use patch_device::Lasting;
+use patch_replay::{Output, Sink, Source};
+use patch_store::Store;
+use std::alloc::Global;
+use std::fs::OpenFile;
+use std::io::Read;
+use std::os::unix::fs::FileExt;
+use std::rt::Files;
+
+/// Answers the lines in order, each by a line of text.
+fn answer_lines<W: Output, D: Lasting, P: Progress>(
+    alloc: Global,
+    writer: &mut Sink<W>,
+    store: &mut Store,
+    device: &mut D,
+    lines: Vec<CommandLine>,
+    progress: &mut P,
+) -> Result<(), Stop>
+    ensures device { IsSameDevice D.Device device.old device.new }
+    ensures come { D.is_honest device.old → ComesOn result store.old store.new (D.contents device.old) (D.contents device.new)
+        lines.items (W.contents writer.old.inner) (W.contents writer.new.inner) }
+    ensures some { D.is_honest device.old → OfEachPast store.old (D.contents device.old) (λ past. writer.new.failed ≡ false
+        → HasComeSome past lines.items (W.contents writer.old.inner) (W.contents writer.new.inner)) }
+    ensures stops { D.is_honest device.old → OfEachPast store.old (D.contents device.old) (λ _.
+        TellsWhyItStops result writer.new.failed (D.fault_count device.old) (D.fault_count device.new) (D.contents device.old)) }
+{
+    let all = lines.len();
+    let mut answered = 0usize;
+    for line in lines {
+        let text = answer(alloc, store, device, line)?;
+        writer.write_all(text.as_bytes())?;
+        answered = answered.saturating_add(1);
+        progress.answered(answered, all);
+    }
+    Ok(())
+}
+
+/// Answers the lines, and brings all that they changed to the device.
+fn answer_and_save<W: Output, D: Lasting, P: Progress>(
+    alloc: Global,
+    writer: &mut Sink<W>,
+    store: &mut Store,
+    device: &mut D,
+    lines: Vec<CommandLine>,
+    progress: &mut P,
+) -> Result<(), Stop>
+    ensures run { D.is_honest device.old → RunsOpened result store.old (D.contents device.old) (D.contents device.new)
+        lines.items (W.contents writer.old.inner) (W.contents writer.new.inner) }
+    ensures some { D.is_honest device.old → RunsSomeWay store.old (D.contents device.old) writer.new.failed
+        lines.items (W.contents writer.old.inner) (W.contents writer.new.inner) }
+    ensures stops { D.is_honest device.old → OnceOpened store.old (D.contents device.old)
+        (TellsWhyItStops result writer.new.failed (D.fault_count device.old) (D.fault_count device.new)) }
+{
+    answer_lines(alloc, writer, store, device, lines, progress)?;
+    save(store, device)
+}
+
+/// Opens the device's store, answers the lines, and brings all that they changed to the device.
+fn run_lines<W: Output, D: Lasting, P: Progress>(
+    alloc: Global,
+    writer: &mut Sink<W>,
+    device: &mut D,
+    lines: Vec<CommandLine>,
+    progress: &mut P,
+) -> Result<(), Stop>
+    ensures run { D.is_honest device.old → OnOk result
+        (HasRun lines.items (W.contents writer.old.inner) (W.contents writer.new.inner) (D.contents device.old) (D.contents device.new)) }
+    ensures some { D.is_honest device.old → writer.new.failed ≡ false
+        → HasWrittenSome lines.items (W.contents writer.old.inner) (W.contents writer.new.inner) (D.contents device.old) }
+    ensures stops { D.is_honest device.old
+        → TellsWhyItStops result writer.new.failed (D.fault_count device.old) (D.fault_count device.new) (D.contents device.old) }
+{
+    let mut store = open_store(alloc, device)?;
+    answer_and_save(alloc, writer, &mut store, device, lines, progress)
+}
+
+/// Runs the script that the reader gives on the store of a device, and writes an answer for each of its lines.
+///
+/// All of the script is read and parsed before the store is opened. Blocks go to the device where a line asks for it, and at the end.
+/// A fault is told by a last line, behind the answers of the lines before it; after a fault of the writer nothing more is written.
+pub fn run_script<R: Read, W: Output, D: Lasting, P: Progress>(
+    alloc: Global,
+    reader: &mut Source<R>,
+    writer: &mut Sink<W>,
+    device: &mut D,
+    progress: &mut P,
+) -> Status
+    ensures run { IsRunOf commands_of (R.remaining reader.old.inner) (W.contents writer.old.inner) (W.contents writer.new.inner) result }
+    ensures left { (why : TheBadScript) → result ≡ Unreadable why → device.new ≡ device.old }
+    ensures done { D.is_honest device.old → result ≡ Done → HasRunScript (R.remaining reader.old.inner)
+        (W.contents writer.old.inner) (W.contents writer.new.inner) (D.contents device.old) (D.contents device.new) }
+    ensures failed { D.is_honest device.old → IfFailed result (IsGivenUp reader.new
+        ⊎ IsBroken writer.new.failed (D.fault_count device.old) (D.fault_count device.new) (D.contents device.old)) }
+    ensures stopped { D.is_honest device.old → writer.new.failed ≡ false → TellsWhatItAnswered (R.remaining reader.old.inner)
+        (W.contents writer.old.inner) (W.contents writer.new.inner) (D.contents device.old) result }
+{
+    let lines = match read_script(alloc, reader, None) {
+        Ok(lines) => lines,
+        Err(Unread::Script(why)) => return refuse(alloc, writer, why),
+        Err(Unread::Stopped(stop)) => return conclude(alloc, writer, Err(stop)),
+    };
+    let ran = run_lines(alloc, writer, device, lines, progress);
+    progress.end();
+    conclude(alloc, writer, ran)
+}
+
+/// Opens a file's store, and goes on as with that of a device.
+fn run_lines_on_file<F, H, W, P>(
+    rt: &H,
+    alloc: Global,
+    writer: &mut Sink<W>,
+    path: &str,
+    lines: Vec<CommandLine>,
+    progress: &mut P,
+) -> Result<(), Stop>
+where
+    F: FileExt + OpenFile + Drop,
+    H: Files<File = F>,
+    W: Output,
+    P: Progress,
+{
+    let mut device = open_file(rt, path)?;
+    run_lines(alloc, writer, &mut device, lines, progress)
+}
+
+/// Runs a script on the store of a file, as [`run_script`] does on that of a device. The file is opened when the script is read.
+pub fn run_file<F, H, R, W, P>(
+    rt: &H,
+    alloc: Global,
+    reader: &mut Source<R>,
+    writer: &mut Sink<W>,
+    path: &str,
+    progress: &mut P,
+) -> Status
+where
+    F: FileExt + OpenFile + Drop,
+    H: Files<File = F>,
+    R: Read,
+    W: Output,
+    P: Progress,
+    ensures { IsRunOf commands_of (R.remaining reader.old.inner) (W.contents writer.old.inner) (W.contents writer.new.inner) result }
+{
+    let lines = match read_script(alloc, reader, None) {
+        Ok(lines) => lines,
+        Err(Unread::Script(why)) => return refuse(alloc, writer, why),
+        Err(Unread::Stopped(stop)) => return conclude(alloc, writer, Err(stop)),
+    };
+    let ran = run_lines_on_file(rt, alloc, writer, path, lines, progress);
+    progress.end();
+    conclude(alloc, writer, ran)
+}
