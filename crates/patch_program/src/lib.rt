@@ -5,5 +5,4 @@ mod arguments;
 mod running;
 
 pub use arguments::words;
-pub use patch_files::{Served, serve_file, serve_script};
 pub use running::{Errors, run};
