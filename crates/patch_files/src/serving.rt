@@ -109,14 +109,7 @@ fn finish<W: Output, D: Lasting + Drop>(
     ensures written { OnOk result
         (Appends (W.contents writer.old.inner) (W.contents writer.new.inner) (all_text (replies_in finished.replies.items))) }
 {
-    let Finished {
-        store,
-        mut device,
-        replies,
-        book,
-    } = finished;
-    drop(store);
-    drop(book);
+    let (mut device, replies) = finished.let_go();
     match last_and_tell(alloc, writer, &mut device, replies.as_slice()) {
         Ok(()) => Ok(device),
         Err(why) => Err(Unserved {
@@ -140,8 +133,8 @@ fn prepare<D: Device>(
     ensures jobs { IfOk result (λ ready. commands_in ready.1.items ≡ jobs_by writers lines.now) }
     ensures count { IfOk result (λ ready. vec_len ready.1 ≡ writers) }
 {
-    let store = open_store(alloc, device)?;
     let jobs = jobs_of(alloc, lines, writers)?;
+    let store = open_store(alloc, device)?;
     Ok((store, jobs))
 }
 

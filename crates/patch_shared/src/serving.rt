@@ -36,6 +36,22 @@ pub struct Finished<D: Device> {
     pub book: Rest,
 }
 
+impl<D: Device> Finished<D> {
+    /// Lets the store and the book go, and gives back the device and the replies.
+    pub fn let_go(self) -> (D, Vec<Vec<Reply>>)
+        ensures device { result.0 ≡ self.device }
+        ensures replies { result.1 ≡ self.replies }
+    {
+        let Finished {
+            store: _,
+            device,
+            replies,
+            book: _,
+        } = self;
+        (device, replies)
+    }
+}
+
 // The book and the device when the threads have ended, and how many writes they say that they have begun and ended.
 #[derive(Drop)]
 struct Ran<D: Device> {
