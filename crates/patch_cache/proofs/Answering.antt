@@ -13,9 +13,7 @@ use Rattle.patch_model.specs.Legal.{IsLegal}
 use Rattle.patch_model.specs.Refusing.{bare, why_not_sent}
 use Rattle.patch_model.specs.Ready.{ready}
 use Rattle.patch_model.specs.History.{history_of, image}
-use Rattle.patch_graph.specs.State.{Graph}
-use Rattle.patch_graph.specs.Meaning.{Represents as IsGraphOf}
-use Rattle.patch_cache.specs.Meaning.{Shows, Represents}
+use Rattle.patch_cache.specs.Meaning.{Represents}
 use Rattle.patch_model.specs.Member.{In}
 use Rattle.patch_cache.specs.Contents.{Contents}
 use Rattle.patch_cache.specs.Flights.{IsFlightOf, AreFlightsOf}

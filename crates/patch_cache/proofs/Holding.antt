@@ -19,7 +19,7 @@ use Rattle.patch_model.specs.State.{after_step, state_of, entries_of, has_flight
 use Rattle.patch_model.specs.History.{history_of, image}
 use Rattle.patch_model.specs.Legal.{IsLegal}
 use Rattle.patch_model.specs.Member.{In, In-from_Contains, Contains-from_In, In-filter, filter-In, list_any-from, list_any-at}
-use Rattle.patch_cache.specs.Flights.{IsSent, IsFlightOf, AreFlightsOf}
+use Rattle.patch_cache.specs.Flights.{IsSent, IsFlightOf, AreFlightsOf, AreFlightsBeside}
 use Rattle.patch_cache.specs.declared.flights.Flight.{Flight}
 
 -- the laws of flights, as they are handed on
@@ -55,23 +55,23 @@ flight_alike run next flight known numbers images is =
     record { known = known is.known; numbers_are = is.numbers_are ∙ sym numbers; image_is = is.image_is ∙ sym images }
 
 -- the flights, where all of them stay
-all_alike : {A : Type 0} (run next : Execution) (held : List (Flight A)) → (state_of next).flights ≡ (state_of run).flights
+all_alike : {A : Type 0} {others : Bool} (run next : Execution) (held : List (Flight A)) → (state_of next).flights ≡ (state_of run).flights
     → ((block : ℕ) → numbers_of (flying_of (entries_of next) block) ≡ numbers_of (flying_of (entries_of run) block))
-    → ((block : ℕ) → image (history_of next block) ≡ image (history_of run block)) → AreFlightsOf run held → AreFlightsOf next held
+    → ((block : ℕ) → image (history_of next block) ≡ image (history_of run block)) → AreFlightsBeside others run held → AreFlightsBeside others next held
 all_alike run next held same numbers images are = record {
   each = λ f h. flight_alike run next f (subst (λ (fs : List (ℕ × ℕ)). Contains fs (f.block, f.sequence)) (sym same)) (numbers f.block) (images f.block) (are.each f h);
-  all = λ b t. are.all b (subst (λ (fs : List (ℕ × ℕ)). IsTrue (list_any (λ f. f.0 == b) fs)) same t);
+  all = λ none b t. are.all none b (subst (λ (fs : List (ℕ × ℕ)). IsTrue (list_any (λ f. f.0 == b) fs)) same t);
   once = are.once;
 }
 
-pub held_create : {A : Type 0} → StatesExtend → StayMade → ImagesStay → (run : Execution) (at start : ℕ) (bytes after : List ℕ) (undo : Undo) (held : List (Flight A))
-    → AreFlightsOf run held → AreFlightsOf (extended run (Create at start bytes after undo)) held
+pub held_create : {A : Type 0} {others : Bool} → StatesExtend → StayMade → ImagesStay → (run : Execution) (at start : ℕ) (bytes after : List ℕ) (undo : Undo) (held : List (Flight A))
+    → AreFlightsBeside others run held → AreFlightsBeside others (extended run (Create at start bytes after undo)) held
 held_create extend made stay run at start bytes after undo held are =
     let step : Step = Create at start bytes after undo in
     all_alike run (extended run step) held (ap (λ st. st.flights) (extend run step)) (made run at start bytes after undo) (λ b. stay run step b (λ e. absurd (cc))) are
 
-pub held_merge : {A : Type 0} → StatesExtend → StayMerged → ImagesStay → (run : Execution) (a b : ℕ) (held : List (Flight A))
-    → AreFlightsOf run held → AreFlightsOf (extended run (Merge a b)) held
+pub held_merge : {A : Type 0} {others : Bool} → StatesExtend → StayMerged → ImagesStay → (run : Execution) (a b : ℕ) (held : List (Flight A))
+    → AreFlightsBeside others run held → AreFlightsBeside others (extended run (Merge a b)) held
 held_merge extend merged stay run a b held are =
     all_alike run (extended run (Merge a b)) held (ap (λ st. st.flights) (extend run (Merge a b))) (merged run a b) (λ n. stay run (Merge a b) n (λ e. absurd (cc))) are
 
@@ -174,13 +174,13 @@ has_pair : (fs : List (ℕ × ℕ)) (block number : ℕ) → In fs (block, numbe
 has_pair fs block number h = list_any-from (λ (f : ℕ × ℕ). f.0 == block) fs (block, number) h (same_number block block refl)
 
 -- the block of a held flight has one
-pub held_flies : {A : Type 0} (run : Execution) (held : List (Flight A)) (flight : Flight A) → AreFlightsOf run held → In held flight → IsTrue (has_flight (state_of run) flight.block)
+pub held_flies : {A : Type 0} {others : Bool} (run : Execution) (held : List (Flight A)) (flight : Flight A) → AreFlightsBeside others run held → In held flight → IsTrue (has_flight (state_of run) flight.block)
 held_flies run held flight are h =
     has_pair (state_of run).flights flight.block flight.sequence (In-from_Contains (state_of run).flights (flight.block, flight.sequence) (are.each flight h).known)
 
 -- a write begins, and its flight is held
-pub held_send : {A : Type 0} → StatesExtend → ImagesStay → AreSent → StaySent → (run : Execution) (block : ℕ) (held : List (Flight A)) (flight : Flight A) → IsLegal run
-    → IsFalse (has_flight (state_of run) block) → IsSent run block flight → AreFlightsOf run held → AreFlightsOf (extended run (Send block)) (held ++ flight ∷ [])
+pub held_send : {A : Type 0} {others : Bool} → StatesExtend → ImagesStay → AreSent → StaySent → (run : Execution) (block : ℕ) (held : List (Flight A)) (flight : Flight A) → IsLegal run
+    → IsFalse (has_flight (state_of run) block) → IsSent run block flight → AreFlightsBeside others run held → AreFlightsBeside others (extended run (Send block)) (held ++ flight ∷ [])
 held_send {A = A} extend stay sent elsewhere run block held flight legal none is are =
     let next : Execution = extended run (Send block) in
     let before : List (ℕ × ℕ) = (state_of run).flights in
@@ -202,10 +202,10 @@ held_send {A = A} extend stay sent elsewhere run block held flight legal none is
             (elsewhere run block f.block (λ e. apart f i (sym e))) (stay run (Send block) f.block (λ e. let same : block ≡ f.block = cc in apart f i (sym same))) (are.each f i)
         | inr e ↦ subst (IsFlightOf next) e new
       ];
-      all = λ b t.
+      all = λ alone b t.
           let r = list_any-at (λ (f : ℕ × ℕ). f.0 == b) (before ++ pair ∷ []) (subst (λ (fs : List (ℕ × ℕ)). list_any (λ f. f.0 == b) fs ≡ true) now t) in
           elim (pushed before pair r.0 r.1) [
-            | inl i ↦ let h = are.all b (list_any-from (λ (f : ℕ × ℕ). f.0 == b) before r.0 i r.2) in (h.0, old_in held flight h.0 h.1, h.2)
+            | inl i ↦ let h = are.all alone b (list_any-from (λ (f : ℕ × ℕ). f.0 == b) before r.0 i r.2) in (h.0, old_in held flight h.0 h.1, h.2)
             | inr e ↦ (flight, new_in held flight flight refl, is.block_is ∙ ap (λ (f : ℕ × ℕ). f.0) e ∙ is_same r.0.0 b r.2)
           ];
       once = λ i j f g p q e. elim (get_pushed held flight f i p) [
@@ -227,8 +227,8 @@ elsewhere_stands held block b n at k flight f stands is here of same other e =
     is_other n block other (is_same n b same ∙ sym of ∙ ap (λ x. x.block) one ∙ is)
 
 -- a write ends, and its flight is taken out of the held ones
-pub held_complete : {A : Type 0} → StatesExtend → ImagesStay → StayLanded → (run : Execution) (block : ℕ) (held : List (Flight A)) (at : ℕ) (flight left : Flight A)
-    → slice_get held at ≡ Some flight → flight.block ≡ block → AreFlightsOf run held → AreFlightsOf (extended run (Complete block)) (swap_remove held at left)
+pub held_complete : {A : Type 0} {others : Bool} → StatesExtend → ImagesStay → StayLanded → (run : Execution) (block : ℕ) (held : List (Flight A)) (at : ℕ) (flight left : Flight A)
+    → slice_get held at ≡ Some flight → flight.block ≡ block → AreFlightsBeside others run held → AreFlightsBeside others (extended run (Complete block)) (swap_remove held at left)
 held_complete {A = A} extend stay elsewhere run block held at flight left stands is are =
     let next : Execution = extended run (Complete block) in
     let before : List (ℕ × ℕ) = (state_of run).flights in
@@ -253,10 +253,10 @@ held_complete {A = A} extend stay elsewhere run block held at flight left stands
             | inl last ↦ let same : r.0 ≡ at = last.0 in stays (length held - 1) f last.1 (λ e. let lower : length held - 1 ≡ at = e in absurd (omega (arith, low, same, lower)))
             | inr there ↦ stays r.0 f there.1 there.0
           ];
-      all = λ b t.
+      all = λ alone b t.
           let r = list_any-at (λ (f : ℕ × ℕ). f.0 == b) (filter others before) (subst (λ (fs : List (ℕ × ℕ)). list_any (λ f. f.0 == b) fs ≡ true) now t) in
           let kept = filter-In others before r.0 r.1 in
-          let h = are.all b (list_any-from (λ (f : ℕ × ℕ). f.0 == b) before r.0 kept.0 r.2) in
+          let h = are.all alone b (list_any-from (λ (f : ℕ × ℕ). f.0 == b) before r.0 kept.0 r.2) in
           let k = in_get held h.0 h.1 in
           let other : k.0 ≢ at = elsewhere_stands held block b r.0.0 at k.0 flight h.0 stands is k.1 h.2 r.2 kept.1 in
           (h.0, still_in held at left k.0 h.0 within k.1 other, h.2);
@@ -295,7 +295,7 @@ pub none_stands : {A : Type 0} (run : Execution) (held : List (Flight A)) (block
     → has_flight (state_of run) block ≡ false
 none_stands {A = A} run held block are e = elim (cases_Bool (has_flight (state_of run) block)) [
   | inl flies ↦
-      let h = are.all block flies in
+      let h = are.all refl block flies in
       let k = in_get held h.0 h.1 in
       let test : Flight A → Bool = λ f. f.block == block in
       let within : k.0 < length held = slice_get_within held k.0 h.0 k.1 in

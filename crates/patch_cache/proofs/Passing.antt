@@ -19,18 +19,18 @@ use Rattle.patch_model.specs.Member.{In, Contains-from_In, filter-In}
 use Rattle.patch_model.specs.Pile.{pile}
 use Rattle.patch_model.specs.History.{history_of, image, cached}
 use Rattle.patch_cache.specs.Contents.{Contents}
-use Rattle.patch_cache.specs.Running.{Runs, held_by}
+use Rattle.patch_cache.specs.Running.{Runs, RunsBeside, held_by}
 use Rattle.patch_cache.specs.BlockSets.{holds}
 use Rattle.patch_cache.specs.Waiting.{AreWaiting}
 use Rattle.patch_cache.specs.Flights.{AreFlightsOf}
-use Rattle.patch_cache.specs.Waves.{is_send, steps_since, classes_in_memory, live_classes, HasGoneOn, HasKept, Continues, EndsOne, HoldsBegun, begun, IsPass, IsFlushed, IsSentOr}
+use Rattle.patch_cache.specs.Waves.{is_send, steps_since, classes_in_memory, live_classes, HasGoneOnBeside, HasKept, Continues, EndsOne, HoldsBegun, begun, IsPass, IsFlushed, IsSentOr}
 use Rattle.patch_cache.specs.declared.flights.Flights.{Flights}
 use Rattle.patch_cache.specs.declared.flights.Flight.{Flight as Held}
 use Rattle.patch_cache.proofs.Crashing.{DisksStay, TrailsJoin, unwritten_step}
 use Rattle.patch_cache.proofs.Holding.{StatesExtend, ImagesStay}
 use Rattle.patch_cache.proofs.Counting.{count_le, count-append}
 use Rattle.patch_cache.proofs.Waiting.{none_between}
-use Rattle.patch_cache.proofs.Waving.{since_is, since_both, continues, gone_still, gone_send, gone_both, kept_unmoved, kept_both, went_by, keeps_by, fewer_sent, images_sent}
+use Rattle.patch_cache.proofs.Waving.{since_is, since_both, sends_since, continues, gone_still, gone_send, gone_both, kept_unmoved, kept_both, went_by, keeps_by, fewer_sent, images_sent}
 
 -- the law of what a write of a block needs
 abbrev pub SentLaw : Type 0
@@ -49,8 +49,8 @@ abbrev pub IsPassTo : Execution → ℕ → Bool → List Step → Type 0
 IsPassTo run at true steps = 0 < count_by is_send steps
 IsPassTo run at false steps = (steps ≡ []) × ((b : ℕ) → b < at → why_not_sent run b ≡ None → ⊥)
 
-pub record Passed {A : Type 0} (run : Execution) (at : ℕ) (sent : Bool) (steps : List Step) (cache : Contents) (flights : Flights A) : Type 0 where
-  pub gone : HasGoneOn run steps cache flights
+pub record Passed {A : Type 0} (others : Bool) (run : Execution) (at : ℕ) (sent : Bool) (steps : List Step) (cache : Contents) (flights : Flights A) : Type 0 where
+  pub gone : HasGoneOnBeside others run steps cache flights
   pub kept : (had : List (List (List ℕ))) (contents : List (List ℕ)) → HasKept run steps had had contents contents
   pub pass : IsPassTo run at sent steps
 
@@ -58,8 +58,8 @@ pub no_end : (block b : ℕ) → Send block ≢ Complete b
 no_end block b e = absurd (cc)
 
 -- a write of one block
-pub one_sent : {A : Type 0} → StatesExtend → OrderlyLaw → LargestLaw → SentLaw → (run : Execution) (block : ℕ) (cache : Contents) (flights : Flights A) → IsLegal run → why_not_sent run block ≡ None
-    → Runs cache flights (extended run (Send block)) → HasGoneOn run (Send block ∷ []) cache flights
+pub one_sent : {A : Type 0} {others : Bool} → StatesExtend → OrderlyLaw → LargestLaw → SentLaw → (run : Execution) (block : ℕ) (cache : Contents) (flights : Flights A) → IsLegal run → why_not_sent run block ≡ None
+    → RunsBeside others cache flights (extended run (Send block)) → HasGoneOnBeside others run (Send block ∷ []) cache flights
 one_sent extend orderly largest law run block cache flights legal why runs =
     let may = (law run block).0 why in gone_send run block cache flights (fewer_sent extend run block (orderly run legal) (largest run block) may.1.1) runs
 
@@ -72,17 +72,17 @@ same_run : (run : Execution) (steps : List Step) → steps ≡ [] → followed_b
 same_run run steps none = ap (λ s. let v : Execution = record { first = run.first; steps = run.steps ++ s } in v) none ∙ ap (λ s. let v : Execution = record { first = run.first; steps = s } in v) (append-nil run.steps)
 
 -- one block, of which a write may have begun
-pub one_gone : {A : Type 0} → StatesExtend → OrderlyLaw → LargestLaw → SentLaw → (run : Execution) (block : ℕ) (sent : Bool) (cache : Contents) (flights : Flights A) → IsLegal run
-    → IsSentOr run block sent cache flights → HasGoneOn run (begun block sent) cache flights
+pub one_gone : {A : Type 0} {others : Bool} → StatesExtend → OrderlyLaw → LargestLaw → SentLaw → (run : Execution) (block : ℕ) (sent : Bool) (cache : Contents) (flights : Flights A) → IsLegal run
+    → IsSentOr others run block sent cache flights → HasGoneOnBeside others run (begun block sent) cache flights
 one_gone extend orderly largest law run block true cache flights legal one = one_sent extend orderly largest law run block cache flights legal one.0 one.1
 one_gone extend orderly largest law run block false cache flights legal one = gone_still run cache flights one.1
 
-pub maybe_kept : {A : Type 0} → StatesExtend → ImagesStay → DisksStay → (run : Execution) (block : ℕ) (sent : Bool) (cache : Contents) (flights : Flights A) (had : List (List (List ℕ))) (contents : List (List ℕ)) → IsLegal run
-    → IsSentOr run block sent cache flights → HasKept run (begun block sent) had had contents contents
-maybe_kept extend stay disks run block true cache flights had contents legal one = one_kept extend stay disks run block had contents legal one.1.cache_is.legal
-maybe_kept extend stay disks run block false cache flights had contents legal one = kept_unmoved run had contents
+pub maybe_kept : {A : Type 0} → StatesExtend → ImagesStay → DisksStay → (others : Bool) (run : Execution) (block : ℕ) (sent : Bool) (cache : Contents) (flights : Flights A) (had : List (List (List ℕ))) (contents : List (List ℕ)) → IsLegal run
+    → IsSentOr others run block sent cache flights → HasKept run (begun block sent) had had contents contents
+maybe_kept extend stay disks others run block true cache flights had contents legal one = one_kept extend stay disks run block had contents legal one.1.cache_is.legal
+maybe_kept extend stay disks others run block false cache flights had contents legal one = kept_unmoved run had contents
 
-pub sent_true : {A : Type 0} (run : Execution) (block : ℕ) (b : Bool) (cache : Contents) (flights : Flights A) → b ≡ true → IsSentOr run block b cache flights → (why_not_sent run block ≡ None) × Runs cache flights (extended run (Send block))
+pub sent_true : {A : Type 0} {others : Bool} (run : Execution) (block : ℕ) (b : Bool) (cache : Contents) (flights : Flights A) → b ≡ true → IsSentOr others run block b cache flights → (why_not_sent run block ≡ None) × RunsBeside others cache flights (extended run (Send block))
 sent_true run block true cache flights e h = h
 sent_true run block false cache flights e h = absurd (cc)
 
@@ -90,18 +90,18 @@ sent_true run block false cache flights e h = absurd (cc)
 pub begun_by : (old still now : Contents) (block : ℕ) (sent : Bool) → still ≡ old → sent ≡ true → now.trace ≡ still.trace ++ begun block sent → now.trace ≡ old.trace ++ Send block ∷ []
 begun_by old still now block sent same is added = added ∙ ap (λ b. still.trace ++ begun block b) is ∙ ap (λ (x : Contents). x.trace ++ Send block ∷ []) same
 
-pub sent_still : {A : Type 0} (run : Execution) (block : ℕ) (old still now : Contents) (sent : Bool) (flights held : Flights A) → still ≡ old → sent ≡ true → (Runs still flights run → IsSentOr run block sent now held) → Runs old flights run
-    → (why_not_sent run block ≡ None) × Runs now held (extended run (Send block))
-sent_still run block old still now sent flights held same is one runs = sent_true run block sent now held is (one (subst (λ (x : Contents). Runs x flights run) (sym same) runs))
+pub sent_still : {A : Type 0} {others : Bool} (run : Execution) (block : ℕ) (old still now : Contents) (sent : Bool) (flights held : Flights A) → still ≡ old → sent ≡ true → (RunsBeside others still flights run → IsSentOr others run block sent now held) → RunsBeside others old flights run
+    → (why_not_sent run block ≡ None) × RunsBeside others now held (extended run (Send block))
+sent_still {others = others} run block old still now sent flights held same is one runs = sent_true run block sent now held is (one (subst (λ (x : Contents). RunsBeside others x flights run) (sym same) runs))
 
-pub begun_gone : {A : Type 0} → StatesExtend → OrderlyLaw → LargestLaw → SentLaw → (run : Execution) (block : ℕ) (old still now : Contents) (sent : Bool) (flights held : Flights A) → still ≡ old → sent ≡ true
-    → now.trace ≡ still.trace ++ begun block sent → (Runs still flights run → IsSentOr run block sent now held) → Runs old flights run → HasGoneOn run (steps_since old now) now held
+pub begun_gone : {A : Type 0} {others : Bool} → StatesExtend → OrderlyLaw → LargestLaw → SentLaw → (run : Execution) (block : ℕ) (old still now : Contents) (sent : Bool) (flights held : Flights A) → still ≡ old → sent ≡ true
+    → now.trace ≡ still.trace ++ begun block sent → (RunsBeside others still flights run → IsSentOr others run block sent now held) → RunsBeside others old flights run → HasGoneOnBeside others run (steps_since old now) now held
 begun_gone extend orderly largest law run block old still now sent flights held same is added one runs =
     let told = sent_still run block old still now sent flights held same is one runs in
     went_by run old now (Send block ∷ []) held (begun_by old still now block sent same is added) (one_sent extend orderly largest law run block now held runs.cache_is.legal told.0 told.1)
 
-pub begun_kept : {A : Type 0} → StatesExtend → ImagesStay → DisksStay → (run : Execution) (block : ℕ) (old still now : Contents) (sent : Bool) (flights held : Flights A) (had : List (List (List ℕ))) (contents : List (List ℕ))
-    → still ≡ old → sent ≡ true → now.trace ≡ still.trace ++ begun block sent → (Runs still flights run → IsSentOr run block sent now held) → Runs old flights run → HasKept run (steps_since old now) had had contents contents
+pub begun_kept : {A : Type 0} {others : Bool} → StatesExtend → ImagesStay → DisksStay → (run : Execution) (block : ℕ) (old still now : Contents) (sent : Bool) (flights held : Flights A) (had : List (List (List ℕ))) (contents : List (List ℕ))
+    → still ≡ old → sent ≡ true → now.trace ≡ still.trace ++ begun block sent → (RunsBeside others still flights run → IsSentOr others run block sent now held) → RunsBeside others old flights run → HasKept run (steps_since old now) had had contents contents
 begun_kept extend stay disks run block old still now sent flights held had contents same is added one runs =
     let told = sent_still run block old still now sent flights held same is one runs in
     keeps_by run old now (Send block ∷ []) had had contents contents (begun_by old still now block sent same is added) (one_kept extend stay disks run block had contents runs.cache_is.legal told.1.cache_is.legal)
@@ -109,6 +109,13 @@ begun_kept extend stay disks run block old still now sent flights held had conte
 pub begun_few : (block : ℕ) (sent : Bool) → count_by is_send (begun block sent) ≤ 1
 begun_few block true = omega arith
 begun_few block false = omega arith
+
+-- how many writes began where one did and nothing behind it
+pub begun_sends : (old still mid now : Contents) (block : ℕ) (sent : Bool) → still ≡ old → mid.trace ≡ still.trace ++ begun block sent → Continues mid now
+    → count_by is_send (steps_since old now) ≡ count_by is_send (begun block sent) + count_by is_send (steps_since mid now)
+begun_sends old still mid now block sent same is more =
+    let added : mid.trace ≡ old.trace ++ begun block sent = is ∙ ap (λ (x : Contents). x.trace ++ begun block sent) same in
+    sends_since old mid now (continues old mid (begun block sent) added) more ∙ ap (λ s. count_by is_send s + count_by is_send (steps_since mid now)) (since_is old mid (begun block sent) added)
 
 -- where none was held, and the one that was begun is completed
 pub one_written : {A : Type 0} (block : ℕ) (sent : Bool) (old still mid now : Contents) (flights held : Flights A) → still ≡ old → sent ≡ true → mid.trace ≡ still.trace ++ begun block sent → held_by flights ≡ []
@@ -120,14 +127,14 @@ one_written block true old still mid now flights held same is trace empty more s
     ∙ ap (λ s. Send block ∷ s) (ends more.0 (more.2 ∙ ap (λ xs. xs ++ more.0 ∷ []) empty)) ∙ ap (λ b. Send block ∷ Complete b ∷ []) more.1
 
 -- one block more of a pass
-one_passed : {A : Type 0} (run : Execution) (at : ℕ) (before more : Bool) (steps : List Step) (now : Contents) (held : Flights A) → IsPassTo run at before steps → IsSentOr (followed_by run steps) at more now held
+one_passed : {A : Type 0} (others : Bool) (run : Execution) (at : ℕ) (before more : Bool) (steps : List Step) (now : Contents) (held : Flights A) → IsPassTo run at before steps → IsSentOr others (followed_by run steps) at more now held
     → IsPassTo run (at + 1) (before || more) (steps ++ begun at more)
-one_passed run at true true steps now held pass one = let both = count-append is_send steps (begun at true) in omega (arith, both, pass)
-one_passed run at true false steps now held pass one = let both = count-append is_send steps (begun at false) in omega (arith, both, pass)
-one_passed run at false true steps now held pass one =
+one_passed others run at true true steps now held pass one = let both = count-append is_send steps (begun at true) in omega (arith, both, pass)
+one_passed others run at true false steps now held pass one = let both = count-append is_send steps (begun at false) in omega (arith, both, pass)
+one_passed others run at false true steps now held pass one =
     let both = count-append is_send steps (begun at true) in
     let some : count_by is_send (begun at true) ≡ 1 = refl in omega (arith, both, some)
-one_passed run at false false steps now held pass one = (
+one_passed others run at false false steps now held pass one = (
   append-nil steps ∙ pass.0,
   λ b within why. elim (cases_eq b at) [
     | inl same ↦ one.0 (subst (λ n. why_not_sent (followed_by run steps) n ≡ None) same (subst (λ r. why_not_sent r b ≡ None) (sym (same_run run steps pass.0)) why))
@@ -135,23 +142,23 @@ one_passed run at false false steps now held pass one = (
   ],
 )
 
-pub pass_more : TrailsJoin → {A : Type 0} → StatesExtend → ImagesStay → DisksStay → OrderlyLaw → LargestLaw → SentLaw → (run : Execution) (at : ℕ) (before more : Bool) (steps : List Step) (mid now : Contents) (held held_now : Flights A)
-    → Passed run at before steps mid held → IsSentOr (followed_by run steps) at more now held_now
-    → Passed run (at + 1) (before || more) (steps ++ begun at more) now held_now
-pass_more join extend stay disks orderly largest law run at before more steps mid now held held_now first one =
+pub pass_more : TrailsJoin → {A : Type 0} {others : Bool} → StatesExtend → ImagesStay → DisksStay → OrderlyLaw → LargestLaw → SentLaw → (run : Execution) (at : ℕ) (before more : Bool) (steps : List Step) (mid now : Contents) (held held_now : Flights A)
+    → Passed others run at before steps mid held → IsSentOr others (followed_by run steps) at more now held_now
+    → Passed others run (at + 1) (before || more) (steps ++ begun at more) now held_now
+pass_more join {others = others} extend stay disks orderly largest law run at before more steps mid now held held_now first one =
     let legal = first.gone.runs.cache_is.legal in record {
       gone = gone_both run steps (begun at more) mid now held held_now first.gone (one_gone extend orderly largest law (followed_by run steps) at more now held_now legal one);
       kept = λ had contents.
-          kept_both join run steps (begun at more) had had had contents contents contents (first.kept had contents) (maybe_kept extend stay disks (followed_by run steps) at more now held_now had contents legal one);
-      pass = one_passed run at before more steps now held_now first.pass one;
+          kept_both join run steps (begun at more) had had had contents contents contents (first.kept had contents) (maybe_kept extend stay disks others (followed_by run steps) at more now held_now had contents legal one);
+      pass = one_passed others run at before more steps now held_now first.pass one;
     }
 
-pub pass_begun : {A : Type 0} (run : Execution) (cache : Contents) (flights : Flights A) → Runs cache flights run → Passed run 0 false [] cache flights
+pub pass_begun : {A : Type 0} {others : Bool} (run : Execution) (cache : Contents) (flights : Flights A) → RunsBeside others cache flights run → Passed others run 0 false [] cache flights
 pass_begun run cache flights runs = record { gone = gone_still run cache flights runs; kept = λ had contents. kept_unmoved run had contents; pass = (refl, λ b within why. omega (arith, within)) }
 
 -- a pass up to one block is one up to another, if none of the blocks between waits
-pub pass_skipped : LargestLaw → SentLaw → {A : Type 0} → (run : Execution) (from at : ℕ) (sent : Bool) (steps : List Step) (cache : Contents) (flights : Flights A)
-    → ((b : ℕ) → from ≤ b → b < at → holds cache.waiting b ≡ false) → Passed run from sent steps cache flights → Passed run at sent steps cache flights
+pub pass_skipped : LargestLaw → SentLaw → {A : Type 0} {others : Bool} → (run : Execution) (from at : ℕ) (sent : Bool) (steps : List Step) (cache : Contents) (flights : Flights A)
+    → ((b : ℕ) → from ≤ b → b < at → holds cache.waiting b ≡ false) → Passed others run from sent steps cache flights → Passed others run at sent steps cache flights
 pass_skipped largest law run from at true steps cache flights none first = record { gone = first.gone; kept = first.kept; pass = first.pass }
 pass_skipped largest law run from at false steps cache flights none first =
     let same = same_run run steps first.pass.0 in
@@ -178,7 +185,7 @@ none_flying (f ∷ fs) none =
 
 pub none_held : {A : Type 0} (run : Execution) (held : List (Held A)) → AreFlightsOf run held → held ≡ [] → (b : ℕ) → has_flight (state_of run) b ≡ false
 none_held {A = A} run held are empty b = elim (cases_Bool (has_flight (state_of run) b)) [
-  | inl flies ↦ let h = are.all b flies in absurd (subst (λ (xs : List (Held A)). In xs h.0) empty h.1)
+  | inl flies ↦ let h = are.all refl b flies in absurd (subst (λ (xs : List (Held A)). In xs h.0) empty h.1)
   | inr none ↦ none
 ]
 

@@ -1,6 +1,6 @@
 -- Stretches of writes, one after another.
 use Rattle.std.proofs.Common.{◌≡◌, ◌≢◌, ℕ, zero, suc, Bool, true, false, ◌+◌, ◌*◌, ◌<◌, ◌≤◌, inl, inr, Result, Ok, Err, OnOk, OnErr, ◌∙◌, Some, List, [], ◌∷◌, ◌++◌, length, map, filter, drop, refl, sym, ap, subst, arith, append_assoc, length-append, get_or, set, slice_set}
-use Rattle.std.specs.Prelude.{◌==◌, ◌&&◌, ◌||◌, ◌⊎◌, not, is_ok, count_by, slice_index_or, slice_get, IsTrue, Contains}
+use Rattle.std.specs.Prelude.{◌==◌, ◌&&◌, ◌||◌, ◌⊎◌, not, IfErr, IsErrAnd, is_ok, count_by, slice_index_or, slice_get, IsTrue, Contains}
 use Rattle.std.specs.List.{list_any}
 use Rattle.std.proofs.Math.Seq.{drop-append_seam}
 use Rattle.std.proofs.lemmas.List.{append-nil, nil_from_length, get_or-set_same, get_or-set_other, length-set}
@@ -17,16 +17,20 @@ use Rattle.patch_model.specs.History.{history_of, image}
 use Rattle.patch_model.specs.Crash.{MayLeave}
 use Rattle.patch_model.specs.Member.{In, In-from_Contains, Contains-from_In, In-filter, list_any-from, list_any-at}
 use Rattle.patch_device.specs.Device.{HasRisen, IsOldOrNew, AddsOutcome, most_faults}
+use Rattle.patch_device.specs.declared.devices.Device.{Ghosts}
 use Rattle.patch_cache.specs.Contents.{Contents}
 use Rattle.patch_cache.specs.Meaning.{Represents}
-use Rattle.patch_cache.specs.Running.{Runs, IsCrashSafe, held_by}
-use Rattle.patch_cache.specs.Waves.{is_send, is_write, steps_since, Continues, classes_in_memory, HasRisenBy, HoldImages, HasGoneOn, HasKept, KeepsDisk, EndsFirst, EndsOne}
+use Rattle.patch_cache.specs.Running.{RunsBeside, IsCrashSafe, held_by}
+use Rattle.patch_cache.specs.Waves.{is_send, is_write, steps_since, Continues, classes_in_memory, HasRisenBy, HoldImages, HasGoneOnBeside, HasKept, KeepsDiskBeside, EndsFirst, EndsOne}
+use Rattle.patch_cache.specs.Refused.{IsRefused, AreRefused, HasRefusedFirst, IfGivenUp}
 use Rattle.patch_cache.specs.declared.landing.TheConstants.{TRIES}
 use Rattle.patch_cache.specs.declared.flights.Flights.{Flights}
+use Rattle.patch_cache.specs.declared.refusals.FlushRefusal.{FlushRefusal}
+use Rattle.patch_cache.specs.declared.refusals.FlushRefusal.TheVariants as flush
 use Rattle.patch_cache.proofs.Crashing.{TrailsJoin, ImagesLand, WritesEnd, joined, longer, unmoved, write_refused}
 use Rattle.patch_cache.proofs.Holding.{StatesExtend, ImagesStay, held_flies, flying_known}
 use Rattle.patch_cache.proofs.Answering.{Stands}
-use Rattle.patch_cache.specs.Flights.{AreFlightsOf}
+use Rattle.patch_cache.specs.Flights.{AreFlightsBeside}
 use Rattle.patch_cache.specs.declared.flights.Flight.{Flight}
 use Rattle.patch_cache.specs.declared.flights.Landed.{Landed}
 use Rattle.patch_model.specs.Legal.{IsLegal}
@@ -52,6 +56,12 @@ risen_again i old mid new (inl h) (inl up) fits = inl (omega arith)
 risen_again i old mid new (inr h) (inl up) fits = let top : mid ≡ most_faults = h in absurd (omega (arith, top))
 risen_again i old mid new h (inr top) fits = inr top.1
 
+-- one write more was refused
+pub refused_again : {D : Type 0} (g : Ghosts D) (block n : ℕ) (bytes : List ℕ) (before mid now : D) → AreRefused g block bytes n before mid → IsRefused g block bytes mid now → AreRefused g block bytes (n + 1) before now
+refused_again {D = D} g block n bytes before mid now so_far one =
+    let next : suc n ≡ n + 1 = omega arith in
+    let all : AreRefused g block bytes (suc n) before now = (mid, so_far, one) in subst (λ m. AreRefused g block bytes m before now) next all
+
 -- a write adds at most one contents
 pub outcome_longer : (old new : List (List ℕ)) (had had_now : List (List (List ℕ))) → AddsOutcome old new had had_now → length had_now ≤ length had + 1
 outcome_longer old new had had_now (inl same) = let e : length had_now ≡ length had = ap length same.1 in omega (arith, e)
@@ -70,6 +80,16 @@ pub tried : TrailsJoin → ImagesLand → (run : Execution) (block : ℕ) (bytes
     → IsCrashSafe run run had had_between contents → IsCrashSafe run run had had_now now
 tried join land run block bytes had had_between had_now contents now known is either adds so_far =
     joined_still join run run had had_between had_now contents now so_far (write_refused land run block bytes had_between had_now contents now known is either adds so_far.left)
+
+-- what is known of an error is known of the answer that is made of it
+pub told_so : {T E : Type 0} (r : Result T E) (e : E) (P : E → Type 0) → IsErrAnd r (λ f. f ≡ e) → P e → IfErr r P
+told_so (Ok x) e P is p = absurd is
+told_so (Err x) e P is p = subst P (sym is) p
+
+pub given_so : {A D T : Type 0} (g : Ghosts D) (r : Result T FlushRefusal) (block : ℕ) (flights : Flights A) (before now : D) → IsErrAnd r (λ f. f ≡ flush.DeviceGaveUp block) → HasRefusedFirst g block flights before now
+    → IfGivenUp g r flights before now
+given_so g (Ok x) block flights before now is told = absurd is
+given_so {T = T} g (Err x) block flights before now is told = subst (λ f. IfGivenUp {T = T} g (Err f) flights before now) (sym is) told
 
 -- Steps of traces.
 
@@ -100,30 +120,30 @@ continues_both old mid now first second = continues old now (steps_since old mid
 -- Stretches.
 
 -- no step
-pub gone_still : {A : Type 0} (run : Execution) (cache : Contents) (flights : Flights A) → Runs cache flights run → HasGoneOn run [] cache flights
-gone_still run cache flights runs = record {
+pub gone_still : {A : Type 0} {others : Bool} (run : Execution) (cache : Contents) (flights : Flights A) → RunsBeside others cache flights run → HasGoneOnBeside others run [] cache flights
+gone_still {others = others} run cache flights runs = record {
   writes = refl;
   sends = subst (λ r. 0 + classes_in_memory (entries_of r) ≤ classes_in_memory (entries_of run)) (sym (same_run run)) (omega arith);
-  runs = subst (Runs cache flights) (sym (same_run run)) runs;
+  runs = subst (RunsBeside others cache flights) (sym (same_run run)) runs;
 }
 
 -- a write that begins
-pub gone_send : {A : Type 0} (run : Execution) (block : ℕ) (cache : Contents) (flights : Flights A) → classes_in_memory (entries_of (extended run (Send block))) < classes_in_memory (entries_of run)
-    → Runs cache flights (extended run (Send block)) → HasGoneOn run (Send block ∷ []) cache flights
+pub gone_send : {A : Type 0} {others : Bool} (run : Execution) (block : ℕ) (cache : Contents) (flights : Flights A) → classes_in_memory (entries_of (extended run (Send block))) < classes_in_memory (entries_of run)
+    → RunsBeside others cache flights (extended run (Send block)) → HasGoneOnBeside others run (Send block ∷ []) cache flights
 gone_send run block cache flights fewer runs = record { writes = refl; sends = omega (arith, fewer); runs = runs }
 
 -- and one that ends
-pub gone_complete : {A : Type 0} (run : Execution) (block : ℕ) (cache : Contents) (flights : Flights A) → classes_in_memory (entries_of (extended run (Complete block))) ≤ classes_in_memory (entries_of run)
-    → Runs cache flights (extended run (Complete block)) → HasGoneOn run (Complete block ∷ []) cache flights
+pub gone_complete : {A : Type 0} {others : Bool} (run : Execution) (block : ℕ) (cache : Contents) (flights : Flights A) → classes_in_memory (entries_of (extended run (Complete block))) ≤ classes_in_memory (entries_of run)
+    → RunsBeside others cache flights (extended run (Complete block)) → HasGoneOnBeside others run (Complete block ∷ []) cache flights
 gone_complete run block cache flights fewer runs = record { writes = refl; sends = omega (arith, fewer); runs = runs }
 
 abbrev flat : (run : Execution) (a b : List Step) → followed_by (followed_by run a) b ≡ followed_by run (a ++ b)
 flat run a b = ap (λ steps. let v : Execution = record { first = run.first; steps = steps } in v) (append_assoc run.steps a b)
 
 -- one stretch after another
-pub gone_both : {A : Type 0} (run : Execution) (a b : List Step) (mid now : Contents) (before flights : Flights A)
-    → HasGoneOn run a mid before → HasGoneOn (followed_by run a) b now flights → HasGoneOn run (a ++ b) now flights
-gone_both run a b mid now before flights first second =
+pub gone_both : {A : Type 0} {others : Bool} (run : Execution) (a b : List Step) (mid now : Contents) (before flights : Flights A)
+    → HasGoneOnBeside others run a mid before → HasGoneOnBeside others (followed_by run a) b now flights → HasGoneOnBeside others run (a ++ b) now flights
+gone_both {others = others} run a b mid now before flights first second =
     let to = flat run a b in record {
       writes = list_all-append is_write a b ∙ and_from _ _ first.writes second.writes;
       sends =
@@ -131,7 +151,7 @@ gone_both run a b mid now before flights first second =
           let one = first.sends in
           let two : count_by is_send b + classes_in_memory (entries_of (followed_by run (a ++ b))) ≤ classes_in_memory (entries_of (followed_by run a)) =
           subst (λ r. count_by is_send b + classes_in_memory (entries_of r) ≤ classes_in_memory (entries_of (followed_by run a))) to second.sends in omega (arith, both, one, two);
-      runs = subst (Runs now flights) to second.runs;
+      runs = subst (RunsBeside others now flights) to second.runs;
     }
 
 -- What they keep of a device.
@@ -162,9 +182,9 @@ kept_both join run a b had had_between had_now contents contents_between content
 
 -- Caches that went on.
 
-pub went_by : {A : Type 0} (run : Execution) (old now : Contents) (steps : List Step) (flights : Flights A) → now.trace ≡ old.trace ++ steps → HasGoneOn run steps now flights
-    → HasGoneOn run (steps_since old now) now flights
-went_by run old now steps flights added gone = subst (λ s. HasGoneOn run s now flights) (sym (since_is old now steps added)) gone
+pub went_by : {A : Type 0} {others : Bool} (run : Execution) (old now : Contents) (steps : List Step) (flights : Flights A) → now.trace ≡ old.trace ++ steps → HasGoneOnBeside others run steps now flights
+    → HasGoneOnBeside others run (steps_since old now) now flights
+went_by {others = others} run old now steps flights added gone = subst (λ s. HasGoneOnBeside others run s now flights) (sym (since_is old now steps added)) gone
 
 pub keeps_by : (run : Execution) (old now : Contents) (steps : List Step) (had had_now : List (List (List ℕ))) (contents contents_now : List (List ℕ)) → now.trace ≡ old.trace ++ steps
     → HasKept run steps had had_now contents contents_now → HasKept run (steps_since old now) had had_now contents contents_now
@@ -173,16 +193,16 @@ keeps_by run old now steps had had_now contents contents_now added kept =
 
 -- and twice
 
-pub went_both : {A : Type 0} (run : Execution) (old mid now : Contents) (before flights : Flights A) → Continues old mid → Continues mid now
-    → HasGoneOn run (steps_since old mid) mid before → HasGoneOn (followed_by run (steps_since old mid)) (steps_since mid now) now flights
-    → HasGoneOn run (steps_since old now) now flights
-went_both run old mid now before flights one two first second =
-    subst (λ s. HasGoneOn run s now flights) (sym (since_both old mid now one two)) (gone_both run (steps_since old mid) (steps_since mid now) mid now before flights first second)
+pub went_both : {A : Type 0} {others : Bool} (run : Execution) (old mid now : Contents) (before flights : Flights A) → Continues old mid → Continues mid now
+    → HasGoneOnBeside others run (steps_since old mid) mid before → HasGoneOnBeside others (followed_by run (steps_since old mid)) (steps_since mid now) now flights
+    → HasGoneOnBeside others run (steps_since old now) now flights
+went_both {others = others} run old mid now before flights one two first second =
+    subst (λ s. HasGoneOnBeside others run s now flights) (sym (since_both old mid now one two)) (gone_both run (steps_since old mid) (steps_since mid now) mid now before flights first second)
 
-pub keeps_both : TrailsJoin → {A : Type 0} (old mid now : Contents) (at before : Flights A) (had had_between had_now : List (List (List ℕ))) (contents contents_between contents_now : List (List ℕ))
-    → Continues old mid → Continues mid now → ((run : Execution) → Runs old at run → HasGoneOn run (steps_since old mid) mid before)
-    → KeepsDisk old mid at had had_between contents contents_between → KeepsDisk mid now before had_between had_now contents_between contents_now
-    → KeepsDisk old now at had had_now contents contents_now
+pub keeps_both : TrailsJoin → {A : Type 0} {others : Bool} (old mid now : Contents) (at before : Flights A) (had had_between had_now : List (List (List ℕ))) (contents contents_between contents_now : List (List ℕ))
+    → Continues old mid → Continues mid now → ((run : Execution) → RunsBeside others old at run → HasGoneOnBeside others run (steps_since old mid) mid before)
+    → KeepsDiskBeside others old mid at had had_between contents contents_between → KeepsDiskBeside others mid now before had_between had_now contents_between contents_now
+    → KeepsDiskBeside others old now at had had_now contents contents_now
 keeps_both join old mid now at before had had_between had_now contents contents_between contents_now one two gone first second run runs =
     subst (λ s. HasKept run s had had_now contents contents_now) (sym (since_both old mid now one two))
     (kept_both join run (steps_since old mid) (steps_since mid now) had had_between had_now contents contents_between contents_now (first run runs)
@@ -193,14 +213,14 @@ pub since_more : (old mid now : Contents) (steps : List Step) → Continues old 
 since_more old mid now steps one added = since_both old mid now one (continues mid now steps added) ∙ ap (λ s. steps_since old mid ++ s) (since_is mid now steps added)
 
 -- where the cache and the flights are as before
-pub runs_same : {A : Type 0} (run : Execution) (old now : Contents) (flights flights_now : Flights A) → now ≡ old → held_by flights_now ≡ held_by flights → Runs old flights run → Runs now flights_now run
-runs_same run old now flights flights_now same held runs =
-    record { cache_is = subst (λ (x : Contents). Represents x run) (sym same) runs.cache_is; flights_are = subst (AreFlightsOf run) (sym held) runs.flights_are }
+pub runs_same : {A : Type 0} {others : Bool} (run : Execution) (old now : Contents) (flights flights_now : Flights A) → now ≡ old → held_by flights_now ≡ held_by flights → RunsBeside others old flights run → RunsBeside others now flights_now run
+runs_same {others = others} run old now flights flights_now same held runs =
+    record { cache_is = subst (λ (x : Contents). Represents x run) (sym same) runs.cache_is; flights_are = subst (AreFlightsBeside others run) (sym held) runs.flights_are }
 
-pub gone_same : {A : Type 0} (run : Execution) (old mid now : Contents) (flights flights_now : Flights A) → now ≡ mid → held_by flights_now ≡ held_by flights
-    → HasGoneOn run (steps_since old mid) mid flights → HasGoneOn run (steps_since old now) now flights_now
-gone_same run old mid now flights flights_now same held gone =
-    subst (λ (x : Contents). HasGoneOn run (steps_since old x) x flights_now) (sym same)
+pub gone_same : {A : Type 0} {others : Bool} (run : Execution) (old mid now : Contents) (flights flights_now : Flights A) → now ≡ mid → held_by flights_now ≡ held_by flights
+    → HasGoneOnBeside others run (steps_since old mid) mid flights → HasGoneOnBeside others run (steps_since old now) now flights_now
+gone_same {others = others} run old mid now flights flights_now same held gone =
+    subst (λ (x : Contents). HasGoneOnBeside others run (steps_since old x) x flights_now) (sym same)
     (record { writes = gone.writes; sends = gone.sends; runs = runs_same (followed_by run (steps_since old mid)) mid mid flights flights_now refl held gone.runs })
 
 -- how many writes began in both
@@ -327,9 +347,9 @@ images_landed extend stay run block contents now done held =
 
 -- The flight that is held first.
 
-pub first_stands : {A : Type 0} → ((run : Execution) (block : ℕ) → IsLegal run → IsTrue (has_flight (state_of run) block) → IsTrue (list_any (λ e. is_flight e && e.patch.block == block) (entries_of run)))
+pub first_stands : {A : Type 0} {others : Bool} → ((run : Execution) (block : ℕ) → IsLegal run → IsTrue (has_flight (state_of run) block) → IsTrue (list_any (λ e. is_flight e && e.patch.block == block) (entries_of run)))
     → ((run : Execution) (e : Entry) → IsLegal run → Contains (entries_of run) e → e.patch.block < length run.first) → (run : Execution) (held : List (Flight A)) (flight : Flight A)
-    → IsLegal run → AreFlightsOf run held → 0 < length held → flight ≡ get_or held 0 flight → Stands run held flight.block 0 flight
+    → IsLegal run → AreFlightsBeside others run held → 0 < length held → flight ≡ get_or held 0 flight → Stands run held flight.block 0 flight
 first_stands holds known run [] flight legal are some it = absurd (omega (arith, some))
 first_stands holds known run (f ∷ held) flight legal are some it =
     let inside : In (f ∷ held) flight = inl (sym it) in
@@ -399,9 +419,9 @@ tries_landed bound had had_now held held_now so_far one fewer = omega (arith, so
 pub tries_refused : (bound had had_now held : ℕ) → had + TRIES * held ≤ bound → had_now ≤ had + TRIES → 0 < held → had_now ≤ bound
 tries_refused bound had had_now held so_far one some = omega (arith, so_far, one, some)
 
--- those of one write that was begun, behind those that were held
-pub tries_begun : (had had_now held held_now begun : ℕ) → had_now ≤ had + TRIES * held_now → held_now ≡ held + begun → begun ≤ 1 → had_now ≤ had + TRIES * (held + 1)
-tries_begun had had_now held held_now begun told count few = omega (arith, told, count, few)
+-- those of the writes that were begun, behind those that were held
+pub tries_begun : (had had_now held held_now begun ended sends : ℕ) → had_now ≤ had + TRIES * held_now → held_now ≡ held + begun → sends ≡ begun + ended → had_now ≤ had + TRIES * (held + sends)
+tries_begun had had_now held held_now begun ended sends told count are = omega (arith, told, count, are)
 
 -- what is left of a flight is of its write
 pub its_flight : {A : Type 0} (run : Execution) (flight : Flight A) (landed : Landed) → landed.block ≡ flight.block → landed.sequence ≡ flight.sequence → Contains (state_of run).flights (flight.block, flight.sequence)

@@ -1,5 +1,5 @@
 -- Writes on their way to the disk.
-use Rattle.std.specs.Prelude.{ℕ, ◌≡◌, ◌≤◌, MatchOption, List, Option, Some, None, Contains, slice_get, slice_set, IsTrue}
+use Rattle.std.specs.Prelude.{ℕ, Bool, false, ◌≡◌, ◌≤◌, MatchOption, List, Option, Some, None, Contains, slice_get, slice_set, IsTrue, IsFalse}
 use Rattle.patch_model.specs.Execution.{Execution, extended}
 use Rattle.patch_model.specs.Step.{Send, Complete}
 use Rattle.patch_model.specs.Ready.{ready}
@@ -39,11 +39,17 @@ pub record IsFlightOf {A : Type 0} (run : Execution) (flight : Flight A) : Type 
   pub numbers_are : flight.numbers ≡ numbers_of (flying_of (entries_of run) flight.block)
   pub image_is : flight.image ≡ image (history_of run flight.block)
 
--- these are all the writes of the execution that were begun and not completed, each once
-pub record AreFlightsOf {A : Type 0} (run : Execution) (held : List (Flight A)) : Type 0 where
+-- These are writes of the execution that were begun and not completed, each once; and where no others are held elsewhere, all of
+-- them.
+pub record AreFlightsBeside {A : Type 0} (others : Bool) (run : Execution) (held : List (Flight A)) : Type 0 where
   pub each : (flight : Flight A) → In held flight → IsFlightOf run flight
-  pub all : (block : ℕ) → IsTrue (has_flight (state_of run) block) → (flight : Flight A) × In held flight × (flight.block ≡ block)
+  pub all : IsFalse others → (block : ℕ) → IsTrue (has_flight (state_of run) block)
+      → (flight : Flight A) × In held flight × (flight.block ≡ block)
   pub once : (i j : ℕ) (f g : Flight A) → slice_get held i ≡ Some f → slice_get held j ≡ Some g → f.block ≡ g.block → i ≡ j
+
+-- these are all of them
+abbrev pub AreFlightsOf : {A : Type 0} → Execution → List (Flight A) → Type 0
+AreFlightsOf run held = AreFlightsBeside false run held
 
 -- the block's write is ended: it was under way, and what was in flight of the block is durable in the cache
 abbrev pub IsEnded : {A : Type 0} → Execution → Landed → Done A → Contents → Type 0

@@ -11,6 +11,7 @@ pub mod Asks
 pub mod Looking
 pub mod Running
 pub mod Waves
+pub mod Refused
 pub mod Joining
 pub mod Promise
 pub mod Creating

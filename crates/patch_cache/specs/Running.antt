@@ -1,5 +1,5 @@
 -- A list of asks, answered one after another.
-use Rattle.std.specs.Prelude.{ℕ, true, false, ◌≡◌, ◌≤◌, ◌⊎◌, ◌++◌, List, [], ◌∷◌, length, map, slice_set, Vec, Result, Ok, Err}
+use Rattle.std.specs.Prelude.{ℕ, Bool, true, false, ◌≡◌, ◌≤◌, ◌⊎◌, ◌++◌, List, [], ◌∷◌, length, map, slice_set, Vec, Result, Ok, Err}
 use Rattle.patch_model.specs.declared.refusals.OutOfMemory.{OutOfMemory}
 use Rattle.patch_model.specs.declared.refusals.RefusalKind.TheVariants as kind
 use Rattle.patch_model.specs.Execution.{Execution}
@@ -10,7 +10,7 @@ use Rattle.patch_device.specs.Device.{HasRisen}
 use Rattle.patch_device.specs.declared.devices.Device.{Ghosts}
 use Rattle.patch_cache.specs.Contents.{Contents}
 use Rattle.patch_cache.specs.Meaning.{Represents}
-use Rattle.patch_cache.specs.Flights.{AreFlightsOf}
+use Rattle.patch_cache.specs.Flights.{AreFlightsBeside}
 use Rattle.patch_cache.specs.Asks.{Ask, Answer, Create, Merge, Send, Complete, View, Refused, IsAnswer, IsGivenUp, AreAnswers, answer_of, is_refused, after, after_all}
 use Rattle.patch_cache.specs.declared.asks.Answer.{Answer as CodeAnswer}
 use Rattle.patch_cache.specs.declared.flights.Flight.{Flight}
@@ -25,15 +25,23 @@ answers_in (Err stopped) = map answer_of stopped.0.items
 abbrev pub held_by : {A : Type 0} → Flights A → List (Flight A)
 held_by flights = flights.held.items
 
--- the cache represents the execution, and its flights are the held ones
-pub record Runs {A : Type 0} (cache : Contents) (flights : Flights A) (run : Execution) : Type 0 where
+-- The cache represents the execution, and the held flights are of it; others may be held elsewhere, or none are.
+pub record RunsBeside {A : Type 0} (others : Bool) (cache : Contents) (flights : Flights A) (run : Execution) : Type 0 where
   pub cache_is : Represents cache run
-  pub flights_are : AreFlightsOf run (held_by flights)
+  pub flights_are : AreFlightsBeside others run (held_by flights)
 
--- the cache runs on a device that has the cache's blocks
-pub record RunsOn {A D : Type 0} (g : Ghosts D) (cache : Contents) (flights : Flights A) (device : D) (run : Execution) : Type 0 where
-  pub runs : Runs cache flights run
+-- the cache represents the execution, and its flights are the held ones
+abbrev pub Runs : {A : Type 0} → Contents → Flights A → Execution → Type 0
+Runs cache flights run = RunsBeside false cache flights run
+
+-- it does so on a device that has the cache's blocks
+pub record RunsOnBeside {A D : Type 0} (g : Ghosts D) (others : Bool) (cache : Contents) (flights : Flights A) (device : D) (run : Execution) : Type 0 where
+  pub runs : RunsBeside others cache flights run
   pub blocks : g.block_count device ≡ length run.first
+
+-- and all flights are held
+abbrev pub RunsOn : {A D : Type 0} → Ghosts D → Contents → Flights A → D → Execution → Type 0
+RunsOn g cache flights device run = RunsOnBeside g false cache flights device run
 
 -- the ask is answered right or given up, and the cache stands after its step
 pub record IsDone (run : Execution) (ask : Ask) (answer : Answer) (cache : Contents) : Type 0 where

@@ -10,7 +10,7 @@ use Rattle.patch_model.specs.Refusing.{why_not_sent}
 use Rattle.patch_model.specs.Crash.{MayLeave}
 use Rattle.patch_device.specs.Device.{most_faults}
 use Rattle.patch_cache.specs.Contents.{Contents}
-use Rattle.patch_cache.specs.Running.{Runs, IsCrashSafe, held_by}
+use Rattle.patch_cache.specs.Running.{RunsBeside, IsCrashSafe, held_by}
 use Rattle.patch_cache.specs.Flights.{IsLeastReady}
 use Rattle.patch_cache.specs.declared.flights.Flights.{Flights}
 use Rattle.patch_cache.specs.declared.flights.Flight.{Flight}
@@ -49,11 +49,15 @@ abbrev pub live_classes : List Entry → ℕ
 live_classes all = count_by (λ e. is_live e && e.patch.no == e.class) all
 
 -- A stretch of writes: these steps begin and end writes and do nothing else, they begin at most one write for each class
--- that was in memory, and cache and flights stand after them.
-pub record HasGoneOn {A : Type 0} (run : Execution) (steps : List Step) (cache : Contents) (flights : Flights A) : Type 0 where
+-- that was in memory, and cache and flights stand after them; others may be held elsewhere, or none are.
+pub record HasGoneOnBeside {A : Type 0} (others : Bool) (run : Execution) (steps : List Step) (cache : Contents) (flights : Flights A) : Type 0 where
   pub writes : list_all is_write steps ≡ true
   pub sends : count_by is_send steps + classes_in_memory (entries_of (followed_by run steps)) ≤ classes_in_memory (entries_of run)
-  pub runs : Runs cache flights (followed_by run steps)
+  pub runs : RunsBeside others cache flights (followed_by run steps)
+
+-- and all flights are held
+abbrev pub HasGoneOn : {A : Type 0} → Execution → List Step → Contents → Flights A → Type 0
+HasGoneOn run steps cache flights = HasGoneOnBeside false run steps cache flights
 
 -- each block that has no write under way holds its image
 pub record HoldImages (run : Execution) (contents : List (List ℕ)) : Type 0 where
@@ -67,8 +71,13 @@ pub record HasKept (run : Execution) (steps : List Step) (had had_now : List (Li
   pub images : HoldImages run contents → HoldImages (followed_by run steps) contents_now
 
 -- for each execution that cache and flights stood after
+abbrev pub KeepsDiskBeside : {A : Type 0} → Bool → Contents → Contents → Flights A → (had had_now : List (List (List ℕ))) → (contents contents_now : List (List ℕ)) → Type 0
+KeepsDiskBeside others old now flights had had_now contents contents_now =
+    (run : Execution) → RunsBeside others old flights run → HasKept run (steps_since old now) had had_now contents contents_now
+
+-- and all flights are held
 abbrev pub KeepsDisk : {A : Type 0} → Contents → Contents → Flights A → (had had_now : List (List (List ℕ))) → (contents contents_now : List (List ℕ)) → Type 0
-KeepsDisk old now flights had had_now contents contents_now = (run : Execution) → Runs old flights run → HasKept run (steps_since old now) had had_now contents contents_now
+KeepsDisk old now flights had had_now contents contents_now = KeepsDiskBeside false old now flights had had_now contents contents_now
 
 -- the count of faults rose by so many, or ended at its greatest
 abbrev pub HasRisenBy : ℕ → ℕ → ℕ → Type 0
@@ -114,9 +123,9 @@ begun block true = Send block ∷ []
 begun block false = []
 
 -- a write of the block was begun and its flight is held, or none can begin
-abbrev pub IsSentOr : {A : Type 0} → Execution → ℕ → Bool → Contents → Flights A → Type 0
-IsSentOr run block true cache flights = (why_not_sent run block ≡ None) × Runs cache flights (extended run (Send block))
-IsSentOr run block false cache flights = (why_not_sent run block ≢ None) × Runs cache flights run
+abbrev pub IsSentOr : {A : Type 0} → (others : Bool) → Execution → ℕ → Bool → Contents → Flights A → Type 0
+IsSentOr others run block true cache flights = (why_not_sent run block ≡ None) × RunsBeside others cache flights (extended run (Send block))
+IsSentOr others run block false cache flights = (why_not_sent run block ≢ None) × RunsBeside others cache flights run
 
 -- and where it was begun its flight is held behind those that were, or they are as before
 abbrev pub HoldsBegun : {A : Type 0} → ℕ → Bool → (old now : Flights A) → Type 0

@@ -1,11 +1,12 @@
 //! How all that is ready is written: each write is begun, written out and completed.
-ghost use Rattle.std.specs.Prelude.{◌≡◌, ◌+◌, ◌*◌, ◌≤◌, ◌↔◌, ◌++◌, ℕ, List, [], false, None, length, count_by, IfOk, OnOk, OnErr, MatchResult};
+ghost use Rattle.std.specs.Prelude.{Bool, ◌≡◌, ◌+◌, ◌*◌, ◌≤◌, ◌↔◌, ◌++◌, ℕ, List, [], false, None, length, count_by, IfOk, OnOk, OnErr, MatchResult};
 ghost use Rattle.patch_model.specs.Execution.{Execution, followed_by};
 ghost use Rattle.patch_model.specs.Refusing.{why_not_sent};
 ghost use Rattle.patch_device.specs.SameDevice.{IsSameDevice};
 ghost use Rattle.patch_cache.specs.declared.landing.TheConstants.{TRIES};
-ghost use Rattle.patch_cache.specs.Running.{Runs, RunsOn, held_by};
-ghost use Rattle.patch_cache.specs.Waves.{is_send, steps_since, Continues, HasGoneOn, HasKept, KeepsDisk, RisesIfGivenUp, IsHeldIfGivenUp, begun, IsSentOr, HoldsBegun, IsPass, IsFlushed, HasWrittenOne};
+ghost use Rattle.patch_cache.specs.Running.{Runs, RunsBeside, RunsOn, RunsOnBeside, held_by};
+ghost use Rattle.patch_cache.specs.Refused.{IfGivenUp};
+ghost use Rattle.patch_cache.specs.Waves.{is_send, steps_since, Continues, HasGoneOn, HasGoneOnBeside, HasKept, KeepsDisk, KeepsDiskBeside, RisesIfGivenUp, IsHeldIfGivenUp, begun, IsSentOr, HoldsBegun, IsPass, IsFlushed, HasWrittenOne};
 
 use crate::caches::Cache;
 use crate::flights::Flights;
@@ -21,8 +22,8 @@ impl<A: Allocator + Copy> Cache<A> {
         flights: &mut Flights<A>,
         block: BlockNo,
     ) -> Result<bool, OutOfMemory>
-        ensures sent { (run : Execution) → Runs self.old flights.old run
-            → IfOk result (λ sent. IsSentOr run block sent self.new flights.new) }
+        ensures sent { (others : Bool) (run : Execution) → RunsBeside others self.old flights.old run
+            → IfOk result (λ sent. IsSentOr others run block sent self.new flights.new) }
         ensures cause { (run : Execution) → Runs self.old flights.old run → OnErr result (why_not_sent run block ≡ None) }
         ensures trace { IfOk result (λ sent. self.new.trace ≡ self.old.trace ++ begun block sent) }
         ensures refused { OnErr result (self.new ≡ self.old) }
@@ -51,11 +52,11 @@ impl<A: Allocator + Copy> Cache<A> {
 
     /// Begins a write of each block of which one can begin, and holds the flights. Whether there was such a block.
     fn send_all(&mut self, flights: &mut Flights<A>) -> Result<bool, OutOfMemory>
-        ensures ran { (run : Execution) → Runs self.old flights.old run
-            → HasGoneOn run (steps_since self.old self.new) self.new flights.new }
+        ensures ran { (others : Bool) (run : Execution) → RunsBeside others self.old flights.old run
+            → HasGoneOnBeside others run (steps_since self.old self.new) self.new flights.new }
         ensures trace { Continues self.old self.new }
-        ensures disk { (had : List (List (List ℕ))) (contents : List (List ℕ))
-            → KeepsDisk self.old self.new flights.old had had contents contents }
+        ensures disk { (had : List (List (List ℕ))) (contents : List (List ℕ)) (others : Bool)
+            → KeepsDiskBeside others self.old self.new flights.old had had contents contents }
         ensures pass { (run : Execution) → Runs self.old flights.old run
             → IfOk result (λ sent. IsPass run sent (steps_since self.old self.new)) }
         ensures count { OnOk result (length (held_by flights.new) ≡ length (held_by flights.old) + count_by is_send (steps_since self.old self.new)) }
@@ -93,10 +94,13 @@ impl<A: Allocator + Copy> Cache<A> {
             → KeepsDisk self.old self.new flights.old (D.had device.old) (D.had device.new) (D.contents device.old) (D.contents device.new) }
         ensures wrote { (run : Execution) → Runs self.old flights.old run → held_by flights.old ≡ []
             → IfOk result (λ wrote. HasWrittenOne run wrote (steps_since self.old self.new)) }
-        ensures tries { D.is_honest device.old
-            → length (D.had device.new) ≤ length (D.had device.old) + TRIES * (length (held_by flights.old) + 1) }
+        ensures one { count_by is_send (steps_since self.old self.new) ≤ 1 }
+        ensures tries { D.is_honest device.old → length (D.had device.new)
+            ≤ length (D.had device.old) + TRIES * (length (held_by flights.old) + count_by is_send (steps_since self.old self.new)) }
         ensures gave_up { (run : Execution) → RunsOn D.Device self.old flights.old device.old run
             → RisesIfGivenUp result (D.fault_count device.old) (D.fault_count device.new) }
+        ensures refused { (run : Execution) → RunsOn D.Device self.old flights.old device.old run
+            → IfGivenUp D.Device result flights.new device.old device.new }
         ensures held { IsHeldIfGivenUp result flights.new }
         ensures landed { OnOk result (held_by flights.old ≡ [] → held_by flights.new ≡ []) }
         ensures device { IsSameDevice D.Device device.old device.new }
@@ -128,17 +132,19 @@ impl<A: Allocator + Copy> Cache<A> {
         flights: &mut Flights<A>,
         device: &mut D,
     ) -> Result<(), FlushRefusal>
-        ensures ran { (run : Execution) → Runs self.old flights.old run
-            → HasGoneOn run (steps_since self.old self.new) self.new flights.new }
+        ensures ran { (others : Bool) (run : Execution) → RunsBeside others self.old flights.old run
+            → HasGoneOnBeside others run (steps_since self.old self.new) self.new flights.new }
         ensures trace { Continues self.old self.new }
-        ensures disk { D.is_honest device.old
-            → KeepsDisk self.old self.new flights.old (D.had device.old) (D.had device.new) (D.contents device.old) (D.contents device.new) }
+        ensures disk { D.is_honest device.old → (others : Bool) → KeepsDiskBeside others self.old self.new flights.old
+            (D.had device.old) (D.had device.new) (D.contents device.old) (D.contents device.new) }
         ensures flushed { (run : Execution) → Runs self.old flights.old run
             → OnOk result (IsFlushed (followed_by run (steps_since self.old self.new))) }
         ensures tries { D.is_honest device.old
             → length (D.had device.new) ≤ length (D.had device.old) + TRIES * (length (held_by flights.old) + count_by is_send (steps_since self.old self.new)) }
-        ensures gave_up { (run : Execution) → RunsOn D.Device self.old flights.old device.old run
+        ensures gave_up { (others : Bool) (run : Execution) → RunsOnBeside D.Device others self.old flights.old device.old run
             → RisesIfGivenUp result (D.fault_count device.old) (D.fault_count device.new) }
+        ensures refused { (others : Bool) (run : Execution) → RunsOnBeside D.Device others self.old flights.old device.old run
+            → IfGivenUp D.Device result flights.new device.old device.new }
         ensures held { IsHeldIfGivenUp result flights.new }
         ensures landed { OnOk result (held_by flights.new ≡ []) }
         ensures device { IsSameDevice D.Device device.old device.new }

@@ -1,10 +1,11 @@
 //! How the flights that are held are written out and completed.
-ghost use Rattle.std.specs.Prelude.{◌≡◌, ◌+◌, ◌*◌, ◌<◌, ◌≤◌, ◌↔◌, [], length, count_by, slice_set, IfErr, OnOk, OnErr};
+ghost use Rattle.std.specs.Prelude.{Bool, ◌≡◌, ◌+◌, ◌*◌, ◌<◌, ◌≤◌, ◌↔◌, [], length, count_by, slice_set, IfErr, OnOk, OnErr};
 ghost use Rattle.patch_model.specs.Execution.{Execution};
 ghost use Rattle.patch_device.specs.SameDevice.{IsSameDevice};
 ghost use Rattle.patch_device.specs.Device.{IsOldOrNew};
-ghost use Rattle.patch_cache.specs.Running.{Runs, RunsOn, held_by};
-ghost use Rattle.patch_cache.specs.Waves.{is_send, steps_since, Continues, HasRisenBy, HasGivenUp, HasGoneOn, KeepsDisk, EndsFirst, EndsOne, IsHeldFirst, IsTriedSafely};
+ghost use Rattle.patch_cache.specs.Running.{Runs, RunsBeside, RunsOnBeside, held_by};
+ghost use Rattle.patch_cache.specs.Waves.{is_send, steps_since, Continues, HasRisenBy, HasGivenUp, HasGoneOnBeside, KeepsDiskBeside, EndsFirst, EndsOne, IsHeldFirst, IsTriedSafely};
+ghost use Rattle.patch_cache.specs.Refused.{AreRefused, HasRefusedFirst};
 
 use crate::caches::Cache;
 use crate::flights::{Flight, Flights};
@@ -23,6 +24,8 @@ fn write_tried<A: Allocator, D: Device>(device: &mut D, flight: &Flight<A>) -> R
     ensures device { IsSameDevice D.Device device.old device.new }
     ensures cause { flight.now.block < D.block_count device.old
         → OnErr result (HasRisenBy TRIES (D.fault_count device.old) (D.fault_count device.new)) }
+    ensures refused { flight.now.block < D.block_count device.old
+        → OnErr result (AreRefused D.Device flight.now.block flight.now.image TRIES device.old device.new) }
     ensures tries { D.is_honest device.old → length (D.had device.new) ≤ length (D.had device.old) + TRIES }
     ensures written { D.is_honest device.old
         → OnOk result (D.contents device.new ≡ slice_set (D.contents device.old) flight.now.block flight.now.image) }
@@ -49,15 +52,17 @@ impl<A: Allocator + Copy> Cache<A> {
         device: &mut D,
     ) -> Result<(), DeviceGaveUp>
         requires some { 0 < length (held_by flights.old) }
-        ensures ran { (run : Execution) → Runs self.old flights.old run
-            → HasGoneOn run (steps_since self.old self.new) self.new flights.new }
+        ensures ran { (others : Bool) (run : Execution) → RunsBeside others self.old flights.old run
+            → HasGoneOnBeside others run (steps_since self.old self.new) self.new flights.new }
         ensures trace { Continues self.old self.new }
         ensures ends { count_by is_send (steps_since self.old self.new) ≡ 0 }
-        ensures disk { D.is_honest device.old
-            → KeepsDisk self.old self.new flights.old (D.had device.old) (D.had device.new) (D.contents device.old) (D.contents device.new) }
+        ensures disk { D.is_honest device.old → (others : Bool) → KeepsDiskBeside others self.old self.new flights.old
+            (D.had device.old) (D.had device.new) (D.contents device.old) (D.contents device.new) }
         ensures device { IsSameDevice D.Device device.old device.new }
-        ensures cause { (run : Execution) → RunsOn D.Device self.old flights.old device.old run
+        ensures cause { (others : Bool) (run : Execution) → RunsOnBeside D.Device others self.old flights.old device.old run
             → OnErr result (HasGivenUp (D.fault_count device.old) (D.fault_count device.new)) }
+        ensures gave_up { (others : Bool) (run : Execution) → RunsOnBeside D.Device others self.old flights.old device.old run
+            → IfErr result (λ refusal. HasRefusedFirst D.Device refusal.0 flights.new device.old device.new) }
         ensures tries { D.is_honest device.old → length (D.had device.new) ≤ length (D.had device.old) + TRIES }
         ensures first { (run : Execution) → Runs self.old flights.old run → OnOk result (EndsFirst flights.old self.old self.new) }
         ensures landed { OnOk result (length (held_by flights.new) + 1 ≡ length (held_by flights.old)) }
@@ -93,15 +98,17 @@ impl<A: Allocator + Copy> Cache<A> {
         flights: &mut Flights<A>,
         device: &mut D,
     ) -> Result<(), DeviceGaveUp>
-        ensures ran { (run : Execution) → Runs self.old flights.old run
-            → HasGoneOn run (steps_since self.old self.new) self.new flights.new }
+        ensures ran { (others : Bool) (run : Execution) → RunsBeside others self.old flights.old run
+            → HasGoneOnBeside others run (steps_since self.old self.new) self.new flights.new }
         ensures trace { Continues self.old self.new }
         ensures ends { count_by is_send (steps_since self.old self.new) ≡ 0 }
-        ensures disk { D.is_honest device.old
-            → KeepsDisk self.old self.new flights.old (D.had device.old) (D.had device.new) (D.contents device.old) (D.contents device.new) }
+        ensures disk { D.is_honest device.old → (others : Bool) → KeepsDiskBeside others self.old self.new flights.old
+            (D.had device.old) (D.had device.new) (D.contents device.old) (D.contents device.new) }
         ensures device { IsSameDevice D.Device device.old device.new }
-        ensures cause { (run : Execution) → RunsOn D.Device self.old flights.old device.old run
+        ensures cause { (others : Bool) (run : Execution) → RunsOnBeside D.Device others self.old flights.old device.old run
             → OnErr result (HasGivenUp (D.fault_count device.old) (D.fault_count device.new)) }
+        ensures gave_up { (others : Bool) (run : Execution) → RunsOnBeside D.Device others self.old flights.old device.old run
+            → IfErr result (λ refusal. HasRefusedFirst D.Device refusal.0 flights.new device.old device.new) }
         ensures tries { D.is_honest device.old
             → length (D.had device.new) ≤ length (D.had device.old) + TRIES * length (held_by flights.old) }
         ensures one { (run : Execution) → Runs self.old flights.old run → OnOk result (EndsOne flights.old self.old self.new) }

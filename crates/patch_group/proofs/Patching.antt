@@ -83,7 +83,7 @@ flights_beside ext flying images run held at start bytes names undo f =
         numbers_are = one.numbers_are ∙ sym (flying run at start bytes names undo flight.block);
         image_is = one.image_is ∙ sym (images run step flight.block (λ e. absurd (cc e)));
       };
-      all = λ block t. f.all block (subst IsTrue (ap (λ st. has_flight st block) (ext run step)) t);
+      all = λ alone block t. f.all alone block (subst IsTrue (ap (λ st. has_flight st block) (ext run step)) t);
       once = f.once;
     }
 

@@ -62,7 +62,7 @@ for_all ext largest p ns run steps fails (written {block = b} {steps = rest} non
 
 pub none_fly : {A : Type 0} (run : Execution) (held : List (Flight A)) → AreFlightsOf run held → held ≡ [] → NoneFly run
 none_fly {A} run held are none block = elim (cases_Bool (has_flight (state_of run) block)) [
-  | inl t ↦ absurd ((subst (λ h. AreFlightsOf run h) none are).all block t).1
+  | inl t ↦ absurd ((subst (λ h. AreFlightsOf run h) none are).all refl block t).1
   | inr f ↦ f
 ]
 

@@ -1,6 +1,6 @@
 -- Stretches of writes, and what they leave pending.
-use Rattle.std.proofs.Common.{◌≡◌, ℕ, ◌+◌, ◌∙◌, inl, inr, Bool, true, false, List, [], ◌∷◌, ◌++◌, map, refl, sym, ap, subst, append_assoc, append-nil}
-use Rattle.std.specs.Prelude.{◌==◌, ◌&&◌, not, cond, count_by}
+use Rattle.std.proofs.Common.{◌≡◌, ℕ, ◌+◌, ◌∙◌, inl, inr, Bool, true, false, List, [], ◌∷◌, ◌++◌, map, refl, sym, ap, subst, append_assoc, append-nil, Result, Ok, Err}
+use Rattle.std.specs.Prelude.{◌==◌, ◌&&◌, not, cond, count_by, IsErrAnd}
 use Rattle.std.specs.List.{list_all}
 use Rattle.std.proofs.lemmas.Bool.{cases_Bool, and_parts, and_from, both_ways, eq-eqb, eqb-true}
 use Rattle.std.proofs.lemmas.List.Sums.{sum_by-append}
@@ -16,7 +16,14 @@ use Rattle.patch_cache.specs.Contents.{Contents}
 use Rattle.patch_cache.specs.Running.{Runs}
 use Rattle.patch_cache.specs.Waves.{is_send, is_write, steps_since, Continues, HasGoneOn, HasKept, KeepsDisk, HasWrittenOne, IsFlushed}
 use Rattle.patch_cache.specs.Joining.{SinceJoin, StretchesJoin, KeptJoin}
+use Rattle.patch_cache.specs.Refused.{IfGivenUp}
 use Rattle.patch_cache.specs.declared.flights.Flights.{Flights}
+use Rattle.patch_cache.specs.declared.refusals.FlushRefusal.{FlushRefusal}
+use Rattle.patch_cache.specs.declared.refusals.FlushRefusal.TheVariants as flush
+use Rattle.patch_device.specs.declared.devices.Device.{Ghosts}
+use Rattle.patch_group.specs.Refusals.{sync_of_flush}
+use Rattle.patch_group.specs.Syncing.{IfSyncStops}
+use Rattle.patch_group.specs.declared.refusals.SyncRefusal.{SyncRefusal}
 use Rattle.patch_plans.specs.Groups.{Groups, is_pending}
 use Rattle.patch_plans.specs.Order.{AreGroupsOf, StepsKeep}
 use Rattle.patch_plans.specs.Members.{map-In}
@@ -128,3 +135,17 @@ wrote_none run false steps e w = w.1
 pub wrote_some : (run : Execution) (b : Bool) (steps : List Step) → b ≡ true → HasWrittenOne run b steps → count_by is_send steps ≡ 1
 wrote_some run true steps e w = subst (λ s. count_by is_send s ≡ 1) (sym w.2) refl
 wrote_some run false steps e w = absurd (both_ways _ refl e)
+
+-- What stopped a write stopped what it was for.
+
+pub write_stops : {A D T : Type 0} (S : Type 0) (g : Ghosts D) (r : Result T FlushRefusal) (e : FlushRefusal) (flights : Flights A) (before now : D) → IsErrAnd r (λ f. f ≡ e)
+    → IfGivenUp {T = S} g (Err e) flights before now → IfGivenUp g r flights before now
+write_stops S g (Ok x) e flights before now is told = absurd is
+write_stops {T = T} S g (Err f) (flush.DeviceGaveUp block) flights before now is told = subst (λ x. IfGivenUp {T = T} g (Err x) flights before now) (sym is) told
+write_stops {T = T} S g (Err f) flush.OutOfMemory flights before now is told = subst (λ x. IfGivenUp {T = T} g (Err x) flights before now) (sym is) tt
+
+pub sync_stops : {A D T : Type 0} (S : Type 0) (g : Ghosts D) (r : Result T SyncRefusal) (e : FlushRefusal) (flights : Flights A) (before now : D) → IsErrAnd r (λ f. f ≡ sync_of_flush e)
+    → IfGivenUp {T = S} g (Err e) flights before now → IfSyncStops g r flights before now
+sync_stops S g (Ok x) e flights before now is told = absurd is
+sync_stops {T = T} S g (Err f) (flush.DeviceGaveUp block) flights before now is told = subst (λ x. IfSyncStops {T = T} g (Err x) flights before now) (sym is) told
+sync_stops {T = T} S g (Err f) flush.OutOfMemory flights before now is told = subst (λ x. IfSyncStops {T = T} g (Err x) flights before now) (sym is) tt

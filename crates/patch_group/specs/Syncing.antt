@@ -6,6 +6,7 @@ use Rattle.patch_model.specs.State.{entries_of, state_of, has_flight}
 use Rattle.patch_device.specs.declared.devices.Device.{Ghosts}
 use Rattle.patch_cache.specs.Contents.{Contents}
 use Rattle.patch_cache.specs.Flights.{IsLeastReady}
+use Rattle.patch_cache.specs.Refused.{HasRefusedFirst}
 use Rattle.patch_cache.specs.Waves.{steps_since, HasGivenUp, IsHeldFirst}
 use Rattle.patch_cache.specs.declared.flights.Flights.{Flights}
 use Rattle.patch_plans.specs.Groups.{Groups, is_pending}
@@ -48,6 +49,13 @@ RisesIfSyncStops (Ok done) before now = Unit {0}
 RisesIfSyncStops (Err sync.NoSuchGroup) before now = Unit {0}
 RisesIfSyncStops (Err (sync.DeviceGaveUp block)) before now = HasGivenUp before now
 RisesIfSyncStops (Err sync.OutOfMemory) before now = Unit {0}
+
+-- the flight of a block that the device gave up was refused as often as a write is tried, and nothing else was done behind that
+abbrev pub IfSyncStops : {A D T : Type 0} → Ghosts D → Result T SyncRefusal → Flights A → (before now : D) → Type 0
+IfSyncStops g (Ok done) flights before now = Unit {0}
+IfSyncStops g (Err sync.NoSuchGroup) flights before now = Unit {0}
+IfSyncStops g (Err (sync.DeviceGaveUp block)) flights before now = HasRefusedFirst g block flights before now
+IfSyncStops g (Err sync.OutOfMemory) flights before now = Unit {0}
 
 -- the flight of a block that the device gave up is held
 abbrev pub IsHeldIfSyncStops : {A T : Type 0} → Result T SyncRefusal → Flights A → Type 0

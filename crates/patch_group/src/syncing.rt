@@ -1,5 +1,5 @@
 //! How the patches of a group are brought to the disk.
-ghost use Rattle.std.specs.Prelude.{◌≡◌, ◌<◌, ◌≤◌, ◌↔◌, [], Some, Err, OnOk, IfOk, length, take};
+ghost use Rattle.std.specs.Prelude.{◌≡◌, ◌+◌, ◌*◌, ◌<◌, ◌≤◌, ◌↔◌, [], Some, Err, OnOk, IfOk, length, take, count_by};
 ghost use Rattle.patch_model.specs.declared.refusals.RefusalKind.TheVariants as kind;
 ghost use Rattle.patch_model.specs.Execution.{Execution, followed_by};
 ghost use Rattle.patch_model.specs.State.{entries_of};
@@ -7,9 +7,11 @@ ghost use Rattle.patch_model.specs.Refusing.{bare};
 ghost use Rattle.patch_device.specs.SameDevice.{IsSameDevice};
 ghost use Rattle.patch_cache.specs.Meaning.{Represents};
 ghost use Rattle.patch_cache.specs.Running.{Runs, RunsOn, held_by};
-ghost use Rattle.patch_cache.specs.Waves.{steps_since, Continues, HasGoneOn, KeepsDisk, RisesIfGivenUp, IsHeldIfGivenUp};
+ghost use Rattle.patch_cache.specs.Refused.{IfGivenUp};
+ghost use Rattle.patch_cache.specs.declared.landing.TheConstants.{TRIES};
+ghost use Rattle.patch_cache.specs.Waves.{is_send, steps_since, Continues, HasGoneOn, KeepsDisk, RisesIfGivenUp, IsHeldIfGivenUp};
 ghost use Rattle.patch_plans.specs.Groups.{patches_of, pending, why_not_counted};
-ghost use Rattle.patch_group.specs.Syncing.{NonePending, SomePending, IsSynced, StandsAfter, RisesIfSyncStops, IsHeldIfSyncStops};
+ghost use Rattle.patch_group.specs.Syncing.{NonePending, SomePending, IsSynced, StandsAfter, RisesIfSyncStops, IfSyncStops, IsHeldIfSyncStops};
 ghost use Rattle.patch_group.specs.declared.refusals.SyncRefusal.TheVariants as refusal;
 
 use crate::calls::Groups;
@@ -47,6 +49,10 @@ pub fn sync<A: Allocator + Copy, D: Device>(
         → (cache.new ≡ cache.old) × (flights.new ≡ flights.old) × (device.new ≡ device.old) }
     ensures gave_up { (run : Execution) → RunsOn D.Device cache.old flights.old device.old run
         → RisesIfSyncStops result (D.fault_count device.old) (D.fault_count device.new) }
+    ensures refused { (run : Execution) → RunsOn D.Device cache.old flights.old device.old run
+        → IfSyncStops D.Device result flights.new device.old device.new }
+    ensures tries { D.is_honest device.old → length (D.had device.new)
+        ≤ length (D.had device.old) + TRIES * (length (held_by flights.old) + count_by is_send (steps_since cache.old cache.new)) }
     ensures held { IsHeldIfSyncStops result flights.new }
     ensures landed { OnOk result (held_by flights.new ≡ []) }
     ensures device { IsSameDevice D.Device device.old device.new }
@@ -84,6 +90,10 @@ fn write_all_of<A: Allocator + Copy, D: Device>(
         → OnOk result (NonePending (followed_by run (steps_since cache.old cache.new)) waiting.now) }
     ensures gave_up { (run : Execution) → RunsOn D.Device cache.old flights.old device.old run
         → RisesIfGivenUp result (D.fault_count device.old) (D.fault_count device.new) }
+    ensures refused { (run : Execution) → RunsOn D.Device cache.old flights.old device.old run
+        → IfGivenUp D.Device result flights.new device.old device.new }
+    ensures tries { D.is_honest device.old → held_by flights.old ≡ [] → length (D.had device.new)
+        ≤ length (D.had device.old) + TRIES * count_by is_send (steps_since cache.old cache.new) }
     ensures held { IsHeldIfGivenUp result flights.new }
     ensures landed { OnOk result (held_by flights.old ≡ [] → held_by flights.new ≡ []) }
     ensures device { IsSameDevice D.Device device.old device.new }

@@ -31,30 +31,31 @@ more : (first before now : ℕ) → first ≤ before → HasGivenUp before now �
 more first before now low (inl up) = inl (omega arith)
 more first before now low (inr top) = inr top
 
--- a fault that rests on a rise rests on one from before too
-given_back : {D : Type 0} (g : Ghosts D) (first before : ℕ) (why : Cause) (back : Option D) → first ≤ before → IsGivenBack g before why back → IsGivenBack g first why back
-given_back g first before (cause.DeviceGaveUp block) back low h = (h.0, h.1, more first before (g.fault_count h.0) low h.2)
-given_back g first before cause.Disagreed back low h = h
-given_back g first before (cause.ReadBack block) back low h = h
-given_back g first before cause.NoThread back low h = h
-given_back g first before cause.OutOfMemory back low h = h
+-- a fault that was met with a device was met with what it was before too
+given_back : {D : Type 0} (g : Ghosts D) (first mid : D) (why : Cause) (back : Option D) → IsSameDevice g first mid → IsGivenBack g mid why back → IsGivenBack g first why back
+given_back g first mid (cause.DeviceGaveUp block) back same h =
+    (h.0, h.1, same_both g first mid h.0 same h.2, more (g.fault_count first) (g.fault_count mid) (g.fault_count h.0) same.faults h.3)
+given_back g first mid cause.Disagreed back same h = h
+given_back g first mid (cause.ReadBack block) back same h = h
+given_back g first mid cause.NoThread back same h = h
+given_back g first mid cause.OutOfMemory back same h = h
 
 pub fault_before : {T D : Type 0} (g : Ghosts D) (first mid : D) (r : Result T (ServeFault D)) → IsSameDevice g first mid
     → IfErr r (IsFaultWith g mid) → IfErr r (IsFaultWith g first)
-fault_before g first mid r same = also_err _ _ r (λ fault is. given_back g (g.fault_count first) (g.fault_count mid) fault.cause fault.device same.faults is)
+fault_before g first mid r same = also_err _ _ r (λ fault is. given_back g first mid fault.cause fault.device same is)
 
-none_back : {D : Type 0} (g : Ghosts D) (before : ℕ) (why : Cause) → ((block : ℕ) → why ≡ cause.DeviceGaveUp block → ⊥) → IsGivenBack g before why None
-none_back g before (cause.DeviceGaveUp block) other = absurd (other block refl)
-none_back g before cause.Disagreed other = refl
-none_back g before (cause.ReadBack block) other = refl
-none_back g before cause.NoThread other = refl
-none_back g before cause.OutOfMemory other = refl
+none_back : {D : Type 0} (g : Ghosts D) (first : D) (why : Cause) → ((block : ℕ) → why ≡ cause.DeviceGaveUp block → ⊥) → IsGivenBack g first why None
+none_back g first (cause.DeviceGaveUp block) other = absurd (other block refl)
+none_back g first cause.Disagreed other = refl
+none_back g first (cause.ReadBack block) other = refl
+none_back g first cause.NoThread other = refl
+none_back g first cause.OutOfMemory other = refl
 
 -- with a cause of which the device is none no device comes back
-pub fault_without : {D : Type 0} (g : Ghosts D) (before : ℕ) (why : Cause) (fault : ServeFault D) → ((block : ℕ) → why ≡ cause.DeviceGaveUp block → ⊥)
-    → fault.cause ≡ why → fault.device ≡ None → IsGivenBack g before fault.cause fault.device
-fault_without g before why fault other is none =
-    subst (λ w. IsGivenBack g before w fault.device) (sym is) (subst (IsGivenBack g before why) (sym none) (none_back g before why other))
+pub fault_without : {D : Type 0} (g : Ghosts D) (first : D) (why : Cause) (fault : ServeFault D) → ((block : ℕ) → why ≡ cause.DeviceGaveUp block → ⊥)
+    → fault.cause ≡ why → fault.device ≡ None → IsGivenBack g first fault.cause fault.device
+fault_without g first why fault other is none =
+    subst (λ w. IsGivenBack g first w fault.device) (sym is) (subst (IsGivenBack g first why) (sym none) (none_back g first why other))
 
 -- What is left.
 

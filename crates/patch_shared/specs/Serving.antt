@@ -31,17 +31,18 @@ RisesAtEnd end.Done before now = Unit {0}
 RisesAtEnd (end.GaveUp block) before now = HasGivenUp before now
 RisesAtEnd end.Strange before now = Unit {0}
 
--- Where the device gave up it comes back, with so many faults more; with another cause none does.
-abbrev pub IsGivenBack : {D : Type 0} → Ghosts D → ℕ → Cause → Option D → Type 0
-IsGivenBack {D = D} g before (cause.DeviceGaveUp block) back = (device : D) × (back ≡ Some device) × HasGivenUp before (g.fault_count device)
-IsGivenBack g before cause.Disagreed back = back ≡ None
-IsGivenBack g before (cause.ReadBack block) back = back ≡ None
-IsGivenBack g before cause.NoThread back = back ≡ None
-IsGivenBack g before cause.OutOfMemory back = back ≡ None
+-- Where the device gave up it comes back: the one that was handed in, with so many faults more. With another cause none does.
+abbrev pub IsGivenBack : {D : Type 0} → Ghosts D → (first : D) → Cause → Option D → Type 0
+IsGivenBack {D = D} g first (cause.DeviceGaveUp block) back =
+    (device : D) × (back ≡ Some device) × IsSameDevice g first device × HasGivenUp (g.fault_count first) (g.fault_count device)
+IsGivenBack g first cause.Disagreed back = back ≡ None
+IsGivenBack g first (cause.ReadBack block) back = back ≡ None
+IsGivenBack g first cause.NoThread back = back ≡ None
+IsGivenBack g first cause.OutOfMemory back = back ≡ None
 
 -- so it is of a fault that was met with this device
 abbrev pub IsFaultWith : {D : Type 0} → Ghosts D → (device : D) → ServeFault D → Type 0
-IsFaultWith g device fault = IsGivenBack g (g.fault_count device) fault.cause fault.device
+IsFaultWith g device fault = IsGivenBack g device fault.cause fault.device
 
 -- the book that the threads had, of whose store the steps are
 abbrev pub book_of : {D : Type 0} → Finished D → Book

@@ -174,8 +174,9 @@ fn sum_up<D: Device + Drop, C: Ledger, S: Ledger, T: Ledger>(
     ensures parts { IfOk result (λ counted. all.new.parts ≡ writers) }
     ensures amount { IfOk result (λ counted. all.new.amount ≡ sum_by (λ list. vec_len list) counted.replies.items) }
     ensures device { IfOk result (λ counted. counted.device ≡ joined.completed.device) }
-    ensures fault { (before : ℕ) → RisesAtEnd joined.completed.end before (D.fault_count joined.completed.device)
-        → IfErr result (λ fault. IsGivenBack D.Device before fault.cause fault.device) }
+    ensures fault { (first : D) → IsSameDevice D.Device first joined.completed.device
+        → RisesAtEnd joined.completed.end (D.fault_count first) (D.fault_count joined.completed.device)
+        → IfErr result (λ fault. IsGivenBack D.Device first fault.cause fault.device) }
 {
     let cause = cause_of(&joined);
     let Joined {
@@ -304,7 +305,8 @@ fn finish<D: Device + Drop>(ran: Ran<D>) -> Result<Finished<D>, ServeFault<D>>
 /// The fault of this cause: the device goes with it where it gave up.
 fn with_device<D: Device + Drop>(cause: Cause, device: D) -> ServeFault<D>
     ensures cause { result.cause ≡ cause }
-    ensures back { (before : ℕ) → RisesIf cause before (D.fault_count device) → IsGivenBack D.Device before cause result.device }
+    ensures back { (first : D) → IsSameDevice D.Device first device → RisesIf cause (D.fault_count first) (D.fault_count device)
+        → IsGivenBack D.Device first cause result.device }
 {
     match cause {
         Cause::DeviceGaveUp(_) => ServeFault {

@@ -1,5 +1,5 @@
 -- A store behind writes that were begun and ended.
-use Rattle.std.proofs.Common.{◌≡◌, ℕ, ◌+◌, ◌≤◌, ◌∙◌, true, false, List, [], ◌∷◌, ◌++◌, map, refl, sym, ap, subst}
+use Rattle.std.proofs.Common.{◌≡◌, ℕ, Bool, ◌+◌, ◌≤◌, ◌∙◌, inl, true, false, List, [], ◌∷◌, ◌++◌, map, refl, sym, ap, subst}
 use Rattle.std.specs.Prelude.{fold, flat_map, count_by, Some, None, Result, Ok, Err, OnOk, IsFalse, slice_get}
 use Rattle.std.specs.List.{list_all}
 use Rattle.std.proofs.lemmas.Bool.{and_parts}
@@ -10,16 +10,20 @@ use Rattle.patch_model.specs.State.{entries_of, state_of, has_flight}
 use Rattle.patch_model.specs.History.{history_of, image, cached}
 use Rattle.patch_cache.specs.Contents.{Contents}
 use Rattle.patch_cache.specs.Meaning.{Represents as IsCacheOf}
-use Rattle.patch_cache.specs.Flights.{AreFlightsOf}
-use Rattle.patch_cache.specs.Running.{Runs, held_by}
-use Rattle.patch_cache.specs.Waves.{is_write, is_send, classes_in_memory, steps_since, HasGoneOn, HoldImages, IsFlushed}
+use Rattle.patch_cache.specs.Flights.{AreFlightsOf, AreFlightsBeside}
+use Rattle.patch_cache.specs.Running.{Runs, RunsBeside, held_by}
+use Rattle.patch_cache.specs.Waves.{is_write, is_send, classes_in_memory, steps_since, HasGoneOnBeside, HoldImages, IsFlushed}
 use Rattle.patch_cache.specs.declared.flights.Flights.{Flights}
+use Rattle.patch_cache.specs.Refused.{HasRefused, IfGivenUp}
 use Rattle.patch_cache.specs.declared.refusals.FlushRefusal.{FlushRefusal}
+use Rattle.patch_cache.specs.declared.refusals.FlushRefusal.TheVariants as flush
+use Rattle.patch_device.specs.declared.devices.Device.{Ghosts}
+use Rattle.patch_model.specs.Member.{In}
 use Rattle.patch_history.specs.History.{History, Event, Moved, steps_in, after_event, execution_of, standing_of, IsLegalHistory, AreRight}
 use Rattle.patch_history.specs.History as histories
 use Rattle.patch_history.specs.Standing.{Standing, at_opening}
 use Rattle.patch_store.specs.Meaning.{Store, Represents}
-use Rattle.patch_store.specs.Flushing.{StandsStill, with_writes, HasWritten, HoldCached}
+use Rattle.patch_store.specs.Flushing.{StandsStill, with_writes, HasWritten, HoldCached, IfRefused}
 
 -- The history with the writes.
 
@@ -65,8 +69,8 @@ beside : (st : Standing) (events : List Event) (steps : List Step) → IsBeside 
 beside st [] steps = moved_beside st steps
 beside st (event ∷ events) steps = beside (after_event st event) events steps
 
-pub written_so : {A : Type 0} (h : History) (steps : List Step) (old : Store) (cache : Contents) (flights : Flights A) → Represents old h
-    → HasGoneOn (execution_of h) steps cache flights → HasWritten h steps (record old { cache = cache })
+pub written_so : {A : Type 0} {others : Bool} (h : History) (steps : List Step) (old : Store) (cache : Contents) (flights : Flights A) → Represents old h
+    → HasGoneOnBeside others (execution_of h) steps cache flights → HasWritten h steps (record old { cache = cache })
 written_so h steps old cache flights was gone =
     let is = run_behind h steps in
     let stands : IsCacheOf cache (execution_of (with_writes h steps)) = subst (IsCacheOf cache) (sym is) gone.runs.cache_is in
@@ -94,7 +98,7 @@ none_at i x is = let g : None ≡ Some x = is in cc
 no_flights : {A : Type 0} (run : Execution) → ((block : ℕ) → IsFalse (has_flight (state_of run) block)) → AreFlightsOf {A = A} run []
 no_flights run none = record {
   each = λ flight among. absurd among;
-  all = λ block flying. absurd (let n = none block in let g : true ≡ false = sym flying ∙ n in cc);
+  all = λ alone block flying. absurd (let n = none block in let g : true ≡ false = sym flying ∙ n in cc);
   once = λ i j f g at other same. absurd (none_at i f at);
 }
 
@@ -104,13 +108,34 @@ runs_so h old flights none still = record {
   flights_are = subst (AreFlightsOf (execution_of h)) (sym none) (no_flights (execution_of h) still.no_flight);
 }
 
+-- Whatever is under way is held elsewhere.
+
+none_beside : {A : Type 0} (run : Execution) → AreFlightsBeside {A = A} true run []
+none_beside run = record {
+  each = λ flight among. absurd among;
+  all = λ alone block flying. absurd (let no : true ≡ false = alone in cc);
+  once = λ i j f g at other same. absurd (none_at i f at);
+}
+
+pub runs_beside : {A : Type 0} (h : History) (old : Store) (flights : Flights A) → held_by flights ≡ [] → Represents old h → RunsBeside true old.cache flights (execution_of h)
+runs_beside h old flights none was = record {
+  cache_is = was.cache_is;
+  flights_are = subst (AreFlightsBeside true (execution_of h)) (sym none) (none_beside (execution_of h));
+}
+
 -- what is said of the view of a store is said of the store
 pub written_view : {A : Type 0} (old now : Store) (cache : Contents) (flights after : Flights A) → old ≡ now → held_by flights ≡ []
-    → ((run : Execution) → Runs old.cache flights run → HasGoneOn run (steps_since old.cache cache) cache after)
-    → (h : History) → StandsStill now h → HasWritten h (steps_since now.cache cache) (record old { cache = cache })
-written_view old now cache flights after is none ran h still =
-    subst (λ s. StandsStill s h → HasWritten h (steps_since s.cache cache) (record old { cache = cache })) is
-    (λ w. written_so h (steps_since old.cache cache) old cache after w.represents (ran (execution_of h) (runs_so h old flights none w))) still
+    → ((run : Execution) → RunsBeside true old.cache flights run → HasGoneOnBeside true run (steps_since old.cache cache) cache after)
+    → (h : History) → Represents now h → HasWritten h (steps_since now.cache cache) (record old { cache = cache })
+written_view old now cache flights after is none ran h was =
+    subst (λ s. Represents s h → HasWritten h (steps_since s.cache cache) (record old { cache = cache })) is
+    (λ w. written_so h (steps_since old.cache cache) old cache after w (ran (execution_of h) (runs_beside h old flights none w))) was
+
+pub said_beside : {A : Type 0} (P : History → List Step → Type 0) (old now : Store) (cache : Contents) (flights : Flights A) → old ≡ now → held_by flights ≡ []
+    → ((h : History) → RunsBeside true old.cache flights (execution_of h) → P h (steps_since old.cache cache))
+    → (h : History) → Represents now h → P h (steps_since now.cache cache)
+said_beside P old now cache flights is none said h was =
+    subst (λ s. Represents s h → P h (steps_since s.cache cache)) is (λ w. said h (runs_beside h old flights none w)) was
 
 pub said_view : {A : Type 0} (P : History → List Step → Type 0) (old now : Store) (cache : Contents) (flights : Flights A) → old ≡ now → held_by flights ≡ []
     → ((h : History) → Runs old.cache flights (execution_of h) → P h (steps_since old.cache cache))
@@ -129,3 +154,18 @@ cached_so law run contents flushed hold = record {
 pub ok_map : (X Y : Type 0) (flushed : Result (Unit {0}) FlushRefusal) → (X → Y) → OnOk flushed X → OnOk flushed Y
 ok_map X Y (Ok done) f x = f x
 ok_map X Y (Err refusal) f x = tt
+
+-- A flight that the device gave up holds its block's image.
+
+first_in : {X : Type 0} (xs : List X) (x : X) → slice_get xs 0 ≡ Some x → In xs x
+first_in [] x is = absurd (none_at 0 x is)
+first_in (y ∷ xs) x is = inl (let same : Some y ≡ Some x = is in cc)
+
+pub refused_image : {A D T : Type 0} (g : Ghosts D) (result : Result T FlushRefusal) (run : Execution) (cache : Contents) (flights : Flights A) (before now : D)
+    → RunsBeside true cache flights run → IfGivenUp g result flights before now → IfRefused g result run before now
+refused_image g (Ok done) run cache flights before now runs told = tt
+refused_image g (Err (flush.DeviceGaveUp block)) run cache flights before now runs told =
+    let is = runs.flights_are.each told.flight (first_in (held_by flights) told.flight told.first) in
+    subst (λ b. HasRefused g b (image (history_of run b)) before now) told.of
+    (subst (λ bytes. HasRefused g told.flight.block bytes before now) is.image_is told.refused)
+refused_image g (Err flush.OutOfMemory) run cache flights before now runs told = tt

@@ -1,9 +1,13 @@
 -- How all patches of a store are brought to the disk.
-use Rattle.std.specs.Prelude.{ℕ, ◌≡◌, ◌+◌, ◌<◌, ◌≤◌, List, [], ◌++◌, length, map, count_by, slice_index_or, IsFalse}
+use Rattle.std.specs.Prelude.{ℕ, ◌≡◌, ◌+◌, ◌<◌, ◌≤◌, List, [], ◌++◌, length, map, count_by, slice_index_or, IsFalse, Result, Ok, Err}
 use Rattle.patch_model.specs.Step.{Step}
 use Rattle.patch_model.specs.Execution.{Execution, followed_by}
 use Rattle.patch_model.specs.State.{entries_of, state_of, has_flight}
-use Rattle.patch_model.specs.History.{history_of, cached}
+use Rattle.patch_model.specs.History.{history_of, image, cached}
+use Rattle.patch_device.specs.declared.devices.Device.{Ghosts}
+use Rattle.patch_cache.specs.Refused.{HasRefused}
+use Rattle.patch_cache.specs.declared.refusals.FlushRefusal.{FlushRefusal}
+use Rattle.patch_cache.specs.declared.refusals.FlushRefusal.TheVariants as flush
 use Rattle.patch_cache.specs.Waves.{is_send, classes_in_memory, steps_since, HasKept}
 use Rattle.patch_history.specs.History.{History, Moved, execution_of}
 use Rattle.patch_store.specs.Meaning.{Store, Represents}
@@ -41,3 +45,9 @@ pub record HoldCached (run : Execution) (contents : List (List ℕ)) : Type 0 wh
 -- behind what a call has added to the trace
 abbrev pub HoldNow : History → (old new : Store) → (contents : List (List ℕ)) → Type 0
 HoldNow h old new contents = HoldCached (run_after h old new) contents
+
+-- a block that the device gave up was refused its image as often as a write is tried, and nothing else was done behind that
+abbrev pub IfRefused : {D T : Type 0} → Ghosts D → Result T FlushRefusal → Execution → (before now : D) → Type 0
+IfRefused g (Ok done) run before now = Unit {0}
+IfRefused g (Err (flush.DeviceGaveUp block)) run before now = HasRefused g block (image (history_of run block)) before now
+IfRefused g (Err flush.OutOfMemory) run before now = Unit {0}

@@ -327,9 +327,8 @@ fn four_faults<D: Device>(inner: D, done: u64) -> Four<D> {
     two_faults(two_faults(inner, done), done)
 }
 
-fn seven_faults(alloc: Global, done: u64) -> Result<Seven<MemDevice>, OutOfMemory> {
-    let device = MemDevice::new(alloc, 2)?;
-    Ok(four_faults(two_faults(one_fault(device, done), done), done))
+fn seven_faults<D: Device>(inner: D, done: u64) -> Seven<D> {
+    four_faults(two_faults(one_fault(inner, done), done), done)
 }
 
 fn eight_faults(alloc: Global, done: u64) -> Result<Eight<MemDevice>, OutOfMemory> {
@@ -349,11 +348,37 @@ fn flush_after_faults<D: Device>(
 
 #[test]
 fn seven_faults_are_overcome(rt: HostRuntime) -> Result<(), Fail> {
-    let mut device = seven_faults(rt.alloc(), 0)?;
+    let mut device = seven_faults(MemDevice::new(rt.alloc(), 2)?, 0);
     let mut bench = open_chain(&rt, rt.alloc())?;
     let flushed = flush_after_faults(&rt, &mut bench, &mut device);
     close(bench);
     flushed
+}
+
+// A patch of each of two blocks, whose flights land one behind the other.
+fn open_pair(rt: &impl Abort, alloc: Global) -> Result<Bench<Global>, Fail> {
+    let mut cache = open_zeros(rt, alloc, 2)?;
+    cache.create(BlockNo(0), 0, b"one", &[], Undo::Keep)?;
+    cache.create(BlockNo(1), 0, b"two", &[], Undo::Keep)?;
+    Ok(Bench {
+        cache,
+        flights: Flights::new(alloc),
+    })
+}
+
+// Each flight has eight tries of its own.
+#[test]
+fn seven_faults_of_each_of_two_flights_are_overcome(rt: HostRuntime) -> Result<(), Fail> {
+    let second = seven_faults(MemDevice::new(rt.alloc(), 2)?, 1);
+    let mut device = seven_faults(second, 0);
+    let mut bench = open_pair(&rt, rt.alloc())?;
+    let flushed = flush(&mut bench, &mut device);
+    let live = bench.cache.live();
+    close(bench);
+    flushed?;
+    expect_equal(&rt, "live", live, 0);
+    expect_start(&rt, &mut device, 0, b"one\0")?;
+    expect_start(&rt, &mut device, 1, b"two\0")
 }
 
 // The first wave is done, and stays so; the flight of the second is given up, and held.

@@ -5,7 +5,7 @@ use patch_device::{Device, FaultyDevice, MemDevice, load};
 use patch_model::{BLOCK, Mark};
 use std::alloc::Global;
 
-// A cache of one block with a patch of one group, and the flights that it waits for.
+// A cache with a patch of each block, all of one group, and the flights that it waits for.
 struct Bench {
     groups: Groups,
     cache: Cache,
@@ -36,12 +36,20 @@ fn failing_eight_times<D: Device>(inner: D, at: u64) -> EightTimes<D> {
     failing_four_times(failing_four_times(inner, at), at)
 }
 
-fn make_patch(bench: &mut Bench) -> Result<(), Fail> {
+fn failing_seven_times<D: Device>(inner: D, at: u64) -> FourTimes<Twice<FaultyDevice<D>>> {
+    failing_four_times(failing_twice(failing(inner, at), at), at)
+}
+
+// Makes a patch of each of the cache's blocks, all of one group.
+fn make_patches(bench: &mut Bench) -> Result<(), Fail> {
     let writer = WriterNo(0);
     let group = bench.groups.create()?;
     bench.groups.engage(writer, group)?;
     let Bench { groups, cache, .. } = bench;
-    groups.create_patch(cache, Some(writer), BlockNo(0), 0, b"a", &[], Undo::Keep)?;
+    for block in 0..cache.blocks() {
+        let block = BlockNo(block);
+        groups.create_patch(cache, Some(writer), block, 0, b"a", &[], Undo::Keep)?;
+    }
     Ok(())
 }
 
@@ -75,7 +83,7 @@ fn sync_twice<D: Device>(
     mark: Mark,
     pending: u32,
 ) -> Result<(), Fail> {
-    make_patch(bench)?;
+    make_patches(bench)?;
     expect_synced(rt, bench, device, first, mark, pending);
     expect_synced(rt, bench, device, Ok(()), Mark::Durable, 0);
     Ok(())
@@ -107,7 +115,7 @@ fn walk<D: Device>(
     mark: Mark,
     pending: u32,
 ) -> Result<(), Fail> {
-    let mut bench = open_bench(rt, alloc, 1)?;
+    let mut bench = open_bench(rt, alloc, device.count() as usize)?;
     let walked = sync_twice(rt, &mut bench, device, first, mark, pending);
     close(bench);
     walked
@@ -123,8 +131,15 @@ fn eight_faults_give_a_flight_up(rt: HostRuntime) -> Result<(), Fail> {
 
 #[test]
 fn seven_faults_do_not(rt: HostRuntime) -> Result<(), Fail> {
-    let inner = failing_four_times(MemDevice::new(rt.alloc(), 1)?, 0);
-    let mut device = failing(failing_twice(inner, 0), 0);
+    let mut device = failing_seven_times(MemDevice::new(rt.alloc(), 1)?, 0);
+    walk(&rt, rt.alloc(), &mut device, Ok(()), Mark::Durable, 0)
+}
+
+// Each flight has eight tries of its own.
+#[test]
+fn seven_faults_of_each_of_two_flights_do_not(rt: HostRuntime) -> Result<(), Fail> {
+    let second = failing_seven_times(MemDevice::new(rt.alloc(), 2)?, 1);
+    let mut device = failing_seven_times(second, 0);
     walk(&rt, rt.alloc(), &mut device, Ok(()), Mark::Durable, 0)
 }
 

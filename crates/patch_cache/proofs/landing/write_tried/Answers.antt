@@ -2,13 +2,14 @@ use Rattle.std.proofs.Common.{inl, inr, refl, sym, subst, ◌∙◌, ◌<◌, ar
 use Rattle.patch_device.specs.Device.{IsOldOrNew}
 use Rattle.patch_device.specs.SameDevice.{same_still, same_both}
 use Rattle.patch_cache.proofs.Crashing.{unmoved}
-use Rattle.patch_cache.proofs.Waving.{written_again, either_again, outcome_longer, risen_again, tried, is_ok_on, is_ok_off}
+use Rattle.patch_cache.proofs.Waving.{written_again, either_again, outcome_longer, risen_again, refused_again, tried, is_ok_on, is_ok_off}
 use Rattle.patch_cache.proofs.landing.write_tried.Goals as goal
 
 pub loop-init : goal.loop-init
 loop-init g c = record {
   same = same_still g.D.Device c.args.device.now;
   cause = λ known. inl (omega arith);
+  refused = λ known. refl;
   either = λ honest. inl refl;
   tries = λ honest. omega arith;
   crash = λ honest run known is left. unmoved run _ _ left;
@@ -61,6 +62,13 @@ loop-preserved g c =
       cause = λ known.
           risen_again c.loop.counter (device.fault_count c.args.device.now) (device.fault_count c.loop.device) (device.fault_count next) (before.cause known)
           (is_ok_off c.write_image.result _ (sym c.is_ok.ensures.value ∙ c.if-is_ok.false) (told.cause (subst (λ n. flight.block < n) (sym before.same.count) known))) (g.met.D.Device.faults_fit next);
+      refused = λ known.
+          refused_again g.D.Device flight.block c.loop.counter flight.image c.args.device.now c.loop.device next (before.refused known) (record {
+            same = told.device;
+            fault = is_ok_off c.write_image.result _ (sym c.is_ok.ensures.value ∙ c.if-is_ok.false) (told.cause (subst (λ n. flight.block < n) (sym before.same.count) known));
+            either = λ honest. is_ok_off c.write_image.result _ (sym c.is_ok.ensures.value ∙ c.if-is_ok.false) (told.refused honest);
+            had = told.had;
+          });
       either = λ honest. either_again (device.contents c.args.device.now) (device.contents c.loop.device) (device.contents next) flight.block flight.image (before.either honest) (again honest);
       tries = λ honest. let one = outcome_longer _ _ _ _ (told.had (before.same.honesty.0 honest)) in let so_far = before.tries honest in omega (arith, one, so_far);
       crash = λ honest run known is left.

@@ -1,35 +1,36 @@
-use Rattle.std.proofs.Common.{◌≡◌, ◌∙◌, subst, sym, length}
+use Rattle.std.proofs.Common.{Err, false, arith, ◌≡◌, ◌∙◌, subst, sym, length}
 use Rattle.std.specs.Prelude.{count_by}
 use Rattle.patch_model.specs.Execution.{followed_by}
 use Rattle.patch_model.specs.State.{entries_of}
+use Rattle.patch_cache.specs.Refused.{given_up_later}
 use Rattle.patch_cache.specs.Waves.{steps_since}
 use Rattle.patch_plans.specs.Groups.{is_pending, patches_of}
 use Rattle.patch_group.specs.Syncing.{IsSynced}
 use Rattle.patch_group.proofs.Pending.{none_left}
 use Rattle.patch_group.proofs.Steps.{for_all, landed_first}
-use Rattle.patch_group.proofs.Writing.{went_both, keeps_both, since_both, stays_past, groups_stay}
+use Rattle.patch_group.proofs.Writing.{went_both, keeps_both, since_both, sends_both, sync_stops, stays_past, groups_stay}
 use Rattle.patch_group.proofs.syncing.sync.Goals as goal
 
 pub returns-in_err-land-clause-stands : goal.returns-in_err-land-clause-stands
 returns-in_err-land-clause-stands g c run r = record {
-  on = record { runs = (c.land.ensures.ran run r.on.runs).runs; blocks = c.land.ensures.device.count ∙ r.on.blocks };
+  on = record { runs = (c.land.ensures.ran false run r.on.runs).runs; blocks = c.land.ensures.device.count ∙ r.on.blocks };
   groups_are = groups_stay c.order_is_kept.ensures.steps run c.args.groups.now (steps_since c.args.cache.now c.land.new.self) r.groups_are;
 }
 
 pub returns-in_err-waiting-clause-stands : goal.returns-in_err-waiting-clause-stands
 returns-in_err-waiting-clause-stands g c run r = record {
-  on = record { runs = (c.land.ensures.ran run r.on.runs).runs; blocks = c.land.ensures.device.count ∙ r.on.blocks };
+  on = record { runs = (c.land.ensures.ran false run r.on.runs).runs; blocks = c.land.ensures.device.count ∙ r.on.blocks };
   groups_are = groups_stay c.order_is_kept.ensures.steps run c.args.groups.now (steps_since c.args.cache.now c.land.new.self) r.groups_are;
 }
 
 pub returns-in_err-write_all_of-clause-ran : goal.returns-in_err-write_all_of-clause-ran
 returns-in_err-write_all_of-clause-ran g c run r =
-    let first = c.land.ensures.ran run r in
+    let first = c.land.ensures.ran false run r in
     went_both c.traces_join.ensures.joined c.stretches_join.ensures.joined run c.args.cache.now c.land.new.self c.write_all_of.new.cache _ _ c.land.ensures.trace c.write_all_of.ensures.trace first (c.write_all_of.ensures.ran _ first.runs)
 
 pub returns-in_err-write_all_of-clause-stands : goal.returns-in_err-write_all_of-clause-stands
 returns-in_err-write_all_of-clause-stands g c run r =
-    let first = c.land.ensures.ran run r.on.runs in
+    let first = c.land.ensures.ran false run r.on.runs in
     let whole = went_both c.traces_join.ensures.joined c.stretches_join.ensures.joined run c.args.cache.now c.land.new.self c.write_all_of.new.cache _ _ c.land.ensures.trace c.write_all_of.ensures.trace first (c.write_all_of.ensures.ran _ first.runs) in
     record {
       on = record { runs = whole.runs; blocks = c.write_all_of.ensures.device.count ∙ c.land.ensures.device.count ∙ r.on.blocks };
@@ -40,17 +41,17 @@ pub returns-in_err-write_all_of-clause-disk : goal.returns-in_err-write_all_of-c
 returns-in_err-write_all_of-clause-disk g c honest =
     let first = c.land.ensures in
     let told = c.write_all_of.ensures in
-    keeps_both c.traces_join.ensures.joined c.stretches_join.ensures.kept c.args.cache.now c.land.new.self c.write_all_of.new.cache c.args.flights.now c.land.new.flights _ _ _ _ _ _ first.trace told.trace first.ran
-    (first.disk honest) (told.disk (first.device.honesty.0 honest))
+    keeps_both c.traces_join.ensures.joined c.stretches_join.ensures.kept c.args.cache.now c.land.new.self c.write_all_of.new.cache c.args.flights.now c.land.new.flights _ _ _ _ _ _ first.trace told.trace (first.ran false)
+    (first.disk honest false) (told.disk (first.device.honesty.0 honest))
 
 pub returns-clause-ran : goal.returns-clause-ran
 returns-clause-ran g c run r =
-    let first = c.land.ensures.ran run r in
+    let first = c.land.ensures.ran false run r in
     went_both c.traces_join.ensures.joined c.stretches_join.ensures.joined run c.args.cache.now c.land.new.self c.write_all_of.new.cache _ _ c.land.ensures.trace c.write_all_of.ensures.trace first (c.write_all_of.ensures.ran _ first.runs)
 
 pub returns-clause-stands : goal.returns-clause-stands
 returns-clause-stands g c run r =
-    let first = c.land.ensures.ran run r.on.runs in
+    let first = c.land.ensures.ran false run r.on.runs in
     let whole = went_both c.traces_join.ensures.joined c.stretches_join.ensures.joined run c.args.cache.now c.land.new.self c.write_all_of.new.cache _ _ c.land.ensures.trace c.write_all_of.ensures.trace first (c.write_all_of.ensures.ran _ first.runs) in
     record {
       on = record { runs = whole.runs; blocks = c.write_all_of.ensures.device.count ∙ c.land.ensures.device.count ∙ r.on.blocks };
@@ -61,8 +62,8 @@ pub returns-clause-disk : goal.returns-clause-disk
 returns-clause-disk g c honest =
     let first = c.land.ensures in
     let told = c.write_all_of.ensures in
-    keeps_both c.traces_join.ensures.joined c.stretches_join.ensures.kept c.args.cache.now c.land.new.self c.write_all_of.new.cache c.args.flights.now c.land.new.flights _ _ _ _ _ _ first.trace told.trace first.ran
-    (first.disk honest) (told.disk (first.device.honesty.0 honest))
+    keeps_both c.traces_join.ensures.joined c.stretches_join.ensures.kept c.args.cache.now c.land.new.self c.write_all_of.new.cache c.args.flights.now c.land.new.flights _ _ _ _ _ _ first.trace told.trace (first.ran false)
+    (first.disk honest false) (told.disk (first.device.honesty.0 honest))
 
 pub returns-clause-steps : goal.returns-clause-steps
 returns-clause-steps g c run r =
@@ -70,7 +71,7 @@ returns-clause-steps g c run r =
     let mid = c.land.new.self in
     let now = c.write_all_of.new.cache in
     let patches = patches_of c.args.groups.now c.args.group in
-    let first = c.land.ensures.ran run r in
+    let first = c.land.ensures.ran false run r in
     let told = c.in_ok-write_all_of.ensures in
     let so_far = followed_by run (steps_since old mid) in
     let ext = c.steps_extend.ensures.state in
@@ -87,7 +88,7 @@ returns-clause-synced g c run r =
     let mid = c.land.new.self in
     let now = c.write_all_of.new.cache in
     let patches = patches_of c.args.groups.now c.args.group in
-    let first = c.land.ensures.ran run r in
+    let first = c.land.ensures.ran false run r in
     let told = c.in_ok-write_all_of.ensures in
     let so_far = followed_by run (steps_since old mid) in
     let later = followed_by so_far (steps_since mid now) in
@@ -96,3 +97,29 @@ returns-clause-synced g c run r =
     (none_left (is_pending (entries_of so_far)) (is_pending (entries_of later)) patches
     (stays_past c.steps_extend.ensures.state (λ run block. c.ready_is_largest.ensures.largest (entries_of run) block (c.ready_is_largest.ensures.made run)) so_far (steps_since mid now) (c.write_all_of.ensures.ran so_far first.runs).writes)
     (subst (λ ns. count_by (is_pending (entries_of later)) ns ≡ 0) waited (told.done so_far first.runs c.in_ok-land.ensures.landed)))
+
+-- how often
+pub returns-in_err-write_all_of-clause-tries : goal.returns-in_err-write_all_of-clause-tries
+returns-in_err-write_all_of-clause-tries g c honest =
+    let first = c.land.ensures in
+    let told = c.write_all_of.ensures in
+    let landed = first.tries honest in
+    let ends = first.ends in
+    let wrote = told.tries (first.device.honesty.0 honest) c.in_ok-land.ensures.landed in
+    let both = sends_both c.traces_join.ensures.joined c.args.cache.now c.land.new.self c.write_all_of.new.cache first.trace told.trace in omega (arith, landed, ends, wrote, both)
+
+pub returns-clause-tries : goal.returns-clause-tries
+returns-clause-tries g c honest =
+    let first = c.land.ensures in
+    let told = c.write_all_of.ensures in
+    let landed = first.tries honest in
+    let ends = first.ends in
+    let wrote = told.tries (first.device.honesty.0 honest) c.in_ok-land.ensures.landed in
+    let both = sends_both c.traces_join.ensures.joined c.args.cache.now c.land.new.self c.write_all_of.new.cache first.trace told.trace in omega (arith, landed, ends, wrote, both)
+
+pub returns-in_err-write_all_of-clause-refused : goal.returns-in_err-write_all_of-clause-refused
+returns-in_err-write_all_of-clause-refused g c run on =
+    let first = c.land.ensures in
+    let told = c.in_err-write_all_of.ensures.refused _ (record { runs = (first.ran false run on.runs).runs; blocks = first.device.count ∙ on.blocks }) in
+    sync_stops (Unit {0}) g.D.Device _ c.in_err-write_all_of.field-0.0 _ _ _ c.from_residual-in_err-write_all_of.ensures.1
+    (given_up_later {T = Unit {0}} g.D.Device (Err c.in_err-write_all_of.field-0.0) _ c.args.device.now c.land.new.device c.write_all_of.new.device first.device told)

@@ -1,14 +1,15 @@
-use Rattle.std.proofs.Common.{◌≡◌, ◌<◌, ◌∙◌, ◌++◌, take, length, subst, sym, ap, arith, append-nil}
+use Rattle.std.proofs.Common.{Bool, Err, ◌≡◌, ◌<◌, ◌∙◌, ◌++◌, take, length, subst, sym, ap, arith, append-nil}
 use Rattle.std.proofs.lemmas.List.{take_all}
 use Rattle.std.specs.Prelude.{count_by}
 use Rattle.patch_model.specs.Execution.{followed_by}
 use Rattle.patch_model.specs.State.{entries_of}
 use Rattle.patch_device.specs.SameDevice.{same_both}
+use Rattle.patch_cache.specs.Refused.{given_up_later}
 use Rattle.patch_cache.specs.Waves.{steps_since}
 use Rattle.patch_plans.specs.Groups.{is_pending}
 use Rattle.patch_group.specs.Syncing.{IsSynced}
 use Rattle.patch_group.proofs.Pending.{none_still, none_pending_of}
-use Rattle.patch_group.proofs.Writing.{continues_both, went_both, keeps_both, since_both, sends_both, stays_past, wrote_none, wrote_some, same_run}
+use Rattle.patch_group.proofs.Writing.{continues_both, went_both, keeps_both, since_both, sends_both, write_stops, stays_past, wrote_none, wrote_some, same_run}
 use Rattle.patch_group.proofs.Steps.{none_fly, leads_on, leads_here, wrote_nothing}
 use Rattle.patch_group.proofs.syncing.write_all_of.Goals as goal
 
@@ -50,6 +51,22 @@ returns-in_err-write_next-clause-disk g c honest =
     let told = c.write_next.ensures in
     keeps_both c.traces_join.ensures.joined c.stretches_join.ensures.kept c.args.cache.now c.loop.cache c.write_next.new.self c.args.flights.now c.loop.flights _ _ _ _ _ _ before.trace told.trace before.ran
     (before.disk honest) (told.disk (before.same.honesty.0 honest))
+
+pub returns-in_err-write_next-clause-tries : goal.returns-in_err-write_next-clause-tries
+returns-in_err-write_next-clause-tries g c honest none =
+    let before = c.loop.invariant in
+    let told = c.write_next.ensures in
+    let so_far = before.tries honest none in
+    let one = told.tries (before.same.honesty.0 honest) in
+    let empty = ap length (before.landed none) in
+    let both = sends_both c.traces_join.ensures.joined c.args.cache.now c.loop.cache c.write_next.new.self before.trace told.trace in omega (arith, so_far, one, empty, both)
+
+pub returns-in_err-write_next-clause-refused : goal.returns-in_err-write_next-clause-refused
+returns-in_err-write_next-clause-refused g c run on =
+    let before = c.loop.invariant in
+    let told = c.in_err-write_next.ensures.refused _ (record { runs = (before.ran run on.runs).runs; blocks = before.same.count ∙ on.blocks }) in
+    write_stops Bool g.D.Device _ c.in_err-write_next.field-0.0 _ _ _ c.from_residual.ensures.1
+    (given_up_later {T = Bool} g.D.Device (Err c.in_err-write_next.field-0.0) _ c.args.device.now c.loop.device c.write_next.new.device before.same told)
 
 -- there was none to begin
 pub returns-then-not-branch-clause-ran : goal.returns-then-not-branch-clause-ran
@@ -99,6 +116,15 @@ returns-then-not-branch-clause-steps g c run r none =
     (leads_here waiting run (steps_since old mid) (before.so_far run r none) (none_fly so_far _ stands.flights_are (before.landed none))
     (subst (λ r. count_by (is_pending (entries_of r)) waiting ≡ 0) later (none_pending_of (entries_of (followed_by so_far (steps_since mid now))) waiting flushed.none)))
 
+pub returns-then-not-branch-clause-tries : goal.returns-then-not-branch-clause-tries
+returns-then-not-branch-clause-tries g c honest none =
+    let before = c.loop.invariant in
+    let told = c.write_next.ensures in
+    let so_far = before.tries honest none in
+    let one = told.tries (before.same.honesty.0 honest) in
+    let empty = ap length (before.landed none) in
+    let both = sends_both c.traces_join.ensures.joined c.args.cache.now c.loop.cache c.write_next.new.self before.trace told.trace in omega (arith, so_far, one, empty, both)
+
 pub loop-preserved : goal.loop-preserved
 loop-preserved g c =
     let before = c.loop.invariant in
@@ -135,6 +161,11 @@ loop-preserved g c =
       trace = continues_both joins old mid now before.trace told.trace;
       disk = λ honest.
           keeps_both joins c.stretches_join.ensures.kept old mid now c.args.flights.now c.loop.flights _ _ _ _ _ _ before.trace told.trace before.ran (before.disk honest) (told.disk (before.same.honesty.0 honest));
+      tries = λ honest none.
+          let so_far = before.tries honest none in
+          let one = told.tries (before.same.honesty.0 honest) in
+          let empty = ap length (before.landed none) in
+          let both = sends_both joins old mid now before.trace told.trace in omega (arith, so_far, one, empty, both);
       landed = λ none. told.landed (before.landed none);
       same = same_both g.D.Device _ _ _ before.same told.device;
     }

@@ -1,10 +1,11 @@
-use Rattle.std.proofs.Common.{◌≡◌, ◌≤◌, [], take, length}
+use Rattle.std.proofs.Common.{◌≡◌, ◌+◌, ◌*◌, ◌≤◌, [], take, length}
 use Rattle.std.specs.Prelude.{count_by}
 use Rattle.patch_model.specs.Execution.{Execution, followed_by}
 use Rattle.patch_model.specs.State.{entries_of}
 use Rattle.patch_device.specs.SameDevice.{IsSameDevice}
 use Rattle.patch_cache.specs.Running.{Runs, held_by}
 use Rattle.patch_cache.specs.Waves.{is_send, steps_since, Continues, HasGoneOn, KeepsDisk}
+use Rattle.patch_cache.specs.declared.landing.TheConstants.{TRIES}
 use Rattle.patch_plans.specs.Groups.{is_pending}
 use Rattle.patch_group.proofs.Steps.{LeadsOn}
 use Rattle.patch_group.proofs.syncing.write_all_of.Given as goal
@@ -22,6 +23,7 @@ invariant-loop g l =
       within : l.at ≤ length l.waiting;
       trace : Continues l.fn.cache l.cache;
       disk : device.is_honest old → KeepsDisk l.fn.cache l.cache l.fn.flights (device.had old) (device.had l.device) (device.contents old) (device.contents l.device);
+      tries : device.is_honest old → held_by l.fn.flights ≡ [] → length (device.had l.device) ≤ length (device.had old) + TRIES * count_by is_send (steps_since l.fn.cache l.cache);
       landed : held_by l.fn.flights ≡ [] → held_by l.flights ≡ [];
       same : IsSameDevice g.D.Device old l.device;
     }

@@ -7,8 +7,8 @@ pub returns-in-Ok-clause-device : goal.returns-in-Ok-clause-device
 returns-in-Ok-clause-device g c = also _ _ c.sum_up.result (λ counted is. subst (IsSameDevice g.D.Device c.args.device) (sym is) c.in-Ok.ensures.device) c.sum_up.ensures.device
 
 pub returns-in-Ok-clause-fault : goal.returns-in-Ok-clause-fault
-returns-in-Ok-clause-fault g c = c.sum_up.ensures.fault (g.D.Device.fault_count c.args.device) c.in-Ok.ensures.gave_up
+returns-in-Ok-clause-fault g c = c.sum_up.ensures.fault c.args.device c.in-Ok.ensures.device c.in-Ok.ensures.gave_up
 
 pub returns-in-Err-clause-fault : goal.returns-in-Err-clause-fault
 returns-in-Err-clause-fault g c =
-    fault_without g.D.Device (g.D.Device.fault_count c.args.device) c.in-Err.cause c.bare-in-Err.result c.in-Err.ensures.other c.bare-in-Err.ensures.0 c.bare-in-Err.ensures.1
+    fault_without g.D.Device c.args.device c.in-Err.cause c.bare-in-Err.result c.in-Err.ensures.other c.bare-in-Err.ensures.0 c.bare-in-Err.ensures.1

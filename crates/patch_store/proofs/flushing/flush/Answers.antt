@@ -1,24 +1,24 @@
-use Rattle.std.proofs.Common.{◌≡◌, length}
+use Rattle.std.proofs.Common.{◌≡◌, true, length}
 use Rattle.std.specs.Prelude.{OnOk}
 use Rattle.patch_model.specs.Execution.{followed_by}
 use Rattle.patch_cache.specs.Waves.{HasKept, IsFlushed, RisesIfGivenUp, steps_since}
 use Rattle.patch_history.specs.History.{execution_of}
-use Rattle.patch_store.specs.Flushing.{HoldCached}
-use Rattle.patch_store.proofs.Waving.{written_view, said_view, ok_map, cached_so}
+use Rattle.patch_store.specs.Flushing.{HoldCached, IfRefused}
+use Rattle.patch_store.proofs.Waving.{written_view, said_view, said_beside, refused_image, ok_map, cached_so}
 use Rattle.patch_store.proofs.flushing.flush.Goals as goal
 
 pub returns-clause-ran : goal.returns-clause-ran
-returns-clause-ran g c h still =
+returns-clause-ran g c h was =
     written_view _ _ c.flush-flushed.new.self c.new-flights.result c.flush-flushed.new.flights c.store.view_is c.new-flights.ensures
-    c.flush-flushed.ensures.ran h still
+    (c.flush-flushed.ensures.ran true) h was
 
 pub returns-clause-disk : goal.returns-clause-disk
-returns-clause-disk g c honest h still =
+returns-clause-disk g c honest h was =
     let d = g.D.Device in
     let before = c.args.device.now in
     let now = c.flush-flushed.new.device in
-    said_view (λ h steps. HasKept (execution_of h) steps (d.had before) (d.had now) (d.contents before) (d.contents now)) _ _ c.flush-flushed.new.self
-    c.new-flights.result c.store.view_is c.new-flights.ensures (λ h runs. c.flush-flushed.ensures.disk honest (execution_of h) runs) h still
+    said_beside (λ h steps. HasKept (execution_of h) steps (d.had before) (d.had now) (d.contents before) (d.contents now)) _ _ c.flush-flushed.new.self
+    c.new-flights.result c.store.view_is c.new-flights.ensures (λ h runs. c.flush-flushed.ensures.disk honest true (execution_of h) runs) h was
 
 pub returns-clause-flushed : goal.returns-clause-flushed
 returns-clause-flushed g c h still =
@@ -31,14 +31,25 @@ returns-clause-cached g c honest h still held =
     let run = followed_by (execution_of h) steps in
     let contents = g.D.Device.contents c.flush-flushed.new.device in
     ok_map (IsFlushed run) (HoldCached run contents) c.flush-flushed.result
-    (λ flushed. cached_so c.flushed_images_are_cached.ensures run contents flushed ((returns-clause-disk g c honest h still).images held))
+    (λ flushed. cached_so c.flushed_images_are_cached.ensures run contents flushed ((returns-clause-disk g c honest h still.represents).images held))
     (returns-clause-flushed g c h still)
 
 pub returns-clause-gave_up : goal.returns-clause-gave_up
-returns-clause-gave_up g c h still count =
+returns-clause-gave_up g c h was count =
     let d = g.D.Device in
     let before = c.args.device.now in
     let now = c.flush-flushed.new.device in
-    said_view (λ h steps. d.block_count before ≡ length h.opening → RisesIfGivenUp c.flush-flushed.result (d.fault_count before) (d.fault_count now)) _ _
+    said_beside (λ h steps. d.block_count before ≡ length h.opening → RisesIfGivenUp c.flush-flushed.result (d.fault_count before) (d.fault_count now)) _ _
     c.flush-flushed.new.self c.new-flights.result c.store.view_is c.new-flights.ensures
-    (λ h runs count. c.flush-flushed.ensures.gave_up (execution_of h) (record { runs = runs; blocks = count })) h still count
+    (λ h runs count. c.flush-flushed.ensures.gave_up true (execution_of h) (record { runs = runs; blocks = count })) h was count
+
+pub returns-clause-refused : goal.returns-clause-refused
+returns-clause-refused g c h was count =
+    let d = g.D.Device in
+    let before = c.args.device.now in
+    let now = c.flush-flushed.new.device in
+    said_beside (λ h steps. d.block_count before ≡ length h.opening → IfRefused d c.flush-flushed.result (followed_by (execution_of h) steps) before now) _ _
+    c.flush-flushed.new.self c.new-flights.result c.store.view_is c.new-flights.ensures
+    (λ h runs count.
+    refused_image d c.flush-flushed.result _ c.flush-flushed.new.self c.flush-flushed.new.flights before now (c.flush-flushed.ensures.ran true (execution_of h) runs).runs
+    (c.flush-flushed.ensures.refused true (execution_of h) (record { runs = runs; blocks = count }))) h was count

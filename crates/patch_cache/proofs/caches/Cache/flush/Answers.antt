@@ -1,10 +1,11 @@
-use Rattle.std.proofs.Common.{◌∙◌, length, sym, ap, subst, arith}
+use Rattle.std.proofs.Common.{Bool, false, ◌∙◌, length, sym, ap, subst, arith}
 use Rattle.patch_model.specs.Execution.{Execution, followed_by}
 use Rattle.patch_model.specs.State.{entries_of}
 use Rattle.patch_device.specs.SameDevice.{same_both}
-use Rattle.patch_cache.specs.Running.{Runs}
-use Rattle.patch_cache.specs.Waves.{steps_since, HasGoneOn, IsFlushed}
-use Rattle.patch_cache.proofs.Waving.{continues_both, since_both, went_both, keeps_both, sends_since}
+use Rattle.patch_cache.specs.Running.{Runs, RunsBeside}
+use Rattle.patch_cache.specs.Waves.{steps_since, HasGoneOnBeside, IsFlushed}
+use Rattle.patch_cache.specs.Refused.{refused_later}
+use Rattle.patch_cache.proofs.Waving.{continues_both, since_both, went_both, keeps_both, sends_since, given_so}
 use Rattle.patch_cache.proofs.Passing.{passed_none, passed_some, flushed_after, few_classes}
 use Rattle.patch_cache.proofs.caches.Cache.flush.Goals as goal
 
@@ -23,20 +24,20 @@ loop-init g c =
 
 -- a wave can't begin
 pub returns-in_err-send_all-clause-ran : goal.returns-in_err-send_all-clause-ran
-returns-in_err-send_all-clause-ran g c run runs =
+returns-in_err-send_all-clause-ran g c others run runs =
     let told = c.send_all.ensures in
-    let first = c.loop.invariant.ran run runs in
-    went_both run c.args.self.now c.loop.self c.send_all.new.self _ _ c.loop.invariant.trace told.trace first (told.ran _ first.runs)
+    let first = c.loop.invariant.ran others run runs in
+    went_both run c.args.self.now c.loop.self c.send_all.new.self _ _ c.loop.invariant.trace told.trace first (told.ran others _ first.runs)
 
 pub returns-in_err-send_all-clause-trace : goal.returns-in_err-send_all-clause-trace
 returns-in_err-send_all-clause-trace g c = continues_both c.args.self.now c.loop.self c.send_all.new.self c.loop.invariant.trace c.send_all.ensures.trace
 
 pub returns-in_err-send_all-clause-disk : goal.returns-in_err-send_all-clause-disk
-returns-in_err-send_all-clause-disk g c honest =
+returns-in_err-send_all-clause-disk g c honest others =
     let device = g.D.Device in
     let before = c.loop.invariant in
-    keeps_both c.trails_join.ensures c.args.self.now c.loop.self c.send_all.new.self c.args.flights.now c.loop.flights _ _ _ _ _ _ before.trace c.send_all.ensures.trace before.ran (before.disk honest)
-    (c.send_all.ensures.disk (device.had c.loop.device) (device.contents c.loop.device))
+    keeps_both c.trails_join.ensures c.args.self.now c.loop.self c.send_all.new.self c.args.flights.now c.loop.flights _ _ _ _ _ _ before.trace c.send_all.ensures.trace (before.ran others) (before.disk honest others)
+    (c.send_all.ensures.disk (device.had c.loop.device) (device.contents c.loop.device) others)
 
 -- there was none to begin
 pub returns-then-not-branch-clause-flushed : goal.returns-then-not-branch-clause-flushed
@@ -46,40 +47,47 @@ returns-then-not-branch-clause-flushed g c run runs =
     let now = c.send_all.new.self in
     let before = c.loop.invariant in
     let told = c.in_ok-send_all.ensures in
-    let first = before.ran run runs in
+    let first = before.ran false run runs in
     let parts = since_both old mid now before.trace told.trace in
     let pass = passed_none (followed_by run (steps_since old mid)) c.in_ok-send_all.field-0 (steps_since mid now) c.if-not-branch.true (told.pass _ first.runs) in
-    let both = went_both run old mid now _ _ before.trace told.trace first (told.ran _ first.runs) in
+    let both = went_both run old mid now _ _ before.trace told.trace first (told.ran false _ first.runs) in
     subst (λ s. IsFlushed (followed_by run s)) (sym parts)
     (flushed_after c.some_is_ready.ensures c.patches_are_placed.ensures.flying c.pairs_merge.ensures.sent run (steps_since old mid) (steps_since mid now) now _
     (subst (λ s. Runs now c.send_all.new.flights (followed_by run s)) parts both.runs) (told.kept c.if-not-branch.true ∙ before.landed) pass.0 pass.1)
 
+pub returns-then-not-branch-clause-disk : goal.returns-then-not-branch-clause-disk
+returns-then-not-branch-clause-disk g c honest others =
+    let device = g.D.Device in
+    let before = c.loop.invariant in
+    keeps_both c.trails_join.ensures c.args.self.now c.loop.self c.send_all.new.self c.args.flights.now c.loop.flights _ _ _ _ _ _ before.trace c.send_all.ensures.trace (before.ran others) (before.disk honest others)
+    (c.send_all.ensures.disk (device.had c.loop.device) (device.contents c.loop.device) others)
+
 -- a flight of the wave was given up
 pub returns-in_err-land-2-clause-ran : goal.returns-in_err-land-2-clause-ran
-returns-in_err-land-2-clause-ran g c run runs =
+returns-in_err-land-2-clause-ran g c others run runs =
     let old = c.args.self.now in
     let mid = c.loop.self in
     let sent = c.send_all.new.self in
     let before = c.loop.invariant in
     let told = c.in_ok-send_all.ensures in
-    let first = before.ran run runs in
-    let both = went_both run old mid sent _ _ before.trace told.trace first (told.ran _ first.runs) in
-    went_both run old sent c.land-in-loop.new.self _ _ (continues_both old mid sent before.trace told.trace) c.land-in-loop.ensures.trace both (c.land-in-loop.ensures.ran _ both.runs)
+    let first = before.ran others run runs in
+    let both = went_both run old mid sent _ _ before.trace told.trace first (told.ran others _ first.runs) in
+    went_both run old sent c.land-in-loop.new.self _ _ (continues_both old mid sent before.trace told.trace) c.land-in-loop.ensures.trace both (c.land-in-loop.ensures.ran others _ both.runs)
 
 pub returns-in_err-land-2-clause-disk : goal.returns-in_err-land-2-clause-disk
-returns-in_err-land-2-clause-disk g c honest =
+returns-in_err-land-2-clause-disk g c honest others =
     let device = g.D.Device in
     let old = c.args.self.now in
     let mid = c.loop.self in
     let sent = c.send_all.new.self in
     let before = c.loop.invariant in
     let told = c.in_ok-send_all.ensures in
-    let ran : (run : Execution) → Runs old c.args.flights.now run → HasGoneOn run (steps_since old sent) sent c.send_all.new.flights =
-    λ run runs. let first = before.ran run runs in went_both run old mid sent c.loop.flights c.send_all.new.flights before.trace told.trace first (told.ran _ first.runs) in
+    let ran : (run : Execution) → RunsBeside others old c.args.flights.now run → HasGoneOnBeside others run (steps_since old sent) sent c.send_all.new.flights =
+    λ run runs. let first = before.ran others run runs in went_both run old mid sent c.loop.flights c.send_all.new.flights before.trace told.trace first (told.ran others _ first.runs) in
     keeps_both c.trails_join.ensures old sent c.land-in-loop.new.self c.args.flights.now c.send_all.new.flights _ _ _ _ _ _ (continues_both old mid sent before.trace told.trace) c.land-in-loop.ensures.trace ran
-    (keeps_both c.trails_join.ensures old mid sent c.args.flights.now c.loop.flights _ _ _ _ _ _ before.trace told.trace before.ran (before.disk honest)
-    (told.disk (device.had c.loop.device) (device.contents c.loop.device)))
-    (c.land-in-loop.ensures.disk (before.same.honesty.0 honest))
+    (keeps_both c.trails_join.ensures old mid sent c.args.flights.now c.loop.flights _ _ _ _ _ _ before.trace told.trace (before.ran others) (before.disk honest others)
+    (told.disk (device.had c.loop.device) (device.contents c.loop.device) others))
+    (c.land-in-loop.ensures.disk (before.same.honesty.0 honest) others)
 
 pub loop-preserved : goal.loop-preserved
 loop-preserved g c =
@@ -92,22 +100,22 @@ loop-preserved g c =
     let wave = c.in_ok-send_all.ensures in
     let told = c.land-in-loop.ensures in
     let trace = continues_both old mid sent before.trace wave.trace in
-    let ran : (run : Execution) → Runs old c.args.flights.now run → HasGoneOn run (steps_since old sent) sent c.send_all.new.flights =
-    λ run runs. let first = before.ran run runs in went_both run old mid sent c.loop.flights c.send_all.new.flights before.trace wave.trace first (wave.ran _ first.runs) in
+    let ran : (others : Bool) (run : Execution) → RunsBeside others old c.args.flights.now run → HasGoneOnBeside others run (steps_since old sent) sent c.send_all.new.flights =
+    λ others run runs. let first = before.ran others run runs in went_both run old mid sent c.loop.flights c.send_all.new.flights before.trace wave.trace first (wave.ran others _ first.runs) in
     record {
-      ran = λ run runs. let both = ran run runs in went_both run old sent now _ _ trace told.trace both (told.ran _ both.runs);
+      ran = λ others run runs. let both = ran others run runs in went_both run old sent now _ _ trace told.trace both (told.ran others _ both.runs);
       waves = λ run runs.
-          let first = before.ran run runs in
+          let first = before.ran false run runs in
           let some = passed_some (followed_by run (steps_since old mid)) c.in_ok-send_all.field-0 (steps_since mid sent) c.if-not-branch.false (wave.pass _ first.runs) in
           let so_far = before.waves run runs in
           let inner = sends_since old mid sent before.trace wave.trace in
           let outer = sends_since old sent now trace told.trace in omega (arith, some, so_far, inner, outer);
       trace = continues_both old sent now trace told.trace;
-      disk = λ honest.
-          keeps_both c.trails_join.ensures old sent now c.args.flights.now c.send_all.new.flights _ _ _ _ _ _ trace told.trace ran
-          (keeps_both c.trails_join.ensures old mid sent c.args.flights.now c.loop.flights _ _ _ _ _ _ before.trace wave.trace before.ran (before.disk honest)
-          (wave.disk (device.had c.loop.device) (device.contents c.loop.device)))
-          (told.disk (before.same.honesty.0 honest));
+      disk = λ honest others.
+          keeps_both c.trails_join.ensures old sent now c.args.flights.now c.send_all.new.flights _ _ _ _ _ _ trace told.trace (ran others)
+          (keeps_both c.trails_join.ensures old mid sent c.args.flights.now c.loop.flights _ _ _ _ _ _ before.trace wave.trace (before.ran others) (before.disk honest others)
+          (wave.disk (device.had c.loop.device) (device.contents c.loop.device) others))
+          (told.disk (before.same.honesty.0 honest) others);
       tries = λ honest.
           let so_far = before.tries honest in
           let wave_tried = told.tries (before.same.honesty.0 honest) in
@@ -120,10 +128,19 @@ loop-preserved g c =
       same = same_both g.D.Device c.args.device.now c.loop.device c.land-in-loop.new.device before.same told.device;
     }
 
+pub returns-in_err-land-2-clause-refused : goal.returns-in_err-land-2-clause-refused
+returns-in_err-land-2-clause-refused g c others run on =
+    let before = c.loop.invariant in
+    let first = before.ran others run on.runs in
+    let sent = c.send_all.ensures.ran others _ first.runs in
+    let told = c.in_err-land-2.ensures.gave_up others _ (record { runs = sent.runs; blocks = before.same.count ∙ on.blocks }) in
+    given_so g.D.Device _ c.in_err-land-2.field-0.0.0 _ _ _ c.from_residual-in_err-land-2.ensures.1
+    (refused_later g.D.Device _ _ c.args.device.now c.loop.device c.land-in-loop.new.device before.same told)
+
 -- there are no more waves than classes in memory at first
 pub returns-clause-flushed : goal.returns-clause-flushed
 returns-clause-flushed g c run runs =
-    let first = c.loop.invariant.ran run runs in
+    let first = c.loop.invariant.ran false run runs in
     let live = c.live.ensures.answer run runs.cache_is in
     let some = few_classes (entries_of run) in
     let sends = first.sends in

@@ -1,7 +1,9 @@
-use Rattle.std.proofs.Common.{[], inl, refl, sym, ◌∙◌, arith}
+use Rattle.std.proofs.Common.{[], false, inl, refl, sym, ◌∙◌, arith}
 use Rattle.std.proofs.lemmas.List.{nil_from_length}
 use Rattle.patch_device.specs.SameDevice.{same_still, same_both}
-use Rattle.patch_cache.proofs.Waving.{none_added, since_is, no_sends, continues, continues_both, gone_still, kept_unmoved, went_by, went_both, keeps_by, keeps_both, sends_since, one_ended, one_at_last, is_same, some_held, tries_landed, tries_refused}
+use Rattle.patch_cache.specs.declared.refusals.DeviceGaveUp.{DeviceGaveUp}
+use Rattle.patch_cache.specs.Refused.{HasRefusedFirst, refused_later}
+use Rattle.patch_cache.proofs.Waving.{none_added, since_is, no_sends, continues, continues_both, gone_still, kept_unmoved, went_by, went_both, keeps_by, keeps_both, sends_since, one_ended, one_at_last, is_same, some_held, tries_landed, tries_refused, told_so}
 use Rattle.patch_cache.proofs.caches.Cache.land.Goals as goal
 
 pub loop-self-init : goal.loop-self-init
@@ -9,12 +11,12 @@ loop-self-init g c =
     let old = c.args.self.now in
     let none = none_added old old refl in
     record {
-      ran = λ run runs. went_by run old old [] c.args.flights.now none (gone_still run old c.args.flights.now runs);
+      ran = λ others run runs. went_by run old old [] c.args.flights.now none (gone_still run old c.args.flights.now runs);
       trace = continues old old [] none;
       ends = no_sends old old [] none refl;
       one = λ run runs flight one. inl (one, since_is old old [] none);
       tries = λ honest. omega arith;
-      disk = λ honest run runs. keeps_by run old old [] _ _ _ _ none (kept_unmoved run _ _);
+      disk = λ honest others run runs. keeps_by run old old [] _ _ _ _ none (kept_unmoved run _ _);
       same = same_still g.D.Device c.args.device.now;
     }
 
@@ -26,22 +28,22 @@ loop-self-preserved g c =
     let before = c.loop-self.invariant in
     let told = c.land_first.ensures in
     record {
-      ran = λ run runs. let first = before.ran run runs in went_both run old mid next _ _ before.trace told.trace first (told.ran _ first.runs);
+      ran = λ others run runs. let first = before.ran others run runs in went_both run old mid next _ _ before.trace told.trace first (told.ran others _ first.runs);
       trace = continues_both old mid next before.trace told.trace;
       ends = let both = sends_since old mid next before.trace told.trace in let a = before.ends in let b = told.ends in omega (arith, both, a, b);
       one = λ run runs.
-          let first = before.ran run runs in
+          let first = before.ran false run runs in
           one_ended c.args.flights.now c.loop-self.flights c.land_first.new.flights old mid next before.trace c.in_ok-land_first.ensures.landed (before.one run runs) (c.in_ok-land_first.ensures.first _ first.runs);
       tries = λ honest. tries_landed _ _ _ _ _ (before.tries honest) (told.tries (before.same.honesty.0 honest)) c.in_ok-land_first.ensures.landed;
-      disk = λ honest. keeps_both c.trails_join.ensures old mid next c.args.flights.now c.loop-self.flights _ _ _ _ _ _ before.trace told.trace before.ran (before.disk honest) (told.disk (before.same.honesty.0 honest));
+      disk = λ honest others. keeps_both c.trails_join.ensures old mid next c.args.flights.now c.loop-self.flights _ _ _ _ _ _ before.trace told.trace (before.ran others) (before.disk honest others) (told.disk (before.same.honesty.0 honest) others);
       same = same_both g.D.Device c.args.device.now c.loop-self.device c.land_first.new.device before.same told.device;
     }
 
 pub returns-in_err-land_first-clause-ran : goal.returns-in_err-land_first-clause-ran
-returns-in_err-land_first-clause-ran g c run runs =
+returns-in_err-land_first-clause-ran g c others run runs =
     let before = c.loop-self.invariant in
     let told = c.land_first.ensures in
-    let first = before.ran run runs in went_both run c.args.self.now c.loop-self.self c.land_first.new.self _ _ before.trace told.trace first (told.ran _ first.runs)
+    let first = before.ran others run runs in went_both run c.args.self.now c.loop-self.self c.land_first.new.self _ _ before.trace told.trace first (told.ran others _ first.runs)
 
 pub returns-in_err-land_first-clause-trace : goal.returns-in_err-land_first-clause-trace
 returns-in_err-land_first-clause-trace g c = continues_both c.args.self.now c.loop-self.self c.land_first.new.self c.loop-self.invariant.trace c.land_first.ensures.trace
@@ -55,11 +57,11 @@ returns-in_err-land_first-clause-ends g c =
     let b = told.ends in omega (arith, both, a, b)
 
 pub returns-in_err-land_first-clause-disk : goal.returns-in_err-land_first-clause-disk
-returns-in_err-land_first-clause-disk g c honest =
+returns-in_err-land_first-clause-disk g c honest others =
     let before = c.loop-self.invariant in
     let told = c.land_first.ensures in
-    keeps_both c.trails_join.ensures c.args.self.now c.loop-self.self c.land_first.new.self c.args.flights.now c.loop-self.flights _ _ _ _ _ _ before.trace told.trace before.ran (before.disk honest)
-    (told.disk (before.same.honesty.0 honest))
+    keeps_both c.trails_join.ensures c.args.self.now c.loop-self.self c.land_first.new.self c.args.flights.now c.loop-self.flights _ _ _ _ _ _ before.trace told.trace (before.ran others) (before.disk honest others)
+    (told.disk (before.same.honesty.0 honest) others)
 
 pub returns-in_err-land_first-clause-tries : goal.returns-in_err-land_first-clause-tries
 returns-in_err-land_first-clause-tries g c honest =
@@ -67,6 +69,13 @@ returns-in_err-land_first-clause-tries g c honest =
     let some = some_held _ (sym c.is_empty.ensures ∙ c.loop-self-test.true) in
     let long = c.loop-self.flights.held.ok.0 in
     tries_refused _ _ _ _ (before.tries honest) (c.land_first.ensures.tries (before.same.honesty.0 honest)) (omega (arith, some, long))
+
+pub returns-in_err-land_first-clause-gave_up : goal.returns-in_err-land_first-clause-gave_up
+returns-in_err-land_first-clause-gave_up g c others run on =
+    let before = c.loop-self.invariant in
+    let stands = before.ran others run on.runs in
+    told_so _ c.in_err-land_first.field-0.0 (λ (refusal : DeviceGaveUp). HasRefusedFirst g.D.Device refusal.0 c.land_first.new.flights c.args.device.now c.land_first.new.device) c.from_residual.ensures.1
+    (refused_later g.D.Device _ _ c.args.device.now c.loop-self.device c.land_first.new.device before.same (c.in_err-land_first.ensures.gave_up others _ (record { runs = stands.runs; blocks = before.same.count ∙ on.blocks })))
 
 -- all are completed
 pub returns-clause-tries : goal.returns-clause-tries

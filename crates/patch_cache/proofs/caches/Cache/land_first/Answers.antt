@@ -2,8 +2,9 @@ use Rattle.std.proofs.Common.{◌≡◌, ◌<◌, ◌∷◌, ◌++◌, [], slice
 use Rattle.patch_model.specs.History.{history_of, image}
 use Rattle.patch_model.specs.Execution.{extended}
 use Rattle.patch_model.specs.Step as the
+use Rattle.patch_device.specs.SameDevice.{same_still}
 use Rattle.patch_cache.specs.Meaning.{Represents}
-use Rattle.patch_cache.specs.Flights.{AreFlightsOf}
+use Rattle.patch_cache.specs.Flights.{AreFlightsBeside}
 use Rattle.patch_cache.proofs.Answering.{on_err, on_ok}
 use Rattle.patch_cache.proofs.Holding.{held_complete}
 use Rattle.patch_cache.proofs.Waving.{none_added, no_sends, continues, went_by, keeps_by, first_stands, first_same, first_held, its_flight, gone_still, gone_complete, kept_still, completed, fewer_landed, images_either, images_landed}
@@ -11,7 +12,7 @@ use Rattle.patch_cache.proofs.caches.Cache.land_first.Goals as goal
 
 -- the device refused the write
 pub returns-then-is_err-clause-ran : goal.returns-then-is_err-clause-ran
-returns-then-is_err-clause-ran g c run runs =
+returns-then-is_err-clause-ran g c others run runs =
     let old = c.args.self.now in went_by run old old [] c.args.flights.now (none_added old old refl) (gone_still run old c.args.flights.now runs)
 
 pub returns-then-is_err-clause-trace : goal.returns-then-is_err-clause-trace
@@ -21,16 +22,31 @@ pub returns-then-is_err-clause-ends : goal.returns-then-is_err-clause-ends
 returns-then-is_err-clause-ends g c = let old = c.args.self.now in no_sends old old [] (none_added old old refl) refl
 
 pub returns-then-is_err-clause-disk : goal.returns-then-is_err-clause-disk
-returns-then-is_err-clause-disk g c honest run runs =
+returns-then-is_err-clause-disk g c honest others run runs =
     let s = first_stands c.flights_are_single.ensures.holds c.patches_are_placed.ensures.known run c.args.flights.now.held.items c.index.result.now runs.cache_is.legal runs.flights_are c.requires.some c.index.ensures in
     let old = c.args.self.now in
     keeps_by run old old [] _ _ _ _ (none_added old old refl)
     (kept_still run _ _ _ _ (λ left. c.write_tried.ensures.crash honest run s.known s.is.image_is left) (λ held. images_either run _ _ _ _ s.flies (c.write_tried.ensures.either honest) held))
 
 pub returns-then-is_err-clause-cause : goal.returns-then-is_err-clause-cause
-returns-then-is_err-clause-cause g c run on =
+returns-then-is_err-clause-cause g c others run on =
     let s = first_stands c.flights_are_single.ensures.holds c.patches_are_placed.ensures.known run c.args.flights.now.held.items c.index.result.now on.runs.cache_is.legal on.runs.flights_are c.requires.some c.index.ensures in
     on_err c.write_tried.result _ (sym c.is_err.ensures.value ∙ c.if-is_err.true) (c.write_tried.ensures.cause (subst (λ n. c.index.result.now.block < n) (sym on.blocks) s.known))
+
+pub returns-then-is_err-clause-gave_up : goal.returns-then-is_err-clause-gave_up
+returns-then-is_err-clause-gave_up g c others run on =
+    let held = c.args.flights.now.held.items in
+    let s = first_stands c.flights_are_single.ensures.holds c.patches_are_placed.ensures.known run held c.index.result.now on.runs.cache_is.legal on.runs.flights_are c.requires.some c.index.ensures in
+    record {
+      flight = c.index.result.now;
+      first = s.stands;
+      of = ap (λ f. f.block) (first_same held c.index.result.now c.index-then-is_err.result.now c.requires.some c.index.ensures c.index-then-is_err.ensures);
+      refused = record {
+        mid = c.args.device.now;
+        same = same_still g.D.Device c.args.device.now;
+        tries = on_err c.write_tried.result _ (sym c.is_err.ensures.value ∙ c.if-is_err.true) (c.write_tried.ensures.refused (subst (λ n. c.index.result.now.block < n) (sym on.blocks) s.known));
+      };
+    }
 
 -- the write is completed
 pub returns-in-Ok-clause-trace : goal.returns-in-Ok-clause-trace
@@ -40,7 +56,7 @@ pub returns-in-Ok-clause-ends : goal.returns-in-Ok-clause-ends
 returns-in-Ok-clause-ends g c = no_sends c.args.self.now c.complete.new.self (the.Complete c.landed-landed.result.block ∷ []) c.in-Ok.ensures.trace refl
 
 pub returns-in-Ok-clause-ran : goal.returns-in-Ok-clause-ran
-returns-in-Ok-clause-ran g c run runs =
+returns-in-Ok-clause-ran g c others run runs =
     let flight = c.swap_remove.result in
     let held = c.args.flights.now.held.items in
     let block = flight.block in
@@ -51,12 +67,12 @@ returns-in-Ok-clause-ran g c run runs =
     (gone_complete run block _ _ (fewer_landed c.steps_extend.ensures.state run block)
     (record {
       cache_is = subst (λ b. Represents c.complete.new.self (extended run (the.Complete b))) c.landed-landed.ensures.block stands;
-      flights_are = subst (AreFlightsOf (extended run (the.Complete block))) (sym c.swap_remove.ensures.items)
+      flights_are = subst (AreFlightsBeside others (extended run (the.Complete block))) (sym c.swap_remove.ensures.items)
           (held_complete c.steps_extend.ensures.state c.images_stay.ensures c.flights_are_ready.ensures.landed_elsewhere run block held 0 flight flight s.stands refl runs.flights_are);
     }))
 
 pub returns-in-Ok-clause-disk : goal.returns-in-Ok-clause-disk
-returns-in-Ok-clause-disk g c honest run runs =
+returns-in-Ok-clause-disk g c honest others run runs =
     let device = g.D.Device in
     let flight = c.swap_remove.result in
     let held = c.args.flights.now.held.items in
@@ -89,13 +105,13 @@ returns-clause-first g c run runs flight stands =
     absurd (c.in-Err.ensures.stranger run runs.cache_is (its_flight run held c.landed-landed.result c.landed-landed.ensures.block c.landed-landed.ensures.sequence s.is.known))
 
 pub returns-clause-ran : goal.returns-clause-ran
-returns-clause-ran g c run runs =
+returns-clause-ran g c others run runs =
     let flight = c.swap_remove.result in
     let s = first_stands c.flights_are_single.ensures.holds c.patches_are_placed.ensures.known run c.args.flights.now.held.items flight runs.cache_is.legal runs.flights_are c.requires.some c.swap_remove.ensures.value in
     absurd (c.in-Err.ensures.stranger run runs.cache_is (its_flight run flight c.landed-landed.result c.landed-landed.ensures.block c.landed-landed.ensures.sequence s.is.known))
 
 pub returns-clause-disk : goal.returns-clause-disk
-returns-clause-disk g c honest run runs =
+returns-clause-disk g c honest others run runs =
     let flight = c.swap_remove.result in
     let s = first_stands c.flights_are_single.ensures.holds c.patches_are_placed.ensures.known run c.args.flights.now.held.items flight runs.cache_is.legal runs.flights_are c.requires.some c.swap_remove.ensures.value in
     absurd (c.in-Err.ensures.stranger run runs.cache_is (its_flight run flight c.landed-landed.result c.landed-landed.ensures.block c.landed-landed.ensures.sequence s.is.known))

@@ -15,7 +15,7 @@ loop-at-init g c =
     let old = c.args.self.now in
     let none = none_added old old refl in
     record {
-      so_far = λ run runs. subst (λ s. Passed run 0 false s old c.args.flights.now) (sym (since_is old old [] none)) (pass_begun run old c.args.flights.now runs);
+      so_far = λ others run runs. subst (λ s. Passed others run 0 false s old c.args.flights.now) (sym (since_is old old [] none)) (pass_begun run old c.args.flights.now runs);
       trace = continues old old [] none;
       count = let nothing = no_sends old old [] none refl in omega (arith, nothing);
       kept = λ e. refl;
@@ -36,12 +36,12 @@ loop-at-preserved g c =
     let largest : LargestLaw = λ run block. c.ready_is_largest.ensures.largest (entries_of run) block (c.ready_is_largest.ensures.made run) in
     let skipped = subst (λ (v : Contents). (b : ℕ) → c.loop-at.from ≤ b → b < c.in-Some.at → holds v.waiting b ≡ false) c.self.view_is c.in-Some.ensures.3 in
     record {
-      so_far = λ run runs.
-          let first = pass_skipped largest c.pairs_merge.ensures.sent run c.loop-at.from c.in-Some.at c.loop-at.sent (steps_since old mid) mid c.loop-at.flights skipped (before.so_far run runs) in
-          subst (λ b. Passed run (c.in-Some.at + 1) b (steps_since old next) next c.send_if_ready.new.flights) (sym is)
-          (subst (λ s. Passed run (c.in-Some.at + 1) (c.loop-at.sent || c.in_ok-more.more) s next c.send_if_ready.new.flights) (sym (since_more old mid next more before.trace told.trace))
+      so_far = λ others run runs.
+          let first = pass_skipped largest c.pairs_merge.ensures.sent run c.loop-at.from c.in-Some.at c.loop-at.sent (steps_since old mid) mid c.loop-at.flights skipped (before.so_far others run runs) in
+          subst (λ b. Passed others run (c.in-Some.at + 1) b (steps_since old next) next c.send_if_ready.new.flights) (sym is)
+          (subst (λ s. Passed others run (c.in-Some.at + 1) (c.loop-at.sent || c.in_ok-more.more) s next c.send_if_ready.new.flights) (sym (since_more old mid next more before.trace told.trace))
           (pass_more c.trails_join.ensures c.steps_extend.ensures.state c.images_stay.ensures c.disks_stay.ensures c.executions_are_orderly.ensures.patches largest
-          c.pairs_merge.ensures.sent run c.in-Some.at c.loop-at.sent c.in_ok-more.more (steps_since old mid) mid next c.loop-at.flights c.send_if_ready.new.flights first (told.sent _ first.gone.runs)));
+          c.pairs_merge.ensures.sent run c.in-Some.at c.loop-at.sent c.in_ok-more.more (steps_since old mid) mid next c.loop-at.flights c.send_if_ready.new.flights first (told.sent others _ first.gone.runs)));
       trace = continues_both old mid next before.trace (continues mid next more told.trace);
       count =
           let so_far = before.count in
@@ -54,29 +54,30 @@ loop-at-preserved g c =
 
 -- a write was given up
 pub returns-in_err-more-clause-ran : goal.returns-in_err-more-clause-ran
-returns-in_err-more-clause-ran g c run runs =
-    let first = c.loop-at.invariant.so_far run runs in
+returns-in_err-more-clause-ran g c others run runs =
+    let first = c.loop-at.invariant.so_far others run runs in
     gone_same run c.args.self.now c.loop-at.self c.send_if_ready.new.self c.loop-at.flights c.send_if_ready.new.flights c.in_err-more.ensures.refused c.in_err-more.ensures.held first.gone
 
 pub returns-in_err-more-clause-trace : goal.returns-in_err-more-clause-trace
 returns-in_err-more-clause-trace g c = subst (λ (x : Contents). Continues c.args.self.now x) (sym c.in_err-more.ensures.refused) c.loop-at.invariant.trace
 
 pub returns-in_err-more-clause-disk : goal.returns-in_err-more-clause-disk
-returns-in_err-more-clause-disk g c had contents run runs =
-    let first = c.loop-at.invariant.so_far run runs in
+returns-in_err-more-clause-disk g c had contents others run runs =
+    let first = c.loop-at.invariant.so_far others run runs in
     subst (λ (x : Contents). HasKept run (steps_since c.args.self.now x) had had contents contents) (sym c.in_err-more.ensures.refused) (first.kept had contents)
 
 pub returns-clause-ran : goal.returns-clause-ran
-returns-clause-ran g c run runs = (c.loop-at.invariant.so_far run runs).gone
+returns-clause-ran g c others run runs = (c.loop-at.invariant.so_far others run runs).gone
 
 pub returns-clause-disk : goal.returns-clause-disk
-returns-clause-disk g c had contents run runs = (c.loop-at.invariant.so_far run runs).kept had contents
+returns-clause-disk g c had contents others run runs = (c.loop-at.invariant.so_far others run runs).kept had contents
 
 pub returns-clause-pass : goal.returns-clause-pass
 returns-clause-pass g c run runs =
+    let others = false in
     let old = c.args.self.now in
     let mid = c.loop-at.self in
     let largest : LargestLaw = λ run block. c.ready_is_largest.ensures.largest (entries_of run) block (c.ready_is_largest.ensures.made run) in
     let skipped = subst (λ (v : Contents). (b : ℕ) → c.loop-at.from ≤ b → b < 4096 → holds v.waiting b ≡ false) c.self.view_is c.in_default.ensures in
-    let first = pass_skipped largest c.pairs_merge.ensures.sent run c.loop-at.from 4096 c.loop-at.sent (steps_since old mid) mid c.loop-at.flights skipped (c.loop-at.invariant.so_far run runs) in
+    let first = pass_skipped largest c.pairs_merge.ensures.sent run c.loop-at.from 4096 c.loop-at.sent (steps_since old mid) mid c.loop-at.flights skipped (c.loop-at.invariant.so_far others run runs) in
     pass_ended c.pairs_merge.ensures.sent run 4096 c.loop-at.sent (steps_since old mid) (let few = runs.cache_is.legal.few in omega (arith, few)) first.pass

@@ -1,7 +1,7 @@
-use Rattle.std.proofs.Common.{◌≡◌, ◌+◌, ◌-◌, false, length}
+use Rattle.std.proofs.Common.{Bool, ◌≡◌, ◌+◌, ◌-◌, false, length}
 use Rattle.std.specs.Prelude.{count_by}
 use Rattle.patch_model.specs.Execution.{Execution}
-use Rattle.patch_cache.specs.Running.{Runs, held_by}
+use Rattle.patch_cache.specs.Running.{RunsBeside, held_by}
 use Rattle.patch_cache.specs.Waves.{is_send, steps_since, Continues}
 use Rattle.patch_cache.proofs.Passing.{Passed}
 use Rattle.patch_cache.proofs.caches.Cache.send_all.Given as goal
@@ -12,7 +12,7 @@ decreases-loop-at g l = 4096 - l.from
 -- the blocks so far
 abbrev pub invariant-loop-at : goal.invariant-loop-at
 invariant-loop-at g l = record {
-  so_far : (run : Execution) → Runs l.fn.self l.fn.flights run → Passed run l.from l.sent (steps_since l.fn.self l.self) l.self l.flights;
+  so_far : (others : Bool) (run : Execution) → RunsBeside others l.fn.self l.fn.flights run → Passed others run l.from l.sent (steps_since l.fn.self l.self) l.self l.flights;
   trace : Continues l.fn.self l.self;
   count : length (held_by l.flights) ≡ length (held_by l.fn.flights) + count_by is_send (steps_since l.fn.self l.self);
   kept : l.sent ≡ false → held_by l.flights ≡ held_by l.fn.flights;

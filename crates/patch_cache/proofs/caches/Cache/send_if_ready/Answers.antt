@@ -3,12 +3,12 @@ use Rattle.patch_model.specs.Execution.{extended}
 use Rattle.patch_model.specs.Step as the
 use Rattle.patch_cache.specs.Contents.{Contents}
 use Rattle.patch_cache.specs.Meaning.{Represents}
-use Rattle.patch_cache.specs.Flights.{AreFlightsOf}
+use Rattle.patch_cache.specs.Flights.{AreFlightsBeside}
 use Rattle.patch_cache.proofs.Holding.{held_send}
 use Rattle.patch_cache.proofs.caches.Cache.send_if_ready.Goals as goal
 
 pub returns-in-Ok-clause-sent : goal.returns-in-Ok-clause-sent
-returns-in-Ok-clause-sent g c = λ run runs.
+returns-in-Ok-clause-sent g c = λ others run runs.
     let block = c.args.block in
     let flight = c.in-Ok.flight in
     let before : Represents c.why_not_sent.new.self run = subst (λ (x : Contents). Represents x run) (sym c.why_not_sent.ensures.same) runs.cache_is in
@@ -18,7 +18,7 @@ returns-in-Ok-clause-sent g c = λ run runs.
       done.0,
       record {
         cache_is = done.1.1;
-        flights_are = subst (AreFlightsOf (extended run (the.Send block))) (sym held)
+        flights_are = subst (AreFlightsBeside others (extended run (the.Send block))) (sym held)
             (held_send c.steps_extend.ensures.state c.images_stay.ensures c.flights_are_ready.ensures.sent c.flights_are_ready.ensures.sent_elsewhere run block c.args.flights.now.held.items flight
             runs.cache_is.legal startable.1.0 done.1.0 runs.flights_are);
       },

@@ -1,4 +1,4 @@
-use Rattle.std.proofs.Common.{◌≡◌, ◌<◌, ℕ, length, ap, sym, refl, arith}
+use Rattle.std.proofs.Common.{◌≡◌, ◌<◌, length, ap, sym, refl, arith}
 use Rattle.std.proofs.lemmas.List.{set-get_or}
 use Rattle.patch_cache.specs.Contents.{Contents, no_block}
 use Rattle.patch_cache.proofs.caches.Cache.view.Goals as goal

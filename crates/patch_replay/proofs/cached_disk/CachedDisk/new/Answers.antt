@@ -12,7 +12,7 @@ at_first blocks = record { first = blocks; steps = [] }
 
 -- so no write of it is under way
 none_held : {A : Type 0} → (blocks : List (List ℕ)) → AreFlightsOf {A = A} (at_first blocks) []
-none_held blocks = record { each = λ flight i. absurd i; all = λ block flies. absurd (let no : false ≡ true = flies in cc); once = λ i j f g a b same. absurd (cc) }
+none_held blocks = record { each = λ flight i. absurd i; all = λ alone block flies. absurd (let no : false ≡ true = flies in cc); once = λ i j f g a b same. absurd (cc) }
 
 pub returns : goal.returns
 returns c =
