@@ -5,6 +5,7 @@ use super::*;
 use patch_cache::{Flight, Landed, write_out};
 use patch_device::MemDevice;
 use patch_model::BlockNo;
+use patch_store::flush;
 
 // A block, and what a write of it brings there.
 type Image = (BlockNo, BlockBytes);
@@ -203,4 +204,31 @@ fn write_behind_upgrade(rt: &impl Abort, alloc: Global, store: &mut Store) -> Re
 fn the_slot_of_a_longer_frame_waits_for_the_upgrade(rt: HostRuntime) -> Result<(), Fail> {
     let mut store = behind(&rt, rt.alloc(), SMALL, &LONGER)?;
     write_behind_upgrade(&rt, rt.alloc(), &mut store)
+}
+
+// Flushes while a write is under way, ends it, and flushes again.
+fn flush_beside_a_flight(store: &mut Store, device: &mut MemDevice) -> Result<(), Fail> {
+    let Some(flight) = send(store)? else {
+        return Err(Fail::from("no write could begin"));
+    };
+    let first = flush(store, device);
+    let ended = end(store, device, flight);
+    first?;
+    ended?;
+    flush(store, device)?;
+    Ok(())
+}
+
+// What doesn't wait for the first of the frame's blocks is written at once, and the rest behind it.
+#[test]
+fn a_flush_leaves_a_flight_to_its_holder(rt: HostRuntime) -> Result<(), Fail> {
+    let mut device = MemDevice::new(rt.alloc(), 35)?;
+    let mut store = behind(&rt, rt.alloc(), SMALL, &PUT)?;
+    flush_beside_a_flight(&mut store, &mut device)?;
+    expect_eq(&rt, &store.cache().live(), &0);
+    expect_eq(&rt, &device.writes().len(), &6);
+    for (write, block) in device.writes().iter().zip([4, 5, 6, 3, 2, 1]) {
+        expect_eq(&rt, &write.0, &block);
+    }
+    Ok(())
 }
