@@ -3,6 +3,7 @@ ghost use Rattle.std.specs.Prelude.{◌≡◌, ◌+◌, ◌<◌, ◌≤◌, ◌+
 ghost use Rattle.std.specs.List.{list_any};
 ghost use Rattle.patch_model.specs.Execution.{Execution};
 ghost use Rattle.patch_model.specs.Step.{Create};
+ghost use Rattle.patch_graph.specs.Adding.{MayBePutIn, PutsIn};
 ghost use Rattle.patch_cache.specs.Creating.{why_not_created, MayBeMade, IsMade, MayLay, IsLaid};
 ghost use Rattle.patch_cache.specs.Meaning.{Represents};
 ghost use Rattle.patch_cache.specs.Refusals.{create_cause, IsCause};
@@ -154,8 +155,8 @@ impl<A: Allocator + Copy> Cache<A> {
     }
 }
 
-/// Lays a patch on its block, and adds it to the graph. Its undo bytes are kept at first, since only the graph says whether
-/// it is hard; where the graph lacks memory, it is taken off again.
+/// Lays a patch on its block, and adds it to the graph. The graph says first whether it is hard. Where the block has all the
+/// memory that it needs, the graph takes the patch in, and then it is laid.
 fn lay_on<A: Allocator + Copy>(
     state: &mut BlockState<A>,
     graph: &mut Graph<A>,
@@ -176,23 +177,18 @@ fn lay_on<A: Allocator + Copy>(
     model_laws::steps_change_blocks();
     model_laws::executions_are_orderly();
     view_laws::blocks_are_coherent();
-    // That the block is whole, on which taking the patch off rests.
-    let _whole = state.cached();
-    let no = PatchNo(graph.made());
-    state.lay(no, start, bytes, after)?;
     let stop = start + bytes.len();
-    match graph.add(block, start, stop, after, undo) {
-        Ok(added) => {
-            if added.hard {
-                state.harden();
-            }
-            Ok(added.no)
-        }
-        Err(refusal) => {
-            state.unlay();
-            Err(refusal)
-        }
-    }
+    let newcomer = graph.draw_up(block, start, stop, after, undo)?;
+    let no = newcomer.no();
+    let hard = newcomer.is_hard();
+    let enter = move |graph: &mut Graph<A>| -> Result<(), OutOfMemory>
+        requires numbers { graph.old.made < MAX_PATCHES }
+        requires next { MayBePutIn graph.old newcomer }
+        ensures answer { OnOk result (PutsIn graph.old graph.new newcomer) }
+        ensures refused { OnErr result (graph.new ≡ graph.old) }
+    { graph.put_in(newcomer) };
+    state.lay_if(no, start, bytes, after, hard, graph, enter)?;
+    Ok(no)
 }
 
 /// Whether one of the numbers isn't that of a patch, where so many were made.

@@ -12,7 +12,7 @@ use Rattle.patch_skyline.specs.declared.skylines.Span.{Span}
 use Rattle.patch_graph.specs.Skyline.{Skylines, spans_of, IsLaidOn}
 use Rattle.patch_skyline.specs.Skyline.{AreTops, IsTopWithin}
 use Rattle.patch_graph.proofs.ReadySet.{In-left, In-right, In-parts}
-use Rattle.patch_graph.specs.Adding.{AreDependencies, is_hard, new_class, IsAdded, IsDrawnUp, HasAdded}
+use Rattle.patch_graph.specs.Adding.{AreDependencies, is_hard, new_class, IsAdded, IsDrawnUp, MayBePutIn}
 
 -- of numbers that pass, none is left out
 pub all-stay : {X : Type 0} (p : X → Bool) (xs : List X) → list_all p xs ≡ true → filter p xs ≡ xs
@@ -47,12 +47,13 @@ pub drawn-up : (g : Graph) (block start stop : ℕ) (after deps : List ℕ) (und
     → hard ≡ is_hard g.slots g.numbers block undo deps → c ≡ new_class g.made block start stop deps hard → IsDrawnUp g block start stop undo after c
 drawn-up g block start stop after deps undo hard c are hard_is is = record { deps = deps; are = are; is = is ∙ ap (new_class g.made block start stop deps) hard_is }
 
-pub has-added : (old new : Graph) (block start stop : ℕ) (after : List ℕ) (undo : Undo) (hard : Bool) (key : ℕ) (c : Class)
-    → IsDrawnUp old block start stop undo after c → hard ≡ c.hard → IsAdded old new key c → HasAdded old new block start stop undo after hard
-has-added old new block start stop after undo hard key c d hard_is added =
-    let same : hard ≡ is_hard old.slots old.numbers block undo d.deps = hard_is ∙ ap (λ z. z.hard) d.is in
-    let is : c ≡ new_class old.made block start stop d.deps hard = d.is ∙ ap (new_class old.made block start stop d.deps) (sym same) in
-    record { key = key; deps = d.deps; are = d.are; hard_is = same; added = subst (IsAdded old new key) is added }
+-- what is drawn up may be put in
+pub may-be-put-in : (g : Graph) (block start stop : ℕ) (after : List ℕ) (undo : Undo) (c : Class) → start < stop → IsDrawnUp g block start stop undo after c → MayBePutIn g c
+may-be-put-in g block start stop after undo c some d = subst (MayBePutIn g) (sym d.is) (record {
+  number = refl;
+  some = some;
+  new = record { fresh = omega arith; members = refl; memory = refl; after = d.are.are_made };
+})
 
 -- the class is linked to the others, and its span laid over those of its block
 pub put-in : (made : ℕ) (tops now : Skylines) (old new : Links) (key : ℕ) (c d : Class) → c.name ≡ made → d ≡ c → IsLinked old new key c → IsLaidOn tops now c.block (record { start = d.start; stop = d.stop; no = d.name })

@@ -21,7 +21,7 @@ use Rattle.patch_skyline.specs.declared.skylines.Span.{Span}
 use Rattle.patch_graph.specs.Skyline.{spans_of, IsLaidOn}
 use Rattle.patch_skyline.specs.Skyline.{has_byte, top_at, IsTopWithin}
 use Rattle.patch_graph.specs.Meaning.{Leads, one, onward, DependsOn, IsClassOf, wrote, IsLast, IsTop, Represents}
-use Rattle.patch_graph.specs.Adding.{AreDependencies, lets_drop, is_hard, new_class, IsAdded, HasAdded, IsPatch}
+use Rattle.patch_graph.specs.Adding.{AreDependencies, lets_drop, is_hard, new_class, IsAdded, IsDrawnUp, IsPatch}
 use Rattle.patch_graph.proofs.ReadySet.{placed, cases_found, some_same, class_same, In-left, In-right, In-parts, is_among-In, In-is_among}
 
 shares : (p q : Patch) (x : ℕ) → p.block ≡ q.block → covers p x ≡ true → covers q x ≡ true → shares_byte p q ≡ true
@@ -53,8 +53,7 @@ or-nothing false = refl
 single : (m n : ℕ) → is_among (m ∷ []) n ≡ true → m ≡ n
 single m n t = elim (or_cases (m == n) false t) [ inl s ↦ eqb-true m n s | inr s ↦ absurd (cc) ]
 
-module _ (g h : Graph) (all : List Entry) (p : Patch) (key : ℕ) (c : Class) (r : Represents g all) (a : IsAdded g h key c)
-    (no : p.no ≡ g.made) (orderly : IsOrderly (all ++ fresh all p ∷ [])) where
+module _ (g : Graph) (all : List Entry) (p : Patch) (r : Represents g all) (no : p.no ≡ g.made) (orderly : IsOrderly (all ++ fresh all p ∷ [])) where
   abbrev e : Entry
   e = fresh all p
 
@@ -96,89 +95,6 @@ module _ (g h : Graph) (all : List Entry) (p : Patch) (key : ℕ) (c : Class) (r
 
   below-other : (n : ℕ) → n < g.made → n ≢ g.made
   below-other n l same = omega arith
-
-  find-same : (n : ℕ) → n < g.made → find h.numbers n ≡ find g.numbers n
-  find-same n l = a.rest n (below-other n l)
-
-  -- a live number was made
-  live-below : (n j : ℕ) → find g.numbers n ≡ Some j → n < g.made
-  live-below n j at = let l = r.live n j at in let b = below l.0 l.1 in let s = l.2 in omega arith
-
-  find-more : (n j : ℕ) → find g.numbers n ≡ Some j → find h.numbers n ≡ Some j
-  find-more n j at = find-same n (live-below n j at) ∙ at
-
-  other-key : (k : ℕ) (d : Class) → class_at g.slots k ≡ Some d → k ≢ key
-  other-key k d at same = let v = a.vacant in let w = subst (λ j. class_at g.slots j ≡ Some d) same at in cc
-
-  class-more : (k : ℕ) (d : Class) → class_at g.slots k ≡ Some d → class_at h.slots k ≡ Some d
-  class-more k d at = a.others k (other-key k d at) ∙ at
-
-  class-back : (k : ℕ) (d : Class) → k ≢ key → class_at h.slots k ≡ Some d → class_at g.slots k ≡ Some d
-  class-back k d other at = sym (a.others k other) ∙ at
-
-  lead : (j n : ℕ) → leads_at g.numbers j n ≡ true → leads_at h.numbers j n ≡ true
-  lead j n t = elim (cases_found g.numbers n) [
-    | inl none ↦ let u : leads_at g.numbers j n ≡ false = ap (λ q. option_map_or (λ k. k == j) q false) none in absurd (both_ways _ u t)
-    | inr s ↦ ap (λ q. option_map_or (λ k. k == j) q false) (find-same n (live-below n s.0 s.1)) ∙ t
-  ]
-
-  leads-more : (d : Class) (j : ℕ) → leads g.numbers d j ≡ true → leads h.numbers d j ≡ true
-  leads-more d j t =
-      let w = list_any-at (leads_at g.numbers j) d.after t in
-      list_any-from (leads_at h.numbers j) d.after w.0 w.1 (lead j w.0 w.2)
-
-  Leads-more : (k j : ℕ) → Leads g.slots g.numbers k j → Leads h.slots h.numbers k j
-  Leads-more k j (one d at t) = one d (class-more k d at) (leads-more d j t)
-  Leads-more k l (onward {j = j} d at t rest) = onward d (class-more k d at) (leads-more d j t) (Leads-more j l rest)
-
-  DependsOn-more : (x y : ℕ) → DependsOn all x y → DependsOn more x y
-  DependsOn-more x y d = record { e = d.e; f = d.f; in_e = old-in d.e d.in_e; in_f = old-in d.f d.in_f; of_a = d.of_a; of_b = d.of_b; depends = d.depends }
-
-  never-new : (x : Entry) → In all x → depends_directly x.patch e.patch ≡ true → ⊥
-  never-new x i t =
-      let b = below x i in
-      elim (or_cases _ _ t) [
-        | inl named ↦ let l : e.patch.no < x.patch.no = o.earlier x e.patch.no (old-in x i) named in omega arith
-        | inr shared ↦ let l : e.patch.no < x.patch.no = ltb-true e.patch.no x.patch.no (and_parts (nat_lt e.patch.no x.patch.no) (shares_byte x.patch e.patch) shared).0 in omega arith
-      ]
-
-  or-none : (b : Bool) → (b || (false || false)) ≡ b
-  or-none true = refl
-  or-none false = refl
-
-  old-class : (k : ℕ) (d : Class) → class_at g.slots k ≡ Some d → IsClassOf more h.slots h.numbers k d
-  old-class k d at =
-      let w = r.classes k d at in
-      let small : d.name < g.made = let b = class_below w.some.0 w.some.1 in let s = w.some.2 in omega arith in
-      let not_new : e.class ≡ d.name → ⊥ = λ s. omega arith in
-      record {
-        some = (w.some.0, old-in w.some.0 w.some.1, w.some.2);
-        members = λ x i s. elim (split x i) [ inl j ↦ w.members x j s | inr n ↦ absurd (not_new (ap (λ y. y.class) (sym n) ∙ s)) ];
-        only = λ n t. let x = w.only n t in (x.0, old-in x.0 x.1, x.2, x.3);
-        looks = λ x i s. elim (split x i) [ inl j ↦ w.looks x j s | inr n ↦ absurd (not_new (ap (λ y. y.class) (sym n) ∙ s)) ];
-        live = λ x i s. elim (split x i) [ inl j ↦ w.live x j s | inr n ↦ absurd (not_new (ap (λ y. y.class) (sym n) ∙ s)) ];
-        found = λ x i s. elim (split x i) [ inl j ↦ find-more x.patch.no k (w.found x j s) | inr n ↦ absurd (not_new (ap (λ y. y.class) (sym n) ∙ s)) ];
-        span = λ x.
-            let f : Entry → Bool = λ y. y.class == d.name && covers y.patch x in
-            let off : f e ≡ false = and_left _ _ (ne_eqb e.class d.name not_new) in
-            w.span x ∙ sym (list_any-append f all (e ∷ []) ∙ ap (λ b. list_any f all || (b || false)) off ∙ or-none (list_any f all));
-        named = λ n t. let b = w.named n t in let l = longer in omega arith;
-        sound = λ n j d2 t there at2.
-            let b = w.named n t in
-            let m = r.made in
-            let there2 : find g.numbers n ≡ Some j = sym (find-same n (omega arith)) ∙ there in
-            let l = r.live n j there2 in
-            let q = placed g all r l.0 j l.1 (ap (find g.numbers) l.2 ∙ there2) in
-            let back = class-back j d2 (other-key j q.0 q.1) at2 in
-            elim (w.sound n j d2 t there2 back) [ inl s ↦ inl s | inr x ↦ inr (DependsOn-more d.name d2.name x) ];
-        complete = λ x y j ix iy s other depends there. elim (split x ix) [
-          | inl jx ↦ elim (split y iy) [
-            | inl jy ↦ Leads-more k j (w.complete x y j jx jy s other depends (sym (find-same y.patch.no (below y jy)) ∙ there))
-            | inr n ↦ absurd (never-new x jx (subst (λ z. depends_directly x.patch z.patch ≡ true) n depends))
-          ]
-          | inr n ↦ absurd (not_new (ap (λ y. y.class) (sym n) ∙ s))
-        ];
-      }
 
   module _ (block start stop : ℕ) (deps : List ℕ) (after : List ℕ) (undo : Undo) (hard : Bool) (is : IsPatch p g.made block start stop after undo)
       (are : AreDependencies g.made (spans_of g.tops block) start stop after deps) where
@@ -356,112 +272,205 @@ module _ (g h : Graph) (all : List Entry) (p : Patch) (key : ℕ) (c : Class) (r
     hard-same : is_hard g.slots g.numbers block undo deps ≡ is_made_hard all p
     hard-same = hard-by undo ∙ ap (λ u. elim u [ Keep ↦ false | MayDrop ↦ list_all drops all ]) (sym is.undo_is)
 
-    module _ (hard_is : hard ≡ is_hard g.slots g.numbers block undo deps) (c_is : c ≡ added) where
-      only-new : (x : Entry) → In more x → x.class ≡ g.made → x ≡ e
-      only-new x i s = elim (split x i) [ inl j ↦ let b = class_below x j in absurd (omega arith) | inr n ↦ n ]
+    module _ (h : Graph) (key : ℕ) (c : Class) (a : IsAdded g h key c) where
+      find-same : (n : ℕ) → n < g.made → find h.numbers n ≡ find g.numbers n
+      find-same n l = a.rest n (below-other n l)
 
-      new-span : (x : ℕ) → spans added x ≡ list_any (λ y. y.class == g.made && covers y.patch x) more
-      new-span x =
-          let f : Entry → Bool = λ y. y.class == g.made && covers y.patch x in
-          let off : list_any f all ≡ false = false_from_ne_true _ (λ t. let y = list_any-at f all t in let b = class_below y.0 y.1 in let s = eqb-true y.0.class g.made (and_parts (y.0.class == g.made) (covers y.0.patch x) y.2).0 in omega arith) in
-          let own : (e.class == g.made) ≡ true = eq-eqb p.no g.made no in
-          let here : f e ≡ spans added x = ap (λ b. b && covers p x) own ∙ ap (λ z. nat_le z x && nat_lt x (end p)) is.start_is ∙ ap (λ z. nat_le start x && nat_lt x z) is.end_is in
-          sym (list_any-append f all (e ∷ []) ∙ ap (λ b. b || (f e || false)) off ∙ ap (λ b. false || (b || false)) here ∙ or-nothing (spans added x))
+      -- a live number was made
+      live-below : (n j : ℕ) → find g.numbers n ≡ Some j → n < g.made
+      live-below n j at = let l = r.live n j at in let b = below l.0 l.1 in let s = l.2 in omega arith
 
-      new-class-of : IsClassOf more h.slots h.numbers key added
-      new-class-of = record {
-        some = (e, new-in, no);
-        members = λ x i s. let n = only-new x i s in or_left _ _ (eq-eqb g.made x.patch.no (sym (ap (λ z. z.patch.no) n ∙ no)));
-        only = λ n t. (e, new-in, no ∙ single g.made n t, no);
-        looks = λ x i s. let n = only-new x i s in
-            (ap (λ z. z.mark) n, ap (λ z. z.patch.block) n ∙ is.block_is, ap (λ z. z.hard) n ∙ sym hard-same ∙ sym hard_is);
-        live = λ x i s. let n = only-new x i s in ap is_durable n;
-        found = λ x i s. let n = only-new x i s in ap (λ z. find h.numbers z.patch.no) n ∙ ap (find h.numbers) no ∙ a.number;
-        span = new-span;
-        named = λ n t. let b = are.are_made n (is_among-In deps n t) in let l = longer in let m = r.made in omega arith;
-        sound = λ n j d t there at.
-            let i = is_among-In deps n t in
-            let there2 : find g.numbers n ≡ Some j = sym (find-same n (are.are_made n i)) ∙ there in
-            let l = r.live n j there2 in
-            let q = placed g all r l.0 j l.1 (ap (find g.numbers) l.2 ∙ there2) in
-            let f = deps-sound n j d i there2 (class-back j d (other-key j q.0 q.1) at) in
-            inr (record { e = e; f = f.0; in_e = new-in; in_f = old-in f.0 f.1; of_a = no; of_b = f.2; depends = f.3 });
-        complete = λ x y j ix iy s other depends there.
-            let n = only-new x ix s in
-            elim (split y iy) [
-              | inr m ↦ absurd (other (ap (λ z. z.class) m ∙ no))
-              | inl jy ↦
-                  let t : depends_directly p y.patch ≡ true = subst (λ z. depends_directly z.patch y.patch ≡ true) n depends in
-                  let v = deps-complete y j jy t (sym (find-same y.patch.no (below y jy)) ∙ there) in
-                  let k = v.2 in
-                  let first : leads h.numbers added k ≡ true = list_any-from (leads_at h.numbers k) deps v.0 v.1 (ap (λ q. option_map_or (λ m. m == k) q false) (find-more v.0 k v.3) ∙ eq-eqb k k refl) in
-                  elim v.4 [
-                    | inl e ↦ subst (Leads h.slots h.numbers key) e (one added (a.here ∙ ap (λ z. Some z) c_is) first)
-                    | inr l ↦ onward added (a.here ∙ ap (λ z. Some z) c_is) first (Leads-more k j l)
-                  ]
-            ];
-      }
+      find-more : (n j : ℕ) → find g.numbers n ≡ Some j → find h.numbers n ≡ Some j
+      find-more n j at = find-same n (live-below n j at) ∙ at
 
-      laid : IsLaidOn g.tops h.tops block top
-      laid = subst (λ z. IsLaidOn g.tops h.tops z.block (record { start = z.start; stop = z.stop; no = g.made })) c_is a.laid
+      other-key : (k : ℕ) (d : Class) → class_at g.slots k ≡ Some d → k ≢ key
+      other-key k d at same = let v = a.vacant in let w = subst (λ j. class_at g.slots j ≡ Some d) same at in cc
 
-      -- where the new patch didn't write, who did last is as it was
-      more-top : (b x : ℕ) (t : Option ℕ) → (wrote b x e ≡ true → ⊥) → IsTop all b x t → IsTop more b x t
-      more-top b x (Some n) off t = record {
-        e = t.e;
-        inside = old-in t.e t.inside;
-        number = t.number;
-        wrote_it = t.wrote_it;
-        last = λ f i w. elim (split f i) [ inl j ↦ t.last f j w | inr s ↦ absurd (off (subst (λ z. wrote b x z ≡ true) s w)) ];
-      }
-      more-top b x None off t = λ f i w. elim (split f i) [ inl j ↦ t f j w | inr s ↦ absurd (off (subst (λ z. wrote b x z ≡ true) s w)) ]
+      class-more : (k : ℕ) (d : Class) → class_at g.slots k ≡ Some d → class_at h.slots k ≡ Some d
+      class-more k d at = a.others k (other-key k d at) ∙ at
 
-      within : (x : ℕ) → covers p x ≡ has_byte top x
-      within x = ap (λ z. nat_le z x && nat_lt x (end p)) is.start_is ∙ ap (λ z. nat_le start x && nat_lt x z) is.end_is
+      class-back : (k : ℕ) (d : Class) → k ≢ key → class_at h.slots k ≡ Some d → class_at g.slots k ≡ Some d
+      class-back k d other at = sym (a.others k other) ∙ at
 
-      new-tops : (b x : ℕ) → IsTop more b x (top_at (spans_of h.tops b) x)
-      new-tops b x = elim (cases_eq b block) [
-        | inr other ↦ subst (λ z. IsTop more b x (top_at z x)) (sym (laid.others b other))
-            (more-top b x (top_at (spans_of g.tops b) x) (λ w. other (sym (eqb-true p.block b (and_parts (p.block == b) (covers p x) w).0) ∙ is.block_is)) (r.tops b x))
-        | inl s ↦ subst (λ z. IsTop more z x (top_at (spans_of h.tops z) x)) (sym s) (elim (cases_Bool (has_byte top x)) [
-          | inl t ↦ subst (IsTop more block x) (sym (laid.here.here x t)) (record {
-            e = e;
-            inside = new-in;
-            number = no;
-            wrote_it = and_from _ _ (eq-eqb p.block block is.block_is) (within x ∙ t);
-            last = λ f i w. elim (split f i) [ inl j ↦ let l = below f j in omega arith | inr n ↦ let l : f.patch.no ≡ g.made = ap (λ z. z.patch.no) n ∙ no in omega arith ];
-          })
-          | inr t ↦ subst (IsTop more block x) (sym (laid.here.beside x t))
-              (more-top block x (top_at (spans_of g.tops block) x) (λ w. both_ways _ t (sym (within x) ∙ (and_parts (p.block == block) (covers p x) w).1)) (r.tops block x))
-        ])
+      lead : (j n : ℕ) → leads_at g.numbers j n ≡ true → leads_at h.numbers j n ≡ true
+      lead j n t = elim (cases_found g.numbers n) [
+        | inl none ↦ let u : leads_at g.numbers j n ≡ false = ap (λ q. option_map_or (λ k. k == j) q false) none in absurd (both_ways _ u t)
+        | inr s ↦ ap (λ q. option_map_or (λ k. k == j) q false) (find-same n (live-below n s.0 s.1)) ∙ t
       ]
 
-      represents : Represents h more
-      represents = record {
-        orderly = orderly;
-        numbered = numbered;
-        made = let l = longer in let m = r.made in let m2 = a.made in omega arith;
-        classes = λ k d at. elim (cases_eq k key) [
-          | inl s ↦
-              let same : d ≡ added = class_same d added (sym at ∙ ap (class_at h.slots) s ∙ a.here ∙ ap (λ z. Some z) c_is) in
-              subst (λ z. IsClassOf more h.slots h.numbers k z) (sym same) (subst (λ z. IsClassOf more h.slots h.numbers z added) (sym s) new-class-of)
-          | inr other ↦ old-class k d (class-back k d other at)
-        ];
-        found = λ x i alive. elim (split x i) [
-          | inl j ↦ let f = r.found x j alive in (f.0, f.1, find-more x.patch.no f.0 f.2, class-more f.0 f.1 f.3, f.4)
-          | inr n ↦ (key, added, ap (λ z. find h.numbers z.patch.no) n ∙ ap (find h.numbers) no ∙ a.number, a.here ∙ ap (λ z. Some z) c_is, sym no ∙ ap (λ z. z.class) (sym n))
-        ];
-        live = λ n k at. elim (cases_eq n g.made) [
-          | inl s ↦ (e, new-in, no ∙ sym s, refl)
-          | inr other ↦ let l = r.live n k (sym (a.rest n other) ∙ at) in (l.0, old-in l.0 l.1, l.2, l.3)
-        ];
-        tops = new-tops;
-      }
+      leads-more : (d : Class) (j : ℕ) → leads g.numbers d j ≡ true → leads h.numbers d j ≡ true
+      leads-more d j t =
+          let w = list_any-at (leads_at g.numbers j) d.after t in
+          list_any-from (leads_at h.numbers j) d.after w.0 w.1 (lead j w.0 w.2)
 
-pub adds : (g h : Graph) (all : List Entry) (p : Patch) (block start stop : ℕ) (after : List ℕ) (undo : Undo) (hard : Bool)
-    → Represents g all → IsPatch p g.made block start stop after undo → IsOrderly (all ++ fresh all p ∷ []) → HasAdded g h block start stop undo after hard
-    → Represents h (all ++ fresh all p ∷ []) × (hard ≡ is_made_hard all p)
-adds g h all p block start stop after undo hard r is o a = (
-  represents g h all p a.key (new_class g.made block start stop a.deps hard) r a.added is.no o block start stop a.deps after undo hard is a.are a.hard_is refl,
-  a.hard_is ∙ hard-same g h all p a.key (new_class g.made block start stop a.deps hard) r a.added is.no o block start stop a.deps after undo hard is a.are,
+      Leads-more : (k j : ℕ) → Leads g.slots g.numbers k j → Leads h.slots h.numbers k j
+      Leads-more k j (one d at t) = one d (class-more k d at) (leads-more d j t)
+      Leads-more k l (onward {j = j} d at t rest) = onward d (class-more k d at) (leads-more d j t) (Leads-more j l rest)
+
+      DependsOn-more : (x y : ℕ) → DependsOn all x y → DependsOn more x y
+      DependsOn-more x y d = record { e = d.e; f = d.f; in_e = old-in d.e d.in_e; in_f = old-in d.f d.in_f; of_a = d.of_a; of_b = d.of_b; depends = d.depends }
+
+      never-new : (x : Entry) → In all x → depends_directly x.patch e.patch ≡ true → ⊥
+      never-new x i t =
+          let b = below x i in
+          elim (or_cases _ _ t) [
+            | inl named ↦ let l : e.patch.no < x.patch.no = o.earlier x e.patch.no (old-in x i) named in omega arith
+            | inr shared ↦ let l : e.patch.no < x.patch.no = ltb-true e.patch.no x.patch.no (and_parts (nat_lt e.patch.no x.patch.no) (shares_byte x.patch e.patch) shared).0 in omega arith
+          ]
+
+      or-none : (b : Bool) → (b || (false || false)) ≡ b
+      or-none true = refl
+      or-none false = refl
+
+      old-class : (k : ℕ) (d : Class) → class_at g.slots k ≡ Some d → IsClassOf more h.slots h.numbers k d
+      old-class k d at =
+          let w = r.classes k d at in
+          let small : d.name < g.made = let b = class_below w.some.0 w.some.1 in let s = w.some.2 in omega arith in
+          let not_new : e.class ≡ d.name → ⊥ = λ s. omega arith in
+          record {
+            some = (w.some.0, old-in w.some.0 w.some.1, w.some.2);
+            members = λ x i s. elim (split x i) [ inl j ↦ w.members x j s | inr n ↦ absurd (not_new (ap (λ y. y.class) (sym n) ∙ s)) ];
+            only = λ n t. let x = w.only n t in (x.0, old-in x.0 x.1, x.2, x.3);
+            looks = λ x i s. elim (split x i) [ inl j ↦ w.looks x j s | inr n ↦ absurd (not_new (ap (λ y. y.class) (sym n) ∙ s)) ];
+            live = λ x i s. elim (split x i) [ inl j ↦ w.live x j s | inr n ↦ absurd (not_new (ap (λ y. y.class) (sym n) ∙ s)) ];
+            found = λ x i s. elim (split x i) [ inl j ↦ find-more x.patch.no k (w.found x j s) | inr n ↦ absurd (not_new (ap (λ y. y.class) (sym n) ∙ s)) ];
+            span = λ x.
+                let f : Entry → Bool = λ y. y.class == d.name && covers y.patch x in
+                let off : f e ≡ false = and_left _ _ (ne_eqb e.class d.name not_new) in
+                w.span x ∙ sym (list_any-append f all (e ∷ []) ∙ ap (λ b. list_any f all || (b || false)) off ∙ or-none (list_any f all));
+            named = λ n t. let b = w.named n t in let l = longer in omega arith;
+            sound = λ n j d2 t there at2.
+                let b = w.named n t in
+                let m = r.made in
+                let there2 : find g.numbers n ≡ Some j = sym (find-same n (omega arith)) ∙ there in
+                let l = r.live n j there2 in
+                let q = placed g all r l.0 j l.1 (ap (find g.numbers) l.2 ∙ there2) in
+                let back = class-back j d2 (other-key j q.0 q.1) at2 in
+                elim (w.sound n j d2 t there2 back) [ inl s ↦ inl s | inr x ↦ inr (DependsOn-more d.name d2.name x) ];
+            complete = λ x y j ix iy s other depends there. elim (split x ix) [
+              | inl jx ↦ elim (split y iy) [
+                | inl jy ↦ Leads-more k j (w.complete x y j jx jy s other depends (sym (find-same y.patch.no (below y jy)) ∙ there))
+                | inr n ↦ absurd (never-new x jx (subst (λ z. depends_directly x.patch z.patch ≡ true) n depends))
+              ]
+              | inr n ↦ absurd (not_new (ap (λ y. y.class) (sym n) ∙ s))
+            ];
+          }
+
+      module _ (hard_is : hard ≡ is_hard g.slots g.numbers block undo deps) (c_is : c ≡ added) where
+        only-new : (x : Entry) → In more x → x.class ≡ g.made → x ≡ e
+        only-new x i s = elim (split x i) [ inl j ↦ let b = class_below x j in absurd (omega arith) | inr n ↦ n ]
+
+        new-span : (x : ℕ) → spans added x ≡ list_any (λ y. y.class == g.made && covers y.patch x) more
+        new-span x =
+            let f : Entry → Bool = λ y. y.class == g.made && covers y.patch x in
+            let off : list_any f all ≡ false = false_from_ne_true _ (λ t. let y = list_any-at f all t in let b = class_below y.0 y.1 in let s = eqb-true y.0.class g.made (and_parts (y.0.class == g.made) (covers y.0.patch x) y.2).0 in omega arith) in
+            let own : (e.class == g.made) ≡ true = eq-eqb p.no g.made no in
+            let here : f e ≡ spans added x = ap (λ b. b && covers p x) own ∙ ap (λ z. nat_le z x && nat_lt x (end p)) is.start_is ∙ ap (λ z. nat_le start x && nat_lt x z) is.end_is in
+            sym (list_any-append f all (e ∷ []) ∙ ap (λ b. b || (f e || false)) off ∙ ap (λ b. false || (b || false)) here ∙ or-nothing (spans added x))
+
+        new-class-of : IsClassOf more h.slots h.numbers key added
+        new-class-of = record {
+          some = (e, new-in, no);
+          members = λ x i s. let n = only-new x i s in or_left _ _ (eq-eqb g.made x.patch.no (sym (ap (λ z. z.patch.no) n ∙ no)));
+          only = λ n t. (e, new-in, no ∙ single g.made n t, no);
+          looks = λ x i s. let n = only-new x i s in
+              (ap (λ z. z.mark) n, ap (λ z. z.patch.block) n ∙ is.block_is, ap (λ z. z.hard) n ∙ sym hard-same ∙ sym hard_is);
+          live = λ x i s. let n = only-new x i s in ap is_durable n;
+          found = λ x i s. let n = only-new x i s in ap (λ z. find h.numbers z.patch.no) n ∙ ap (find h.numbers) no ∙ a.number;
+          span = new-span;
+          named = λ n t. let b = are.are_made n (is_among-In deps n t) in let l = longer in let m = r.made in omega arith;
+          sound = λ n j d t there at.
+              let i = is_among-In deps n t in
+              let there2 : find g.numbers n ≡ Some j = sym (find-same n (are.are_made n i)) ∙ there in
+              let l = r.live n j there2 in
+              let q = placed g all r l.0 j l.1 (ap (find g.numbers) l.2 ∙ there2) in
+              let f = deps-sound n j d i there2 (class-back j d (other-key j q.0 q.1) at) in
+              inr (record { e = e; f = f.0; in_e = new-in; in_f = old-in f.0 f.1; of_a = no; of_b = f.2; depends = f.3 });
+          complete = λ x y j ix iy s other depends there.
+              let n = only-new x ix s in
+              elim (split y iy) [
+                | inr m ↦ absurd (other (ap (λ z. z.class) m ∙ no))
+                | inl jy ↦
+                    let t : depends_directly p y.patch ≡ true = subst (λ z. depends_directly z.patch y.patch ≡ true) n depends in
+                    let v = deps-complete y j jy t (sym (find-same y.patch.no (below y jy)) ∙ there) in
+                    let k = v.2 in
+                    let first : leads h.numbers added k ≡ true = list_any-from (leads_at h.numbers k) deps v.0 v.1 (ap (λ q. option_map_or (λ m. m == k) q false) (find-more v.0 k v.3) ∙ eq-eqb k k refl) in
+                    elim v.4 [
+                      | inl e ↦ subst (Leads h.slots h.numbers key) e (one added (a.here ∙ ap (λ z. Some z) c_is) first)
+                      | inr l ↦ onward added (a.here ∙ ap (λ z. Some z) c_is) first (Leads-more k j l)
+                    ]
+              ];
+        }
+
+        laid : IsLaidOn g.tops h.tops block top
+        laid = subst (λ z. IsLaidOn g.tops h.tops z.block (record { start = z.start; stop = z.stop; no = g.made })) c_is a.laid
+
+        -- where the new patch didn't write, who did last is as it was
+        more-top : (b x : ℕ) (t : Option ℕ) → (wrote b x e ≡ true → ⊥) → IsTop all b x t → IsTop more b x t
+        more-top b x (Some n) off t = record {
+          e = t.e;
+          inside = old-in t.e t.inside;
+          number = t.number;
+          wrote_it = t.wrote_it;
+          last = λ f i w. elim (split f i) [ inl j ↦ t.last f j w | inr s ↦ absurd (off (subst (λ z. wrote b x z ≡ true) s w)) ];
+        }
+        more-top b x None off t = λ f i w. elim (split f i) [ inl j ↦ t f j w | inr s ↦ absurd (off (subst (λ z. wrote b x z ≡ true) s w)) ]
+
+        within : (x : ℕ) → covers p x ≡ has_byte top x
+        within x = ap (λ z. nat_le z x && nat_lt x (end p)) is.start_is ∙ ap (λ z. nat_le start x && nat_lt x z) is.end_is
+
+        new-tops : (b x : ℕ) → IsTop more b x (top_at (spans_of h.tops b) x)
+        new-tops b x = elim (cases_eq b block) [
+          | inr other ↦ subst (λ z. IsTop more b x (top_at z x)) (sym (laid.others b other))
+              (more-top b x (top_at (spans_of g.tops b) x) (λ w. other (sym (eqb-true p.block b (and_parts (p.block == b) (covers p x) w).0) ∙ is.block_is)) (r.tops b x))
+          | inl s ↦ subst (λ z. IsTop more z x (top_at (spans_of h.tops z) x)) (sym s) (elim (cases_Bool (has_byte top x)) [
+            | inl t ↦ subst (IsTop more block x) (sym (laid.here.here x t)) (record {
+              e = e;
+              inside = new-in;
+              number = no;
+              wrote_it = and_from _ _ (eq-eqb p.block block is.block_is) (within x ∙ t);
+              last = λ f i w. elim (split f i) [ inl j ↦ let l = below f j in omega arith | inr n ↦ let l : f.patch.no ≡ g.made = ap (λ z. z.patch.no) n ∙ no in omega arith ];
+            })
+            | inr t ↦ subst (IsTop more block x) (sym (laid.here.beside x t))
+                (more-top block x (top_at (spans_of g.tops block) x) (λ w. both_ways _ t (sym (within x) ∙ (and_parts (p.block == block) (covers p x) w).1)) (r.tops block x))
+          ])
+        ]
+
+        represents : Represents h more
+        represents = record {
+          orderly = orderly;
+          numbered = numbered;
+          made = let l = longer in let m = r.made in let m2 = a.made in omega arith;
+          classes = λ k d at. elim (cases_eq k key) [
+            | inl s ↦
+                let same : d ≡ added = class_same d added (sym at ∙ ap (class_at h.slots) s ∙ a.here ∙ ap (λ z. Some z) c_is) in
+                subst (λ z. IsClassOf more h.slots h.numbers k z) (sym same) (subst (λ z. IsClassOf more h.slots h.numbers z added) (sym s) new-class-of)
+            | inr other ↦ old-class k d (class-back k d other at)
+          ];
+          found = λ x i alive. elim (split x i) [
+            | inl j ↦ let f = r.found x j alive in (f.0, f.1, find-more x.patch.no f.0 f.2, class-more f.0 f.1 f.3, f.4)
+            | inr n ↦ (key, added, ap (λ z. find h.numbers z.patch.no) n ∙ ap (find h.numbers) no ∙ a.number, a.here ∙ ap (λ z. Some z) c_is, sym no ∙ ap (λ z. z.class) (sym n))
+          ];
+          live = λ n k at. elim (cases_eq n g.made) [
+            | inl s ↦ (e, new-in, no ∙ sym s, refl)
+            | inr other ↦ let l = r.live n k (sym (a.rest n other) ∙ at) in (l.0, old-in l.0 l.1, l.2, l.3)
+          ];
+          tops = new-tops;
+        }
+
+-- what is told of a patch that is drawn up
+pub tells : (g : Graph) (all : List Entry) (p : Patch) (block start stop : ℕ) (after : List ℕ) (undo : Undo) (c : Class)
+    → Represents g all → IsPatch p g.made block start stop after undo → IsOrderly (all ++ fresh all p ∷ []) → IsDrawnUp g block start stop undo after c
+    → (c.name ≡ p.no) × (c.hard ≡ is_made_hard all p)
+tells g all p block start stop after undo c r is o d = (
+  ap (λ (z : Class). z.name) d.is ∙ sym is.no,
+  ap (λ (z : Class). z.hard) d.is ∙ hard-same g all p r is.no o block start stop d.deps after undo c.hard is d.are,
 )
+
+-- the graph with that patch put in
+pub puts-in : (g h : Graph) (all : List Entry) (p : Patch) (block start stop : ℕ) (after : List ℕ) (undo : Undo) (key : ℕ) (c : Class)
+    → Represents g all → IsPatch p g.made block start stop after undo → IsOrderly (all ++ fresh all p ∷ []) → IsDrawnUp g block start stop undo after c → IsAdded g h key c
+    → Represents h (all ++ fresh all p ∷ [])
+puts-in g h all p block start stop after undo key c r is o d a =
+    let hard : Bool = is_hard g.slots g.numbers block undo d.deps in
+    represents g all p r is.no o block start stop d.deps after undo hard is d.are h key c a refl d.is

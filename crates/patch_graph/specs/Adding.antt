@@ -17,6 +17,7 @@ use Rattle.patch_skyline.specs.declared.skylines.Span.{Span}
 use Rattle.patch_graph.specs.declared.graphs.Added.{Added}
 use Rattle.patch_graph.specs.Meaning.{Represents}
 use Rattle.patch_links.specs.State.{Class, Slots, Numbers, find, class_at}
+use Rattle.patch_links.specs.Adding.{IsNew}
 use Rattle.patch_graph.specs.State.{Graph}
 
 -- of the patches that were made, those that a patch of this span names, and those that wrote a byte of it last
@@ -54,13 +55,11 @@ pub record IsDrawnUp (g : Graph) (block start stop : ℕ) (undo : Undo) (after :
   pub are : AreDependencies g.made (spans_of g.tops block) start stop after deps
   pub is : c ≡ new_class g.made block start stop deps (is_hard g.slots g.numbers block undo deps)
 
--- what was added, at some key
-pub record HasAdded (old new : Graph) (block start stop : ℕ) (undo : Undo) (after : List ℕ) (hard : Bool) : Type 0 where
-  pub key : ℕ
-  pub deps : List ℕ
-  pub are : AreDependencies old.made (spans_of old.tops block) start stop after deps
-  pub hard_is : hard ≡ is_hard old.slots old.numbers block undo deps
-  pub added : IsAdded old new key (new_class old.made block start stop deps hard)
+-- the class may be put in: it has the next number and a byte, is in memory and alone, and depends on earlier patches
+pub record MayBePutIn (g : Graph) (c : Class) : Type 0 where
+  pub number : c.name ≡ g.made
+  pub some : c.start < c.stop
+  pub new : IsNew g.made c
 
 -- a patch of this number, span and order
 pub record IsPatch (p : Patch) (number block start stop : ℕ) (after : List ℕ) (undo : Undo) : Type 0 where
@@ -80,3 +79,16 @@ abbrev pub Adds : Graph → Graph → ℕ → ℕ → ℕ → List ℕ → Undo 
 Adds old new block start stop after undo added = (all : List Entry) (p : Patch)
     → Represents old all → IsPatch p old.made block start stop after undo → IsOrderly (with_patch all p)
     → Represents new (with_patch all p) × (added.no ≡ p.no) × (added.hard ≡ (fresh all p).hard)
+
+-- of a patch that was drawn up as this class its number is told, and whether it is hard
+abbrev pub Tells : Graph → ℕ → ℕ → ℕ → List ℕ → Undo → Class → Type 0
+Tells g block start stop after undo c = (all : List Entry) (p : Patch)
+    → Represents g all → IsPatch p g.made block start stop after undo → IsOrderly (with_patch all p)
+    → (c.name ≡ p.no) × (c.hard ≡ (fresh all p).hard)
+
+-- the one graph's patches are the other's and the one that was drawn up as this class
+abbrev pub PutsIn : Graph → Graph → Class → Type 0
+PutsIn old new c = (all : List Entry) (p : Patch) (block start stop : ℕ) (after : List ℕ) (undo : Undo)
+    → IsDrawnUp old block start stop undo after c
+    → Represents old all → IsPatch p old.made block start stop after undo → IsOrderly (with_patch all p)
+    → Represents new (with_patch all p)

@@ -8,19 +8,19 @@ ghost use Rattle.patch_graph.specs.Ready.{AreReady, TellsReady};
 ghost use Rattle.patch_graph.specs.MarkFlight.{PutsInFlight};
 ghost use Rattle.patch_graph.specs.MarkDurable.{MakesDurable};
 ghost use Rattle.patch_graph.specs.Merging.{Merges};
-ghost use Rattle.patch_graph.specs.Adding.{Adds, HasAdded, IsDrawnUp};
+ghost use Rattle.patch_graph.specs.Adding.{Adds, IsDrawnUp, MayBePutIn, PutsIn, Tells};
 
 use crate::adding::{dependencies, insert, is_hard};
 use crate::classes::{LiveClass, alone};
 use crate::mark_durable::land;
 use crate::mark_flight::fly;
 use crate::merging;
+use crate::newcomers::Newcomer;
 use crate::queries::{between, is_any_ready, numbers_ready, numbers_searched, reaches};
 use crate::register::Register;
 use crate::scratch::Scratch;
-use patch_links::Class;
 use patch_model::{BlockNo, MAX_PATCHES, Mark, OutOfMemory, PatchNo, Undo};
-use std::alloc::{AllocError, Allocator, Global};
+use std::alloc::{Allocator, Global};
 use std::marker::Model;
 
 /// A patch that was added: its number, and whether it is hard.
@@ -33,7 +33,7 @@ pub struct Added {
 /// The live classes of all blocks, and what each of them depends on.
 ///
 /// Durable classes are forgotten: a number below the next one that isn't live is durable. Which classes a send of a block
-/// takes is always known. Only `add`, `merge` and `ready` take memory.
+/// takes is always known. Only `draw_up`, `put_in`, `add`, `merge` and `ready` take memory.
 #[derive(Drop)]
 pub struct Graph<A: Allocator + Copy = Global> {
     alloc: A,
@@ -102,10 +102,51 @@ impl<A: Allocator + Copy> Graph<A> {
         is_any_ready(&self.register, block)
     }
 
-    /// Adds a patch of the bytes from `start` to `stop`, in memory and a class of its own. It depends on the patches that
+    /// Draws up a patch of the bytes from `start` to `stop`, which [`put_in`](Graph::put_in) adds. It depends on the patches that
     /// it names and on those that wrote a byte of its span before. It is hard if it may drop its undo bytes and each patch that it depends
     /// on is durable or a hard one of its block. That is Featherstitch's hard patches, by a rule of our own that a send never
     /// has to revert one: in a block without a flight all hard patches are ready.
+    pub fn draw_up(
+        &self,
+        block: BlockNo,
+        start: usize,
+        stop: usize,
+        after: &[PatchNo],
+        undo: Undo,
+    ) -> Result<Newcomer<A>, OutOfMemory>
+        requires { start < stop }
+        ensures answer { IfOk result (Tells self.now block start stop after.now undo) }
+        ensures drawn { IfOk result (IsDrawnUp self.now block start stop undo after.now) }
+        ensures next { IfOk result (MayBePutIn self.now) }
+    {
+        let deps = dependencies(self.alloc, &self.register, block, start, stop, after)?;
+        let hard = is_hard(&self.register, block, undo, deps.as_slice());
+        let class = alone(
+            self.alloc,
+            PatchNo(self.register.made()),
+            block,
+            start,
+            stop,
+            deps,
+            hard,
+        );
+        Ok(Newcomer::of(class))
+    }
+
+    /// Adds a patch that was drawn up when as many were made as now, in memory and a class of its own.
+    pub fn put_in(&mut self, newcomer: Newcomer<A>) -> Result<(), OutOfMemory>
+        requires numbers { self.old.made < MAX_PATCHES }
+        requires next { MayBePutIn self.old newcomer }
+        ensures answer { OnOk result (PutsIn self.old self.new newcomer) }
+        ensures made { OnOk result (self.new.made ≡ self.old.made + 1) }
+        ensures refused { OnErr result (self.new ≡ self.old) }
+    {
+        let class = newcomer.into_class();
+        insert(self.alloc, &mut self.register, &mut self.scratch, class)?;
+        Ok(())
+    }
+
+    /// Draws up a patch and puts it in.
     pub fn add(
         &mut self,
         block: BlockNo,
@@ -120,55 +161,11 @@ impl<A: Allocator + Copy> Graph<A> {
         ensures made { OnOk result (self.new.made ≡ self.old.made + 1) }
         ensures refused { OnErr result (self.new ≡ self.old) }
     {
-        let no = PatchNo(self.register.made());
-        let hard = self.add_exactly(block, start, stop, after, undo)?;
+        let newcomer = self.draw_up(block, start, stop, after, undo)?;
+        let no = newcomer.no();
+        let hard = newcomer.is_hard();
+        self.put_in(newcomer)?;
         Ok(Added { no, hard })
-    }
-
-    /// `add`, by the class that it puts in. Whether the patch is hard.
-    fn add_exactly(
-        &mut self,
-        block: BlockNo,
-        start: usize,
-        stop: usize,
-        after: &[PatchNo],
-        undo: Undo,
-    ) -> Result<bool, AllocError>
-        requires numbers { self.old.made < MAX_PATCHES }
-        requires span { start < stop }
-        ensures made { OnOk result (self.new.made ≡ self.old.made + 1) }
-        ensures done { IfOk result (λ hard. HasAdded self.old self.new block start stop undo after.now hard) }
-        ensures refused { OnErr result (self.new ≡ self.old) }
-    {
-        let class = self.drawn_up(block, start, stop, after, undo)?;
-        let hard = class.hard;
-        insert(self.alloc, &mut self.register, &mut self.scratch, class)?;
-        Ok(hard)
-    }
-
-    /// The class of one more patch, in memory and alone.
-    fn drawn_up(
-        &self,
-        block: BlockNo,
-        start: usize,
-        stop: usize,
-        after: &[PatchNo],
-        undo: Undo,
-    ) -> Result<Class<A>, AllocError>
-        requires { start < stop }
-        ensures { IfOk result (IsDrawnUp self.now block start stop undo after.now) }
-    {
-        let deps = dependencies(self.alloc, &self.register, block, start, stop, after)?;
-        let hard = is_hard(&self.register, block, undo, deps.as_slice());
-        Ok(alone(
-            self.alloc,
-            PatchNo(self.register.made()),
-            block,
-            start,
-            stop,
-            deps,
-            hard,
-        ))
     }
 
     /// Makes one class of the classes of two patches, where that is legal. Its name.

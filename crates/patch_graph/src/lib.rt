@@ -10,6 +10,7 @@ mod mark_durable;
 mod mark_flight;
 mod marks;
 mod merging;
+mod newcomers;
 mod queries;
 mod ready;
 mod register;
@@ -19,3 +20,4 @@ mod skylines;
 
 pub use classes::LiveClass;
 pub use graphs::{Added, Graph};
+pub use newcomers::Newcomer;

@@ -1,9 +1,9 @@
 -- Classes of which no two have a common member.
-use Rattle.std.proofs.Common.{◌≡◌, ◌≢◌, ℕ, zero, suc, ◌+◌, ◌<◌, ◌≤◌, ◌⊎◌, ◌∙◌, true, false, not, inl, inr, List, [], ◌∷◌, ◌++◌, length, filter, take, get_or, set, get_or-set_same, get_or-set_other, refl, sym, ap, arith, subst, Bool, Option, Some, None}
+use Rattle.std.proofs.Common.{◌≡◌, ◌≢◌, ℕ, zero, suc, ◌+◌, ◌<◌, ◌≤◌, ◌⊎◌, ◌∙◌, true, false, not, inl, inr, List, [], ◌∷◌, ◌++◌, length, filter, get_or, set, get_or-set_same, get_or-set_other, refl, sym, ap, arith, subst, Bool, Option, Some, None}
 use Rattle.std.specs.Prelude.{is_some, ◌==◌, ◌&&◌, nat_lt, if◌then◌else◌}
 use Rattle.std.specs.List.{insert, remove, list_all}
 use Rattle.std.proofs.lemmas.Bool.{cases_Bool, cases_eq, cases_lt, cases_order, both_ways, and_parts, or_cases, eqb-true, ltb-true}
-use Rattle.std.proofs.lemmas.List.{length-set, get_or_past, get_or_default, get_or_append_left, get_or_push, get_or-take, length_push, places}
+use Rattle.std.proofs.lemmas.List.{length-set, get_or_past, get_or_default, get_or_append_left, get_or_push, length_push}
 use Rattle.std.proofs.lemmas.List.Edits.{length-remove, get_or-remove_below}
 use Rattle.std.proofs.lemmas.List.Quantifiers.{position-Some}
 use Rattle.patch_model.specs.Entry.{is_among}
@@ -58,9 +58,6 @@ set_apart cs c at m is a =
           rw e (ap (λ d. d.members) (get_or-set_same cs at c no_class (omega arith)) ∙ is)
       | inr ne ↦ ap (λ d. d.members) (get_or-set_other cs at i c no_class ne)
     ]) a
-
-pub taken_apart : (cs : List Class) (n : ℕ) (m : Members) → KnownApart m cs → KnownApart m (take n cs)
-taken_apart cs n m a = same_apart cs (take n cs) m (λ i w. let within : i < n = grind (arith, places) in ap (λ c. c.members) (get_or-take n cs i no_class within)) a
 
 pub departed_apart : (numbers : List ℕ) (first now : List Class) (k : ℕ) (m : Members) → HaveDeparted numbers first now k → KnownApart m first → KnownApart m now
 departed_apart numbers first now k m d a = same_apart first now m (λ i w. elim (d.each i) [

@@ -1,6 +1,6 @@
 -- A block's bytes without the classes that may be taken, as the classes change.
 use Rattle.std.proofs.Common.{◌≡◌, ◌≢◌, ℕ, zero, suc, ◌+◌, ◌-◌, ◌<◌, ◌≤◌, ◌⊎◌, ◌∙◌, true, false, not, inl, inr, List, [], ◌∷◌, ◌++◌, length, filter, drop, get_or, set, get_or-set_same, get_or-set_other, refl, sym, ap, subst, arith, Bool, Option, Some}
-use Rattle.std.specs.Prelude.{slice_range}
+use Rattle.std.specs.Prelude.{slice_range, if◌then◌else◌}
 use Rattle.std.specs.List.{remove}
 use Rattle.std.proofs.lemmas.Bool.{cases_Bool, cases_eq, cases_lt, both_ways, and_from, not-true, lt-ltb}
 use Rattle.std.proofs.lemmas.List.{length-set, ext_get_or, drop_more, drop_all, get_or_default}
@@ -69,6 +69,19 @@ laid_image old new cs c bytes over start fits starts saves soft stay known m is 
     ∙ ap (λ (z : ℕ). laid_over z c.saved (laid_over start over bytes)) starts
     ∙ ap (λ s. laid_over start s (laid_over start over bytes)) saves
     ∙ put_back bytes over start fits)) ∙ sym (bared-append cs c (laid_over start over bytes))
+
+-- a class more that may be hard: then nothing is known
+pub put_over_image : (old mid new : Option Image) (cs : List Class) (c : Class) (bytes over : List ℕ) (start : ℕ) (hard : Bool) → start + length over ≤ length bytes
+    → c.start ≡ start → c.saved ≡ (if hard then [] else slice_range bytes start (start + length over)) → is_takeable c ≡ not hard
+    → StaysIf true old mid → StaysIf (not hard) mid new → KnownImage old cs bytes → KnownImage new (cs ++ c ∷ []) (laid_over start over bytes)
+put_over_image old mid new cs c bytes over start hard fits starts saves soft stay next known m is on =
+    let s = next m is on in
+    let off : hard ≡ false = not-true hard s.0 in
+    laid_image old mid cs c bytes over start fits starts (saves ∙ ap (λ (b : Bool). if b then [] else slice_range bytes start (start + length over)) off) (soft ∙ s.0) stay known m s.1 on
+
+-- what stays twice stays
+pub stays_too : (stays : Bool) (old mid new : Option Image) → StaysIf true old mid → StaysIf stays mid new → StaysIf true old new
+stays_too stays old mid new stay next m is on = stay m (next m is on).1 on
 
 -- nothing is known of what is forgotten
 pub no_image : {X : Type 0} (image : Option Image) (m : Image) → IsForgotten image → image ≡ Some m → m.known ≡ true → X

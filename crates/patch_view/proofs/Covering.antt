@@ -1,9 +1,9 @@
 -- What tells that no class rests on another, as the classes change.
-use Rattle.std.proofs.Common.{◌≡◌, ◌≢◌, ℕ, zero, suc, ◌+◌, ◌<◌, ◌≤◌, ◌⊎◌, ◌∙◌, true, false, not, inl, inr, List, [], ◌∷◌, ◌++◌, length, filter, take, get_or, set, max, get_or-set_same, get_or-set_other, refl, sym, ap, subst, arith, Bool, Option, Some, None}
+use Rattle.std.proofs.Common.{◌≡◌, ◌≢◌, ℕ, zero, suc, ◌+◌, ◌<◌, ◌≤◌, ◌⊎◌, ◌∙◌, true, false, not, inl, inr, List, [], ◌∷◌, ◌++◌, length, filter, get_or, set, max, get_or-set_same, get_or-set_other, refl, sym, ap, subst, arith, Bool, Option, Some, None}
 use Rattle.std.specs.Prelude.{◌==◌, ◌&&◌, ◌||◌, nat_lt, nat_le, IfSome, is_some}
 use Rattle.std.specs.List.{insert, remove}
 use Rattle.std.proofs.lemmas.Bool.{cases_Bool, cases_eq, cases_lt, both_ways, and_parts, and_from, or_cases, or_left, or_right, eq-eqb, eqb-true, ltb-true, lt-ltb, false_from_ne_true}
-use Rattle.std.proofs.lemmas.List.{length-set, get_or_past, get_or_default, get_or_append_left, get_or_push, get_or-take, length_push, places}
+use Rattle.std.proofs.lemmas.List.{length-set, get_or_past, get_or_default, get_or_append_left, get_or_push, length_push}
 use Rattle.std.proofs.lemmas.List.Edits.{length-remove, get_or-remove_below}
 use Rattle.std.proofs.lemmas.List.Folds.{list_any-append}
 use Rattle.patch_model.specs.Entry.{is_among}
@@ -85,11 +85,6 @@ set_rests cs c at m rests like =
 -- what a class became that stood at a place, but for what it saved and how it is marked
 pub like_there : (cs : List Class) (at : ℕ) (old new : Class) → at < length cs → old ≡ get_or cs at old → IsLike new old → IsLike new (get_or cs at no_class)
 like_there cs at old new within is like = subst (λ (z : Class). IsLike new z) (is ∙ get_or_default cs at old no_class within) like
-
-pub taken_rests : (cs : List Class) (n : ℕ) (m : Members) (rests : Option Rests) → KnownRests m rests cs → KnownRests m rests (take n cs)
-taken_rests cs n m rests =
-    same_rests cs (take n cs) m rests (grind (arith, places))
-    (λ i w. let within : i < n = grind (arith, places) in like-same _ _ (get_or-take n cs i no_class within))
 
 pub departed_rests : (numbers : List ℕ) (first now : List Class) (k : ℕ) (m : Members) (rests : Option Rests) → HaveDeparted numbers first now k
     → KnownRests m rests first → KnownRests m rests now

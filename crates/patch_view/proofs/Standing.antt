@@ -1,9 +1,9 @@
 -- Where the classes stand that are taken, or in flight.
-use Rattle.std.proofs.Common.{◌≡◌, ℕ, ◌+◌, ◌<◌, ◌≤◌, ◌∙◌, true, false, inl, inr, List, [], ◌∷◌, ◌++◌, length, filter, take, get_or, set, get_or-set_same, get_or-set_other, sym, ap, arith, Bool}
+use Rattle.std.proofs.Common.{◌≡◌, ℕ, ◌+◌, ◌<◌, ◌≤◌, ◌∙◌, true, false, inl, inr, List, [], ◌∷◌, ◌++◌, length, filter, get_or, set, get_or-set_same, get_or-set_other, sym, ap, arith, Bool}
 use Rattle.std.specs.Prelude.{nat_lt}
 use Rattle.std.specs.List.{insert, remove}
 use Rattle.std.proofs.lemmas.Bool.{cases_Bool, cases_eq, cases_lt, both_ways, lt-ltb}
-use Rattle.std.proofs.lemmas.List.{length-set, get_or_past, get_or_default, get_or_append_left, get_or_push, get_or-take, length_push, places}
+use Rattle.std.proofs.lemmas.List.{length-set, get_or_past, get_or_default, get_or_append_left, get_or_push, length_push}
 use Rattle.patch_model.specs.Member.{In-from_Contains, Contains-from_In, filter-In}
 use Rattle.patch_view.specs.declared.places.Places.{Places}
 use Rattle.patch_view.specs.Places.{with_places, spread, spread_over}
@@ -65,13 +65,6 @@ pushed_within q none cs c p off t i on =
           let e : length cs ≡ i = omega arith in
           absurd (both_ways _ off (ap q (sym (get_or_push cs c no_class i e)) ∙ on))
     ]
-
--- the first of them
-pub front_within : (q : Class → Bool) → q no_class ≡ false → (cs : List Class) (n : ℕ) (p : Places) → StandWithin q p cs → StandWithin q p (take n cs)
-front_within q none cs n p t i on =
-    let w = marked_inside q none (take n cs) i on in
-    let before : i < n = grind (arith, places) in
-    t i (ap q (sym (get_or-take n cs i no_class before)) ∙ on)
 
 -- a class that was moved
 pub moved_within : (q : Class → Bool) → q no_class ≡ false → (cs : List Class) (front k : ℕ) (p : Places) (n : ℕ) → length cs ≤ n → front ≤ k → k < length cs → StandWithin q p cs

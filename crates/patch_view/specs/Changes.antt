@@ -1,5 +1,7 @@
 -- What the calls that change a block's records make of the history that these represent, where nothing is taken.
-use Rattle.std.specs.Prelude.{ℕ, true, false, ◌≡◌, ◌+◌, ◌≤◌, List, [], length, map, Option, Result, OnOk}
+use Rattle.std.specs.Prelude.{ℕ, Bool, true, false, ◌≡◌, ◌+◌, ◌≤◌, ◌⊎◌, List, [], length, map, Option, Result, Ok, Err, OnOk, MatchResult}
+use Rattle.std.specs.Fn.{Once, FnOnceReturnsAtMut}
+use Rattle.std.specs.Borrow.{MutBor}
 use Rattle.std.specs.List.Sorted.{IsNonDecreasing}
 use Rattle.patch_model.specs.declared.blocks.TheConstants.{BLOCK}
 use Rattle.patch_model.specs.declared.patches.Undo.{Undo}
@@ -12,24 +14,17 @@ use Rattle.patch_view.specs.State.{Block, Drawn, Joint, IsLaid, IsDrawn, IsJoint
 use Rattle.patch_view.specs.Meaning.{Represents}
 use Rattle.patch_view.specs.Answers.{IsPatch}
 
--- the patch is laid on any block's history where it may come next
-abbrev pub Lays : {X E : Type 0} → Block → (number start : ℕ) (bytes after : List ℕ) → Result X E → Block → Type 0
-Lays old number start bytes after result new =
-    (h : History) (block : ℕ) (undo : Undo) → Represents old [] h → IsNext h (made number block start bytes after undo false)
-    → OnOk result (Represents new [] (laid h (made number block start bytes after undo false)))
+-- the patch is laid on any block's history where it may come next, hard or not
+abbrev pub Lays : {X E : Type 0} → Block → (number start : ℕ) (bytes after : List ℕ) (hard : Bool) → Result X E → Block → Type 0
+Lays old number start bytes after hard result new =
+    (h : History) (block : ℕ) (undo : Undo) → Represents old [] h → IsNext h (made number block start bytes after undo hard)
+    → OnOk result (Represents new [] (laid h (made number block start bytes after undo hard)))
 
--- a block on which a patch was laid last is as before that
-abbrev pub Unlays : Block → Block → Type 0
-Unlays old new =
-    (before : Block) (number start : ℕ) (bytes after : List ℕ) → IsLaid before number start bytes after false old
-    → length before.bytes ≡ BLOCK → start + length bytes ≤ BLOCK → new ≡ before
-
--- a block on which a patch was laid last has that patch as a hard one
-abbrev pub Hardens : Block → Block → Type 0
-Hardens old new =
-    (before : Block) (h : History) (number block start : ℕ) (bytes after : List ℕ) (undo : Undo)
-    → IsLaid before number start bytes after false old → Represents before [] h → IsNext h (made number block start bytes after undo true)
-    → start + length bytes ≤ BLOCK → Represents new [] (laid h (made number block start bytes after undo true))
+-- The one value is what a call left of the other that gave this answer. Where it is an error, there may have been no call.
+abbrev pub Enters : {F V R E : Type 0} → Once F (MutBor V × Unit {0}) (Result R E × (MutBor V × Unit {0})) → F → V → Result R E → V → Type 0
+Enters {E = E} once enter old result new = MatchResult result
+    (λ r. FnOnceReturnsAtMut once enter old (Ok r) new)
+    (λ _. (new ≡ old) ⊎ ((e : E) × FnOnceReturnsAtMut once enter old (Err e) new))
 
 -- the record that was drawn up of the classes at two places stands in place of both
 abbrev pub Settles : Block → (low high : ℕ) → Option Drawn → Block → Type 0

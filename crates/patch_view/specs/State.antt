@@ -179,22 +179,6 @@ pub record IsLaid (old : Block) (number start : ℕ) (bytes after : List ℕ) (h
   pub names : KeepsNames old after all
   pub is : new ≡ with_laid old number start bytes all hard
 
--- the place of the newest class
-abbrev pub newest : Block → ℕ
-newest b = length b.classes - 1
-
--- the block without its newest class, and with what that saved
-abbrev pub without_newest : Block → Block
-without_newest b = record { bytes = laid_on (class_at b (newest b)) b.bytes; classes = take (newest b) b.classes }
-
--- the class as a hard one, of which nothing is saved
-abbrev pub hardened : Class → Class
-hardened c = record c { saved = []; hard = true }
-
--- the block with its newest class hard
-abbrev pub with_newest_hard : Block → Block
-with_newest_hard b = record b { classes = slice_set b.classes (newest b) (hardened (class_at b (newest b))) }
-
 abbrev pub departed : Class → Class
 departed c = record c { flying = true; saved = [] }
 

@@ -1,18 +1,19 @@
 //! What becomes of a block's records as patches are made, merged, sent and completed.
-ghost use Rattle.std.specs.Prelude.{◌≡◌, ◌+◌, ◌<◌, ◌≤◌, length, map, vec_len, vec_capacity, [], IfOk, OnOk, OnErr, ℕ, None, true, false, IsTrue, IsFalse};
+ghost use Rattle.std.specs.Prelude.{◌≡◌, ◌+◌, ◌<◌, ◌≤◌, length, map, vec_len, vec_capacity, [], IfOk, OnOk, OnErr, ℕ, None, true, false, IsTrue, IsFalse, if◌then◌else◌};
+ghost use Rattle.std.specs.Fn.{FnOnceTakesAtMut};
 ghost use Rattle.std.specs.List.Sorted.{IsNonDecreasing};
 ghost use Rattle.patch_model.specs.declared.patches.Mark.TheVariants.{Flight, Durable};
 ghost use Rattle.patch_model.specs.Entry.{Entry, is_memory};
 ghost use Rattle.patch_model.specs.History.{History};
 ghost use Rattle.patch_model.specs.Orderly.{IsOrderlyBlock};
 ghost use Rattle.patch_model.specs.State.{landed};
-ghost use Rattle.patch_view.specs.State.{follows, with_laid, IsLaid, without_newest, with_newest_hard, departed_at, landed_at, with_departed, HasDeparted, AreDeparting};
+ghost use Rattle.patch_view.specs.State.{follows, with_laid, IsLaid, departed_at, landed_at, with_departed, HasDeparted, AreDeparting};
 ghost use Rattle.patch_view.specs.State.{with_one_departed, with_one_landed, with_landed, FlyingWithin, AllFlyAt, moved_down, IsJoint, IsJointAt, has_places, KeepsNames};
 ghost use Rattle.patch_view.specs.Places.{IsRange};
 ghost use Rattle.patch_view.specs.History.{unpatched, MayLand, with_mark};
 ghost use Rattle.patch_view.specs.Meaning.{Represents, IsGathered};
 ghost use Rattle.patch_view.specs.Answers.{IsPatch};
-ghost use Rattle.patch_view.specs.Changes.{Lays, Unlays, Hardens, Settles, JoinsPlaces, JoinsBy, Joins, DepartsEach};
+ghost use Rattle.patch_view.specs.Changes.{Lays, Enters, Settles, JoinsPlaces, JoinsBy, Joins, DepartsEach};
 
 use crate::classes::{Class, Drawn};
 use crate::images::{
@@ -22,7 +23,7 @@ use crate::members::Members;
 use crate::number_lists::NumberList;
 use crate::places::Places;
 use crate::rests::lay_over;
-use crate::spans::swap_span;
+use crate::spans::put_over;
 use crate::states::{BlockState, FEW};
 use patch_model::{BLOCK, BlockBytes, OutOfMemory, PatchNo};
 use patch_skyline::Span;
@@ -68,8 +69,8 @@ impl<A: Allocator> BlockState<A> {
         }
     }
 
-    /// Lays a patch on the block, in memory and a class of its own, with the bytes that are kept of it. Its number is above
-    /// those of the block's other patches, its bytes are at least one, and what it names was made before it: that it names a
+    /// Lays a patch on the block, in memory and a class of its own, with the bytes that are kept of it: of a hard one none. Its
+    /// number is above those of the block's other patches, its bytes are at least one, and what it names was made before it: that it names a
     /// patch which is laid only later may be forgotten. Without memory nothing is changed.
     pub fn lay(
         &mut self,
@@ -77,33 +78,43 @@ impl<A: Allocator> BlockState<A> {
         start: usize,
         bytes: &[u8],
         after: &[PatchNo],
+        hard: bool,
     ) -> Result<(), OutOfMemory>
     where
         A: Clone,
         requires { start + length bytes.now ≤ BLOCK }
-        ensures answer { Lays self.old no start bytes.now after.now result self.new }
-        ensures laid { OnOk result (IsLaid self.old no start bytes.now after.now false self.new) }
+        ensures answer { Lays self.old no start bytes.now after.now hard result self.new }
+        ensures laid { OnOk result (IsLaid self.old no start bytes.now after.now hard self.new) }
         ensures refused { OnErr result (self.new ≡ self.old) }
     {
-        self.lay_exactly(no, start, bytes, after)?;
-        Ok(())
+        self.lay_if(no, start, bytes, after, hard, &mut (), |_| Ok(()))
     }
 
-    fn lay_exactly(
+    /// Lays a patch as [`lay`](BlockState::lay) does, once it is entered elsewhere: `enter` is called when the block has all the
+    /// memory that it needs, and where it lacks memory itself, nothing is changed here.
+    pub fn lay_if<V, F>(
         &mut self,
         no: PatchNo,
         start: usize,
         bytes: &[u8],
         after: &[PatchNo],
+        hard: bool,
+        other: &mut V,
+        enter: F,
     ) -> Result<(), OutOfMemory>
     where
         A: Clone,
-        requires { start + length bytes.now ≤ BLOCK }
-        ensures done { OnOk result (IsLaid self.old no start bytes.now after.now false self.new) }
+        F: FnOnce(&mut V) -> Result<(), OutOfMemory> + Drop,
+        requires fits { start + length bytes.now ≤ BLOCK }
+        requires callable { FnOnceTakesAtMut F.FnOnce enter other.old }
+        ensures answer { Lays self.old no start bytes.now after.now hard result self.new }
+        ensures laid { OnOk result (IsLaid self.old no start bytes.now after.now hard self.new) }
         ensures refused { OnErr result (self.new ≡ self.old) }
+        ensures entered { Enters F.FnOnce enter other.old result other.new }
     {
         let named = self.names_of(after)?;
-        self.lay_with(no, start, bytes, named)
+        self.lay_with(no, start, bytes, named, hard, other, enter)?;
+        Ok(())
     }
 
     /// Those of these numbers that may be members of the block's classes, rising. No more than two take no memory.
@@ -136,71 +147,49 @@ impl<A: Allocator> BlockState<A> {
         Ok(kept)
     }
 
-    /// Lays a patch that names these.
-    fn lay_with(
+    /// Lays a patch that names these, once it is entered elsewhere.
+    fn lay_with<V, F>(
         &mut self,
         no: PatchNo,
         start: usize,
         bytes: &[u8],
         all: NumberList<A>,
+        hard: bool,
+        other: &mut V,
+        enter: F,
     ) -> Result<(), OutOfMemory>
     where
         A: Clone,
+        F: FnOnce(&mut V) -> Result<(), OutOfMemory> + Drop,
         requires fits { start + length bytes.now ≤ BLOCK }
         requires rising { IsNonDecreasing all.items }
-        ensures done { OnOk result (self.new ≡ with_laid self.old no start bytes.now all.items false) }
+        requires callable { FnOnceTakesAtMut F.FnOnce enter other.old }
+        ensures done { OnOk result (self.new ≡ with_laid self.old no start bytes.now all.items hard) }
         ensures refused { OnErr result (self.new ≡ self.old) }
+        ensures entered { Enters F.FnOnce enter other.old result other.new }
     {
         make_record_room(&mut self.classes)?;
-        let stop = start + bytes.len();
-        let mut saved = Vec::from_slice(self.bytes.allocator().clone()?, bytes)?;
-        swap_span(self.bytes.as_mut_slice(), start, saved.as_mut_slice());
+        let mut saved = to_be_saved(self.bytes.allocator().clone()?, bytes, hard)?;
+        enter(other)?;
+        put_over(
+            self.bytes.as_mut_slice(),
+            start,
+            bytes,
+            saved.as_mut_slice(),
+            hard,
+        );
         let is_only = self.classes.is_empty();
+        let stop = start + bytes.len();
         let top = Span { start, stop, no };
         let alloc = self.bytes.allocator();
         lay_over(&mut self.rests, alloc, is_only, top, all.as_slice());
         self.members = self.members.with(no, is_only);
         let are_many = self.classes.len() >= FEW;
         make_room(&mut self.image, self.bytes.allocator(), are_many);
-        let class = Class::new(no, start, stop, saved, all);
+        forget_unless(&mut self.image, !hard); // It has no byte of a hard patch, which stays.
+        let class = Class::new(no, start, stop, saved, all, hard);
         self.classes.push_reserved(class);
         Ok(())
-    }
-
-    /// Takes the patch off that was laid last, which isn't hard: the block is as if it had never been laid. It exchanges the
-    /// span's bytes, looks at no other record, and takes no memory. A block with no live class stays as it is.
-    pub fn unlay(&mut self)
-        ensures exact { self.new ≡ without_newest self.old }
-        ensures as_before { Unlays self.old self.new }
-    {
-        self.unlay_exactly();
-    }
-
-    fn unlay_exactly(&mut self)
-        ensures { self.new ≡ without_newest self.old }
-    {
-        if let Some(class) = self.classes.pop() {
-            class.leave(self.bytes.as_mut_slice());
-            forget(&mut self.image);
-        }
-    }
-
-    /// Makes the patch that was laid last hard: the bytes kept of it go. It looks at no other record, and takes no memory. A
-    /// block with no live class stays as it is.
-    pub fn harden(&mut self)
-        ensures exact { self.new ≡ with_newest_hard self.old }
-        ensures answer { Hardens self.old self.new }
-    {
-        self.harden_exactly();
-    }
-
-    fn harden_exactly(&mut self)
-        ensures { self.new ≡ with_newest_hard self.old }
-    {
-        forget(&mut self.image); // It has no byte of the patch, which stays from now on.
-        if let Some(class) = self.classes.last_mut() {
-            class.harden();
-        }
     }
 
     /// Puts the class of this patch, which is in memory, in flight. Its saved bytes go. A number of no live class changes
@@ -545,4 +534,14 @@ fn make_record_room<A: Allocator>(classes: &mut Vec<Class<A>, A>) -> Result<(), 
     }
     classes.reserve(FIRST_ROOM)?;
     Ok(())
+}
+
+/// What is to be exchanged with the bytes that a patch covers: its own. Of a hard patch nothing is saved.
+fn to_be_saved<A: Allocator>(alloc: A, bytes: &[u8], hard: bool) -> Result<Vec<u8, A>, OutOfMemory>
+    ensures { IfOk result (λ saved. saved.items ≡ (if hard then [] else bytes.now)) }
+{
+    if hard {
+        return Ok(Vec::new(alloc));
+    }
+    Ok(Vec::from_slice(alloc, bytes)?)
 }

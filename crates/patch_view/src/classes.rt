@@ -3,7 +3,7 @@ ghost use Rattle.std.specs.Prelude.{ℕ, ◌≡◌, ◌||◌, ◌+◌, ◌≤◌
 ghost use Rattle.std.specs.List.{list_any, list_all};
 ghost use Rattle.std.specs.List.Sorted.{IsNonDecreasing};
 ghost use Rattle.patch_model.specs.Entry.{is_among};
-ghost use Rattle.patch_view.specs.State.{is_takeable, uncovered, laid_on, exchanged_with, leaves_taken, meets, names, hardened, departed, departed_among, MayHaveDeparted, merged, IsMerged, IsDrawn};
+ghost use Rattle.patch_view.specs.State.{is_takeable, uncovered, laid_on, exchanged_with, leaves_taken, meets, names, departed, departed_among, MayHaveDeparted, merged, IsMerged, IsDrawn};
 ghost use Rattle.patch_view.specs.State.{spans, follow_on, has_room_for, is_around, with_lists_of, with_all_of, in_its_place, with_lists};
 ghost use Rattle.patch_view.specs.Gaps.{saved_end, saves_any};
 ghost use Rattle.patch_view.specs.Rests.{IsFree, IsUnion, HasListsOf};
@@ -186,13 +186,14 @@ impl<A: Allocator> Class<A> {
         }
     }
 
-    /// The record of a class of one undoable patch, in memory and applied.
+    /// The record of a class of one patch, in memory and applied.
     pub(crate) fn new(
         no: PatchNo,
         start: usize,
         stop: usize,
         saved: Vec<u8, A>,
         after: NumberList<A>,
+        hard: bool,
     ) -> Class<A>
         requires long { start + length saved.items ≤ stop }
         requires fits { stop ≤ BLOCK }
@@ -205,7 +206,7 @@ impl<A: Allocator> Class<A> {
           saved = saved.items;
           after = after.items;
           flying = false;
-          hard = false;
+          hard = hard;
           taken = false;
           room = 0;
         } }
@@ -218,7 +219,7 @@ impl<A: Allocator> Class<A> {
             saved,
             after,
             flying: false,
-            hard: false,
+            hard,
             taken: false,
             room: 0,
         }
@@ -444,15 +445,6 @@ impl<A: Allocator> Class<A> {
         self.saved = class.saved;
     }
 
-    /// Makes the class hard. Its saved bytes go, and the memory that they took.
-    pub(crate) fn harden(&mut self)
-        ensures { self.new ≡ hardened self.old }
-    {
-        self.hard = true;
-        self.saved.clear();
-        self.saved.shrink_to_fit();
-    }
-
     pub(crate) fn depart(&mut self)
         ensures { self.new ≡ departed self.old }
     {
@@ -507,14 +499,6 @@ impl<A: Allocator> Class<A> {
             let stop = self.start + self.saved.len();
             copy[self.start..stop].copy_from_slice(&self.saved);
         }
-    }
-
-    /// Leaves the block as it would be without the class, which is gone then.
-    pub(crate) fn leave(mut self, bytes: &mut [u8])
-        requires { length bytes.old ≡ 4096 }
-        ensures { bytes.new ≡ laid_on self bytes.old }
-    {
-        self.exchange(bytes, Turn::Take);
     }
 
     /// Exchanges the saved bytes with the block's, and marks the class.

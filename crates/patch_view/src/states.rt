@@ -27,7 +27,7 @@ pub(crate) const FEW: usize = 16;
 ///
 /// `take`, `put_back` and `put_all_back` are what a [`BlockView`](crate::BlockView) does, public for the views of a cache,
 /// which cannot hold one: whoever calls them puts all back. Between them the block is one of which
-/// `Represents state taken history` speaks. The calls that change the records (`lay`, `unlay`, `harden`, `join`, `join_by`,
+/// `Represents state taken history` speaks. The calls that change the records (`lay`, `lay_if`, `join`, `join_by`,
 /// `depart`, `depart_each`, `land`, `land_each`) are for a block of which nothing is taken.
 #[derive(Drop)]
 pub struct BlockState<A: Allocator = Global> {

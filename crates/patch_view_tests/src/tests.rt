@@ -41,6 +41,26 @@ fn join_by<A: Allocator + Clone>(
     Ok(())
 }
 
+// Lays a patch that can't be entered elsewhere, for want of memory there. Whether it is refused.
+fn is_unentered<A: Allocator + Clone>(
+    rt: &impl Abort,
+    block: &mut BlockState<A>,
+    no: u32,
+    start: usize,
+    bytes: &[u8],
+) -> bool {
+    assert!(rt; start <= 100 && bytes.len() <= 500);
+    let mut asked = false;
+    let laid = block.lay_if(PatchNo(no), start, bytes, &[], false, &mut asked, refuse);
+    assert!(rt; asked);
+    laid.is_err()
+}
+
+fn refuse(asked: &mut bool) -> Result<(), OutOfMemory> {
+    *asked = true;
+    Err(OutOfMemory)
+}
+
 fn expect_taken(rt: &impl Abort, answer: Result<(), TakeRefusal>, want: Result<(), TakeRefusal>) {
     expect_eq(rt, &answer, &want);
 }

@@ -1,5 +1,5 @@
 //! What a write sends of a block with many classes, beside the same block of which all are taken one after another.
-use super::{bare, expect_without_all, join_by};
+use super::{bare, expect_without_all, is_unentered, join_by};
 use patch_model::{OutOfMemory, PatchNo};
 use patch_view::BlockState;
 use std::alloc::Global;
@@ -20,8 +20,8 @@ struct Pair {
 impl Pair {
     fn lay(&mut self, rt: &impl Abort, no: u32, start: usize, byte: u8) -> Result<(), OutOfMemory> {
         assert!(rt; start < 4096);
-        self.kept.lay(PatchNo(no), start, &[byte], &[])?;
-        self.plain.lay(PatchNo(no), start, &[byte], &[])
+        self.kept.lay(PatchNo(no), start, &[byte], &[], false)?;
+        self.plain.lay(PatchNo(no), start, &[byte], &[], false)
     }
 
     fn send(&mut self, rt: &impl Abort, numbers: &[PatchNo]) -> Result<(), OutOfMemory> {
@@ -54,15 +54,28 @@ impl Pair {
         self.expect_same(rt)
     }
 
-    fn harden(&mut self, rt: &impl Abort) -> Result<(), OutOfMemory> {
-        self.kept.harden();
-        self.plain.harden();
+    fn lay_hard(
+        &mut self,
+        rt: &impl Abort,
+        no: u32,
+        start: usize,
+        byte: u8,
+    ) -> Result<(), OutOfMemory> {
+        assert!(rt; start < 4096);
+        self.kept.lay(PatchNo(no), start, &[byte], &[], true)?;
+        self.plain.lay(PatchNo(no), start, &[byte], &[], true)?;
         self.expect_same(rt)
     }
 
-    fn unlay(&mut self, rt: &impl Abort) -> Result<(), OutOfMemory> {
-        self.kept.unlay();
-        self.plain.unlay();
+    fn lay_nothing(
+        &mut self,
+        rt: &impl Abort,
+        no: u32,
+        start: usize,
+        byte: u8,
+    ) -> Result<(), OutOfMemory> {
+        assert!(rt; is_unentered(rt, &mut self.kept, no, start, &[byte]));
+        assert!(rt; is_unentered(rt, &mut self.plain, no, start, &[byte]));
         self.expect_same(rt)
     }
 
@@ -85,9 +98,9 @@ enum Deed<'a> {
     End,
     // Patches from this number on, each laid at its place, sent and made durable before the next.
     Rounds(u32, &'a [usize]),
-    // The newest is made hard, or taken off.
-    Harden,
-    Unlay,
+    // A hard patch, and one that isn't entered.
+    LayHard(u32, usize, u8),
+    LayNothing(u32, usize, u8),
     Join(u32, u32),
     // One alone is made durable.
     Land(u32),
@@ -95,7 +108,7 @@ enum Deed<'a> {
     Look,
 }
 
-use Deed::{End, Harden, Join, Land, Lay, Look, Rounds, Send, Unlay};
+use Deed::{End, Join, Land, Lay, LayHard, LayNothing, Look, Rounds, Send};
 
 fn go_rounds(
     rt: &impl Abort,
@@ -125,8 +138,8 @@ fn act(rt: &impl Abort, pair: &mut Pair, deed: &Deed<'_>) -> Result<(), OutOfMem
         Send(numbers) => send_each(rt, pair, numbers),
         End => pair.end(rt),
         Rounds(first, starts) => go_rounds(rt, pair, *first, starts),
-        Harden => pair.harden(rt),
-        Unlay => pair.unlay(rt),
+        LayHard(no, start, byte) => pair.lay_hard(rt, *no, *start, *byte),
+        LayNothing(no, start, byte) => pair.lay_nothing(rt, *no, *start, *byte),
         Join(a, b) => pair.join(*a, *b),
         Land(no) => pair.land(rt, *no),
         Look => pair.expect_same(rt),
@@ -236,13 +249,11 @@ fn lower_ones_are_sent(rt: HostRuntime) -> Result<(), Fail> {
     walk(&rt, rt.alloc(), Places::InARow, &LOWER)
 }
 
-// Between the writes classes are made hard, taken off, merged and landed alone.
-const CHANGES: [Deed<'static>; 11] = [
+// Between the writes a hard patch is laid, one isn't entered, and classes are merged and landed alone.
+const CHANGES: [Deed<'static>; 9] = [
     Send(&[0]),
-    Lay(50, 6, 9),
-    Harden,
-    Lay(51, 8, 9),
-    Unlay,
+    LayHard(50, 6, 9),
+    LayNothing(51, 8, 9),
     Send(&[12]),
     Join(20, 21),
     Look,

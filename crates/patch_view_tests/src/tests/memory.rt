@@ -1,5 +1,5 @@
 //! Memory that is given back, and each allocation refused in turn.
-use super::{bare, expect_bytes, expect_eq, expect_taken, has_joint, join_by};
+use super::{bare, expect_bytes, expect_eq, expect_taken, has_joint, is_unentered, join_by};
 use linked_list_allocator::LocalHeap;
 use patch_model::{OutOfMemory, PatchNo};
 use patch_view::{BlockState, TakeRefusal};
@@ -10,7 +10,7 @@ use std::test::Fail;
 // What is done to a block in a heap.
 #[derive(Clone, Copy)]
 enum Course {
-    GiveMemoryBack,
+    SaveWhatMayGoBack,
     KeepFewNumbers,
     TakeMemoryOnce,
     TakeOneIn,
@@ -23,7 +23,7 @@ fn follow(
     course: Course,
 ) -> Result<(), Fail> {
     match course {
-        Course::GiveMemoryBack => give_memory_back(rt, heap, block),
+        Course::SaveWhatMayGoBack => save_what_may_go_back(rt, heap, block),
         Course::KeepFewNumbers => keep_few_numbers(rt, heap, block),
         Course::TakeMemoryOnce => take_memory_once(rt, heap, block),
         Course::TakeOneIn => take_one_in(rt, heap, block),
@@ -37,50 +37,48 @@ fn follow_in_heap(rt: &impl Abort, alloc: Global, course: Course) -> Result<(), 
 }
 
 fn lay_one_over_another(block: &mut BlockState<&LocalHeap>) -> Result<(), OutOfMemory> {
-    block.lay(PatchNo(0), 0, &[1; 500], &[])?;
-    block.lay(PatchNo(1), 0, &[2; 500], &[PatchNo(0)])
+    block.lay(PatchNo(0), 0, &[1; 500], &[], false)?;
+    block.lay(PatchNo(1), 0, &[2; 500], &[PatchNo(0)], false)
 }
 
-fn lay_and_unlay(block: &mut BlockState<&LocalHeap>) -> Result<(), OutOfMemory> {
-    block.lay(PatchNo(2), 0, &[3; 500], &[])?;
-    block.unlay();
-    Ok(())
+// Lays a patch of 500 bytes. How much more memory is used then.
+fn lay_more(
+    heap: &LocalHeap,
+    block: &mut BlockState<&LocalHeap>,
+    no: u32,
+    hard: bool,
+) -> Result<usize, OutOfMemory> {
+    let before = heap.used();
+    block.lay(PatchNo(no), 0, &[3; 500], &[], hard)?;
+    Ok(heap.used().saturating_sub(before))
 }
 
-// A patch made hard gives its undo bytes back.
-fn harden(rt: &impl Abort, heap: &LocalHeap, block: &mut BlockState<&LocalHeap>) {
-    let soft = heap.used();
-    block.harden();
-    assert!(rt; soft.saturating_sub(heap.used()) >= 500);
-}
-
-fn give_memory_back(
+// Of a hard patch no bytes are saved, and one that isn't entered gives back what was taken for it.
+fn save_what_may_go_back(
     rt: &impl Abort,
     heap: &LocalHeap,
     block: &mut BlockState<&LocalHeap>,
 ) -> Result<(), Fail> {
     lay_one_over_another(block)?;
-    harden(rt, heap, block);
-    let hard = heap.used();
-    lay_and_unlay(block)?;
-    expect_eq(rt, &heap.used(), &hard);
+    assert!(rt; lay_more(heap, block, 2, false)? >= 500);
+    expect_eq(rt, &lay_more(heap, block, 3, true)?, &0);
+    let before = heap.used();
+    assert!(rt; is_unentered(rt, block, 4, 0, &[3; 500]));
+    expect_eq(rt, &heap.used(), &before);
     Ok(())
 }
 
 #[test]
-fn memory_is_given_back(rt: HostRuntime) -> Result<(), Fail> {
-    follow_in_heap(&rt, rt.alloc(), Course::GiveMemoryBack)
+fn a_hard_patch_takes_no_memory_for_its_bytes(rt: HostRuntime) -> Result<(), Fail> {
+    follow_in_heap(&rt, rt.alloc(), Course::SaveWhatMayGoBack)
 }
 
-// Lays a patch that names these, and makes it hard.
 fn lay_hard(
     block: &mut BlockState<&LocalHeap>,
     no: u32,
     after: &[PatchNo],
 ) -> Result<(), OutOfMemory> {
-    block.lay(PatchNo(no), 0, &[1; 500], after)?;
-    block.harden();
-    Ok(())
+    block.lay(PatchNo(no), 0, &[1; 500], after, true)
 }
 
 // The lists of a patch with no more than two names take no memory, and those of one with three do.
@@ -105,8 +103,8 @@ fn few_numbers_take_no_memory(rt: HostRuntime) -> Result<(), Fail> {
 }
 
 fn lay_two_that_touch(block: &mut BlockState<&LocalHeap>) -> Result<(), OutOfMemory> {
-    block.lay(PatchNo(0), 0, &[1; 500], &[])?;
-    block.lay(PatchNo(1), 400, &[2; 500], &[])
+    block.lay(PatchNo(0), 0, &[1; 500], &[], false)?;
+    block.lay(PatchNo(1), 400, &[2; 500], &[], false)
 }
 
 // A joint that is let go keeps no memory.
@@ -176,7 +174,7 @@ fn a_joint_takes_memory_once(rt: HostRuntime) -> Result<(), Fail> {
 fn lay_one_within(block: &mut BlockState<&LocalHeap>) -> Result<(), OutOfMemory> {
     lay_one_over_another(block)?;
     block.join(PatchNo(0), PatchNo(1))?;
-    block.lay(PatchNo(2), 100, &[3; 200], &[PatchNo(1)])
+    block.lay(PatchNo(2), 100, &[3; 200], &[PatchNo(1)], false)
 }
 
 // The first class saved the bytes of both, and has room for the other's number: its record stays, and the other's goes.
@@ -233,12 +231,12 @@ fn expect_merged(rt: &impl Abort, block: &mut BlockState<&LocalHeap>) {
 // Lays two patches and makes them one, and tells whether all was done: after a refusal the block shows what it showed
 // before.
 fn grow(rt: &impl Abort, block: &mut BlockState<&LocalHeap>, at_once: bool) -> bool {
-    let first = block.lay(PatchNo(0), 0, &[1, 2, 3], &[]);
+    let first = block.lay(PatchNo(0), 0, &[1, 2, 3], &[], false);
     if first.is_err() {
         expect_nothing_laid(rt, block);
         return false;
     }
-    let second = block.lay(PatchNo(1), 2, &[4, 5], &[PatchNo(0)]);
+    let second = block.lay(PatchNo(1), 2, &[4, 5], &[PatchNo(0)], false);
     if second.is_err() {
         expect_one_laid(rt, block);
         return false;

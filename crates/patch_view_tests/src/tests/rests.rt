@@ -1,5 +1,5 @@
 //! Answers of takes beside a plain walk over all patches.
-use super::{bare, expect_taken, join_by};
+use super::{bare, expect_taken, is_unentered, join_by};
 use patch_model::{OutOfMemory, PatchNo};
 use patch_view::{BlockState, TakeRefusal};
 use std::alloc::Global;
@@ -16,7 +16,7 @@ fn lay_byte(
     start: usize,
 ) -> Result<(), OutOfMemory> {
     assert!(rt; start < 4096);
-    block.lay(PatchNo(no), start, &[7], &[])
+    block.lay(PatchNo(no), start, &[7], &[], false)
 }
 
 fn lay_apart(rt: &impl Abort, block: &mut BlockState) -> Result<(), OutOfMemory> {
@@ -40,7 +40,7 @@ fn expect_free(rt: &impl Abort, block: &mut BlockState, no: u32) {
 fn take_beside_many(rt: &impl Abort, block: &mut BlockState) -> Result<(), Fail> {
     lay_apart(rt, block)?;
     lay_byte(rt, block, 1000, 2000)?;
-    block.lay(PatchNo(1001), 1, &[7], &[PatchNo(600)])?;
+    block.lay(PatchNo(1001), 1, &[7], &[PatchNo(600)], false)?;
     expect_rested_on(rt, block, 500, 1000);
     expect_rested_on(rt, block, 600, 1001);
     for no in [0, 499, 501, 599, 601, 999, 1000, 1001] {
@@ -55,7 +55,7 @@ fn one_is_taken_beside_many(rt: HostRuntime) -> Result<(), Fail> {
     take_beside_many(&rt, &mut block)
 }
 
-// Others are merged, taken off and landed, and what rests on a class goes on resting on it.
+// Others are merged, not entered and landed, and what rests on a class goes on resting on it.
 fn change_others(rt: &impl Abort, block: &mut BlockState) -> Result<(), Fail> {
     for no in 0..4u32 {
         lay_byte(rt, block, no, no as usize)?;
@@ -63,8 +63,7 @@ fn change_others(rt: &impl Abort, block: &mut BlockState) -> Result<(), Fail> {
     lay_byte(rt, block, 4, 1)?;
     join_by(block, 0, 1)?;
     expect_rested_on(rt, block, 0, 4);
-    lay_byte(rt, block, 5, 2)?;
-    block.unlay();
+    assert!(rt; is_unentered(rt, block, 5, 2, &[7]));
     expect_free(rt, block, 2);
     lay_byte(rt, block, 5, 2)?;
     expect_rested_on(rt, block, 2, 5);
@@ -186,8 +185,9 @@ fn lay_plain(rt: &impl Abort, block: &mut BlockState, patch: &Plain) -> Result<(
             patch.start,
             &BYTES[..long],
             &[PatchNo(named)],
+            false,
         ),
-        None => block.lay(PatchNo(patch.no), patch.start, &BYTES[..long], &[]),
+        None => block.lay(PatchNo(patch.no), patch.start, &BYTES[..long], &[], false),
     }
 }
 

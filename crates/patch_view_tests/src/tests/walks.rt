@@ -2,7 +2,10 @@
 ghost use Rattle.std.specs.Prelude.{◌+◌, ◌≤◌, All, IfOk};
 ghost use Rattle.patch_model.specs.Pile.{end};
 
-use super::{bare, expect_bytes, expect_eq, expect_taken, expect_without_all, has_joint, join_by};
+use super::{
+    bare, expect_bytes, expect_eq, expect_taken, expect_without_all, has_joint, is_unentered,
+    join_by,
+};
 use patch_model::{
     BLOCK, BlockBytes, BlockNo, Bytes, Numbers, OutOfMemory, Patch, PatchNo, Undo, pile,
 };
@@ -17,8 +20,10 @@ use std::test::Fail;
 enum Deed<'a> {
     // Lays a patch of this number at this place: at most four bytes, and the patch that it names.
     Lay(u32, usize, &'a [u8], Option<u32>),
-    Unlay,
-    Harden,
+    // Lays a hard patch that names none.
+    LayHard(u32, usize, &'a [u8]),
+    // A patch that can't be entered elsewhere.
+    LayNothing(u32, usize, &'a [u8]),
     Join(u32, u32),
     // Draws a joint up and lets it go. Whether there is one.
     Draw(u32, u32, bool),
@@ -26,7 +31,7 @@ enum Deed<'a> {
     JoinBy(u32, u32),
     // Puts in place that there is no joint.
     JoinNothing,
-    // Draws a joint up, and takes the newest patch off before it is put in place.
+    // Draws a joint up, and makes the second patch durable before it is put in place.
     JoinGone(u32, u32),
     Depart(u32),
     DepartEach(u32, u32),
@@ -63,6 +68,15 @@ fn patch_of(
     })
 }
 
+// The number, place and bytes of a patch that is laid.
+fn laid_by<'a>(deed: &Deed<'a>) -> Option<(u32, usize, &'a [u8])> {
+    match deed {
+        Deed::Lay(no, start, bytes, _) => Some((*no, *start, *bytes)),
+        Deed::LayHard(no, start, bytes) => Some((*no, *start, *bytes)),
+        _ => None,
+    }
+}
+
 // The patches of these lines that aren't out.
 fn patches_of(
     rt: &impl Abort,
@@ -74,9 +88,9 @@ fn patches_of(
 {
     let mut patches = Vec::new(alloc);
     for line in lines {
-        if let Deed::Lay(no, start, bytes, _) = &line.0 {
-            if !out.contains(no) {
-                patches.push(patch_of(rt, alloc, *no, *start, bytes)?)?;
+        if let Some((no, start, bytes)) = laid_by(&line.0) {
+            if !out.contains(&no) {
+                patches.push(patch_of(rt, alloc, no, start, bytes)?)?;
             }
         }
     }
@@ -105,14 +119,26 @@ fn lay(
 ) -> Result<(), OutOfMemory> {
     assert!(rt; start <= 100 && bytes.len() <= 4);
     match after {
-        Some(named) => block.lay(PatchNo(no), start, bytes, &[PatchNo(named)]),
-        None => block.lay(PatchNo(no), start, bytes, &[]),
+        Some(named) => block.lay(PatchNo(no), start, bytes, &[PatchNo(named)], false),
+        None => block.lay(PatchNo(no), start, bytes, &[], false),
     }
+}
+
+fn lay_hard(
+    rt: &impl Abort,
+    block: &mut BlockState,
+    no: u32,
+    start: usize,
+    bytes: &[u8],
+) -> Result<(), OutOfMemory> {
+    assert!(rt; start <= 100 && bytes.len() <= 4);
+    block.lay(PatchNo(no), start, bytes, &[], true)
 }
 
 fn join_what_is_gone(block: &mut BlockState, a: u32, b: u32) -> Result<(), OutOfMemory> {
     let joint = block.joint(PatchNo(a), PatchNo(b))?;
-    block.unlay();
+    block.depart(PatchNo(b));
+    block.land(PatchNo(b));
     block.join_by(joint);
     Ok(())
 }
@@ -133,8 +159,10 @@ fn act(rt: &impl Abort, block: &mut BlockState, deed: &Deed) -> Result<(), OutOf
         Deed::JoinBy(a, b) => return join_by(block, *a, *b),
         Deed::JoinNothing => block.join_by(None),
         Deed::JoinGone(a, b) => return join_what_is_gone(block, *a, *b),
-        Deed::Unlay => block.unlay(),
-        Deed::Harden => block.harden(),
+        Deed::LayHard(no, start, bytes) => return lay_hard(rt, block, *no, *start, bytes),
+        Deed::LayNothing(no, start, bytes) => assert!(rt;
+            is_unentered(rt, block, *no, *start, bytes)
+        ),
         Deed::Depart(no) => block.depart(PatchNo(*no)),
         Deed::DepartEach(a, b) => block.depart_each(&[PatchNo(*a), PatchNo(*b)]),
         Deed::Land(no) => block.land(PatchNo(*no)),
@@ -226,15 +254,14 @@ fn patches_apart_are_taken_in_any_order(rt: HostRuntime) -> Result<(), Fail> {
     walk(&rt, rt.alloc(), &THREE_APART)
 }
 
-const NAMED_AND_HARD: [Line<'static>; 12] = [
+const NAMED_AND_HARD: [Line<'static>; 11] = [
     Line(Deed::Lay(0, 0, &[0xaa], None), &[]),
     Line(Deed::Lay(1, 4, &[0xbb], Some(0)), &[]),
     Line(Deed::Take(0, Err(DependentApplied(PatchNo(1)))), &[]),
     Line(Deed::Take(1, Ok(())), &[1]),
     Line(Deed::Take(1, Err(AlreadyTaken)), &[1]),
     Line(Deed::Restore, &[]),
-    Line(Deed::Lay(2, 8, &[0x11, 0x12], None), &[]),
-    Line(Deed::Harden, &[]),
+    Line(Deed::LayHard(2, 8, &[0x11, 0x12]), &[]),
     Line(Deed::Take(2, Err(Hard)), &[]),
     Line(Deed::Lay(3, 9, &[0x22, 0x23], None), &[]),
     Line(Deed::Take(3, Ok(())), &[3]),
@@ -383,11 +410,9 @@ fn one_under_a_later_durable_one_is_taken(rt: HostRuntime) -> Result<(), Fail> {
     walk(&rt, rt.alloc(), &UNDER_A_LATER_DURABLE_ONE)
 }
 
-const HARD_OVER_HARD: [Line<'static>; 8] = [
-    Line(Deed::Lay(0, 0, &[0x11], None), &[]),
-    Line(Deed::Harden, &[]),
-    Line(Deed::Lay(1, 0, &[0x22], None), &[]),
-    Line(Deed::Harden, &[]),
+const HARD_OVER_HARD: [Line<'static>; 6] = [
+    Line(Deed::LayHard(0, 0, &[0x11]), &[]),
+    Line(Deed::LayHard(1, 0, &[0x22]), &[]),
     Line(Deed::Take(1, Err(Hard)), &[]),
     Line(Deed::Back(1, Err(NotTaken)), &[]),
     Line(Deed::Lay(2, 0, &[0x33], None), &[]),
@@ -399,31 +424,26 @@ fn hard_ones_are_never_taken(rt: HostRuntime) -> Result<(), Fail> {
     walk(&rt, rt.alloc(), &HARD_OVER_HARD)
 }
 
-const TAKEN_OFF_AND_LAID_AGAIN: [Line<'static>; 13] = [
+const NOT_ENTERED_AT_FIRST: [Line<'static>; 9] = [
     Line(Deed::Lay(0, 0, &[0xa1, 0xa2, 0xa3, 0xa4], None), &[]),
-    Line(Deed::Lay(1, 2, &[0xb1, 0xb2, 0xb3, 0xb4], None), &[]),
-    Line(Deed::Unlay, &[1]),
-    Line(Deed::Take(1, Err(Unknown)), &[1]),
+    Line(Deed::LayNothing(1, 2, &[0xb1, 0xb2, 0xb3, 0xb4]), &[]),
+    Line(Deed::Take(1, Err(Unknown)), &[]),
+    Line(Deed::Take(0, Ok(())), &[0]),
+    Line(Deed::Restore, &[]),
     Line(Deed::Lay(1, 2, &[0xb1, 0xb2, 0xb3, 0xb4], None), &[]),
     Line(Deed::Take(0, Err(DependentApplied(PatchNo(1)))), &[]),
     Line(Deed::Take(1, Ok(())), &[1]),
     Line(Deed::Restore, &[]),
-    Line(Deed::Unlay, &[1]),
-    Line(Deed::Take(0, Ok(())), &[0, 1]),
-    Line(Deed::Restore, &[1]),
-    Line(Deed::Unlay, &[0, 1]),
-    Line(Deed::Unlay, &[0, 1]),
 ];
 
 #[test]
-fn the_newest_is_taken_off_and_laid_again(rt: HostRuntime) -> Result<(), Fail> {
-    walk(&rt, rt.alloc(), &TAKEN_OFF_AND_LAID_AGAIN)
+fn one_that_is_not_entered_is_not_laid(rt: HostRuntime) -> Result<(), Fail> {
+    walk(&rt, rt.alloc(), &NOT_ENTERED_AT_FIRST)
 }
 
-const MADE_HARD_ONCE_LAID: [Line<'static>; 8] = [
+const HARD_OVER_ANOTHER: [Line<'static>; 7] = [
     Line(Deed::Lay(0, 0, &[0xa1, 0xa2, 0xa3, 0xa4], None), &[]),
-    Line(Deed::Lay(1, 2, &[0xb1, 0xb2, 0xb3, 0xb4], None), &[]),
-    Line(Deed::Harden, &[]),
+    Line(Deed::LayHard(1, 2, &[0xb1, 0xb2, 0xb3, 0xb4]), &[]),
     Line(Deed::Take(1, Err(Hard)), &[]),
     Line(Deed::Take(0, Err(DependentApplied(PatchNo(1)))), &[]),
     Line(Deed::Lay(2, 3, &[0xcc], None), &[]),
@@ -432,8 +452,8 @@ const MADE_HARD_ONCE_LAID: [Line<'static>; 8] = [
 ];
 
 #[test]
-fn the_newest_is_made_hard(rt: HostRuntime) -> Result<(), Fail> {
-    walk(&rt, rt.alloc(), &MADE_HARD_ONCE_LAID)
+fn a_hard_one_over_another_stays(rt: HostRuntime) -> Result<(), Fail> {
+    walk(&rt, rt.alloc(), &HARD_OVER_ANOTHER)
 }
 
 const NO_JOINT: [Line<'static>; 9] = [
@@ -445,7 +465,7 @@ const NO_JOINT: [Line<'static>; 9] = [
     Line(Deed::JoinNothing, &[]),
     Line(Deed::Take(0, Ok(())), &[0]),
     Line(Deed::Restore, &[]),
-    Line(Deed::JoinGone(0, 1), &[1]),
+    Line(Deed::JoinGone(0, 1), &[]),
 ];
 
 #[test]

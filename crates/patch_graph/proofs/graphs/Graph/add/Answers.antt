@@ -1,9 +1,8 @@
-use Rattle.std.proofs.Common.{sym, ap, ◌∙◌}
-use Rattle.patch_graph.specs.State.{Graph}
-use Rattle.patch_graph.proofs.OneMore.{adds}
+use Rattle.std.proofs.Common.{◌∙◌}
 use Rattle.patch_graph.proofs.graphs.Graph.add.Goals as goal
 
 pub returns-clause-answer : goal.returns-clause-answer
 returns-clause-answer g c all p r is orderly =
-    let a = adds c.args.self.now c.add_exactly.new.self all p c.args.block c.args.start c.args.stop c.args.after.now c.args.undo c.in_ok-hard.hard r is orderly c.in_ok-hard.ensures.done in
-    (a.0, c.made.ensures ∙ ap (λ (g : Graph). g.made) c.self.view_is ∙ sym is.no, a.1)
+    let t = c.in_ok-newcomer.ensures.answer all p r is orderly in
+    let put = c.in_ok-put_in.ensures.answer all p c.args.block c.args.start c.args.stop c.args.after.now c.args.undo c.in_ok-newcomer.ensures.drawn r is orderly in
+    (put, c.no-no.ensures ∙ t.0, c.is_hard-hard.ensures ∙ t.1)

@@ -1,11 +1,12 @@
-use Rattle.std.proofs.Common.{◌≡◌, ◌∷◌, [], ◌++◌, false, rules, ◌+◌, ap, ◌∙◌, length, sym, refl, ◌≤◌, List, ℕ, arith}
-use Rattle.std.specs.Prelude.{◌==◌}
+use Rattle.std.proofs.Common.{◌≡◌, ◌∷◌, [], ◌++◌, false, inr, rules, ◌+◌, ap, ◌∙◌, length, sym, refl, ◌≤◌, List, ℕ, Bool, not, arith}
+use Rattle.std.specs.Prelude.{◌==◌, if◌then◌else◌}
 use Rattle.std.proofs.lemmas.List.{with_items_is}
+use Rattle.std.proofs.lemmas.Result.{MatchResult-from_err}
 use Rattle.patch_view.specs.State.{Class, is_takeable, laid_over}
 use Rattle.patch_view.proofs.Standing.{pushed_within}
 use Rattle.patch_view.proofs.Apart.{laid_apart}
 use Rattle.patch_view.proofs.Covering.{laid_rests}
-use Rattle.patch_view.proofs.Baring.{laid_image}
+use Rattle.patch_view.proofs.Baring.{put_over_image, stays_too}
 use Rattle.patch_view.proofs.Gapping.{laid_gap}
 use Rattle.std.specs.Prelude.{slice_range}
 use Rattle.std.specs.Vec.{with_items}
@@ -13,24 +14,24 @@ use Rattle.patch_view.proofs.states.BlockState.lay_with.Goals as goal
 
 pub invariant_of-self-2 : goal.invariant_of-self-2
 invariant_of-self-2 g c =
-    let bytes = ap length (with_items_is c.self.inside.bytes c.swap_span.new.buffer (c.swap_span.auto.buffer ∙ c.as_mut_slice.ensures.len))
-    ∙ c.swap_span.auto.buffer ∙ ap length c.as_mut_slice.ensures.value ∙ c.self.invariant.0 in
+    let hard : Bool = c.args.hard in
+    let bytes = ap length (with_items_is c.self.inside.bytes c.put_over.new.buffer (c.put_over.auto.buffer ∙ c.as_mut_slice.ensures.len))
+    ∙ c.put_over.auto.buffer ∙ ap length c.as_mut_slice.ensures.value ∙ c.self.invariant.0 in
     let items : c.push_reserved.new.self.items ≡ c.self.inside.classes.items ++ c.new-class.result ∷ [] = search rules in
     let off : c.new-class.result.taken ≡ false = ap (λ (k : Class). k.taken) c.new-class.ensures in
     let grounded : c.new-class.result.flying ≡ false = ap (λ (k : Class). k.flying) c.new-class.ensures in
     let one : c.new-class.result.members ≡ c.args.no ∷ [] = ap (λ (k : Class). k.members) c.new-class.ensures in
     let first : c.is_empty-is_only.result ≡ (length c.self.inside.classes.items == 0) = search rules in
     let buffer : c.as_mut_slice.result.now ≡ c.self.inside.bytes.items = c.as_mut_slice.ensures.value in
-    let over : c.as_mut_slice-2.result.now ≡ c.args.bytes.now = c.as_mut_slice-2.ensures.value ∙ c.in_ok-saved.ensures.items in
     let fits : c.args.start + length c.args.bytes.now ≤ length c.self.inside.bytes.items = omega (arith, c.requires.fits, c.self.invariant.0) in
-    let laid : (with_items c.self.inside.bytes c.swap_span.new.buffer).items ≡ laid_over c.args.start c.args.bytes.now c.self.inside.bytes.items =
-    with_items_is c.self.inside.bytes c.swap_span.new.buffer (c.swap_span.auto.buffer ∙ c.as_mut_slice.ensures.len) ∙ c.swap_span.ensures.laid
-    ∙ ap (λ z. laid_over c.args.start z c.as_mut_slice.result.now) over ∙ ap (laid_over c.args.start c.args.bytes.now) buffer in
-    let saves : c.new-class.result.saved ≡ slice_range c.self.inside.bytes.items c.args.start (c.args.start + length c.args.bytes.now) =
+    let laid : (with_items c.self.inside.bytes c.put_over.new.buffer).items ≡ laid_over c.args.start c.args.bytes.now c.self.inside.bytes.items =
+    with_items_is c.self.inside.bytes c.put_over.new.buffer (c.put_over.auto.buffer ∙ c.as_mut_slice.ensures.len) ∙ c.put_over.ensures.laid
+    ∙ ap (laid_over c.args.start c.args.bytes.now) buffer in
+    let saves : c.new-class.result.saved ≡ (if hard then [] else slice_range c.self.inside.bytes.items c.args.start (c.args.start + length c.args.bytes.now)) =
     ap (λ (k : Class). k.saved) c.new-class.ensures
-    ∙ with_items_is c.in_ok-saved.saved c.swap_span.new.saved (c.swap_span.auto.saved ∙ c.as_mut_slice-2.ensures.len) ∙ c.swap_span.ensures.kept
-    ∙ ap (λ z. slice_range z c.args.start (c.args.start + length c.as_mut_slice-2.result.now)) buffer
-    ∙ ap (λ (z : List ℕ). slice_range c.self.inside.bytes.items c.args.start (c.args.start + length z)) over in
+    ∙ with_items_is c.in_ok-saved.saved c.put_over.new.saved (c.put_over.auto.saved ∙ c.as_mut_slice-2.ensures.len) ∙ c.put_over.ensures.kept
+    ∙ ap (λ (z : List ℕ). if hard then [] else slice_range z c.args.start (c.args.start + length c.args.bytes.now)) buffer in
+    let soft : is_takeable c.new-class.result ≡ not hard = ap is_takeable c.new-class.ensures ∙ search rules in
     let w = c.with-self-inside.ensures in (
       bytes,
       rw items (pushed_within (λ (k : Class). k.taken) refl c.self.inside.classes.items c.new-class.result c.self.inside.taken off c.self.invariant.1),
@@ -41,8 +42,14 @@ invariant_of-self-2 g c =
           (ap (λ (k : Class). k.start) c.new-class.ensures) (ap (λ (k : Class). k.stop) c.new-class.ensures) (ap (λ (k : Class). k.after) c.new-class.ensures ∙ sym c.as_slice.ensures)
           first c.lay_over.ensures c.self.invariant.2 c.self.invariant.3),
       rw items (pushed_within (λ (k : Class). k.flying) refl c.self.inside.classes.items c.new-class.result c.self.inside.flying grounded c.self.invariant.4),
-      rw (items, laid) (laid_image c.self.inside.image c.make_room.new.image c.self.inside.classes.items c.new-class.result c.self.inside.bytes.items c.args.bytes.now c.args.start fits
-          (ap (λ (k : Class). k.start) c.new-class.ensures) saves (ap is_takeable c.new-class.ensures)
-          c.make_room.ensures c.self.invariant.5),
-      rw items (laid_gap c.self.inside.image c.make_room.new.image c.self.inside.classes.items c.new-class.result c.make_room.ensures c.self.invariant.6),
+      rw (items, laid) (put_over_image c.self.inside.image c.make_room.new.image c.forget_unless.new.image c.self.inside.classes.items c.new-class.result c.self.inside.bytes.items c.args.bytes.now c.args.start hard fits
+          (ap (λ (k : Class). k.start) c.new-class.ensures) saves soft
+          c.make_room.ensures c.forget_unless.ensures c.self.invariant.5),
+      rw items (laid_gap c.self.inside.image c.forget_unless.new.image c.self.inside.classes.items c.new-class.result
+          (stays_too (not hard) c.self.inside.image c.make_room.new.image c.forget_unless.new.image c.make_room.ensures c.forget_unless.ensures) c.self.invariant.6),
     )
+
+pub returns-in_err-enter-clause-entered : goal.returns-in_err-enter-clause-entered
+returns-in_err-enter-clause-entered g c =
+    MatchResult-from_err _ _ _ c.from_residual-in_err-enter.ensures.0
+    (λ _. inr (c.in_err-enter.field-0.0, record { shown = _; shows = refl; left = _; met = c.in_err-enter.ensures; leaves = refl }))
