@@ -10,6 +10,7 @@ pub mod Kept
 pub mod Steps
 pub mod Given
 pub mod Laws
+pub mod Single
 pub mod Closed
 pub mod Fitting
 pub mod Rows

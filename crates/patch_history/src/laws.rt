@@ -5,11 +5,17 @@ ghost use Rattle.patch_history.specs.Steps.{CutsAreFirst, PlansAreOfStores, Upgr
 ghost use Rattle.patch_history.specs.Fitting.{PutsFit, FramesAreThere, ReclaimsGoOn};
 ghost use Rattle.patch_history.specs.Given.{Given};
 ghost use Rattle.patch_history.specs.Closed.{HistoriesMove, ClosedDisksOpen, CrashDisksOpen};
-ghost use Rattle.patch_history.specs.Laws.{HistoriesExtend, StandingsRun, HistoriesAreOfStores, MapsAreSaid, HistoriesAreRead, StandingsAgree, ExtentsAreKept, GroupsAreKept};
+ghost use Rattle.patch_history.specs.Laws.{HistoriesExtend, HistoriesBegin, StandingsRun, HistoriesAreOfStores, MapsAreSaid, HistoriesAreRead, StandingsAgree, ExtentsAreKept, GroupsAreKept};
+ghost use Rattle.patch_history.specs.Single.{ShelvesAreOfChanges, ChangesAreSingle, ShelvesAreSingle};
 
 /// One event more is judged by the history so far.
 pub fn histories_extend()
     ensures { HistoriesExtend }
+{}
+
+/// The first events of a legal history are a legal history.
+pub fn histories_begin()
+    ensures { HistoriesBegin }
 {}
 
 /// What a history's calls have made of the execution is its steps.
@@ -87,6 +93,17 @@ pub fn histories_are_of_stores()
     ensures agree { StandingsAgree }
 {
     laws_below();
+}
+
+/// The opening blocks and the steps say which changes were made, and so what is kept beside the cache: legal histories of one
+/// execution differ in neither, whatever calls have made the steps.
+pub fn shelves_are_single()
+    ensures whole { ShelvesAreOfChanges }
+    ensures changes { ChangesAreSingle }
+    ensures shelf { ShelvesAreSingle }
+{
+    laws_below();
+    patch_frame::laws::slots_are_read_again();
 }
 
 /// Whatever closed set of a legal history's patches reached the disk, it opens, and each key has the value of its last put
