@@ -34,3 +34,4 @@ pub mod Lengths
 pub mod Extended
 pub mod Fitting
 pub mod Grouping
+pub mod Chaining

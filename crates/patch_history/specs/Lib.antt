@@ -11,6 +11,7 @@ pub mod Steps
 pub mod Given
 pub mod Laws
 pub mod Single
+pub mod Chained
 pub mod Closed
 pub mod Fitting
 pub mod Rows

@@ -6,6 +6,7 @@ ghost use Rattle.patch_history.specs.Fitting.{PutsFit, FramesAreThere, ReclaimsG
 ghost use Rattle.patch_history.specs.Given.{Given};
 ghost use Rattle.patch_history.specs.Closed.{HistoriesMove, ClosedDisksOpen, CrashDisksOpen};
 ghost use Rattle.patch_history.specs.Laws.{HistoriesExtend, HistoriesBegin, StandingsRun, HistoriesAreOfStores, MapsAreSaid, HistoriesAreRead, StandingsAgree, ExtentsAreKept, GroupsAreKept};
+ghost use Rattle.patch_history.specs.Chained.{GroupsAreChained, ChainsAreKept};
 ghost use Rattle.patch_history.specs.Single.{ShelvesAreOfChanges, ChangesAreSingle, ShelvesAreSingle};
 
 /// One event more is judged by the history so far.
@@ -132,6 +133,15 @@ pub fn groups_are_kept()
 {
     patch_model::laws::steps_extend();
     patch_plans::laws::order_is_kept();
+}
+
+/// The groups before one are those to which a chain of the history's accepted `Depend` commands leads from it. So what a crash
+/// leaves, and every other set that is closed under dependencies, holds with a patch of a group all patches of those.
+pub fn groups_are_chained()
+    ensures before { GroupsAreChained }
+    ensures closed { ChainsAreKept }
+{
+    groups_are_kept();
 }
 
 /// A put that isn't refused finds a slot and an extent with room. The frame of each used slot is there, with the value of
