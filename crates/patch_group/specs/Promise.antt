@@ -5,6 +5,7 @@ use Rattle.patch_model.specs.Entry.{Entry}
 use Rattle.patch_model.specs.State.{entries_of}
 use Rattle.patch_model.specs.Crash.{IsClosed}
 use Rattle.patch_plans.specs.Groups.{Groups, before, patches_of, no_groups}
+pub use Rattle.patch_plans.specs.Chains.{Chain, one, onward}
 use Rattle.patch_plans.specs.Order.{AreGroupsOf}
 use Rattle.patch_group.specs.Asks.{Ask, Answer, Plain, Patch, Group, Engage, Disengage, Depend, Close, Pending, is_refused, AreGroupAnswers, run_after_all, groups_after_all}
 
@@ -15,11 +16,6 @@ AsksKeep =
     → AreGroupsOf (run_after_all run gs asks answers) (groups_after_all gs asks answers)
 
 -- Chains.
-
--- a chain of orders from one group to another
-pub data Chain (orders : List (ℕ × ℕ)) : ℕ → ℕ → Type 0 where
-  one : {q p : ℕ} → Contains orders (q, p) → Chain orders q p
-  onward : {q r p : ℕ} → Contains orders (q, r) → Chain orders r p → Chain orders q p
 
 -- the order that a call makes
 abbrev pub order_of : Ask → List (ℕ × ℕ)

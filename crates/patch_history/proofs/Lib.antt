@@ -1,5 +1,6 @@
 pub mod Members
 pub mod Extending
+pub mod Beginning
 pub mod Shelving
 pub mod Keeping
 pub mod Making
@@ -26,8 +27,11 @@ pub mod Mapping
 pub mod Events
 pub mod Calls
 pub mod Bridging
+pub mod Spelled
+pub mod Single
 pub mod Pointing
 pub mod Lengths
 pub mod Extended
 pub mod Fitting
 pub mod Grouping
+pub mod Chaining

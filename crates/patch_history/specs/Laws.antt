@@ -1,5 +1,5 @@
 -- Laws of histories.
-use Rattle.std.specs.Prelude.{ℕ, true, ◌≡◌, ◌≤◌, ◌<◌, List, length, count_by, Some}
+use Rattle.std.specs.Prelude.{ℕ, true, ◌≡◌, ◌≤◌, ◌<◌, List, ◌++◌, length, count_by, Some}
 use Rattle.patch_model.specs.Entry.{is_live}
 use Rattle.patch_model.specs.State.{entries_of}
 use Rattle.patch_model.specs.Legal.{IsLegal}
@@ -20,6 +20,14 @@ abbrev pub HistoriesExtend : Type 0
 HistoriesExtend =
     (h : History) (event : Event) → IsLegalHistory h → IsRight (standing_of h) event
     → IsLegal (execution_of (with_event h event)) → IsLegalHistory (with_event h event)
+
+-- the history with more events behind its own
+abbrev pub with_events : History → List Event → History
+with_events h later = record h { events = h.events ++ later }
+
+-- the first events of a legal history are one: each was judged by those before it
+abbrev pub HistoriesBegin : Type 0
+HistoriesBegin = (h : History) (later : List Event) → IsLegalHistory (with_events h later) → IsLegalHistory h
 
 -- what a history's calls have made of the execution is its steps
 abbrev pub StandingsRun : Type 0

@@ -10,6 +10,8 @@ pub mod Kept
 pub mod Steps
 pub mod Given
 pub mod Laws
+pub mod Single
+pub mod Chained
 pub mod Closed
 pub mod Fitting
 pub mod Rows

@@ -5,11 +5,18 @@ ghost use Rattle.patch_history.specs.Steps.{CutsAreFirst, PlansAreOfStores, Upgr
 ghost use Rattle.patch_history.specs.Fitting.{PutsFit, FramesAreThere, ReclaimsGoOn};
 ghost use Rattle.patch_history.specs.Given.{Given};
 ghost use Rattle.patch_history.specs.Closed.{HistoriesMove, ClosedDisksOpen, CrashDisksOpen};
-ghost use Rattle.patch_history.specs.Laws.{HistoriesExtend, StandingsRun, HistoriesAreOfStores, MapsAreSaid, HistoriesAreRead, StandingsAgree, ExtentsAreKept, GroupsAreKept};
+ghost use Rattle.patch_history.specs.Laws.{HistoriesExtend, HistoriesBegin, StandingsRun, HistoriesAreOfStores, MapsAreSaid, HistoriesAreRead, StandingsAgree, ExtentsAreKept, GroupsAreKept};
+ghost use Rattle.patch_history.specs.Chained.{GroupsAreChained, ChainsAreKept};
+ghost use Rattle.patch_history.specs.Single.{ShelvesAreOfChanges, ChangesAreSingle, ShelvesAreSingle};
 
 /// One event more is judged by the history so far.
 pub fn histories_extend()
     ensures { HistoriesExtend }
+{}
+
+/// The first events of a legal history are a legal history.
+pub fn histories_begin()
+    ensures { HistoriesBegin }
 {}
 
 /// What a history's calls have made of the execution is its steps.
@@ -89,6 +96,17 @@ pub fn histories_are_of_stores()
     laws_below();
 }
 
+/// The opening blocks and the steps say which changes were made, and so what is kept beside the cache: legal histories of one
+/// execution differ in neither, whatever calls have made the steps.
+pub fn shelves_are_single()
+    ensures whole { ShelvesAreOfChanges }
+    ensures changes { ChangesAreSingle }
+    ensures shelf { ShelvesAreSingle }
+{
+    laws_below();
+    patch_frame::laws::slots_are_read_again();
+}
+
 /// Whatever closed set of a legal history's patches reached the disk, it opens, and each key has the value of its last put
 /// or delete whose patch is in the set, or a later move of which is. What a crash leaves is such a disk.
 pub fn closed_disks_open()
@@ -115,6 +133,15 @@ pub fn groups_are_kept()
 {
     patch_model::laws::steps_extend();
     patch_plans::laws::order_is_kept();
+}
+
+/// The groups before one are those to which a chain of the history's accepted `Depend` commands leads from it. So what a crash
+/// leaves, and every other set that is closed under dependencies, holds with a patch of a group all patches of those.
+pub fn groups_are_chained()
+    ensures before { GroupsAreChained }
+    ensures closed { ChainsAreKept }
+{
+    groups_are_kept();
 }
 
 /// A put that isn't refused finds a slot and an extent with room. The frame of each used slot is there, with the value of

@@ -10,4 +10,6 @@ pub mod Meaning
 pub mod Laws
 pub mod Members
 pub mod Ordering
+pub mod Chains
+pub mod Chaining
 pub mod Joining

@@ -4,3 +4,6 @@ pub mod Imaging
 pub mod Asking
 pub mod Looking
 pub mod Syncing
+pub mod Alike
+pub mod Resting
+pub mod Single

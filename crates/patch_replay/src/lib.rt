@@ -4,6 +4,7 @@
 mod cached_disk;
 mod cores;
 mod endings;
+pub mod laws;
 mod line_answers;
 mod replaying;
 mod streams;
