@@ -35,3 +35,4 @@ pub mod Extended
 pub mod Fitting
 pub mod Grouping
 pub mod Chaining
+pub mod Limiting

@@ -3,6 +3,7 @@ use Rattle.std.specs.Prelude.{ℕ, true, ◌≡◌, ◌≤◌, ◌<◌, List, �
 use Rattle.patch_model.specs.Entry.{is_live}
 use Rattle.patch_model.specs.State.{entries_of}
 use Rattle.patch_model.specs.Legal.{IsLegal}
+use Rattle.patch_plans.specs.declared.limits.TheConstants.{MAX_GROUPS}
 use Rattle.patch_plans.specs.Order.{AreGroupsOf}
 use Rattle.patch_recovery.specs.Ledger.{value_in}
 use Rattle.patch_recovery.specs.Said.{last_said}
@@ -58,6 +59,10 @@ ExtentsAreKept =
 -- and the groups are those of the execution
 abbrev pub GroupsAreKept : Type 0
 GroupsAreKept = (h : History) → IsLegalHistory h → AreGroupsOf (execution_of h) (standing_of h).groups
+
+-- there are no more groups than may be made
+abbrev pub GroupsAreFew : Type 0
+GroupsAreFew = (h : History) → IsLegalHistory h → length (standing_of h).groups.groups ≤ MAX_GROUPS
 
 -- What a standing says, and the blocks with it: the format; how many patches were made; the frame of each used slot, which
 -- has the value of its key in the map; and the current extent, which is one of the disk's and not empty.

@@ -175,7 +175,11 @@ upgraded_twice = Put (key 107) [] ∷ Upgrade ∷ Upgrade ∷ Put (key 107) [] �
 abbrev pub in_order : List Command
 in_order = Group ∷ Engage 0 ∷ Put (key 97) [] ∷ Disengage 0 ∷ Group ∷ Depend 1 0 ∷ Engage 1 ∷ []
 
--- behind it, calls that are refused, or count
+-- three groups in a chain of two orders, and an order back, which is refused
+abbrev pub chained : List Command
+chained = Group ∷ Group ∷ Group ∷ Depend 1 0 ∷ Depend 2 1 ∷ Depend 0 2 ∷ []
+
+-- behind two groups in order, calls that are refused, or count
 abbrev pub refused_calls : List Command
 refused_calls = Engage 0 ∷ Pending 1 ∷ CloseGroup 1 ∷ CloseGroup 2 ∷ []
 

@@ -5,7 +5,7 @@ ghost use Rattle.patch_history.specs.Steps.{CutsAreFirst, PlansAreOfStores, Upgr
 ghost use Rattle.patch_history.specs.Fitting.{PutsFit, FramesAreThere, ReclaimsGoOn};
 ghost use Rattle.patch_history.specs.Given.{Given};
 ghost use Rattle.patch_history.specs.Closed.{HistoriesMove, ClosedDisksOpen, CrashDisksOpen};
-ghost use Rattle.patch_history.specs.Laws.{HistoriesExtend, HistoriesBegin, StandingsRun, HistoriesAreOfStores, MapsAreSaid, HistoriesAreRead, StandingsAgree, ExtentsAreKept, GroupsAreKept};
+ghost use Rattle.patch_history.specs.Laws.{HistoriesExtend, HistoriesBegin, StandingsRun, HistoriesAreOfStores, MapsAreSaid, HistoriesAreRead, StandingsAgree, ExtentsAreKept, GroupsAreKept, GroupsAreFew};
 ghost use Rattle.patch_history.specs.Chained.{GroupsAreChained, ChainsAreKept};
 ghost use Rattle.patch_history.specs.Single.{ShelvesAreOfChanges, ChangesAreSingle, ShelvesAreSingle};
 
@@ -134,6 +134,11 @@ pub fn groups_are_kept()
     patch_model::laws::steps_extend();
     patch_plans::laws::order_is_kept();
 }
+
+/// There are never more groups than may be made.
+pub fn groups_are_few()
+    ensures { GroupsAreFew }
+{}
 
 /// The groups before one are those to which a chain of the history's accepted `Depend` commands leads from it. So what a crash
 /// leaves, and every other set that is closed under dependencies, holds with a patch of a group all patches of those.

@@ -1,12 +1,14 @@
 //! What the definitions say of short scripts on new disks: facts that the prover computes.
-ghost use Rattle.std.specs.Prelude.{true, false, replicate, ◌≡◌, [], ◌∷◌, ◌++◌, map, take, Some, None};
+ghost use Rattle.std.specs.Prelude.{true, false, replicate, ◌≡◌, [], ◌∷◌, ◌++◌, map, take, flat_map, Some, None};
+ghost use Rattle.patch_plans.specs.Groups.{before};
 ghost use Rattle.patch_model.specs.declared.refusals.RefusalKind.TheVariants as kind;
 ghost use Rattle.patch_model.specs.Refusing.{bare};
 ghost use Rattle.patch_history.specs.Command.{Put, Get, Reclaim, Pending, Done, Value, Absent, GroupMade, Count, Refused};
 ghost use Rattle.patch_history.specs.Shelf.{opened};
 ghost use Rattle.patch_history.specs.Standing.{at_opening};
 ghost use Rattle.patch_history.specs.Rows.{new_disk, short_disk, replies, after_commands, extents_of, lengths_of, live_slots, calls_for, names_of, key, put_steps, read_with, refused, counts_of};
-ghost use Rattle.patch_history.specs.Rows.{put_twice, deleted_twice, long_keys, long_values, three_keys, claimed_again, two_values, one_reclaimed, two_reclaimed, three_reclaimed, emptied, put_and_deleted, upgraded_twice, in_order, refused_calls, deleted_in_order, put_sent_got};
+ghost use Rattle.patch_history.specs.Rows.{put_twice, deleted_twice, long_keys, long_values, three_keys, claimed_again, two_values, one_reclaimed, two_reclaimed, three_reclaimed, emptied, put_and_deleted, upgraded_twice, in_order, chained, refused_calls, deleted_in_order, put_sent_got};
+ghost use Rattle.patch_history.specs.Chained.{order_in};
 ghost use Rattle.patch_history.specs.Closed.{marks_from};
 ghost use Rattle.patch_history.specs.History.{IsRight, Call};
 ghost use Rattle.patch_history.specs.Refusing.{reply_of};
@@ -110,6 +112,14 @@ fn groups_in_order()
         ≡ refused kind.Sealed ∷ Count 0 ∷ refused kind.Engaged ∷ refused kind.NoSuchGroup ∷ [] }
     ensures names { names_of (after_commands (new_disk 2 2) deleted_in_order)
         ≡ [] ∷ (0 ∷ []) ∷ (1 ∷ []) ∷ (0 ∷ 1 ∷ 2 ∷ []) ∷ (3 ∷ []) ∷ [] }
+{}
+
+// What comes before a group is what a chain of accepted orders leads to; one that is refused makes none.
+fn groups_in_a_chain()
+    ensures replies { replies (new_disk 2 2) chained
+        ≡ GroupMade 0 ∷ GroupMade 1 ∷ GroupMade 2 ∷ Done ∷ Done ∷ refused kind.Sealed ∷ [] }
+    ensures orders { flat_map order_in (calls_for (new_disk 2 2) chained) ≡ (1, 0) ∷ (2, 1) ∷ [] }
+    ensures first { before (after_commands (new_disk 2 2) chained).groups 2 ≡ 0 ∷ 1 ∷ [] }
 {}
 
 // The lowest extent that has something, and room for a frame, is current when a store is opened.
