@@ -9,6 +9,8 @@
 //! Which slot and which extent a frame takes is said in `choosing`, and how it is put and named in `framing`. Whether an
 //! extent may be reclaimed is said in `judging`: its live slots are tried on a `Trial` of the extents, as `trying` does it,
 //! before any frame moves. `moving` moves them.
+//!
+//! The types of these calls' arguments, answers and refusals can be named from here, whichever crate below they are of.
 #![tactic(auto)]
 
 mod checking;
@@ -36,6 +38,14 @@ mod upgrading;
 
 pub use flushing::flush;
 pub use making::make;
+pub use patch_cache::{Done, Flight, FlushRefusal, Landed};
+pub use patch_frame::{Format, Geometry};
+pub use patch_group::GroupRefusal;
+pub use patch_history::{
+    Command, DeleteRefusal, GetRefusal, MakeRefusal, OpenFault, PutRefusal, ReclaimRefusal, Reply,
+    UpgradeRefusal,
+};
 pub use patch_index::{EntryReport, Key};
+pub use patch_model::{BlockBytes, BlockNo, GroupNo, OutOfMemory, PatchNo, Step, WriterNo};
 pub use reports::{ExtentReport, Report};
 pub use stores::Store;
