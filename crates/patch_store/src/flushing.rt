@@ -15,7 +15,7 @@ use std::alloc::Allocator;
 /// Brings all patches of a store to the disk, in waves: begins all writes that can begin, writes them out and completes them,
 /// until none can begin. It is called on a device with the store's blocks. What was completed stays so whatever it answers; the
 /// writes that it has begun and not ended are given up, and their blocks stay in flight for the store's life. Writes that are
-/// under way as it is called are left to whoever holds them: what waits for them stays, and the answer is the same.
+/// under way as it is called are left to whoever holds them: then it is done while patches that wait for these are in memory still.
 pub fn flush<A: Allocator + Copy, D: Device>(
     store: &mut Store<A>,
     device: &mut D,
