@@ -171,13 +171,8 @@ impl<A: Allocator> BlockState<A> {
         make_record_room(&mut self.classes)?;
         let mut saved = to_be_saved(self.bytes.allocator().clone()?, bytes, hard)?;
         enter(other)?;
-        put_over(
-            self.bytes.as_mut_slice(),
-            start,
-            bytes,
-            saved.as_mut_slice(),
-            hard,
-        );
+        let block = self.bytes.as_mut_slice();
+        put_over(block, start, bytes, saved.as_mut_slice(), hard);
         let is_only = self.classes.is_empty();
         let stop = start + bytes.len();
         let top = Span { start, stop, no };

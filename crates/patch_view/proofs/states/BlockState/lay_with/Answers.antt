@@ -15,21 +15,21 @@ use Rattle.patch_view.proofs.states.BlockState.lay_with.Goals as goal
 pub invariant_of-self-2 : goal.invariant_of-self-2
 invariant_of-self-2 g c =
     let hard : Bool = c.args.hard in
-    let bytes = ap length (with_items_is c.self.inside.bytes c.put_over.new.buffer (c.put_over.auto.buffer ∙ c.as_mut_slice.ensures.len))
-    ∙ c.put_over.auto.buffer ∙ ap length c.as_mut_slice.ensures.value ∙ c.self.invariant.0 in
+    let bytes = ap length (with_items_is c.self.inside.bytes c.put_over.new.buffer (c.put_over.auto.buffer ∙ c.as_mut_slice-block.ensures.len))
+    ∙ c.put_over.auto.buffer ∙ ap length c.as_mut_slice-block.ensures.value ∙ c.self.invariant.0 in
     let items : c.push_reserved.new.self.items ≡ c.self.inside.classes.items ++ c.new-class.result ∷ [] = search rules in
     let off : c.new-class.result.taken ≡ false = ap (λ (k : Class). k.taken) c.new-class.ensures in
     let grounded : c.new-class.result.flying ≡ false = ap (λ (k : Class). k.flying) c.new-class.ensures in
     let one : c.new-class.result.members ≡ c.args.no ∷ [] = ap (λ (k : Class). k.members) c.new-class.ensures in
     let first : c.is_empty-is_only.result ≡ (length c.self.inside.classes.items == 0) = search rules in
-    let buffer : c.as_mut_slice.result.now ≡ c.self.inside.bytes.items = c.as_mut_slice.ensures.value in
+    let buffer : c.as_mut_slice-block.result.now ≡ c.self.inside.bytes.items = c.as_mut_slice-block.ensures.value in
     let fits : c.args.start + length c.args.bytes.now ≤ length c.self.inside.bytes.items = omega (arith, c.requires.fits, c.self.invariant.0) in
     let laid : (with_items c.self.inside.bytes c.put_over.new.buffer).items ≡ laid_over c.args.start c.args.bytes.now c.self.inside.bytes.items =
-    with_items_is c.self.inside.bytes c.put_over.new.buffer (c.put_over.auto.buffer ∙ c.as_mut_slice.ensures.len) ∙ c.put_over.ensures.laid
+    with_items_is c.self.inside.bytes c.put_over.new.buffer (c.put_over.auto.buffer ∙ c.as_mut_slice-block.ensures.len) ∙ c.put_over.ensures.laid
     ∙ ap (laid_over c.args.start c.args.bytes.now) buffer in
     let saves : c.new-class.result.saved ≡ (if hard then [] else slice_range c.self.inside.bytes.items c.args.start (c.args.start + length c.args.bytes.now)) =
     ap (λ (k : Class). k.saved) c.new-class.ensures
-    ∙ with_items_is c.in_ok-saved.saved c.put_over.new.saved (c.put_over.auto.saved ∙ c.as_mut_slice-2.ensures.len) ∙ c.put_over.ensures.kept
+    ∙ with_items_is c.in_ok-saved.saved c.put_over.new.saved (c.put_over.auto.saved ∙ c.as_mut_slice.ensures.len) ∙ c.put_over.ensures.kept
     ∙ ap (λ (z : List ℕ). if hard then [] else slice_range z c.args.start (c.args.start + length c.args.bytes.now)) buffer in
     let soft : is_takeable c.new-class.result ≡ not hard = ap is_takeable c.new-class.ensures ∙ search rules in
     let w = c.with-self-inside.ensures in (
