@@ -3,7 +3,7 @@ ghost use Rattle.std.specs.Prelude.{◌≡◌};
 
 use patch_cache::Cache;
 use patch_extent::{
-    AppendRefusal, Appended, Extents, ExtentsFault, Place, ReadRefusal, ResetRefusal,
+    AppendRefusal, Appended, Extents, ExtentsFault, MergeOutcome, Place, ReadRefusal, ResetRefusal,
 };
 use patch_frame::{Format, Geometry};
 use patch_group::Groups;

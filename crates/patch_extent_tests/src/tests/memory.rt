@@ -229,3 +229,48 @@ fn each_call_is_refused_and_repeated(rt: HostRuntime) -> Result<(), Fail> {
     let heap = LocalHeap::new(rt.alloc(), HEAP)?;
     refuse_each(&rt, rt.alloc(), &heap)
 }
+
+// What comes of the merge of one byte more, or nothing where the append is refused.
+fn merge_one(bench: &mut Bench) -> Option<MergeOutcome> {
+    let Bench {
+        cache,
+        groups,
+        extents,
+        ..
+    } = bench;
+    match append_bytes(cache, groups, extents, None, 0, &[7], &[]) {
+        Ok(appended) => Some(appended.merge),
+        Err(_) => None,
+    }
+}
+
+// The same behind a first byte, where only a hole of this size is left.
+fn merge_in_hole(
+    rt: &impl Abort,
+    alloc: Global,
+    heap: &LocalHeap,
+    hole: usize,
+) -> Result<Option<MergeOutcome>, Fail> {
+    let mut bench = open_bench(rt, alloc, heap)?;
+    let first = merge_one(&mut bench);
+    expect_equal(rt, "first", first, Some(MergeOutcome::NotLegal));
+    let ballast = fill(alloc, heap, hole)?;
+    let outcome = merge_one(&mut bench);
+    drop(ballast);
+    Ok(outcome)
+}
+
+#[test]
+fn a_merge_without_memory_is_told(rt: HostRuntime) -> Result<(), Fail> {
+    let heap = LocalHeap::new(rt.alloc(), HEAP)?;
+    let mut before = None;
+    for size in 0..400usize {
+        let outcome = merge_in_hole(&rt, rt.alloc(), &heap, hole_of(size))?;
+        if outcome == Some(MergeOutcome::Made) {
+            expect_equal(&rt, "smaller", before, Some(MergeOutcome::NoMemory));
+            return Ok(());
+        }
+        before = outcome;
+    }
+    Err(Fail::from("not merged in the largest hole"))
+}

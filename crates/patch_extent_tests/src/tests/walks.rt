@@ -111,7 +111,7 @@ const WORKED: [Move; 17] = [
 const WORKED_TOLD: &str = "\
 append extent 0 generation 0 offset 0 len 5000 by 2
 trace 3.0+4096[] 4.0+904[] 2.0+8[0,1] = 0000000000001388
-append extent 0 generation 0 offset 5000 len 10 by 4
+append extent 0 generation 0 offset 5000 len 10 by 4 merged
 trace 4.904+10[] 2.0+8[3] = 0000000000001392 merge 2 4
 read 1x1 2x2
 reset 5
@@ -152,7 +152,7 @@ const LONG: [Move; 6] = [
 const LONG_TOLD: &str = "\
 append extent 1 generation 0 offset 0 len 1 by 1
 trace 67.0+1[] = 01 2.8+8[0] = 0000000000000001
-append extent 1 generation 0 offset 1 len 262143 by 66
+append extent 1 generation 0 offset 1 len 262143 by 66 merged
 append refused ExtentFull
 read 1x1 2x262143
 append extent 0 generation 0 offset 0 len 65537 by 84
@@ -325,6 +325,15 @@ fn append_some(
     )
 }
 
+fn tell_merge(told: &mut String, merge: MergeOutcome) -> Result<(), Fail> {
+    match merge {
+        MergeOutcome::Made => told.push_str(" merged")?,
+        MergeOutcome::NotLegal => {}
+        MergeOutcome::NoMemory => told.push_str(" without memory")?,
+    }
+    Ok(())
+}
+
 fn tell_appended(told: &mut String, appended: &Appended) -> Result<(), Fail> {
     let Place {
         extent,
@@ -337,7 +346,7 @@ fn tell_appended(told: &mut String, appended: &Appended) -> Result<(), Fail> {
         told,
         "append extent {extent} generation {generation} offset {offset} len {len} by {by}"
     )?;
-    Ok(())
+    tell_merge(told, appended.merge)
 }
 
 fn tell_append(
