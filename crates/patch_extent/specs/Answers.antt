@@ -14,18 +14,19 @@ use Rattle.patch_plans.specs.Groups.{Groups}
 use Rattle.patch_recovery.specs.Change.{Made}
 use Rattle.patch_recovery.specs.Closed.{cached_blocks}
 use Rattle.patch_recovery.specs.Ledger.{bytes_at}
-use Rattle.patch_recovery.specs.Reading.{bad_pointers, ledger_in}
+use Rattle.patch_recovery.specs.Reading.{bad_pointers, block_on, ledger_in}
 use Rattle.patch_plans.specs.Extents.{Extents, extent_at, generation_at, offset_at}
 use Rattle.patch_plans.specs.Planning.{append_plan, reset_plan, touched}
 use Rattle.patch_plans.specs.Writing.{after_plan, with_patches, steps_of}
 use Rattle.patch_plans.specs.Meaning.{Represents}
 use Rattle.patch_extent.specs.Refusing.{why_not_appended, why_not_reset}
 use Rattle.patch_extent.specs.Merging.{IsOutcome, is_made}
+use Rattle.patch_extent.specs.Opening.{AreRecords}
 use Rattle.patch_extent.specs.Refusals.{append_cause, reset_cause}
 use Rattle.patch_extent.specs.declared.places.Place.{Place}
 use Rattle.patch_extent.specs.declared.places.Appended.{Appended}
 use Rattle.patch_extent.specs.declared.refusals.ExtentsFault.{ExtentsFault}
-use Rattle.patch_extent.specs.declared.refusals.ExtentsFault.TheVariants.{BadPointer}
+use Rattle.patch_extent.specs.declared.refusals.ExtentsFault.TheVariants.{BadPointer, OutOfMemory}
 use Rattle.patch_extent.specs.declared.refusals.AppendRefusal.{AppendRefusal}
 use Rattle.patch_extent.specs.declared.refusals.ResetRefusal.{ResetRefusal}
 
@@ -141,9 +142,20 @@ cached_bytes g run extent offset len = bytes_at (ledger_in g (cached_blocks run)
 abbrev pub HasNoPoints : Geometry → Execution → Type 0
 HasNoPoints g run = of_block (pointer_block g) (entries_of run) ≡ []
 
--- the extents of a cache are those that its blocks have; pointers that can't be read are refused
+-- No pointer is bad, and each is kept as it is cached. So the extents are the execution's, where no patch of them was made yet.
+pub record AreOpened (g : Geometry) (run : Execution) (s : Extents) : Type 0 where
+  pub good : bad_pointers g (cached_blocks run) ≡ false
+  pub divided : s.geometry ≡ g
+  pub records : AreRecords g (block_on (cached_blocks run) (pointer_block g)) s.each g.extents
+  pub represents : HasNoPoints g run → Represents s run
+
+-- the pointers are bad, and not that there was no memory
+abbrev pub tells_bad : ExtentsFault → Bool
+tells_bad BadPointer = true
+tells_bad OutOfMemory = false
+
+-- On any cache BadPointer comes just where a cached pointer is bad, and want of memory where none is.
 abbrev pub IsOpened : Contents → Geometry → Result Extents ExtentsFault → Type 0
 IsOpened cache g result =
-    (run : Execution) → IsCacheOf cache run → HasNoPoints g run → MatchResult result
-    (λ extents. Represents extents run)
-    (λ fault. fault ≡ BadPointer → bad_pointers g (cached_blocks run) ≡ true)
+    (run : Execution) → IsCacheOf cache run → MatchResult result
+    (AreOpened g run) (λ fault. bad_pointers g (cached_blocks run) ≡ tells_bad fault)

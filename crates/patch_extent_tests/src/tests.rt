@@ -7,7 +7,9 @@ use patch_extent::{
 };
 use patch_frame::{Format, Geometry};
 use patch_group::Groups;
-use patch_model::{BLOCK, BlockBytes, GroupNo, MAX_BLOCKS, OutOfMemory, PatchNo, Step, WriterNo};
+use patch_model::{
+    BLOCK, BlockBytes, BlockNo, GroupNo, MAX_BLOCKS, OutOfMemory, PatchNo, Step, Undo, WriterNo,
+};
 use patch_testing::zeros;
 use std::alloc::{Allocator, Global};
 use std::fmt::Debug;

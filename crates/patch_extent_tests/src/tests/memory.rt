@@ -274,3 +274,28 @@ fn a_merge_without_memory_is_told(rt: HostRuntime) -> Result<(), Fail> {
     }
     Err(Fail::from("not merged in the largest hole"))
 }
+
+// Why extents aren't opened where only a small hole is left.
+fn fault_in_hole(
+    rt: &impl Abort,
+    alloc: Global,
+    heap: &LocalHeap,
+    records: &[u8],
+) -> Result<Option<ExtentsFault>, Fail> {
+    let cache = open_cache(rt, heap, 35, records)?;
+    let ballast = fill(alloc, heap, 16)?;
+    assert!(rt; cache.blocks() == 35);
+    let fault = Extents::open(heap, &cache, SMALL).err();
+    drop(ballast);
+    Ok(fault)
+}
+
+#[test]
+fn pointers_are_read_before_memory_is_asked_for(rt: HostRuntime) -> Result<(), Fail> {
+    let heap = LocalHeap::new(rt.alloc(), HEAP)?;
+    let good = fault_in_hole(&rt, rt.alloc(), &heap, &[])?;
+    expect_equal(&rt, "good", good, Some(ExtentsFault::OutOfMemory));
+    let bad = fault_in_hole(&rt, rt.alloc(), &heap, b"\0\0\0\0\0\x01\0\x01")?;
+    expect_equal(&rt, "bad", bad, Some(ExtentsFault::BadPointer));
+    Ok(())
+}

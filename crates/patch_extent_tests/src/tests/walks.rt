@@ -524,6 +524,29 @@ fn fault_of(
     Ok(open_extents(rt, alloc, &cache, geometry).err())
 }
 
+// Why the extents of a cache aren't opened behind one more patch, of the first pointer record.
+fn fault_behind(
+    rt: &impl Abort,
+    alloc: Global,
+    cache: &mut Cache,
+    record: &[u8],
+) -> Result<Option<ExtentsFault>, Fail> {
+    cache.create(BlockNo(2), 0, record, &[], Undo::MayDrop)?;
+    Ok(open_extents(rt, alloc, cache, geometry_of(Format::One)).err())
+}
+
+#[test]
+fn pointers_are_those_that_are_cached(rt: HostRuntime) -> Result<(), Fail> {
+    let geometry = geometry_of(Format::One);
+    let count = count_blocks(&rt, geometry);
+    let mut cache = open_cache(&rt, rt.alloc(), count, b"\0\0\0\0\0\x01\0\x01")?;
+    let mended = fault_behind(&rt, rt.alloc(), &mut cache, b"\0\0\0\0\0\x01\0\0")?;
+    expect_equal(&rt, "mended", mended, None);
+    let broken = fault_behind(&rt, rt.alloc(), &mut cache, b"\0\0\0\0\0\x02\0\0")?;
+    expect_equal(&rt, "broken", broken, BAD_POINTER);
+    Ok(())
+}
+
 #[test]
 fn bad_pointers_are_refused(rt: HostRuntime) -> Result<(), Fail> {
     for (what, format, records, fault) in &RECORDS {
