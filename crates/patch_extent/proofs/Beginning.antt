@@ -1,6 +1,6 @@
 -- Pointer records that are read, and those that can't be.
-use Rattle.std.proofs.Common.{◌≡◌, ℕ, zero, suc, ◌+◌, ◌<◌, ◌∙◌, inl, inr, Bool, true, false, List, [], ◌∷◌, length, map, slice_range, None, refl, sym, ap, subst, arith}
-use Rattle.std.specs.Prelude.{◌==◌, is_err}
+use Rattle.std.proofs.Common.{◌≡◌, ℕ, zero, suc, ◌+◌, ◌<◌, ◌≤◌, ◌∙◌, inl, inr, Bool, true, false, List, [], ◌∷◌, length, map, slice_range, None, refl, sym, ap, subst, arith}
+use Rattle.std.specs.Prelude.{◌==◌, ◌||◌, not, is_err}
 use Rattle.std.specs.List.{list_any, range_with_len}
 use Rattle.std.proofs.lemmas.Bool.{cases_Bool, cases_lt}
 use Rattle.std.proofs.lemmas.List.{take_all, get_or_past}
@@ -14,10 +14,10 @@ use Rattle.patch_frame.specs.Field.{are_zeros}
 use Rattle.patch_frame.specs.Geometry.{IsGeometry, block_count, largest_pointer, pointer_block, pointer_start}
 use Rattle.patch_frame.specs.Pointer.{Fits, pointer_at}
 use Rattle.patch_recovery.specs.Closed.{cached_blocks}
-use Rattle.patch_recovery.specs.Reading.{block_on, record_at, bad_pointers}
+use Rattle.patch_recovery.specs.Reading.{block_on}
 use Rattle.patch_plans.specs.declared.records.Extent.{Extent}
 use Rattle.patch_plans.specs.Extents.{no_extent}
-use Rattle.patch_extent.specs.Opening.{IsBadRecord, AreRecords, record_in}
+use Rattle.patch_extent.specs.Opening.{IsRecord, AreRecords, record_in, is_bad_record}
 use Rattle.patch_plans.specs.Meaning.{Represents, is_point, is_reset, patches_of, last_of}
 use Rattle.patch_extent.specs.Answers.{HasNoPoints}
 use Rattle.patch_extent.proofs.Patches.{on_block, of_entries, cached_on}
@@ -32,23 +32,25 @@ pub block_read : (run : Execution) (g : Geometry) (block : List ℕ) → pointer
     → block ≡ slice_range (cached (history_of run (pointer_block g))) 0 4096 → block ≡ block_on (cached_blocks run) (pointer_block g)
 block_read run g block there long is = is ∙ take_all 4096 (cached (history_of run (pointer_block g))) (omega (arith, long)) ∙ sym (cached_on run (pointer_block g) there)
 
--- A record that can't be read makes the pointers bad, and so does a byte behind the records.
-pub bad_record : (g : Geometry) (blocks : List (List ℕ)) (block : List ℕ) (e : ℕ) → block ≡ block_on blocks (pointer_block g) → e < g.extents → IsBadRecord g block e → bad_pointers g blocks ≡ true
-bad_record g blocks block e is known bad =
-    let inside : In (range_with_len 0 g.extents) e = subst (In (range_with_len 0 g.extents)) (let z : 0 + e ≡ e = omega arith in z) (in_range 0 g.extents e known) in
-    let there : is_err (pointer_at (largest_pointer g.format) (record_at g blocks e)) ≡ true = ap (λ b. is_err (pointer_at (largest_pointer g.format) (record_in b e))) (sym is) ∙ bad in
-    let some : list_any (λ x. is_err (pointer_at (largest_pointer g.format) (record_at g blocks x))) (range_with_len 0 g.extents) ≡ true =
-    list_any-from (λ x. is_err (pointer_at (largest_pointer g.format) (record_at g blocks x))) (range_with_len 0 g.extents) e inside there in
-    rw some refl
+-- A record that can't be read is found, and none is where each can be read.
+pub some_bad : (p : ℕ → Bool) (n e : ℕ) → e < n → p e ≡ true → list_any p (range_with_len 0 n) ≡ true
+some_bad p n e known bad = list_any-from p (range_with_len 0 n) e (subst (In (range_with_len 0 n)) (let z : 0 + e ≡ e = omega arith in z) (in_range 0 n e known)) bad
 
-pub bad_rest : (g : Geometry) (blocks : List (List ℕ)) (block : List ℕ) → block ≡ block_on blocks (pointer_block g) → are_zeros (slice_range block (pointer_start g.extents) 4096) ≡ false
-    → bad_pointers g blocks ≡ true
-bad_rest g blocks block is bad =
-    let rest : are_zeros (slice_range (block_on blocks (pointer_block g)) (pointer_start g.extents) 4096) ≡ false = ap (λ b. are_zeros (slice_range b (pointer_start g.extents) 4096)) (sym is) ∙ bad in
-    elim (cases_Bool (list_any (λ x. is_err (pointer_at (largest_pointer g.format) (record_at g blocks x))) (range_with_len 0 g.extents))) [
-      | inl u ↦ rw u refl
-      | inr u ↦ rw (u, rest) refl
-    ]
+none_from : (p : ℕ → Bool) (a n : ℕ) → ((k : ℕ) → a ≤ k → k < a + n → p k ≡ false) → list_any p (range_with_len a n) ≡ false
+none_from p a zero f = refl
+none_from p a (suc n) f = rw (f a (omega arith) (omega arith)) (none_from p (a + 1) n (λ k low high. f k (omega (arith, low)) (omega (arith, high))))
+
+pub none_bad : (p : ℕ → Bool) (n : ℕ) → ((k : ℕ) → k < n → p k ≡ false) → list_any p (range_with_len 0 n) ≡ false
+none_bad p n f = none_from p 0 n (λ k low high. f k (omega (arith, high)))
+
+pub good_record : (g : Geometry) (block : List ℕ) (e : ℕ) (k : Extent) → IsRecord g block e k → is_bad_record g block e ≡ false
+good_record g block e k is = ap is_err is.read
+
+-- where neither holds, there are zeros behind the last record
+pub zeros_behind : (x y : Bool) → (x || not y) ≡ false → y ≡ true
+zeros_behind true y h = absurd (cc)
+zeros_behind false true h = refl
+zeros_behind false false h = absurd (cc)
 
 -- no patch of a block passes a test of patches of it
 last_none : (test : Patch → Bool) (b : ℕ) (ps : List Patch) → on_block b ps ≡ [] → ((p : Patch) → (p.block == b) ≡ false → test p ≡ false) → last_of test ps ≡ None

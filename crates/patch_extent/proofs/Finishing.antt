@@ -1,7 +1,7 @@
 -- What the patches of an append come to.
 use Rattle.std.proofs.Common.{◌≡◌, ℕ, ◌+◌, ◌-◌, ◌/◌, ◌%◌, ◌<◌, ◌≤◌, ◌∙◌, Bool, true, false, List, [], ◌∷◌, ◌++◌, length, slice_range, Option, Some}
-use Rattle.std.proofs.Common.{None, Result, Ok, Err, refl, sym, ap, subst, append-nil, arith}
-use Rattle.std.specs.Prelude.{◌==◌, if◌then◌else◌, slice_set, replicate, IfOk, OnOk, OnErr}
+use Rattle.std.proofs.Common.{None, refl, sym, ap, subst, append-nil, arith}
+use Rattle.std.specs.Prelude.{◌==◌, if◌then◌else◌, slice_set, replicate}
 use Rattle.std.specs.List.{range_with_len}
 use Rattle.std.proofs.lemmas.Bool.Decides.{nat_tests}
 use Rattle.std.proofs.lemmas.List.{length-append, length-replicate}
@@ -19,8 +19,6 @@ use Rattle.patch_frame.specs.Pointer.{Fits, spelling}
 use Rattle.patch_cache.specs.Contents.{Contents}
 use Rattle.patch_cache.specs.Meaning.{Represents as IsCacheOf}
 use Rattle.patch_cache.specs.Creating.{IsMade}
-use Rattle.patch_cache.specs.Merging.{IsMerged}
-use Rattle.patch_cache.specs.declared.refusals.MergeRefusal.{MergeRefusal}
 use Rattle.patch_plans.specs.Groups.{Groups, named, with_patch}
 use Rattle.patch_recovery.specs.Change.{Point, Made, block_of, start_of, bytes_of}
 use Rattle.patch_extent.specs.declared.places.Appended.{Appended}
@@ -29,11 +27,13 @@ use Rattle.patch_plans.specs.Extents.{Extents, extent_at, generation_at, offset_
 use Rattle.patch_plans.specs.Planning.{touched, part_start, part_end, part, parts, names_behind, reset_plan}
 use Rattle.patch_plans.specs.Writing.{merge_with, merge_behind}
 use Rattle.patch_plans.specs.Meaning.{Represents}
-use Rattle.patch_extent.specs.Answers.{Setting, setting, IsSettingOf, AreMade, IsWritten, IsBegun, Append, plan_of, place_for, plan_steps}
+use Rattle.patch_extent.specs.Answers.{Setting, setting, IsSettingOf, AreMade, IsWritten, IsBegun, Append, plan_of, place_for, plan_steps, before_merge}
 use Rattle.patch_extent.specs.Appending.{IsPatched, MergesBehind, IsDone, parts_of}
+use Rattle.patch_extent.specs.Merging.{IsOutcome, is_made}
+use Rattle.patch_extent.specs.declared.places.MergeOutcome.{MergeOutcome}
 use Rattle.patch_extent.proofs.Patches.{StateLaw, patches_made, entries_made, entries_stay, cached_long}
 use Rattle.patch_extent.proofs.Standing.{PointerLaw, data_kept, others_kept, point_made, pointer_block_there}
-use Rattle.patch_extent.proofs.Making.{merges, create_of, patch_made, last_made, nothing_made, followed_none, parts_more, length-parts, take_parts}
+use Rattle.patch_extent.proofs.Making.{merges, create_of, patch_made, steps_more, last_made, nothing_made, followed_both, followed_none, parts_more, length-parts, take_parts}
 
 -- what patch_model says of each block
 abbrev pub BlockLaw : Type 0
@@ -126,7 +126,7 @@ pub some_offset : (offset len : ℕ) → 0 < len → (offset + len == 0) ≡ fal
 some_offset offset len some = grind (arith, nat_tests)
 
 -- The pointer patch and its merge finish an append.
-pub append_done : StateLaw → PointerLaw → BlockLaw → (run : Execution) (a : Append) (old : Setting) (gs1 gs2 : Groups) (c1 c2 c3 : Contents) (num : ℕ) (appended : Appended)
+pub append_done : StateLaw → PointerLaw → BlockLaw → (run : Execution) (a : Append) (old : Setting) (gs1 gs2 : Groups) (c1 c2 c3 : Contents) (num : ℕ) (outcome : MergeOutcome) (appended : Appended)
     → a.extent < old.extents.geometry.extents → 0 < length a.bytes
     → Fits (largest_pointer old.extents.geometry.format) (record { generation = generation_at old.extents a.extent; offset = offset_at old.extents a.extent + length a.bytes })
     → AreMade run a.writer [] (parts a.extent (offset_at old.extents a.extent) a.bytes (names_behind old.extents a.extent a.after)
@@ -134,10 +134,10 @@ pub append_done : StateLaw → PointerLaw → BlockLaw → (run : Execution) (a 
     → IsPatched (pointer_block old.extents.geometry) (pointer_start a.extent)
     (spelling (record { generation = generation_at old.extents a.extent; offset = offset_at old.extents a.extent + length a.bytes }))
     a.writer (range_with_len (length (entries_of run)) (touched (offset_at old.extents a.extent) (length a.bytes))) gs1 c1 gs2 c2 num
-    → MergesBehind (extent_at old.extents a.extent).point num c2 c3
-    → appended.place ≡ place_for old.extents a → appended.pointer_patch ≡ num
+    → MergesBehind (extent_at old.extents a.extent).point num outcome c2 c3
+    → appended.place ≡ place_for old.extents a → appended.pointer_patch ≡ num → appended.merge ≡ outcome
     → IsDone run a old (setting (after_point old.extents num a.extent (generation_at old.extents a.extent) (offset_at old.extents a.extent + length a.bytes)) gs2 c3) appended
-append_done law pl bl run a old gs1 gs2 c1 c2 c3 num appended known some fits made patched merged place_is no_is =
+append_done law pl bl run a old gs1 gs2 c1 c2 c3 num outcome appended known some fits made patched told place_is no_is merge_is =
     let s = old.extents in
     let g = s.geometry in
     let e = a.extent in
@@ -159,8 +159,7 @@ append_done law pl bl run a old gs1 gs2 c1 c2 c3 num appended known some fits ma
     let rep1 = made.stands.represents in
     let number : num ≡ length (entries_of run1) = patched.number run1 cache1 in
     let cache2 = patched.stands run1 cache1 in
-    let chosen = merged.0 in
-    let told = merged.1 in
+    let chosen = is_made outcome in
     let point = (extent_at s a.extent).point in
     let k1 = length (entries_of run1) in
     let there = pointer_block_there g in
@@ -175,6 +174,9 @@ append_done law pl bl run a old gs1 gs2 c1 c2 c3 num appended known some fits ma
     let counted = made.counted in
     let behind : merge_with num (extent_at s a.extent).point ≡ merge_behind s (length (entries_of run1)) m.change =
     rw (some_offset (offset_at s a.extent) (length a.bytes) some) (ap (λ k. merge_with k (extent_at s a.extent).point) number) in
+    let at : run2 ≡ before_merge run old a = sym (ap (followed_by run) (steps_more run a.writer plan m old mid made) ∙ sym (followed_both run (plan_steps run old a.writer [] plan) (step ∷ []))) in
+    let right : IsOutcome (entries_of (before_merge run old a)) (extent_at s a.extent).point num outcome =
+    subst (λ r. IsOutcome (entries_of r) (extent_at s a.extent).point num outcome) at (told.outcome_is run2 cache2) in
     record {
       place_is = place_is;
       patch_is = no_is ∙ number ∙ counted ∙ ap (λ k. n + k) long;
@@ -191,30 +193,13 @@ append_done law pl bl run a old gs1 gs2 c1 c2 c3 num appended known some fits ma
             (patched.groups_are ∙ ap (with_patch gs1 a.writer) number)
             (ap (λ k. after_point s k e gen to) number);
       };
+      merge_is = record {
+        outcome_is = subst (λ o. IsOutcome (entries_of (before_merge run old a)) (extent_at s a.extent).point appended.pointer_patch o) (sym merge_is)
+            (subst (λ k. IsOutcome (entries_of (before_merge run old a)) (extent_at s a.extent).point k outcome) (sym no_is) right);
+        choices_are = ap (λ k. replicate k false ++ is_made outcome ∷ []) long
+            ∙ ap (λ o. replicate (touched (offset_at s a.extent) (length a.bytes)) false ++ is_made o ∷ []) (sym merge_is);
+      };
     }
-
--- A merge that was tried.
-pub merged_or_not : (before num : ℕ) (old new : Contents) (r : Result ℕ MergeRefusal)
-    → ((run : Execution) → IsCacheOf old run → IfOk r (λ name. IsMerged run before num name new))
-    → OnOk r (new.trace ≡ old.trace ++ Merge before num ∷ []) → OnErr r (new ≡ old) → MergesBehind (Some before) num old new
-merged_or_not before num old new (Ok name) merged trace refused = (true, record { stands = λ run r. (merged run r).2; trace_is = trace })
-merged_or_not before num old new (Err refusal) merged trace refused = (
-  false,
-  record {
-    stands = λ run r. subst (λ c. IsCacheOf c (followed_by run [])) (sym refused) (subst (IsCacheOf old) (sym (followed_none run)) r);
-    trace_is = ap (λ c. c.trace) refused ∙ sym (append-nil old.trace);
-  },
-)
-
--- and none
-pub not_merged : (before : Option ℕ) (num : ℕ) (old : Contents) → MergesBehind before num old old
-not_merged before num old = (
-  false,
-  record {
-    stands = λ run r. subst (IsCacheOf old) (sym (followed_none run)) r;
-    trace_is = sym (append-nil old.trace);
-  },
-)
 
 -- The patch of a reset.
 pub reset_done : StateLaw → PointerLaw → BlockLaw → (run : Execution) (extent : ℕ) (after : List ℕ) (old : Setting) (c2 : Contents) (num : ℕ)

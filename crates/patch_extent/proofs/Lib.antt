@@ -4,6 +4,7 @@ pub mod Making
 pub mod Spans
 pub mod Beginning
 pub mod Bytes
+pub mod Merged
 pub mod Finishing
 pub mod Grouping
 pub mod Rising

@@ -66,6 +66,16 @@ one_more_made run writer cs ds plan m old mid new more made steps stands count t
 abbrev pub create_of : Setting → Option ℕ → Made → Step
 create_of s writer m = step_of s.extents.geometry (record m { after = named s.groups writer m.after })
 
+-- its step comes behind those of the others
+pub steps_more : (run : Execution) (writer : Option ℕ) (plan : List Made) (m : Made) (old mid : Setting) → AreMade run writer [] plan old mid
+    → plan_steps run old writer [] (plan ++ m ∷ []) ≡ plan_steps run old writer [] plan ++ create_of mid writer m ∷ []
+steps_more run writer plan m old mid made =
+    let n = length (entries_of run) in
+    let last : steps_of [] (after_plan old.extents n plan) (with_patches old.groups writer n (length plan)) writer (n + length plan) (m ∷ []) ≡ create_of mid writer m ∷ [] =
+    ap (λ s. step_of s.geometry (record m { after = named (with_patches old.groups writer n (length plan)) writer m.after }) ∷ []) (sym made.extents_are)
+    ∙ ap (λ gs. step_of mid.extents.geometry (record m { after = named gs writer m.after }) ∷ []) (sym made.groups_are) in
+    joined_none old.extents old.groups writer n plan (m ∷ []) ∙ ap (λ xs. plan_steps run old writer [] plan ++ xs) last
+
 -- A patch more, without a merge.
 pub patch_made : StateLaw → (run : Execution) (writer : Option ℕ) (plan : List Made) (m : Made) (old mid new : Setting)
     → AreMade run writer [] plan old mid
@@ -75,12 +85,8 @@ pub patch_made : StateLaw → (run : Execution) (writer : Option ℕ) (plan : Li
     → new.extents ≡ after_change mid.extents (length (entries_of (followed_by run (plan_steps run old writer [] plan)))) m.change
     → AreMade run writer [] (plan ++ m ∷ []) old new
 patch_made law run writer plan m old mid new made stands trace groups extents =
-    let n = length (entries_of run) in
-    let last : steps_of [] (after_plan old.extents n plan) (with_patches old.groups writer n (length plan)) writer (n + length plan) (m ∷ []) ≡ create_of mid writer m ∷ [] =
-    ap (λ s. step_of s.geometry (record m { after = named (with_patches old.groups writer n (length plan)) writer m.after }) ∷ []) (sym made.extents_are)
-    ∙ ap (λ gs. step_of mid.extents.geometry (record m { after = named gs writer m.after }) ∷ []) (sym made.groups_are) in
     one_more_made run writer [] [] plan m old mid new (create_of mid writer m ∷ []) made
-    (joined_none old.extents old.groups writer n plan (m ∷ []) ∙ ap (λ xs. plan_steps run old writer [] plan ++ xs) last)
+    (steps_more run writer plan m old mid made)
     stands (entries_made law (followed_by run (plan_steps run old writer [] plan)) _ _ _ _ _) trace groups extents
 
 -- the merge that comes behind, if it is made

@@ -1,5 +1,5 @@
 -- What the calls of the extents answer and leave.
-use Rattle.std.specs.Prelude.{ℕ, Bool, true, ◌≡◌, ◌+◌, ◌<◌, List, [], ◌++◌, length, take, Option, None, Result, MatchResult}
+use Rattle.std.specs.Prelude.{ℕ, Bool, true, false, ◌≡◌, ◌+◌, ◌<◌, List, [], ◌∷◌, ◌++◌, length, take, replicate, Option, None, Result, MatchResult}
 use Rattle.patch_model.specs.declared.refusals.Refusal.{Refusal}
 use Rattle.patch_model.specs.Step.{Step}
 use Rattle.patch_model.specs.Execution.{Execution, followed_by}
@@ -14,17 +14,19 @@ use Rattle.patch_plans.specs.Groups.{Groups}
 use Rattle.patch_recovery.specs.Change.{Made}
 use Rattle.patch_recovery.specs.Closed.{cached_blocks}
 use Rattle.patch_recovery.specs.Ledger.{bytes_at}
-use Rattle.patch_recovery.specs.Reading.{bad_pointers, ledger_in}
-use Rattle.patch_plans.specs.Extents.{Extents, generation_at, offset_at}
+use Rattle.patch_recovery.specs.Reading.{bad_pointers, block_on, ledger_in}
+use Rattle.patch_plans.specs.Extents.{Extents, extent_at, generation_at, offset_at}
 use Rattle.patch_plans.specs.Planning.{append_plan, reset_plan, touched}
 use Rattle.patch_plans.specs.Writing.{after_plan, with_patches, steps_of}
 use Rattle.patch_plans.specs.Meaning.{Represents}
 use Rattle.patch_extent.specs.Refusing.{why_not_appended, why_not_reset}
+use Rattle.patch_extent.specs.Merging.{IsOutcome, is_made}
+use Rattle.patch_extent.specs.Opening.{AreRecords}
 use Rattle.patch_extent.specs.Refusals.{append_cause, reset_cause}
 use Rattle.patch_extent.specs.declared.places.Place.{Place}
 use Rattle.patch_extent.specs.declared.places.Appended.{Appended}
 use Rattle.patch_extent.specs.declared.refusals.ExtentsFault.{ExtentsFault}
-use Rattle.patch_extent.specs.declared.refusals.ExtentsFault.TheVariants.{BadPointer}
+use Rattle.patch_extent.specs.declared.refusals.ExtentsFault.TheVariants.{BadPointer, OutOfMemory}
 use Rattle.patch_extent.specs.declared.refusals.AppendRefusal.{AppendRefusal}
 use Rattle.patch_extent.specs.declared.refusals.ResetRefusal.{ResetRefusal}
 
@@ -93,12 +95,23 @@ place_for s a = record {
   len = length a.bytes;
 }
 
+-- the execution with the patches of an append at its end, where its merge comes
+abbrev pub before_merge : Execution → Setting → Append → Execution
+before_merge run old a = followed_by run (plan_steps run old a.writer [] (plan_of run old.extents a))
+
+-- Behind the data patches comes none; the merge of the pointer patch is made just where it is legal, unless there was no memory for
+-- it.
+pub record MergesRightly (run : Execution) (a : Append) (old : Setting) (choices : List Bool) (appended : Appended) : Type 0 where
+  pub outcome_is : IsOutcome (entries_of (before_merge run old a)) (extent_at old.extents a.extent).point appended.pointer_patch appended.merge
+  pub choices_are : choices ≡ replicate (touched (offset_at old.extents a.extent) (length a.bytes)) false ++ is_made appended.merge ∷ []
+
 -- an append that was done
 pub record IsAppended (run : Execution) (a : Append) (old new : Setting) (appended : Appended) : Type 0 where
   pub no_cause : cause_against run old.extents a ≡ None
   pub place_is : appended.place ≡ place_for old.extents a
   pub patch_is : appended.pointer_patch ≡ length (entries_of run) + touched (offset_at old.extents a.extent) (length a.bytes)
   pub is_written : IsWritten run a.writer (plan_of run old.extents a) old new
+  pub merge_is : MergesRightly run a old is_written.choices appended
 
 -- one that was refused, for the first cause against it, or for want of memory where there is none
 pub record IsNotAppended (run : Execution) (a : Append) (old new : Setting) (refusal : AppendRefusal) : Type 0 where
@@ -129,9 +142,20 @@ cached_bytes g run extent offset len = bytes_at (ledger_in g (cached_blocks run)
 abbrev pub HasNoPoints : Geometry → Execution → Type 0
 HasNoPoints g run = of_block (pointer_block g) (entries_of run) ≡ []
 
--- the extents of a cache are those that its blocks have; pointers that can't be read are refused
+-- No pointer is bad, and each is kept as it is cached. So the extents are the execution's, where no patch of them was made yet.
+pub record AreOpened (g : Geometry) (run : Execution) (s : Extents) : Type 0 where
+  pub good : bad_pointers g (cached_blocks run) ≡ false
+  pub divided : s.geometry ≡ g
+  pub records : AreRecords g (block_on (cached_blocks run) (pointer_block g)) s.each g.extents
+  pub represents : HasNoPoints g run → Represents s run
+
+-- the pointers are bad, and not that there was no memory
+abbrev pub tells_bad : ExtentsFault → Bool
+tells_bad BadPointer = true
+tells_bad OutOfMemory = false
+
+-- On any cache BadPointer comes just where a cached pointer is bad, and want of memory where none is.
 abbrev pub IsOpened : Contents → Geometry → Result Extents ExtentsFault → Type 0
 IsOpened cache g result =
-    (run : Execution) → IsCacheOf cache run → HasNoPoints g run → MatchResult result
-    (λ extents. Represents extents run)
-    (λ fault. fault ≡ BadPointer → bad_pointers g (cached_blocks run) ≡ true)
+    (run : Execution) → IsCacheOf cache run → MatchResult result
+    (AreOpened g run) (λ fault. bad_pointers g (cached_blocks run) ≡ tells_bad fault)

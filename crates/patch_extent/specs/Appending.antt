@@ -1,5 +1,5 @@
 -- What the parts of an append do.
-use Rattle.std.specs.Prelude.{ℕ, Bool, ◌≡◌, ◌+◌, ◌<◌, if◌then◌else◌, List, [], ◌∷◌, ◌++◌, length, Option, Result, MatchResult, option_to_list}
+use Rattle.std.specs.Prelude.{ℕ, ◌≡◌, ◌+◌, ◌<◌, if◌then◌else◌, List, [], ◌∷◌, ◌++◌, length, Option, Result, MatchResult, option_to_list}
 use Rattle.patch_model.specs.declared.patches.Undo.TheVariants.{MayDrop}
 use Rattle.patch_model.specs.declared.refusals.OutOfMemory.{OutOfMemory}
 use Rattle.patch_model.specs.Execution.{Execution, extended, followed_by}
@@ -12,7 +12,9 @@ use Rattle.patch_plans.specs.Extents.{offset_at}
 use Rattle.patch_recovery.specs.Change.{Made}
 use Rattle.patch_plans.specs.Planning.{parts, touched}
 use Rattle.patch_plans.specs.Writing.{merge_with}
-use Rattle.patch_extent.specs.Answers.{Setting, IsSettingOf, AreMade, IsWritten, IsBegun, Append, plan_of, place_for}
+use Rattle.patch_extent.specs.declared.places.MergeOutcome.{MergeOutcome}
+use Rattle.patch_extent.specs.Answers.{Setting, IsSettingOf, AreMade, IsWritten, IsBegun, Append, plan_of, place_for, MergesRightly}
+use Rattle.patch_extent.specs.Merging.{IsOutcome, is_made}
 
 -- a patch was made of a writer, or of none
 pub record IsPatched (block start : ℕ) (bytes : List ℕ) (writer : Option ℕ) (after : List ℕ)
@@ -40,20 +42,19 @@ LaysParts a result old new =
     (λ _. AreMade run a.writer [] (parts_of old a (touched (offset_at old.extents a.extent) (length a.bytes))) old new)
     (λ _. (k : ℕ) × (k < touched (offset_at old.extents a.extent) (length a.bytes)) × AreMade run a.writer [] (parts_of old a k) old new)
 
--- the merge was made, or not
-pub record IsMergedOrNot (before : Option ℕ) (behind : ℕ) (old new : Contents) (chosen : Bool) : Type 0 where
+-- The merge of the patch behind with the one before it was made or not, as the outcome says, which is right.
+pub record MergesBehind (before : Option ℕ) (behind : ℕ) (outcome : MergeOutcome) (old new : Contents) : Type 0 where
+  pub outcome_is : (run : Execution) → IsCacheOf old run → IsOutcome (entries_of run) before behind outcome
   pub stands : (run : Execution) → IsCacheOf old run
-      → IsCacheOf new (followed_by run (if chosen then option_to_list (merge_with behind before) else []))
-  pub trace_is : new.trace ≡ old.trace ++ (if chosen then option_to_list (merge_with behind before) else [])
-
-abbrev pub MergesBehind : (before : Option ℕ) (behind : ℕ) (old new : Contents) → Type 0
-MergesBehind before behind old new = (chosen : Bool) × IsMergedOrNot before behind old new chosen
+      → IsCacheOf new (followed_by run (if is_made outcome then option_to_list (merge_with behind before) else []))
+  pub trace_is : new.trace ≡ old.trace ++ (if is_made outcome then option_to_list (merge_with behind before) else [])
 
 -- an append without a cause was done, or begun
 pub record IsDone (run : Execution) (a : Append) (old new : Setting) (appended : Appended) : Type 0 where
   pub place_is : appended.place ≡ place_for old.extents a
   pub patch_is : appended.pointer_patch ≡ length (entries_of run) + touched (offset_at old.extents a.extent) (length a.bytes)
   pub is_written : IsWritten run a.writer (plan_of run old.extents a) old new
+  pub merge_is : MergesRightly run a old is_written.choices appended
 
 abbrev pub AppendsCounted : Append → Result Appended OutOfMemory → (old new : Setting) → Type 0
 AppendsCounted a result old new =

@@ -1,4 +1,5 @@
 pub mod Opening
+pub mod Merging
 pub mod Refusing
 pub mod Refusals
 pub mod Answers

@@ -11,13 +11,14 @@ ghost use Rattle.patch_extent.specs.Refusals.{append_cause};
 ghost use Rattle.patch_extent.specs.Refusing.{why_not_appended};
 ghost use Rattle.patch_extent.specs.Answers.{setting, asked, AnswersAppend};
 ghost use Rattle.patch_extent.specs.Appending.{AppendsCounted, LaysParts, LaysPatch, MergesBehind};
+ghost use Rattle.patch_extent.specs.Merging.{outcome_of};
 
 use crate::counting::count_patches;
 use crate::extents::Extents;
 use crate::parting::{numbers_from, part_end, part_start, touched, with_one_more};
-use crate::places::{Appended, Place};
+use crate::places::{Appended, MergeOutcome, Place};
 use crate::refusals::AppendRefusal;
-use patch_cache::Cache;
+use patch_cache::{Cache, MergeRefusal};
 use patch_frame::{Pointer, laws as frame_laws, pointer_start, write_pointer};
 use patch_group::Groups;
 use patch_model::{BLOCK, BlockNo, OutOfMemory, PatchNo, Undo, WriterNo, laws as model_laws};
@@ -26,7 +27,8 @@ use std::alloc::Allocator;
 impl<A: Allocator + Copy> Extents<A> {
     /// Puts bytes at an extent's pointer and moves it past them. There is one data patch for each block touched, rising, each
     /// behind `after` and the extent's last reset; then the pointer patch, behind all of them. It becomes one with the last
-    /// patch of the record where they may be merged; a refusal of that merge is none of the append.
+    /// patch of the record just where they may be merged, unless there is no memory for that: a refusal of that merge is none
+    /// of the append, which tells what came of it.
     ///
     /// The patches are the writer's, and join its groups. All of them are counted before the first is made. Where memory runs
     /// out the pointer and all bytes below it are as they were; bytes past it may differ, and are never read before they
@@ -113,7 +115,7 @@ impl<A: Allocator + Copy> Extents<A> {
             offset: kept.pointer.offset + len,
         };
         let no = self.lay_pointer(cache, groups, &writer, extent, moved, numbers.as_slice())?;
-        merge_behind(cache, &kept.point, no);
+        let merge = merge_behind(cache, &kept.point, no);
         let record = &mut self.each[extent as usize];
         record.pointer = moved;
         record.point = Some(no);
@@ -126,6 +128,7 @@ impl<A: Allocator + Copy> Extents<A> {
                 len,
             },
             pointer_patch: no,
+            merge,
         })
     }
 
@@ -207,11 +210,28 @@ fn lay<A: Allocator + Copy>(
 }
 
 /// Makes one class of a pointer patch and the one before it, where they may be merged.
-fn merge_behind<A: Allocator + Copy>(cache: &mut Cache<A>, before: &Option<PatchNo>, no: PatchNo)
-    ensures { MergesBehind before.now no cache.old cache.new }
+fn merge_behind<A: Allocator + Copy>(
+    cache: &mut Cache<A>,
+    before: &Option<PatchNo>,
+    no: PatchNo,
+) -> MergeOutcome
+    ensures { MergesBehind before.now no result cache.old cache.new }
 {
-    if let Some(before) = before {
+    model_laws::pairs_merge();
+    match before {
         // A refusal leaves two patches of which the later one depends on the earlier one.
-        let _ = cache.merge(*before, no);
+        Some(before) => outcome_of(cache.merge(*before, no)),
+        None => MergeOutcome::NotLegal,
+    }
+}
+
+/// What came of a merge that was tried.
+fn outcome_of(tried: Result<PatchNo, MergeRefusal>) -> MergeOutcome
+    ensures { result ≡ outcome_of tried }
+{
+    match tried {
+        Ok(_) => MergeOutcome::Made,
+        Err(MergeRefusal::OutOfMemory) => MergeOutcome::NoMemory,
+        Err(_) => MergeOutcome::NotLegal,
     }
 }

@@ -1,19 +1,18 @@
 //! The extents of a disk, and how they are opened.
-ghost use Rattle.std.specs.Prelude.{ℕ, ◌≡◌, ◌<◌, ◌≤◌, length, Err, IfOk, OnErr};
+ghost use Rattle.std.specs.Prelude.{true, ◌≡◌, ◌<◌, ◌≤◌, length, IfOk, MatchOption};
 ghost use Rattle.patch_frame.specs.declared.geometries.Format.TheVariants.{One};
 ghost use Rattle.patch_frame.specs.Geometry.{IsGeometry, block_count};
 ghost use Rattle.patch_plans.specs.Extents.{generation_at, offset_at, empty_extents as the_empty_extents};
 ghost use Rattle.patch_frame.specs.Field.{are_zeros};
 ghost use Rattle.patch_recovery.specs.Change.{widened};
-ghost use Rattle.patch_extent.specs.declared.refusals.ExtentsFault.TheVariants.{BadPointer};
-ghost use Rattle.patch_extent.specs.Opening.{AreRecords, IsRecord, IsBadRecord};
+ghost use Rattle.patch_extent.specs.Opening.{AreRecords, IsRecord, is_bad_record, has_bad_record, has_bad_pointers};
 ghost use Rattle.patch_extent.specs.Answers.{IsOpened};
 
 use crate::empties::EmptyExtents;
 use crate::refusals::ExtentsFault;
 use patch_cache::Cache;
 use patch_frame::{Format, Geometry, POINTER_BYTES, Pointer, pointer_start, read_pointer_within};
-use patch_model::{BLOCK, BlockNo, laws as model_laws};
+use patch_model::{BLOCK, BlockNo, OutOfMemory, laws as model_laws};
 use patch_plans::Extent;
 use std::alloc::{Allocator, Global};
 use std::marker::Model;
@@ -43,8 +42,8 @@ impl<A: Allocator + Copy> Model for Extents<A> {
 }
 
 impl<A: Allocator + Copy> Extents<A> {
-    /// The extents of a cache of a disk that is divided so. No patch of the pointer block was made yet: patches that were
-    /// made before aren't known.
+    /// The extents of a cache of a disk that is divided so, with the pointers that are cached. All of them are read before
+    /// memory is asked for. Patches of the pointer block that were made before aren't known, so there is to be none.
     pub fn open(alloc: A, cache: &Cache<A>, geometry: Geometry) -> Result<Extents<A>, ExtentsFault>
         requires geometry { IsGeometry geometry }
         requires blocks { block_count geometry ≡ length cache.now.blocks }
@@ -53,16 +52,17 @@ impl<A: Allocator + Copy> Extents<A> {
     {
         model_laws::executions_are_orderly();
         let Ok(block) = cache.read(BlockNo(geometry.pointer_block()), 0, BLOCK) else {
+            // Never so: the disk has that block.
             return Err(ExtentsFault::BadPointer);
         };
         // Never so: a block has all its bytes.
         if block.len() < BLOCK {
             return Err(ExtentsFault::BadPointer);
         }
-        let each = read_records(alloc, block, geometry)?;
-        if !is_zeros(&block[POINTER_BYTES * geometry.extents as usize..BLOCK]) {
+        if has_bad_pointers(block, geometry) {
             return Err(ExtentsFault::BadPointer);
         }
+        let each = read_records(alloc, block, geometry)?;
         let empty = EmptyExtents::of(each.as_slice());
         Ok(Extents {
             alloc,
@@ -110,44 +110,67 @@ impl<A: Allocator + Copy> Extents<A> {
     }
 }
 
-/// The record of each extent, of which no patch was made yet.
+/// Whether a record can't be read, or a byte behind the last one isn't zero.
+fn has_bad_pointers(block: &[u8], geometry: Geometry) -> bool
+    requires geometry { IsGeometry geometry }
+    requires long { BLOCK ≤ length block.now }
+    ensures { result ≡ has_bad_pointers geometry block.now }
+{
+    has_bad_record(block, geometry)
+        || !is_zeros(&block[POINTER_BYTES * geometry.extents as usize..BLOCK])
+}
+
+/// Whether a record can't be read.
+fn has_bad_record(block: &[u8], geometry: Geometry) -> bool
+    requires geometry { IsGeometry geometry }
+    requires long { BLOCK ≤ length block.now }
+    ensures { result ≡ has_bad_record geometry block.now }
+{
+    for extent in 0..geometry.extents {
+        let Some(_) = read_record(block, geometry, extent) else {
+            return true;
+        };
+    }
+    false
+}
+
+/// The record of each extent, of which no patch is known. They were looked at before.
 fn read_records<A: Allocator>(
     alloc: A,
     block: &[u8],
     geometry: Geometry,
-) -> Result<Vec<Extent, A>, ExtentsFault>
+) -> Result<Vec<Extent, A>, OutOfMemory>
     requires geometry { IsGeometry geometry }
     requires long { BLOCK ≤ length block.now }
-    ensures read { IfOk result (λ each. AreRecords geometry block.now each.items geometry.extents) }
-    ensures bad { result ≡ Err BadPointer → (e : ℕ) × (e < geometry.extents) × IsBadRecord geometry block.now e }
+    ensures { IfOk result (λ each. AreRecords geometry block.now each.items geometry.extents) }
 {
     let mut each = Vec::with_capacity(alloc, geometry.extents as usize)?;
     for extent in 0..geometry.extents {
-        let record = read_record(block, geometry, extent)?;
-        if let Err(_) = each.push(record) {
-            return Err(ExtentsFault::OutOfMemory);
-        }
+        let Some(record) = read_record(block, geometry, extent) else {
+            // Never so: each of them can be read.
+            return Err(OutOfMemory);
+        };
+        each.push(record)?;
     }
     Ok(each)
 }
 
-/// The record of one extent.
-fn read_record(block: &[u8], geometry: Geometry, extent: u32) -> Result<Extent, ExtentsFault>
+/// The record of one extent, if it can be read.
+fn read_record(block: &[u8], geometry: Geometry, extent: u32) -> Option<Extent>
     requires geometry { IsGeometry geometry }
     requires known { extent < geometry.extents }
     requires long { BLOCK ≤ length block.now }
-    ensures read { IfOk result (λ k. IsRecord geometry block.now extent k) }
-    ensures bad { OnErr result (IsBadRecord geometry block.now extent) }
+    ensures { MatchOption result (is_bad_record geometry block.now extent ≡ true) (IsRecord geometry block.now extent) }
 {
     let start = pointer_start(extent);
     let bytes = &block[start..start + POINTER_BYTES];
     match read_pointer_within(bytes, geometry.format.largest_pointer()) {
-        Ok(pointer) => Ok(Extent {
+        Ok(pointer) => Some(Extent {
             pointer,
             reset: None,
             point: None,
         }),
-        Err(_) => Err(ExtentsFault::BadPointer),
+        Err(_) => None,
     }
 }
 

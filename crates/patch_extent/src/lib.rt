@@ -19,5 +19,5 @@ mod rows;
 
 pub use extents::Extents;
 pub use parting::touched;
-pub use places::{Appended, Place};
+pub use places::{Appended, MergeOutcome, Place};
 pub use refusals::{AppendRefusal, ExtentsFault, ReadRefusal, ResetRefusal};

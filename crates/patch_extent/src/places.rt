@@ -19,4 +19,17 @@ pub struct Appended {
     pub place: Place,
     /// The patch that moved the pointer past them. Who reaches it reaches them.
     pub pointer_patch: PatchNo,
+    /// What came of its merge with the last patch of the record before it.
+    pub merge: MergeOutcome,
+}
+
+/// What came of the merge of a pointer patch with the last patch of its record.
+#[derive(Clone, Copy, Debug, PartialEq, Eq)]
+pub enum MergeOutcome {
+    /// They are of one class.
+    Made,
+    /// There is no patch before it, or they may not be merged.
+    NotLegal,
+    /// They may be merged, and there was no memory for it.
+    NoMemory,
 }

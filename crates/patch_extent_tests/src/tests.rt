@@ -3,11 +3,13 @@ ghost use Rattle.std.specs.Prelude.{◌≡◌};
 
 use patch_cache::Cache;
 use patch_extent::{
-    AppendRefusal, Appended, Extents, ExtentsFault, Place, ReadRefusal, ResetRefusal,
+    AppendRefusal, Appended, Extents, ExtentsFault, MergeOutcome, Place, ReadRefusal, ResetRefusal,
 };
 use patch_frame::{Format, Geometry};
 use patch_group::Groups;
-use patch_model::{BLOCK, BlockBytes, GroupNo, MAX_BLOCKS, OutOfMemory, PatchNo, Step, WriterNo};
+use patch_model::{
+    BLOCK, BlockBytes, BlockNo, GroupNo, MAX_BLOCKS, OutOfMemory, PatchNo, Step, Undo, WriterNo,
+};
 use patch_testing::zeros;
 use std::alloc::{Allocator, Global};
 use std::fmt::Debug;

@@ -229,3 +229,73 @@ fn each_call_is_refused_and_repeated(rt: HostRuntime) -> Result<(), Fail> {
     let heap = LocalHeap::new(rt.alloc(), HEAP)?;
     refuse_each(&rt, rt.alloc(), &heap)
 }
+
+// What comes of the merge of one byte more, or nothing where the append is refused.
+fn merge_one(bench: &mut Bench) -> Option<MergeOutcome> {
+    let Bench {
+        cache,
+        groups,
+        extents,
+        ..
+    } = bench;
+    match append_bytes(cache, groups, extents, None, 0, &[7], &[]) {
+        Ok(appended) => Some(appended.merge),
+        Err(_) => None,
+    }
+}
+
+// The same behind a first byte, where only a hole of this size is left.
+fn merge_in_hole(
+    rt: &impl Abort,
+    alloc: Global,
+    heap: &LocalHeap,
+    hole: usize,
+) -> Result<Option<MergeOutcome>, Fail> {
+    let mut bench = open_bench(rt, alloc, heap)?;
+    let first = merge_one(&mut bench);
+    expect_equal(rt, "first", first, Some(MergeOutcome::NotLegal));
+    let ballast = fill(alloc, heap, hole)?;
+    let outcome = merge_one(&mut bench);
+    drop(ballast);
+    Ok(outcome)
+}
+
+#[test]
+fn a_merge_without_memory_is_told(rt: HostRuntime) -> Result<(), Fail> {
+    let heap = LocalHeap::new(rt.alloc(), HEAP)?;
+    let mut before = None;
+    for size in 0..400usize {
+        let outcome = merge_in_hole(&rt, rt.alloc(), &heap, hole_of(size))?;
+        if outcome == Some(MergeOutcome::Made) {
+            expect_equal(&rt, "smaller", before, Some(MergeOutcome::NoMemory));
+            return Ok(());
+        }
+        before = outcome;
+    }
+    Err(Fail::from("not merged in the largest hole"))
+}
+
+// Why extents aren't opened where only a small hole is left.
+fn fault_in_hole(
+    rt: &impl Abort,
+    alloc: Global,
+    heap: &LocalHeap,
+    records: &[u8],
+) -> Result<Option<ExtentsFault>, Fail> {
+    let cache = open_cache(rt, heap, 35, records)?;
+    let ballast = fill(alloc, heap, 16)?;
+    assert!(rt; cache.blocks() == 35);
+    let fault = Extents::open(heap, &cache, SMALL).err();
+    drop(ballast);
+    Ok(fault)
+}
+
+#[test]
+fn pointers_are_read_before_memory_is_asked_for(rt: HostRuntime) -> Result<(), Fail> {
+    let heap = LocalHeap::new(rt.alloc(), HEAP)?;
+    let good = fault_in_hole(&rt, rt.alloc(), &heap, &[])?;
+    expect_equal(&rt, "good", good, Some(ExtentsFault::OutOfMemory));
+    let bad = fault_in_hole(&rt, rt.alloc(), &heap, b"\0\0\0\0\0\x01\0\x01")?;
+    expect_equal(&rt, "bad", bad, Some(ExtentsFault::BadPointer));
+    Ok(())
+}

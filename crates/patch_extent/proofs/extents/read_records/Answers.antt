@@ -28,4 +28,4 @@ loop-extent-init g c = no_records c.args.geometry c.args.block.now _ c.in_ok-eac
 
 pub loop-extent-preserved : goal.loop-extent-preserved
 loop-extent-preserved g c =
-    more_records c.args.geometry c.args.block.now c.loop-extent.each.items c.push.new.self.items c.in_ok-record.record c.loop-extent.extent c.loop-extent.invariant c.in_ok-record.ensures.read c.in_default.ensures.items
+    more_records c.args.geometry c.args.block.now c.loop-extent.each.items c.push.new.self.items c.in-Some.record c.loop-extent.extent c.loop-extent.invariant c.in-Some.ensures c.in_ok-push.ensures.items

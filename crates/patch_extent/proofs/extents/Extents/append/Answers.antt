@@ -18,3 +18,14 @@ returns-in_err-why_not_appended-clause-answer g c run h =
       cause = caused _ _ _ (told.cause run h.cache_is) (ap append_cause p.2);
       begun = none_begun run (asked c.args.writer c.args.extent c.args.bytes.now c.args.after.now) (setting c.args.self.now c.args.groups.now c.args.cache.now) h;
     })
+
+pub returns-clause-answer : goal.returns-clause-answer
+returns-clause-answer g c run h =
+    let done = c.in_ok-append_counted.ensures.answer run h in
+    record {
+      no_cause = c.in_ok-why_not_appended.ensures.none run h.cache_is;
+      place_is = done.place_is;
+      patch_is = done.patch_is;
+      is_written = done.is_written;
+      merge_is = done.merge_is;
+    }

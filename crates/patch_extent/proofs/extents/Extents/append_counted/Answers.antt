@@ -85,18 +85,18 @@ returns-clause-answer g c run h =
     (spelling (record { generation = generation_at s e; offset = offset_at s e + length bytes })) writer ns gs1 c1 gs2 c2 num) numbers
     (subst (λ (k : Extent). IsPatched (pointer_block s.geometry) (pointer_start e)
     (spelling (record { generation = k.pointer.generation; offset = k.pointer.offset + length bytes })) writer c.as_slice-2.result.now gs1 c1 gs2 c2 num) at c.in_ok-no.ensures) in
-    let merged = subst (λ (k : Extent). MergesBehind k.point num c2 c.merge_behind.new.cache) at c.merge_behind.ensures in
+    let merged = subst (λ (k : Extent). MergesBehind k.point num c.merge_behind-merge.result c2 c.merge_behind-merge.new.cache) at c.merge_behind-merge.ensures in
     let x : Extent = record { pointer = record { generation = c.index.result.now.pointer.generation; offset = c.index.result.now.pointer.offset + length c.args.bytes.now }; reset = c.index_mut-record.result.now.reset; point = Some c.in_ok-no.no } in
     let some : (offset_at c.args.self.now c.args.extent + length c.args.bytes.now == 0) ≡ false = some_offset (offset_at c.args.self.now c.args.extent) (length c.args.bytes.now) c.requires.some in
     let pointed = pointed_is x (extent_at s e) num gen to (ap
     (λ (k : Extent). let p : Pointer = record { generation = k.pointer.generation; offset = k.pointer.offset + length bytes } in p) at) (ap (λ (k : Extent). k.reset) again) refl some in
     let moved = moved_is (record { geometry = c.self.inside.geometry; each = c.self.inside.each.items }) s e num gen to x c.self.view_is pointed in
-    subst (λ t. IsDone run a old (setting t gs2 c.merge_behind.new.cache)
-    (record { place = record { extent = e; generation = c.index.result.now.pointer.generation; offset = c.index.result.now.pointer.offset; len = length bytes }; pointer_patch = num })) (sym moved)
-    (append_done c.steps_extend.ensures.state c.pointers_are_read_again.ensures c.executions_are_orderly.ensures.blocks run a old gs1 gs2 c1 c2 c.merge_behind.new.cache num
-    (record { place = record { extent = e; generation = c.index.result.now.pointer.generation; offset = c.index.result.now.pointer.offset; len = length bytes }; pointer_patch = num })
+    subst (λ t. IsDone run a old (setting t gs2 c.merge_behind-merge.new.cache)
+    (record { place = record { extent = e; generation = c.index.result.now.pointer.generation; offset = c.index.result.now.pointer.offset; len = length bytes }; pointer_patch = num; merge = c.merge_behind-merge.result })) (sym moved)
+    (append_done c.steps_extend.ensures.state c.pointers_are_read_again.ensures c.executions_are_orderly.ensures.blocks run a old gs1 gs2 c1 c2 c.merge_behind-merge.new.cache num c.merge_behind-merge.result
+    (record { place = record { extent = e; generation = c.index.result.now.pointer.generation; offset = c.index.result.now.pointer.offset; len = length bytes }; pointer_patch = num; merge = c.merge_behind-merge.result })
     c.requires.known c.requires.some (record { generation = (h.represents.whole.fits e).generation; offset = c.requires.room }) made patched merged
-    (ap (λ (k : Extent). let p : Place = record { extent = e; generation = k.pointer.generation; offset = k.pointer.offset; len = length bytes } in p) at) refl)
+    (ap (λ (k : Extent). let p : Place = record { extent = e; generation = k.pointer.generation; offset = k.pointer.offset; len = length bytes } in p) at) refl refl)
 
 pub invariant_of-self : goal.invariant_of-self
 invariant_of-self g c =
