@@ -1,4 +1,4 @@
-//! Tests of the crates below the views: words of the cache, orders, tables, skylines, lists of numbers, devices, and what tests share.
+//! Tests of the crates below the views: words of the cache, orders, skylines, lists of numbers, devices, and what tests share.
 #![tactic(auto)]
 
 #[cfg(test)]
@@ -15,7 +15,5 @@ mod order;
 mod rows;
 #[cfg(test)]
 mod skyline;
-#[cfg(test)]
-mod table;
 #[cfg(test)]
 mod testing;

@@ -20,3 +20,4 @@ pub mod Leveling
 pub mod Relisting
 pub mod Pairs
 pub mod Following
+pub mod Leads

@@ -9,3 +9,5 @@ pub mod Merging
 pub mod Joining
 pub mod Adding
 pub mod Following
+pub mod Keys
+pub mod Hashing

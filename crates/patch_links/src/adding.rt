@@ -3,7 +3,6 @@ ghost use Rattle.std.specs.Prelude.{◌≡◌, ◌≢◌, ◌<◌, ◌≤◌, �
 ghost use Rattle.std.specs.List.{list_all};
 ghost use Rattle.patch_model.specs.declared.patches.Mark.TheVariants.{Memory};
 ghost use Rattle.slab.specs.Slab.{HasRoomFor};
-ghost use Rattle.patch_table.specs.Table.{HasRoomAt, entries_of};
 ghost use Rattle.patch_links.specs.State.{changed_at, find, is_at, slots_of};
 ghost use Rattle.patch_links.specs.Waiting.{is_unmet, ready_in, AreCounted, AreLinked};
 ghost use Rattle.patch_links.specs.Lists.{IsListed, IsSettled, AreListed, AreSettled};
@@ -11,8 +10,9 @@ ghost use Rattle.patch_links.specs.Standing.{AreBelow, KeepsBare, KeepsOwed, Kee
 ghost use Rattle.patch_links.specs.Adding.{followed, followed_to, AreFollowed, HasLists, HasPut, HasRoom, HasRoomForAll, HasRoomTo, IsEnlisting, IsJoining, IsNewClass, IsRoomier, KeepsLists, LeadNowhere};
 
 use crate::admitting::admit_all;
+use crate::keys::Keys;
 use crate::lists::{Blocks, OfBlock};
-use crate::nodes::{Class, Keys, Node, Nodes, find, is_due};
+use crate::nodes::{Class, Node, Nodes, find, is_due};
 use patch_model::{BlockNo, Mark, PatchNo};
 use patch_numbers::NumberList;
 use std::alloc::{AllocError, Allocator};
@@ -46,7 +46,7 @@ fn reserve_to<A: Allocator>(
     more: usize,
 ) -> Result<(), AllocError>
     ensures roomier { IsRoomier nodes.old.slots nodes.new.slots }
-    ensures room { OnOk result (HasRoomTo (entries_of keys.now) more no nodes.new.slots) }
+    ensures room { OnOk result (HasRoomTo keys.now.numbers more no nodes.new.slots) }
     ensures next { nodes.new.vacant_key ≡ nodes.old.vacant_key }
 {
     match find(keys, no) {
@@ -58,12 +58,12 @@ fn reserve_to<A: Allocator>(
 /// How many of these numbers, from the first on, are below all that lead to a class. A patch of a group names all that the
 /// groups before it wrote, and most of those are often durable.
 fn count_gone<A: Allocator>(keys: &Keys<A>, numbers: &[PatchNo]) -> usize
-    ensures { LeadNowhere (entries_of keys.now) numbers.now result }
+    ensures { LeadNowhere keys.now.numbers numbers.now result }
 {
     let lowest = keys.lowest();
     for at in 0..numbers.len() {
         let no = numbers[at];
-        if no.0 as usize >= lowest {
+        if no.0 >= lowest {
             return at;
         }
     }
@@ -77,7 +77,7 @@ fn reserve_all<A: Allocator>(
     after: &[PatchNo],
 ) -> Result<(), AllocError>
     ensures roomier { IsRoomier nodes.old.slots nodes.new.slots }
-    ensures room { OnOk result (HasRoomForAll (entries_of keys.now) (length after.now) after.now nodes.new.slots) }
+    ensures room { OnOk result (HasRoomForAll keys.now.numbers (length after.now) after.now nodes.new.slots) }
     ensures next { nodes.new.vacant_key ≡ nodes.old.vacant_key }
 {
     let more = after.len();
@@ -118,9 +118,9 @@ fn follow_to<A: Allocator>(
     no: PatchNo,
     follower: PatchNo,
 ) -> bool
-    requires { HasRoomTo (entries_of keys.now) 1 no nodes.old.slots }
-    ensures unmet { result ≡ is_unmet nodes.old.slots (entries_of keys.now) key block no }
-    ensures followed { nodes.new.slots ≡ followed_to (entries_of keys.now) follower nodes.old.slots no }
+    requires { HasRoomTo keys.now.numbers 1 no nodes.old.slots }
+    ensures unmet { result ≡ is_unmet nodes.old.slots keys.now.numbers key block no }
+    ensures followed { nodes.new.slots ≡ followed_to keys.now.numbers follower nodes.old.slots no }
     ensures capacity { nodes.new.capacity ≡ nodes.old.capacity }
     ensures next { nodes.new.vacant_key ≡ nodes.old.vacant_key }
 {
@@ -142,9 +142,9 @@ fn follow_all<A: Allocator>(
     after: &[PatchNo],
     follower: PatchNo,
 ) -> usize
-    requires { HasRoomForAll (entries_of keys.now) (length after.now) after.now nodes.old.slots }
-    ensures unmet { result ≡ count_by (is_unmet nodes.old.slots (entries_of keys.now) key block) after.now }
-    ensures followed { AreFollowed (entries_of keys.now) follower after.now nodes.old.slots nodes.new.slots }
+    requires { HasRoomForAll keys.now.numbers (length after.now) after.now nodes.old.slots }
+    ensures unmet { result ≡ count_by (is_unmet nodes.old.slots keys.now.numbers key block) after.now }
+    ensures followed { AreFollowed keys.now.numbers follower after.now nodes.old.slots nodes.new.slots }
     ensures capacity { nodes.new.capacity ≡ nodes.old.capacity }
     ensures next { nodes.new.vacant_key ≡ nodes.old.vacant_key }
 {
@@ -229,11 +229,11 @@ fn enlist_in<A: Allocator>(
     key: usize,
 )
     requires joining { IsJoining block key nodes.old.slots list.old }
-    requires linked { AreLinked nodes.old.slots (entries_of keys.now) }
+    requires linked { AreLinked nodes.old.slots keys.now.numbers }
     ensures listed { IsListed block nodes.new.slots list.new }
     ensures settled { IsSettled list.new }
     ensures rest { KeepsRest block nodes.old.slots nodes.new.slots }
-    ensures owed { KeepsOwed (entries_of keys.now) nodes.old.slots nodes.new.slots }
+    ensures owed { KeepsOwed keys.now.numbers nodes.old.slots nodes.new.slots }
 {
     enlist_key(nodes, list, block, key);
     admit_all(nodes, keys, list, block);
@@ -248,12 +248,12 @@ fn enlist<A: Allocator>(
     key: usize,
 )
     requires enlisting { IsEnlisting block key nodes.old.slots blocks.old.items }
-    requires linked { AreLinked nodes.old.slots (entries_of keys.now) }
-    requires counted { AreCounted nodes.old.slots (entries_of keys.now) }
+    requires linked { AreLinked nodes.old.slots keys.now.numbers }
+    requires counted { AreCounted nodes.old.slots keys.now.numbers }
     ensures listed { AreListed nodes.new.slots blocks.new.items }
     ensures settled { AreSettled blocks.new.items }
     ensures bare { KeepsBare nodes.old.slots nodes.new.slots }
-    ensures counted { AreCounted nodes.new.slots (entries_of keys.now) }
+    ensures counted { AreCounted nodes.new.slots keys.now.numbers }
 {
     match blocks.get_mut(block.0 as usize) {
         Some(list) => enlist_in(nodes, keys, list, block, key),
@@ -263,11 +263,11 @@ fn enlist<A: Allocator>(
 
 /// Notes the key of a patch's class, where there is room for one more.
 fn enter<A: Allocator + Copy>(keys: &mut Keys<A>, no: PatchNo, key: usize)
-    requires { HasRoomAt keys.old no }
-    ensures here { find (entries_of keys.new) no ≡ Some key }
-    ensures others { (n : ℕ) → n ≢ no → find (entries_of keys.new) n ≡ find (entries_of keys.old) n }
+    requires { 0 < keys.old.room }
+    ensures here { find keys.new.numbers no ≡ Some key }
+    ensures others { (n : ℕ) → n ≢ no → find keys.new.numbers n ≡ find keys.old.numbers n }
 {
-    keys.put(no.0, key);
+    keys.put(no, key);
 }
 
 /// What the class depends on.
@@ -344,17 +344,17 @@ fn make_room<A: Allocator + Copy>(
     class: &Class<A>,
 ) -> Result<(), AllocError>
     ensures roomier { IsRoomier nodes.old.slots nodes.new.slots }
-    ensures keys { entries_of keys.new ≡ entries_of keys.old }
+    ensures keys { keys.new.numbers ≡ keys.old.numbers }
     ensures kept { KeepsLists blocks.old.items blocks.new.items }
     ensures nodes { OnOk result (HasRoomFor nodes.new 1) }
-    ensures numbers { OnOk result (HasRoomAt keys.new class.now.name) }
-    ensures followers { OnOk result (HasRoomForAll (entries_of keys.new) (length class.now.after) class.now.after nodes.new.slots) }
+    ensures numbers { OnOk result (0 < keys.new.room) }
+    ensures followers { OnOk result (HasRoomForAll keys.new.numbers (length class.now.after) class.now.after nodes.new.slots) }
     ensures lists { OnOk result (HasLists class.now.block blocks.new.items) }
     ensures next { nodes.new.vacant_key ≡ nodes.old.vacant_key }
 {
     reserve_all(nodes, keys, after(class))?;
     make_lists(alloc, blocks, class.block)?;
-    keys.reserve(class.name.0)?;
+    keys.reserve()?;
     nodes.reserve(1)
 }
 
@@ -367,14 +367,14 @@ fn put_in<A: Allocator + Copy>(
     class: Class<A>,
 ) -> usize
     requires nodes { HasRoomFor nodes.old 1 }
-    requires numbers { HasRoomAt keys.old class.name }
-    requires followers { HasRoomForAll (entries_of keys.old) (length class.after) class.after nodes.old.slots }
+    requires numbers { 0 < keys.old.room }
+    requires followers { HasRoomForAll keys.old.numbers (length class.after) class.after nodes.old.slots }
     requires lists { HasLists class.block blocks.old.items }
-    requires stands { Stands nodes.old.slots (entries_of keys.old) blocks.old.items }
+    requires stands { Stands nodes.old.slots keys.old.numbers blocks.old.items }
     requires below { AreBelow class.name nodes.old.slots }
     requires fresh { IsNewClass class }
-    ensures put { HasPut (slots_of nodes.old.slots) (slots_of nodes.new.slots) (entries_of keys.old) (entries_of keys.new) result class }
-    ensures stands { Stands nodes.new.slots (entries_of keys.new) blocks.new.items }
+    ensures put { HasPut (slots_of nodes.old.slots) (slots_of nodes.new.slots) keys.old.numbers keys.new.numbers result class }
+    ensures stands { Stands nodes.new.slots keys.new.numbers blocks.new.items }
     ensures below { AreBelow (class.name + 1) nodes.new.slots }
     ensures next { result ≡ nodes.old.vacant_key }
 {
@@ -396,14 +396,14 @@ pub fn add<A: Allocator + Copy>(
     blocks: &mut Blocks<A>,
     class: Class<A>,
 ) -> Result<usize, AllocError>
-    requires stands { Stands nodes.old.slots (entries_of keys.old) blocks.old.items }
+    requires stands { Stands nodes.old.slots keys.old.numbers blocks.old.items }
     requires below { AreBelow class.name nodes.old.slots }
     requires fresh { IsNewClass class }
-    ensures put { IfOk result (λ key. HasPut (slots_of nodes.old.slots) (slots_of nodes.new.slots) (entries_of keys.old) (entries_of keys.new) key class) }
-    ensures stands { Stands nodes.new.slots (entries_of keys.new) blocks.new.items }
+    ensures put { IfOk result (λ key. HasPut (slots_of nodes.old.slots) (slots_of nodes.new.slots) keys.old.numbers keys.new.numbers key class) }
+    ensures stands { Stands nodes.new.slots keys.new.numbers blocks.new.items }
     ensures below { OnOk result (AreBelow (class.name + 1) nodes.new.slots) }
     ensures refused { OnErr result (IsRoomier nodes.old.slots nodes.new.slots) }
-    ensures numbers { OnErr result (entries_of keys.new ≡ entries_of keys.old) }
+    ensures numbers { OnErr result (keys.new.numbers ≡ keys.old.numbers) }
     ensures next { IfOk result (λ key. key ≡ nodes.old.vacant_key) }
     ensures same_next { OnErr result (nodes.new.vacant_key ≡ nodes.old.vacant_key) }
 {

@@ -1,16 +1,14 @@
 //! Classes that come into the ready set, one after another.
 ghost use Rattle.std.specs.Prelude.{◌≡◌, ◌≢◌, ◌<◌, ◌≤◌, ◌+◌, ◌&&◌, ◌==◌, ℕ, true, false, not, length, slice_get};
 ghost use Rattle.std.specs.Option.{option_map_or};
-ghost use Rattle.patch_table.specs.Table.{entries_of};
 ghost use Rattle.patch_links.specs.State.{Class, find, is_at, changed_at};
 ghost use Rattle.patch_links.specs.Waiting.{of_block, is_due, lowered, AreLinked, changed_if_other, passed_to, followers_at};
 ghost use Rattle.patch_links.specs.Lists.{IsListed, IsSettled};
 ghost use Rattle.patch_links.specs.Standing.{KeepsRest, KeepsOwed, PaysOwed, PaysOne};
 
+use crate::keys::Keys;
 use crate::lists::OfBlock;
-use crate::nodes::{
-    Keys, Nodes, find, follower_at, follower_count, is_due, is_of, lower, put_ready,
-};
+use crate::nodes::{Nodes, find, follower_at, follower_count, is_due, is_of, lower, put_ready};
 use patch_model::{BlockNo, PatchNo};
 use std::alloc::Allocator;
 
@@ -67,7 +65,7 @@ fn pay_to<A: Allocator>(
     no: PatchNo,
 )
     requires { IsListed block nodes.old.slots list.old }
-    ensures changed { nodes.new.slots ≡ passed_to lowered (entries_of keys.now) from block nodes.old.slots no }
+    ensures changed { nodes.new.slots ≡ passed_to lowered keys.now.numbers from block nodes.old.slots no }
     ensures listed { IsListed block nodes.new.slots list.new }
     ensures done { list.new.done ≡ list.old.done }
     ensures count { list.new.count ≡ list.old.count }
@@ -90,7 +88,7 @@ fn pay_all<A: Allocator>(
     ensures done { list.new.done ≡ list.old.done }
     ensures count { list.new.count ≡ list.old.count }
     ensures rest { KeepsRest block nodes.old.slots nodes.new.slots }
-    ensures paid { PaysOwed (entries_of keys.now) from block (followers_at nodes.old.slots from) nodes.old.slots nodes.new.slots }
+    ensures paid { PaysOwed keys.now.numbers from block (followers_at nodes.old.slots from) nodes.old.slots nodes.new.slots }
 {
     let count = follower_count(nodes, from);
     for place in 0..count {
@@ -109,13 +107,13 @@ fn admit_next<A: Allocator>(
     block: BlockNo,
 )
     requires listed { IsListed block nodes.old.slots list.old }
-    requires linked { AreLinked nodes.old.slots (entries_of keys.now) }
+    requires linked { AreLinked nodes.old.slots keys.now.numbers }
     requires some { list.old.done < length list.old.ready }
     ensures listed { IsListed block nodes.new.slots list.new }
     ensures done { list.new.done ≡ list.old.done + 1 }
     ensures count { list.new.count ≡ list.old.count }
     ensures rest { KeepsRest block nodes.old.slots nodes.new.slots }
-    ensures owed { KeepsOwed (entries_of keys.now) nodes.old.slots nodes.new.slots }
+    ensures owed { KeepsOwed keys.now.numbers nodes.old.slots nodes.new.slots }
 {
     let key = list.next();
     put_ready(nodes, key);
@@ -130,11 +128,11 @@ pub fn admit_all<A: Allocator>(
     block: BlockNo,
 )
     requires listed { IsListed block nodes.old.slots list.old }
-    requires linked { AreLinked nodes.old.slots (entries_of keys.now) }
+    requires linked { AreLinked nodes.old.slots keys.now.numbers }
     ensures listed { IsListed block nodes.new.slots list.new }
     ensures settled { IsSettled list.new }
     ensures rest { KeepsRest block nodes.old.slots nodes.new.slots }
-    ensures owed { KeepsOwed (entries_of keys.now) nodes.old.slots nodes.new.slots }
+    ensures owed { KeepsOwed keys.now.numbers nodes.old.slots nodes.new.slots }
 {
     while list.has_next() {
         admit_next(nodes, keys, list, block);
@@ -150,12 +148,12 @@ pub fn settle<A: Allocator>(
     key: usize,
 )
     requires listed { IsListed block nodes.old.slots list.old }
-    requires linked { AreLinked nodes.old.slots (entries_of keys.now) }
+    requires linked { AreLinked nodes.old.slots keys.now.numbers }
     requires here { is_at (of_block block) nodes.old.slots key ≡ true }
     ensures listed { IsListed block nodes.new.slots list.new }
     ensures settled { IsSettled list.new }
     ensures rest { KeepsRest block nodes.old.slots nodes.new.slots }
-    ensures paid { PaysOne (entries_of keys.now) key nodes.old.slots nodes.new.slots }
+    ensures paid { PaysOne keys.now.numbers key nodes.old.slots nodes.new.slots }
 {
     pay(nodes, list, block, key);
     admit_all(nodes, keys, list, block);

@@ -1,15 +1,15 @@
 //! The ready set put in flight.
 ghost use Rattle.std.specs.Prelude.{◌≡◌, ◌<◌, ◌≤◌, ◌&&◌, ◌==◌, ℕ, true, false, length};
 ghost use Rattle.patch_model.specs.Entry.{is_among};
-ghost use Rattle.patch_table.specs.Table.{entries_of};
 ghost use Rattle.patch_links.specs.State.{is_at, changed_at, slots_of};
 ghost use Rattle.patch_links.specs.Waiting.{of_block, ready_in, raised, unreadied, AreCounted, AreLinked, AreOwing, passed_by, changed_if_other, passed_to, followers_at};
 ghost use Rattle.patch_links.specs.Lists.{HoldsJust, IsListed, IsSettled, of_at};
 ghost use Rattle.patch_links.specs.Standing.{KeepsRest, KeepsMarks, KeepsPlain, Stands};
 ghost use Rattle.patch_links.specs.MarkFlight.{AreFlown, flown_node, AreNodesFlown, IsPutInFlight};
 
+use crate::keys::Keys;
 use crate::lists::{Blocks, OfBlock};
-use crate::nodes::{Keys, Nodes, find, follower_at, follower_count, is_of, raise, take_ready};
+use crate::nodes::{Nodes, find, follower_at, follower_count, is_of, raise, take_ready};
 use patch_model::{BlockNo, Mark, PatchNo};
 use std::alloc::Allocator;
 
@@ -30,7 +30,7 @@ fn raise_to<A: Allocator>(
     block: BlockNo,
     no: PatchNo,
 )
-    ensures { nodes.new.slots ≡ passed_to raised (entries_of keys.now) from block nodes.old.slots no }
+    ensures { nodes.new.slots ≡ passed_to raised keys.now.numbers from block nodes.old.slots no }
 {
     if let Some(key) = find(keys, no) {
         raise_other(nodes, from, block, key);
@@ -41,7 +41,7 @@ fn raise_to<A: Allocator>(
 fn raise_all<A: Allocator>(nodes: &mut Nodes<A>, keys: &Keys<A>, from: usize, block: BlockNo)
     ensures rest { KeepsRest block nodes.old.slots nodes.new.slots }
     ensures marks { KeepsMarks nodes.old.slots nodes.new.slots }
-    ensures counted { AreOwing nodes.old.slots (entries_of keys.now) (passed_by (entries_of keys.now) from block (followers_at nodes.old.slots from)) → AreCounted nodes.new.slots (entries_of keys.now) }
+    ensures counted { AreOwing nodes.old.slots keys.now.numbers (passed_by keys.now.numbers from block (followers_at nodes.old.slots from)) → AreCounted nodes.new.slots keys.now.numbers }
 {
     let count = follower_count(nodes, from);
     for place in 0..count {
@@ -55,11 +55,11 @@ fn raise_all<A: Allocator>(nodes: &mut Nodes<A>, keys: &Keys<A>, from: usize, bl
 /// Takes the class at the key out of the ready set.
 fn take_out_at<A: Allocator>(nodes: &mut Nodes<A>, keys: &Keys<A>, key: usize, block: BlockNo)
     requires here { is_at (ready_in block) nodes.old.slots key ≡ true }
-    requires linked { AreLinked nodes.old.slots (entries_of keys.now) }
-    requires counted { AreCounted nodes.old.slots (entries_of keys.now) }
+    requires linked { AreLinked nodes.old.slots keys.now.numbers }
+    requires counted { AreCounted nodes.old.slots keys.now.numbers }
     ensures rest { KeepsRest block nodes.old.slots nodes.new.slots }
     ensures marks { KeepsMarks (changed_at unreadied nodes.old.slots key) nodes.new.slots }
-    ensures counted { AreCounted nodes.new.slots (entries_of keys.now) }
+    ensures counted { AreCounted nodes.new.slots keys.now.numbers }
 {
     take_ready(nodes, key);
     raise_all(nodes, keys, key, block);
@@ -68,11 +68,11 @@ fn take_out_at<A: Allocator>(nodes: &mut Nodes<A>, keys: &Keys<A>, key: usize, b
 /// Takes the classes at these keys out of the ready set, which are all of it.
 pub fn take_out<A: Allocator>(nodes: &mut Nodes<A>, keys: &Keys<A>, ready: &[usize], block: BlockNo)
     requires ready { HoldsJust (ready_in block) nodes.old.slots ready.now }
-    requires linked { AreLinked nodes.old.slots (entries_of keys.now) }
-    requires counted { AreCounted nodes.old.slots (entries_of keys.now) }
+    requires linked { AreLinked nodes.old.slots keys.now.numbers }
+    requires counted { AreCounted nodes.old.slots keys.now.numbers }
     ensures rest { KeepsRest block nodes.old.slots nodes.new.slots }
     ensures none { (key : ℕ) → is_at (ready_in block) nodes.new.slots key ≡ false }
-    ensures counted { AreCounted nodes.new.slots (entries_of keys.now) }
+    ensures counted { AreCounted nodes.new.slots keys.now.numbers }
 {
     for key in ready {
         take_out_at(nodes, keys, *key, block);
@@ -107,11 +107,11 @@ fn fly_list<A: Allocator>(
 )
     requires listed { IsListed block nodes.old.slots list.old }
     requires settled { IsSettled list.old }
-    requires linked { AreLinked nodes.old.slots (entries_of keys.now) }
-    requires counted { AreCounted nodes.old.slots (entries_of keys.now) }
+    requires linked { AreLinked nodes.old.slots keys.now.numbers }
+    requires counted { AreCounted nodes.old.slots keys.now.numbers }
     ensures listed { IsListed block nodes.new.slots list.new }
     ensures settled { IsSettled list.new }
-    ensures counted { AreCounted nodes.new.slots (entries_of keys.now) }
+    ensures counted { AreCounted nodes.new.slots keys.now.numbers }
     ensures flown { IsPutInFlight block (is_among list.old.ready) nodes.old.slots nodes.new.slots }
 {
     take_out(nodes, keys, list.ready(), block);
@@ -126,8 +126,8 @@ pub fn fly<A: Allocator>(
     blocks: &mut Blocks<A>,
     block: BlockNo,
 )
-    requires { Stands nodes.old.slots (entries_of keys.now) blocks.old.items }
-    ensures stands { Stands nodes.new.slots (entries_of keys.now) blocks.new.items }
+    requires { Stands nodes.old.slots keys.now.numbers blocks.old.items }
+    ensures stands { Stands nodes.new.slots keys.now.numbers blocks.new.items }
     ensures flown { AreFlown (is_among (of_at blocks.old.items block).ready) (slots_of nodes.old.slots) (slots_of nodes.new.slots) }
     ensures plain { KeepsPlain nodes.old.slots nodes.new.slots }
 {

@@ -1,7 +1,6 @@
 //! Two classes made one.
 ghost use Rattle.std.specs.Prelude.{None, [], ◌≡◌, ◌≢◌, ◌+◌, ◌≤◌, ◌++◌, ◌==◌, ℕ, false, min, length, count_by, if◌then◌else◌, Some, OnOk, OnErr};
 ghost use Rattle.std.specs.Option.{option_map};
-ghost use Rattle.patch_table.specs.Table.{entries_of};
 ghost use Rattle.patch_links.specs.State.{Node as SeenNode, find, leads_at, node_at, slots_of, is_at, changed_at};
 ghost use Rattle.patch_links.specs.Waiting.{ready_in, AreCounted};
 ghost use Rattle.patch_links.specs.Lists.{IsListed, IsSettled, AreListed, AreSettled};
@@ -12,8 +11,9 @@ ghost use Rattle.patch_links.specs.Joining.{FitsAt, may_join_with, may_join_both
 use crate::adding::alone;
 use crate::admitting::admit_all;
 use crate::flying::take_out;
+use crate::keys::Keys;
 use crate::lists::{Blocks, OfBlock};
-use crate::nodes::{Class, Keys, Node, Nodes, block_at, find, is_due, is_ready};
+use crate::nodes::{Class, Node, Nodes, block_at, find, is_due, is_ready};
 use patch_model::{BlockNo, Mark, PatchNo};
 use patch_numbers::NumberList;
 use std::alloc::{AllocError, Allocator};
@@ -62,15 +62,15 @@ fn absorb<A: Allocator>(node: &mut Node<A>, other: &Node<A>, inner: usize) -> Re
 
 /// Has a number lead to another key, if it leads to one.
 fn redirect_one<A: Allocator>(keys: &mut Keys<A>, no: PatchNo, key: usize)
-    ensures here { find (entries_of keys.new) no ≡ option_map (λ k. key) (find (entries_of keys.old) no) }
-    ensures others { (n : ℕ) → n ≢ no → find (entries_of keys.new) n ≡ find (entries_of keys.old) n }
+    ensures here { find keys.new.numbers no ≡ option_map (λ k. key) (find keys.old.numbers no) }
+    ensures others { (n : ℕ) → n ≢ no → find keys.new.numbers n ≡ find keys.old.numbers n }
 {
-    keys.change(no.0, key);
+    keys.change(no, key);
 }
 
 /// Has these numbers lead to another key.
 fn redirect<A: Allocator>(keys: &mut Keys<A>, members: &[PatchNo], key: usize)
-    ensures { AreRedirected members.now key (entries_of keys.old) (entries_of keys.new) }
+    ensures { AreRedirected members.now key keys.old.numbers keys.new.numbers }
 {
     for no in members {
         redirect_one(keys, *no, key);
@@ -79,7 +79,7 @@ fn redirect<A: Allocator>(keys: &mut Keys<A>, members: &[PatchNo], key: usize)
 
 /// Whether the number leads to the key.
 fn leads_to<A: Allocator>(keys: &Keys<A>, key: usize, no: PatchNo) -> bool
-    ensures { result ≡ leads_at (entries_of keys.now) key no }
+    ensures { result ≡ leads_at keys.now.numbers key no }
 {
     match find(keys, no) {
         Some(other) => other == key,
@@ -89,7 +89,7 @@ fn leads_to<A: Allocator>(keys: &Keys<A>, key: usize, no: PatchNo) -> bool
 
 /// How many of these numbers lead to the key.
 fn count_leading<A: Allocator>(keys: &Keys<A>, key: usize, numbers: &[PatchNo]) -> usize
-    ensures counted { result ≡ count_by (leads_at (entries_of keys.now) key) numbers.now }
+    ensures counted { result ≡ count_by (leads_at keys.now.numbers key) numbers.now }
     ensures most { result ≤ length numbers.now }
 {
     let mut count = 0;
@@ -103,7 +103,7 @@ fn count_leading<A: Allocator>(keys: &Keys<A>, key: usize, numbers: &[PatchNo]) 
 
 /// How often two classes, neither of which is in the ready set, wait for each other.
 fn count_inner<A: Allocator>(keys: &Keys<A>, keep: usize, other: &Node<A>) -> usize
-    ensures { result ≡ (if other.now.ready then 0 else inner (entries_of keys.now) keep other.now) }
+    ensures { result ≡ (if other.now.ready then 0 else inner keys.now.numbers keep other.now) }
 {
     if other.ready {
         0
@@ -216,14 +216,14 @@ fn join_alike<A: Allocator + Copy>(
 ) -> Result<(), AllocError>
     requires pair { IsPair block keep gone nodes.old.slots }
     requires level { AreLevel block keep gone nodes.old.slots }
-    requires tied { AreTied nodes.old.slots (entries_of keys.old) }
+    requires tied { AreTied nodes.old.slots keys.old.numbers }
     requires listed { IsListed block nodes.old.slots list.old }
     requires settled { IsSettledFor block keep nodes.old.slots list.old }
     ensures listed { IsListed block nodes.new.slots list.new }
-    ensures order { KeepsOrder block nodes.old.slots nodes.new.slots (entries_of keys.old) (entries_of keys.new) }
-    ensures joined { OnOk result (AreClassesJoined keep gone (slots_of nodes.old.slots) (slots_of nodes.new.slots) (entries_of keys.old) (entries_of keys.new)) }
+    ensures order { KeepsOrder block nodes.old.slots nodes.new.slots keys.old.numbers keys.new.numbers }
+    ensures joined { OnOk result (AreClassesJoined keep gone (slots_of nodes.old.slots) (slots_of nodes.new.slots) keys.old.numbers keys.new.numbers) }
     ensures refused { OnErr result (nodes.new.slots ≡ nodes.old.slots) }
-    ensures numbers { OnErr result (entries_of keys.new ≡ entries_of keys.old) }
+    ensures numbers { OnErr result (keys.new.numbers ≡ keys.old.numbers) }
 {
     let Some(other) = take_at(alloc, nodes, gone) else {
         return Ok(());
@@ -243,11 +243,11 @@ fn join_alike<A: Allocator + Copy>(
 fn drain<A: Allocator>(nodes: &mut Nodes<A>, keys: &Keys<A>, list: &mut OfBlock<A>, block: BlockNo)
     requires listed { IsListed block nodes.old.slots list.old }
     requires settled { IsSettled list.old }
-    requires tied { AreTied nodes.old.slots (entries_of keys.now) }
+    requires tied { AreTied nodes.old.slots keys.now.numbers }
     ensures listed { IsListed block nodes.new.slots list.new }
     ensures rest { KeepsRest block nodes.old.slots nodes.new.slots }
     ensures none { (key : ℕ) → is_at (ready_in block) nodes.new.slots key ≡ false }
-    ensures counted { AreCounted nodes.new.slots (entries_of keys.now) }
+    ensures counted { AreCounted nodes.new.slots keys.now.numbers }
 {
     take_out(nodes, keys, list.ready(), block);
     list.restart(nodes);
@@ -264,10 +264,10 @@ fn level<A: Allocator>(
 )
     requires listed { IsListed block nodes.old.slots list.old }
     requires settled { IsSettled list.old }
-    requires tied { AreTied nodes.old.slots (entries_of keys.now) }
+    requires tied { AreTied nodes.old.slots keys.now.numbers }
     ensures listed { IsListed block nodes.new.slots list.new }
     ensures rest { KeepsRest block nodes.old.slots nodes.new.slots }
-    ensures counted { AreCounted nodes.new.slots (entries_of keys.now) }
+    ensures counted { AreCounted nodes.new.slots keys.now.numbers }
     ensures level { AreLevel block keep gone nodes.new.slots }
     ensures settled { IsSettledFor block keep nodes.new.slots list.new }
 {
@@ -287,15 +287,15 @@ fn join_in<A: Allocator + Copy>(
     gone: usize,
 ) -> Result<(), AllocError>
     requires pair { IsPair block keep gone nodes.old.slots }
-    requires tied { AreTied nodes.old.slots (entries_of keys.old) }
+    requires tied { AreTied nodes.old.slots keys.old.numbers }
     requires listed { IsListed block nodes.old.slots list.old }
     requires settled { IsSettled list.old }
     ensures listed { IsListed block nodes.new.slots list.new }
     ensures settled { IsSettled list.new }
-    ensures order { KeepsOrder block nodes.old.slots nodes.new.slots (entries_of keys.old) (entries_of keys.new) }
-    ensures joined { OnOk result (AreClassesJoined keep gone (slots_of nodes.old.slots) (slots_of nodes.new.slots) (entries_of keys.old) (entries_of keys.new)) }
+    ensures order { KeepsOrder block nodes.old.slots nodes.new.slots keys.old.numbers keys.new.numbers }
+    ensures joined { OnOk result (AreClassesJoined keep gone (slots_of nodes.old.slots) (slots_of nodes.new.slots) keys.old.numbers keys.new.numbers) }
     ensures refused { OnErr result (slots_of nodes.new.slots ≡ slots_of nodes.old.slots) }
-    ensures numbers { OnErr result (entries_of keys.new ≡ entries_of keys.old) }
+    ensures numbers { OnErr result (keys.new.numbers ≡ keys.old.numbers) }
 {
     level(nodes, keys, list, block, keep, gone);
     let result = join_alike(alloc, nodes, keys, list, block, keep, gone);
@@ -343,14 +343,14 @@ fn join_at<A: Allocator + Copy>(
     gone: usize,
 ) -> Result<(), AllocError>
     requires pair { IsPair block keep gone nodes.old.slots }
-    requires tied { AreTied nodes.old.slots (entries_of keys.old) }
+    requires tied { AreTied nodes.old.slots keys.old.numbers }
     requires listed { AreListed nodes.old.slots blocks.old.items }
     requires settled { AreSettled blocks.old.items }
-    ensures stands { Stands nodes.new.slots (entries_of keys.new) blocks.new.items }
+    ensures stands { Stands nodes.new.slots keys.new.numbers blocks.new.items }
     ensures below { (made : ℕ) → AreBelow made nodes.old.slots → AreBelow made nodes.new.slots }
-    ensures joined { OnOk result (AreClassesJoined keep gone (slots_of nodes.old.slots) (slots_of nodes.new.slots) (entries_of keys.old) (entries_of keys.new)) }
+    ensures joined { OnOk result (AreClassesJoined keep gone (slots_of nodes.old.slots) (slots_of nodes.new.slots) keys.old.numbers keys.new.numbers) }
     ensures refused { OnErr result (slots_of nodes.new.slots ≡ slots_of nodes.old.slots) }
-    ensures numbers { OnErr result (entries_of keys.new ≡ entries_of keys.old) }
+    ensures numbers { OnErr result (keys.new.numbers ≡ keys.old.numbers) }
 {
     match blocks.get_mut(block.0 as usize) {
         Some(list) => join_in(alloc, nodes, keys, list, block, keep, gone),
@@ -367,14 +367,14 @@ pub fn join<A: Allocator + Copy>(
     keep: usize,
     gone: usize,
 ) -> Result<(), AllocError>
-    requires { Stands nodes.old.slots (entries_of keys.old) blocks.old.items }
-    ensures stands { Stands nodes.new.slots (entries_of keys.new) blocks.new.items }
+    requires { Stands nodes.old.slots keys.old.numbers blocks.old.items }
+    ensures stands { Stands nodes.new.slots keys.new.numbers blocks.new.items }
     ensures below { (made : ℕ) → AreBelow made nodes.old.slots → AreBelow made nodes.new.slots }
-    ensures joined { OnOk result (AreClassesJoinedIf keep gone (slots_of nodes.old.slots) (slots_of nodes.new.slots) (entries_of keys.old) (entries_of keys.new)) }
-    ensures idle { may_join_at keep gone (slots_of nodes.old.slots) ≡ false → (slots_of nodes.new.slots ≡ slots_of nodes.old.slots) × (entries_of keys.new ≡ entries_of keys.old) }
+    ensures joined { OnOk result (AreClassesJoinedIf keep gone (slots_of nodes.old.slots) (slots_of nodes.new.slots) keys.old.numbers keys.new.numbers) }
+    ensures idle { may_join_at keep gone (slots_of nodes.old.slots) ≡ false → (slots_of nodes.new.slots ≡ slots_of nodes.old.slots) × (keys.new.numbers ≡ keys.old.numbers) }
     ensures next { may_join_at keep gone (slots_of nodes.old.slots) ≡ false → nodes.new.vacant_key ≡ nodes.old.vacant_key }
     ensures refused { OnErr result (slots_of nodes.new.slots ≡ slots_of nodes.old.slots) }
-    ensures numbers { OnErr result (entries_of keys.new ≡ entries_of keys.old) }
+    ensures numbers { OnErr result (keys.new.numbers ≡ keys.old.numbers) }
 {
     if !may_join_both(nodes, keep, gone) {
         return Ok(());

@@ -1,6 +1,5 @@
 //! Classes in flight that are durable, and so forgotten.
 ghost use Rattle.std.specs.Prelude.{◌≡◌, ◌≢◌, ℕ, None, [], true, length, IfSome, IfNone};
-ghost use Rattle.patch_table.specs.Table.{entries_of};
 ghost use Rattle.patch_links.specs.State.{find, is_at, slots_of};
 ghost use Rattle.patch_links.specs.Waiting.{of_block, AreLinked};
 ghost use Rattle.patch_links.specs.Lists.{AreListed, AreSettled, of_at};
@@ -8,22 +7,23 @@ ghost use Rattle.patch_links.specs.Standing.{KeepsBare, PaysOne, AreBelow, Stand
 ghost use Rattle.patch_links.specs.MarkDurable.{AreForgotten, AreLanded, AreTold, HasPopped, IsForgotten, IsLanding, PaysLed};
 
 use crate::admitting::settle;
+use crate::keys::Keys;
 use crate::lists::Blocks;
-use crate::nodes::{Keys, Nodes, block_at, find};
+use crate::nodes::{Nodes, block_at, find};
 use patch_model::{BlockNo, PatchNo};
 use std::alloc::Allocator;
 
 /// Takes the key of a number away.
 fn forget_one<A: Allocator>(keys: &mut Keys<A>, no: PatchNo)
-    ensures here { find (entries_of keys.new) no ≡ None }
-    ensures others { (n : ℕ) → n ≢ no → find (entries_of keys.new) n ≡ find (entries_of keys.old) n }
+    ensures here { find keys.new.numbers no ≡ None }
+    ensures others { (n : ℕ) → n ≢ no → find keys.new.numbers n ≡ find keys.old.numbers n }
 {
-    keys.remove(no.0);
+    keys.remove(no);
 }
 
 /// Takes the keys of these numbers away.
 fn forget<A: Allocator>(keys: &mut Keys<A>, members: &[PatchNo])
-    ensures { AreForgotten members.now (entries_of keys.old) (entries_of keys.new) (length members.now) }
+    ensures { AreForgotten members.now keys.old.numbers keys.new.numbers (length members.now) }
 {
     for no in members {
         forget_one(keys, *no);
@@ -40,12 +40,12 @@ fn tell_at<A: Allocator>(
 )
     requires listed { AreListed nodes.old.slots blocks.old.items }
     requires settled { AreSettled blocks.old.items }
-    requires linked { AreLinked nodes.old.slots (entries_of keys.now) }
+    requires linked { AreLinked nodes.old.slots keys.now.numbers }
     requires here { is_at (of_block block) nodes.old.slots key ≡ true }
     ensures listed { AreListed nodes.new.slots blocks.new.items }
     ensures settled { AreSettled blocks.new.items }
     ensures bare { KeepsBare nodes.old.slots nodes.new.slots }
-    ensures paid { PaysOne (entries_of keys.now) key nodes.old.slots nodes.new.slots }
+    ensures paid { PaysOne keys.now.numbers key nodes.old.slots nodes.new.slots }
 {
     match blocks.get_mut(block.0 as usize) {
         Some(list) => settle(nodes, keys, list, block, key),
@@ -57,11 +57,11 @@ fn tell_at<A: Allocator>(
 fn tell_key<A: Allocator>(nodes: &mut Nodes<A>, keys: &Keys<A>, blocks: &mut Blocks<A>, key: usize)
     requires listed { AreListed nodes.old.slots blocks.old.items }
     requires settled { AreSettled blocks.old.items }
-    requires linked { AreLinked nodes.old.slots (entries_of keys.now) }
+    requires linked { AreLinked nodes.old.slots keys.now.numbers }
     ensures listed { AreListed nodes.new.slots blocks.new.items }
     ensures settled { AreSettled blocks.new.items }
     ensures bare { KeepsBare nodes.old.slots nodes.new.slots }
-    ensures paid { PaysOne (entries_of keys.now) key nodes.old.slots nodes.new.slots }
+    ensures paid { PaysOne keys.now.numbers key nodes.old.slots nodes.new.slots }
 {
     match block_at(nodes, key) {
         Some(block) => tell_at(nodes, keys, blocks, block, key),
@@ -73,11 +73,11 @@ fn tell_key<A: Allocator>(nodes: &mut Nodes<A>, keys: &Keys<A>, blocks: &mut Blo
 fn tell<A: Allocator>(nodes: &mut Nodes<A>, keys: &Keys<A>, blocks: &mut Blocks<A>, no: PatchNo)
     requires listed { AreListed nodes.old.slots blocks.old.items }
     requires settled { AreSettled blocks.old.items }
-    requires linked { AreLinked nodes.old.slots (entries_of keys.now) }
+    requires linked { AreLinked nodes.old.slots keys.now.numbers }
     ensures listed { AreListed nodes.new.slots blocks.new.items }
     ensures settled { AreSettled blocks.new.items }
     ensures bare { KeepsBare nodes.old.slots nodes.new.slots }
-    ensures paid { PaysLed (entries_of keys.now) no nodes.old.slots nodes.new.slots }
+    ensures paid { PaysLed keys.now.numbers no nodes.old.slots nodes.new.slots }
 {
     match find(keys, no) {
         Some(key) => tell_key(nodes, keys, blocks, key),
@@ -94,11 +94,11 @@ fn tell_all<A: Allocator>(
 )
     requires listed { AreListed nodes.old.slots blocks.old.items }
     requires settled { AreSettled blocks.old.items }
-    requires linked { AreLinked nodes.old.slots (entries_of keys.now) }
+    requires linked { AreLinked nodes.old.slots keys.now.numbers }
     ensures listed { AreListed nodes.new.slots blocks.new.items }
     ensures settled { AreSettled blocks.new.items }
     ensures bare { KeepsBare nodes.old.slots nodes.new.slots }
-    ensures told { AreTold (entries_of keys.now) followers.now nodes.old.slots nodes.new.slots }
+    ensures told { AreTold keys.now.numbers followers.now nodes.old.slots nodes.new.slots }
 {
     for no in followers {
         tell(nodes, keys, blocks, *no);
@@ -113,9 +113,9 @@ fn land_at<A: Allocator>(
     block: BlockNo,
     key: usize,
 )
-    requires { IsLanding block nodes.old.slots (entries_of keys.old) blocks.old.items key }
-    ensures stands { Stands nodes.new.slots (entries_of keys.new) blocks.new.items }
-    ensures gone { IsForgotten key nodes.old.slots nodes.new.slots (entries_of keys.old) (entries_of keys.new) }
+    requires { IsLanding block nodes.old.slots keys.old.numbers blocks.old.items key }
+    ensures stands { Stands nodes.new.slots keys.new.numbers blocks.new.items }
+    ensures gone { IsForgotten key nodes.old.slots nodes.new.slots keys.old.numbers keys.new.numbers }
 {
     match nodes.try_remove(key) {
         Some(node) => {
@@ -145,9 +145,9 @@ pub fn land<A: Allocator>(
     blocks: &mut Blocks<A>,
     block: BlockNo,
 )
-    requires { Stands nodes.old.slots (entries_of keys.old) blocks.old.items }
-    ensures stands { Stands nodes.new.slots (entries_of keys.new) blocks.new.items }
-    ensures landed { AreLanded (slots_of nodes.old.slots) (slots_of nodes.new.slots) (entries_of keys.old) (entries_of keys.new) block (λ key. true) }
+    requires { Stands nodes.old.slots keys.old.numbers blocks.old.items }
+    ensures stands { Stands nodes.new.slots keys.new.numbers blocks.new.items }
+    ensures landed { AreLanded (slots_of nodes.old.slots) (slots_of nodes.new.slots) keys.old.numbers keys.new.numbers block (λ key. true) }
     ensures below { (made : ℕ) → AreBelow made nodes.old.slots → AreBelow made nodes.new.slots }
 {
     while let Some(key) = next_landing(blocks, block) {

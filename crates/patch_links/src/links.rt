@@ -13,9 +13,10 @@ use crate::adding::{add, is_new};
 use crate::asking::{count, numbers, ready_keys};
 use crate::flying::fly;
 use crate::joining::join;
+use crate::keys::Keys;
 use crate::landing::land;
 use crate::lists::Blocks;
-use crate::nodes::{Class, Keys, Nodes, find};
+use crate::nodes::{Class, Nodes, find};
 use patch_model::{BlockNo, PatchNo};
 use std::alloc::{AllocError, Allocator, Global};
 use std::marker::Model;
@@ -32,15 +33,14 @@ pub struct Links<A: Allocator = Global> {
 }
 
 impl<A: Allocator> Model for Links<A> {
-    ghost use Rattle.patch_table.specs.Table.{entries_of};
     ghost use Rattle.patch_links.specs.State.{Links as Seen, slots_of};
     ghost use Rattle.patch_links.specs.Standing.{AreBelow, Stands};
 
     ghost Value = { Seen };
 
-    ghost view = { λ l. record { made = l.made; slots = slots_of l.nodes.slots; next = l.nodes.vacant_key; numbers = entries_of l.keys } };
+    ghost view = { λ l. record { made = l.made; slots = slots_of l.nodes.slots; next = l.nodes.vacant_key; numbers = l.keys.numbers } };
 
-    ghost invariant = { λ l. Stands l.nodes.slots (entries_of l.keys) l.blocks.items × AreBelow l.made l.nodes.slots };
+    ghost invariant = { λ l. Stands l.nodes.slots l.keys.numbers l.blocks.items × AreBelow l.made l.nodes.slots };
 }
 
 impl<A: Allocator + Copy> Links<A> {

@@ -1,13 +1,12 @@
 //! Live classes by their keys, and what is kept beside each.
 ghost use Rattle.std.specs.Prelude.{◌≡◌, ◌&&◌, ◌==◌, None, slice_get, length, nat_lt};
 ghost use Rattle.std.specs.Option.{option_map, option_map_or, option_copied};
-ghost use Rattle.patch_table.specs.Table.{entries_of};
 ghost use Rattle.patch_links.specs.State.{find, node_at, is_at, changed_at};
 ghost use Rattle.patch_links.specs.Waiting.{of_block, ready_in, is_due, lowered, raised, readied, unreadied, followers_at};
 
+use crate::keys::Keys;
 use patch_model::{BlockNo, Mark, PatchNo};
 use patch_numbers::NumberList;
-use patch_table::Table;
 use slab::Slab;
 use std::alloc::{Allocator, Global};
 use std::marker::Model;
@@ -76,14 +75,11 @@ impl<A: Allocator> Model for Node<A> {
 /// Classes by their keys.
 pub type Nodes<A> = Slab<Node<A>, A>;
 
-/// The key of each live patch's class.
-pub type Keys<A> = Table<A>;
-
 /// The key of a live patch's class.
 pub fn find<A: Allocator>(keys: &Keys<A>, no: PatchNo) -> Option<usize>
-    ensures { result ≡ find (entries_of keys.now) no }
+    ensures { result ≡ find keys.now.numbers no }
 {
-    keys.get(no.0)
+    keys.get(no)
 }
 
 /// The block of the class at a key.

@@ -1,5 +1,4 @@
 use Rattle.std.proofs.Common.{sym, arith, ◌∙◌}
-use Rattle.patch_table.specs.Table.{entries_of}
 use Rattle.patch_links.proofs.Places.{same_default}
 use Rattle.patch_links.proofs.Rooms.{gone-more}
 use Rattle.patch_links.proofs.adding.count_gone.Goals as goal
@@ -8,5 +7,5 @@ pub loop-at-preserved : goal.loop-at-preserved
 loop-at-preserved g c =
     let low = c.if-no-lowest.false in
     let is = c.no.view_is in
-    gone-more (entries_of c.args.keys.now) c.args.numbers.now c.loop-at.at c.index-numbers-at.result c.loop-at.invariant (omega arith)
+    gone-more c.args.keys.now.numbers c.args.numbers.now c.loop-at.at c.index-numbers-at.result c.loop-at.invariant (omega arith)
     (sym (c.index-numbers-at.is ∙ same_default c.args.numbers.now c.loop-at.at c.index-numbers-at.result 0 (omega arith))) (c.lowest-lowest.ensures c.index-numbers-at.result (omega (arith, low, is)))

@@ -1,5 +1,4 @@
 use Rattle.std.proofs.Common.{refl}
-use Rattle.patch_table.specs.Table.{entries_of}
 use Rattle.patch_links.proofs.Listings.{next-is, listed-next, due-of}
 use Rattle.patch_links.proofs.Passing.{rest-then, changed-rest, admitted-owed}
 use Rattle.patch_links.proofs.admitting.admit_next.Goals as goal
@@ -15,5 +14,5 @@ returns-clause-rest g c =
 pub returns-clause-owed : goal.returns-clause-owed
 returns-clause-owed g c =
     let next = next-is _ _ _ _ c.requires.listed c.requires.some c.next-key.ensures.key in
-    admitted-owed c.args.block c.next-key.result (entries_of c.args.keys.now) c.args.nodes.now.slots c.pay_all.new.nodes.slots (due-of c.args.block c.args.nodes.now.slots c.next-key.result next.0) next.1 c.requires.linked
+    admitted-owed c.args.block c.next-key.result c.args.keys.now.numbers c.args.nodes.now.slots c.pay_all.new.nodes.slots (due-of c.args.block c.args.nodes.now.slots c.next-key.result next.0) next.1 c.requires.linked
     (rw c.put_ready.ensures at c.pay_all.ensures.paid)

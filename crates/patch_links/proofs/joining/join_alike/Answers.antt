@@ -1,5 +1,4 @@
 use Rattle.std.proofs.Common.{sym, ap, subst, ◌∙◌}
-use Rattle.patch_table.specs.Table.{entries_of}
 use Rattle.patch_links.specs.State.{changed_at}
 use Rattle.patch_links.specs.Lists.{IsListed}
 use Rattle.patch_links.specs.Joining.{KeepsOrder}
@@ -8,7 +7,7 @@ use Rattle.patch_links.proofs.joining.join_alike.Goals as goal
 
 pub absorb_at-requires : goal.absorb_at-requires
 absorb_at-requires g c x at = rw c.count_inner-inner.ensures (met-fits c.args.block c.args.keep c.args.gone c.args.nodes.now.slots c.requires.pair c.requires.level c.take_at.new.nodes.slots c.in-Some.other
-    c.in-Some.ensures.taken c.in-Some.ensures.others (entries_of c.args.keys.now) c.requires.tied x at)
+    c.in-Some.ensures.taken c.in-Some.ensures.others c.args.keys.now.numbers c.requires.tied x at)
 
 pub returns-in-Err-clause-refused : goal.returns-in-Err-clause-refused
 returns-in-Err-clause-refused g c = c.put_at.ensures ∙ ap (λ ns. changed_at (λ y. c.in-Some.other) ns c.args.gone) c.in-Err.ensures.refused ∙ c.in-Some.ensures.back c.in-Some.other (sym c.in-Some.ensures.taken)
@@ -17,16 +16,16 @@ pub returns-in-Err-clause-listed : goal.returns-in-Err-clause-listed
 returns-in-Err-clause-listed g c = subst (λ ns. IsListed c.args.block ns c.args.list.now) (sym (returns-in-Err-clause-refused g c)) c.requires.listed
 
 pub returns-in-Err-clause-order : goal.returns-in-Err-clause-order
-returns-in-Err-clause-order g c = subst (λ ns. KeepsOrder c.args.block c.args.nodes.now.slots ns (entries_of c.args.keys.now) (entries_of c.args.keys.now)) (sym (returns-in-Err-clause-refused g c))
-    (order-same c.args.block c.args.nodes.now.slots (entries_of c.args.keys.now))
+returns-in-Err-clause-order g c = subst (λ ns. KeepsOrder c.args.block c.args.nodes.now.slots ns c.args.keys.now.numbers c.args.keys.now.numbers) (sym (returns-in-Err-clause-refused g c))
+    (order-same c.args.block c.args.nodes.now.slots c.args.keys.now.numbers)
 
 pub relist-requires : goal.relist-requires
 relist-requires g c =
     let joined = nodes-joined c.args.block c.args.keep c.args.gone c.args.nodes.now.slots c.requires.pair c.requires.level c.take_at.new.nodes.slots c.in-Some.other c.in-Some.ensures.taken c.in-Some.ensures.others
-    c.absorb_at.new.nodes.slots c.remove.new.nodes.slots (entries_of c.args.keys.now) (rw c.count_inner-inner.ensures at c.in_default-absorb_at.ensures.absorbed) c.remove.ensures.gone c.remove.ensures.others in
+    c.absorb_at.new.nodes.slots c.remove.new.nodes.slots c.args.keys.now.numbers (rw c.count_inner-inner.ensures at c.in_default-absorb_at.ensures.absorbed) c.remove.ensures.gone c.remove.ensures.others in
     record {
       before = c.args.nodes.now.slots;
-      numbers = entries_of c.args.keys.now;
+      numbers = c.args.keys.now.numbers;
       pair = c.requires.pair;
       level = c.requires.level;
       joined = joined;
@@ -39,14 +38,14 @@ relist-requires g c =
 pub returns-clause-order : goal.returns-clause-order
 returns-clause-order g c =
     let joined = nodes-joined c.args.block c.args.keep c.args.gone c.args.nodes.now.slots c.requires.pair c.requires.level c.take_at.new.nodes.slots c.in-Some.other c.in-Some.ensures.taken c.in-Some.ensures.others
-    c.absorb_at.new.nodes.slots c.remove.new.nodes.slots (entries_of c.args.keys.now) (rw c.count_inner-inner.ensures at c.in_default-absorb_at.ensures.absorbed) c.remove.ensures.gone c.remove.ensures.others in
-    order-joined c.args.block c.args.keep c.args.gone c.args.nodes.now.slots c.requires.pair c.requires.level c.remove.new.nodes.slots (entries_of c.args.keys.now) (entries_of c.redirect.new.keys) c.requires.tied joined
+    c.absorb_at.new.nodes.slots c.remove.new.nodes.slots c.args.keys.now.numbers (rw c.count_inner-inner.ensures at c.in_default-absorb_at.ensures.absorbed) c.remove.ensures.gone c.remove.ensures.others in
+    order-joined c.args.block c.args.keep c.args.gone c.args.nodes.now.slots c.requires.pair c.requires.level c.remove.new.nodes.slots c.args.keys.now.numbers c.redirect.new.keys.numbers c.requires.tied joined
     (taken-moved c.args.block c.args.keep c.args.gone c.args.nodes.now.slots c.requires.pair c.requires.level c.take_at.new.nodes.slots c.in-Some.other c.in-Some.ensures.taken c.in-Some.ensures.others
-    c.members.result.now (entries_of c.args.keys.now) (entries_of c.redirect.new.keys) c.members.ensures c.redirect.ensures)
+    c.members.result.now c.args.keys.now.numbers c.redirect.new.keys.numbers c.members.ensures c.redirect.ensures)
 
 pub returns-clause-joined : goal.returns-clause-joined
 returns-clause-joined g c =
     let joined = nodes-joined c.args.block c.args.keep c.args.gone c.args.nodes.now.slots c.requires.pair c.requires.level c.take_at.new.nodes.slots c.in-Some.other c.in-Some.ensures.taken c.in-Some.ensures.others
-    c.absorb_at.new.nodes.slots c.remove.new.nodes.slots (entries_of c.args.keys.now) (rw c.count_inner-inner.ensures at c.in_default-absorb_at.ensures.absorbed) c.remove.ensures.gone c.remove.ensures.others in
-    classes-joined c.args.keep c.args.gone c.args.nodes.now.slots c.remove.new.nodes.slots (entries_of c.args.keys.now) (entries_of c.redirect.new.keys) joined (taken-moved c.args.block c.args.keep c.args.gone c.args.nodes.now.slots c.requires.pair c.requires.level c.take_at.new.nodes.slots c.in-Some.other c.in-Some.ensures.taken c.in-Some.ensures.others
-    c.members.result.now (entries_of c.args.keys.now) (entries_of c.redirect.new.keys) c.members.ensures c.redirect.ensures)
+    c.absorb_at.new.nodes.slots c.remove.new.nodes.slots c.args.keys.now.numbers (rw c.count_inner-inner.ensures at c.in_default-absorb_at.ensures.absorbed) c.remove.ensures.gone c.remove.ensures.others in
+    classes-joined c.args.keep c.args.gone c.args.nodes.now.slots c.remove.new.nodes.slots c.args.keys.now.numbers c.redirect.new.keys.numbers joined (taken-moved c.args.block c.args.keep c.args.gone c.args.nodes.now.slots c.requires.pair c.requires.level c.take_at.new.nodes.slots c.in-Some.other c.in-Some.ensures.taken c.in-Some.ensures.others
+    c.members.result.now c.args.keys.now.numbers c.redirect.new.keys.numbers c.members.ensures c.redirect.ensures)
