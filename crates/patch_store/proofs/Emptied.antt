@@ -44,12 +44,12 @@ left_at items left e v within at = ap items at ∙ sym (get_or-map items left e 
 abbrev pub reset_shelf : Shelf → (extent : ℕ) → Extents → Shelf
 reset_shelf s extent e = record s { extents = e; current = not_current extent s.current; left = slice_set s.left extent [] }
 
-emptied_at : (st : Standing) (extent : ℕ) (cache : Contents) (new : Store) (patch : ℕ)
+emptied_at : (st : Standing) (extent : ℕ) (cache : Contents) (left_out : ℕ) (new : Store) (patch : ℕ)
     → IsSettingOf (setting st.shelf.extents st.groups cache) st.run → length (entries_of st.run) ≡ made_by st
     → IsReset st.run extent (left_of st.shelf extent) (setting st.shelf.extents st.groups cache) (setting new.shelf.extents new.groups new.cache) patch
     → new.shelf ≡ reset_shelf st.shelf extent new.shelf.extents
-    → IsEmptied st extent (store_at st cache) new
-emptied_at st extent cache new patch stands count r shelf =
+    → IsEmptied st extent (store_at st cache left_out) new
+emptied_at st extent cache left_out new patch stands count r shelf =
     let s = st.shelf in
     let n = made_by st in
     let plan : List Made = reset_of s extent in
@@ -75,13 +75,13 @@ pub emptied_so : (extent : ℕ) (names : List ℕ) (patch : ℕ) (old now new : 
     → (st : Standing) → IsStanding st now → IsEmptied st extent now new
 emptied_so extent names patch old now new is named reset groups shelf st asks =
     let a = subst (IsStanding st) (sym is) asks in
-    let same : old ≡ store_at st old.cache = store_is st old a.groups_are a.shelf_is in
+    let same : old ≡ store_at st old.cache old.left_out = store_is st old a.groups_are a.shelf_is in
     let stands = subst (λ (x : Store). IsSettingOf (setting x.shelf.extents x.groups x.cache) st.run) same a.setting_is in
     let r = reset old.groups st.run a.setting_is in
     let with_groups = subst (λ g. IsReset st.run extent names (setting old.shelf.extents old.groups old.cache) (setting new.shelf.extents g new.cache) patch) (sym groups) r in
     let with_names = subst (λ x. IsReset st.run extent x (setting old.shelf.extents old.groups old.cache) (setting new.shelf.extents new.groups new.cache) patch) named with_groups in
     subst (λ s. IsEmptied st extent s new) is (subst (λ s. IsEmptied st extent s new) (sym same)
-    (emptied_at st extent old.cache new patch stands a.counted
+    (emptied_at st extent old.cache old.left_out new patch stands a.counted
     (subst (λ (x : Store). IsReset st.run extent (left_of x.shelf extent) (setting x.shelf.extents x.groups x.cache) (setting new.shelf.extents new.groups new.cache) patch) same with_names)
     (subst (λ (x : Store). new.shelf ≡ reset_shelf x.shelf extent new.shelf.extents) same shelf)))
 

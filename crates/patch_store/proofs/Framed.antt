@@ -3,7 +3,7 @@ use Rattle.std.proofs.Common.{◌≡◌, ℕ, suc, ◌+◌, ◌<◌, ◌∙◌, 
 use Rattle.std.specs.Prelude.{Option, Some, None, slice_set, slice_index_or}
 use Rattle.std.proofs.lemmas.List.{length-append, length-take-le, take-append-le, take_all, append_assoc, append-nil}
 use Rattle.patch_model.specs.Step.{Step}
-use Rattle.patch_model.specs.Execution.{followed_by}
+use Rattle.patch_model.specs.Execution.{Execution, followed_by}
 use Rattle.patch_model.specs.State.{entries_of}
 use Rattle.patch_model.specs.declared.patches.Undo.TheVariants.{MayDrop}
 use Rattle.patch_cache.specs.Contents.{Contents}
@@ -14,7 +14,8 @@ use Rattle.patch_frame.specs.Geometry.{slot_block, slot_start}
 use Rattle.patch_frame.specs.Slot.{SlotFields}
 use Rattle.patch_frame.specs.Slot as slots
 use Rattle.patch_recovery.specs.Change.{Fill, Made}
-use Rattle.patch_extent.specs.Answers.{setting, asked, IsSettingOf}
+use Rattle.patch_extent.specs.Answers.{setting, asked, IsSettingOf, Append, IsAppended, MergesRightly}
+use Rattle.patch_extent.specs.declared.places.Appended.{Appended}
 use Rattle.patch_extent.specs.Appending.{IsPatched}
 use Rattle.patch_plans.specs.Extents.{offset_at}
 use Rattle.patch_plans.specs.Planning.{touched, append_plan}
@@ -26,18 +27,20 @@ use Rattle.patch_history.specs.Shelf.{Shelf, slot_at, leaving, after_change, aft
 use Rattle.patch_history.specs.Standing.{Standing, made_by, creates}
 use Rattle.patch_history.specs.Steps.{FramePut, appended, filled, framed, steps_made, slot_steps, FramesCompose, AppendsAreCuts, BegunAppendsAreCuts, ShelvesGoOn}
 use Rattle.patch_store.specs.Meaning.{Store}
-use Rattle.patch_store.specs.Framing.{next_fields, names_behind, IsFilled, IsFrameAppended, IsFrameBegun, framing, IsAsked, IsFramed, IsFramedInPart}
+use Rattle.patch_store.specs.Merging.{counted_with}
+use Rattle.patch_store.proofs.Merged.{frame_merges}
+use Rattle.patch_store.specs.Framing.{setting_of, next_fields, names_behind, IsFilled, IsFrameAppended, IsFrameBegun, framing, IsAsked, IsFramed, IsFramedInPart}
 use Rattle.patch_store.proofs.Counted.{creates_all, creates_of, length-named, with_more, shelf_named, shelf_taken, shelf_joined, shelf_appended, shelf_begun}
 
 take_front : {X : Type 0} (xs ys : List X) → take (length xs) (xs ++ ys) ≡ xs
 take_front xs ys = take-append-le (length xs) xs ys (omega arith) ∙ take_all (length xs) xs (omega arith)
 
 -- the store that stands so, with this cache
-abbrev pub store_at : Standing → Contents → Store
-store_at st cache = record { cache = cache; groups = st.groups; shelf = st.shelf }
+abbrev pub store_at : Standing → Contents → ℕ → Store
+store_at st cache left_out = record { cache = cache; groups = st.groups; shelf = st.shelf; left_out = left_out }
 
-pub store_is : (st : Standing) (s : Store) → s.groups ≡ st.groups → s.shelf ≡ st.shelf → s ≡ store_at st s.cache
-store_is st s groups shelf = ap (λ g. record s { groups = g }) groups ∙ ap (λ x. record (store_at st s.cache) { shelf = x }) shelf
+pub store_is : (st : Standing) (s : Store) → s.groups ≡ st.groups → s.shelf ≡ st.shelf → s ≡ store_at st s.cache s.left_out
+store_is st s groups shelf = ap (λ g. record s { groups = g }) groups ∙ ap (λ x. record (store_at st s.cache s.left_out) { shelf = x }) shelf
 
 -- a patch whose block, start and bytes are told otherwise
 pub patched_as : {block b start s : ℕ} {bytes bs : List ℕ} {writer : Option ℕ} {after : List ℕ} {groups groups_now : Groups} {cache cache_now : Contents} {made : ℕ}
@@ -64,17 +67,24 @@ shelf_refilled s n slot was f slots left a used b =
 
 pub filled_view : (writer : Option ℕ) (slot : ℕ) (f : SlotFields) (names : List ℕ) (made : ℕ) (old now new : Store) → old ≡ now
     → IsPatched (slot_block slot) (slot_start slot) (slots.spelling (Some f)) writer names old.groups old.cache new.groups new.cache made
-    → new.shelf ≡ after_change old.shelf made (Fill slot f) → IsFilled writer slot f names now new
-filled_view writer slot f names made old now new is patched shelf =
-    subst (λ s. IsFilled writer slot f names s new) is (record { made = made; patched = patched; shelf_is = shelf })
+    → new.shelf ≡ after_change old.shelf made (Fill slot f) → new.left_out ≡ old.left_out → IsFilled writer slot f names now new
+filled_view writer slot f names made old now new is patched shelf left_out =
+    subst (λ s. IsFilled writer slot f names s new) is (record { made = made; patched = patched; shelf_is = shelf; left_out_is = left_out })
+
+pub appended_view : (a : Append) (old now new : Store) (told : Appended) → old ≡ now
+    → ((run : Execution) → IsSettingOf (setting_of old) run → IsAppended run a (setting_of old) (setting_of new) told)
+    → new.shelf ≡ record old.shelf { extents = new.shelf.extents; current = Some a.extent } → new.left_out ≡ counted_with old.left_out told.merge
+    → IsFrameAppended a now new told.pointer_patch
+appended_view a old now new told is answer shelf left_out =
+    subst (λ s. IsFrameAppended a s new told.pointer_patch) is (record { appended = told; appended_is = answer; point_is = refl; shelf_is = shelf; left_out_is = left_out })
 
 -- Nothing was made yet.
 
 one_more : {X : Type 0} (xs : List X) (x : X) → 0 < length (xs ++ x ∷ [])
 one_more xs x = let e = length-append xs (x ∷ []) in omega (arith, e)
 
-none_yet : BegunAppendsAreCuts → (f : FramePut) (cache : Contents) → IsCacheOf cache f.standing.run → IsFramedInPart f (store_at f.standing cache) (store_at f.standing cache)
-none_yet cuts f cache is = record {
+none_yet : BegunAppendsAreCuts → (f : FramePut) (cache : Contents) (left_out : ℕ) → IsCacheOf cache f.standing.run → IsFramedInPart f (store_at f.standing cache left_out) (store_at f.standing cache left_out)
+none_yet cuts f cache left_out is = record {
   steps = [];
   cut = cuts f 0 (one_more _ _);
   stands = record {
@@ -87,7 +97,10 @@ none_yet cuts f cache is = record {
 
 -- An append that is done.
 
-record HasAppended (f : FramePut) (cache : Contents) (mid : Store) : Type 0 where
+abbrev append_of : FramePut → Append
+append_of f = asked f.writer f.extent (spelling f.content) []
+
+record HasAppended (f : FramePut) (cache : Contents) (left_out : ℕ) (mid : Store) : Type 0 where
   pub choices : List Bool
   pub each : length choices ≡ length (appended f)
   pub cache_is : IsCacheOf mid.cache (followed_by f.standing.run (steps_made f choices (appended f)))
@@ -95,19 +108,25 @@ record HasAppended (f : FramePut) (cache : Contents) (mid : Store) : Type 0 wher
   pub trace_is : mid.cache.trace ≡ cache.trace ++ steps_made f choices (appended f)
   pub groups_are : mid.groups ≡ with_patches f.standing.groups f.writer (made_by f.standing) (length (appended f))
   pub shelf_is : mid.shelf ≡ after_plan f.standing.shelf (made_by f.standing) (appended f)
+  pub same_count : length (entries_of f.standing.run) ≡ made_by f.standing
+  pub told : Appended
+  pub patch_is : told.pointer_patch ≡ length (entries_of f.standing.run) + touched (offset_at f.standing.shelf.extents f.extent) (length (spelling f.content))
+  pub merges : MergesRightly f.standing.run (append_of f) (setting f.standing.shelf.extents f.standing.groups cache) choices told
+  pub left_out_is : mid.left_out ≡ counted_with left_out told.merge
 
-has_appended : ShelvesGoOn → (f : FramePut) (cache : Contents) (mid : Store) (point : ℕ)
+has_appended : ShelvesGoOn → (f : FramePut) (cache : Contents) (left_out : ℕ) (mid : Store) (point : ℕ)
     → IsSettingOf (setting f.standing.shelf.extents f.standing.groups cache) f.standing.run → length (entries_of f.standing.run) ≡ made_by f.standing
-    → 0 < length (spelling f.content) → IsFrameAppended (asked f.writer f.extent (spelling f.content) []) (store_at f.standing cache) mid point
-    → HasAppended f cache mid
-has_appended go f cache mid point stands count some app =
+    → 0 < length (spelling f.content) → IsFrameAppended (asked f.writer f.extent (spelling f.content) []) (store_at f.standing cache left_out) mid point
+    → HasAppended f cache left_out mid
+has_appended go f cache left_out mid point stands count some app =
     let st = f.standing in
     let s = st.shelf in
     let ext = s.extents in
     let n = made_by st in
     let bytes : List ℕ = spelling f.content in
     let plan : ℕ → List Made = λ i. append_plan ext i f.extent bytes [] in
-    let written = app.is_written st.run stands in
+    let told = app.appended_is st.run stands in
+    let written = told.is_written in
     let made = written.made in
     let cs = written.choices in
     let steps : ℕ → List Step = λ i. steps_of cs ext st.groups f.writer i (plan i) in
@@ -121,11 +140,16 @@ has_appended go f cache mid point stands count some app =
       shelf_is = app.shelf_is
           ∙ ap (λ x. record s { extents = x; current = Some f.extent }) (made.extents_are ∙ ap (λ i. extents.after_plan ext i (plan i)) count)
           ∙ shelf_appended go s n f.extent bytes some;
+      same_count = count;
+      told = app.appended;
+      patch_is = told.patch_is;
+      merges = told.merge_is;
+      left_out_is = app.left_out_is;
     }
 
 -- without the slot's patch
-part_appended : AppendsAreCuts → (f : FramePut) (cache : Contents) (mid : Store) → HasAppended f cache mid → IsFramedInPart f (store_at f.standing cache) mid
-part_appended cuts f cache mid app =
+part_appended : AppendsAreCuts → (f : FramePut) (cache : Contents) (left_out : ℕ) (mid : Store) → HasAppended f cache left_out mid → IsFramedInPart f (store_at f.standing cache left_out) mid
+part_appended cuts f cache left_out mid app =
     let st = f.standing in
     let n = made_by st in
     let steps = steps_made f app.choices (appended f) in
@@ -145,10 +169,10 @@ part_appended cuts f cache mid app =
     }
 
 -- with it
-with_slot : FramesCompose → (f : FramePut) (cache : Contents) (mid new : Store) (fields : SlotFields) (names : List ℕ) → HasAppended f cache mid
+with_slot : FramesCompose → (f : FramePut) (cache : Contents) (left_out : ℕ) (mid new : Store) (fields : SlotFields) (names : List ℕ) → HasAppended f cache left_out mid
     → fields ≡ fields_for f.standing.shelf f.extent f.content → names ≡ (filled f).after → IsFilled f.writer f.slot fields names mid new
-    → IsFramed f (store_at f.standing cache) new
-with_slot compose f cache mid new fields names app said named is =
+    → 0 < length (spelling f.content) → IsFramed f (store_at f.standing cache left_out) new
+with_slot compose f cache left_out mid new fields names app said named is some =
     let st = f.standing in
     let n = made_by st in
     let w = f.writer in
@@ -165,6 +189,7 @@ with_slot compose f cache mid new fields names app said named is =
     let long : length (framed f) ≡ suc (length (appended f)) =
     (let a = length-named st.groups w n plan in let b = length-append (appended f) (filled f ∷ []) in omega (arith, a, b)) in
     let number : is.made ≡ n + length (appended f) = is.patched.number (followed_by st.run first) app.cache_is ∙ app.counted in
+    let mine = frame_merges f cache app.choices app.told app.each app.same_count some app.patch_is app.merges in
     let before = after_plan st.shelf n (appended f) in
     record {
       steps = first ++ last ∷ [];
@@ -183,14 +208,21 @@ with_slot compose f cache mid new fields names app said named is =
             ∙ shelf_named st.shelf n st.groups w n plan
             ∙ shelf_joined st.shelf n (appended f) (filled f ∷ []));
       };
+      merged = record {
+        outcomes = mine.outcomes;
+        right = mine.right;
+        trace_is = is.patched.trace_is ∙ ap (λ t. t ++ last ∷ []) app.trace_is ∙ append_assoc cache.trace first (last ∷ [])
+            ∙ ap (λ xs. cache.trace ++ xs) (ap (λ xs. first ++ xs) tail ∙ mine.steps_are);
+        left_out_is = is.left_out_is ∙ app.left_out_is ∙ mine.counted left_out;
+      };
     }
 
 -- An append that is begun.
 
-part_begun : BegunAppendsAreCuts → (f : FramePut) (cache : Contents) (mid : Store)
+part_begun : BegunAppendsAreCuts → (f : FramePut) (cache : Contents) (left_out : ℕ) (mid : Store)
     → IsSettingOf (setting f.standing.shelf.extents f.standing.groups cache) f.standing.run → length (entries_of f.standing.run) ≡ made_by f.standing
-    → IsFrameBegun (asked f.writer f.extent (spelling f.content) []) (store_at f.standing cache) mid → IsFramedInPart f (store_at f.standing cache) mid
-part_begun cuts f cache mid stands count is =
+    → IsFrameBegun (asked f.writer f.extent (spelling f.content) []) (store_at f.standing cache left_out) mid → IsFramedInPart f (store_at f.standing cache left_out) mid
+part_begun cuts f cache left_out mid stands count is =
     let st = f.standing in
     let s = st.shelf in
     let n = made_by st in
@@ -224,32 +256,32 @@ module _ (writer : Option ℕ) (slot extent : ℕ) (key frame : List ℕ) (st : 
   abbrev f : FramePut
   f = framing st writer slot extent c
 
-  same : old ≡ store_at st old.cache
+  same : old ≡ store_at st old.cache old.left_out
   same = store_is st old asks.groups_are asks.shelf_is
 
   stands : IsSettingOf (setting st.shelf.extents st.groups old.cache) st.run
   stands = subst (λ (s : Store). IsSettingOf (setting s.shelf.extents s.groups s.cache) st.run) same asks.setting_is
 
   pub none_so : BegunAppendsAreCuts → IsFramedInPart f old old
-  none_so cuts = subst (λ s. IsFramedInPart f s s) (sym same) (none_yet cuts f old.cache stands.cache_is)
+  none_so cuts = subst (λ s. IsFramedInPart f s s) (sym same) (none_yet cuts f old.cache old.left_out stands.cache_is)
 
   pub begun_so : BegunAppendsAreCuts → (new : Store) → IsFrameBegun (asked writer extent frame []) old new → IsFramedInPart f old new
   begun_so cuts new is =
-      subst (λ s. IsFramedInPart f s new) (sym same) (part_begun cuts f old.cache new stands asks.counted
-      (subst (λ bytes. IsFrameBegun (asked writer extent bytes []) (store_at st old.cache) new) asks.frame_is
+      subst (λ s. IsFramedInPart f s new) (sym same) (part_begun cuts f old.cache old.left_out new stands asks.counted
+      (subst (λ bytes. IsFrameBegun (asked writer extent bytes []) (store_at st old.cache old.left_out) new) asks.frame_is
       (subst (λ s. IsFrameBegun (asked writer extent frame []) s new) same is)))
 
-  done : ShelvesGoOn → (mid : Store) (point : ℕ) → 0 < length frame → IsFrameAppended (asked writer extent frame []) old mid point → HasAppended f old.cache mid
+  done : ShelvesGoOn → (mid : Store) (point : ℕ) → 0 < length frame → IsFrameAppended (asked writer extent frame []) old mid point → HasAppended f old.cache old.left_out mid
   done go mid point some is =
-      has_appended go f old.cache mid point stands asks.counted (subst (λ bytes. 0 < length bytes) asks.frame_is some)
-      (subst (λ bytes. IsFrameAppended (asked writer extent bytes []) (store_at st old.cache) mid point) asks.frame_is
+      has_appended go f old.cache old.left_out mid point stands asks.counted (subst (λ bytes. 0 < length bytes) asks.frame_is some)
+      (subst (λ bytes. IsFrameAppended (asked writer extent bytes []) (store_at st old.cache old.left_out) mid point) asks.frame_is
       (subst (λ s. IsFrameAppended (asked writer extent frame []) s mid point) same is))
 
   pub appended_so : AppendsAreCuts → ShelvesGoOn → (mid new : Store) (point : ℕ) → 0 < length frame → IsFrameAppended (asked writer extent frame []) old mid point
       → new ≡ mid → IsFramedInPart f old new
   appended_so cuts go mid new point some is last =
       subst (λ s. IsFramedInPart f s new) (sym same)
-      (subst (IsFramedInPart f (store_at st old.cache)) (sym last) (part_appended cuts f old.cache mid (done go mid point some is)))
+      (subst (IsFramedInPart f (store_at st old.cache old.left_out)) (sym last) (part_appended cuts f old.cache old.left_out mid (done go mid point some is)))
 
   pub framed_so : FramesCompose → ShelvesGoOn → length (spelling c) ≡ length_of c → (mid new : Store) (point : ℕ) (fields : SlotFields) → 0 < length frame
       → IsFrameAppended (asked writer extent frame []) old mid point → fields ≡ next_fields old.shelf extent key (length frame)
@@ -259,13 +291,13 @@ module _ (writer : Option ℕ) (slot extent : ℕ) (key frame : List ℕ) (st : 
       let o = offset_at st.shelf.extents extent in
       let frame_long : length frame ≡ length_of c = ap length asks.frame_is ∙ long in
       let at : point ≡ n + touched o (length_of c) =
-      is.point_is st.run asks.setting_is
+      is.point_is ∙ (is.appended_is st.run asks.setting_is).patch_is
       ∙ ap (λ (s : Shelf). length (entries_of st.run) + touched (offset_at s.extents extent) (length frame)) asks.shelf_is
       ∙ ap (λ i. i + touched o (length frame)) asks.counted ∙ ap (λ l. n + touched o l) frame_long in
       subst (λ s. IsFramed f s new) (sym same)
-      (with_slot compose f old.cache mid new fields (names_behind mid.shelf slot point) (done go mid point some is)
+      (with_slot compose f old.cache old.left_out mid new fields (names_behind mid.shelf slot point) (done go mid point some is)
       (said ∙ ap (λ s. next_fields s extent key (length frame)) asks.shelf_is
       ∙ ap (λ k. next_fields st.shelf extent k (length frame)) asks.key_is ∙ ap (next_fields st.shelf extent c.key) frame_long)
       (ap (λ (s : Shelf). names_behind s slot point) (is.shelf_is ∙ ap (λ (s : Shelf). record s { extents = mid.shelf.extents; current = Some extent }) asks.shelf_is)
       ∙ ap (names_behind st.shelf slot) at)
-      filled_is)
+      filled_is (subst (λ bytes. 0 < length bytes) asks.frame_is some))

@@ -8,6 +8,7 @@ pub mod Removing
 pub mod Widening
 pub mod Waving
 pub mod Counted
+pub mod Merged
 pub mod Framed
 pub mod Copied
 pub mod Moves

@@ -11,16 +11,17 @@ use Rattle.patch_frame.specs.Geometry.{slot_block, slot_start}
 use Rattle.patch_frame.specs.Slot.{SlotFields}
 use Rattle.patch_frame.specs.Slot as slots
 use Rattle.patch_recovery.specs.Change.{Fill, Made}
-use Rattle.patch_extent.specs.Answers.{Setting, setting, IsSettingOf, Append, plan_of, IsWritten, IsBegun}
+use Rattle.patch_extent.specs.Answers.{Setting, setting, IsSettingOf, Append, plan_of, IsAppended, IsBegun}
+use Rattle.patch_extent.specs.declared.places.Appended.{Appended}
 use Rattle.patch_extent.specs.Appending.{IsPatched}
 use Rattle.patch_plans.specs.Extents.{generation_at, offset_at}
-use Rattle.patch_plans.specs.Planning.{touched}
 use Rattle.patch_plans.specs.Writing.{with_patches}
 use Rattle.patch_history.specs.History.{IsWhole, IsCut}
 use Rattle.patch_history.specs.Shelf.{Shelf, slot_at, after_change, after_plan}
 use Rattle.patch_history.specs.Standing.{Standing, made_by, creates}
 use Rattle.patch_history.specs.Steps.{FramePut, framed}
 use Rattle.patch_store.specs.Meaning.{Store}
+use Rattle.patch_store.specs.Merging.{counted_with, HasMerged}
 
 -- the store's extents, with the groups and the cache of their patches
 abbrev pub setting_of : Store → Setting
@@ -53,6 +54,7 @@ pub record IsFilled (writer : Option ℕ) (slot : ℕ) (fields : SlotFields) (na
   pub patched : IsPatched (slot_block slot) (slot_start slot) (slots.spelling (Some fields)) writer names
       old.groups old.cache new.groups new.cache made
   pub shelf_is : new.shelf ≡ after_change old.shelf made (Fill slot fields)
+  pub left_out_is : new.left_out ≡ old.left_out
 
 -- or there was no memory, and nothing has changed
 abbrev pub FillsSlot : (writer : Option ℕ) (slot : ℕ) (fields : SlotFields) (names : List ℕ)
@@ -64,11 +66,12 @@ FillsSlot writer slot fields names result old new =
 
 -- it was, up to this pointer patch, and its extent is current
 pub record IsFrameAppended (a : Append) (old new : Store) (point : ℕ) : Type 0 where
-  pub is_written : (run : Execution) → IsSettingOf (setting_of old) run
-      → IsWritten run a.writer (plan_of run old.shelf.extents a) (setting_of old) (setting_of new)
-  pub point_is : (run : Execution) → IsSettingOf (setting_of old) run
-      → point ≡ length (entries_of run) + touched (offset_at old.shelf.extents a.extent) (length a.bytes)
+  pub appended : Appended
+  pub appended_is : (run : Execution) → IsSettingOf (setting_of old) run
+      → IsAppended run a (setting_of old) (setting_of new) appended
+  pub point_is : point ≡ appended.pointer_patch
   pub shelf_is : new.shelf ≡ record old.shelf { extents = new.shelf.extents; current = Some a.extent }
+  pub left_out_is : new.left_out ≡ counted_with old.left_out appended.merge
 
 -- or begun, and the shelf is as it was
 pub record IsFrameBegun (a : Append) (old new : Store) : Type 0 where
@@ -107,6 +110,7 @@ pub record IsFramed (f : FramePut) (old new : Store) : Type 0 where
   pub steps : List Step
   pub whole : IsWhole f.standing (framed f) steps
   pub stands : StandsBehind f.standing f.writer (framed f) steps old new
+  pub merged : HasMerged f.standing (framed f) old new
 
 -- or behind some first ones, where memory ran out
 pub record IsFramedInPart (f : FramePut) (old new : Store) : Type 0 where

@@ -10,11 +10,12 @@ use Rattle.patch_history.specs.Shelf.{Shelf}
 use Rattle.patch_history.specs.History.{History, Event, Call, IsLegalHistory, IsRight, execution_of, standing_of, steps_in}
 use Rattle.patch_history.specs.History.{with_event}
 
--- a store: its cache, its groups and its shelf
+-- a store: its cache, its groups and its shelf, and how many merges of pointer patches were left out for want of memory
 pub record Store : Type 0 where
   pub cache : Contents
   pub groups : Groups
   pub shelf : Shelf
+  pub left_out : ℕ
 
 -- the disk is divided as one may be; each slot of the index is kept, and of each extent what has left it; the current
 -- extent is one of the disk

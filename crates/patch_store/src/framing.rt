@@ -8,9 +8,11 @@ ghost use Rattle.patch_extent.specs.Appending.{LaysPatch};
 ghost use Rattle.patch_history.specs.Shelf.{slot_at};
 ghost use Rattle.patch_index.specs.Index.{fields_of};
 ghost use Rattle.patch_store.specs.Framing.{next_fields, names_behind, delete_before as the_delete_before, FillsSlot, AppendsFrame, PutsFrame};
+ghost use Rattle.patch_store.specs.Merging.{counted_with};
 
 use crate::stores::Store;
 use patch_cache::Cache;
+use patch_extent::MergeOutcome;
 use patch_frame::{
     MAX_FRAME, MAX_KEY, MAX_POINTER, Slot, SlotState, laws as frame_laws, slot_block, slot_start,
     write_slot,
@@ -104,6 +106,7 @@ impl<A: Allocator + Copy> Store<A> {
             return Err(OutOfMemory);
         };
         self.current = Some(extent);
+        self.left_out = counted_with(self.left_out, appended.merge);
         Ok(appended.pointer_patch)
     }
 
@@ -251,6 +254,16 @@ fn lay_slot<A: Allocator + Copy>(
     ) {
         Ok(no) => Ok(no),
         Err(_) => Err(OutOfMemory),
+    }
+}
+
+/// A count of merges that had no memory, with one more where this had none.
+fn counted_with(count: u32, merge: MergeOutcome) -> u32
+    ensures { result ≡ counted_with count merge }
+{
+    match merge {
+        MergeOutcome::NoMemory => count.saturating_add(1),
+        MergeOutcome::Made | MergeOutcome::NotLegal => count,
     }
 }
 

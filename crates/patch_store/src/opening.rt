@@ -72,6 +72,7 @@ impl<A: Allocator + Copy> Disk<A> {
             last_delete: None,
             upgrade: None,
             left: self.left,
+            left_out: 0,
         }
     }
 }

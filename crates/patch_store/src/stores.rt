@@ -35,6 +35,8 @@ pub struct Store<A: Allocator + Copy = Global> {
     pub(crate) upgrade: Option<PatchNo>,
     /// For each extent the slot patches since its last reset that took an entry from it.
     pub(crate) left: Vec<Vec<PatchNo, A>, A>,
+    /// How many merges of pointer patches were left out for want of memory.
+    pub(crate) left_out: u32,
 }
 
 impl<A: Allocator + Copy> Model for Store<A> {
@@ -54,6 +56,7 @@ impl<A: Allocator + Copy> Model for Store<A> {
         upgrade = s.upgrade;
         left = map (λ v. v.items) s.left.items;
       };
+      left_out = s.left_out;
     } };
 
     ghost invariant = { λ s. (s.geometry ≡ s.extents.geometry) × IsWhole (record {
@@ -72,6 +75,13 @@ impl<A: Allocator + Copy> Store<A> {
         ensures { result.now ≡ self.now.cache }
     {
         &self.cache
+    }
+
+    /// How many merges of pointer patches were left out for want of memory: each leaves a live patch more.
+    pub fn merges_left_out(&self) -> u32
+        ensures { result ≡ self.now.left_out }
+    {
+        self.left_out
     }
 
     /// The steps that were added since this was called last, the oldest first. They are let go: a store that runs for

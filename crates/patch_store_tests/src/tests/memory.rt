@@ -232,3 +232,34 @@ fn a_reclaim_that_is_refused_loses_no_value(rt: HostRuntime) -> Result<(), Fail>
 fn a_flush_that_is_refused_loses_no_value(rt: HostRuntime) -> Result<(), Fail> {
     refuse_each(&rt, rt.alloc(), Call::Flush, 8)
 }
+
+// Whether a second put succeeds where only a hole of this size is left, and how many merges were left out then.
+fn put_in_hole(
+    rt: &impl Abort,
+    alloc: Global,
+    heap: &LocalHeap,
+    hole: usize,
+) -> Result<(bool, u32), Fail> {
+    let mut store = open_with(rt, heap, ROOMY, &[])?;
+    expect_equal(rt, "first", put(&mut store, b"a", b"1"), Ok(()));
+    expect_equal(rt, "none before", store.merges_left_out(), 0);
+    let ballast = fill(alloc, heap, hole)?;
+    let is_done = put(&mut store, b"a", b"2").is_ok();
+    drop(ballast);
+    Ok((is_done, store.merges_left_out()))
+}
+
+#[test]
+fn merges_without_memory_are_counted(rt: HostRuntime) -> Result<(), Fail> {
+    let heap = LocalHeap::new(rt.alloc(), HEAP)?;
+    let mut most = 0;
+    for size in 0..400usize {
+        let (is_done, left_out) = put_in_hole(&rt, rt.alloc(), &heap, hole_of(size))?;
+        if is_done && left_out == 0 {
+            expect_equal(&rt, "in smaller holes", most, 1);
+            return Ok(());
+        }
+        most = most.max(left_out);
+    }
+    Err(Fail::from("not merged in the largest hole"))
+}

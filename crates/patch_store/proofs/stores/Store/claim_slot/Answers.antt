@@ -1,4 +1,4 @@
-use Rattle.std.proofs.Common.{◌∙◌, map, ap}
+use Rattle.std.proofs.Common.{◌∙◌, refl, map, ap}
 use Rattle.patch_history.specs.Shelf.{Shelf, slot_at}
 use Rattle.patch_index.specs.Index.{fields_of}
 use Rattle.patch_store.specs.Meaning.{Store}
@@ -17,4 +17,4 @@ returns g c =
     } in
     filled_view c.args.writer.now c.args.slot (fields_of c.args.entry.now) c.args.names.now c.in-Ok.field-0 _ _ _ c.self.view_is c.in-Ok.ensures
     (shelf_claimed s c.in-Ok.field-0 c.args.slot (fields_of c.args.entry.now) c.fill.new.self c.fill.ensures
-    (ap (λ (x : Store). slot_at x.shelf c.args.slot) c.self.view_is ∙ c.requires.empty))
+    (ap (λ (x : Store). slot_at x.shelf c.args.slot) c.self.view_is ∙ c.requires.empty)) refl

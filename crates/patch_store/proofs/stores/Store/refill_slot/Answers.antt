@@ -33,4 +33,4 @@ returns g c =
     (shelf_refilled s made c.args.slot (fields_of was) (fields_of c.args.entry.now) c.fill.new.self _ c.fill.ensures
     (ap (λ (x : Store). slot_at x.shelf c.args.slot) c.self.view_is ∙ c.requires.used)
     (more_left (λ v. v.items) c.self.inside.left.items was.extent made c.push_reserved.new.self c.in-Some.left.now within
-    (c.push_reserved.ensures.items ∙ ap (λ xs. xs ++ made ∷ []) c.reserve.ensures.items) c.in-Some.ensures.value))
+    (c.push_reserved.ensures.items ∙ ap (λ xs. xs ++ made ∷ []) c.reserve.ensures.items) c.in-Some.ensures.value)) refl
