@@ -1,26 +1,26 @@
 -- The merges of a frame that is put: there is one, of its pointer patch.
-use Rattle.std.proofs.Common.{◌≡◌, ℕ, zero, suc, ◌+◌, ◌<◌, ◌∙◌, Bool, true, false, List, [], ◌∷◌, ◌++◌, length, map, refl, sym, ap, subst, append_assoc, append-nil, arith}
+use Rattle.std.proofs.Common.{◌≡◌, ℕ, zero, suc, ◌+◌, ◌<◌, ◌∙◌, Bool, false, List, [], ◌∷◌, ◌++◌, length, map, refl, sym, ap, subst, append_assoc, append-nil, arith}
 use Rattle.std.specs.Prelude.{◌==◌, replicate, fold, Option, Some, None, if◌then◌else◌}
 use Rattle.std.specs.List.{range_with_len}
 use Rattle.std.proofs.lemmas.Bool.Decides.{nat_tests}
 use Rattle.std.proofs.lemmas.List.{length-map}
-use Rattle.patch_model.specs.Step.{Step, Merge}
+use Rattle.patch_model.specs.Step.{Step}
 use Rattle.patch_model.specs.Execution.{Execution, extended, followed_by}
 use Rattle.patch_model.specs.State.{entries_of}
 use Rattle.patch_extent.specs.declared.places.MergeOutcome.{MergeOutcome}
 use Rattle.patch_extent.specs.declared.places.MergeOutcome.TheVariants as merge
 use Rattle.patch_extent.specs.Merging.{IsOutcome, is_made}
-use Rattle.patch_extent.specs.Answers.{setting, asked, Append, MergesRightly}
+use Rattle.patch_extent.specs.Answers.{setting, asked, MergesRightly}
 use Rattle.patch_extent.specs.declared.places.Appended.{Appended}
 use Rattle.patch_cache.specs.Contents.{Contents}
 use Rattle.patch_frame.specs.Frame.{spelling}
-use Rattle.patch_history.specs.Standing.{Standing, made_by}
+use Rattle.patch_history.specs.Standing.{made_by}
 use Rattle.patch_history.specs.Steps.{FramePut, appended, filled, framed, steps_made, slot_steps}
 use Rattle.patch_recovery.specs.Change.{Point, Made, step_of}
 use Rattle.patch_plans.specs.Extents.{Extents, extent_at, generation_at, offset_at}
 use Rattle.patch_plans.specs.Groups.{Groups, named}
 use Rattle.patch_plans.specs.Joining.{joined, joined_none}
-use Rattle.patch_plans.specs.Planning.{touched, part, parts, append_plan, names_behind}
+use Rattle.patch_plans.specs.Planning.{touched, part, append_plan, names_behind}
 use Rattle.patch_plans.specs.Writing.{after_plan, with_patches, named_plan, merge_with, written, steps_by, steps_of}
 use Rattle.patch_store.specs.Merging.{IsRight, AreRight, counted_with}
 

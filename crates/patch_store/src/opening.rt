@@ -40,6 +40,7 @@ impl<A: Allocator + Copy> Store<A> {
     pub fn open(alloc: A, cache: Cache<A>) -> Result<Store<A>, (Cache<A>, OpenFault)>
         ensures opened { (blocks : List (List ℕ)) → IsCacheOf cache (unchanged blocks) → Opens blocks result }
         ensures cache { KeepsCache cache result }
+        ensures counted { IfOk result (λ store. store.left_out ≡ 0) }
         ensures closed { ClosedDisksOpen }
         ensures crash { CrashDisksOpen }
     {
@@ -59,6 +60,7 @@ impl<A: Allocator + Copy> Disk<A> {
         ensures cache { result.cache ≡ cache }
         ensures groups { result.groups ≡ no_groups }
         ensures shelf { result.shelf ≡ shelf_of self }
+        ensures counted { result.left_out ≡ 0 }
     {
         let current = first_open(&self.extents, self.geometry);
         Store {

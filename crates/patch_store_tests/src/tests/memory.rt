@@ -2,7 +2,7 @@
 use super::*;
 use linked_list_allocator::LocalHeap;
 use patch_device::MemDevice;
-use patch_model::{RefusalKind, Refuses};
+use patch_model::{RefusalKind, Refuses, Step};
 use patch_store::flush;
 use patch_testing::{fill, hole_of};
 
@@ -233,33 +233,24 @@ fn a_flush_that_is_refused_loses_no_value(rt: HostRuntime) -> Result<(), Fail> {
     refuse_each(&rt, rt.alloc(), Call::Flush, 8)
 }
 
-// Whether a second put succeeds where only a hole of this size is left, and how many merges were left out then.
-fn put_in_hole(
-    rt: &impl Abort,
-    alloc: Global,
-    heap: &LocalHeap,
-    hole: usize,
-) -> Result<(bool, u32), Fail> {
-    let mut store = open_with(rt, heap, ROOMY, &[])?;
-    expect_equal(rt, "first", put(&mut store, b"a", b"1"), Ok(()));
-    expect_equal(rt, "none before", store.merges_left_out(), 0);
-    let ballast = fill(alloc, heap, hole)?;
-    let is_done = put(&mut store, b"a", b"2").is_ok();
-    drop(ballast);
-    Ok((is_done, store.merges_left_out()))
+fn count_merges(store: &HeapStore<'_>) -> u32 {
+    let mut merges = 0u32;
+    for step in store.cache().trace() {
+        if let Step::Merge { .. } = step {
+            merges = merges.saturating_add(1);
+        }
+    }
+    merges
 }
 
 #[test]
-fn merges_without_memory_are_counted(rt: HostRuntime) -> Result<(), Fail> {
+fn each_later_put_merges_its_pointer_patch(rt: HostRuntime) -> Result<(), Fail> {
     let heap = LocalHeap::new(rt.alloc(), HEAP)?;
-    let mut most = 0;
-    for size in 0..400usize {
-        let (is_done, left_out) = put_in_hole(&rt, rt.alloc(), &heap, hole_of(size))?;
-        if is_done && left_out == 0 {
-            expect_equal(&rt, "in smaller holes", most, 1);
-            return Ok(());
-        }
-        most = most.max(left_out);
+    let mut store = open_with(&rt, &heap, ROOMY, &[])?;
+    for value in 0..5u8 {
+        assert_eq!(&rt; put(&mut store, b"a", &[value]), Ok(()));
     }
-    Err(Fail::from("not merged in the largest hole"))
+    assert_eq!(&rt; count_merges(&store), 4);
+    assert_eq!(&rt; store.merges_left_out(), 0);
+    Ok(())
 }

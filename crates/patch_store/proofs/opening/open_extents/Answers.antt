@@ -1,4 +1,4 @@
-use Rattle.std.proofs.Common.{◌≡◌, ◌∙◌, true, refl, sym, ap, subst}
+use Rattle.std.proofs.Common.{◌≡◌, ◌∙◌, true, refl, ap, subst}
 use Rattle.patch_recovery.specs.Reading.{bad_pointers}
 use Rattle.patch_extent.specs.Answers.{tells_bad}
 use Rattle.patch_store.specs.Opening.{unchanged}

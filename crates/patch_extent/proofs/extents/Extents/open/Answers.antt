@@ -1,9 +1,7 @@
-use Rattle.std.proofs.Common.{◌≡◌, ◌<◌, ◌∙◌, List, ℕ, length, slice_range, Err, refl, sym, ap, subst, arith}
+use Rattle.std.proofs.Common.{◌≡◌, ◌<◌, ◌∙◌, length, slice_range, refl, sym, ap, subst, arith}
 use Rattle.std.proofs.lemmas.Result.{err_from_is_err_and}
 use Rattle.patch_model.specs.History.{history_of, cached}
 use Rattle.patch_frame.specs.Geometry.{pointer_block}
-use Rattle.patch_recovery.specs.Closed.{cached_blocks}
-use Rattle.patch_recovery.specs.Reading.{block_on}
 use Rattle.patch_extent.specs.Answers.{tells_bad}
 use Rattle.patch_extent.specs.Opening.{AreRecords, has_bad_record, has_bad_pointers}
 use Rattle.patch_extent.proofs.Patches.{cached_long, cached_on}
