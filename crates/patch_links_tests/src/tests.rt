@@ -259,6 +259,53 @@ fn a_long_walk_agrees_with_the_model(rt: HostRuntime) -> Result<(), Fail> {
     Ok(walk_by_chance(&rt, &mut pair, &mut Source { state: 1 })?)
 }
 
+// Ten patches more: the first one stays, on a block of its own, and the others are made durable.
+fn add_ten(
+    rt: &impl Abort,
+    links: &mut Links<Global>,
+    alloc: Global,
+    first: u32,
+) -> Result<(), AllocError> {
+    put_in(rt, links, new_class(alloc, first, 1, &[])?)?;
+    for step in 1..10u32 {
+        let no = first.saturating_add(step);
+        put_in(rt, links, new_class(alloc, no, 0, &[])?)?;
+    }
+    links.fly(BlockNo(0));
+    links.land(BlockNo(0));
+    Ok(())
+}
+
+// Of so many numbers every tenth leads to its own class, and the others lead nowhere.
+fn expect_tenths(rt: &impl Abort, links: &Links<Global>, made: u32) {
+    for no in 0..made {
+        if no % 10 == 0 {
+            expect_name(rt, links, no, no);
+        } else {
+            expect_eq(rt, &links.find(PatchNo(no)), &None);
+        }
+    }
+}
+
+fn walk_in_tens(
+    rt: &impl Abort,
+    links: &mut Links<Global>,
+    alloc: Global,
+) -> Result<(), AllocError> {
+    for ten in 0..60u32 {
+        add_ten(rt, links, alloc, ten * 10)?;
+        expect_tenths(rt, links, ten * 10 + 10);
+    }
+    Ok(())
+}
+
+// Those that lead nowhere are let go by and by, and no other number's class is another then.
+#[test]
+fn live_numbers_lead_to_their_classes_between_durable_ones(rt: HostRuntime) -> Result<(), Fail> {
+    let mut links = Links::new(rt.alloc());
+    Ok(walk_in_tens(&rt, &mut links, rt.alloc())?)
+}
+
 // A move of a walk, and what is expected of it.
 #[derive(Clone, Copy)]
 enum Move<'a> {
