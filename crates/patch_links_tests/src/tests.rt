@@ -1,5 +1,6 @@
 //! Walks through the calls against a slow model.
 use crate::model::Slow;
+use linked_list_allocator::LocalHeap;
 use patch_links::{Class, Links};
 use patch_model::{BlockNo, Mark, PatchNo};
 use patch_numbers::NumberList;
@@ -304,6 +305,40 @@ fn walk_in_tens(
 fn live_numbers_lead_to_their_classes_between_durable_ones(rt: HostRuntime) -> Result<(), Fail> {
     let mut links = Links::new(rt.alloc());
     Ok(walk_in_tens(&rt, &mut links, rt.alloc())?)
+}
+
+// A patch that depends on nothing, in a heap.
+fn class_in(heap: &LocalHeap, no: u32) -> Class<&LocalHeap> {
+    Class {
+        name: PatchNo(no),
+        members: NumberList::of(heap, PatchNo(no)),
+        block: BlockNo(0),
+        mark: Mark::Memory,
+        hard: false,
+        start: 0,
+        stop: 1,
+        after: NumberList::new(heap),
+    }
+}
+
+// Patches that are made durable one after another.
+fn walk_in_heap(rt: &impl Abort, heap: &LocalHeap) -> Result<(), AllocError> {
+    let mut links = Links::new(heap);
+    for no in 0..4_000u32 {
+        let class = class_in(heap, no);
+        assert!(rt; links.may_add(&class));
+        links.add(class)?;
+        links.fly(BlockNo(0));
+        links.land(BlockNo(0));
+    }
+    Ok(())
+}
+
+// A heap in which the map has no room for a tenth of their numbers is enough, since those that lead nowhere go.
+#[test]
+fn durable_numbers_take_no_memory_for_good(rt: HostRuntime) -> Result<(), Fail> {
+    let heap = LocalHeap::new(rt.alloc(), 8_192)?;
+    Ok(walk_in_heap(&rt, &heap)?)
 }
 
 // A move of a walk, and what is expected of it.
