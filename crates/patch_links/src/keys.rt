@@ -61,6 +61,9 @@ impl<A: Allocator> Keys<A> {
                 return *key;
             }
         }
+        if no.0 < self.lowest {
+            return None;
+        }
         self.search(no)
     }
 
@@ -69,9 +72,6 @@ impl<A: Allocator> Keys<A> {
     fn search(&self, no: PatchNo) -> Option<usize>
         ensures { result ≡ find self.now.numbers no }
     {
-        if no.0 < self.lowest {
-            return None;
-        }
         match self.map.get(&no) {
             Some(key) => *key,
             None => None,
