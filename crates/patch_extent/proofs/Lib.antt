@@ -9,3 +9,4 @@ pub mod Finishing
 pub mod Grouping
 pub mod Rising
 pub mod Emptied
+pub mod Upgraded

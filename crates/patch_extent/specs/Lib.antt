@@ -5,4 +5,5 @@ pub mod Refusals
 pub mod Answers
 pub mod Appending
 pub mod Rows
+pub mod Upgrading
 pub mod Laws

@@ -1,6 +1,5 @@
 //! The extents of a disk, and how they are opened.
 ghost use Rattle.std.specs.Prelude.{true, ◌≡◌, ◌<◌, ◌≤◌, length, IfOk, MatchOption};
-ghost use Rattle.patch_frame.specs.declared.geometries.Format.TheVariants.{One};
 ghost use Rattle.patch_frame.specs.Geometry.{IsGeometry, block_count};
 ghost use Rattle.patch_plans.specs.Extents.{generation_at, offset_at, empty_extents as the_empty_extents};
 ghost use Rattle.patch_frame.specs.Field.{are_zeros};
@@ -88,8 +87,15 @@ impl<A: Allocator + Copy> Extents<A> {
         (pointer.generation, pointer.offset)
     }
 
+    /// How the disk is divided.
+    pub fn geometry(&self) -> Geometry
+        ensures { result ≡ self.now.geometry }
+    {
+        self.geometry
+    }
+
     /// How an upgrade divides the disk: in version 2, with each extent where it is.
-    pub fn widened(&self) -> Geometry
+    pub(crate) fn widened(&self) -> Geometry
         ensures { result ≡ widened self.now.geometry }
     {
         Geometry {
@@ -99,14 +105,6 @@ impl<A: Allocator + Copy> Extents<A> {
                 length: Format::One.extent_blocks(),
             },
         }
-    }
-
-    /// Lets the disk be of version 2 from now on. The patch that says so on the disk is made by who calls this.
-    pub fn widen(&mut self)
-        requires { self.old.geometry.format ≡ One }
-        ensures { self.new ≡ record self.old { geometry = widened self.old.geometry } }
-    {
-        self.geometry = self.widened();
     }
 }
 

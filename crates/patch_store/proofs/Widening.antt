@@ -4,19 +4,13 @@ use Rattle.std.specs.Prelude.{Some, None, count_by, slice_range}
 use Rattle.patch_model.specs.declared.refusals.RefusalKind.TheVariants as kind
 use Rattle.patch_model.specs.declared.refusals.Refusal.{Refusal}
 use Rattle.patch_model.specs.Refusing.{bare}
-use Rattle.patch_model.specs.declared.patches.Undo.TheVariants.{MayDrop}
-use Rattle.patch_model.specs.Step.{Create}
 use Rattle.patch_model.specs.Execution.{Execution}
 use Rattle.patch_model.specs.Entry.{is_live}
 use Rattle.patch_model.specs.State.{entries_of}
 use Rattle.patch_frame.specs.declared.geometries.Format.{Format}
 use Rattle.patch_frame.specs.declared.geometries.Format.TheVariants.{One, Two}
-use Rattle.patch_frame.specs.declared.geometries.Geometry.{Geometry}
-use Rattle.patch_frame.specs.Superblock.{spelling}
-use Rattle.patch_cache.specs.Contents.{Contents}
-use Rattle.patch_cache.specs.Creating.{IsMade}
 use Rattle.patch_cache.specs.Meaning.{Represents as IsCacheOf}
-use Rattle.patch_recovery.specs.Change.{Widen, widened, step_of, bytes_of}
+use Rattle.patch_recovery.specs.Change.{Widen, widened, step_of}
 use Rattle.patch_plans.specs.Extents.{Extents}
 use Rattle.patch_plans.specs.Room.{why_no_room}
 use Rattle.patch_history.specs.Command.{Upgrade, Done, Refused, unless}
@@ -27,7 +21,8 @@ use Rattle.patch_history.specs.Shelf.{Shelf, after_change}
 use Rattle.patch_history.specs.Standing.{Standing, made_by, live_of}
 use Rattle.patch_history.specs.History.{History, Call, execution_of, standing_of}
 use Rattle.patch_store.specs.Meaning.{Store, Represents, HasAnswered}
-use Rattle.patch_store.specs.Upgrading.{IsStepped, IsWidened, version_step}
+use Rattle.patch_extent.specs.Upgrading.{IsUpgraded}
+use Rattle.patch_store.specs.Upgrading.{IsWidened}
 use Rattle.patch_store.proofs.Gaining.{gained, refused, right_refused, right_caused}
 use Rattle.patch_store.proofs.Removing.{room_none, room_spent, room_full}
 
@@ -109,38 +104,22 @@ upgraded_so extends kept agree h writer made live old new narrow count few still
           wide.stepped.trace_is;
     }
 
--- What is written.
-
-fields_are : (g : Geometry) → slice_range (spelling (widened g)) 8 24 ≡ bytes_of g Widen
-fields_are g = refl
+-- there is room for the patch
+pub room_so : (made live m l : ℕ) → made ≡ m → made < 16777216 → live ≡ l → live < 65536 → why_no_room m l 1 ≡ None
+room_so made live m l count few still less = room_none m l (omega (arith, count, few)) (omega (arith, still, less))
 
 -- what the shelf keeps then
 pub shelf_widened : (s : Shelf) (now : Extents) (made : ℕ) → now ≡ record s.extents { geometry = widened s.extents.geometry }
     → record s { extents = now; upgrade = Some made } ≡ after_change s made Widen
 shelf_widened s now made is = ap (λ e. record s { extents = e; upgrade = Some made }) is
 
--- the patch of the superblock's fields is that of the upgrade
-pub widened_view : (wide : Geometry) (old now new : Store) (made : ℕ) → old ≡ now → wide ≡ widened old.shelf.extents.geometry
-    → IsStepped (version_step wide) old.cache new.cache made → new.groups ≡ old.groups → new.shelf ≡ after_change old.shelf made Widen → IsWidened now new
-widened_view wide old now new made is same stepped groups shelf =
-    subst (λ s. IsWidened s new) is (record {
-      made = made;
-      stepped = subst (λ g. IsStepped (version_step g) old.cache new.cache made) same stepped;
-      groups_are = groups;
-      shelf_is = shelf;
-    })
+-- the patch that the extents made is that of the upgrade
+pub widened_view : (old now new : Store) (made : ℕ) → old ≡ now → IsUpgraded old.shelf.extents old.cache new.shelf.extents new.cache made
+    → new.groups ≡ old.groups → new.shelf ≡ after_change old.shelf made Widen → IsWidened now new
+widened_view old now new made is upgraded groups shelf =
+    subst (λ s. IsWidened s new) is (record { made = made; stepped = upgraded.stepped; groups_are = groups; shelf_is = shelf })
 
 -- a format that isn't of version 2
 pub narrow_of : (f : Format) → ((length : ℕ) → f ≡ Two length → ⊥) → f ≡ One
 narrow_of One never = refl
 narrow_of (Two length) never = absurd (never length refl)
-
--- the patch of these bytes is that of the fields
-pub stepped_so : (g : Geometry) (old new : Contents) (made : ℕ) (bytes : List ℕ) → bytes ≡ slice_range (spelling g) 8 24
-    → ((run : Execution) → IsCacheOf old run → IsMade run 0 8 bytes [] MayDrop made new) → new.trace ≡ old.trace ++ Create 0 8 bytes [] MayDrop ∷ []
-    → IsStepped (version_step g) old new made
-stepped_so g old new made bytes is created trace = subst (λ b. IsStepped (Create 0 8 b [] MayDrop) old new made) is (record {
-  stands = λ run stands. (created run stands).2;
-  number = λ run stands. (created run stands).1;
-  trace_is = trace;
-})

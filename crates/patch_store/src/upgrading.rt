@@ -1,24 +1,22 @@
 //! How the disk is made one of version 2.
-ghost use Rattle.std.specs.Prelude.{◌≡◌, ℕ, OnErr};
+ghost use Rattle.std.specs.Prelude.{◌≡◌, ℕ, None, OnErr, count_by, length};
+ghost use Rattle.patch_model.specs.Entry.{is_live};
+ghost use Rattle.patch_model.specs.Execution.{Execution};
+ghost use Rattle.patch_model.specs.State.{entries_of};
 ghost use Rattle.patch_frame.specs.declared.geometries.Format.TheVariants.{One};
-ghost use Rattle.patch_frame.specs.Geometry.{IsGeometry};
+ghost use Rattle.patch_cache.specs.Meaning.{Represents as IsCacheOf};
+ghost use Rattle.patch_plans.specs.Room.{why_no_room};
 ghost use Rattle.patch_history.specs.Command.{Upgrade, Done};
 ghost use Rattle.patch_history.specs.Refusals.{upgrade_cause};
 ghost use Rattle.patch_store.specs.Meaning.{Answers};
 ghost use Rattle.patch_store.specs.Replies.{reply_to};
-ghost use Rattle.patch_store.specs.Upgrading.{LaysVersion, Widens};
+ghost use Rattle.patch_store.specs.Upgrading.{Widens};
 
 use crate::stores::Store;
-use patch_cache::Cache;
-use patch_frame::{Format, Geometry, write_superblock};
+use patch_frame::Format;
 use patch_history::{UpgradeRefusal, laws as history_laws};
-use patch_model::{BlockNo, MAX_LIVE, MAX_PATCHES, OutOfMemory, PatchNo, Undo};
+use patch_model::{MAX_LIVE, MAX_PATCHES, OutOfMemory};
 use std::alloc::Allocator;
-
-// Where in the superblock its version begins, and where the length of an extent ends, which is the last of its fields.
-const VERSION_START: usize = 8;
-
-const FIELDS_END: usize = 24;
 
 impl<A: Allocator + Copy> Store<A> {
     /// Makes the disk one of version 2, in which values may be longer: one patch, of no writer, says so in the superblock.
@@ -47,33 +45,16 @@ impl<A: Allocator + Copy> Store<A> {
 
     /// Makes the patch of the upgrade, and notes it.
     fn widen(&mut self) -> Result<(), OutOfMemory>
-        requires { self.old.shelf.extents.geometry.format ≡ One }
+        requires version { self.old.shelf.extents.geometry.format ≡ One }
+        requires room { (run : Execution) → IsCacheOf self.old.cache run
+            → why_no_room (length (entries_of run)) (count_by is_live (entries_of run)) 1 ≡ None }
         ensures { Widens result self.old self.new }
     {
-        let wide = self.extents.widened();
-        let Ok(no) = lay_version(self.alloc, &mut self.cache, wide) else {
+        let Ok(no) = self.extents.upgrade(&mut self.cache) else {
             return Err(OutOfMemory);
         };
-        self.extents.widen();
-        self.geometry = wide;
+        self.geometry = self.extents.geometry();
         self.upgrade = Some(no);
         Ok(())
-    }
-}
-
-/// Makes the patch of the superblock's fields from its version on.
-fn lay_version<A: Allocator + Copy>(
-    alloc: A,
-    cache: &mut Cache<A>,
-    geometry: Geometry,
-) -> Result<PatchNo, OutOfMemory>
-    requires { IsGeometry geometry }
-    ensures { LaysVersion geometry result cache.old cache.new }
-{
-    let superblock = write_superblock(alloc, geometry)?;
-    let fields = &superblock.as_slice()[VERSION_START..FIELDS_END];
-    match cache.create(BlockNo(0), VERSION_START, fields, &[], Undo::MayDrop) {
-        Ok(no) => Ok(no),
-        Err(_) => Err(OutOfMemory),
     }
 }

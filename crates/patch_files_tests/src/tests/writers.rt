@@ -1,8 +1,8 @@
 //! Scripts of several writers on disks in memory: what is answered, and what the disk holds then.
-ghost use Rattle.std.specs.Prelude.{◌<◌, ◌≤◌};
+ghost use Rattle.std.specs.Prelude.{◌<◌, ◌≤◌, IfSome};
 
 use super::*;
-use patch_files::{Served, serve_script};
+use patch_files::{Served, run_or_serve, serve_script};
 use patch_replay::BadScript;
 use patch_script::Defect;
 use std::sync::Wait;
@@ -128,4 +128,54 @@ fn a_disk_without_a_store_serves_nobody(rt: HostRuntime) -> Result<(), Fail> {
     let device = expect_served(&rt, rt.alloc(), device, 2, OF_TWO, end)?;
     assert!(&rt; device.writes().is_empty());
     Ok(())
+}
+
+// A script's run by the call for any number of writers ends so, and its device holds this.
+fn expect_run_or_served<T: Threads + Wait + Abort + Sync>(
+    rt: &T,
+    alloc: Global,
+    writers: Option<u32>,
+    script: &str,
+    ends: (End, End),
+) -> Result<(), Fail>
+    requires { IfSome writers (λ count. (0 < count) × (count ≤ 8)) }
+{
+    let mut out = Sink::new(Vec::new(alloc));
+    let mut source = Source::new(script.as_bytes());
+    let device = new_device(alloc)?;
+    let Served { status, device } = run_or_serve(
+        rt,
+        alloc,
+        &mut source,
+        &mut out,
+        device,
+        writers,
+        &mut Quiet,
+    );
+    expect_end(rt, status, out.into_inner().as_slice(), ends.0);
+    let Some(mut device) = device else {
+        return Err(Fail::from("the device is lost"));
+    };
+    expect_check(rt, alloc, &mut device, ends.1);
+    Ok(())
+}
+
+const SYNCED: &str = r#"{"op":"group"}
+{"op":"engage","group":0,"writer":1}
+{"op":"put","key":"a","hex":"01","writer":1}
+{"op":"sync","group":0}
+{"op":"put","key":"b","hex":"02"}"#;
+
+#[test]
+fn one_call_runs_one_writer_or_several(rt: HostRuntime) -> Result<(), Fail> {
+    let synced = End(Status::Done, 0, "group 0\nok\nok\nsynced\nok\n");
+    let held = End(Status::Done, 0, HELD_OF_TWO);
+    expect_run_or_served(&rt, rt.alloc(), None, SYNCED, (synced, held))?;
+    let defect = Defect::NoSync;
+    let why = BadScript::BadLine { line: 4, defect };
+    let unread = End(Status::Unreadable(why), 2, "bad line 4\n");
+    expect_run_or_served(&rt, rt.alloc(), Some(2), SYNCED, (unread, EMPTY_STORE))?;
+    let served = End(Status::Done, 0, "ok\nvalue 01\nok\nnone\n");
+    let held = End(Status::Done, 0, HELD_OF_TWO);
+    expect_run_or_served(&rt, rt.alloc(), Some(2), OF_TWO, (served, held))
 }

@@ -1,7 +1,7 @@
 use Rattle.std.proofs.Common.{ap, ◌∙◌}
 use Rattle.std.specs.Prelude.{slice_range}
-use Rattle.patch_store.proofs.Widening.{stepped_so}
-use Rattle.patch_store.proofs.upgrading.lay_version.Goals as goal
+use Rattle.patch_extent.proofs.Upgraded.{stepped_so}
+use Rattle.patch_extent.proofs.upgrading.lay_version.Goals as goal
 
 pub returns-in-Ok : goal.returns-in-Ok
 returns-in-Ok g c =
