@@ -31,7 +31,7 @@ stepped_so g old new made bytes is created trace = subst (λ b. IsStepped (Creat
 
 -- An extent of version 1 is as long as one of an upgraded disk, so all that is known of the extents stays.
 
-of_format : Extents → Format → Extents
+abbrev of_format : Extents → Format → Extents
 of_format s f = record s { geometry = record s.geometry { format = f } }
 
 wide_one : (s : Extents) (run : Execution) → Represents (of_format s One) run → Represents (record s { geometry = widened s.geometry }) run

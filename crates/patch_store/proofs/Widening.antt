@@ -1,15 +1,13 @@
 -- The answers of an upgrade.
-use Rattle.std.proofs.Common.{◌≡◌, ℕ, ◌<◌, ◌≤◌, ◌∙◌, inl, List, [], ◌∷◌, ◌++◌, length, refl, sym, ap, subst, arith}
-use Rattle.std.specs.Prelude.{Some, None, count_by, slice_range}
+use Rattle.std.proofs.Common.{◌≡◌, ℕ, ◌<◌, ◌≤◌, ◌∙◌, inl, [], ◌∷◌, length, refl, sym, ap, subst, arith}
+use Rattle.std.specs.Prelude.{Some, None, count_by}
 use Rattle.patch_model.specs.declared.refusals.RefusalKind.TheVariants as kind
 use Rattle.patch_model.specs.declared.refusals.Refusal.{Refusal}
 use Rattle.patch_model.specs.Refusing.{bare}
-use Rattle.patch_model.specs.Execution.{Execution}
 use Rattle.patch_model.specs.Entry.{is_live}
 use Rattle.patch_model.specs.State.{entries_of}
 use Rattle.patch_frame.specs.declared.geometries.Format.{Format}
 use Rattle.patch_frame.specs.declared.geometries.Format.TheVariants.{One, Two}
-use Rattle.patch_cache.specs.Meaning.{Represents as IsCacheOf}
 use Rattle.patch_recovery.specs.Change.{Widen, widened, step_of}
 use Rattle.patch_plans.specs.Extents.{Extents}
 use Rattle.patch_plans.specs.Room.{why_no_room}
@@ -103,10 +101,6 @@ upgraded_so extends kept agree h writer made live old new narrow count few still
           (wide.shelf_is ∙ ap (λ s. after_change s wide.made Widen) was.shelf_is ∙ ap (λ n. after_change st.shelf n Widen) number)
           wide.stepped.trace_is;
     }
-
--- there is room for the patch
-pub room_so : (made live m l : ℕ) → made ≡ m → made < 16777216 → live ≡ l → live < 65536 → why_no_room m l 1 ≡ None
-room_so made live m l count few still less = room_none m l (omega (arith, count, few)) (omega (arith, still, less))
 
 -- what the shelf keeps then
 pub shelf_widened : (s : Shelf) (now : Extents) (made : ℕ) → now ≡ record s.extents { geometry = widened s.extents.geometry }

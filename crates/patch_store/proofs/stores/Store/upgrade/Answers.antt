@@ -3,7 +3,7 @@ use Rattle.patch_frame.specs.declared.geometries.Geometry.{Geometry}
 use Rattle.patch_history.specs.History.{execution_of}
 use Rattle.patch_store.specs.Upgrading.{IsWidened}
 use Rattle.patch_store.proofs.Gaining.{viewed, viewed_same}
-use Rattle.patch_store.proofs.Widening.{wide_so, narrow_spent, narrow_full, narrow_lacked, narrow_of, room_so, upgraded_so}
+use Rattle.patch_store.proofs.Widening.{wide_so, narrow_spent, narrow_full, narrow_lacked, narrow_of, upgraded_so}
 use Rattle.patch_store.proofs.stores.Store.upgrade.Goals as goal
 
 pub returns-in-Two-clause-answer : goal.returns-in-Two-clause-answer
@@ -36,7 +36,3 @@ returns-clause-answer g c writer h was =
     (sym (ap (λ (k : Geometry). k.format) c.self.invariant.0) ∙ narrow_of _ c.in_default.not-Two)
     (c.made.ensures.answer (execution_of h) w.cache_is) c.if-made-ge-MAX_PATCHES.false (c.live.ensures.answer (execution_of h) w.cache_is) c.if-live-ge-MAX_LIVE.false
     (subst (λ s. IsWidened s c.widen.new.self) (sym c.self.view_is) c.in-Ok.ensures) w) was
-
-pub widen-requires-room : goal.widen-requires-room
-widen-requires-room g c run stands =
-    room_so c.made.result c.live.result _ _ (c.made.ensures.answer run stands) c.if-made-ge-MAX_PATCHES.false (c.live.ensures.answer run stands) c.if-live-ge-MAX_LIVE.false
