@@ -14,4 +14,4 @@ returns g c =
       left = map (λ v. v.items) c.self.inside.left.items;
     } in
     widened_view c.widened-wide.result _ _ _ c.in-Ok.no c.self.view_is c.widened-wide.ensures c.in-Ok.ensures refl
-    (shelf_widened s c.widen.new.self c.in-Ok.no c.widen.ensures)
+    (shelf_widened s c.widen.new.self c.in-Ok.no c.widen.ensures) refl
