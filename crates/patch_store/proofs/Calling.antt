@@ -33,12 +33,12 @@ reply_known key value told known is = ap found is ∙ sym (ap (λ c. unless c (f
 pub value_so : HistoriesExtend → (h : History) (writer : ℕ) (key value : List ℕ) (s : Store) → Represents s h → why_no_key key ≡ None
     → Some value ≡ value_in (standing_of h).map.entries key → HasAnswered h writer (Get key) (Value value) s s
 value_so extends h writer key value s was known is =
-    answered extends h writer (Get key) (Value value) s s was (inl (reply_known key (Some value) _ known is, ([], refl))) refl was.groups_are refl
+    answered extends h writer (Get key) (Value value) s s was (inl (reply_known key (Some value) _ known is, ([], refl))) refl was.groups_are refl refl
 
 pub absent_reply : HistoriesExtend → (h : History) (writer : ℕ) (key : List ℕ) (s : Store) → Represents s h → why_no_key key ≡ None
     → None ≡ value_in (standing_of h).map.entries key → HasAnswered h writer (Get key) Absent s s
 absent_reply extends h writer key s was known is =
-    answered extends h writer (Get key) Absent s s was (inl (reply_known key None _ known is, ([], refl))) refl was.groups_are refl
+    answered extends h writer (Get key) Absent s s was (inl (reply_known key None _ known is, ([], refl))) refl was.groups_are refl refl
 
 pub unread_so : HistoriesExtend → (h : History) (writer : ℕ) (key : List ℕ) (refusal : GetRefusal) (s : Store) → Represents s h
     → IsCause (why_no_key key) (get_cause refusal) → HasAnswered h writer (Get key) (Refused (get_cause refusal)) s s

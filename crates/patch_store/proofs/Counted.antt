@@ -70,7 +70,7 @@ pub shelf_named : (s : Shelf) (k : ℕ) (gs : Groups) (w : Option ℕ) (n : ℕ)
 shelf_named s k gs w n [] = refl
 shelf_named s k gs w n (m ∷ plan) = shelf_named (after_change s k m.change) (k + 1) (with_patch gs w n) w (n + 1) plan
 
-take_named : (i : ℕ) (gs : Groups) (w : Option ℕ) (n : ℕ) (plan : List Made) → take i (named_plan gs w n plan) ≡ named_plan gs w n (take i plan)
+pub take_named : (i : ℕ) (gs : Groups) (w : Option ℕ) (n : ℕ) (plan : List Made) → take i (named_plan gs w n plan) ≡ named_plan gs w n (take i plan)
 take_named zero gs w n [] = refl
 take_named zero gs w n (m ∷ plan) = refl
 take_named (suc i) gs w n [] = refl

@@ -1,5 +1,5 @@
 -- An extent that is emptied.
-use Rattle.std.proofs.Common.{◌≡◌, ℕ, ◌∙◌, ◌++◌, ◌<◌, true, false, List, [], length, map, take, get_or, refl, sym, ap, subst}
+use Rattle.std.proofs.Common.{◌≡◌, ℕ, ◌∙◌, ◌++◌, ◌∷◌, ◌<◌, Bool, true, false, List, [], length, map, take, get_or, refl, sym, ap, subst}
 use Rattle.std.specs.Prelude.{◌==◌, Option, Some, None, slice_set}
 use Rattle.std.proofs.lemmas.List.{map-set, get_or-map}
 use Rattle.patch_model.specs.Execution.{Execution, followed_by}
@@ -20,6 +20,7 @@ use Rattle.patch_store.specs.Moving.{IsStanding, reset_of, IsEmptied}
 use Rattle.patch_store.proofs.Counted.{creates_by}
 use Rattle.patch_store.proofs.Framed.{store_at, store_is}
 use Rattle.patch_store.proofs.Moves.{patches_none}
+use Rattle.patch_store.proofs.Outcomes.{merged_one}
 
 -- The current extent behind a reset.
 
@@ -44,12 +45,24 @@ left_at items left e v within at = ap items at ∙ sym (get_or-map items left e 
 abbrev pub reset_shelf : Shelf → (extent : ℕ) → Extents → Shelf
 reset_shelf s extent e = record s { extents = e; current = not_current extent s.current; left = slice_set s.left extent [] }
 
+-- where there is no merge to choose the choices make none
+
+no_steps : (choices : List Bool) → steps_by choices [] ≡ []
+no_steps [] = refl
+no_steps (true ∷ choices) = refl
+no_steps (false ∷ choices) = refl
+
+one_step : (choices : List Bool) (create : Step) → steps_by choices (record { create = create; merge = None } ∷ []) ≡ create ∷ []
+one_step [] create = refl
+one_step (true ∷ choices) create = ap (λ steps. create ∷ steps) (no_steps choices)
+one_step (false ∷ choices) create = ap (λ steps. create ∷ steps) (no_steps choices)
+
 emptied_at : (st : Standing) (extent : ℕ) (cache : Contents) (left_out : ℕ) (new : Store) (patch : ℕ)
     → IsSettingOf (setting st.shelf.extents st.groups cache) st.run → length (entries_of st.run) ≡ made_by st
     → IsReset st.run extent (left_of st.shelf extent) (setting st.shelf.extents st.groups cache) (setting new.shelf.extents new.groups new.cache) patch
-    → new.shelf ≡ reset_shelf st.shelf extent new.shelf.extents
+    → new.shelf ≡ reset_shelf st.shelf extent new.shelf.extents → new.left_out ≡ left_out
     → IsEmptied st extent (store_at st cache left_out) new
-emptied_at st extent cache left_out new patch stands count r shelf =
+emptied_at st extent cache left_out new patch stands count r shelf same =
     let s = st.shelf in
     let n = made_by st in
     let plan : List Made = reset_of s extent in
@@ -65,15 +78,16 @@ emptied_at st extent cache left_out new patch stands count r shelf =
         groups_are = made.groups_are ∙ sym (patches_none st.groups n (creates (steps n)));
         shelf_is = shelf ∙ ap (reset_shelf s extent) (made.extents_are ∙ ap (λ i. extents.after_plan s.extents i plan) count)
             ∙ sym (ap (λ k. after_plan s n (take k plan)) (creates_by cs s.extents n plan));
+        merged = merged_one st.run (written s.extents n plan) _ (steps n) left_out new.left_out refl refl (one_step cs _) same;
       };
     }
 
 pub emptied_so : (extent : ℕ) (names : List ℕ) (patch : ℕ) (old now new : Store) → old ≡ now → names ≡ left_of old.shelf extent
     → ((groups : Groups) (run : Execution) → IsSettingOf (setting old.shelf.extents groups old.cache) run
     → IsReset run extent names (setting old.shelf.extents groups old.cache) (setting new.shelf.extents groups new.cache) patch)
-    → new.groups ≡ old.groups → new.shelf ≡ reset_shelf old.shelf extent new.shelf.extents
+    → new.groups ≡ old.groups → new.shelf ≡ reset_shelf old.shelf extent new.shelf.extents → new.left_out ≡ old.left_out
     → (st : Standing) → IsStanding st now → IsEmptied st extent now new
-emptied_so extent names patch old now new is named reset groups shelf st asks =
+emptied_so extent names patch old now new is named reset groups shelf left_out st asks =
     let a = subst (IsStanding st) (sym is) asks in
     let same : old ≡ store_at st old.cache old.left_out = store_is st old a.groups_are a.shelf_is in
     let stands = subst (λ (x : Store). IsSettingOf (setting x.shelf.extents x.groups x.cache) st.run) same a.setting_is in
@@ -83,7 +97,7 @@ emptied_so extent names patch old now new is named reset groups shelf st asks =
     subst (λ s. IsEmptied st extent s new) is (subst (λ s. IsEmptied st extent s new) (sym same)
     (emptied_at st extent old.cache old.left_out new patch stands a.counted
     (subst (λ (x : Store). IsReset st.run extent (left_of x.shelf extent) (setting x.shelf.extents x.groups x.cache) (setting new.shelf.extents new.groups new.cache) patch) same with_names)
-    (subst (λ (x : Store). new.shelf ≡ reset_shelf x.shelf extent new.shelf.extents) same shelf)))
+    (subst (λ (x : Store). new.shelf ≡ reset_shelf x.shelf extent new.shelf.extents) same shelf) left_out))
 
 pub shelf_reset : (s : Shelf) (extent : ℕ) (e : Extents) (current : Option ℕ) (left : List (List ℕ)) → current ≡ not_current extent s.current
     → left ≡ slice_set s.left extent [] → record s { extents = e; current = current; left = left } ≡ reset_shelf s extent e

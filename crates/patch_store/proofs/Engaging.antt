@@ -27,7 +27,7 @@ begun_so extends h writer old gs (Ok g) was made cause same =
       ap GroupMade (made.1 ∙ ap (λ s. length s.groups) is) ∙ sym (ap (λ c. unless c (GroupMade (length (standing_of h).groups.groups))) (ap why_not_begun (sym is) ∙ made.0)),
       ([], refl),
     ))
-    refl (made.2 ∙ ap begun is) refl
+    refl (made.2 ∙ ap begun is) refl refl
 begun_so extends h writer old gs (Err r) was made cause same =
     let is = was.groups_are in
     refused extends h writer Group (group_cause r) old (record old { groups = gs }) was
@@ -39,7 +39,7 @@ begun_so extends h writer old gs (Err r) was made cause same =
 done_so : HistoriesExtend → (h : History) (writer : ℕ) (command : Command) (old : Store) (gs : Groups) → Represents old h
     → IsRight (standing_of h) (Call writer command Done []) → gs ≡ (after_event (standing_of h) (Call writer command Done [])).groups
     → HasAnswered h writer command Done old (record old { groups = gs })
-done_so extends h writer command old gs was right groups = answered extends h writer command Done old (record old { groups = gs }) was right refl groups refl
+done_so extends h writer command old gs was right groups = answered extends h writer command Done old (record old { groups = gs }) was right refl groups refl refl
 
 pub engaged_so : HistoriesExtend → (h : History) (writer group : ℕ) (old : Store) (gs : Groups) (result : Result (Unit {0}) GroupRefusal) → Represents old h
     → OnOk result ((why_not_engaged old.groups writer group ≡ None) × (gs ≡ engaged old.groups writer group))
@@ -116,7 +116,7 @@ counted_so extends runs kept h writer group old (Ok count) counted known cause w
       ap Count number ∙ sym (ap (λ c. unless c (Count (pending (entries_of st.run) st.groups group))) (ap (λ s. why_not_counted s group) (sym is) ∙ known)),
       ([], refl),
     ))
-    refl is refl
+    refl is refl refl
 counted_so extends runs kept h writer group old (Err r) counted known cause was =
     let st = standing_of h in
     refused extends h writer (Pending group) (group_cause r) old old was

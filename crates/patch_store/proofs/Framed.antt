@@ -14,21 +14,22 @@ use Rattle.patch_frame.specs.Geometry.{slot_block, slot_start}
 use Rattle.patch_frame.specs.Slot.{SlotFields}
 use Rattle.patch_frame.specs.Slot as slots
 use Rattle.patch_recovery.specs.Change.{Fill, Made}
-use Rattle.patch_extent.specs.Answers.{setting, asked, IsSettingOf, Append, IsAppended, MergesRightly}
+use Rattle.patch_extent.specs.Answers.{setting, asked, IsSettingOf, Append, IsAppended}
 use Rattle.patch_extent.specs.declared.places.Appended.{Appended}
 use Rattle.patch_extent.specs.Appending.{IsPatched}
 use Rattle.patch_plans.specs.Extents.{offset_at}
 use Rattle.patch_plans.specs.Planning.{touched, append_plan}
 use Rattle.patch_plans.specs.Writing as extents
-use Rattle.patch_plans.specs.Writing.{with_patches, steps_of}
+use Rattle.patch_plans.specs.Writing.{with_patches, written, steps_of}
 use Rattle.patch_history.specs.History.{IsWhole}
 use Rattle.patch_history.specs.Planning.{fields_for}
 use Rattle.patch_history.specs.Shelf.{Shelf, slot_at, leaving, after_change, after_plan}
 use Rattle.patch_history.specs.Standing.{Standing, made_by, creates}
 use Rattle.patch_history.specs.Steps.{FramePut, appended, filled, framed, steps_made, slot_steps, FramesCompose, AppendsAreCuts, BegunAppendsAreCuts, ShelvesGoOn}
 use Rattle.patch_store.specs.Meaning.{Store}
-use Rattle.patch_store.specs.Merging.{counted_with}
-use Rattle.patch_store.proofs.Merged.{frame_merges}
+use Rattle.patch_store.specs.Merging.{counted_with, HasMerged}
+use Rattle.patch_store.proofs.Merged.{AppendMerged, append_merged, appended_merged, some_merged, frame_merged}
+use Rattle.patch_store.proofs.Outcomes.{merged_none}
 use Rattle.patch_store.specs.Framing.{setting_of, next_fields, names_behind, IsFilled, IsFrameAppended, IsFrameBegun, framing, IsAsked, IsFramed, IsFramedInPart}
 use Rattle.patch_store.proofs.Counted.{creates_all, creates_of, length-named, with_more, shelf_named, shelf_taken, shelf_joined, shelf_appended, shelf_begun}
 
@@ -92,13 +93,11 @@ none_yet cuts f cache left_out is = record {
     trace_is = sym (append-nil cache.trace);
     groups_are = refl;
     shelf_is = refl;
+    merged = merged_none f.standing.run (written f.standing.shelf.extents (made_by f.standing) (framed f)) left_out left_out refl;
   };
 }
 
 -- An append that is done.
-
-abbrev append_of : FramePut → Append
-append_of f = asked f.writer f.extent (spelling f.content) []
 
 record HasAppended (f : FramePut) (cache : Contents) (left_out : ℕ) (mid : Store) : Type 0 where
   pub choices : List Bool
@@ -108,11 +107,7 @@ record HasAppended (f : FramePut) (cache : Contents) (left_out : ℕ) (mid : Sto
   pub trace_is : mid.cache.trace ≡ cache.trace ++ steps_made f choices (appended f)
   pub groups_are : mid.groups ≡ with_patches f.standing.groups f.writer (made_by f.standing) (length (appended f))
   pub shelf_is : mid.shelf ≡ after_plan f.standing.shelf (made_by f.standing) (appended f)
-  pub same_count : length (entries_of f.standing.run) ≡ made_by f.standing
-  pub told : Appended
-  pub patch_is : told.pointer_patch ≡ length (entries_of f.standing.run) + touched (offset_at f.standing.shelf.extents f.extent) (length (spelling f.content))
-  pub merges : MergesRightly f.standing.run (append_of f) (setting f.standing.shelf.extents f.standing.groups cache) choices told
-  pub left_out_is : mid.left_out ≡ counted_with left_out told.merge
+  pub merged : AppendMerged f choices left_out mid.left_out
 
 has_appended : ShelvesGoOn → (f : FramePut) (cache : Contents) (left_out : ℕ) (mid : Store) (point : ℕ)
     → IsSettingOf (setting f.standing.shelf.extents f.standing.groups cache) f.standing.run → length (entries_of f.standing.run) ≡ made_by f.standing
@@ -140,11 +135,8 @@ has_appended go f cache left_out mid point stands count some app =
       shelf_is = app.shelf_is
           ∙ ap (λ x. record s { extents = x; current = Some f.extent }) (made.extents_are ∙ ap (λ i. extents.after_plan ext i (plan i)) count)
           ∙ shelf_appended go s n f.extent bytes some;
-      same_count = count;
-      told = app.appended;
-      patch_is = told.patch_is;
-      merges = told.merge_is;
-      left_out_is = app.left_out_is;
+      merged = subst (AppendMerged f cs left_out) (sym app.left_out_is)
+          (append_merged f cache cs app.appended (written.each ∙ ap (λ i. length (plan i)) count) count some told.patch_is told.merge_is left_out);
     }
 
 -- without the slot's patch
@@ -165,14 +157,15 @@ part_appended cuts f cache left_out mid app =
             ∙ sym (ap (λ i. after_plan st.shelf n (take i (framed f))) count
             ∙ shelf_taken st.shelf n (length (appended f)) st.groups f.writer n (appended f ++ filled f ∷ [])
             ∙ ap (after_plan st.shelf n) (take_front (appended f) (filled f ∷ [])));
+        merged = appended_merged f app.choices left_out mid.left_out app.merged;
       };
     }
 
 -- with it
 with_slot : FramesCompose → (f : FramePut) (cache : Contents) (left_out : ℕ) (mid new : Store) (fields : SlotFields) (names : List ℕ) → HasAppended f cache left_out mid
     → fields ≡ fields_for f.standing.shelf f.extent f.content → names ≡ (filled f).after → IsFilled f.writer f.slot fields names mid new
-    → 0 < length (spelling f.content) → IsFramed f (store_at f.standing cache left_out) new
-with_slot compose f cache left_out mid new fields names app said named is some =
+    → IsFramed f (store_at f.standing cache left_out) new
+with_slot compose f cache left_out mid new fields names app said named is =
     let st = f.standing in
     let n = made_by st in
     let w = f.writer in
@@ -189,7 +182,6 @@ with_slot compose f cache left_out mid new fields names app said named is some =
     let long : length (framed f) ≡ suc (length (appended f)) =
     (let a = length-named st.groups w n plan in let b = length-append (appended f) (filled f ∷ []) in omega (arith, a, b)) in
     let number : is.made ≡ n + length (appended f) = is.patched.number (followed_by st.run first) app.cache_is ∙ app.counted in
-    let mine = frame_merges f cache app.choices app.told app.each app.same_count some app.patch_is app.merges in
     let before = after_plan st.shelf n (appended f) in
     record {
       steps = first ++ last ∷ [];
@@ -207,13 +199,9 @@ with_slot compose f cache left_out mid new fields names app said named is some =
             ∙ ap (after_plan st.shelf n) (take_all (length (framed f)) (framed f) (omega arith))
             ∙ shelf_named st.shelf n st.groups w n plan
             ∙ shelf_joined st.shelf n (appended f) (filled f ∷ []));
-      };
-      merged = record {
-        outcomes = mine.outcomes;
-        right = mine.right;
-        trace_is = is.patched.trace_is ∙ ap (λ t. t ++ last ∷ []) app.trace_is ∙ append_assoc cache.trace first (last ∷ [])
-            ∙ ap (λ xs. cache.trace ++ xs) (ap (λ xs. first ++ xs) tail ∙ mine.steps_are);
-        left_out_is = is.left_out_is ∙ app.left_out_is ∙ mine.counted left_out;
+        merged = subst (λ xs. HasMerged st.run (written st.shelf.extents n (framed f)) (first ++ xs) left_out new.left_out) (sym tail)
+            (subst (HasMerged st.run (written st.shelf.extents n (framed f)) (first ++ slot_steps f) left_out) (sym is.left_out_is)
+            (frame_merged f app.choices left_out mid.left_out app.merged));
       };
     }
 
@@ -247,6 +235,8 @@ part_begun cuts f cache left_out mid stands count is =
             ∙ sym (ap (λ i. after_plan s n (take i (framed f))) much
             ∙ shelf_taken s n begun.count st.groups f.writer n (appended f ++ filled f ∷ [])
             ∙ shelf_begun s n f.extent bytes (filled f ∷ []) begun.count less);
+        merged = subst (HasMerged st.run (written s.extents n (framed f)) (steps n) left_out) (sym is.left_out_is)
+            (some_merged f begun.count less left_out);
       };
     }
 
@@ -300,4 +290,4 @@ module _ (writer : Option ℕ) (slot extent : ℕ) (key frame : List ℕ) (st : 
       ∙ ap (λ k. next_fields st.shelf extent k (length frame)) asks.key_is ∙ ap (next_fields st.shelf extent c.key) frame_long)
       (ap (λ (s : Shelf). names_behind s slot point) (is.shelf_is ∙ ap (λ (s : Shelf). record s { extents = mid.shelf.extents; current = Some extent }) asks.shelf_is)
       ∙ ap (names_behind st.shelf slot) at)
-      filled_is (subst (λ bytes. 0 < length bytes) asks.frame_is some))
+      filled_is)

@@ -9,11 +9,14 @@ use Rattle.patch_cache.specs.Contents.{Contents}
 use Rattle.patch_cache.specs.Meaning.{Represents as IsCacheOf}
 use Rattle.patch_cache.specs.Refusals.{IsCause}
 use Rattle.patch_history.specs.Command.{Command, Reply, Refused, unless, is_refused, takes_memory, may_be_cut}
-use Rattle.patch_history.specs.Standing.{Standing, plan_of}
+use Rattle.patch_history.specs.Standing.{Standing, at_opening, made_by, plan_of}
 use Rattle.patch_history.specs.Refusing.{reply_of}
 use Rattle.patch_history.specs.Laws.{HistoriesExtend}
 use Rattle.patch_history.specs.History.{History, Event, Call, steps_in, steps_of, after_event, execution_of, standing_of, with_event, IsRight, IsCut}
+use Rattle.patch_plans.specs.Writing.{written}
 use Rattle.patch_store.specs.Meaning.{Store, Represents, HasGained, HasAnswered}
+use Rattle.patch_store.specs.Merging.{Counts, AreCounted}
+use Rattle.patch_store.proofs.Outcomes.{merged_none}
 
 pub steps_push : (events : List Event) (event : Event) → flat_map steps_in (events ++ event ∷ []) ≡ flat_map steps_in events ++ steps_in event
 steps_push [] event = append-nil (steps_in event)
@@ -26,10 +29,18 @@ fold_push st (first ∷ events) event = fold_push (after_event st first) events 
 pub run_push : (h : History) (event : Event) → execution_of (with_event h event) ≡ followed_by (execution_of h) (steps_in event)
 run_push h event = ap (λ steps. record (execution_of h) { steps = steps }) (steps_push h.events event)
 
+-- one event more is counted behind the others
+counted_push : (st : Standing) (events : List Event) (event : Event) (before between after : ℕ) → AreCounted st events before between
+    → Counts (fold after_event st events) event between after → AreCounted st (events ++ event ∷ []) before after
+counted_push st [] event before between after are counts = (after, subst (λ count. Counts st event count after) are counts, refl)
+counted_push st (first ∷ events) event before between after are counts =
+    (are.0, are.1, counted_push (after_event st first) events event are.0 between after are.2 counts)
+
 pub gained : HistoriesExtend → (h : History) (event : Event) (old new : Store) → Represents old h → IsRight (standing_of h) event
     → IsCacheOf new.cache (followed_by (execution_of h) (steps_in event)) → new.groups ≡ (after_event (standing_of h) event).groups
-    → new.shelf ≡ (after_event (standing_of h) event).shelf → new.cache.trace ≡ old.cache.trace ++ steps_in event → HasGained h event old new
-gained extends h event old new was right cache groups shelf trace =
+    → new.shelf ≡ (after_event (standing_of h) event).shelf → new.cache.trace ≡ old.cache.trace ++ steps_in event
+    → Counts (standing_of h) event old.left_out new.left_out → HasGained h event old new
+gained extends h event old new was right cache groups shelf trace counts =
     let stands = subst (IsCacheOf new.cache) (sym (run_push h event)) cache in
     let st : standing_of (with_event h event) ≡ after_event (standing_of h) event = fold_push _ h.events event in
     record {
@@ -39,21 +50,25 @@ gained extends h event old new was right cache groups shelf trace =
         cache_is = stands;
         groups_are = groups ∙ ap (λ s. s.groups) (sym st);
         shelf_is = shelf ∙ ap (λ s. s.shelf) (sym st);
+        left_out_is = counted_push (at_opening h.opening h.first) h.events event 0 old.left_out new.left_out was.left_out_is counts;
       };
       trace_is = trace;
+      counts = counts;
     }
 
 -- a call without steps
 pub answered : HistoriesExtend → (h : History) (writer : ℕ) (command : Command) (reply : Reply) (old new : Store) → Represents old h
     → IsRight (standing_of h) (Call writer command reply []) → new.cache ≡ old.cache
-    → new.groups ≡ (after_event (standing_of h) (Call writer command reply [])).groups → new.shelf ≡ old.shelf
+    → new.groups ≡ (after_event (standing_of h) (Call writer command reply [])).groups → new.shelf ≡ old.shelf → new.left_out ≡ old.left_out
     → HasAnswered h writer command reply old new
-answered extends h writer command reply old new was right cache groups shelf = record {
+answered extends h writer command reply old new was right cache groups shelf left_out = record {
   steps = [];
   gained = gained extends h (Call writer command reply []) old new was right
       (subst (λ c. IsCacheOf c (followed_by (execution_of h) [])) (sym cache)
       (subst (λ steps. IsCacheOf old.cache (record (execution_of h) { steps = steps })) (sym (append-nil (steps_of h))) was.cache_is))
-      groups (shelf ∙ was.shelf_is) (ap (λ c. c.trace) cache ∙ sym (append-nil old.cache.trace));
+      groups (shelf ∙ was.shelf_is) (ap (λ c. c.trace) cache ∙ sym (append-nil old.cache.trace))
+      (merged_none (standing_of h).run (written (standing_of h).shelf.extents (made_by (standing_of h)) (plan_of (standing_of h) writer command))
+      old.left_out new.left_out left_out);
 }
 
 abbrev Nothing : Type 0
@@ -78,6 +93,7 @@ pub refused : HistoriesExtend → (h : History) (writer : ℕ) (command : Comman
     → IsRight (standing_of h) (Call writer command (Refused refusal) []) → new ≡ old → HasAnswered h writer command (Refused refusal) old new
 refused extends h writer command refusal old new was right same =
     answered extends h writer command (Refused refusal) old new was right (ap (λ s. s.cache) same) (ap (λ s. s.groups) same ∙ was.groups_are) (ap (λ s. s.shelf) same)
+    (ap (λ s. s.left_out) same)
 
 -- what is said of the view of a store is said of the store
 pub viewed : {h : History} {writer : ℕ} {command : Command} {reply : Reply} {old now new : Store} → old ≡ now
@@ -99,4 +115,5 @@ drained_so h old cache was same = record {
   cache_is = same (execution_of h) was.cache_is;
   groups_are = was.groups_are;
   shelf_is = was.shelf_is;
+  left_out_is = was.left_out_is;
 }

@@ -1,3 +1,5 @@
+pub mod Counted
+pub mod Outcomes
 pub mod Gaining
 pub mod Engaging
 pub mod Writing
@@ -7,7 +9,6 @@ pub mod Finding
 pub mod Removing
 pub mod Widening
 pub mod Waving
-pub mod Counted
 pub mod Merged
 pub mod Framed
 pub mod Copied
@@ -24,3 +25,4 @@ pub mod Reported
 pub mod Tried
 pub mod Summed
 pub mod Judged
+pub mod Agreeing

@@ -15,19 +15,22 @@ use Rattle.patch_plans.specs.declared.records.Extent.{Extent}
 use Rattle.patch_plans.specs.Extents.{Extents, no_extent, pointed, extent_at, generation_at, offset_at}
 use Rattle.patch_plans.specs.Extents as kept
 use Rattle.patch_plans.specs.Planning.{touched, parts, names_behind, append_plan}
+use Rattle.patch_plans.specs.Joining.{written-++, length-written}
 use Rattle.patch_plans.specs.Writing as extents
-use Rattle.patch_plans.specs.Writing.{named_plan, with_patches, written, steps_by}
+use Rattle.patch_plans.specs.Writing.{Written, named_plan, with_patches, written, steps_by}
 use Rattle.patch_history.specs.Choosing.{extent_for_move}
 use Rattle.patch_history.specs.History.{IsWhole, IsCut}
 use Rattle.patch_history.specs.Planning.{frame_plan, fill_plan, content_of, moves}
 use Rattle.patch_history.specs.Shelf.{Shelf, after_plan}
 use Rattle.patch_history.specs.Shelf as shelves
 use Rattle.patch_history.specs.Standing.{Standing, made_by, creates}
-use Rattle.patch_history.specs.Steps.{WholesJoin}
+use Rattle.patch_history.specs.Steps.{ShelvesGoOn, WholesJoin}
 use Rattle.patch_history.specs.Steps as plans
 use Rattle.patch_store.specs.Meaning.{Store}
 use Rattle.patch_store.specs.Framing.{StandsBehind}
+use Rattle.patch_store.specs.Merging.{HasMerged}
 use Rattle.patch_store.proofs.Counted.{creates_all, shelf_joined, parts_leave}
+use Rattle.patch_store.proofs.Outcomes.{take_behind, merged_wider, merged_joined, outcomes_made}
 
 -- Nobody's groups make a patch name more, and no group has it.
 
@@ -165,12 +168,6 @@ cut_few st plan steps cut =
     let all = creates_all st plan (steps ++ cut.0) cut.2 in
     omega (arith, e, all)
 
-take_behind : (p q : List Made) (k m : ℕ) → m ≡ length p + k → take m (p ++ q) ≡ p ++ take k q
-take_behind [] q k m is = ap (λ i. take i q) (let e : m ≡ k = omega (arith, is) in e)
-take_behind (x ∷ p) q k m is =
-    ap (λ i. take i (x ∷ (p ++ q))) (let e : m ≡ suc (length p + k) = omega (arith, is) in e)
-    ∙ ap (λ r. x ∷ r) (take_behind p q k (length p + k) refl)
-
 -- A store behind one plan and then another.
 
 -- a standing behind the steps of a plan of nobody
@@ -181,10 +178,29 @@ pub record IsLater (st : Standing) (plan : List Made) (steps : List Step) (later
   pub made_is : made_by later ≡ made_by st + length plan
   pub map_is : later.map ≡ st.map
 
-pub join_stands : (st later : Standing) (p q : List Made) (steps more : List Step) (old mid new : Store) → IsLater st p steps later
+-- the merges of both, one behind the other
+join_merged : ShelvesGoOn → (st later : Standing) (p q : List Made) (steps more : List Step) (before between after : ℕ) → IsLater st p steps later
+    → creates steps ≡ length p → HasMerged st.run (written st.shelf.extents (made_by st) p) steps before between
+    → HasMerged later.run (written later.shelf.extents (made_by later) q) more between after
+    → HasMerged st.run (written st.shelf.extents (made_by st) (p ++ q)) (steps ++ more) before after
+join_merged go st later p q steps more before between after is all a b =
+    let s : Extents = st.shelf.extents in
+    let n = made_by st in
+    let first : List Written = written s n p in
+    let last : List Written = written (extents.after_plan s n p) (n + length p) q in
+    let extents_are : later.shelf.extents ≡ extents.after_plan s n p = ap (λ (x : Shelf). x.extents) is.shelf_is ∙ go st.shelf n p in
+    let there : HasMerged (followed_by st.run steps) last more between after =
+    subst (λ run. HasMerged run last more between after) is.run_is
+    (subst (λ k. HasMerged later.run (written (extents.after_plan s n p) k q) more between after) is.made_is
+    (subst (λ x. HasMerged later.run (written x (made_by later) q) more between after) extents_are b)) in
+    subst (λ ws. HasMerged st.run ws (steps ++ more) before after) (sym (written-++ s n p q))
+    (merged_joined st.run first last steps more before between after a
+    (outcomes_made st.run s n p steps before between a ∙ all ∙ sym (length-written s n p)) there)
+
+pub join_stands : ShelvesGoOn → (st later : Standing) (p q : List Made) (steps more : List Step) (old mid new : Store) → IsLater st p steps later
     → creates steps ≡ length p → StandsBehind st None p steps old mid → StandsBehind later None q more mid new
     → StandsBehind st None (p ++ q) (steps ++ more) old new
-join_stands st later p q steps more old mid new is all a b =
+join_stands go st later p q steps more old mid new is all a b =
     let n = made_by st in
     let count : creates (steps ++ more) ≡ length p + creates more = (let e = creates_joined steps more in omega (arith, e, all)) in
     record {
@@ -197,6 +213,7 @@ join_stands st later p q steps more old mid new is all a b =
           ∙ ap (λ k. after_plan (after_plan st.shelf n p) k (take (creates more) q)) is.made_is
           ∙ sym (shelf_joined st.shelf n p (take (creates more) q))
           ∙ sym (ap (after_plan st.shelf n) (take_behind p q (creates more) (creates (steps ++ more)) count));
+      merged = join_merged go st later p q steps more old.left_out mid.left_out new.left_out is all a.merged b.merged;
     }
 
 -- some first steps of a plan are those of a longer one
@@ -207,6 +224,8 @@ widen_stands st p q steps old new few a = record {
   trace_is = a.trace_is;
   groups_are = a.groups_are;
   shelf_is = a.shelf_is ∙ ap (after_plan st.shelf (made_by st)) (sym (take-append-le (creates steps) p q few));
+  merged = subst (λ ws. HasMerged st.run ws steps old.left_out new.left_out) (sym (written-++ st.shelf.extents (made_by st) p q))
+      (merged_wider st.run (written st.shelf.extents (made_by st) p) _ steps old.left_out new.left_out a.merged);
 }
 
 none_in_front : (xs ys : List Step) → xs ++ ys ≡ [] → xs ≡ []

@@ -23,7 +23,6 @@ use Rattle.patch_history.specs.Refusing.{why_not_put}
 use Rattle.patch_history.specs.History.{History, Call, IsRight, IsWhole, IsCut, after_event, execution_of, standing_of}
 use Rattle.patch_store.specs.Meaning.{Store, Represents, HasAnswered}
 use Rattle.patch_store.specs.Framing.{framing, IsAsked, StandsBehind, IsFramed, IsFramedInPart}
-use Rattle.patch_store.specs.Merging.{HasMerged}
 use Rattle.patch_store.specs.Putting.{IsTarget}
 use Rattle.patch_store.proofs.Framed.{none_so}
 use Rattle.patch_store.proofs.Gaining.{gained, refused, right_caused}
@@ -92,7 +91,8 @@ module _ (h : History) (writer : ℕ) (key value : List ℕ) (slot extent : ℕ)
       record {
         steps = steps;
         gained = gained is.extends h (Call writer (Put key value) reply steps) old new is.was right
-            (subst (λ run. IsCacheOf new.cache (followed_by run steps)) (is.runs h) behind.cache_is) (behind.groups_are ∙ joined) behind.shelf_is behind.trace_is;
+            (subst (λ run. IsCacheOf new.cache (followed_by run steps)) (is.runs h) behind.cache_is) (behind.groups_are ∙ joined) behind.shelf_is behind.trace_is
+            behind.merged;
       }
 
   -- one that is done
@@ -100,10 +100,6 @@ module _ (h : History) (writer : ℕ) (key value : List ℕ) (slot extent : ℕ)
   put_so new all =
       answered_put Done all.steps new
       (inl (sym (ap (λ cause. unless cause Done) is.no_cause), subst (λ p. IsWhole st p all.steps) (sym same_plan) all.whole)) refl all.stands
-
-  -- its merge is the one of its frame
-  pub put_merged : (new : Store) → IsFramed (framing st (Some writer) slot extent content) old new → HasMerged st (plan_of st writer (Put key value)) old new
-  put_merged new all = subst (λ p. HasMerged st p old new) (sym same_plan) all.merged
 
   -- one that is given up
   pub given_up_so : (new : Store) → IsFramedInPart (framing st (Some writer) slot extent content) old new

@@ -20,7 +20,7 @@ use Rattle.patch_recovery.specs.Reading.{ledger_in}
 use Rattle.patch_extent.specs.Answers.{cached_bytes}
 use Rattle.patch_plans.specs.Meaning.{Represents as AreExtentsOf}
 use Rattle.patch_plans.specs.Planning.{reset_plan}
-use Rattle.patch_plans.specs.Writing.{named_plan}
+use Rattle.patch_plans.specs.Writing.{named_plan, written}
 use Rattle.patch_history.specs.Choosing.{extent_for_move, live_frames}
 use Rattle.patch_history.specs.Command.{Reclaim, Done, Refused, unless, is_refused}
 use Rattle.patch_history.specs.Fitting.{NextMoves, shelf_behind, next_behind}
@@ -40,6 +40,7 @@ use Rattle.patch_store.specs.Moving.{IsStanding, IsCached, frame_cached, IsMovab
 use Rattle.patch_store.proofs.Counted.{creates_all}
 use Rattle.patch_store.proofs.Gaining.{fold_push, run_push, gained, refused, right_caused}
 use Rattle.patch_store.proofs.Moves.{named_none, patches_none, IsMove, move_cases, move_made, moves_joined, moves_keep, IsLater, join_stands, widen_stands, whole_few, cut_few, cut_longer}
+use Rattle.patch_store.proofs.Outcomes.{merged_none}
 use Rattle.patch_store.proofs.Values.{read_stands, bytes_alike}
 
 -- a store that represents a history stands as that does
@@ -116,6 +117,7 @@ given_up_so extends runs h writer extent old new was none part =
     gained extends h (Call writer (Reclaim extent) (Refused (bare kind.OutOfMemory)) part.steps) old new was
     (inr (record { takes = refl; no_cause = ap (λ cause. is_refused (unless cause Done)) none; reply_is = refl; cut = part.cut }))
     (subst (λ run. IsCacheOf new.cache (followed_by run part.steps)) (runs h) part.stands.cache_is) part.stands.groups_are part.stands.shelf_is part.stands.trace_is
+    part.stands.merged
 
 -- the frames before a place, the one there, and those behind it
 record IsSplit (xs : List (ℕ × SlotFields)) (k d : ℕ) : Type 0 where
@@ -251,7 +253,7 @@ module _ (given : Given) (h : History) (extent : ℕ) (slots : List ℕ) (old : 
     joined : (steps : List Step) (new : Store) → StandsBehind now None (framed (framing now None f.0 move.extent c)) steps mid new
         → StandsBehind st None (m.moved ++ one) (m.steps ++ steps) old new
     joined steps new a =
-        join_stands st now m.moved one m.steps steps old mid new (later before mid m more) (creates_all st m.moved m.steps m.whole) m.stands
+        join_stands given.shelves st now m.moved one m.steps steps old mid new (later before mid m more) (creates_all st m.moved m.steps m.whole) m.stands
         (subst (λ p. StandsBehind now None p steps mid new) same_plan a)
 
     -- it has moved too
@@ -350,6 +352,7 @@ module _ (given : Given) (h : History) (extent : ℕ) (slots : List ℕ) (old : 
       trace_is = sym (append-nil old.cache.trace);
       groups_are = is.represents.groups_are;
       shelf_is = is.represents.shelf_is;
+      merged = merged_none st.run (written st.shelf.extents (made_by st) []) old.left_out old.left_out refl;
     };
   }
 
@@ -381,7 +384,7 @@ module _ (given : Given) (h : History) (extent : ℕ) (slots : List ℕ) (old : 
         let e = empties moved_now (stands_so given (so_far (live_frames st.shelf extent) mid m at_last) mid (stands (live_frames st.shelf extent) mid m at_last)) in
         let whole = given.joins st moved_now m.moved last_reset m.steps e.steps (behind_so given.shelves st moved_now m.moved m.steps later_is) m.whole
         (subst (λ p. IsWhole moved_now p e.steps) same_reset e.whole) in
-        let all = join_stands st moved_now m.moved last_reset m.steps e.steps old mid new later_is (creates_all st m.moved m.steps m.whole) m.stands
+        let all = join_stands given.shelves st moved_now m.moved last_reset m.steps e.steps old mid new later_is (creates_all st m.moved m.steps m.whole) m.stands
         (subst (λ p. StandsBehind moved_now None p e.steps mid new) same_reset e.stands) in
         let stands_all = subst (λ p. StandsBehind st None p (m.steps ++ e.steps) old new) (sym at_last.plan) all in
         record {
@@ -389,7 +392,7 @@ module _ (given : Given) (h : History) (extent : ℕ) (slots : List ℕ) (old : 
           gained = gained given.extends h (Call writer (Reclaim extent) Done (m.steps ++ e.steps)) old new is.represents
               (inl (sym (ap (λ cause. unless cause Done) is.no_cause), subst (λ p. IsWhole st p (m.steps ++ e.steps)) (sym at_last.plan) whole))
               (subst (λ run. IsCacheOf new.cache (followed_by run (m.steps ++ e.steps))) (given.runs h) stands_all.cache_is)
-              stands_all.groups_are stands_all.shelf_is stands_all.trace_is;
+              stands_all.groups_are stands_all.shelf_is stands_all.trace_is stands_all.merged;
         }
 
     -- or without it

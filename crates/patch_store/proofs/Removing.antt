@@ -34,6 +34,7 @@ use Rattle.patch_history.specs.History.{History, Call, execution_of, standing_of
 use Rattle.patch_store.specs.Meaning.{Store, Represents, HasAnswered}
 use Rattle.patch_store.specs.Deleting.{IsCleared}
 use Rattle.patch_store.proofs.Gaining.{gained, refused, right_refused, right_caused}
+use Rattle.patch_store.proofs.Outcomes.{merged_one}
 use Rattle.patch_store.proofs.Finding.{found_so, absent_so}
 
 -- Why a delete is refused.
@@ -164,7 +165,9 @@ deleted_so extends kept reads agree h writer key slot made live old new k count 
           (cleared.patched.groups_are ∙ ap (λ gs. with_patch gs (Some writer) cleared.made) was.groups_are ∙ ap (with_patch st.groups (Some writer)) number)
           (cleared.shelf_is ∙ ap (λ s. after_change s cleared.made (Clear slot)) was.shelf_is ∙ ap (λ n. after_change st.shelf n (Clear slot)) number
           ∙ sym (ap (λ p. after_plan st.shelf m (take 1 (plan p))) at))
-          cleared.patched.trace_is;
+          cleared.patched.trace_is
+          (merged_one st.run (written st.shelf.extents m (plan (position (has_key key) st.shelf.slots))) _ (step ∷ []) old.left_out new.left_out
+          (ap (λ p. written st.shelf.extents m (plan p)) at) refl whole cleared.left_out_is);
     }
 
 -- a slot that has the key is used
@@ -197,12 +200,13 @@ patched_at block start bytes slot writer after groups cache groups_now cache_now
 -- what is kept of an extent, with another value of the same numbers in its place
 pub cleared_view : (writer slot made : ℕ) (names : List ℕ) (old now new : Store) → old ≡ now → names ≡ option_to_list old.shelf.last_delete
     → IsPatched (slot_block slot) (slot_start slot) (zeros 64) (Some writer) names old.groups old.cache new.groups new.cache made
-    → new.shelf ≡ after_change old.shelf made (Clear slot) → IsCleared writer slot now new
-cleared_view writer slot made names old now new is named patched shelf =
+    → new.shelf ≡ after_change old.shelf made (Clear slot) → new.left_out ≡ old.left_out → IsCleared writer slot now new
+cleared_view writer slot made names old now new is named patched shelf left_out =
     subst (λ s. IsCleared writer slot s new) is (record {
       made = made;
       patched = subst (λ x. IsPatched (slot_block slot) (slot_start slot) (zeros 64) (Some writer) x old.groups old.cache new.groups new.cache made) named patched;
       shelf_is = shelf;
+      left_out_is = left_out;
     })
 
 -- What is kept of one extent, in another vector.

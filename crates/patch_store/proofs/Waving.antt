@@ -23,6 +23,7 @@ use Rattle.patch_history.specs.History.{History, Event, Moved, steps_in, after_e
 use Rattle.patch_history.specs.History as histories
 use Rattle.patch_history.specs.Standing.{Standing, at_opening}
 use Rattle.patch_store.specs.Meaning.{Store, Represents}
+use Rattle.patch_store.specs.Merging.{AreCounted}
 use Rattle.patch_store.specs.Flushing.{StandsStill, with_writes, HasWritten, HoldCached, IfRefused}
 
 -- The history with the writes.
@@ -56,6 +57,17 @@ right_behind : (st : Standing) (events : List Event) (steps : List Step) → Are
 right_behind st [] steps right all = moved_right st steps all
 right_behind st (event ∷ events) steps right all = (right.0, right_behind (after_event st event) events steps right.1 all)
 
+-- writes are not counted
+moved_counted : (st : Standing) (steps : List Step) (before after : ℕ) → after ≡ before → AreCounted st (map Moved steps) before after
+moved_counted st [] before after same = same
+moved_counted st (step ∷ steps) before after same = (before, refl, moved_counted (after_event st (Moved step)) steps before after same)
+
+counted_behind : (st : Standing) (events : List Event) (steps : List Step) (before after : ℕ) → AreCounted st events before after
+    → AreCounted st (events ++ map Moved steps) before after
+counted_behind st [] steps before after are = moved_counted st steps before after are
+counted_behind st (event ∷ events) steps before after are =
+    (are.0, are.1, counted_behind (after_event st event) events steps are.0 after are.2)
+
 -- groups and shelf stay
 record IsBeside (now st : Standing) : Type 0 where
   groups : now.groups ≡ st.groups
@@ -86,6 +98,7 @@ written_so h steps old cache flights was gone =
         cache_is = stands;
         groups_are = was.groups_are ∙ sym same.groups;
         shelf_is = was.shelf_is ∙ sym same.shelf;
+        left_out_is = counted_behind (at_opening h.opening h.first) h.events steps 0 old.left_out was.left_out_is;
       };
       sends = subst (λ run. count_by is_send steps + classes_in_memory (entries_of run) ≤ classes_in_memory (entries_of (execution_of h))) (sym is) gone.sends;
     }

@@ -11,17 +11,19 @@ use Rattle.patch_frame.specs.declared.geometries.Format.TheVariants.{One, Two}
 use Rattle.patch_recovery.specs.Change.{Widen, widened, step_of}
 use Rattle.patch_plans.specs.Extents.{Extents}
 use Rattle.patch_plans.specs.Room.{why_no_room}
+use Rattle.patch_plans.specs.Writing.{written, steps_by}
 use Rattle.patch_history.specs.Command.{Upgrade, Done, Refused, unless}
 use Rattle.patch_history.specs.Kept.{ShelvesAreKept}
 use Rattle.patch_history.specs.Laws.{HistoriesExtend, StandingsAgree}
 use Rattle.patch_history.specs.Refusing.{why_not_upgraded}
 use Rattle.patch_history.specs.Shelf.{Shelf, after_change}
-use Rattle.patch_history.specs.Standing.{Standing, made_by, live_of}
+use Rattle.patch_history.specs.Standing.{Standing, made_by, live_of, plan_of}
 use Rattle.patch_history.specs.History.{History, Call, execution_of, standing_of}
 use Rattle.patch_store.specs.Meaning.{Store, Represents, HasAnswered}
 use Rattle.patch_extent.specs.Upgrading.{IsUpgraded}
 use Rattle.patch_store.specs.Upgrading.{IsWidened}
 use Rattle.patch_store.proofs.Gaining.{gained, refused, right_refused, right_caused}
+use Rattle.patch_store.proofs.Outcomes.{merged_one}
 use Rattle.patch_store.proofs.Removing.{room_none, room_spent, room_full}
 
 -- Which version the disk is of.
@@ -92,14 +94,18 @@ upgraded_so extends kept agree h writer made live old new narrow count few still
     let none = no_cause kept agree h made live old narrow count few still less was in
     let step = step_of old.shelf.extents.geometry (record { change = Widen; after = [] }) in
     let number : wide.made ≡ made_by st = wide.stepped.number run was.cache_is ∙ sym (agree h was.legal).made in
+    let whole : step ∷ [] ≡ steps_by [] (written st.shelf.extents (made_by st) (plan_of st writer Upgrade)) =
+    ap (λ (s : Shelf). step_of s.extents.geometry (record { change = Widen; after = [] }) ∷ []) was.shelf_is in
     record {
       steps = step ∷ [];
       gained = gained extends h (Call writer Upgrade Done (step ∷ [])) old new was
-          (inl (sym (ap (λ c. unless c Done) none), ([], ap (λ (s : Shelf). step_of s.extents.geometry (record { change = Widen; after = [] }) ∷ []) was.shelf_is)))
+          (inl (sym (ap (λ c. unless c Done) none), ([], whole)))
           (wide.stepped.stands run was.cache_is)
           (wide.groups_are ∙ was.groups_are)
           (wide.shelf_is ∙ ap (λ s. after_change s wide.made Widen) was.shelf_is ∙ ap (λ n. after_change st.shelf n Widen) number)
-          wide.stepped.trace_is;
+          wide.stepped.trace_is
+          (merged_one st.run (written st.shelf.extents (made_by st) (plan_of st writer Upgrade)) _ (step ∷ []) old.left_out new.left_out
+          refl refl whole wide.left_out_is);
     }
 
 -- what the shelf keeps then
@@ -109,9 +115,15 @@ shelf_widened s now made is = ap (λ e. record s { extents = e; upgrade = Some m
 
 -- the patch that the extents made is that of the upgrade
 pub widened_view : (old now new : Store) (made : ℕ) → old ≡ now → IsUpgraded old.shelf.extents old.cache new.shelf.extents new.cache made
-    → new.groups ≡ old.groups → new.shelf ≡ after_change old.shelf made Widen → IsWidened now new
-widened_view old now new made is upgraded groups shelf =
-    subst (λ s. IsWidened s new) is (record { made = made; stepped = upgraded.stepped; groups_are = groups; shelf_is = shelf })
+    → new.groups ≡ old.groups → new.shelf ≡ after_change old.shelf made Widen → new.left_out ≡ old.left_out → IsWidened now new
+widened_view old now new made is upgraded groups shelf left_out =
+    subst (λ s. IsWidened s new) is (record {
+      made = made;
+      stepped = upgraded.stepped;
+      groups_are = groups;
+      shelf_is = shelf;
+      left_out_is = left_out;
+    })
 
 -- a format that isn't of version 2
 pub narrow_of : (f : Format) → ((length : ℕ) → f ≡ Two length → ⊥) → f ≡ One

@@ -24,7 +24,7 @@ ended_so extends h landed old cache (Ok done) was ended trace = record {
   known = ended.0;
   block_is = ended.1;
   numbers_are = ended.2;
-  gained = gained extends h (Moved (Complete landed.block)) old (record old { cache = cache }) was refl ended.3 was.groups_are was.shelf_is trace;
+  gained = gained extends h (Moved (Complete landed.block)) old (record old { cache = cache }) was refl ended.3 was.groups_are was.shelf_is trace refl;
 }
 ended_so extends h landed old cache (Err back) was ended trace = tt
 
@@ -36,7 +36,7 @@ begun_at extends h flight old cache was can least sent stands trace = record {
   can = can;
   least = least;
   sent = sent;
-  gained = gained extends h (Moved (Send flight.block)) old (record old { cache = cache }) was refl stands was.groups_are was.shelf_is trace;
+  gained = gained extends h (Moved (Send flight.block)) old (record old { cache = cache }) was refl stands was.groups_are was.shelf_is trace refl;
 }
 
 pub begun_so : {A : Type 0} → HistoriesExtend → (h : History) (flight : Flight A) (block : ℕ) (old : Store) (cache : Contents) → Represents old h

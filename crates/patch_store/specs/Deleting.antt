@@ -15,6 +15,7 @@ pub record IsCleared (writer slot : ℕ) (old new : Store) : Type 0 where
   pub patched : IsPatched (slot_block slot) (slot_start slot) (zeros 64) (Some writer) (option_to_list old.shelf.last_delete)
       old.groups old.cache new.groups new.cache made
   pub shelf_is : new.shelf ≡ after_change old.shelf made (Clear slot)
+  pub left_out_is : new.left_out ≡ old.left_out
 
 -- or there was no memory, and nothing has changed
 abbrev pub ClearsSlot : (writer slot : ℕ) → Result (Unit {0}) OutOfMemory → (old new : Store) → Type 0

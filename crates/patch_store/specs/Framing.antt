@@ -1,5 +1,5 @@
 -- A frame that is put into an extent and named by a slot.
-use Rattle.std.specs.Prelude.{ℕ, ◌≡◌, ◌+◌, ◌++◌, if◌then◌else◌, List, [], ◌∷◌, length, take, is_none, option_to_list}
+use Rattle.std.specs.Prelude.{ℕ, ◌≡◌, ◌++◌, if◌then◌else◌, List, [], ◌∷◌, length, take, is_none, option_to_list}
 use Rattle.std.specs.Prelude.{Option, Some, Result, MatchResult}
 use Rattle.patch_model.specs.declared.refusals.OutOfMemory.{OutOfMemory}
 use Rattle.patch_model.specs.Step.{Step}
@@ -15,7 +15,7 @@ use Rattle.patch_extent.specs.Answers.{Setting, setting, IsSettingOf, Append, pl
 use Rattle.patch_extent.specs.declared.places.Appended.{Appended}
 use Rattle.patch_extent.specs.Appending.{IsPatched}
 use Rattle.patch_plans.specs.Extents.{generation_at, offset_at}
-use Rattle.patch_plans.specs.Writing.{with_patches}
+use Rattle.patch_plans.specs.Writing.{with_patches, written}
 use Rattle.patch_history.specs.History.{IsWhole, IsCut}
 use Rattle.patch_history.specs.Shelf.{Shelf, slot_at, after_change, after_plan}
 use Rattle.patch_history.specs.Standing.{Standing, made_by, creates}
@@ -78,6 +78,7 @@ pub record IsFrameBegun (a : Append) (old new : Store) : Type 0 where
   pub begun : (run : Execution) → IsSettingOf (setting_of old) run
       → IsBegun run a.writer (plan_of run old.shelf.extents a) (setting_of old) (setting_of new)
   pub shelf_is : new.shelf ≡ old.shelf
+  pub left_out_is : new.left_out ≡ old.left_out
 
 abbrev pub AppendsFrame : Append → Result ℕ OutOfMemory → (old new : Store) → Type 0
 AppendsFrame a result old new = MatchResult result (IsFrameAppended a old new) (λ _. IsFrameBegun a old new)
@@ -97,20 +98,20 @@ pub record IsAsked (st : Standing) (c : Content) (key frame : List ℕ) (s : Sto
   pub key_is : key ≡ c.key
   pub frame_is : frame ≡ spelling c
 
--- the store stands behind some steps, which make the first patches of a plan
+-- the store stands behind some steps, which make the first patches of a plan, and has counted the merges that they left out
 pub record StandsBehind (st : Standing) (writer : Option ℕ) (plan : List Made) (steps : List Step) (old new : Store)
     : Type 0 where
   pub cache_is : IsCacheOf new.cache (followed_by st.run steps)
   pub trace_is : new.cache.trace ≡ old.cache.trace ++ steps
   pub groups_are : new.groups ≡ with_patches st.groups writer (made_by st) (creates steps)
   pub shelf_is : new.shelf ≡ after_plan st.shelf (made_by st) (take (creates steps) plan)
+  pub merged : HasMerged st.run (written st.shelf.extents (made_by st) plan) steps old.left_out new.left_out
 
 -- behind all steps of the frame
 pub record IsFramed (f : FramePut) (old new : Store) : Type 0 where
   pub steps : List Step
   pub whole : IsWhole f.standing (framed f) steps
   pub stands : StandsBehind f.standing f.writer (framed f) steps old new
-  pub merged : HasMerged f.standing (framed f) old new
 
 -- or behind some first ones, where memory ran out
 pub record IsFramedInPart (f : FramePut) (old new : Store) : Type 0 where

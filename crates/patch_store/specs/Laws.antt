@@ -1,5 +1,5 @@
 -- Laws of stores.
-use Rattle.std.specs.Prelude.{ℕ, Bool, List}
+use Rattle.std.specs.Prelude.{ℕ, Bool, ◌≡◌, List}
 use Rattle.patch_model.specs.Entry.{Entry}
 use Rattle.patch_model.specs.State.{entries_of}
 use Rattle.patch_model.specs.Crash.{IsClosed, MayLeave, crash_set, disk_of}
@@ -26,3 +26,7 @@ abbrev pub CrashDisksOpen : Type 0
 CrashDisksOpen =
     (s : Store) (h : History) (disk : List (List ℕ)) (crash : MayLeave (execution_of h) disk) → Represents s h
     → OpensBy h (crash_set crash.landed) disk
+
+-- stores that represent one history have counted as many merges that had no memory
+abbrev pub CountsAgree : Type 0
+CountsAgree = (one other : Store) (h : History) → Represents one h → Represents other h → one.left_out ≡ other.left_out

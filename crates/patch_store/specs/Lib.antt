@@ -1,7 +1,7 @@
+pub mod Merging
 pub mod Meaning
 pub mod Checking
 pub mod Deleting
-pub mod Merging
 pub mod Framing
 pub mod Given
 pub mod Getting

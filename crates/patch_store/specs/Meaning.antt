@@ -9,6 +9,7 @@ use Rattle.patch_history.specs.Command.{Command, Reply}
 use Rattle.patch_history.specs.Shelf.{Shelf}
 use Rattle.patch_history.specs.History.{History, Event, Call, IsLegalHistory, IsRight, execution_of, standing_of, steps_in}
 use Rattle.patch_history.specs.History.{with_event}
+use Rattle.patch_store.specs.Merging.{Counts, LeavesOut}
 
 -- a store: its cache, its groups and its shelf, and how many merges of pointer patches were left out for want of memory
 pub record Store : Type 0 where
@@ -25,19 +26,23 @@ pub record IsWhole (s : Shelf) : Type 0 where
   pub left : length s.left ≡ s.extents.geometry.extents
   pub current : IfSome s.current (λ extent. extent < s.extents.geometry.extents)
 
--- The history is legal, and the store's cache represents its execution. Groups and shelf are those that it leads to. What
+-- The history is legal, and the store's cache represents its execution. Groups and shelf are those that it leads to. Each merge
+-- of a pointer patch was made in it just where it is legal, but for those that the store has counted, which had no memory. What
 -- stands in the trace has no part in this: it may be drained.
 pub record Represents (s : Store) (h : History) : Type 0 where
   pub legal : IsLegalHistory h
   pub cache_is : IsCacheOf s.cache (execution_of h)
   pub groups_are : s.groups ≡ (standing_of h).groups
   pub shelf_is : s.shelf ≡ (standing_of h).shelf
+  pub left_out_is : LeavesOut h s.left_out
 
--- The event is right behind the history, the store represents the history with it, and the trace has its steps.
+-- The event is right behind the history, the store represents the history with it, and the trace has its steps. The merges that it
+-- left out were counted.
 pub record HasGained (h : History) (event : Event) (old new : Store) : Type 0 where
   pub right : IsRight (standing_of h) event
   pub represents : Represents new (with_event h event)
   pub trace_is : new.cache.trace ≡ old.cache.trace ++ steps_in event
+  pub counts : Counts (standing_of h) event old.left_out new.left_out
 
 -- A call was answered so: with some steps it is right behind the history.
 pub record HasAnswered (h : History) (writer : ℕ) (command : Command) (reply : Reply) (old new : Store) : Type 0 where

@@ -12,6 +12,7 @@ pub record IsWidened (old new : Store) : Type 0 where
   pub stepped : IsStepped (step_of old.shelf.extents.geometry (record { change = Widen; after = [] })) old.cache new.cache made
   pub groups_are : new.groups ≡ old.groups
   pub shelf_is : new.shelf ≡ after_change old.shelf made Widen
+  pub left_out_is : new.left_out ≡ old.left_out
 
 -- or there was no memory, and nothing has changed
 abbrev pub Widens : Result (Unit {0}) OutOfMemory → (old new : Store) → Type 0

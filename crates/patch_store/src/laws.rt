@@ -1,6 +1,6 @@
 //! What is true of every store, each law the contract of a function that does nothing.
 ghost use Rattle.patch_store.specs.Given.{Given};
-ghost use Rattle.patch_store.specs.Laws.{CachedDisksOpen, ClosedDisksOpen, CrashDisksOpen};
+ghost use Rattle.patch_store.specs.Laws.{CachedDisksOpen, ClosedDisksOpen, CrashDisksOpen, CountsAgree};
 
 /// Whatever closed set of a store's patches reached the disk, it opens: each key has the value of its last put or delete whose
 /// patch is in the set, or a later move of which is. What a crash leaves is such a disk. And the cached blocks open as the map
@@ -13,6 +13,11 @@ pub fn closed_disks_open()
     patch_history::laws::histories_are_of_stores();
     patch_history::laws::closed_disks_open();
 }
+
+/// A history tells how many of its merges were left out for want of memory: the stores that represent it have counted alike.
+pub fn counts_agree()
+    ensures { CountsAgree }
+{}
 
 // What the laws of histories say that a reclaim rests on.
 pub(crate) fn laws_below()

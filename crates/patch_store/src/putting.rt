@@ -11,9 +11,7 @@ ghost use Rattle.patch_history.specs.Command.{Put, Done};
 ghost use Rattle.patch_history.specs.History.{History, standing_of};
 ghost use Rattle.patch_history.specs.Refusals.{put_cause};
 ghost use Rattle.patch_history.specs.Refusing.{why_not_put};
-ghost use Rattle.patch_history.specs.Standing.{plan_of};
 ghost use Rattle.patch_store.specs.Meaning.{Answers, Represents};
-ghost use Rattle.patch_store.specs.Merging.{HasMerged};
 ghost use Rattle.patch_store.specs.Putting.{IsTarget};
 ghost use Rattle.patch_store.specs.Replies.{reply_to};
 
@@ -43,11 +41,9 @@ impl<A: Allocator + Copy> Store<A> {
     /// wins them back.
     ///
     /// The frame's pointer patch becomes one with the last of its extent just where they may be merged, or the merge is counted
-    /// among those that had no memory.
+    /// among those that had no memory, whether the put is done or not.
     pub fn put(&mut self, writer: WriterNo, key: &[u8], value: &[u8]) -> Result<(), PutRefusal>
         ensures answer { Answers writer (Put key.now value.now) (reply_to put_cause (λ _. Done) result) self.old self.new }
-        ensures merged { (h : History) → Represents self.old h → OnOk result (
-            HasMerged (standing_of h) (plan_of (standing_of h) writer (Put key.now value.now)) self.old self.new) }
         ensures refused { IfErr result (λ refusal. refusal ≢ put.OutOfMemory → self.new ≡ self.old) }
     {
         history_laws::histories_extend();

@@ -19,7 +19,7 @@ returns-then-puts_append_to g c =
     (c.as_slice.ensures.value ∙ left_at (λ v. v.items) c.self.inside.left.items e c.in-Some.left.now within c.in-Some.ensures.value)
     (λ groups run stands. c.in-Ok.ensures.answer groups run stands) refl
     (shelf_reset s e c.reset.new.self _ _ (no_longer e c.self.inside.current (sym c.puts_append_to.ensures ∙ c.if-puts_append_to.true))
-    (none_left (λ v. v.items) c.self.inside.left.items e c.clear.new.self c.clear.ensures.items))
+    (none_left (λ v. v.items) c.self.inside.left.items e c.clear.new.self c.clear.ensures.items)) refl
 
 pub returns-else-puts_append_to : goal.returns-else-puts_append_to
 returns-else-puts_append_to g c =
@@ -37,4 +37,4 @@ returns-else-puts_append_to g c =
     (c.as_slice.ensures.value ∙ left_at (λ v. v.items) c.self.inside.left.items e c.in-Some.left.now within c.in-Some.ensures.value)
     (λ groups run stands. c.in-Ok.ensures.answer groups run stands) refl
     (shelf_reset s e c.reset.new.self _ _ (still e c.self.inside.current (sym c.puts_append_to.ensures ∙ c.if-puts_append_to.false))
-    (none_left (λ v. v.items) c.self.inside.left.items e c.clear.new.self c.clear.ensures.items))
+    (none_left (λ v. v.items) c.self.inside.left.items e c.clear.new.self c.clear.ensures.items)) refl

@@ -24,5 +24,6 @@ returns-in-Ok-clause-opened g c blocks cache =
         groups_are = c.into_store.ensures.groups;
         shelf_is = c.into_store.ensures.shelf
             ∙ shelf_opens d.extents blocks d.geometry d.index _ _ whole.divided disk.extents_are disk.slots_are refl whole.left;
+        left_out_is = c.into_store.ensures.counted;
       };
     }

@@ -3,7 +3,7 @@ use Rattle.std.specs.Prelude.{Some}
 use Rattle.std.proofs.lemmas.Result.{err_from_is_err_and}
 use Rattle.patch_history.specs.Refusals.{put_cause}
 use Rattle.patch_history.specs.History.{standing_of}
-use Rattle.patch_store.proofs.Puts.{IsPutOf, refused_put, asks_so, put_so, put_merged, given_up_so, none_put}
+use Rattle.patch_store.proofs.Puts.{IsPutOf, refused_put, asks_so, put_so, given_up_so, none_put}
 use Rattle.patch_store.proofs.stores.Store.put.Goals as goal
 
 pub returns-in_err-target-clause-answer : goal.returns-in_err-target-clause-answer
@@ -52,20 +52,5 @@ returns-clause-answer g c h was =
       was = was;
     } in
     put_so h c.args.writer c.args.key.now c.args.value.now _ _ c.args.self.now is c.put_frame.new.self
-    (c.in-Ok-put_frame.ensures (standing_of h) (record { key = c.args.key.now; value = c.args.value.now })
-    (asks_so h c.args.writer c.args.key.now c.args.value.now _ _ c.args.self.now is c.as_slice.result.now (c.as_slice.ensures.value ∙ c.in-Ok.ensures)))
-
-pub returns-clause-merged : goal.returns-clause-merged
-returns-clause-merged g c h was =
-    let is : IsPutOf h c.args.key.now c.args.value.now c.in_ok-target.target.slot c.in_ok-target.target.extent c.args.self.now = record {
-      extends = c.histories_extend.ensures;
-      runs = c.standings_run.ensures;
-      agree = c.histories_are_of_stores.ensures.agree;
-      kept = c.extents_are_kept.ensures;
-      no_cause = c.in_ok-target.ensures.none h was;
-      target = c.in_ok-target.ensures.target;
-      was = was;
-    } in
-    put_merged h c.args.writer c.args.key.now c.args.value.now _ _ c.args.self.now is c.put_frame.new.self
     (c.in-Ok-put_frame.ensures (standing_of h) (record { key = c.args.key.now; value = c.args.value.now })
     (asks_so h c.args.writer c.args.key.now c.args.value.now _ _ c.args.self.now is c.as_slice.result.now (c.as_slice.ensures.value ∙ c.in-Ok.ensures)))

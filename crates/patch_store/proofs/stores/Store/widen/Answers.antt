@@ -13,4 +13,4 @@ returns g c =
       upgrade = c.self.inside.upgrade;
       left = map (λ v. v.items) c.self.inside.left.items;
     } in
-    widened_view _ _ _ c.in-Ok.no c.self.view_is c.in-Ok.ensures refl (shelf_widened s c.upgrade.new.self c.in-Ok.no c.in-Ok.ensures.extents_are)
+    widened_view _ _ _ c.in-Ok.no c.self.view_is c.in-Ok.ensures refl (shelf_widened s c.upgrade.new.self c.in-Ok.no c.in-Ok.ensures.extents_are) refl
