@@ -21,7 +21,8 @@ FLAGS = (
     "--hide-scrollbars",
 )
 SECONDS = 60
-KEYS = {"Tab": 9, "Enter": 13, "End": 35, "Home": 36, "ArrowLeft": 37, "ArrowRight": 39}
+KEYS = {"Tab": 9, "Enter": 13, " ": 32, "End": 35, "Home": 36, "ArrowLeft": 37, "ArrowRight": 39, "c": 67}
+TEXTS = {"Enter": "\r", " ": " "}
 
 # The browser reads messages from file 3, and writes them to file 4.
 LAUNCH = """
@@ -143,7 +144,7 @@ class Browser:
 
     def press(self, key):
         """A key as from a keyboard."""
-        text = "\r" if key == "Enter" else ""
+        text = TEXTS.get(key, "")
         both = {"key": key, "windowsVirtualKeyCode": KEYS[key], "text": text}
         self.ask("Input.dispatchKeyEvent", type="keyDown" if text else "rawKeyDown", **both)
         self.ask("Input.dispatchKeyEvent", type="keyUp", **both)

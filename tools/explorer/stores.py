@@ -9,6 +9,7 @@ is merged with the one before it where it may be.
 
 import collections
 from dataclasses import dataclass
+from typing import Optional
 
 from explorer import store_words, words
 from explorer.stories import Line, Made, WatchedModel, told_of_groups
@@ -32,7 +33,7 @@ class Change:
     role: tuple
     extent: int = 0
     was_empty: bool = False
-    left: int = None
+    left: Optional[int] = None
 
 
 class WatchedDisk(Disk):

@@ -17,6 +17,9 @@ const KEYS = {
   End: () => moments.length - 1,
 };
 
+// What these keys lead to.
+const PLACES = { b: "#drawing .bar", w: "#write-block", c: "[data-flight]" };
+
 // The last moment of the next line, or of the one before.
 function nextLine(index, way) {
   const line = moments[index].line;
@@ -120,17 +123,24 @@ function lastMomentOf(index) {
 
 // Listening.
 
-// The keys are those of a list of choices, of a box to be checked, or of what is being scrolled.
+// The keys are those of a list of choices, or of what is being scrolled.
 function hasOwnKeys(target) {
-  return target.matches("select, input:not([type=range])") || (target.matches(".scroll") && target.scrollWidth > target.clientWidth);
+  return target.matches("select") || (target.matches(".scroll") && target.scrollWidth > target.clientWidth);
+}
+
+function leave() {
+  document.activeElement.blur();
+  choose(state.chosen);
 }
 
 document.addEventListener("keydown", (event) => {
-  if (event.altKey || event.ctrlKey || event.metaKey || hasOwnKeys(event.target)) return;
+  if (event.altKey || event.ctrlKey || event.metaKey) return;
   const bar = event.target.closest(".bar");
-  if (bar && (event.key === "Enter" || event.key === " ")) choose(Number(bar.dataset.patch));
-  else if (event.key === "Escape") choose(state.chosen);
+  if (event.key === "Escape") leave();
+  else if (hasOwnKeys(event.target)) return;
+  else if (bar && (event.key === "Enter" || event.key === " ")) choose(Number(bar.dataset.patch));
   else if (KEYS[event.key]) goTo(KEYS[event.key](state.index));
+  else if (PLACES[event.key]) document.querySelector(PLACES[event.key])?.focus();
   else return;
   event.preventDefault();
 });
