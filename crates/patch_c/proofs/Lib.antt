@@ -1,0 +1,7 @@
+pub mod AsBox
+pub mod Between
+pub mod Codes
+pub mod Reported
+pub mod Staying
+pub mod Synced
+pub mod Telling
