@@ -6,7 +6,9 @@
 
 #include <sys/wait.h>
 
-enum { KEYS = 48, LENGTH = 3000, MOST_WRITES = 1000 };
+/* An index block has 64 keys. Writes go by rising blocks where nothing is said of their order: so those of the first keys are there
+ * before those of the last, unless they are of a later group. */
+enum { LATER = 0, DELETED = 32, EARLIER = 64, KEYS = 96, LENGTH = 1000, MOST_WRITES = 1000 };
 
 static const char *key_of(int number) {
     static char key[16];
@@ -39,7 +41,7 @@ static char letter_of(fstch_store *store, const char *key) {
 
 /* All keys have the letter a, and that lasts. */
 static void write_first(void) {
-    fstch_store store = new_store(1, 16);
+    fstch_store store = new_store(2, 16);
     for (int number = 0; number < KEYS; number++) {
         MUST(put_letter(&store, FSTCH_NO_WRITER, key_of(number), 'a') == FSTCH_DONE);
     }
@@ -47,26 +49,24 @@ static void write_first(void) {
     MUST(fstch_close(&store) == FSTCH_DONE);
 }
 
-/* A group behind another, but for the first, with puts of every third key from this one on. */
-static uint32_t put_in_group(fstch_store *store, int first, uint32_t after) {
-    uint32_t group = 0;
+/* Puts the letter b under the keys from one to another, in a new group. */
+static void put_in_group(fstch_store *store, int first, int end) {
+    uint32_t group = 777;
     MUST(fstch_group(store, &group) == FSTCH_DONE);
-    MUST(group == 0 || fstch_group_depend(store, group, after) == FSTCH_DONE);
+    MUST(group == 0 || fstch_group_depend(store, group, group - 1) == FSTCH_DONE);
     MUST(fstch_group_engage(store, group, 3) == FSTCH_DONE);
-    for (int number = first; number < KEYS; number += 3) {
+    for (int number = first; number < end; number++) {
         MUST(put_letter(store, 3, key_of(number), 'b') == FSTCH_DONE);
     }
     MUST(fstch_group_disengage(store, group, 3) == FSTCH_DONE);
-    return group;
 }
 
-/* One third of the keys gets the letter b in a group, the next one in a group behind that, and the last one is deleted. */
 static void change_and_die(long writes) {
     fstch_store store = FSTCH_CLOSED;
     MUST(open_path(&store, FILE_NAME) == FSTCH_DONE);
-    uint32_t first = put_in_group(&store, 0, 0);
-    put_in_group(&store, 1, first);
-    for (int number = 2; number < KEYS; number += 3) {
+    put_in_group(&store, EARLIER, KEYS);
+    put_in_group(&store, LATER, DELETED);
+    for (int number = DELETED; number < EARLIER; number++) {
         MUST(delete_key(&store, key_of(number)) == FSTCH_DONE);
     }
     writes_till_killed = writes;
@@ -87,16 +87,26 @@ static bool dies(long writes) {
     return WIFSIGNALED(status);
 }
 
-static void look(fstch_store *store, bool all) {
-    bool has_late = false, lacks_early = false;
-    for (int number = 0; number < KEYS; number++) {
+static bool is_deleted(int number) {
+    return DELETED <= number && number < EARLIER;
+}
+
+/* How many of these keys have the letter b. The others have what they had before; after all writes there are no others. */
+static int count_changed(fstch_store *store, int first, int end, bool all) {
+    int changed = 0;
+    for (int number = first; number < end; number++) {
         char letter = letter_of(store, key_of(number));
-        char after = number % 3 == 2 ? 0 : 'b';
-        MUST(letter == after || (!all && letter == 'a'));
-        has_late = has_late || (number % 3 == 1 && letter == 'b');
-        lacks_early = lacks_early || (number % 3 == 0 && letter == 'a');
+        MUST(letter == (is_deleted(number) ? 0 : 'b') || (!all && letter == 'a'));
+        changed += letter == 'b';
     }
-    MUST(!(has_late && lacks_early));
+    return changed;
+}
+
+static void look(fstch_store *store, bool all) {
+    int earlier = count_changed(store, EARLIER, KEYS, all);
+    int later = count_changed(store, LATER, DELETED, all);
+    count_changed(store, DELETED, EARLIER, all);
+    MUST(later == 0 || earlier == KEYS - EARLIER);
 }
 
 /* What the child left is a store like any other. */
