@@ -227,7 +227,7 @@ class Store(MutableMapping[bytes, bytes]):
         # (there is no handle where the path was no path)
         handle = getattr(self, "_handle", None)
         if handle is not None and handle.is_open and self._thread == threading.get_ident():
-            warnings.warn(f"{self!r} is closed by nobody", ResourceWarning, source=self)
+            warnings.warn(f"{self!r} was never closed", ResourceWarning, source=self)
             self.close()
 
     def __repr__(self) -> str:
