@@ -1,4 +1,4 @@
-/* Writes, syncs and allocations fail in turn: what is answered, and what the store has then. */
+/* When the library writes and syncs, and what it answers and has then where writes, syncs and allocations fail in turn. */
 #define _GNU_SOURCE
 #include "system.h"
 #include "wanting.h"
@@ -12,6 +12,32 @@ static void wants_reopened(fstch_store *store, const char *key, const char *valu
     WANT(FSTCH_DONE, put(store, key, "again"));
     WANT(FSTCH_DONE, fstch_sync(store));
     WANT(FSTCH_DONE, fstch_close(store));
+}
+
+static void nothing_is_written_but_by_a_sync(void) {
+    static uint8_t value[32768];
+    fstch_store store = new_store(1, 4);
+    uint32_t group = 777;
+    writes_made = syncs_made = 0;
+    WANT(FSTCH_DONE, fstch_group(&store, &group));
+    WANT(FSTCH_DONE, fstch_group_engage(&store, group, 0));
+    WANT(FSTCH_DONE, put_by(&store, 0, "key", "value"));
+    for (int number = 0; number < 3; number++) {
+        WANT(FSTCH_DONE, fstch_put(&store, FSTCH_NO_WRITER, bytes("long"), 4, value, sizeof value));
+    }
+    WANT(FSTCH_DONE, fstch_reclaim(&store, 0));
+    WANT(FSTCH_DONE, delete_key(&store, "long"));
+    WANT(true, has(&store, "key", "value"));
+    WANT(0, writes_made);
+    WANT(0, syncs_made);
+    WANT(FSTCH_DONE, fstch_sync(&store));
+    WANT(true, writes_made > 0);
+    WANT(1, syncs_made);
+    WANT(FSTCH_DONE, put(&store, "key", "lost"));
+    writes_made = syncs_made = 0;
+    WANT(FSTCH_DONE, fstch_close(&store));
+    WANT(0, writes_made);
+    WANT(0, syncs_made);
 }
 
 static void a_write_is_refused(void) {
@@ -160,6 +186,7 @@ static void allocations_are_refused(const char *name, bool (*fails)(long)) {
 }
 
 int main(void) {
+    nothing_is_written_but_by_a_sync();
     a_write_is_refused();
     the_system_refuses_to_sync();
     a_file_is_not_finished();

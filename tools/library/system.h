@@ -13,6 +13,9 @@ static long writes_till_killed = -1;
 static long writes_till_refused = -1;
 static long syncs_till_refused = -1;
 static long allocations_till_refused = -1;
+/* How many calls there were. */
+static long writes_made;
+static long syncs_made;
 
 ssize_t __real_pwrite(int file, const void *from, size_t length, off_t place);
 int __real_fsync(int file);
@@ -45,6 +48,7 @@ ssize_t __wrap_pwrite(int file, const void *from, size_t length, off_t place) {
     }
     count(&writes_till_killed);
     count(&writes_till_refused);
+    writes_made++;
     return __real_pwrite(file, from, length, place);
 }
 
@@ -54,6 +58,7 @@ int __wrap_fsync(int file) {
         return -1;
     }
     count(&syncs_till_refused);
+    syncs_made++;
     return __real_fsync(file);
 }
 
