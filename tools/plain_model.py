@@ -245,7 +245,11 @@ class Send:
     block: int
 
     def follow(self, first, state):
-        sent = set(numbers_of(ready(state.entries, self.block)))
+        return self.follow_with(first, state, ready(state.entries, self.block))
+
+    def follow_with(self, first, state, taken):
+        """What comes of it, where this is what is ready."""
+        sent = set(numbers_of(taken))
         entries = tuple(replace(e, mark=Mark.FLIGHT) if e.patch.number in sent else e for e in state.entries)
         flights = {**state.flights, self.block: image(first, entries, self.block)}
         return replace(state, entries=entries, flights=flights)
@@ -362,7 +366,8 @@ def check_create(blocks, entries, step):
         raise Refused("TooManyLive")
 
 
-def check_merge(entries, a, b):
+def check_pair(entries, a, b):
+    """All causes against a merge but a cycle."""
     if a >= len(entries) or b >= len(entries):
         raise Refused("Unknown")
     one, other = entries[a], entries[b]
@@ -378,16 +383,25 @@ def check_merge(entries, a, b):
             raise Refused("Hard", entry.patch.number)
     if not touch(entries, one.name, other.name):
         raise Refused("Apart")
-    between = names_between(entries, one.name, other.name)
+
+
+def check_merge(entries, a, b):
+    check_pair(entries, a, b)
+    between = names_between(entries, entries[a].name, entries[b].name)
     if between:
         raise Refused("WouldCycle", min(between))
 
 
-def check_send(blocks, state, block):
+def check_idle(blocks, state, block):
+    """The block is there, and no write of it is under way."""
     if block >= blocks:
         raise Refused("NoSuchBlock")
     if block in state.flights:
         raise Refused("AlreadyInFlight")
+
+
+def check_send(blocks, state, block):
+    check_idle(blocks, state, block)
     if not ready(state.entries, block):
         raise Refused("NothingReady")
 

@@ -1,0 +1,73 @@
+// Goes through all moments of a page by its keys, and tells what it shows at each: for tools/check_pages.
+(() => {
+  const all = (selector) => [...document.querySelectorAll(selector)];
+  const text = (selector) => document.querySelector(selector)?.textContent.trim() ?? null;
+  const press = (key) => document.body.dispatchEvent(new KeyboardEvent("keydown", { key, bubbles: true }));
+  const numbers = (selector) => (document.querySelector(`${selector} .chips`)?.dataset.numbers ?? "").split(",").filter(Boolean).map(Number);
+
+  // The places of single bytes, with what is shown of them.
+  const single = (shown) =>
+    shown.filter(({ dataset }) => dataset.to - dataset.from === 1).map((byte) => [Number(byte.dataset.from), byte.textContent]);
+
+  const rowsShown = () =>
+    all("#drawing .row").map((row) => ({
+      row: row.dataset.row,
+      block: Number(row.dataset.block),
+      bytes: single([...row.querySelectorAll("[data-from]")]),
+    }));
+
+  const tablesShown = (selector) =>
+    all(`${selector} table.bytes`).map((table) => ({ block: Number(table.dataset.block), bytes: single([...table.querySelectorAll("[data-from]")]) }));
+
+  const crashShown = (landed) => ({
+    landed,
+    there: numbers("#there"),
+    lost: numbers("#lost"),
+    closed: text("#closed"),
+    opens: text("#opens"),
+    tables: tablesShown("#crash"),
+  });
+
+  const choose = (blocks) => {
+    for (const box of all("[data-flight]").map((found) => found.dataset.flight)) {
+      const now = document.querySelector(`[data-flight="${box}"]`);
+      if (now.checked !== blocks.includes(box)) now.click();
+    }
+    return crashShown(blocks.map(Number));
+  };
+
+  // A crash that leaves no write on the disk, each alone, and all.
+  const crashesShown = () => {
+    const flights = all("[data-flight]").map((box) => box.dataset.flight);
+    const choices = flights.length > 1 ? [[], ...flights.map((flight) => [flight]), flights] : [[], ...flights.map((flight) => [flight])];
+    return choices.map(choose);
+  };
+
+  const shown = () => ({
+    where: text("#where"),
+    asked: text(".asked code"),
+    answer: text("#answer"),
+    words: text("#line .words"),
+    bars: all("#drawing .bar").map((bar) => [Number(bar.dataset.patch), bar.dataset.mark, bar.dataset.look]),
+    classes: all("#drawing .class").map((frame) => Number(frame.dataset.class)),
+    arrows: all("#drawing .arrow").map((arrow) => [Number(arrow.dataset.from), Number(arrow.dataset.to)]),
+    notes: text("#notes"),
+    rows: rowsShown(),
+    block: Number(document.querySelector("#write-block")?.value ?? -1),
+    state: text("#write-state"),
+    goes: numbers("#goes"),
+    back: numbers("#taken-back"),
+    groups: all("[data-group]").map((group) => [Number(group.dataset.group), Number(group.dataset.pending)]),
+    keys: all("#keys [data-key]").map((row) => [row.dataset.key, row.dataset.length]),
+    extents: all("[data-extent]").map(({ dataset }) => [dataset.extent, dataset.generation, dataset.filled, dataset.live].map(Number)),
+    crashes: crashesShown(),
+  });
+
+  const seen = [];
+  press("Home");
+  for (;;) {
+    seen.push(shown());
+    if (document.querySelector("#on").disabled) return seen;
+    press("ArrowRight");
+  }
+})();
