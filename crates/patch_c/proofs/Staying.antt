@@ -10,7 +10,7 @@ use Rattle.patch_history.specs.Command.{Command, Reply}
 use Rattle.patch_history.specs.History.{History, Call, execution_of, with_event}
 use Rattle.patch_history.specs.Standing.{at_opening}
 use Rattle.patch_store.specs.Flushing.{StandsStill, with_writes}
-use Rattle.patch_store.specs.Meaning.{Store, Represents, HasAnswered, Answers}
+use Rattle.patch_store.specs.Meaning.{Store, Represents, HasAnswered}
 use Rattle.patch_store.specs.Opening.{at_opening as at_first}
 use Rattle.patch_disks.specs.Opening.{IsUnused}
 use Rattle.patch_disks.proofs.Calling.{opened_so}
@@ -18,7 +18,7 @@ use Rattle.patch_disks.proofs.Resting.{StatesExtend, ImagesStay, Rests, rests_be
 use Rattle.patch_c.specs.declared.answers.Answer.{Answer}
 use Rattle.patch_c.specs.declared.answers.Answer.TheVariants.{Done}
 use Rattle.patch_c.specs.Saving.{IsSynced, HasWrittenOn}
-use Rattle.patch_c.specs.Standing.{Stands, StandsSomewhere, CallsStay}
+use Rattle.patch_c.specs.Standing.{StandsSomewhere, CallsStay}
 
 -- the images of all blocks
 abbrev images_of : Execution → List (List ℕ)
