@@ -15,8 +15,8 @@
  *
  * Answers. Every call but fstch_is_open, fstch_error_text and fstch_version answers FSTCH_DONE or the number of why it was refused.
  * A refused call changes nothing, in the store or in what it was given, but where it says so. With FSTCH_OUT_OF_MEMORY each key has
- * the value that it had. Each call lists its own answers, in the order in which they are tested. Every call but fstch_make,
- * fstch_error_text and fstch_version may also answer FSTCH_NOT_OPEN (fstch_open: FSTCH_IS_OPEN), which goes before all others.
+ * the value that it had. Each call lists its own answers, in the order in which they are tested. Each that takes an open store may also
+ * answer FSTCH_NOT_OPEN, which goes before all others.
  *
  * What a caller owes, and nothing tests:
  * - A fstch_store begins as FSTCH_CLOSED, and these calls alone change it. A copy of an open one is never passed.
@@ -140,6 +140,7 @@ enum fstch_answer {
 /* Files. A path has 1 to 4,095 bytes of UTF-8, none of them 0; it needs no 0 behind it. */
 
 /* Makes a file that holds an empty store. What has the name already is left alone, and a file that can't be finished is removed.
+ * The file is synced, and the directory that it stands in isn't.
  *
  * The store has index_blocks (1 to 16) times 64 keys at most, and 2 to 254 extents, to which values are appended. With extent_blocks
  * 0 an extent has 16 blocks of 4,096 bytes, and a value at most 32,768 bytes. With extent_blocks 16 to 64 it has so many, and a value
@@ -156,7 +157,7 @@ int32_t fstch_make(const uint8_t *path, size_t path_length, uint32_t index_block
  *
  * `slot` is set with FSTCH_BAD_SLOT, FSTCH_BAD_FRAME and FSTCH_DUPLICATE_KEY alone: to the first slot of the index that is wrong.
  *
- * FSTCH_IS_OPEN, FSTCH_BAD_PATH, FSTCH_IN_USE, FSTCH_DISK, FSTCH_FILE_SIZE, FSTCH_OUT_OF_MEMORY, FSTCH_BAD_SUPER, FSTCH_BAD_POINTER,
+ * FSTCH_IS_OPEN, FSTCH_BAD_PATH, FSTCH_DISK, FSTCH_IN_USE, FSTCH_FILE_SIZE, FSTCH_OUT_OF_MEMORY, FSTCH_BAD_SUPER, FSTCH_BAD_POINTER,
  * FSTCH_BAD_SLOT, FSTCH_BAD_FRAME, FSTCH_DUPLICATE_KEY.
  */
 int32_t fstch_open(fstch_store *store, const uint8_t *path, size_t path_length, uint32_t *slot);
@@ -189,7 +190,7 @@ int32_t fstch_put(fstch_store *store, uint32_t writer, const uint8_t *key, size_
 /* Copies the value of a key to the front of `into`, and leaves what is behind it there. `length` becomes the value's length, also with
  * FSTCH_BUFFER_TOO_SMALL, where nothing is copied; with any other refusal it stays.
  *
- * FSTCH_KEY_LENGTH, FSTCH_OUT_OF_MEMORY, FSTCH_ABSENT, FSTCH_BUFFER_TOO_SMALL.
+ * FSTCH_KEY_LENGTH, FSTCH_ABSENT, FSTCH_OUT_OF_MEMORY, FSTCH_BUFFER_TOO_SMALL.
  */
 int32_t fstch_get(fstch_store *store, const uint8_t *key, size_t key_length, uint8_t *into, size_t into_length, size_t *length);
 

@@ -1,5 +1,5 @@
 -- A call on a handle says what the call on its store says.
-use Rattle.std.proofs.Common.{◌≡◌, ℤ, pos, ap, sym, subst, refl}
+use Rattle.std.proofs.Common.{◌≡◌, ℤ, pos, sym, subst, refl}
 use Rattle.std.specs.Prelude.{IfSome, Option, Some, None}
 use Rattle.patch_c.specs.declared.answers.Answer.{Answer}
 use Rattle.patch_c.specs.declared.answers.Answer.TheVariants.{Done, Refused, BadPath, BufferTooSmall, Absent, InUse, NoSync, BadWriter}

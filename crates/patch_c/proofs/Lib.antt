@@ -1,5 +1,6 @@
 pub mod AsBox
 pub mod Between
+pub mod Causes
 pub mod Codes
 pub mod Reported
 pub mod Staying

@@ -1,6 +1,6 @@
 -- What is copied of a report.
-use Rattle.std.proofs.Common.{◌≡◌, ℕ, ℤ, pos, ◌∙◌, List, length, map, sym, ap, subst}
-use Rattle.std.specs.Prelude.{slice_get, option_map, Option, Some}
+use Rattle.std.proofs.Common.{◌≡◌, ℕ, pos, ◌∙◌, List, length, map, sym, ap, subst}
+use Rattle.std.specs.Prelude.{slice_get, option_map, Some}
 use Rattle.std.proofs.lemmas.List.{length-map}
 use Rattle.std.proofs.lemmas.List.FromFn.{length-map-range_with_len}
 use Rattle.std.proofs.lemmas.Option.{slice_get-map}

@@ -1,10 +1,7 @@
 -- What a call of the store tells by a number.
-use Rattle.std.proofs.Common.{◌≡◌, ◌≢◌, ℕ, pos, ℤ, refl, sym, ap, ◌∙◌, subst}
-use Rattle.std.specs.Prelude.{Result, Ok, Err, IfErr, OnErr, IfSome, Option, Some, None}
-use Rattle.patch_model.specs.declared.refusals.Refusal.{Refusal}
+use Rattle.std.proofs.Common.{◌≡◌, ℕ, ℤ}
 use Rattle.patch_history.specs.Command.{Command, Reply}
 use Rattle.patch_store.specs.Meaning.{Store, Answers}
-use Rattle.patch_store.specs.Replies.{reply_to}
 use Rattle.patch_c.specs.Answering.{number_of, answer_of, carried, Tells, TellsOf}
 
 -- by its reply

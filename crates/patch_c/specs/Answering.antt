@@ -19,6 +19,10 @@ number_of InUse = negsuc 5
 number_of NoSync = negsuc 6
 number_of BadWriter = negsuc 7
 
+-- this is said of the answer of the number
+abbrev pub IsOf : ℤ → (Answer → Type 0) → Type 0
+IsOf number Said = (answer : Answer) × (number ≡ number_of answer) × Said answer
+
 -- what a reply comes to
 abbrev pub answer_of : Reply → Answer
 answer_of reply.Done = Done

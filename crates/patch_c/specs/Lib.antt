@@ -4,4 +4,5 @@ pub mod Opening
 pub mod Reading
 pub mod Saving
 pub mod Sealed
+pub mod Standing
 pub mod Texts

@@ -1,10 +1,14 @@
 -- What a sync has done.
-use Rattle.std.specs.Prelude.{List}
+use Rattle.std.specs.Prelude.{ℕ, ◌≡◌, ◌⊎◌, List}
+use Rattle.patch_model.specs.declared.refusals.RefusalKind.TheVariants as kind
 use Rattle.patch_model.specs.Step.{Step}
+use Rattle.patch_device.specs.Device.{HasRisen}
 use Rattle.patch_history.specs.History.{History}
 use Rattle.patch_store.specs.Flushing.{StandsStill, with_writes}
 use Rattle.patch_store.specs.Meaning.{Store, Represents}
 use Rattle.patch_disks.specs.Answering.{IsSaved}
+use Rattle.patch_c.specs.declared.answers.Answer.{Answer}
+use Rattle.patch_c.specs.declared.answers.Answer.TheVariants.{Done, Refused, BadPath, BufferTooSmall, Absent, InUse, NoSync, BadWriter}
 
 -- all patches were brought to the disk: the store stands behind the writes, and nothing is left to be written
 pub record IsSynced (h : History) (store : Store) : Type 0 where
@@ -16,3 +20,14 @@ pub record IsSynced (h : History) (store : Store) : Type 0 where
 pub record HasWrittenOn (h : History) (store : Store) : Type 0 where
   pub writes : List Step
   pub represents : Represents store (with_writes h writes)
+
+-- A sync is done, or it has this cause: there was no memory, or the device had a fault.
+abbrev pub HasCause : Answer → (faults faults_now : ℕ) → Type 0
+HasCause Done faults faults_now = Unit {0}
+HasCause (Refused why) faults faults_now = (why ≡ kind.OutOfMemory) ⊎ ((why ≡ kind.DeviceGaveUp) × HasRisen faults faults_now)
+HasCause NoSync faults faults_now = HasRisen faults faults_now
+HasCause BadPath faults faults_now = ⊥
+HasCause BufferTooSmall faults faults_now = ⊥
+HasCause Absent faults faults_now = ⊥
+HasCause InUse faults faults_now = ⊥
+HasCause BadWriter faults faults_now = ⊥

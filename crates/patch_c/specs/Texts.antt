@@ -1,5 +1,5 @@
 -- A text in a buffer.
-use Rattle.std.specs.Prelude.{ℕ, ◌-◌, ◌+◌, ◌++◌, min, List, [], ◌∷◌, length, take, drop}
+use Rattle.std.specs.Prelude.{ℕ, ◌+◌, ◌++◌, min, List, [], ◌∷◌, length, take, drop}
 
 -- so many bytes of the text, a zero byte, and what stood behind
 abbrev pub with_first : (count : ℕ) → (text into : List ℕ) → List ℕ

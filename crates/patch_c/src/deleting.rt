@@ -6,6 +6,7 @@ ghost use Rattle.patch_c.specs.Handle.{Between};
 
 use crate::answers::{Answer, NOT_OPEN, told};
 use crate::handle::Handle;
+use crate::laws::calls_stay;
 use crate::opened::Opened;
 use crate::writers::writer_of;
 use std::alloc::Global;
@@ -18,6 +19,7 @@ impl Opened {
         ensures kept { KeepsUnlessDone (number_of result) self.old.store self.new.store }
         ensures spent { self.new.is_spent ≡ self.old.is_spent }
     {
+        calls_stay();
         let Some(writer) = writer_of(writer) else {
             return Answer::BadWriter;
         };
@@ -29,6 +31,7 @@ impl Opened {
         ensures kept { KeepsIfRefused (number_of result) self.old.store self.new.store }
         ensures spent { self.new.is_spent ≡ self.old.is_spent }
     {
+        calls_stay();
         told(self.store.reclaim(extent))
     }
 }

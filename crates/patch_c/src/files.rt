@@ -1,13 +1,14 @@
 //! Files: how they are made, opened, synced and closed.
-ghost use Rattle.std.specs.Prelude.{◌≡◌, ◌≢◌, ◌↔◌, IsTrue, IsFalse, IfSome};
+ghost use Rattle.std.specs.Prelude.{◌≡◌, ◌≢◌, ◌↔◌, IsTrue, IsFalse, IfSome, length};
+ghost use Rattle.patch_device.specs.FileDevice.{block_count_of, fault_count_of};
 ghost use Rattle.patch_frame.specs.Geometry.{is_geometry};
 ghost use Rattle.patch_history.specs.History.{History};
 ghost use Rattle.patch_store.specs.Flushing.{StandsStill};
 ghost use Rattle.patch_store.specs.Meaning.{Represents};
-ghost use Rattle.patch_c.specs.Answering.{number_of};
+ghost use Rattle.patch_c.specs.Answering.{number_of, IsOf};
 ghost use Rattle.patch_c.specs.Handle.{IsZeros, Between};
 ghost use Rattle.patch_c.specs.Opening.{IsFresh, geometry_for as geometry_of};
-ghost use Rattle.patch_c.specs.Saving.{IsSynced, HasWrittenOn};
+ghost use Rattle.patch_c.specs.Saving.{IsSynced, HasWrittenOn, HasCause};
 
 use crate::answers::{Answer, DONE, IS_OPEN, NOT_OPEN};
 use crate::handle::Handle;
@@ -26,6 +27,9 @@ impl Opened {
         ensures synced { (h : History) → StandsStill self.old.store h → result ≡ Answer.Done → IsSynced h self.new.store }
         ensures written { IsFalse self.old.is_spent → (h : History) → Represents self.old.store h → HasWrittenOn h self.new.store }
         ensures fails { IsFalse self.new.is_spent ↔ (result ≡ Answer.Done) }
+        ensures cause { IsFalse self.old.is_spent → (h : History) → Represents self.old.store h
+            → block_count_of self.old.device ≡ length h.opening
+            → HasCause result (fault_count_of self.old.device) (fault_count_of self.new.device) }
     {
         if self.is_spent {
             return Answer::NoSync;
@@ -114,6 +118,9 @@ pub extern "C" fn fstch_sync(handle: &mut Handle, alloc: Global) -> i32
     ensures spent { Between handle.old handle.new (λ before after. IsTrue before.is_spent
         → (result ≡ number_of Answer.NoSync) × (after.store ≡ before.store)) }
     ensures fails { Between handle.old handle.new (λ before after. IsFalse after.is_spent ↔ (result ≡ DONE)) }
+    ensures cause { Between handle.old handle.new (λ before after. IsFalse before.is_spent → (h : History) → Represents before.store h
+        → block_count_of before.device ≡ length h.opening
+        → IsOf result (λ answer. HasCause answer (fault_count_of before.device) (fault_count_of after.device))) }
 {
     let Some(mut opened) = handle.take(alloc) else {
         return NOT_OPEN;

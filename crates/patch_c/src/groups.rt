@@ -6,6 +6,7 @@ ghost use Rattle.patch_c.specs.Handle.{Between};
 
 use crate::answers::{Answer, NOT_OPEN, told};
 use crate::handle::Handle;
+use crate::laws::calls_stay;
 use crate::opened::Opened;
 use crate::writers::engaging_writer;
 use patch_model::{GroupNo, Refuses};
@@ -17,6 +18,7 @@ impl Opened {
         ensures kept { KeepsUnlessDone (number_of result) self.old.store self.new.store }
         ensures spent { self.new.is_spent ≡ self.old.is_spent }
     {
+        calls_stay();
         match self.store.create_group() {
             Ok(made) => {
                 *group = number_of_group(made);
@@ -32,6 +34,7 @@ impl Opened {
         ensures kept { KeepsUnlessDone (number_of result) self.old.store self.new.store }
         ensures spent { self.new.is_spent ≡ self.old.is_spent }
     {
+        calls_stay();
         let Some(writer) = engaging_writer(writer) else {
             return Answer::BadWriter;
         };
@@ -44,6 +47,7 @@ impl Opened {
         ensures kept { KeepsUnlessDone (number_of result) self.old.store self.new.store }
         ensures spent { self.new.is_spent ≡ self.old.is_spent }
     {
+        calls_stay();
         let Some(writer) = engaging_writer(writer) else {
             return Answer::BadWriter;
         };
@@ -55,6 +59,7 @@ impl Opened {
         ensures kept { KeepsUnlessDone (number_of result) self.old.store self.new.store }
         ensures spent { self.new.is_spent ≡ self.old.is_spent }
     {
+        calls_stay();
         told(self.store.depend(GroupNo(later), GroupNo(earlier)))
     }
 
@@ -63,6 +68,7 @@ impl Opened {
         ensures kept { KeepsUnlessDone (number_of result) self.old.store self.new.store }
         ensures spent { self.new.is_spent ≡ self.old.is_spent }
     {
+        calls_stay();
         told(self.store.close_group(GroupNo(group)))
     }
 

@@ -16,6 +16,7 @@ mod deleting;
 mod files;
 mod groups;
 mod handle;
+mod laws;
 mod listing;
 mod opened;
 mod opening;

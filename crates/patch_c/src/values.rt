@@ -10,6 +10,7 @@ ghost use Rattle.patch_c.specs.Reading.{HasGot};
 use crate::answers::{Answer, NOT_OPEN, told};
 use crate::copying::copy_out;
 use crate::handle::Handle;
+use crate::laws::calls_stay;
 use crate::opened::Opened;
 use crate::writers::writer_of;
 use patch_model::Refuses;
@@ -23,6 +24,7 @@ impl Opened {
         ensures kept { KeepsIfRefused (number_of result) self.old.store self.new.store }
         ensures spent { self.new.is_spent ≡ self.old.is_spent }
     {
+        calls_stay();
         let Some(writer) = writer_of(writer) else {
             return Answer::BadWriter;
         };

@@ -2,8 +2,7 @@
 use mathlib.Core.Path.{◌≡◌, refl, sym, subst}
 use mathlib.Core.List.{List, [], ◌∷◌, ◌++◌}
 use seplogic.Ra.Ura.{Ura}
-use mir.Val.{Val, vnull, vstruct, vcons, vnil, has_ty, WT}
-use lib.Dec.{T}
+use mir.Val.{Val, vnull, vstruct, vcons, vnil, has_ty}
 use Rattle.std.proofs.Common.{lit<}
 use denote.Builtin.{RawPtr}
 use denote.RattleType.{Valss}
@@ -25,9 +24,9 @@ use contract.Monad.{Fun}
 use contract.Running.{tables, tables_of}
 use sound.WpLaws.{WpFn-mono}
 use types.Kit.{Item, ‵, raw, ◌⊛◌, ◌$◌, ◌∵◌, !, qed, by, move, drop, use1, join, split, fsplit, fjoin, feq_i, fpack, suffices, done}
-use types.Part.{whole, sub, agg}
-use types.Run.{stop, fld, no_more, and_then, lit, of_opd, returns, enter}
-use types.ByLocal.{alloc_all, pass_all, free_all, look_at, get, get_in, sets}
+use types.Part.{agg}
+use types.Run.{no_more, and_then, lit, returns, enter}
+use types.ByLocal.{alloc_all, pass_all, free_all, look_at, get, sets}
 use denote.Exit.{yes}
 use denote.Signature.{type_at}
 use denote.Steps.{nothing}
@@ -35,8 +34,6 @@ use denote.Triple.Spec.{triple_of}
 use denote.Triple.Table.{entered}
 use denote.Triple.Walked.{says, Stays, stay_dropped, walk_of, ends_at, Goes-dropped, walk_Meets}
 use Rattle.std.specs.Prelude.{None}
-use Rattle.std_alloc.proofs.BoxSteps.Form.{D, B, word, box_typed}
-use Rattle.std_alloc.proofs.BoxSteps.Steps.{box_out, box_in}
 use Rattle.patch_c.proofs.AsBox.{E}
 use Rattle.patch_c.specs.contracts.sealed.Sealed.empty as F
 use Rattle.patch_c.specs.contracts.sealed.Sealed.empty.Key.{name as #self}
