@@ -162,7 +162,7 @@ document.addEventListener("change", (event) => {
   if (flight !== undefined) {
     if (event.target.checked) state.landed.add(Number(flight));
     else state.landed.delete(Number(flight));
-    show();
+    at("crash").innerHTML = crashPanel(standingAt(state.index), state.landed);
     document.querySelector(`[data-flight="${flight}"]`).focus();
   }
 });
