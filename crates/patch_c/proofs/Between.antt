@@ -2,7 +2,7 @@
 use Rattle.std.proofs.Common.{◌≡◌, ℤ, pos, sym, subst, refl}
 use Rattle.std.specs.Prelude.{IfSome, Option, Some, None}
 use Rattle.patch_c.specs.declared.answers.Answer.{Answer}
-use Rattle.patch_c.specs.declared.answers.Answer.TheVariants.{Done, Refused, BadPath, BufferTooSmall, Absent, InUse, NoSync, BadWriter}
+use Rattle.patch_c.specs.declared.answers.Answer.TheVariants.{Done, Refused, BufferTooSmall, Absent, NoSync, BadWriter}
 use Rattle.patch_c.specs.declared.handle.Handle.{Handle}
 use Rattle.patch_c.specs.declared.opened.Opened.{Opened}
 use Rattle.patch_c.specs.Answering.{number_of}
@@ -36,9 +36,7 @@ each_some (Some x) P Q f said = f x said
 pub done_is : (answer : Answer) → number_of answer ≡ pos 0 → answer ≡ Done
 done_is Done zero = refl
 done_is (Refused kind) zero = absurd (code_rises kind (cc))
-done_is BadPath zero = absurd (cc)
 done_is BufferTooSmall zero = absurd (cc)
 done_is Absent zero = absurd (cc)
-done_is InUse zero = absurd (cc)
 done_is NoSync zero = absurd (cc)
 done_is BadWriter zero = absurd (cc)

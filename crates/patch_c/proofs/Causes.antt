@@ -2,7 +2,7 @@
 use Rattle.std.proofs.Common.{◌≡◌, ℕ, ◌≤◌, Bool, true, false, inl, inr, refl, ap, arith, ⊎_elim}
 use Rattle.std.specs.Prelude.{Result, Ok, Err, OnErr, is_err, is_some}
 use Rattle.patch_model.specs.declared.refusals.RefusalKind.{RefusalKind}
-use Rattle.patch_device.specs.Device.{HasRisen, most_faults}
+use Rattle.patch_device.specs.Device.{most_faults}
 use Rattle.patch_cache.specs.Refusals.{flush_cause}
 use Rattle.patch_cache.specs.Waves.{RisesIfGivenUp}
 use Rattle.patch_cache.specs.declared.refusals.FlushRefusal.{FlushRefusal}

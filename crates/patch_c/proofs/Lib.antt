@@ -2,6 +2,7 @@ pub mod AsBox
 pub mod Between
 pub mod Causes
 pub mod Codes
+pub mod Made
 pub mod Reported
 pub mod Staying
 pub mod Synced

@@ -11,8 +11,7 @@ use Rattle.patch_history.specs.History.{History, Call, execution_of, with_event}
 use Rattle.patch_history.specs.Standing.{at_opening}
 use Rattle.patch_store.specs.Flushing.{StandsStill, with_writes}
 use Rattle.patch_store.specs.Meaning.{Store, Represents, HasAnswered}
-use Rattle.patch_store.specs.Opening.{at_opening as at_first}
-use Rattle.patch_disks.specs.Opening.{IsUnused}
+use Rattle.patch_store.specs.Opening.{IsOpened, at_opening as at_first}
 use Rattle.patch_disks.proofs.Calling.{opened_so}
 use Rattle.patch_disks.proofs.Resting.{StatesExtend, ImagesStay, Rests, rests_behind}
 use Rattle.patch_c.specs.declared.answers.Answer.{Answer}
@@ -52,10 +51,13 @@ calls_stay extend stay spent writer command reply old new stands answers =
     }))
 
 -- so it is at first
-pub fresh_so : (s : Store) → IsUnused s → ∥ StandsSomewhere false s ∥₁
-fresh_so s unused =
-    let opened = unused.opened in
-    ∣ (at_first unused.blocks opened.ledger, record { represents = opened.represents; still = λ _. (opened_so unused.blocks s opened).still }) ∣₁
+pub fresh_so : (s : Store) (blocks : List (List ℕ)) → IsOpened blocks s → ∥ StandsSomewhere false s ∥₁
+fresh_so s blocks opened =
+    ∣ (at_first blocks opened.ledger, record { represents = opened.represents; still = λ _. (opened_so blocks s opened).still }) ∣₁
+
+-- where no sync is done any more nothing is said of writes
+pub spent_so : (before : Bool) (s : Store) → ∥ StandsSomewhere before s ∥₁ → ∥ StandsSomewhere true s ∥₁
+spent_so before s stands = ∥∥₁_map stands (λ w. (w.0, record { represents = w.1.represents; still = λ no. absurd (cc) }))
 
 -- and behind a sync
 after_sync : (answer : Answer) (spent : Bool) (h : History) (new : Store) → (answer ≡ Done → IsSynced h new) → HasWrittenOn h new

@@ -6,16 +6,14 @@ use Rattle.patch_history.specs.Command as reply
 use Rattle.patch_history.specs.History.{History}
 use Rattle.patch_store.specs.Meaning.{Store, Represents, HasAnswered}
 use Rattle.patch_c.specs.declared.answers.Answer.{Answer}
-use Rattle.patch_c.specs.declared.answers.Answer.TheVariants.{Done, Refused, BadPath, BufferTooSmall, Absent, InUse, NoSync, BadWriter}
+use Rattle.patch_c.specs.declared.answers.Answer.TheVariants.{Done, Refused, BufferTooSmall, Absent, NoSync, BadWriter}
 
 -- the number of an answer
 abbrev pub number_of : Answer → ℤ
 number_of Done = pos 0
 number_of (Refused kind) = pos (code_of kind)
-number_of BadPath = negsuc 2
 number_of BufferTooSmall = negsuc 3
 number_of Absent = negsuc 4
-number_of InUse = negsuc 5
 number_of NoSync = negsuc 6
 number_of BadWriter = negsuc 7
 

@@ -5,4 +5,5 @@ pub mod Reading
 pub mod Saving
 pub mod Sealed
 pub mod Standing
+pub mod Tape
 pub mod Texts

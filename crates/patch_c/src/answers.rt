@@ -15,20 +15,16 @@ pub const NOT_OPEN: i32 = -1;
 /// `FSTCH_IS_OPEN`.
 pub const IS_OPEN: i32 = -2;
 
-/// What a call answers beside whether the store is open.
+/// What a call answers beside whether the store is open. The numbers -3 and -6 are answers about paths and files, which C gives.
 #[derive(Clone, Copy, Debug, PartialEq, Eq)]
 pub enum Answer {
     Done,
     /// The store refuses it.
     Refused(RefusalKind),
-    /// The path isn't UTF-8.
-    BadPath,
     /// What was asked for is longer than the buffer.
     BufferTooSmall,
     /// The key has no value, or there is no entry of this number.
     Absent,
-    /// Another store has the file open.
-    InUse,
     /// All was written, but not synced; or an earlier sync was refused.
     NoSync,
     /// There is no writer of this number.
@@ -45,10 +41,8 @@ impl Answer {
         match self {
             Answer::Done => DONE,
             Answer::Refused(kind) => i32::from(kind.code()),
-            Answer::BadPath => -3,
             Answer::BufferTooSmall => -4,
             Answer::Absent => -5,
-            Answer::InUse => -6,
             Answer::NoSync => -7,
             Answer::BadWriter => -8,
         }

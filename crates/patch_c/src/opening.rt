@@ -1,109 +1,47 @@
 //! How the file of a store is made, and opened.
-ghost use Rattle.std.specs.Prelude.{◌≡◌, ◌≢◌, IsTrue, IfOk, OnOk};
-ghost use Rattle.patch_frame.specs.Geometry.{is_geometry};
-ghost use Rattle.patch_c.specs.Opening.{IsFresh, geometry_for};
+ghost use Rattle.std.specs.Prelude.{◌≡◌, ◌≢◌, ◌⊎◌, [], length, IfOk, IfErr};
+ghost use Rattle.patch_device.specs.Blocks.{FitsFile};
+ghost use Rattle.patch_store.specs.Opening.{IsOpened};
+ghost use Rattle.patch_c.specs.Opening.{IsFresh, HasMade, geometry_for};
 
 use crate::answers::Answer;
+use crate::copying::copy_out;
+use crate::given::blocks_in;
 use crate::opened::Opened;
-use crate::system::{CFile, System, TakeRefusal};
-use patch_device::{Device, FileDevice, FileRefusal, Lasting};
-use patch_disks::{Stop, open_store};
+use crate::tape::Tape;
+use crate::unopened::Unopened;
+use patch_cache::Cache;
 use patch_frame::{Format, Geometry};
-use patch_history::MakeRefusal;
-use patch_model::{BlockBytes, MAX_BLOCKS, OutOfMemory, Refusal, RefusalKind, Refuses};
-use patch_store::make;
-use std::alloc::{AllocFailed, Global};
-use std::fs;
+use patch_model::{BlockBytes, RefusalKind, Refuses};
+use patch_store::{Store, make};
+use std::alloc::Global;
 
-/// Why a file isn't made or opened.
-#[derive(Clone, Copy)]
-pub enum Unopened {
-    /// Its path isn't UTF-8.
-    BadPath,
-    /// Another store has it open.
-    InUse,
-    Refused(Refusal),
-}
-
-impl Unopened {
-    /// The answer.
-    pub fn answer(self) -> Answer
-        ensures { result ≢ Answer.Done }
-    {
-        match self {
-            Unopened::BadPath => Answer::BadPath,
-            Unopened::InUse => Answer::InUse,
-            Unopened::Refused(refusal) => Answer::Refused(refusal.kind),
-        }
-    }
-
-    /// Sets the number that goes with it, if one does.
-    pub fn tell_number(self, number: &mut u32) {
-        if let Unopened::Refused(refusal) = self {
-            if let Some(told) = refusal.number {
-                *number = told;
-            }
-        }
-    }
-}
-
-impl From<TakeRefusal> for Unopened {
-    fn from(refusal: TakeRefusal) -> Unopened {
-        match refusal {
-            TakeRefusal::InUse => Unopened::InUse,
-            TakeRefusal::Disk => Unopened::Refused(RefusalKind::Disk.bare()),
-        }
-    }
-}
-
-impl From<FileRefusal> for Unopened {
-    fn from(refusal: FileRefusal) -> Unopened {
-        Unopened::Refused(refusal.refusal())
-    }
-}
-
-impl From<MakeRefusal> for Unopened {
-    fn from(refusal: MakeRefusal) -> Unopened {
-        Unopened::Refused(refusal.refusal())
-    }
-}
-
-impl From<Stop> for Unopened {
-    fn from(stop: Stop) -> Unopened {
-        match stop {
-            Stop::Refused(refusal) => Unopened::Refused(refusal),
-            // Never so: nothing but the disk is read, and nothing is written.
-            Stop::Read | Stop::Write => Unopened::Refused(RefusalKind::Disk.bare()),
-        }
-    }
-}
-
-impl<T: Drop> From<AllocFailed<T>> for Unopened {
-    fn from(_: AllocFailed<T>) -> Unopened {
-        Unopened::Refused(OutOfMemory.refusal())
-    }
-}
-
-fn text_of(path: &[u8]) -> Result<&str, Unopened> {
-    match str::from_utf8(path) {
-        Ok(path) => Ok(path),
-        Err(_) => Err(Unopened::BadPath),
-    }
-}
-
-/// The store of a file, on the heap.
-pub fn open_at(alloc: Global, path: &[u8]) -> Result<Box<Opened, Global>, Unopened>
-    ensures { IfOk result (λ opened. IsFresh opened.value) }
+/// The store of these blocks.
+fn open_store(alloc: Global, blocks: Vec<BlockBytes>) -> Result<Store, Unopened>
+    requires { FitsFile (length blocks.items) }
+    ensures opened { IfOk result (λ store. IsOpened blocks.items store) }
+    ensures no_steps { IfOk result (λ store. store.cache.trace ≡ []) }
 {
-    let path = text_of(path)?;
-    let system = System::taking(path)?;
-    let mut device = FileDevice::of(&system, path)?;
-    let store = open_store(alloc, &mut device)?;
+    let cache = Cache::open(alloc, blocks)?;
+    match Store::open(alloc, cache) {
+        Ok(store) => Ok(store),
+        Err((_, fault)) => Err(Unopened::of(fault.refusal())),
+    }
+}
+
+/// The store of a file's bytes, on the heap.
+pub fn open_bytes(alloc: Global, file: i32, bytes: &[u8]) -> Result<Box<Opened, Global>, Unopened>
+    ensures { IfOk result (λ opened. IsFresh file bytes.now opened.value) }
+{
+    let blocks = blocks_in(alloc, bytes)?;
+    let device = Tape::new(alloc, blocks.len() as u32);
+    let store = open_store(alloc, blocks)?;
     Ok(Box::new(
         alloc,
         Opened {
             store,
             device,
+            file,
             is_spent: false,
         },
     )?)
@@ -127,29 +65,28 @@ pub fn geometry_for(index: u32, extents: u32, extent_blocks: u32) -> Geometry
     }
 }
 
-/// Makes a file that holds an empty store. What there is of this name is left as it was; a file that can't be finished is removed.
-pub fn make_at(alloc: Global, path: &[u8], geometry: Geometry) -> Result<(), Unopened>
-    ensures { OnOk result (IsTrue (is_geometry geometry)) }
+/// Copies the first block of a new disk to the front of a buffer, and counts the blocks. The others are zeros.
+#[tactic(auto, using(crate::proofs::Made::made_so, crate::proofs::Made::kept_so))]
+pub fn make_first(alloc: Global, geometry: Geometry, into: &mut [u8], count: &mut u32) -> Answer
+    ensures made { result ≡ Answer.Done → HasMade geometry into.old into.new count.new }
+    ensures refused { result ≢ Answer.Done → (into.new ≡ into.old) × (count.new ≡ count.old) }
 {
-    let path = text_of(path)?;
-    let blocks = make(alloc, geometry)?;
-    // A disk has no more.
-    let count = blocks.len().min(MAX_BLOCKS) as u32;
-    let system = System::new();
-    let mut device: FileDevice<CFile> = FileDevice::create(&system, path, count)?;
-    if !write_first(&mut device, blocks.as_slice()) {
-        let _removed = fs::remove_file(&system, path);
-        return Err(Unopened::Refused(RefusalKind::Disk.bare()));
+    let blocks = match make(alloc, geometry) {
+        Ok(blocks) => blocks,
+        Err(refusal) => return Answer::Refused(refusal.kind()),
+    };
+    let Some(first) = blocks.first() else {
+        // Never so: a disk has blocks.
+        return Answer::Refused(RefusalKind::Geometry);
+    };
+    let Ok(many) = u32::try_from(blocks.len()) else {
+        // Never so: a disk has few.
+        return Answer::Refused(RefusalKind::Geometry);
+    };
+    let mut len = 0;
+    let answer = copy_out(first.as_slice(), into, &mut len);
+    if answer == Answer::Done {
+        *count = many;
     }
-    Ok(())
-}
-
-/// Writes the superblock, the one block of a new disk that isn't zeros, and answers whether that went well.
-fn write_first<D: Lasting>(device: &mut D, blocks: &[BlockBytes]) -> bool {
-    match blocks.first() {
-        Some(superblock) => {
-            device.write(0, superblock.as_slice()).is_ok() && device.sync().is_ok()
-        }
-        None => false,
-    }
+    answer
 }

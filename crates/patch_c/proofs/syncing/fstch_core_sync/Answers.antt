@@ -1,6 +1,6 @@
 use Rattle.std.proofs.Common.{◌≡◌, ◌∙◌, refl, ap, arith, w32, to_z, of_z, to_z-of_z}
 use Rattle.std.specs.Prelude.{Some, IsFalse, pos, length}
-use Rattle.patch_device.specs.FileDevice.{block_count_of, fault_count_of}
+use Rattle.patch_c.specs.Tape.{block_count_of, fault_count_of}
 use Rattle.patch_history.specs.History.{History}
 use Rattle.patch_store.specs.Flushing.{StandsStill}
 use Rattle.patch_store.specs.Meaning.{Represents}
@@ -8,7 +8,7 @@ use Rattle.patch_c.specs.declared.opened.Opened.{Opened}
 use Rattle.patch_c.specs.Answering.{number_of, IsOf}
 use Rattle.patch_c.specs.Saving.{IsSynced, HasWrittenOn, HasCause}
 use Rattle.patch_c.proofs.Between.{between_so, told_so, done_is}
-use Rattle.patch_c.proofs.files.fstch_sync.Goals as goal
+use Rattle.patch_c.proofs.syncing.fstch_core_sync.Goals as goal
 
 pub returns-clause-synced : goal.returns-clause-synced
 returns-clause-synced c =

@@ -1,5 +1,0 @@
-use Rattle.patch_c.proofs.Staying.{fresh_so}
-use Rattle.patch_c.proofs.opening.open_at.Goals as goal
-
-pub invariant_of-new : goal.invariant_of-new
-invariant_of-new c = record { stands = fresh_so c.in_ok-store.store c.in_ok-store.ensures.new }
