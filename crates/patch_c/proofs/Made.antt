@@ -1,0 +1,33 @@
+-- The first block of a new disk is in the buffer where it fits, and the buffer is as it was where it doesn't.
+use Rattle.std.proofs.Common.{◌≡◌, ◌∙◌, ℕ, Bool, true, false, List, length, refl, sym, ap}
+use Rattle.std.specs.Prelude.{◌≢◌, ◌++◌, drop, slice_get, Some, IsTrue, nat_le, if◌then◌else◌}
+use Rattle.patch_frame.specs.declared.geometries.Geometry.{Geometry}
+use Rattle.patch_frame.specs.Geometry.{is_geometry}
+use Rattle.patch_store.specs.Making.{new_disk}
+use Rattle.patch_c.specs.declared.answers.Answer.{Answer}
+use Rattle.patch_c.specs.declared.answers.Answer.TheVariants.{Done, BufferTooSmall}
+use Rattle.patch_c.specs.Opening.{HasMade}
+use Rattle.patch_c.specs.Reading.{copied, answer_copying}
+
+all_there : (fits : Bool) (whole into : List ℕ) → (if fits then Done else BufferTooSmall) ≡ Done → (if fits then whole else into) ≡ whole
+all_there true whole into done = refl
+all_there false whole into done = absurd (cc)
+
+as_before : (fits : Bool) (whole into : List ℕ) → (if fits then Done else BufferTooSmall) ≢ Done → (if fits then whole else into) ≡ into
+as_before true whole into refused = absurd (refused refl)
+as_before false whole into refused = refl
+
+pub made_so : (g : Geometry) (blocks : List (List ℕ)) (first into into_now : List ℕ) (count : ℕ) (answer : Answer) → IsTrue (is_geometry g) → blocks ≡ new_disk g
+    → slice_get blocks 0 ≡ Some first → count ≡ length blocks → answer ≡ answer_copying first into → into_now ≡ copied first into → answer ≡ Done
+    → HasMade g into into_now count
+made_so g blocks first into into_now count answer geometry disk at many told is done = record {
+  geometry = geometry;
+  count_is = many ∙ ap length disk;
+  first = first;
+  first_is = ap (λ all. slice_get all 0) (sym disk) ∙ at;
+  copied = is ∙ all_there (nat_le (length first) (length into)) (first ++ drop (length first) into) into (sym told ∙ done);
+}
+
+pub kept_so : (first into into_now : List ℕ) (answer : Answer) → answer ≡ answer_copying first into → into_now ≡ copied first into → answer ≢ Done → into_now ≡ into
+kept_so first into into_now answer told is refused =
+    is ∙ as_before (nat_le (length first) (length into)) (first ++ drop (length first) into) into (λ done. refused (told ∙ done))

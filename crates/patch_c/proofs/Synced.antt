@@ -1,0 +1,37 @@
+-- What a flush leaves to be said once its steps are let go.
+use Rattle.std.proofs.Common.{◌≡◌, ◌∙◌, List, [], ◌∷◌, ◌++◌, map, refl, sym, ap, subst}
+use Rattle.std.specs.Prelude.{flat_map}
+use Rattle.std.proofs.lemmas.Grind.{flat_map-append}
+use Rattle.patch_model.specs.Step.{Step}
+use Rattle.patch_model.specs.Execution.{followed_by}
+use Rattle.patch_cache.specs.Waves.{IsFlushed}
+use Rattle.patch_history.specs.History.{History, Moved, steps_in, execution_of}
+use Rattle.patch_store.specs.Flushing.{HasWritten, with_writes}
+use Rattle.patch_store.specs.Meaning.{Store, Represents}
+use Rattle.patch_c.specs.Saving.{IsSynced, HasWrittenOn}
+
+steps_of_writes : (steps : List Step) → flat_map steps_in (map Moved steps) ≡ steps
+steps_of_writes [] = refl
+steps_of_writes (step ∷ steps) = ap (λ all. step ∷ all) (steps_of_writes steps)
+
+-- the execution behind writes
+writes_behind : (h : History) (steps : List Step) → followed_by (execution_of h) steps ≡ execution_of (with_writes h steps)
+writes_behind h steps =
+    ap (λ all. record (execution_of h) { steps = all })
+    (sym (flat_map-append steps_in h.events (map Moved steps) ∙ ap (λ all. flat_map steps_in h.events ++ all) (steps_of_writes steps)))
+
+-- nothing is left to be written
+pub synced_so : (h : History) (steps : List Step) (flushed new : Store) → HasWritten h steps flushed → IsFlushed (followed_by (execution_of h) steps)
+    → ((h : History) → Represents flushed h → Represents new h) → IsSynced h new
+synced_so h steps flushed new written none kept =
+    let now = subst IsFlushed (writes_behind h steps) none in
+    record {
+      next = with_writes h steps;
+      saved = record { writes = steps; new_is = refl; flushed = now };
+      still = record { represents = kept _ written.represents; no_flight = now.no_flight };
+    }
+
+-- or some writes were made
+pub written_so : (h : History) (steps : List Step) (flushed new : Store) → HasWritten h steps flushed
+    → ((h : History) → Represents flushed h → Represents new h) → HasWrittenOn h new
+written_so h steps flushed new written kept = record { writes = steps; represents = kept _ written.represents }

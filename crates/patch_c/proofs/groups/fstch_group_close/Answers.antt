@@ -1,0 +1,14 @@
+use Rattle.std.proofs.Common.{◌≡◌, ◌∙◌, ap, arith, w32, to_z, of_z, to_z-of_z}
+use Rattle.std.specs.Prelude.{Some}
+use Rattle.patch_history.specs.Command.{CloseGroup}
+use Rattle.patch_c.specs.declared.opened.Opened.{Opened}
+use Rattle.patch_c.specs.Answering.{number_of, Tells}
+use Rattle.patch_c.proofs.Between.{told_so}
+use Rattle.patch_c.proofs.groups.fstch_group_close.Goals as goal
+
+pub returns-clause-told : goal.returns-clause-told
+returns-clause-told c writer =
+    let n : to_z w32 (of_z w32 c.number.result) ≡ number_of c.close_group-answer.result = grind (arith, to_z-of_z) in
+    told_so c.args.handle.now c.put_back.new.self c.deref_mut.result.now c.close_group-answer.new.self
+    (λ number before after. Tells writer (CloseGroup c.args.group) number before.store after.store)
+    _ c.close_group-answer.result (ap (λ (o : Opened). Some o) c.deref_mut.ensures.value ∙ c.in-Some.ensures.value) c.put_back.ensures.value n (c.close_group-answer.ensures.told writer)

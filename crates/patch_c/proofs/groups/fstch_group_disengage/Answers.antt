@@ -1,0 +1,15 @@
+use Rattle.std.proofs.Common.{◌≡◌, ◌∙◌, ap, arith, w32, to_z, of_z, to_z-of_z}
+use Rattle.std.specs.Prelude.{Some}
+use Rattle.patch_history.specs.Command.{Disengage}
+use Rattle.patch_c.specs.declared.opened.Opened.{Opened}
+use Rattle.patch_c.specs.Answering.{number_of, engaging_writer, Tells}
+use Rattle.patch_c.proofs.Between.{told_so, each_some}
+use Rattle.patch_c.proofs.groups.fstch_group_disengage.Goals as goal
+
+pub returns-clause-told : goal.returns-clause-told
+returns-clause-told c =
+    let n : to_z w32 (of_z w32 c.number.result) ≡ number_of c.disengage-answer.result = grind (arith, to_z-of_z) in
+    each_some (engaging_writer c.args.writer) _ _ (λ no. told_so c.args.handle.now c.put_back.new.self c.deref_mut.result.now c.disengage-answer.new.self
+    (λ number before after. Tells no (Disengage c.args.group) number before.store after.store)
+    _ c.disengage-answer.result (ap (λ (o : Opened). Some o) c.deref_mut.ensures.value ∙ c.in-Some.ensures.value) c.put_back.ensures.value n)
+    c.disengage-answer.ensures.told

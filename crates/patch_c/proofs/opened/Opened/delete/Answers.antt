@@ -1,0 +1,18 @@
+use Rattle.std.proofs.Common.{◌≡◌, ◌∙◌, ap, sym, subst}
+use Rattle.std.specs.Prelude.{IfSome, Some}
+use Rattle.patch_history.specs.Command.{Delete, Done}
+use Rattle.patch_history.specs.Refusals.{delete_cause}
+use Rattle.patch_store.specs.Replies.{reply_to}
+use Rattle.patch_c.specs.Answering.{number_of, writer_of, Tells}
+use Rattle.patch_c.proofs.Telling.{tells_so}
+use Rattle.patch_c.proofs.opened.Opened.delete.Goals as goal
+
+pub invariant_of-self : goal.invariant_of-self
+invariant_of-self c =
+    record { stands = c.calls_stay.ensures _ c.in-Some.writer (Delete c.args.key.now) (reply_to delete_cause (λ _. Done) c.delete.result) _ c.delete.new.self c.args.self.now.stands c.delete.ensures.answer }
+
+pub returns-clause-told : goal.returns-clause-told
+returns-clause-told c =
+    let is : writer_of c.args.writer ≡ Some c.in-Some.writer = sym c.writer_of.ensures ∙ c.in-Some.is in
+    subst (λ o. IfSome o (λ no. Tells no (Delete c.args.key.now) (number_of c.told.result) c.args.self.now.store c.delete.new.self)) (sym is)
+    (tells_so c.in-Some.writer (Delete c.args.key.now) (reply_to delete_cause (λ _. Done) c.delete.result) _ _ _ (ap number_of c.told.ensures) c.delete.ensures.answer)

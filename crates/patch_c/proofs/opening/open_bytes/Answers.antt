@@ -1,0 +1,5 @@
+use Rattle.patch_c.proofs.Staying.{fresh_so}
+use Rattle.patch_c.proofs.opening.open_bytes.Goals as goal
+
+pub invariant_of-new : goal.invariant_of-new
+invariant_of-new c = record { stands = fresh_so c.in_ok-store.store c.in_ok-blocks.blocks.items c.in_ok-store.ensures.opened }

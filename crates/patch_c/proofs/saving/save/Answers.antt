@@ -1,0 +1,34 @@
+use Rattle.patch_cache.specs.Waves.{steps_since}
+use Rattle.patch_disks.proofs.Saving.{saved_so}
+use Rattle.patch_disks.proofs.Stopping.{risen_behind}
+use Rattle.patch_c.proofs.Causes.{err_so, refused_so}
+use Rattle.patch_c.proofs.Synced.{synced_so, written_so}
+use Rattle.patch_c.proofs.saving.save.Goals as goal
+
+pub returns-clause-saved : goal.returns-clause-saved
+returns-clause-saved g c honest h stands done =
+    let contents = g.D.Device.contents in
+    saved_so h (steps_since c.args.store.now.cache c.flush.new.store.cache) c.flush.new.store c.drain_trace-steps.new.self
+    (contents c.flush.new.device) (contents c.sync.new.self) (c.flush.ensures.ran h stands.still.represents) (c.in_default.ensures.flushed h stands.still)
+    ((c.flush.ensures.disk honest h stands.still.represents).images stands.images) (c.in_default.ensures.cached honest h stands.still stands.images)
+    (c.sync.ensures.same (c.flush.ensures.device.honesty.0 honest)) c.drain_trace-steps.ensures.same
+
+pub returns-clause-synced : goal.returns-clause-synced
+returns-clause-synced g c h still done =
+    synced_so h (steps_since c.args.store.now.cache c.flush.new.store.cache) c.flush.new.store c.drain_trace-steps.new.self
+    (c.flush.ensures.ran h still.represents) (c.in_default.ensures.flushed h still) c.drain_trace-steps.ensures.same
+
+pub returns-clause-written : goal.returns-clause-written
+returns-clause-written g c h represents =
+    written_so h (steps_since c.args.store.now.cache c.flush.new.store.cache) c.flush.new.store c.drain_trace-steps.new.self
+    (c.flush.ensures.ran h represents) c.drain_trace-steps.ensures.same
+
+pub returns-in-Err-clause-cause : goal.returns-in-Err-clause-cause
+returns-in-Err-clause-cause g c h represents counted =
+    refused_so c.in-Err.refusal c.kind.result _ _ c.kind.ensures (c.in-Err.ensures.gave_up h represents counted) c.flush.ensures.device.faults
+    (g.met.D.Device.faults_fit c.flush.new.device)
+
+pub returns-then-is_err-clause-cause : goal.returns-then-is_err-clause-cause
+returns-then-is_err-clause-cause g c h represents counted =
+    risen_behind g.D.Device c.args.device.now c.flush.new.device c.sync.new.self (g.met.D.Device.faults_fit c.sync.new.self) c.flush.ensures.device
+    (err_so c.sync.result c.if-is_err.ensures.value c.sync.ensures.fault)

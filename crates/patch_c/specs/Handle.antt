@@ -1,0 +1,15 @@
+-- What a handle stands for.
+use Rattle.std.specs.Prelude.{◌≡◌, false, IfSome, None}
+use denote.RawPtr.{null_ptr}
+use Rattle.patch_c.specs.declared.handle.Handle.{Handle}
+use Rattle.patch_c.specs.declared.opened.Opened.{Opened}
+
+-- zeros
+pub record IsZeros (h : Handle) : Type 0 where
+  pub not_open : h.is_open ≡ false
+  pub null : h.sealed.at ≡ null_ptr
+  pub nothing : h.sealed.opened ≡ None
+
+-- this is said of the store that the handle stood for before a call, and of the one that it stands for behind it
+abbrev pub Between : Handle → Handle → (Opened → Opened → Type 0) → Type 0
+Between old new Said = IfSome old.sealed.opened (λ before. IfSome new.sealed.opened (λ after. Said before after))

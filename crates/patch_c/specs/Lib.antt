@@ -1,0 +1,9 @@
+pub mod Answering
+pub mod Handle
+pub mod Opening
+pub mod Reading
+pub mod Saving
+pub mod Sealed
+pub mod Standing
+pub mod Tape
+pub mod Texts

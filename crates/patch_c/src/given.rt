@@ -1,0 +1,38 @@
+//! The blocks of a file whose bytes are given.
+ghost use Rattle.std.specs.Prelude.{◌≡◌, ◌*◌, ◌/◌, length, IfOk, IfSome};
+ghost use Rattle.patch_device.specs.Blocks.{FitsFile};
+ghost use Rattle.patch_c.specs.Opening.{blocks_in};
+
+use crate::unopened::Unopened;
+use patch_model::{BLOCK, BlockBytes, MAX_BLOCKS, RefusalKind};
+use std::alloc::Global;
+
+/// How many blocks there are in so many bytes, if they are whole and as many as there may be.
+fn whole_blocks(length: usize) -> Option<u32>
+    ensures whole { IfSome result (λ count. length ≡ count * BLOCK) }
+    ensures count { IfSome result (λ count. count ≡ length / BLOCK) }
+    ensures fits { IfSome result FitsFile }
+{
+    let blocks = length / BLOCK;
+    if length % BLOCK != 0 || blocks == 0 || blocks > MAX_BLOCKS {
+        return None;
+    }
+    Some(blocks as u32)
+}
+
+/// Copies of the blocks.
+pub fn blocks_in(alloc: Global, bytes: &[u8]) -> Result<Vec<BlockBytes>, Unopened>
+    ensures blocks { IfOk result (λ blocks. blocks.items ≡ blocks_in bytes.now) }
+    ensures whole { IfOk result (λ blocks. length bytes.now ≡ length blocks.items * BLOCK) }
+    ensures fits { IfOk result (λ blocks. FitsFile (length blocks.items)) }
+{
+    let Some(count) = whole_blocks(bytes.len()) else {
+        return Err(Unopened::of(RefusalKind::FileSize.bare()));
+    };
+    let mut blocks = Vec::with_capacity(alloc, count as usize)?;
+    for n in 0..count {
+        let start = n as usize * BLOCK;
+        blocks.push(BlockBytes::from_slice(alloc, &bytes[start..start + BLOCK])?)?;
+    }
+    Ok(blocks)
+}

@@ -1,0 +1,100 @@
+//! Entries: how they are counted, and listed.
+ghost use Rattle.std.specs.Prelude.{◌≡◌, ◌↔◌, IsFalse, IfSome};
+ghost use Rattle.patch_history.specs.History.{History};
+ghost use Rattle.patch_store.specs.Meaning.{Represents};
+ghost use Rattle.patch_c.specs.Answering.{number_of};
+ghost use Rattle.patch_c.specs.Reading.{HasListed, HasCounted};
+
+use crate::answers::{Answer, NOT_OPEN};
+use crate::copying::copy_out;
+use crate::handle::Handle;
+use crate::opened::Opened;
+use patch_model::RefusalKind;
+use std::alloc::Global;
+
+const NO_MEMORY: Answer = Answer::Refused(RefusalKind::OutOfMemory);
+
+impl Opened {
+    fn count(&self, entries: &mut u32, extents: &mut u32) -> Answer
+        ensures { (h : History) → Represents self.now.store h →
+            HasCounted h entries.old extents.old (number_of result, entries.new, extents.new) }
+    {
+        let Ok(report) = self.store.check() else {
+            return NO_MEMORY;
+        };
+        // Never too many: a disk has few slots, and fewer extents.
+        let Ok(keys) = u32::try_from(report.entries.len()) else {
+            return NO_MEMORY;
+        };
+        let Ok(reported) = u32::try_from(report.extents.len()) else {
+            return NO_MEMORY;
+        };
+        *entries = keys;
+        *extents = reported;
+        Answer::Done
+    }
+
+    fn entry(
+        &self,
+        number: u32,
+        key: &mut [u8],
+        key_len: &mut usize,
+        value_len: &mut usize,
+    ) -> Answer
+        ensures { (h : History) → Represents self.now.store h →
+            HasListed h number key.old key_len.old value_len.old (number_of result, key.new, key_len.new, value_len.new) }
+    {
+        let Ok(report) = self.store.check() else {
+            return NO_MEMORY;
+        };
+        let Some(entry) = report.entries.get(number as usize) else {
+            return Answer::Absent;
+        };
+        *value_len = entry.length as usize;
+        copy_out(entry.key.as_slice(), key, key_len)
+    }
+}
+
+/// Counts the keys that have a value, and the extents.
+#[unsafe(no_mangle)]
+pub extern "C" fn fstch_check(
+    handle: &mut Handle,
+    alloc: Global,
+    entries: &mut u32,
+    extents: &mut u32,
+) -> i32
+    ensures same { handle.new.sealed.opened ≡ handle.old.sealed.opened }
+    ensures not_open { (result ≡ NOT_OPEN) ↔ IsFalse handle.old.is_open }
+    ensures counted { IfSome handle.old.sealed.opened (λ opened. (h : History) → Represents opened.store h →
+        HasCounted h entries.old extents.old (result, entries.new, extents.new)) }
+{
+    let Some(opened) = handle.take(alloc) else {
+        return NOT_OPEN;
+    };
+    let answer = opened.count(entries, extents);
+    handle.put_back(opened);
+    answer.number()
+}
+
+/// Copies the key of an entry to the front of a buffer, and says how long its value is.
+#[unsafe(no_mangle)]
+pub extern "C" fn fstch_entry(
+    handle: &mut Handle,
+    alloc: Global,
+    number: u32,
+    key: &mut [u8],
+    key_len: &mut usize,
+    value_len: &mut usize,
+) -> i32
+    ensures same { handle.new.sealed.opened ≡ handle.old.sealed.opened }
+    ensures not_open { (result ≡ NOT_OPEN) ↔ IsFalse handle.old.is_open }
+    ensures listed { IfSome handle.old.sealed.opened (λ opened. (h : History) → Represents opened.store h →
+        HasListed h number key.old key_len.old value_len.old (result, key.new, key_len.new, value_len.new)) }
+{
+    let Some(opened) = handle.take(alloc) else {
+        return NOT_OPEN;
+    };
+    let answer = opened.entry(number, key, key_len, value_len);
+    handle.put_back(opened);
+    answer.number()
+}

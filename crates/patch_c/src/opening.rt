@@ -1,0 +1,92 @@
+//! How the file of a store is made, and opened.
+ghost use Rattle.std.specs.Prelude.{◌≡◌, ◌≢◌, ◌⊎◌, [], length, IfOk, IfErr};
+ghost use Rattle.patch_device.specs.Blocks.{FitsFile};
+ghost use Rattle.patch_store.specs.Opening.{IsOpened};
+ghost use Rattle.patch_c.specs.Opening.{IsFresh, HasMade, geometry_for};
+
+use crate::answers::Answer;
+use crate::copying::copy_out;
+use crate::given::blocks_in;
+use crate::opened::Opened;
+use crate::tape::Tape;
+use crate::unopened::Unopened;
+use patch_cache::Cache;
+use patch_frame::{Format, Geometry};
+use patch_model::{BlockBytes, RefusalKind, Refuses};
+use patch_store::{Store, make};
+use std::alloc::Global;
+
+/// The store of these blocks.
+fn open_store(alloc: Global, blocks: Vec<BlockBytes>) -> Result<Store, Unopened>
+    requires { FitsFile (length blocks.items) }
+    ensures opened { IfOk result (λ store. IsOpened blocks.items store) }
+    ensures no_steps { IfOk result (λ store. store.cache.trace ≡ []) }
+{
+    let cache = Cache::open(alloc, blocks)?;
+    match Store::open(alloc, cache) {
+        Ok(store) => Ok(store),
+        Err((_, fault)) => Err(Unopened::of(fault.refusal())),
+    }
+}
+
+/// The store of a file's bytes, on the heap.
+pub fn open_bytes(alloc: Global, file: i32, bytes: &[u8]) -> Result<Box<Opened, Global>, Unopened>
+    ensures { IfOk result (λ opened. IsFresh file bytes.now opened.value) }
+{
+    let blocks = blocks_in(alloc, bytes)?;
+    let device = Tape::new(alloc, blocks.len() as u32);
+    let store = open_store(alloc, blocks)?;
+    Ok(Box::new(
+        alloc,
+        Opened {
+            store,
+            device,
+            file,
+            is_spent: false,
+        },
+    )?)
+}
+
+/// How a new disk is divided: with no length of its extents it is of version 1.
+pub fn geometry_for(index: u32, extents: u32, extent_blocks: u32) -> Geometry
+    ensures { result ≡ geometry_for index extents extent_blocks }
+{
+    let format = if extent_blocks == 0 {
+        Format::One
+    } else {
+        Format::Two {
+            length: extent_blocks,
+        }
+    };
+    Geometry {
+        index,
+        extents,
+        format,
+    }
+}
+
+/// Copies the first block of a new disk to the front of a buffer, and counts the blocks. The others are zeros.
+#[tactic(auto, using(crate::proofs::Made::made_so, crate::proofs::Made::kept_so))]
+pub fn make_first(alloc: Global, geometry: Geometry, into: &mut [u8], count: &mut u32) -> Answer
+    ensures made { result ≡ Answer.Done → HasMade geometry into.old into.new count.new }
+    ensures refused { result ≢ Answer.Done → (into.new ≡ into.old) × (count.new ≡ count.old) }
+{
+    let blocks = match make(alloc, geometry) {
+        Ok(blocks) => blocks,
+        Err(refusal) => return Answer::Refused(refusal.kind()),
+    };
+    let Some(first) = blocks.first() else {
+        // Never so: a disk has blocks.
+        return Answer::Refused(RefusalKind::Geometry);
+    };
+    let Ok(many) = u32::try_from(blocks.len()) else {
+        // Never so: a disk has few.
+        return Answer::Refused(RefusalKind::Geometry);
+    };
+    let mut len = 0;
+    let answer = copy_out(first.as_slice(), into, &mut len);
+    if answer == Answer::Done {
+        *count = many;
+    }
+    answer
+}

@@ -1,0 +1,124 @@
+//! Syncs: all changes are put on the tape, the program in C brings them from there to the file, and says whether it has.
+ghost use Rattle.std.specs.Prelude.{◌≡◌, ◌↔◌, ◌||◌, not, IsTrue, IsFalse, IfSome, length, slice_get};
+ghost use Rattle.patch_history.specs.History.{History};
+ghost use Rattle.patch_store.specs.Flushing.{StandsStill};
+ghost use Rattle.patch_store.specs.Meaning.{Represents};
+ghost use Rattle.patch_c.specs.Answering.{number_of, IsOf};
+ghost use Rattle.patch_c.specs.Handle.{Between};
+ghost use Rattle.patch_c.specs.Saving.{IsSynced, HasWrittenOn, HasCause, IsSettled};
+ghost use Rattle.patch_c.specs.Tape.{block_count_of, fault_count_of, writes_of, write_told};
+
+use crate::answers::{Answer, DONE, NOT_OPEN};
+use crate::copying::copy_out;
+use crate::handle::Handle;
+use crate::opened::Opened;
+use crate::saving::save;
+use std::alloc::Global;
+
+impl Opened {
+    /// Puts all patches on the tape. Once a sync was refused none is tried again.
+    fn sync(&mut self) -> Answer
+        ensures spent { IsTrue self.old.is_spent → (result ≡ Answer.NoSync) × (self.new.store ≡ self.old.store) }
+        ensures synced { (h : History) → StandsStill self.old.store h → result ≡ Answer.Done → IsSynced h self.new.store }
+        ensures written { IsFalse self.old.is_spent → (h : History) → Represents self.old.store h → HasWrittenOn h self.new.store }
+        ensures fails { IsFalse self.new.is_spent ↔ (result ≡ Answer.Done) }
+        ensures cause { IsFalse self.old.is_spent → (h : History) → Represents self.old.store h
+            → block_count_of self.old.device ≡ length h.opening
+            → HasCause result (fault_count_of self.old.device) (fault_count_of self.new.device) }
+    {
+        if self.is_spent {
+            return Answer::NoSync;
+        }
+        let answer = save(&mut self.store, &mut self.device);
+        self.is_spent = answer != Answer::Done;
+        answer
+    }
+
+    /// Copies a write of the tape.
+    fn written(&self, number: u32, block: &mut u32, into: &mut [u8]) -> Answer
+        ensures { (number_of result, block.new, into.new) ≡ write_told (slice_get (writes_of self.now.device) number) block.old into.old }
+    {
+        let Some((place, bytes)) = self.device.writes().get(number as usize) else {
+            return Answer::Absent;
+        };
+        *block = *place;
+        let mut len = 0;
+        copy_out(bytes.as_slice(), into, &mut len)
+    }
+
+    /// Empties the tape. Where the file hasn't got all of it no sync is done any more.
+    #[tactic(auto, using(crate::proofs::Staying::spent_so))]
+    fn settle(&mut self, is_done: bool)
+        ensures { IsSettled is_done self.old self.new }
+    {
+        self.device.clear();
+        if !is_done {
+            self.is_spent = true;
+        }
+    }
+}
+
+/// Puts all changes on the tape, each behind those on which it depends. The store takes them for durable from then on.
+///
+/// On a device that keeps what it is given each of its blocks is the cached one: that is said of [`save`], since of a file no contract
+/// says what it holds.
+#[unsafe(no_mangle)]
+pub extern "C" fn fstch_core_sync(handle: &mut Handle, alloc: Global) -> i32
+    ensures open { handle.new.is_open ≡ handle.old.is_open }
+    ensures not_open { (result ≡ NOT_OPEN) ↔ IsFalse handle.old.is_open }
+    ensures synced { Between handle.old handle.new (λ before after. (h : History) → StandsStill before.store h
+        → result ≡ DONE → IsSynced h after.store) }
+    ensures written { Between handle.old handle.new (λ before after. IsFalse before.is_spent
+        → (h : History) → Represents before.store h → HasWrittenOn h after.store) }
+    ensures spent { Between handle.old handle.new (λ before after. IsTrue before.is_spent
+        → (result ≡ number_of Answer.NoSync) × (after.store ≡ before.store)) }
+    ensures fails { Between handle.old handle.new (λ before after. IsFalse after.is_spent ↔ (result ≡ DONE)) }
+    ensures cause { Between handle.old handle.new (λ before after. IsFalse before.is_spent → (h : History) → Represents before.store h
+        → block_count_of before.device ≡ length h.opening
+        → IsOf result (λ answer. HasCause answer (fault_count_of before.device) (fault_count_of after.device))) }
+{
+    let Some(mut opened) = handle.take(alloc) else {
+        return NOT_OPEN;
+    };
+    let answer = opened.sync();
+    handle.put_back(opened);
+    answer.number()
+}
+
+/// Copies the write of this number, from 0 on, and tells its block. The file has to be given all of them in this order.
+#[unsafe(no_mangle)]
+pub extern "C" fn fstch_core_write(
+    handle: &mut Handle,
+    alloc: Global,
+    number: u32,
+    block: &mut u32,
+    into: &mut [u8],
+) -> i32
+    ensures same { handle.new.sealed.opened ≡ handle.old.sealed.opened }
+    ensures not_open { (result ≡ NOT_OPEN) ↔ IsFalse handle.old.is_open }
+    ensures told { IfSome handle.old.sealed.opened (λ opened.
+        (result, block.new, into.new) ≡ write_told (slice_get (writes_of opened.device) number) block.old into.old) }
+{
+    let Some(opened) = handle.take(alloc) else {
+        return NOT_OPEN;
+    };
+    let answer = opened.written(number, block, into);
+    handle.put_back(opened);
+    answer.number()
+}
+
+/// Takes note that all writes of the tape last in the file now, or that some may not.
+#[unsafe(no_mangle)]
+pub extern "C" fn fstch_core_synced(handle: &mut Handle, alloc: Global, is_done: bool) -> i32
+    ensures open { handle.new.is_open ≡ handle.old.is_open }
+    ensures done { (result ≡ DONE) ↔ IsTrue handle.old.is_open }
+    ensures not_open { (result ≡ NOT_OPEN) ↔ IsFalse handle.old.is_open }
+    ensures settled { Between handle.old handle.new (IsSettled is_done) }
+{
+    let Some(mut opened) = handle.take(alloc) else {
+        return NOT_OPEN;
+    };
+    opened.settle(is_done);
+    handle.put_back(opened);
+    DONE
+}

@@ -1,0 +1,279 @@
+/* fstch: keys and values in one file that opens after every crash.
+ *
+ * This file is all that a caller has to read. It is C and C++. Link with libfstch.a or libfstch.so.
+ *
+ *     fstch_store store = FSTCH_CLOSED;
+ *     fstch_open(&store, path, path_length, &slot);
+ *     fstch_put(&store, FSTCH_NO_WRITER, key, key_length, value, value_length);
+ *     fstch_sync(&store);
+ *     fstch_close(&store);
+ *
+ * What lasts. A put or a delete changes the store in memory; fstch_sync brings all changes to the file and lets them last there.
+ * Whenever the program ends or the power is cut, the file opens again. It then has, of each key, what it had after the last sync or
+ * after one of the later puts and deletes; where a write had reached the file, all that it depends on had too. What was answered
+ * before a sync that answered FSTCH_DONE is there.
+ *
+ * Answers. Every call but fstch_is_open, fstch_error_text and fstch_version answers FSTCH_DONE or the number of why it was refused.
+ * A refused call changes nothing, in the store or in what it was given, but where it says so. With FSTCH_OUT_OF_MEMORY each key has
+ * the value that it had. Each call lists its own answers, in the order in which they are tested. Each that takes an open store may also
+ * answer FSTCH_NOT_OPEN, which goes before all others.
+ *
+ * What a caller owes, and nothing tests:
+ * - A fstch_store begins as FSTCH_CLOSED, and these calls alone change it. A copy of an open one is never passed.
+ * - No pointer is null. Where a length is 0 the pointer beside it is any other.
+ * - A buffer has the length that is passed beside it. The store, the buffers and the out parameters of one call don't overlap.
+ * - The thread that opened a store makes all its calls. Two threads may each have a store of their own.
+ * - No call is made from a signal handler, nor in a child that was forked while a store was open, but for one that has run another
+ *   program by then. Such a child has the lock of the file too, until it ends or runs another program.
+ * - malloc, realloc and free are those of one allocator.
+ */
+#ifndef FSTCH_H
+#define FSTCH_H
+
+#include <stdbool.h>
+#include <stddef.h>
+#include <stdint.h>
+
+/* The version of this interface: 10,000 for each major, 100 for each minor number, 1 for each patch. */
+#define FSTCH_VERSION 100
+
+#ifdef __cplusplus
+extern "C" {
+#endif
+
+/* A store that is open, or none. It takes 16 bytes and stays where the program puts it. */
+typedef struct fstch_store {
+    /* Whether it is open. To be read alone; fstch_is_open says the same. */
+    bool is_open;
+    /* What belongs to these calls. Null where it is closed. */
+    void *at;
+} fstch_store;
+
+/* How a fstch_store begins, and what fstch_close leaves: all zeros. */
+#define FSTCH_CLOSED {false, 0}
+
+/* Writers are numbered from 0 to 6. A put or delete by one belongs to all groups that the writer has engaged. */
+#define FSTCH_WRITERS 7u
+/* A put or delete by no writer, which belongs to no group. */
+#define FSTCH_NO_WRITER UINT32_MAX
+
+/* The most bytes of a key, which has 1 at least. */
+#define FSTCH_MAX_KEY 32u
+/* The most bytes of a value of any store. One whose extents have 16 blocks has the lower limits of fstch_make. */
+#define FSTCH_MAX_VALUE 131072u
+
+/* What a call answers: 0, the number of a refusal of the store from 1 on, or below 0 one of this library. */
+enum fstch_answer {
+    FSTCH_DONE = 0,
+
+    /* There was no memory. */
+    FSTCH_OUT_OF_MEMORY = 1,
+    /* The file can't be opened, made, read or written. */
+    FSTCH_DISK = 4,
+    /* The file's length isn't 1 to 4,096 whole blocks of 4,096 bytes, or not what its first block says. */
+    FSTCH_FILE_SIZE = 5,
+    /* 16,777,216 changes were made since the store was opened: close it and open it again. */
+    FSTCH_NUMBERS_SPENT = 17,
+    /* 65,536 changes are in memory: a sync makes room. */
+    FSTCH_TOO_MANY_LIVE = 18,
+    /* No group has the number, or it was closed. */
+    FSTCH_NO_SUCH_GROUP = 27,
+    /* A group can't go after itself. */
+    FSTCH_SAME_GROUP = 28,
+    /* The group was engaged before, so it goes after no more groups. */
+    FSTCH_STARTED = 29,
+    /* A group goes after it, so it takes no more writers and goes after no more groups. */
+    FSTCH_SEALED = 30,
+    /* The writer has engaged the group already; or one has engaged a group that has to be free. */
+    FSTCH_ENGAGED = 31,
+    /* The writer hasn't engaged the group. */
+    FSTCH_NOT_ENGAGED = 32,
+    /* 1,024 groups were made since the store was opened, closed ones counted. */
+    FSTCH_TOO_MANY_GROUPS = 33,
+    /* The store has no extent of this number. */
+    FSTCH_NO_SUCH_EXTENT = 34,
+    /* The extent was won back as often as can be counted. */
+    FSTCH_GENERATION_SPENT = 38,
+    /* The key has no byte, or more than FSTCH_MAX_KEY. */
+    FSTCH_KEY_LENGTH = 39,
+    /* The value is longer than the store allows. */
+    FSTCH_VALUE_LENGTH = 40,
+    /* The key to be deleted has no value. */
+    FSTCH_NO_KEY = 41,
+    /* The key is new, and the store has as many keys as it can. */
+    FSTCH_INDEX_FULL = 42,
+    /* No extent has room: delete, then fstch_reclaim. */
+    FSTCH_NO_SPACE = 43,
+    /* Puts append to the extent, and values in it are live. */
+    FSTCH_OPEN_EXTENT = 44,
+    /* Nothing was appended to the extent since it was won back. */
+    FSTCH_EMPTY_EXTENT = 45,
+    /* No store is divided like this. */
+    FSTCH_GEOMETRY = 46,
+    /* The file holds no store: its first block, the block of the extents' pointers, or a slot of the index doesn't say what it must. */
+    FSTCH_BAD_SUPER = 47,
+    FSTCH_BAD_POINTER = 48,
+    FSTCH_BAD_SLOT = 49,
+    FSTCH_BAD_FRAME = 50,
+    FSTCH_DUPLICATE_KEY = 51,
+    /* The file refused the write of a block, each time that it was tried. */
+    FSTCH_DEVICE_GAVE_UP = 57,
+
+    /* The store isn't open. */
+    FSTCH_NOT_OPEN = -1,
+    /* The store is open already. */
+    FSTCH_IS_OPEN = -2,
+    /* The path isn't UTF-8. */
+    FSTCH_BAD_PATH = -3,
+    /* What was asked for is longer than the buffer. */
+    FSTCH_BUFFER_TOO_SMALL = -4,
+    /* The key has no value, or there is no entry of this number. */
+    FSTCH_ABSENT = -5,
+    /* Another store, of this program or another, has the file open. */
+    FSTCH_IN_USE = -6,
+    /* All was written, but the system didn't let it last; or an earlier sync was refused. Close the store and open it again. */
+    FSTCH_NO_SYNC = -7,
+    /* The number of a writer is FSTCH_WRITERS or more. */
+    FSTCH_BAD_WRITER = -8
+};
+
+/* Files. A path has 1 to 4,095 bytes of UTF-8, none of them 0; it needs no 0 behind it. */
+
+/* Makes a file that holds an empty store. What has the name already is left alone, and a file that can't be finished is removed.
+ * The file is synced, and the directory that it stands in isn't.
+ *
+ * The store has index_blocks (1 to 16) times 64 keys at most, and 2 to 254 extents, to which values are appended. With extent_blocks
+ * 0 an extent has 16 blocks of 4,096 bytes, and a value at most 32,768 bytes. With extent_blocks 16 to 64 it has so many, and a value
+ * at most as many bytes as an extent less 48, and never more than FSTCH_MAX_VALUE. The file has 4,096 blocks at most: 2, those of the
+ * index, and those of the extents.
+ *
+ * FSTCH_BAD_PATH, FSTCH_GEOMETRY, FSTCH_OUT_OF_MEMORY, FSTCH_DISK.
+ */
+int32_t fstch_make(const uint8_t *path, size_t path_length, uint32_t index_blocks, uint32_t extents, uint32_t extent_blocks);
+
+/* Opens the store of a file into a closed fstch_store, and locks the file until it is closed or the program ends. The program fstch
+ * takes no such lock. The file is read whole: an open store takes as much memory as the file has bytes, and more for what is not
+ * synced.
+ *
+ * `slot` is set with FSTCH_BAD_SLOT, FSTCH_BAD_FRAME and FSTCH_DUPLICATE_KEY alone: to the first slot of the index that is wrong.
+ *
+ * FSTCH_IS_OPEN, FSTCH_BAD_PATH, FSTCH_DISK, FSTCH_IN_USE, FSTCH_FILE_SIZE, FSTCH_OUT_OF_MEMORY, FSTCH_BAD_SUPER, FSTCH_BAD_POINTER,
+ * FSTCH_BAD_SLOT, FSTCH_BAD_FRAME, FSTCH_DUPLICATE_KEY.
+ */
+int32_t fstch_open(fstch_store *store, const uint8_t *path, size_t path_length, uint32_t *slot);
+
+/* Closes a store. It does not sync: what was not synced is lost. The store is FSTCH_CLOSED then, so that a second close is refused and
+ * harms nothing. */
+int32_t fstch_close(fstch_store *store);
+
+/* Whether the store is open. */
+bool fstch_is_open(const fstch_store *store);
+
+/* Brings all changes to the file, each behind those on which it depends, and waits until the system lets them last.
+ *
+ * With FSTCH_DEVICE_GAVE_UP, FSTCH_OUT_OF_MEMORY and FSTCH_NO_SYNC some changes may have reached the file and others not, in their
+ * order. From then on the store answers each sync with FSTCH_NO_SYNC: close it and open it again.
+ *
+ * FSTCH_OUT_OF_MEMORY, FSTCH_DEVICE_GAVE_UP, FSTCH_NO_SYNC.
+ */
+int32_t fstch_sync(fstch_store *store);
+
+/* Values. */
+
+/* Puts a value under a key, in place of the one that it had. `writer` is 0 to 6, or FSTCH_NO_WRITER.
+ *
+ * FSTCH_BAD_WRITER, FSTCH_KEY_LENGTH, FSTCH_VALUE_LENGTH, FSTCH_INDEX_FULL, FSTCH_NO_SPACE, FSTCH_NUMBERS_SPENT, FSTCH_TOO_MANY_LIVE,
+ * FSTCH_OUT_OF_MEMORY.
+ */
+int32_t fstch_put(fstch_store *store, uint32_t writer, const uint8_t *key, size_t key_length, const uint8_t *value, size_t value_length);
+
+/* Copies the value of a key to the front of `into`, and leaves what is behind it there. `length` becomes the value's length, also with
+ * FSTCH_BUFFER_TOO_SMALL, where nothing is copied; with any other refusal it stays.
+ *
+ * FSTCH_KEY_LENGTH, FSTCH_ABSENT, FSTCH_OUT_OF_MEMORY, FSTCH_BUFFER_TOO_SMALL.
+ */
+int32_t fstch_get(fstch_store *store, const uint8_t *key, size_t key_length, uint8_t *into, size_t into_length, size_t *length);
+
+/* Takes a key and its value away. The room is won back by fstch_reclaim. `writer` is as in fstch_put.
+ *
+ * FSTCH_BAD_WRITER, FSTCH_KEY_LENGTH, FSTCH_NO_KEY, FSTCH_NUMBERS_SPENT, FSTCH_TOO_MANY_LIVE, FSTCH_OUT_OF_MEMORY.
+ */
+int32_t fstch_delete(fstch_store *store, uint32_t writer, const uint8_t *key, size_t key_length);
+
+/* Moves what is live in an extent elsewhere, and empties it. Extents are numbered from 0.
+ *
+ * FSTCH_NO_SUCH_EXTENT, FSTCH_EMPTY_EXTENT, FSTCH_OPEN_EXTENT, FSTCH_GENERATION_SPENT, FSTCH_NO_SPACE, FSTCH_NUMBERS_SPENT,
+ * FSTCH_TOO_MANY_LIVE, FSTCH_OUT_OF_MEMORY.
+ */
+int32_t fstch_reclaim(fstch_store *store, uint32_t extent);
+
+/* How many keys have a value, and how many extents there are.
+ *
+ * FSTCH_OUT_OF_MEMORY.
+ */
+int32_t fstch_check(fstch_store *store, uint32_t *entries, uint32_t *extents);
+
+/* The entry of this number, from 0 to one less than fstch_check counts: its key is copied to the front of `key`, `key_length` becomes
+ * the key's length and `value_length` that of its value. A buffer of FSTCH_MAX_KEY bytes is large enough. With FSTCH_BUFFER_TOO_SMALL
+ * the lengths are set and nothing is copied. The numbers stay while no new key is put and none is deleted.
+ *
+ * FSTCH_OUT_OF_MEMORY, FSTCH_ABSENT, FSTCH_BUFFER_TOO_SMALL.
+ */
+int32_t fstch_entry(fstch_store *store, uint32_t number, uint8_t *key, size_t key_room, size_t *key_length, size_t *value_length);
+
+/* Groups: an order in which changes reach the file, at less than the cost of a sync between them. A group has all changes of the
+ * writers that have engaged it. Whatever a crash leaves: where it has a change of a group, it has all changes of the groups that go
+ * before it. */
+
+/* Makes a group, and sets `group` to its number. Numbers are counted from 0 and aren't used again while the store is open.
+ *
+ * FSTCH_TOO_MANY_GROUPS, FSTCH_OUT_OF_MEMORY.
+ */
+int32_t fstch_group(fstch_store *store, uint32_t *group);
+
+/* Lets the writer's changes belong to the group from now on. FSTCH_NO_WRITER engages none: it is refused with FSTCH_BAD_WRITER.
+ *
+ * FSTCH_BAD_WRITER, FSTCH_NO_SUCH_GROUP, FSTCH_SEALED, FSTCH_ENGAGED, FSTCH_OUT_OF_MEMORY.
+ */
+int32_t fstch_group_engage(fstch_store *store, uint32_t group, uint32_t writer);
+
+/* Ends what fstch_group_engage began.
+ *
+ * FSTCH_BAD_WRITER, FSTCH_NO_SUCH_GROUP, FSTCH_NOT_ENGAGED.
+ */
+int32_t fstch_group_disengage(fstch_store *store, uint32_t group, uint32_t writer);
+
+/* Lets the group `later` go to the file after the group `earlier`. `later` was not engaged yet, and no group goes after it; nobody has
+ * `earlier` engaged, and nobody ever engages it again.
+ *
+ * FSTCH_NO_SUCH_GROUP, FSTCH_SAME_GROUP, FSTCH_SEALED, FSTCH_STARTED, FSTCH_ENGAGED, FSTCH_OUT_OF_MEMORY.
+ */
+int32_t fstch_group_depend(fstch_store *store, uint32_t later, uint32_t earlier);
+
+/* Ends the use of the group's number. Its changes stay, in their order.
+ *
+ * FSTCH_NO_SUCH_GROUP, FSTCH_ENGAGED.
+ */
+int32_t fstch_group_close(fstch_store *store, uint32_t group);
+
+/* Sets `changes` to how many pieces of the group's changes haven't reached the file. A put has several pieces.
+ *
+ * FSTCH_NO_SUCH_GROUP.
+ */
+int32_t fstch_group_pending(fstch_store *store, uint32_t group, uint32_t *changes);
+
+/* About the library. */
+
+/* Copies the text of an answer to the front of `into`, as much as fits beside a 0 byte that ends it, and answers how many bytes the
+ * whole text has without that 0. Nothing is copied where into_length is 0. A text has 63 bytes at most; a number that is no answer
+ * has the text "unknown answer". */
+size_t fstch_error_text(int32_t answer, char *into, size_t into_length);
+
+/* The FSTCH_VERSION of the library that is linked. */
+uint32_t fstch_version(void);
+
+#ifdef __cplusplus
+}
+#endif
+
+#endif

@@ -1,0 +1,27 @@
+"""Keys and values in one file that opens after every crash.
+
+    import fstch
+
+    fstch.make("demo.disk", index_blocks=1, extents=4)
+    with fstch.open("demo.disk") as store:
+        store[b"key"] = b"value"
+        store.sync()
+
+A `Store` is a mapping of bytes to bytes. What is put or deleted lasts from a `sync` on, and a `with` that no exception ends syncs at
+its end. Whenever the program ends or the power is cut, the file opens again, and has of each key what it had after the last sync or
+after a later put or delete. Groups bring changes to the file in an order, without a sync between them:
+
+    with store.group() as data:
+        store[b"data"] = b"..."
+    with store.group(after=data):
+        store[b"name"] = b"data"
+
+A refused call raises an exception of `Error`, with the library's text and its number.
+"""
+
+from .errors import *
+from .errors import __all__ as _errors
+from .library import VERSION
+from .store import Counts, Group, Store, make, open
+
+__all__ = ["VERSION", "Counts", "Group", "Store", "make", "open", *_errors]

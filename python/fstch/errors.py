@@ -1,0 +1,299 @@
+"""Why a store refuses a call: an exception for each answer of the library, under the one base `Error`."""
+
+from __future__ import annotations
+
+from typing import Optional
+
+__all__ = [
+    "Error",
+    "Absent",
+    "BadFrame",
+    "BadPath",
+    "BadPointer",
+    "BadSlot",
+    "BadSuper",
+    "BadWriter",
+    "BufferTooSmall",
+    "DeviceGaveUp",
+    "Disk",
+    "DuplicateKey",
+    "EmptyExtent",
+    "Engaged",
+    "FileSize",
+    "GenerationSpent",
+    "Geometry",
+    "InUse",
+    "IndexFull",
+    "IsOpen",
+    "KeyLength",
+    "NoKey",
+    "NoSpace",
+    "NoSuchExtent",
+    "NoSuchGroup",
+    "NoSync",
+    "NotEngaged",
+    "NotOpen",
+    "NumbersSpent",
+    "OpenExtent",
+    "OutOfMemory",
+    "SameGroup",
+    "Sealed",
+    "Started",
+    "TooManyGroups",
+    "TooManyLive",
+    "ValueLength",
+    "WrongThread",
+]
+
+
+class Error(Exception):
+    """A call was refused. But where the exception says so, it has changed nothing."""
+
+    number: Optional[int] = None
+    """The number that the library answered."""
+
+    slot: Optional[int] = None
+    """The first slot of the index that is wrong, where the exception has one."""
+
+    def __str__(self) -> str:
+        # (as it is, also of a KeyError, which would quote it)
+        return str(self.args[0]) if self.args else type(self).__name__
+
+
+# The store's own refusals, from 1 on.
+
+
+class OutOfMemory(Error, MemoryError):
+    """There was no memory. Each key has the value that it had."""
+
+    number = 1
+
+
+class Disk(Error, OSError):
+    """The file can't be opened, made, read or written; or there is one already where one is to be made."""
+
+    number = 4
+
+
+class FileSize(Error):
+    """The file's length isn't that of a store."""
+
+    number = 5
+
+
+class NumbersSpent(Error):
+    """16,777,216 patches were made since the store was opened: close it and open it again."""
+
+    number = 17
+
+
+class TooManyLive(Error):
+    """65,536 patches are in memory: a sync makes room."""
+
+    number = 18
+
+
+class NoSuchGroup(Error):
+    """The group was closed."""
+
+    number = 27
+
+
+class SameGroup(Error):
+    """A group can't go after itself."""
+
+    number = 28
+
+
+class Started(Error):
+    """The group was entered before, so it goes after no more groups."""
+
+    number = 29
+
+
+class Sealed(Error):
+    """A group goes after it, so it is entered no more, and goes after no more groups."""
+
+    number = 30
+
+
+class Engaged(Error):
+    """The group is entered already; or one that has to be free is."""
+
+    number = 31
+
+
+class NotEngaged(Error):
+    """The group isn't entered."""
+
+    number = 32
+
+
+class TooManyGroups(Error):
+    """1,024 groups were made since the store was opened, closed ones counted."""
+
+    number = 33
+
+
+class NoSuchExtent(Error):
+    """The store has no extent of this number."""
+
+    number = 34
+
+
+class GenerationSpent(Error):
+    """The extent was won back as often as can be counted."""
+
+    number = 38
+
+
+class KeyLength(Error, ValueError):
+    """The key has no byte, or more than 32."""
+
+    number = 39
+
+
+class ValueLength(Error, ValueError):
+    """The value is longer than the store allows."""
+
+    number = 40
+
+
+class NoKey(Error, KeyError):
+    """The key that is to be deleted has no value."""
+
+    number = 41
+
+
+class IndexFull(Error):
+    """The key is new, and the store has as many keys as it can."""
+
+    number = 42
+
+
+class NoSpace(Error):
+    """No extent has room: a reclaim wins back what was deleted or put anew."""
+
+    number = 43
+
+
+class OpenExtent(Error):
+    """Puts append to the extent, and values in it are live."""
+
+    number = 44
+
+
+class EmptyExtent(Error):
+    """Nothing was appended to the extent since it was won back."""
+
+    number = 45
+
+
+class Geometry(Error, ValueError):
+    """No store is divided like this."""
+
+    number = 46
+
+
+class BadSuper(Error):
+    """The file holds no store: its first block doesn't say what it must."""
+
+    number = 47
+
+
+class BadPointer(Error):
+    """The file holds no store: the record of an extent's pointer doesn't say what it must."""
+
+    number = 48
+
+
+class BadSlot(Error):
+    """The file holds no store: `slot` of the index doesn't say what it must."""
+
+    number = 49
+
+
+class BadFrame(Error):
+    """The file holds no store: `slot` of the index doesn't name the value of its key."""
+
+    number = 50
+
+
+class DuplicateKey(Error):
+    """The file holds no store: `slot` of the index has the key of a lower one."""
+
+    number = 51
+
+
+class DeviceGaveUp(Error, OSError):
+    """The file refused the write of a block, each time that it was tried. Close the store and open it again."""
+
+    number = 57
+
+
+# The library's own, below 0.
+
+
+class NotOpen(Error, ValueError):
+    """The store is closed."""
+
+    number = -1
+
+
+class IsOpen(Error):
+    """The store is open already."""
+
+    number = -2
+
+
+class BadPath(Error, ValueError):
+    """The path isn't UTF-8."""
+
+    number = -3
+
+
+class BufferTooSmall(Error):
+    """What was asked for is longer than the buffer. This module asks again, so its callers don't see it."""
+
+    number = -4
+
+
+class Absent(Error, KeyError):
+    """The key has no value."""
+
+    number = -5
+
+
+class InUse(Error, OSError):
+    """Another store, of this program or another, has the file open."""
+
+    number = -6
+
+
+class NoSync(Error, OSError):
+    """All was written, but the system didn't let it last; or an earlier sync was refused. Close the store and open it again."""
+
+    number = -7
+
+
+class BadWriter(Error, ValueError):
+    """There is no writer of this number."""
+
+    number = -8
+
+
+# This module's own.
+
+
+class WrongThread(Error):
+    """The store was opened by another thread, or before a fork by the parent: it is used by the thread that opened it alone."""
+
+
+_BY_NUMBER = {kind.number: kind for kind in Error.__subclasses__() if kind.number is not None}
+
+
+def of(number: int, text: str) -> Error:
+    """The exception for an answer of the library, with its text."""
+    error = _BY_NUMBER.get(number, Error)(text)
+    error.number = number
+    return error

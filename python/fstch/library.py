@@ -1,0 +1,116 @@
+"""The calls of the C library, as its header `fstch.h` declares them."""
+
+from __future__ import annotations
+
+import ctypes
+import ctypes.util
+import os
+from ctypes import POINTER, c_bool, c_char_p, c_int32, c_size_t, c_uint32, c_void_p
+from typing import Iterator, Optional
+
+from . import errors
+
+__all__ = ["VERSION", "Handle", "calls", "refusal", "require_done", "text_of"]
+
+VERSION = 100
+"""The version of the interface that this module is written for: of its major and minor number the library has to be."""
+
+NAME = "libfstch.so"
+VARIABLE = "FSTCH_LIBRARY"
+
+
+class Handle(ctypes.Structure):
+    """A store that is open, or none: zeros."""
+
+    _fields_ = [("is_open", c_bool), ("at", c_void_p)]
+
+
+_STORE, _NUMBER, _SIZE = POINTER(Handle), POINTER(c_uint32), POINTER(c_size_t)
+_BYTES = (c_char_p, c_size_t)
+# A buffer that is written to.
+_ROOM = (c_void_p, c_size_t)
+
+_ANSWERING = {
+    "make": (*_BYTES, c_uint32, c_uint32, c_uint32),
+    "open": (_STORE, *_BYTES, _NUMBER),
+    "close": (_STORE,),
+    "sync": (_STORE,),
+    "put": (_STORE, c_uint32, *_BYTES, *_BYTES),
+    "get": (_STORE, *_BYTES, *_ROOM, _SIZE),
+    "delete": (_STORE, c_uint32, *_BYTES),
+    "reclaim": (_STORE, c_uint32),
+    "check": (_STORE, _NUMBER, _NUMBER),
+    "entry": (_STORE, c_uint32, *_ROOM, _SIZE, _SIZE),
+    "group": (_STORE, _NUMBER),
+    "group_engage": (_STORE, c_uint32, c_uint32),
+    "group_disengage": (_STORE, c_uint32, c_uint32),
+    "group_depend": (_STORE, c_uint32, c_uint32),
+    "group_close": (_STORE, c_uint32),
+    "group_pending": (_STORE, c_uint32, _NUMBER),
+}
+_OTHERS = {
+    "is_open": (c_bool, _STORE),
+    "error_text": (c_size_t, c_int32, c_char_p, c_size_t),
+    "version": (c_uint32,),
+}
+
+
+def _names() -> Iterator[str]:
+    """Where the library may be: what the variable names alone, or beside this module, or where the system looks."""
+    named = os.environ.get(VARIABLE)
+    if named:
+        yield named
+        return
+    beside = os.path.join(os.path.dirname(os.path.abspath(__file__)), NAME)
+    if os.path.exists(beside):
+        yield beside
+    installed = ctypes.util.find_library("fstch")
+    if installed:
+        yield installed
+
+
+def _load() -> ctypes.CDLL:
+    why: Optional[OSError] = None
+    for name in _names():
+        try:
+            return _declared(ctypes.CDLL(name))
+        except OSError as error:
+            why = why or error
+    raise ImportError(why or f"there is no {NAME} beside the module: './build-library' makes it, and {VARIABLE} may name one elsewhere")
+
+
+def _declared(library: ctypes.CDLL) -> ctypes.CDLL:
+    """The library, with what each of its calls takes and answers."""
+    whole = {**{name: (c_int32, *taken) for name, taken in _ANSWERING.items()}, **_OTHERS}
+    for name, (answered, *taken) in whole.items():
+        try:
+            call = getattr(library, f"fstch_{name}")
+        except AttributeError:
+            raise ImportError(f"{library._name} has no fstch_{name}") from None
+        call.restype, call.argtypes = answered, taken
+    version = library.fstch_version()
+    if version // 100 != VERSION // 100:
+        raise ImportError(f"{library._name} has version {version} of the interface, and this module is for {VERSION}")
+    return library
+
+
+calls = _load()
+
+
+def text_of(answer: int) -> str:
+    """The library's text of an answer."""
+    into = ctypes.create_string_buffer(64)
+    calls.fstch_error_text(answer, into, len(into))
+    return into.value.decode()
+
+
+def require_done(answer: int, about: object = None) -> None:
+    """Raises the exception of an answer, if it is a refusal. What it is about is told behind the library's text."""
+    if answer:
+        raise refusal(answer, about)
+
+
+def refusal(answer: int, about: object = None) -> errors.Error:
+    """The exception of an answer."""
+    text = text_of(answer)
+    return errors.of(answer, text if about is None else f"{text}: {about!r}")

@@ -1,0 +1,205 @@
+/* When the library writes and syncs, and what it answers and has then where writes, syncs and allocations fail in turn. */
+#define _GNU_SOURCE
+#include "system.h"
+#include "wanting.h"
+
+static void wants_reopened(fstch_store *store, const char *key, const char *value) {
+    WANT(FSTCH_NO_SYNC, fstch_sync(store));
+    WANT(FSTCH_NO_SYNC, fstch_sync(store));
+    WANT(FSTCH_DONE, fstch_close(store));
+    WANT(FSTCH_DONE, open_path(store, FILE_NAME));
+    WANT(true, has(store, key, value));
+    WANT(FSTCH_DONE, put(store, key, "again"));
+    WANT(FSTCH_DONE, fstch_sync(store));
+    WANT(FSTCH_DONE, fstch_close(store));
+}
+
+static void nothing_is_written_but_by_a_sync(void) {
+    static uint8_t value[32768];
+    fstch_store store = new_store(1, 4);
+    uint32_t group = 777;
+    writes_made = syncs_made = 0;
+    WANT(FSTCH_DONE, fstch_group(&store, &group));
+    WANT(FSTCH_DONE, fstch_group_engage(&store, group, 0));
+    WANT(FSTCH_DONE, put_by(&store, 0, "key", "value"));
+    for (int number = 0; number < 3; number++) {
+        WANT(FSTCH_DONE, fstch_put(&store, FSTCH_NO_WRITER, bytes("long"), 4, value, sizeof value));
+    }
+    WANT(FSTCH_DONE, fstch_reclaim(&store, 0));
+    WANT(FSTCH_DONE, delete_key(&store, "long"));
+    WANT(true, has(&store, "key", "value"));
+    WANT(0, writes_made);
+    WANT(0, syncs_made);
+    WANT(FSTCH_DONE, fstch_sync(&store));
+    WANT(true, writes_made > 0);
+    WANT(1, syncs_made);
+    WANT(FSTCH_DONE, put(&store, "key", "lost"));
+    writes_made = syncs_made = 0;
+    WANT(FSTCH_DONE, fstch_close(&store));
+    WANT(0, writes_made);
+    WANT(0, syncs_made);
+}
+
+static void a_write_is_refused(void) {
+    fstch_store store = new_store(1, 4);
+    WANT(FSTCH_DONE, put(&store, "key", "first"));
+    WANT(FSTCH_DONE, fstch_sync(&store));
+    WANT(FSTCH_DONE, put(&store, "key", "second"));
+    writes_till_refused = 0;
+    WANT(FSTCH_DEVICE_GAVE_UP, fstch_sync(&store));
+    writes_till_refused = -1;
+    WANT(true, has(&store, "key", "second"));
+    wants_reopened(&store, "key", "first");
+}
+
+static void the_system_refuses_to_sync(void) {
+    fstch_store store = new_store(1, 4);
+    WANT(FSTCH_DONE, put(&store, "key", "value"));
+    syncs_till_refused = 0;
+    WANT(FSTCH_NO_SYNC, fstch_sync(&store));
+    syncs_till_refused = -1;
+    WANT(true, has(&store, "key", "value"));
+    wants_reopened(&store, "key", "value"); /* it was written */
+}
+
+static void a_file_is_not_finished(void) {
+    remove(FILE_NAME);
+    writes_till_refused = 0;
+    WANT(FSTCH_DISK, make(FILE_NAME, 1, 4));
+    writes_till_refused = -1;
+    MUST(access(FILE_NAME, F_OK) != 0);
+    syncs_till_refused = 0;
+    WANT(FSTCH_DISK, make(FILE_NAME, 1, 4));
+    syncs_till_refused = -1;
+    MUST(access(FILE_NAME, F_OK) != 0);
+}
+
+/* Whether an answer is that of a refused allocation, behind which all goes on. */
+static bool is_refused(int32_t answer) {
+    allocations_till_refused = -1;
+    WANT(true, answer == FSTCH_DONE || answer == FSTCH_OUT_OF_MEMORY);
+    return answer == FSTCH_OUT_OF_MEMORY;
+}
+
+static bool opens_with_a_failure(long allocation) {
+    fstch_store store = FSTCH_CLOSED;
+    allocations_till_refused = allocation;
+    bool refused = is_refused(open_path(&store, FILE_NAME));
+    WANT(!refused, fstch_is_open(&store));
+    if (refused) {
+        WANT(FSTCH_DONE, open_path(&store, FILE_NAME)); /* the lock is let go */
+    }
+    WANT(true, has(&store, "key", "value"));
+    WANT(FSTCH_DONE, fstch_close(&store));
+    return refused;
+}
+
+static bool puts_with_a_failure(long allocation) {
+    fstch_store store = FSTCH_CLOSED;
+    WANT(FSTCH_DONE, open_path(&store, FILE_NAME));
+    allocations_till_refused = allocation;
+    bool refused = is_refused(put(&store, "key", "other"));
+    WANT(true, has(&store, "key", refused ? "value" : "other"));
+    WANT(FSTCH_DONE, put(&store, "key", "last"));
+    WANT(true, has(&store, "key", "last"));
+    WANT(FSTCH_DONE, fstch_close(&store));
+    return refused;
+}
+
+static bool deletes_with_a_failure(long allocation) {
+    fstch_store store = FSTCH_CLOSED;
+    WANT(FSTCH_DONE, open_path(&store, FILE_NAME));
+    allocations_till_refused = allocation;
+    bool refused = is_refused(delete_key(&store, "key"));
+    WANT(true, has(&store, "key", refused ? "value" : NULL));
+    WANT(FSTCH_DONE, fstch_close(&store));
+    return refused;
+}
+
+static bool looks_with_a_failure(long allocation) {
+    fstch_store store = FSTCH_CLOSED;
+    uint32_t entries = 777, extents = 777;
+    uint8_t into[8];
+    size_t length = 777, other = 777;
+    WANT(FSTCH_DONE, open_path(&store, FILE_NAME));
+    allocations_till_refused = allocation;
+    bool refused = is_refused(fstch_get(&store, bytes("key"), 3, into, sizeof into, &length));
+    WANT(refused ? 777 : 5, length);
+    allocations_till_refused = allocation;
+    refused = is_refused(fstch_check(&store, &entries, &extents)) || refused;
+    allocations_till_refused = allocation;
+    refused = is_refused(fstch_entry(&store, 0, into, sizeof into, &length, &other)) || refused;
+    WANT(FSTCH_DONE, fstch_check(&store, &entries, &extents));
+    WANT(1, entries);
+    WANT(FSTCH_DONE, fstch_close(&store));
+    return refused;
+}
+
+static bool syncs_with_a_failure(long allocation) {
+    fstch_store store = FSTCH_CLOSED;
+    WANT(FSTCH_DONE, open_path(&store, FILE_NAME));
+    WANT(FSTCH_DONE, put(&store, "key", "value"));
+    allocations_till_refused = allocation;
+    bool refused = is_refused(fstch_sync(&store));
+    if (refused) {
+        WANT(FSTCH_NO_SYNC, fstch_sync(&store));
+    }
+    WANT(true, has(&store, "key", "value"));
+    WANT(FSTCH_DONE, fstch_close(&store));
+    return refused;
+}
+
+static bool makes_with_a_failure(long allocation) {
+    remove("other.disk");
+    allocations_till_refused = allocation;
+    bool refused = is_refused(make("other.disk", 1, 4));
+    WANT(refused, access("other.disk", F_OK) != 0);
+    return refused;
+}
+
+static bool groups_with_a_failure(long allocation) {
+    fstch_store store = FSTCH_CLOSED;
+    uint32_t group = 777;
+    WANT(FSTCH_DONE, open_path(&store, FILE_NAME));
+    allocations_till_refused = allocation;
+    bool refused = is_refused(fstch_group(&store, &group));
+    WANT(refused ? 777 : 0, group);
+    if (refused) {
+        WANT(FSTCH_DONE, fstch_group(&store, &group));
+        WANT(0, group);
+    }
+    allocations_till_refused = allocation;
+    refused = is_refused(fstch_group_engage(&store, 0, 5)) || refused;
+    WANT(FSTCH_DONE, fstch_close(&store));
+    return refused;
+}
+
+/* Each allocation of a call is refused in turn, until a call has no more. */
+static void allocations_are_refused(const char *name, bool (*fails)(long)) {
+    long allocation = 0;
+    while (allocation < 100000 && fails(allocation)) {
+        /* (every one of the first, and then fewer and fewer: opening a file has one for each block) */
+        allocation += 1 + allocation / 64;
+    }
+    WANT(true, allocation < 100000);
+    printf("%s: up to allocation %ld\n", name, allocation);
+}
+
+int main(void) {
+    nothing_is_written_but_by_a_sync();
+    a_write_is_refused();
+    the_system_refuses_to_sync();
+    a_file_is_not_finished();
+    fstch_store store = new_store(1, 4);
+    WANT(FSTCH_DONE, put(&store, "key", "value"));
+    WANT(FSTCH_DONE, fstch_sync(&store));
+    WANT(FSTCH_DONE, fstch_close(&store));
+    allocations_are_refused("make", makes_with_a_failure);
+    allocations_are_refused("open", opens_with_a_failure);
+    allocations_are_refused("put", puts_with_a_failure);
+    allocations_are_refused("delete", deletes_with_a_failure);
+    allocations_are_refused("looks", looks_with_a_failure);
+    allocations_are_refused("groups", groups_with_a_failure);
+    allocations_are_refused("sync", syncs_with_a_failure);
+    return ended();
+}

@@ -1,0 +1,372 @@
+"""Tests the module `fstch`: run where it is found, in a folder of its own."""
+
+import gc
+import os
+import signal
+import subprocess
+import sys
+import threading
+import unittest
+import warnings
+from pathlib import Path
+
+import fstch
+
+FILE = "test.disk"
+
+
+def new_store(index_blocks=1, extents=4):
+    Path(FILE).unlink(missing_ok=True)
+    fstch.make(FILE, index_blocks=index_blocks, extents=extents)
+    return fstch.open(FILE)
+
+
+def in_python(lines):
+    """What another process answers that runs these lines."""
+    return subprocess.run([sys.executable, "-c", lines], stdout=subprocess.PIPE, text=True, check=True).stdout
+
+
+class Mapping(unittest.TestCase):
+    def test_is_a_dict_of_bytes(self):
+        with new_store() as store:
+            self.assertEqual(len(store), 0)
+            store[b"key"] = b"value"
+            store[b"empty"] = b""
+            store[bytearray(b"key")] = memoryview(b"other")
+            self.assertEqual(store[b"key"], b"other")
+            self.assertEqual(store, {b"key": b"other", b"empty": b""})
+            self.assertEqual(sorted(store), [b"empty", b"key"])
+            self.assertEqual(store.lengths(), {b"key": 5, b"empty": 0})
+            self.assertIn(b"empty", store)
+            self.assertNotIn(b"absent", store)
+            self.assertEqual(store.get(b"absent"), None)
+            self.assertEqual(store.setdefault(b"new", b"1"), b"1")
+            self.assertEqual(store.pop(b"new"), b"1")
+            store.update({b"a": b"1", b"b": b"2"})
+            del store[b"a"]
+            self.assertEqual(store.check(), fstch.Counts(entries=3, extents=4))
+            store.clear()
+            self.assertEqual(dict(store), {})
+
+    def test_long_values(self):
+        with new_store() as store:
+            store[b"k" * 32] = bytes(range(256)) * 128
+            self.assertEqual(store[b"k" * 32], bytes(range(256)) * 128)
+            self.assertIn(b"k" * 32, store)
+
+    def test_keys_stay_while_they_are_gone_over(self):
+        with new_store() as store:
+            store.update({bytes([number + 1]): b"value" for number in range(20)})
+            for key in store:
+                del store[key]
+                store[b"new"] = key
+            self.assertEqual(list(store), [b"new"])
+
+    def test_refusals(self):
+        with new_store() as store:
+            for absent in (lambda: store[b"absent"], lambda: store.pop(b"absent")):
+                with self.assertRaises(fstch.Absent) as raised:
+                    absent()
+                self.assertIsInstance(raised.exception, KeyError)
+                self.assertIsInstance(raised.exception, fstch.Error)
+                self.assertEqual(raised.exception.number, -5)
+                self.assertIn("b'absent'", str(raised.exception))
+            with self.assertRaises(KeyError) as raised:
+                del store[b"absent"]
+            self.assertIs(type(raised.exception), fstch.NoKey)
+            for key in (b"", b"k" * 33):
+                with self.assertRaises(fstch.KeyLength):
+                    store[key] = b"value"
+                with self.assertRaises(fstch.KeyLength):
+                    store[key]
+                self.assertNotIn(key, store)
+            with self.assertRaises(ValueError):
+                store[b"key"] = bytes(32769)
+            for wrong in ("text", 1, None):
+                with self.assertRaises(TypeError):
+                    store[wrong] = b"value"
+                with self.assertRaises(TypeError):
+                    store[b"key"] = wrong
+                self.assertNotIn(wrong, store)
+            self.assertEqual(len(store), 0)
+
+    def test_full_stores(self):
+        with new_store(extents=3) as store:
+            for number in range(64):
+                store[b"%d" % number] = b""
+            with self.assertRaises(fstch.IndexFull):
+                store[b"more"] = b""
+            store.clear()
+            store[b"key"] = bytes(32768)
+            store[b"key"] = bytes(32768)
+            with self.assertRaises(fstch.NoSpace):
+                store[b"other"] = bytes(32768)
+            store.reclaim(0)
+            store[b"other"] = bytes(32000)
+            with self.assertRaises(fstch.EmptyExtent):
+                store.reclaim(0)
+            with self.assertRaises(fstch.OpenExtent):
+                store.reclaim(1)
+            with self.assertRaises(fstch.NoSuchExtent):
+                store.reclaim(3)
+            for wrong in (-1, 2**32):
+                with self.assertRaises(ValueError):
+                    store.reclaim(wrong)
+
+
+class Files(unittest.TestCase):
+    def test_made_once(self):
+        Path(FILE).unlink(missing_ok=True)
+        for wrong in ({"index_blocks": 0, "extents": 4}, {"index_blocks": 1, "extents": 1}, {"index_blocks": 1, "extents": 2, "extent_blocks": 15}):
+            with self.assertRaises(fstch.Geometry):
+                fstch.make(FILE, **wrong)
+        self.assertFalse(os.path.exists(FILE))
+        fstch.make(Path(FILE), index_blocks=1, extents=2, extent_blocks=64)
+        with self.assertRaises(fstch.Disk):
+            fstch.make(FILE, index_blocks=1, extents=4)
+        with self.assertRaises(fstch.Disk) as raised:
+            fstch.make("no such folder/file", index_blocks=1, extents=4)
+        self.assertIsInstance(raised.exception, OSError)
+        with fstch.open(FILE.encode()) as store:
+            store[b"key"] = bytes(131072)
+
+    def test_opened_once(self):
+        with new_store() as store:
+            with self.assertRaises(fstch.InUse):
+                fstch.open(FILE)
+            self.assertEqual(in_python(f"import fstch\ntry: fstch.open({FILE!r})\nexcept fstch.InUse: print('in use')"), "in use\n")
+            self.assertTrue(store.is_open)
+        with fstch.open(FILE):
+            pass
+        with self.assertRaises(fstch.Disk):
+            fstch.open("nothing")
+        with self.assertRaises(fstch.BadPath):
+            fstch.open(b"\xff")
+
+    def test_damaged(self):
+        with new_store() as store:
+            store[b"key"] = b"value"
+        content = Path(FILE).read_bytes()
+        for place, kind, slot in ((0, fstch.BadSuper, None), (4096, fstch.BadSlot, 0), (8192, fstch.BadPointer, None), (12288, fstch.BadFrame, 0)):
+            Path(FILE).write_bytes(content[:place] + b"\xff" * 8 + content[place + 8 :])
+            with self.assertRaises(kind) as raised:
+                fstch.open(FILE)
+            self.assertEqual(raised.exception.slot, slot)
+        Path(FILE).write_bytes(content[:-1])
+        with self.assertRaises(fstch.FileSize):
+            fstch.open(FILE)
+
+    def test_syncs(self):
+        with new_store() as store:
+            store[b"key"] = b"value"
+        with fstch.open(FILE) as store:
+            self.assertEqual(store, {b"key": b"value"})
+            store[b"key"] = b"lost"
+            store.close()
+        with self.assertRaises(ZeroDivisionError), fstch.open(FILE) as store:
+            self.assertEqual(store, {b"key": b"value"})
+            store[b"key"] = b"lost"
+            print(1 / 0)
+        with fstch.open(FILE) as store:
+            self.assertEqual(store, {b"key": b"value"})
+            store[b"key"] = b"kept"
+            store.sync()
+            store.close()
+        with fstch.open(FILE) as store:
+            self.assertEqual(store, {b"key": b"kept"})
+
+    def test_closed(self):
+        store = new_store()
+        group = store.group()
+        self.assertTrue(store.is_open)
+        self.assertNotIn("closed", repr(store))
+        store.close()
+        store.close()
+        self.assertFalse(store.is_open)
+        self.assertIn("closed", repr(store))
+        for call in (
+            store.sync,
+            store.check,
+            store.group,
+            lambda: store[b"key"],
+            lambda: b"key" in store,
+            lambda: len(store),
+            lambda: list(store),
+            lambda: store.reclaim(0),
+            lambda: store.pop(b"key"),
+            lambda: store.update({b"key": b"value"}),
+            lambda: group.pending,
+            group.close,
+            group.__enter__,
+        ):
+            with self.assertRaises(fstch.NotOpen):
+                call()
+
+    def test_forgotten(self):
+        store = new_store()
+        with warnings.catch_warnings(record=True) as told:
+            warnings.simplefilter("always")
+            del store
+            gc.collect()
+        self.assertEqual([it.category for it in told], [ResourceWarning])
+        fstch.open(FILE).close()
+
+
+class Groups(unittest.TestCase):
+    def test_order(self):
+        with new_store() as store:
+            with store.group() as data:
+                store[b"data"] = b"..."
+                self.assertGreater(data.pending, 0)
+            with store.group(after=data) as name:
+                store[b"name"] = b"data"
+            store[b"other"] = b"in no group"
+            self.assertGreater(name.pending, 0)
+            store.sync()
+            self.assertEqual((data.pending, name.pending), (0, 0))
+            third = store.group(after=[data, name])
+            third.close()
+            with self.assertRaises(fstch.NoSuchGroup):
+                print(third.pending)
+
+    def test_refusals(self):
+        with new_store() as store:
+            first = store.group()
+            with first:
+                with self.assertRaises(fstch.Engaged):
+                    store.group(after=first)
+                with self.assertRaises(fstch.Engaged):
+                    first.__enter__()
+                with self.assertRaises(fstch.Engaged):
+                    first.close()
+            with first:
+                store[b"key"] = b"again"
+            second = store.group(after=first)
+            with self.assertRaises(fstch.Sealed), first:
+                pass
+            with self.assertRaises(fstch.SameGroup):
+                second.depend(second)
+            with self.assertRaises(fstch.NotEngaged):
+                second.__exit__(None, None, None)
+            with second:
+                pass
+            with self.assertRaises(fstch.Started):
+                second.depend(first)
+            with self.assertRaises(fstch.TooManyGroups):
+                while True:
+                    store.group()
+
+    def test_changes_stay_behind_an_exception(self):
+        with new_store() as store:
+            group = store.group()
+            with self.assertRaises(ZeroDivisionError), group:
+                store[b"key"] = b"value"
+                print(1 / 0)
+            self.assertEqual(store[b"key"], b"value")
+            with group:
+                store.close()
+
+
+class Threads(unittest.TestCase):
+    def test_another_thread_is_refused(self):
+        with new_store() as store:
+            seen = []
+
+            def call():
+                for it in (store.sync, store.close, lambda: store[b"key"]):
+                    try:
+                        it()
+                    except fstch.WrongThread as error:
+                        seen.append(error)
+
+            other = threading.Thread(target=call)
+            other.start()
+            other.join()
+            self.assertEqual(len(seen), 3)
+            store[b"key"] = b"value"
+
+    def test_two_threads_with_a_store_each(self):
+        wrong = []
+
+        def call(path):
+            try:
+                with fstch.open(path) as store:
+                    for number in range(200):
+                        store[b"%d" % (number % 40)] = path.encode() * number
+                        if number % 50 == 49:
+                            store.sync()
+                with fstch.open(path) as store:
+                    wrong.extend(key for key, value in store.items() if value != path.encode() * (160 + int(key)))
+            except fstch.Error as error:
+                wrong.append(error)
+
+        paths = ["one.disk", "two.disk"]
+        for path in paths:
+            Path(path).unlink(missing_ok=True)
+            fstch.make(path, index_blocks=1, extents=16)
+        threads = [threading.Thread(target=call, args=(path,)) for path in paths]
+        for it in threads:
+            it.start()
+        for it in threads:
+            it.join()
+        self.assertEqual(wrong, [])
+
+    @unittest.skipUnless(hasattr(os, "fork"), "there is no fork")
+    def test_a_child_is_refused(self):
+        with new_store() as store:
+            store[b"key"] = b"value"
+            child = os.fork()
+            if child == 0:
+                try:
+                    store.sync()
+                except fstch.WrongThread:
+                    os._exit(7)
+                os._exit(1)
+            _, status = os.waitpid(child, 0)
+            self.assertEqual(status >> 8, 7)
+
+
+class Library(unittest.TestCase):
+    def test_each_exception_has_a_number_and_the_librarys_text(self):
+        kinds = [kind for kind in fstch.Error.__subclasses__() if kind is not fstch.WrongThread]
+        self.assertEqual(len({kind.number for kind in kinds}), len(kinds))
+        for kind in kinds:
+            self.assertIs(kind, type(fstch.errors.of(kind.number, "")))
+            self.assertNotEqual(fstch.library.text_of(kind.number), "unknown answer")
+            self.assertIn(kind.__name__, fstch.__all__)
+        self.assertEqual(fstch.library.text_of(100), "unknown answer")
+        self.assertEqual(fstch.errors.of(100, "text").number, 100)
+
+    def test_it_is_named_by_the_variable(self):
+        told = subprocess.run(
+            [sys.executable, "-c", "import fstch"],
+            env={**os.environ, "FSTCH_LIBRARY": "/nowhere/libfstch.so"},
+            stderr=subprocess.PIPE,
+            text=True,
+            check=False,
+        )
+        self.assertEqual(told.returncode, 1)
+        self.assertIn("ImportError", told.stderr)
+        self.assertIn("/nowhere/libfstch.so", told.stderr)
+
+
+class Kills(unittest.TestCase):
+    def test_what_was_synced_is_there(self):
+        new_store().close()
+        lines = f"""
+import fstch, os, signal
+store = fstch.open({FILE!r})
+store[b"key"] = b"synced"
+store.sync()
+store[b"key"] = b"not synced"
+print("ready", flush=True)
+os.kill(os.getpid(), signal.SIGKILL)
+"""
+        ended = subprocess.run([sys.executable, "-c", lines], stdout=subprocess.PIPE, check=False)
+        self.assertEqual((ended.returncode, ended.stdout), (-signal.SIGKILL, b"ready\n"))
+        with fstch.open(FILE) as store:
+            self.assertEqual(store, {b"key": b"synced"})
+
+
+if __name__ == "__main__":
+    unittest.main()
