@@ -30,7 +30,7 @@ static int open_file(const char *path, int flags) {
     return file;
 }
 
-/* The same file, by a number that is no standard stream's: what a program without one prints would go into the store. */
+/* The same file, by a number above those of the standard streams: a program that has closed one of these may write to it all the same. */
 static int above_streams(int file) {
     if (file < 0 || file >= LOWEST_FILE) {
         return file;
