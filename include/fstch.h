@@ -3,7 +3,7 @@
  * This file is all that a caller has to read. It is C and C++. Link with libfstch.a or libfstch.so.
  *
  *     fstch_store store = FSTCH_CLOSED;
- *     fstch_open(&store, path, path_length, &slot);
+ *     fstch_open(&store, path, &slot);
  *     fstch_put(&store, FSTCH_NO_WRITER, key, key_length, value, value_length);
  *     fstch_sync(&store);
  *     fstch_close(&store);
@@ -20,7 +20,7 @@
  *
  * What a caller owes, and nothing tests:
  * - A fstch_store begins as FSTCH_CLOSED, and these calls alone change it. A copy of an open one is never passed.
- * - No pointer is null. Where a length is 0 the pointer beside it is any other.
+ * - No pointer is null. Where a length is 0 the pointer beside it is any other. A path ends with a 0 byte.
  * - A buffer has the length that is passed beside it. The store, the buffers and the out parameters of one call don't overlap.
  * - The thread that opened a store makes all its calls. Two threads may each have a store of their own.
  * - No call is made from a signal handler, nor in a child that was forked while a store was open, but for one that has run another
@@ -123,8 +123,6 @@ enum fstch_answer {
     FSTCH_NOT_OPEN = -1,
     /* The store is open already. */
     FSTCH_IS_OPEN = -2,
-    /* The path isn't UTF-8. */
-    FSTCH_BAD_PATH = -3,
     /* What was asked for is longer than the buffer. */
     FSTCH_BUFFER_TOO_SMALL = -4,
     /* The key has no value, or there is no entry of this number. */
@@ -137,7 +135,7 @@ enum fstch_answer {
     FSTCH_BAD_WRITER = -8
 };
 
-/* Files. A path has 1 to 4,095 bytes of UTF-8, none of them 0; it needs no 0 behind it. */
+/* Files. */
 
 /* Makes a file that holds an empty store. What has the name already is left alone, and a file that can't be finished is removed.
  * The file is synced, and the directory that it stands in isn't.
@@ -147,20 +145,20 @@ enum fstch_answer {
  * at most as many bytes as an extent less 48, and never more than FSTCH_MAX_VALUE. The file has 4,096 blocks at most: 2, those of the
  * index, and those of the extents.
  *
- * FSTCH_BAD_PATH, FSTCH_GEOMETRY, FSTCH_OUT_OF_MEMORY, FSTCH_DISK.
+ * FSTCH_GEOMETRY, FSTCH_OUT_OF_MEMORY, FSTCH_DISK.
  */
-int32_t fstch_make(const uint8_t *path, size_t path_length, uint32_t index_blocks, uint32_t extents, uint32_t extent_blocks);
+int32_t fstch_make(const char *path, uint32_t index_blocks, uint32_t extents, uint32_t extent_blocks);
 
 /* Opens the store of a file into a closed fstch_store, and locks the file until it is closed or the program ends. The program fstch
  * takes no such lock. The file is read whole: an open store takes as much memory as the file has bytes, and more for what is not
- * synced.
+ * synced; opening takes twice as much, and a sync as much again as it writes.
  *
  * `slot` is set with FSTCH_BAD_SLOT, FSTCH_BAD_FRAME and FSTCH_DUPLICATE_KEY alone: to the first slot of the index that is wrong.
  *
- * FSTCH_IS_OPEN, FSTCH_BAD_PATH, FSTCH_DISK, FSTCH_IN_USE, FSTCH_FILE_SIZE, FSTCH_OUT_OF_MEMORY, FSTCH_BAD_SUPER, FSTCH_BAD_POINTER,
- * FSTCH_BAD_SLOT, FSTCH_BAD_FRAME, FSTCH_DUPLICATE_KEY.
+ * FSTCH_IS_OPEN, FSTCH_DISK, FSTCH_IN_USE, FSTCH_FILE_SIZE, FSTCH_OUT_OF_MEMORY, FSTCH_BAD_SUPER, FSTCH_BAD_POINTER, FSTCH_BAD_SLOT,
+ * FSTCH_BAD_FRAME, FSTCH_DUPLICATE_KEY.
  */
-int32_t fstch_open(fstch_store *store, const uint8_t *path, size_t path_length, uint32_t *slot);
+int32_t fstch_open(fstch_store *store, const char *path, uint32_t *slot);
 
 /* Closes a store. It does not sync: what was not synced is lost. The store is FSTCH_CLOSED then, so that a second close is refused and
  * harms nothing. */
@@ -185,20 +183,20 @@ int32_t fstch_sync(fstch_store *store);
  * FSTCH_BAD_WRITER, FSTCH_KEY_LENGTH, FSTCH_VALUE_LENGTH, FSTCH_INDEX_FULL, FSTCH_NO_SPACE, FSTCH_NUMBERS_SPENT, FSTCH_TOO_MANY_LIVE,
  * FSTCH_OUT_OF_MEMORY.
  */
-int32_t fstch_put(fstch_store *store, uint32_t writer, const uint8_t *key, size_t key_length, const uint8_t *value, size_t value_length);
+int32_t fstch_put(fstch_store *store, uint32_t writer, const void *key, size_t key_length, const void *value, size_t value_length);
 
 /* Copies the value of a key to the front of `into`, and leaves what is behind it there. `length` becomes the value's length, also with
  * FSTCH_BUFFER_TOO_SMALL, where nothing is copied; with any other refusal it stays.
  *
  * FSTCH_KEY_LENGTH, FSTCH_ABSENT, FSTCH_OUT_OF_MEMORY, FSTCH_BUFFER_TOO_SMALL.
  */
-int32_t fstch_get(fstch_store *store, const uint8_t *key, size_t key_length, uint8_t *into, size_t into_length, size_t *length);
+int32_t fstch_get(fstch_store *store, const void *key, size_t key_length, void *into, size_t into_length, size_t *length);
 
 /* Takes a key and its value away. The room is won back by fstch_reclaim. `writer` is as in fstch_put.
  *
  * FSTCH_BAD_WRITER, FSTCH_KEY_LENGTH, FSTCH_NO_KEY, FSTCH_NUMBERS_SPENT, FSTCH_TOO_MANY_LIVE, FSTCH_OUT_OF_MEMORY.
  */
-int32_t fstch_delete(fstch_store *store, uint32_t writer, const uint8_t *key, size_t key_length);
+int32_t fstch_delete(fstch_store *store, uint32_t writer, const void *key, size_t key_length);
 
 /* Moves what is live in an extent elsewhere, and empties it. Extents are numbered from 0.
  *
@@ -219,7 +217,7 @@ int32_t fstch_check(fstch_store *store, uint32_t *entries, uint32_t *extents);
  *
  * FSTCH_OUT_OF_MEMORY, FSTCH_ABSENT, FSTCH_BUFFER_TOO_SMALL.
  */
-int32_t fstch_entry(fstch_store *store, uint32_t number, uint8_t *key, size_t key_room, size_t *key_length, size_t *value_length);
+int32_t fstch_entry(fstch_store *store, uint32_t number, void *key, size_t key_room, size_t *key_length, size_t *value_length);
 
 /* Groups: an order in which changes reach the file, at less than the cost of a sync between them. A group has all changes of the
  * writers that have engaged it. Whatever a crash leaves: where it has a change of a group, it has all changes of the groups that go

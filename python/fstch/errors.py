@@ -8,7 +8,6 @@ __all__ = [
     "Error",
     "Absent",
     "BadFrame",
-    "BadPath",
     "BadPointer",
     "BadSlot",
     "BadSuper",
@@ -244,12 +243,6 @@ class IsOpen(Error):
     """The store is open already."""
 
     number = -2
-
-
-class BadPath(Error, ValueError):
-    """The path isn't UTF-8."""
-
-    number = -3
 
 
 class BufferTooSmall(Error):

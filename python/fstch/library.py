@@ -31,8 +31,8 @@ _BYTES = (c_char_p, c_size_t)
 _ROOM = (c_void_p, c_size_t)
 
 _ANSWERING = {
-    "make": (*_BYTES, c_uint32, c_uint32, c_uint32),
-    "open": (_STORE, *_BYTES, _NUMBER),
+    "make": (c_char_p, c_uint32, c_uint32, c_uint32),
+    "open": (_STORE, c_char_p, _NUMBER),
     "close": (_STORE,),
     "sync": (_STORE,),
     "put": (_STORE, c_uint32, *_BYTES, *_BYTES),

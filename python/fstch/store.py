@@ -38,17 +38,16 @@ def make(path: Path, *, index_blocks: int, extents: int, extent_blocks: int = 0)
     `extent_blocks` an extent has 16 blocks of 4,096 bytes, and a value at most 32,768 bytes; with 16 to 64 it has so many, and a value
     at most as many bytes as an extent less 48, and never more than 131,072. The file has 4,096 blocks at most.
 
-    Raises `BadPath`, `Geometry`, `OutOfMemory` and `Disk`.
+    Raises `Geometry`, `OutOfMemory` and `Disk`.
     """
-    name = os.fsencode(path)
     numbers = (_number(it) for it in (index_blocks, extents, extent_blocks))
-    require_done(calls.fstch_make(name, len(name), *numbers), path)
+    require_done(calls.fstch_make(_name(path), *numbers), path)
 
 
 def open(path: Path) -> Store:
     """Opens the store of a file, and locks the file until the store is closed.
 
-    Raises `BadPath`, `InUse`, `Disk`, `FileSize`, `OutOfMemory`, `BadSuper`, `BadPointer`, `BadSlot`, `BadFrame` and `DuplicateKey`.
+    Raises `Disk`, `InUse`, `FileSize`, `OutOfMemory`, `BadSuper`, `BadPointer`, `BadSlot`, `BadFrame` and `DuplicateKey`.
     """
     return Store(path)
 
@@ -76,8 +75,8 @@ class Store(MutableMapping[bytes, bytes]):
         self._thread: Optional[int] = threading.get_ident()
         self._room = ctypes.create_string_buffer(ROOM)
         self._path = path
-        name, slot = os.fsencode(path), c_uint32(NO_SLOT)
-        answer = calls.fstch_open(self._handle, name, len(name), byref(slot))
+        slot = c_uint32(NO_SLOT)
+        answer = calls.fstch_open(self._handle, _name(path), byref(slot))
         if answer:
             error = refusal(answer, path)
             error.slot = None if slot.value == NO_SLOT else slot.value
@@ -289,6 +288,14 @@ class Group:
 
     def __repr__(self) -> str:
         return f"<fstch.Group {self.number} of {self._store!r}>"
+
+
+def _name(path: Path) -> bytes:
+    """A path as the library takes it: it would end at a 0 byte."""
+    name = os.fsencode(path)
+    if b"\0" in name:
+        raise ValueError("a path has no 0 byte")
+    return name
 
 
 def _number(value: int) -> int:

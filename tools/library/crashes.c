@@ -20,14 +20,14 @@ static const char *key_of(int number) {
 static int32_t put_letter(fstch_store *store, uint32_t writer, const char *key, char letter) {
     uint8_t value[LENGTH];
     memset(value, letter, sizeof value);
-    return fstch_put(store, writer, bytes(key), strlen(key), value, sizeof value);
+    return fstch_put(store, writer, key, strlen(key), value, sizeof value);
 }
 
 /* The letter of a key, or 0 where it has none. */
 static char letter_of(fstch_store *store, const char *key) {
     uint8_t value[LENGTH];
     size_t length = 0;
-    int32_t answer = fstch_get(store, bytes(key), strlen(key), value, sizeof value, &length);
+    int32_t answer = fstch_get(store, key, strlen(key), value, sizeof value, &length);
     if (answer == FSTCH_ABSENT) {
         return 0;
     }

@@ -3,6 +3,11 @@
 #include "system.h"
 #include "wanting.h"
 
+#include <fcntl.h>
+
+/* How often the library tries a write. */
+enum { TRIES = 8 };
+
 static void wants_reopened(fstch_store *store, const char *key, const char *value) {
     WANT(FSTCH_NO_SYNC, fstch_sync(store));
     WANT(FSTCH_NO_SYNC, fstch_sync(store));
@@ -23,7 +28,7 @@ static void nothing_is_written_but_by_a_sync(void) {
     WANT(FSTCH_DONE, fstch_group_engage(&store, group, 0));
     WANT(FSTCH_DONE, put_by(&store, 0, "key", "value"));
     for (int number = 0; number < 3; number++) {
-        WANT(FSTCH_DONE, fstch_put(&store, FSTCH_NO_WRITER, bytes("long"), 4, value, sizeof value));
+        WANT(FSTCH_DONE, fstch_put(&store, FSTCH_NO_WRITER, "long", 4, value, sizeof value));
     }
     WANT(FSTCH_DONE, fstch_reclaim(&store, 0));
     WANT(FSTCH_DONE, delete_key(&store, "long"));
@@ -52,6 +57,33 @@ static void a_write_is_refused(void) {
     wants_reopened(&store, "key", "first");
 }
 
+static void a_write_is_tried_again(void) {
+    fstch_store store = new_store(1, 4);
+    WANT(FSTCH_DONE, put(&store, "key", "first"));
+    writes_till_refused = 1;
+    writes_to_refuse = TRIES - 1;
+    WANT(FSTCH_DONE, fstch_sync(&store));
+    WANT(0, writes_to_refuse);
+    WANT(FSTCH_DONE, put(&store, "key", "second"));
+    writes_till_refused = 0;
+    writes_to_refuse = TRIES;
+    WANT(FSTCH_DEVICE_GAVE_UP, fstch_sync(&store));
+    WANT(0, writes_to_refuse);
+    writes_till_refused = writes_to_refuse = -1;
+    wants_reopened(&store, "key", "first");
+}
+
+static void a_read_is_refused(void) {
+    fstch_store store = new_store(1, 4);
+    WANT(FSTCH_DONE, fstch_close(&store));
+    reads_till_refused = 0;
+    WANT(FSTCH_DISK, open_path(&store, FILE_NAME));
+    reads_till_refused = -1;
+    WANT(false, fstch_is_open(&store));
+    WANT(FSTCH_DONE, open_path(&store, FILE_NAME)); /* the lock is let go */
+    WANT(FSTCH_DONE, fstch_close(&store));
+}
+
 static void the_system_refuses_to_sync(void) {
     fstch_store store = new_store(1, 4);
     WANT(FSTCH_DONE, put(&store, "key", "value"));
@@ -72,6 +104,35 @@ static void a_file_is_not_finished(void) {
     WANT(FSTCH_DISK, make(FILE_NAME, 1, 4));
     syncs_till_refused = -1;
     MUST(access(FILE_NAME, F_OK) != 0);
+}
+
+static void calls_are_taken_up_again(void) {
+    is_interrupting = true;
+    most_moved = 1000;
+    fstch_store store = new_store(1, 4);
+    WANT(FSTCH_DONE, put(&store, "key", "value"));
+    WANT(FSTCH_DONE, fstch_sync(&store));
+    WANT(FSTCH_DONE, fstch_close(&store));
+    WANT(FSTCH_DONE, open_path(&store, FILE_NAME));
+    WANT(true, has(&store, "key", "value"));
+    is_interrupting = false;
+    most_moved = (size_t)-1;
+    WANT(FSTCH_IN_USE, open_path(&(fstch_store)FSTCH_CLOSED, FILE_NAME));
+    WANT(FSTCH_DONE, fstch_close(&store));
+    WANT(FSTCH_DONE, open_path(&store, FILE_NAME));
+    WANT(true, has(&store, "key", "value"));
+    WANT(FSTCH_DONE, fstch_close(&store));
+}
+
+/* A program that closed its standard input doesn't read the store there. */
+static void standard_streams_are_left_alone(void) {
+    MUST(close(0) == 0);
+    fstch_store store = new_store(1, 4);
+    WANT(-1, fcntl(0, F_GETFD));
+    WANT(FSTCH_DONE, put(&store, "key", "value"));
+    WANT(FSTCH_DONE, fstch_sync(&store));
+    MUST(open("/dev/null", O_RDONLY) == 0);
+    WANT(FSTCH_DONE, fstch_close(&store));
 }
 
 /* Whether an answer is that of a refused allocation, behind which all goes on. */
@@ -123,7 +184,7 @@ static bool looks_with_a_failure(long allocation) {
     size_t length = 777, other = 777;
     WANT(FSTCH_DONE, open_path(&store, FILE_NAME));
     allocations_till_refused = allocation;
-    bool refused = is_refused(fstch_get(&store, bytes("key"), 3, into, sizeof into, &length));
+    bool refused = is_refused(fstch_get(&store, "key", 3, into, sizeof into, &length));
     WANT(refused ? 777 : 5, length);
     allocations_till_refused = allocation;
     refused = is_refused(fstch_check(&store, &entries, &extents)) || refused;
@@ -146,6 +207,14 @@ static bool syncs_with_a_failure(long allocation) {
     }
     WANT(true, has(&store, "key", "value"));
     WANT(FSTCH_DONE, fstch_close(&store));
+    return refused;
+}
+
+/* As memory that is all taken. */
+static bool syncs_without_memory(long allocation) {
+    is_without_memory = true;
+    bool refused = syncs_with_a_failure(allocation);
+    is_without_memory = false;
     return refused;
 }
 
@@ -188,8 +257,12 @@ static void allocations_are_refused(const char *name, bool (*fails)(long)) {
 int main(void) {
     nothing_is_written_but_by_a_sync();
     a_write_is_refused();
+    a_write_is_tried_again();
+    a_read_is_refused();
     the_system_refuses_to_sync();
     a_file_is_not_finished();
+    calls_are_taken_up_again();
+    standard_streams_are_left_alone();
     fstch_store store = new_store(1, 4);
     WANT(FSTCH_DONE, put(&store, "key", "value"));
     WANT(FSTCH_DONE, fstch_sync(&store));
@@ -201,5 +274,6 @@ int main(void) {
     allocations_are_refused("looks", looks_with_a_failure);
     allocations_are_refused("groups", groups_with_a_failure);
     allocations_are_refused("sync", syncs_with_a_failure);
+    allocations_are_refused("sync, without memory", syncs_without_memory);
     return ended();
 }

@@ -53,21 +53,21 @@ static void done(int32_t answer) {
 }
 
 static void store_open(void) {
-    static const uint8_t path[] = "measure.fstch";
+    static const char *const path = "measure.fstch";
     uint32_t slot;
-    remove((const char *)path);
-    done(fstch_make(path, sizeof path - 1, 16, EXTENTS, 0));
-    done(fstch_open(&store, path, sizeof path - 1, &slot));
+    remove(path);
+    done(fstch_make(path, 16, EXTENTS, 0));
+    done(fstch_open(&store, path, &slot));
     next_extent = 0;
 }
 
 /* Where there is no room, the next extent that can be emptied is. */
 static void store_put(const char *key, const uint8_t *value, size_t length) {
-    int32_t answer = fstch_put(&store, FSTCH_NO_WRITER, (const uint8_t *)key, KEY_LENGTH, value, length);
+    int32_t answer = fstch_put(&store, FSTCH_NO_WRITER, key, KEY_LENGTH, value, length);
     for (int tries = 0; answer == FSTCH_NO_SPACE && tries < EXTENTS; tries++) {
         fstch_reclaim(&store, next_extent);
         next_extent = (next_extent + 1) % EXTENTS;
-        answer = fstch_put(&store, FSTCH_NO_WRITER, (const uint8_t *)key, KEY_LENGTH, value, length);
+        answer = fstch_put(&store, FSTCH_NO_WRITER, key, KEY_LENGTH, value, length);
     }
     done(answer);
 }
@@ -78,7 +78,7 @@ static void store_sync(void) {
 
 static void store_get(const char *key, uint8_t *into, size_t length) {
     size_t seen;
-    done(fstch_get(&store, (const uint8_t *)key, KEY_LENGTH, into, length, &seen));
+    done(fstch_get(&store, key, KEY_LENGTH, into, length, &seen));
     must(seen == length, "a value has another length");
 }
 

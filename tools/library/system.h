@@ -11,19 +11,34 @@
 /* How many more calls go well; below 0 all do. */
 static long writes_till_killed = -1;
 static long writes_till_refused = -1;
+static long reads_till_refused = -1;
 static long syncs_till_refused = -1;
 static long allocations_till_refused = -1;
+/* How many writes are refused then, before they go well again; below 0 all are. */
+static long writes_to_refuse = -1;
+/* Whether all allocations are refused then, and not one alone. */
+static int is_without_memory;
+/* Whether of all calls that a signal may end each other one is ended. */
+static int is_interrupting;
+/* The most bytes that a read or a write moves. */
+static size_t most_moved = (size_t)-1;
 /* How many calls there were. */
 static long writes_made;
 static long syncs_made;
 
 ssize_t __real_pwrite(int file, const void *from, size_t length, off_t place);
+ssize_t __real_pread(int file, void *into, size_t length, off_t place);
 int __real_fsync(int file);
+int __real_ftruncate(int file, off_t length);
+int __real_flock(int file, int how);
 void *__real_malloc(size_t length);
 void *__real_realloc(void *at, size_t length);
 
 ssize_t __wrap_pwrite(int file, const void *from, size_t length, off_t place);
+ssize_t __wrap_pread(int file, void *into, size_t length, off_t place);
 int __wrap_fsync(int file);
+int __wrap_ftruncate(int file, off_t length);
+int __wrap_flock(int file, int how);
 void *__wrap_malloc(size_t length);
 void *__wrap_realloc(void *at, size_t length);
 
@@ -38,21 +53,59 @@ static void count(long *left) {
     }
 }
 
+static int is_interrupted(void) {
+    static int is_next;
+    is_next = is_interrupting && !is_next;
+    errno = is_next ? EINTR : errno;
+    return is_next;
+}
+
+static size_t moved(size_t length) {
+    return length < most_moved ? length : most_moved;
+}
+
 ssize_t __wrap_pwrite(int file, const void *from, size_t length, off_t place) {
     if (is_over(&writes_till_killed)) {
         kill(getpid(), SIGKILL);
     }
-    if (is_over(&writes_till_refused)) {
+    if (is_interrupted()) {
+        return -1;
+    }
+    if (is_over(&writes_till_refused) && !is_over(&writes_to_refuse)) {
+        count(&writes_to_refuse);
         errno = EIO;
         return -1;
     }
     count(&writes_till_killed);
     count(&writes_till_refused);
     writes_made++;
-    return __real_pwrite(file, from, length, place);
+    return __real_pwrite(file, from, moved(length), place);
+}
+
+ssize_t __wrap_pread(int file, void *into, size_t length, off_t place) {
+    if (is_interrupted()) {
+        return -1;
+    }
+    if (is_over(&reads_till_refused)) {
+        errno = EIO;
+        return -1;
+    }
+    count(&reads_till_refused);
+    return __real_pread(file, into, moved(length), place);
+}
+
+int __wrap_ftruncate(int file, off_t length) {
+    return is_interrupted() ? -1 : __real_ftruncate(file, length);
+}
+
+int __wrap_flock(int file, int how) {
+    return is_interrupted() ? -1 : __real_flock(file, how);
 }
 
 int __wrap_fsync(int file) {
+    if (is_interrupted()) {
+        return -1;
+    }
     if (is_over(&syncs_till_refused)) {
         errno = EIO;
         return -1;
@@ -62,12 +115,15 @@ int __wrap_fsync(int file) {
     return __real_fsync(file);
 }
 
-/* One allocation is refused, and those behind it are not. */
 static int refuses_allocation(void) {
-    if (allocations_till_refused < 0) {
+    if (!is_over(&allocations_till_refused)) {
+        count(&allocations_till_refused);
         return 0;
     }
-    return allocations_till_refused-- == 0;
+    if (!is_without_memory) {
+        allocations_till_refused = -1;
+    }
+    return 1;
 }
 
 void *__wrap_malloc(size_t length) {

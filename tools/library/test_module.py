@@ -140,8 +140,13 @@ class Files(unittest.TestCase):
             pass
         with self.assertRaises(fstch.Disk):
             fstch.open("nothing")
-        with self.assertRaises(fstch.BadPath):
-            fstch.open(b"\xff")
+        for wrong in ("with\0zero", b"\0"):
+            with self.assertRaises(ValueError):
+                fstch.open(wrong)
+            with self.assertRaises(ValueError):
+                fstch.make(wrong, index_blocks=1, extents=4)
+        fstch.make(b"\xff.disk", index_blocks=1, extents=4)
+        fstch.open(b"\xff.disk").close()
 
     def test_damaged(self):
         with new_store() as store:

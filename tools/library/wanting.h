@@ -38,17 +38,13 @@ static inline int ended(void) {
     return wrong_wants > 0;
 }
 
-static inline const uint8_t *bytes(const char *text) {
-    return (const uint8_t *)text;
-}
-
 static inline int32_t make(const char *path, uint32_t index_blocks, uint32_t extents) {
-    return fstch_make(bytes(path), strlen(path), index_blocks, extents, 0);
+    return fstch_make(path, index_blocks, extents, 0);
 }
 
 static inline int32_t open_path(fstch_store *store, const char *path) {
     uint32_t slot = 777;
-    return fstch_open(store, bytes(path), strlen(path), &slot);
+    return fstch_open(store, path, &slot);
 }
 
 /* Makes a new file, and opens it. */
@@ -61,7 +57,7 @@ static inline fstch_store new_store(uint32_t index_blocks, uint32_t extents) {
 }
 
 static inline int32_t put_by(fstch_store *store, uint32_t writer, const char *key, const char *value) {
-    return fstch_put(store, writer, bytes(key), strlen(key), bytes(value), strlen(value));
+    return fstch_put(store, writer, key, strlen(key), value, strlen(value));
 }
 
 static inline int32_t put(fstch_store *store, const char *key, const char *value) {
@@ -69,14 +65,14 @@ static inline int32_t put(fstch_store *store, const char *key, const char *value
 }
 
 static inline int32_t delete_key(fstch_store *store, const char *key) {
-    return fstch_delete(store, FSTCH_NO_WRITER, bytes(key), strlen(key));
+    return fstch_delete(store, FSTCH_NO_WRITER, key, strlen(key));
 }
 
 /* Whether the key has this value; with NULL, whether it has none. */
 static inline bool has(fstch_store *store, const char *key, const char *value) {
     uint8_t into[256];
     size_t length = 0;
-    int32_t answer = fstch_get(store, bytes(key), strlen(key), into, sizeof into, &length);
+    int32_t answer = fstch_get(store, key, strlen(key), into, sizeof into, &length);
     if (value == NULL) {
         return answer == FSTCH_ABSENT;
     }

@@ -1,0 +1,46 @@
+/* The proved calls that fstch.c stands on: exports of the crate patch_c that no program sees, since build-library hides their names.
+ * They read and write no file. What fstch.h says of stores, of buffers and of answers holds of these too. */
+#ifndef FSTCH_CORE_H
+#define FSTCH_CORE_H
+
+#include "fstch.h"
+
+/* Copies the first block of a new store, 4,096 bytes, to the front of `into`, and sets `blocks` to how many its file has. All others
+ * are zeros.
+ *
+ * FSTCH_GEOMETRY, FSTCH_OUT_OF_MEMORY, FSTCH_BUFFER_TOO_SMALL.
+ */
+int32_t fstch_core_make(uint32_t index_blocks, uint32_t extents, uint32_t extent_blocks, uint8_t *into, size_t into_length,
+                        uint32_t *blocks);
+
+/* Opens the store of these bytes, all that its file has. `file` is kept for fstch_core_file. The bytes are copied.
+ *
+ * FSTCH_IS_OPEN, FSTCH_FILE_SIZE, FSTCH_OUT_OF_MEMORY, FSTCH_BAD_SUPER, FSTCH_BAD_POINTER, FSTCH_BAD_SLOT, FSTCH_BAD_FRAME,
+ * FSTCH_DUPLICATE_KEY.
+ */
+int32_t fstch_core_open(fstch_store *store, int32_t file, const uint8_t *bytes, size_t length, uint32_t *slot);
+
+/* The number that the store was opened with, or -1 where it is closed. */
+int32_t fstch_core_file(fstch_store *store);
+
+/* Brings all changes to the store's tape, as writes in the order in which they have to reach the file. A tape refuses a write only
+ * where there is no memory for it: that is FSTCH_DEVICE_GAVE_UP.
+ *
+ * FSTCH_NO_SYNC, FSTCH_OUT_OF_MEMORY, FSTCH_DEVICE_GAVE_UP.
+ */
+int32_t fstch_core_sync(fstch_store *store);
+
+/* The write of this number on the tape, from 0 on: sets `block` to where it goes, and copies the block's bytes to the front of `into`.
+ *
+ * FSTCH_ABSENT behind the last one, FSTCH_BUFFER_TOO_SMALL.
+ */
+int32_t fstch_core_write(fstch_store *store, uint32_t number, uint32_t *block, uint8_t *into, size_t into_length);
+
+/* Empties the tape: all its writes are in the file, in their order, and the system lets them last. Where that isn't so, is_done is
+ * false, and each later sync is refused with FSTCH_NO_SYNC. */
+int32_t fstch_core_synced(fstch_store *store, bool is_done);
+
+/* Closes a store, and leaves its file open. */
+int32_t fstch_core_close(fstch_store *store);
+
+#endif

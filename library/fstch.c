@@ -1,0 +1,213 @@
+/* The calls of fstch.h that make, open, sync and close a file: what they ask of the system is here, all else in the proved calls of
+ * core.h. There are no globals, and nothing is kept but in the store. */
+#define _DEFAULT_SOURCE /* for flock */
+#include "core.h"
+
+#include <errno.h>
+#include <fcntl.h>
+#include <stdlib.h>
+#include <sys/file.h>
+#include <unistd.h>
+
+enum {
+    BLOCK = 4096,
+    MOST_BYTES = 4096 * BLOCK, /* of a file */
+    WRITE_TRIES = 8,           /* of a block */
+    LOWEST_FILE = 3,           /* behind the standard streams */
+    MODE = 0666                /* of a new file, less what the umask takes away */
+};
+
+/* Whether a call of the system has to be made again, since a signal ended it. */
+static bool is_interrupted(long answer) {
+    return answer < 0 && errno == EINTR;
+}
+
+static int open_file(const char *path, int flags) {
+    int file;
+    do {
+        file = open(path, flags | O_RDWR | O_CLOEXEC | O_NOCTTY, MODE);
+    } while (is_interrupted(file));
+    return file;
+}
+
+/* The same file, by a number above those of the standard streams: a program that has closed one of these may write to it all the same. */
+static int above_streams(int file) {
+    if (file < 0 || file >= LOWEST_FILE) {
+        return file;
+    }
+    int above = fcntl(file, F_DUPFD_CLOEXEC, LOWEST_FILE);
+    close(file);
+    return above;
+}
+
+static int32_t lock_file(int file) {
+    int answer;
+    do {
+        answer = flock(file, LOCK_EX | LOCK_NB);
+    } while (is_interrupted(answer));
+    if (answer == 0) {
+        return FSTCH_DONE;
+    }
+    return errno == EWOULDBLOCK ? FSTCH_IN_USE : FSTCH_DISK;
+}
+
+static bool set_length(int file, uint32_t blocks) {
+    int answer;
+    do {
+        answer = ftruncate(file, (off_t)blocks * BLOCK);
+    } while (is_interrupted(answer));
+    return answer == 0;
+}
+
+static bool sync_file(int file) {
+    int answer;
+    do {
+        answer = fsync(file);
+    } while (is_interrupted(answer));
+    return answer == 0;
+}
+
+/* Reads so many bytes from the file's beginning. It fails also where there are fewer. */
+static bool read_bytes(int file, uint8_t *into, size_t length) {
+    size_t done = 0;
+    while (done < length) {
+        ssize_t count = pread(file, into + done, length - done, (off_t)done);
+        if (is_interrupted(count)) {
+            continue;
+        }
+        if (count <= 0) {
+            return false;
+        }
+        done += (size_t)count;
+    }
+    return true;
+}
+
+static bool write_once(int file, uint32_t block, const uint8_t *bytes) {
+    size_t done = 0;
+    while (done < BLOCK) {
+        ssize_t count = pwrite(file, bytes + done, BLOCK - done, (off_t)block * BLOCK + (off_t)done);
+        if (is_interrupted(count)) {
+            continue;
+        }
+        if (count <= 0) {
+            return false;
+        }
+        done += (size_t)count;
+    }
+    return true;
+}
+
+static bool write_block(int file, uint32_t block, const uint8_t *bytes) {
+    for (int tries = 0; tries < WRITE_TRIES; tries++) {
+        if (write_once(file, block, bytes)) {
+            return true;
+        }
+    }
+    return false;
+}
+
+/* Gives a new file its length and its first block, and closes it. */
+static bool finish_file(int file, uint32_t blocks, const uint8_t *first) {
+    if (file < 0) {
+        return false;
+    }
+    bool is_finished = set_length(file, blocks) && write_block(file, 0, first) && sync_file(file);
+    close(file);
+    return is_finished;
+}
+
+int32_t fstch_make(const char *path, uint32_t index_blocks, uint32_t extents, uint32_t extent_blocks) {
+    uint8_t first[BLOCK];
+    uint32_t blocks = 0;
+    int32_t answer = fstch_core_make(index_blocks, extents, extent_blocks, first, sizeof first, &blocks);
+    if (answer != FSTCH_DONE) {
+        return answer;
+    }
+    int file = open_file(path, O_CREAT | O_EXCL);
+    if (file < 0) {
+        return FSTCH_DISK;
+    }
+    if (!finish_file(above_streams(file), blocks, first)) {
+        unlink(path);
+        return FSTCH_DISK;
+    }
+    return FSTCH_DONE;
+}
+
+/* Opens the store of all that the file has. A length that no store has isn't read. */
+static int32_t open_store(fstch_store *store, int file, uint32_t *slot) {
+    off_t length = lseek(file, 0, SEEK_END);
+    if (length < 0) {
+        return FSTCH_DISK;
+    }
+    if (length == 0 || length > MOST_BYTES) {
+        return FSTCH_FILE_SIZE;
+    }
+    uint8_t *bytes = malloc((size_t)length);
+    if (bytes == NULL) {
+        return FSTCH_OUT_OF_MEMORY;
+    }
+    int32_t answer = FSTCH_DISK;
+    if (read_bytes(file, bytes, (size_t)length)) {
+        answer = fstch_core_open(store, file, bytes, (size_t)length, slot);
+    }
+    free(bytes);
+    return answer;
+}
+
+int32_t fstch_open(fstch_store *store, const char *path, uint32_t *slot) {
+    if (fstch_is_open(store)) {
+        return FSTCH_IS_OPEN;
+    }
+    int file = above_streams(open_file(path, 0));
+    if (file < 0) {
+        return FSTCH_DISK;
+    }
+    int32_t answer = lock_file(file);
+    if (answer == FSTCH_DONE) {
+        answer = open_store(store, file, slot);
+    }
+    if (answer != FSTCH_DONE) {
+        close(file);
+    }
+    return answer;
+}
+
+/* Brings the writes of the store's tape to the file, in their order, and lets them last there. */
+static int32_t write_tape(fstch_store *store, int file) {
+    uint8_t bytes[BLOCK];
+    uint32_t block = 0, number = 0;
+    int32_t answer;
+    while ((answer = fstch_core_write(store, number, &block, bytes, sizeof bytes)) == FSTCH_DONE) {
+        if (!write_block(file, block, bytes)) {
+            return FSTCH_DEVICE_GAVE_UP;
+        }
+        number++;
+    }
+    if (answer != FSTCH_ABSENT) {
+        return answer;
+    }
+    return sync_file(file) ? FSTCH_DONE : FSTCH_NO_SYNC;
+}
+
+int32_t fstch_sync(fstch_store *store) {
+    int32_t answer = fstch_core_sync(store);
+    if (answer == FSTCH_DONE) {
+        answer = write_tape(store, fstch_core_file(store));
+    } else if (answer == FSTCH_DEVICE_GAVE_UP) {
+        answer = FSTCH_OUT_OF_MEMORY; /* of the tape */
+    }
+    fstch_core_synced(store, answer == FSTCH_DONE);
+    return answer;
+}
+
+/* The lock goes with the file. */
+int32_t fstch_close(fstch_store *store) {
+    int file = fstch_core_file(store);
+    int32_t answer = fstch_core_close(store);
+    if (file >= 0) {
+        close(file);
+    }
+    return answer;
+}
