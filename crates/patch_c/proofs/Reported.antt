@@ -20,7 +20,7 @@ counted_so h entries extents keys count lists are keys_are count_is =
     let shelf = (standing_of h).shelf in
     let e : keys ≡ length (entries_of h) = keys_are ∙ sym (length-map entries reported) ∙ ap length lists.listed in
     let x : count ≡ shelf.extents.geometry.extents =
-        count_is ∙ ap length are ∙ length-map-range_with_len (extent_report shelf) 0 shelf.extents.geometry.extents in
+    count_is ∙ ap length are ∙ length-map-range_with_len (extent_report shelf) 0 shelf.extents.geometry.extents in
     λ i. (pos 0, e i, x i)
 
 pub listed_so : (h : History) (entries : List EntryReport) (number : ℕ) (entry : EntryReport) (key into : List ℕ) (len value_len : ℕ) (answer : Answer)
@@ -29,7 +29,7 @@ pub listed_so : (h : History) (entries : List EntryReport) (number : ℕ) (entry
     → (number_of answer, into_now, len_now, entry.length) ≡ entry_told (slice_get (entries_of h) number) into len value_len
 listed_so h entries number entry key into len value_len answer into_now len_now lists got key_is answer_is into_is len_is =
     let at : slice_get (entries_of h) number ≡ Some (key_of entry.key, entry.length) =
-        ap (λ xs. slice_get xs number) (sym lists.listed) ∙ slice_get-map reported entries number ∙ ap (option_map reported) got in
+    ap (λ xs. slice_get xs number) (sym lists.listed) ∙ slice_get-map reported entries number ∙ ap (option_map reported) got in
     let a : answer ≡ answer_copying (key_of entry.key) into = answer_is ∙ ap (λ k. answer_copying k into) key_is in
     let b : into_now ≡ copied (key_of entry.key) into = into_is ∙ ap (λ k. copied k into) key_is in
     let l : len_now ≡ length (key_of entry.key) = len_is ∙ ap length key_is in

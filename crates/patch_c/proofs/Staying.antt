@@ -43,12 +43,13 @@ stays_still extend stay h writer command reply old new still answered =
 pub calls_stay : StatesExtend → ImagesStay → CallsStay
 calls_stay extend stay spent writer command reply old new stands answers =
     ∥∥₁_map stands (λ w.
-    let answered = answers w.0 w.1.represents in
-    (with_event w.0 (Call writer command reply answered.steps),
-    record {
-      represents = answered.gained.represents;
-      still = λ unspent. stays_still extend stay w.0 writer command reply old new (w.1.still unspent) answered;
-    }))
+    let answered = answers w.0 w.1.represents in (
+      with_event w.0 (Call writer command reply answered.steps),
+      record {
+        represents = answered.gained.represents;
+        still = λ unspent. stays_still extend stay w.0 writer command reply old new (w.1.still unspent) answered;
+      },
+    ))
 
 -- so it is at first
 pub fresh_so : (s : Store) (blocks : List (List ℕ)) → IsOpened blocks s → ∥ StandsSomewhere false s ∥₁

@@ -15,13 +15,13 @@ loop-n-preserved c =
 pub returns-clause-whole : goal.returns-clause-whole
 returns-clause-whole c =
     let many : length c.loop-n.blocks.items ≡ c.loop-n.n =
-        ap length c.loop-n.invariant ∙ length-map-range_with_len (block_in c.args.bytes.now) 0 c.loop-n.n in
+    ap length c.loop-n.invariant ∙ length-map-range_with_len (block_in c.args.bytes.now) 0 c.loop-n.n in
     let last : c.loop-n.n ≡ c.in-Some.count = let done = c.loop-n-test.false in let low = c.loop-n.auto.n-end in omega arith in
     subst (λ count. length c.args.bytes.now ≡ count * BLOCK) (sym (many ∙ last)) c.in-Some.ensures.whole
 
 pub returns-clause-fits : goal.returns-clause-fits
 returns-clause-fits c =
     let many : length c.loop-n.blocks.items ≡ c.loop-n.n =
-        ap length c.loop-n.invariant ∙ length-map-range_with_len (block_in c.args.bytes.now) 0 c.loop-n.n in
+    ap length c.loop-n.invariant ∙ length-map-range_with_len (block_in c.args.bytes.now) 0 c.loop-n.n in
     let last : c.loop-n.n ≡ c.in-Some.count = let done = c.loop-n-test.false in let low = c.loop-n.auto.n-end in omega arith in
     subst FitsFile (sym (many ∙ last)) c.in-Some.ensures.fits

@@ -29,6 +29,6 @@ returns-clause-cause c =
     let n : to_z w32 (of_z w32 c.number.result) ≡ number_of c.sync-answer.result = grind (arith, to_z-of_z) in
     told_so c.args.handle.now c.put_back.new.self c.deref_mut.result.now c.sync-answer.new.self
     (λ number before after. IsFalse before.is_spent → (h : History) → Represents before.store h → block_count_of before.device ≡ length h.opening
-        → IsOf number (λ answer. HasCause answer (fault_count_of before.device) (fault_count_of after.device)))
+    → IsOf number (λ answer. HasCause answer (fault_count_of before.device) (fault_count_of after.device)))
     _ c.sync-answer.result (ap (λ (o : Opened). Some o) c.deref_mut.ensures.value ∙ c.in-Some.ensures.value) c.put_back.ensures.value n
     (λ unspent h represents counted. (c.sync-answer.result, refl, c.sync-answer.ensures.cause unspent h represents counted))
