@@ -173,7 +173,7 @@ fn one_call_runs_one_writer_or_several(rt: HostRuntime) -> Result<(), Fail> {
     expect_run_or_served(&rt, rt.alloc(), None, SYNCED, (synced, held))?;
     let defect = Defect::NoSync;
     let why = BadScript::BadLine { line: 4, defect };
-    let unread = End(Status::Unreadable(why), 2, "bad line 4\n");
+    let unread = End(Status::Unreadable(why), 3, "bad line 4\n");
     expect_run_or_served(&rt, rt.alloc(), Some(2), SYNCED, (unread, EMPTY_STORE))?;
     let served = End(Status::Done, 0, "ok\nvalue 01\nok\nnone\n");
     let held = End(Status::Done, 0, HELD_OF_TWO);
