@@ -3,6 +3,7 @@ pub mod Between
 pub mod Causes
 pub mod Codes
 pub mod Made
+pub mod Refused
 pub mod Reported
 pub mod Staying
 pub mod Synced

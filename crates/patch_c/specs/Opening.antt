@@ -1,5 +1,5 @@
 -- A store that is opened, and the file of a new one.
-use Rattle.std.specs.Prelude.{ℕ, ℤ, ◌≡◌, ◌==◌, ◌+◌, ◌*◌, ◌/◌, ◌++◌, false, if◌then◌else◌, IsTrue, List, [], length, map, drop, slice_range, slice_get, Some, None}
+use Rattle.std.specs.Prelude.{ℕ, ℤ, ◌≡◌, ◌==◌, ◌+◌, ◌*◌, ◌/◌, ◌++◌, ◌⊎◌, false, if◌then◌else◌, IsTrue, List, [], length, map, drop, slice_range, slice_get, Some, None}
 use Rattle.std.specs.List.{range_with_len}
 use Rattle.patch_model.specs.declared.blocks.TheConstants.{BLOCK}
 use Rattle.patch_model.specs.declared.refusals.Refusal.{Refusal}
@@ -14,8 +14,10 @@ use Rattle.patch_history.specs.declared.refusals.OpenFault.{OpenFault}
 use Rattle.patch_history.specs.Refusals.{open_cause}
 use Rattle.patch_store.specs.Making.{new_disk}
 use Rattle.patch_store.specs.Opening.{IsOpened, IsFaultOf}
+use Rattle.patch_c.specs.declared.answers.Answer.TheVariants.{Refused}
 use Rattle.patch_c.specs.declared.opened.Opened.{Opened}
 use Rattle.patch_c.specs.declared.unopened.Unopened.{Unopened}
+use Rattle.patch_c.specs.Answering.{number_of}
 use Rattle.patch_c.specs.Tape.{block_count_of, writes_of}
 
 -- a block of so many bytes
@@ -41,25 +43,30 @@ pub record IsFresh (file : ℤ) (bytes : List ℕ) (opened : Opened) : Type 0 wh
 abbrev pub starved : Unopened
 starved = record { refusal = bare kind.OutOfMemory }
 
--- a file is of whole blocks, and has as many as it may
-pub record IsFile (bytes : List ℕ) (count : ℕ) : Type 0 where
-  pub whole : length bytes ≡ count * BLOCK
-  pub fits : FitsFile count
+-- the bytes aren't whole blocks, or not as many as a file may have
+pub record IsNoFile (bytes : List ℕ) (refusal : Refusal) : Type 0 where
+  pub refusal_is : refusal ≡ bare kind.FileSize
+  pub none : (count : ℕ) → length bytes ≡ count * BLOCK → FitsFile count → ⊥
 
--- a test of these blocks refuses them, or there was no memory
+-- this is the first test that refuses the blocks, or there was no memory
 pub record IsTested (blocks : List (List ℕ)) (refusal : Refusal) : Type 0 where
   pub fault : OpenFault
   pub refuses : IsFaultOf blocks fault
   pub refusal_is : refusal ≡ open_cause fault
 
--- the bytes aren't those of a file
-pub record IsNoFile (bytes : List ℕ) (refusal : Refusal) : Type 0 where
-  pub refusal_is : refusal ≡ bare kind.FileSize
-  pub none : (count : ℕ) → IsFile bytes count → ⊥
+abbrev pub IsWhyNot : (bytes : List ℕ) → Refusal → Type 0
+IsWhyNot bytes refusal = IsNoFile bytes refusal ⊎ IsTested (blocks_in bytes) refusal
 
 -- the number that goes with a refusal, or what stood there before
 abbrev pub number_told : Refusal → ℕ → ℕ
 number_told refusal before = elim refusal.number [ Some number ↦ number | None ↦ before ]
+
+-- this is answered, and that number is told
+pub record TellsWhyNot (bytes : List ℕ) (number : ℤ) (before now : ℕ) : Type 0 where
+  pub refusal : Refusal
+  pub why : IsWhyNot bytes refusal
+  pub number_is : number ≡ number_of (Refused refusal.kind)
+  pub now_is : now ≡ number_told refusal before
 
 -- The file of a new store.
 

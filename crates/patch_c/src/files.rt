@@ -1,7 +1,7 @@
 //! Files: what a new one holds, and how the store of one is opened and closed. The program in C makes, opens and closes the files.
 ghost use Rattle.std.specs.Prelude.{◌≡◌, ◌≢◌, ◌↔◌, IsTrue, IsFalse, IfSome};
 ghost use Rattle.patch_c.specs.Handle.{IsZeros};
-ghost use Rattle.patch_c.specs.Opening.{IsFresh, HasMade, geometry_for as geometry_of};
+ghost use Rattle.patch_c.specs.Opening.{IsFresh, TellsWhyNot, HasMade, geometry_for as geometry_of};
 
 use crate::answers::{DONE, IS_OPEN, NOT_OPEN};
 use crate::handle::Handle;
@@ -45,6 +45,7 @@ pub extern "C" fn fstch_core_open(
     ensures fresh { result ≡ DONE → IfSome handle.new.sealed.opened (IsFresh file bytes.now) }
     ensures refused { result ≢ DONE → handle.new ≡ handle.old }
     ensures slot { result ≡ DONE → slot.new ≡ slot.old }
+    ensures why { IsFalse handle.old.is_open → result ≢ DONE → TellsWhyNot bytes.now result slot.old slot.new }
 {
     if handle.is_open {
         return IS_OPEN;

@@ -1,8 +1,8 @@
 //! How the file of a store is made, and opened.
-ghost use Rattle.std.specs.Prelude.{◌≡◌, ◌≢◌, ◌⊎◌, [], length, IfOk, IfErr};
+ghost use Rattle.std.specs.Prelude.{◌≡◌, ◌≢◌, [], length, IfOk, IfErr};
 ghost use Rattle.patch_device.specs.Blocks.{FitsFile};
 ghost use Rattle.patch_store.specs.Opening.{IsOpened};
-ghost use Rattle.patch_c.specs.Opening.{IsFresh, HasMade, geometry_for};
+ghost use Rattle.patch_c.specs.Opening.{IsFresh, IsTested, IsWhyNot, HasMade, geometry_for};
 
 use crate::answers::Answer;
 use crate::copying::copy_out;
@@ -17,10 +17,12 @@ use patch_store::{Store, make};
 use std::alloc::Global;
 
 /// The store of these blocks.
+#[tactic(auto, using(crate::proofs::Refused::starved_tested, crate::proofs::Refused::tested_so))]
 fn open_store(alloc: Global, blocks: Vec<BlockBytes>) -> Result<Store, Unopened>
     requires { FitsFile (length blocks.items) }
     ensures opened { IfOk result (λ store. IsOpened blocks.items store) }
     ensures no_steps { IfOk result (λ store. store.cache.trace ≡ []) }
+    ensures why { IfErr result (λ why. IsTested blocks.items why.refusal) }
 {
     let cache = Cache::open(alloc, blocks)?;
     match Store::open(alloc, cache) {
@@ -30,8 +32,10 @@ fn open_store(alloc: Global, blocks: Vec<BlockBytes>) -> Result<Store, Unopened>
 }
 
 /// The store of a file's bytes, on the heap.
+#[tactic(auto, using(crate::proofs::Refused::starved_why, crate::proofs::Refused::tested_why, crate::proofs::Refused::passed_why))]
 pub fn open_bytes(alloc: Global, file: i32, bytes: &[u8]) -> Result<Box<Opened, Global>, Unopened>
-    ensures { IfOk result (λ opened. IsFresh file bytes.now opened.value) }
+    ensures fresh { IfOk result (λ opened. IsFresh file bytes.now opened.value) }
+    ensures why { IfErr result (λ why. IsWhyNot bytes.now why.refusal) }
 {
     let blocks = blocks_in(alloc, bytes)?;
     let device = Tape::new(alloc, blocks.len() as u32);

@@ -3,7 +3,11 @@ use Rattle.std.proofs.lemmas.List.FromFn.{length-map-range_with_len, map-range_w
 use Rattle.patch_model.specs.declared.blocks.TheConstants.{BLOCK}
 use Rattle.patch_device.specs.Blocks.{FitsFile}
 use Rattle.patch_c.specs.Opening.{block_in}
+use Rattle.patch_c.proofs.Refused.{no_file}
 use Rattle.patch_c.proofs.given.blocks_in.Goals as goal
+
+pub returns-in_default-clause-why : goal.returns-in_default-clause-why
+returns-in_default-clause-why c = no_file c.args.bytes.now c.of.result.refusal (c.of.ensures ∙ c.bare.ensures) c.in_default.ensures.none
 
 pub loop-n-preserved : goal.loop-n-preserved
 loop-n-preserved c =
