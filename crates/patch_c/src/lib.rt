@@ -1,14 +1,14 @@
 //! The store for programs in C, and in whatever calls C. `include/fstch.h` is the header.
 //!
 //! Each export takes the store out of its [`Handle`](handle::Handle), makes one call of it, and puts it back: those of `files` make,
-//! open and close one, those of `syncing` bring it to its file, those of `values` put and read, those of `deleting` delete and win room back, those of `listing` count and
-//! list, and those of `groups` order what is changed. What they answer are
-//! the numbers of an [`Answer`](answers::Answer), with words in `texts`. None of them requires anything: what a call of the store
-//! requires is tested, or known of each store that is `opened`.
+//! open and close one, those of `syncing` bring it to its file, those of `values` put and read, those of `deleting` delete and win room
+//! back, those of `listing` count and list, and those of `groups` order what is changed. What they answer are the numbers of an
+//! [`Answer`](answers::Answer), with words in `texts`. None of them requires anything: what a call of the store requires is tested, or
+//! known of each store that is `opened`.
 //!
 //! A handle is two words that C may see. What it stands for is a ghost field, and the memory is a box's: `sealed` and `raw_box` turn
-//! the one into the other. `saving` brings a store to its device, which is a `tape`: no file is opened, read or written here. The functions of C that do so call
-//! the exports that are named `fstch_core_..`, and `given` takes the bytes that they have read.
+//! the one into the other. `saving` brings a store to its device, which is a `tape`: no file is opened, read or written here. The
+//! functions of C that do so call the exports that are named `fstch_core_..`, and `given` takes the bytes that they have read.
 #![tactic(auto)]
 
 mod answers;

@@ -1,5 +1,6 @@
 //! Syncs: all changes are put on the tape, the program in C brings them from there to the file, and says whether it has.
-ghost use Rattle.std.specs.Prelude.{◌≡◌, ◌↔◌, ◌||◌, not, IsTrue, IsFalse, IfSome, length, slice_get};
+ghost use Rattle.std.specs.Prelude.{◌≡◌, ◌≢◌, ◌↔◌, ℕ, ◌||◌, not, IsTrue, IsFalse, IfSome, length, slice_get};
+ghost use Rattle.patch_model.specs.declared.refusals.RefusalKind.TheVariants as kind;
 ghost use Rattle.patch_history.specs.History.{History};
 ghost use Rattle.patch_store.specs.Flushing.{StandsStill};
 ghost use Rattle.patch_store.specs.Meaning.{Represents};
@@ -13,7 +14,20 @@ use crate::copying::copy_out;
 use crate::handle::Handle;
 use crate::opened::Opened;
 use crate::saving::save;
+use patch_model::RefusalKind;
 use std::alloc::Global;
+
+/// What a flush to the tape comes to: the tape gives a write up for want of memory alone, since it has each block.
+fn on_tape(answer: Answer) -> Answer
+    ensures done { (result ≡ Answer.Done) ↔ (answer ≡ Answer.Done) }
+    ensures gave_up { result ≢ Answer.Refused kind.DeviceGaveUp }
+    ensures cause { (faults faults_now : ℕ) → HasCause answer faults faults_now → HasCause result faults faults_now }
+{
+    match answer {
+        Answer::Refused(RefusalKind::DeviceGaveUp) => Answer::Refused(RefusalKind::OutOfMemory),
+        _ => answer,
+    }
+}
 
 impl Opened {
     /// Puts all patches on the tape. Once a sync was refused none is tried again.
@@ -22,6 +36,7 @@ impl Opened {
         ensures synced { (h : History) → StandsStill self.old.store h → result ≡ Answer.Done → IsSynced h self.new.store }
         ensures written { IsFalse self.old.is_spent → (h : History) → Represents self.old.store h → HasWrittenOn h self.new.store }
         ensures fails { IsFalse self.new.is_spent ↔ (result ≡ Answer.Done) }
+        ensures gave_up { result ≢ Answer.Refused kind.DeviceGaveUp }
         ensures cause { IsFalse self.old.is_spent → (h : History) → Represents self.old.store h
             → block_count_of self.old.device ≡ length h.opening
             → HasCause result (fault_count_of self.old.device) (fault_count_of self.new.device) }
@@ -29,7 +44,7 @@ impl Opened {
         if self.is_spent {
             return Answer::NoSync;
         }
-        let answer = save(&mut self.store, &mut self.device);
+        let answer = on_tape(save(&mut self.store, &mut self.device));
         self.is_spent = answer != Answer::Done;
         answer
     }
@@ -73,6 +88,7 @@ pub extern "C" fn fstch_core_sync(handle: &mut Handle, alloc: Global) -> i32
     ensures spent { Between handle.old handle.new (λ before after. IsTrue before.is_spent
         → (result ≡ number_of Answer.NoSync) × (after.store ≡ before.store)) }
     ensures fails { Between handle.old handle.new (λ before after. IsFalse after.is_spent ↔ (result ≡ DONE)) }
+    ensures gave_up { result ≢ number_of (Answer.Refused kind.DeviceGaveUp) }
     ensures cause { Between handle.old handle.new (λ before after. IsFalse before.is_spent → (h : History) → Represents before.store h
         → block_count_of before.device ≡ length h.opening
         → IsOf result (λ answer. HasCause answer (fault_count_of before.device) (fault_count_of after.device))) }
