@@ -23,10 +23,10 @@ int32_t fstch_core_open(fstch_store *store, int32_t file, const uint8_t *bytes, 
 /* The number that the store was opened with, or -1 where it is closed. */
 int32_t fstch_core_file(fstch_store *store);
 
-/* Brings all changes to the store's tape, as writes in the order in which they have to reach the file. A tape refuses a write only
- * where there is no memory for it: that is FSTCH_DEVICE_GAVE_UP.
+/* Brings all changes to the store's tape, as writes in the order in which they have to reach the file. Where there is no memory for
+ * them, each later sync is refused.
  *
- * FSTCH_NO_SYNC, FSTCH_OUT_OF_MEMORY, FSTCH_DEVICE_GAVE_UP.
+ * FSTCH_NO_SYNC, FSTCH_OUT_OF_MEMORY.
  */
 int32_t fstch_core_sync(fstch_store *store);
 

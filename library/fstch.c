@@ -195,8 +195,6 @@ int32_t fstch_sync(fstch_store *store) {
     int32_t answer = fstch_core_sync(store);
     if (answer == FSTCH_DONE) {
         answer = write_tape(store, fstch_core_file(store));
-    } else if (answer == FSTCH_DEVICE_GAVE_UP) {
-        answer = FSTCH_OUT_OF_MEMORY; /* of the tape */
     }
     fstch_core_synced(store, answer == FSTCH_DONE);
     return answer;

@@ -84,6 +84,17 @@ static void a_read_is_refused(void) {
     WANT(FSTCH_DONE, fstch_close(&store));
 }
 
+static void a_file_that_is_too_long_is_not_read(void) {
+    fstch_store store = new_store(1, 4);
+    WANT(FSTCH_DONE, fstch_close(&store));
+    MUST(truncate(FILE_NAME, 4097 * 4096) == 0);
+    reads_till_refused = 0;
+    WANT(FSTCH_FILE_SIZE, open_path(&store, FILE_NAME));
+    MUST(truncate(FILE_NAME, 0) == 0);
+    WANT(FSTCH_FILE_SIZE, open_path(&store, FILE_NAME));
+    reads_till_refused = -1;
+}
+
 static void the_system_refuses_to_sync(void) {
     fstch_store store = new_store(1, 4);
     WANT(FSTCH_DONE, put(&store, "key", "value"));
@@ -107,10 +118,14 @@ static void a_file_is_not_finished(void) {
 }
 
 static void calls_are_taken_up_again(void) {
+    static uint8_t value[10000], into[10000];
+    size_t length = 0;
+    memset(value, 'v', sizeof value);
     is_interrupting = true;
     most_moved = 1000;
     fstch_store store = new_store(1, 4);
     WANT(FSTCH_DONE, put(&store, "key", "value"));
+    WANT(FSTCH_DONE, fstch_put(&store, FSTCH_NO_WRITER, "long", 4, value, sizeof value));
     WANT(FSTCH_DONE, fstch_sync(&store));
     WANT(FSTCH_DONE, fstch_close(&store));
     WANT(FSTCH_DONE, open_path(&store, FILE_NAME));
@@ -121,6 +136,8 @@ static void calls_are_taken_up_again(void) {
     WANT(FSTCH_DONE, fstch_close(&store));
     WANT(FSTCH_DONE, open_path(&store, FILE_NAME));
     WANT(true, has(&store, "key", "value"));
+    WANT(FSTCH_DONE, fstch_get(&store, "long", 4, into, sizeof into, &length));
+    WANT(true, length == sizeof value && memcmp(into, value, sizeof value) == 0);
     WANT(FSTCH_DONE, fstch_close(&store));
 }
 
@@ -259,6 +276,7 @@ int main(void) {
     a_write_is_refused();
     a_write_is_tried_again();
     a_read_is_refused();
+    a_file_that_is_too_long_is_not_read();
     the_system_refuses_to_sync();
     a_file_is_not_finished();
     calls_are_taken_up_again();
