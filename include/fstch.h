@@ -150,7 +150,7 @@ enum fstch_answer {
 int32_t fstch_make(const char *path, uint32_t index_blocks, uint32_t extents, uint32_t extent_blocks);
 
 /* Opens the store of a file into a closed fstch_store, and locks the file until it is closed or the program ends. The program fstch
- * takes no such lock. The file is read whole: an open store takes as much memory as the file has bytes, and more for what is not
+ * takes the same lock. The file is read whole: an open store takes as much memory as the file has bytes, and more for what is not
  * synced; opening takes twice as much, and a sync as much again as it writes.
  *
  * `slot` is set with FSTCH_BAD_SLOT, FSTCH_BAD_FRAME and FSTCH_DUPLICATE_KEY alone: to the first slot of the index that is wrong.

@@ -1,8 +1,8 @@
 //! Runs of the program: what it answers to words and a script.
-use patch_program::{Errors, run, words};
+use patch_program::{Errors, LockedFiles, run, words};
 use std::alloc::{AllocError, Global};
 use std::env::{Env, FillError};
-use std::fs::OpenFile;
+use std::fs::{OpenFile, OpenOptions};
 use std::os::unix::fs::FileExt;
 use std::process::Abort;
 use std::rt::Files;
@@ -197,17 +197,27 @@ fn words_of(alloc: Global, text: &str) -> Result<Vec<String>, AllocError> {
 }
 
 /// A run on these words, with this on standard input, ends so.
-fn expect_run<
-    F: FileExt + OpenFile + Drop + Send,
-    H: Files<File = F> + Threads + Wait + Abort + Sync,
->(rt: &H, alloc: Global, words: io::Result<Vec<String>>, row: &Row) {
+fn expect_run<F: FileExt + OpenFile + Drop + Send, H: Files<File = F> + Threads + Wait + Sync>(
+    rt: &impl Abort,
+    files: &H,
+    alloc: Global,
+    words: io::Result<Vec<String>>,
+    row: &Row,
+) {
     let Row(name, script, status, output, said) = *row;
     let (mut out, mut errors) = (Vec::new(alloc), Vec::new(alloc));
     let mut stream = Errors {
         stream: &mut errors,
         is_terminal: false,
     };
-    let ended = run(rt, alloc, words, script.as_bytes(), &mut out, &mut stream);
+    let ended = run(
+        files,
+        alloc,
+        words,
+        script.as_bytes(),
+        &mut out,
+        &mut stream,
+    );
     assert_eq!(rt; ended, status, "{name}");
     assert_eq!(rt; out.as_slice(), output.as_bytes(), "{name}");
     let errors = std::str::from_utf8(&errors).unwrap_or("no text");
@@ -215,27 +225,71 @@ fn expect_run<
     assert_eq!(rt; errors.is_empty(), said.is_empty(), "{name}: {errors}");
 }
 
-fn expect_each<
-    F: FileExt + OpenFile + Drop + Send,
-    H: Files<File = F> + Threads + Wait + Abort + Sync,
->(rt: &H, alloc: Global, rows: &[Row]) -> Result<(), Fail> {
+fn expect_each<F: FileExt + OpenFile + Drop + Send, H: Files<File = F> + Threads + Wait + Sync>(
+    rt: &impl Abort,
+    files: &H,
+    alloc: Global,
+    rows: &[Row],
+) -> Result<(), Fail> {
     for row in rows {
         let words = words_of(alloc, row.0)?;
-        expect_run(rt, alloc, Ok(words), row);
+        expect_run(rt, files, alloc, Ok(words), row);
     }
     Ok(())
 }
 
 #[test]
 fn runs_end_as_they_should(rt: HostRuntime) -> Result<(), Fail> {
-    expect_each(&rt, rt.alloc(), &ROWS)
+    expect_each(&rt, &rt, rt.alloc(), &ROWS)
 }
 
 #[test]
 fn a_store_is_made_run_checked_and_upgraded(rt: HostRuntime) -> Result<(), Fail> {
     let _old = fs::remove_file(&rt, "patch_tool_disk");
-    expect_each(&rt, rt.alloc(), &ROWS_OF_FILES)?;
+    expect_each(&rt, &rt, rt.alloc(), &ROWS_OF_FILES)?;
     fs::remove_file(&rt, "patch_tool_disk")?;
+    Ok(())
+}
+
+const TO_BE_LOCKED: [Row; 1] = [Row(
+    "fstch make patch_locked_disk --index 1 --extents 2",
+    "",
+    0,
+    "made 35\n",
+    "",
+)];
+
+const IN_USE: [Row; 4] = [
+    Row("fstch check patch_locked_disk", "", 4, "fault Disk\n", ""),
+    Row("fstch run patch_locked_disk", PUT, 4, "fault Disk\n", ""),
+    Row(
+        "fstch run patch_locked_disk --writers 2",
+        PUT,
+        4,
+        "fault Disk\n",
+        "",
+    ),
+    Row("fstch upgrade patch_locked_disk", "", 4, "fault Disk\n", ""),
+];
+
+const LET_GO: [Row; 2] = [
+    Row("fstch run patch_locked_disk", PUT, 0, "ok\n", ""),
+    Row("fstch upgrade patch_locked_disk", "", 0, "upgraded\n", ""),
+];
+
+#[test]
+fn a_file_in_use_is_refused(rt: HostRuntime) -> Result<(), Fail> {
+    let path = "patch_locked_disk";
+    let _old = fs::remove_file(&rt, path);
+    let files = LockedFiles::new(&rt);
+    expect_each(&rt, &files, rt.alloc(), &TO_BE_LOCKED)?;
+    assert!(rt; !files.has_met_lock());
+    let held = OpenOptions::new().read(true).open(&files, path)?;
+    expect_each(&rt, &files, rt.alloc(), &IN_USE)?;
+    assert!(rt; files.has_met_lock());
+    drop(held);
+    expect_each(&rt, &files, rt.alloc(), &LET_GO)?;
+    fs::remove_file(&rt, path)?;
     Ok(())
 }
 
@@ -275,7 +329,13 @@ fn an_argument_that_is_no_text_is_misuse(rt: HostRuntime) {
         "",
         "fstch: an argument is not UTF-8 text\n",
     );
-    expect_run(&rt, rt.alloc(), words(&(NoText, rt.alloc())), &misused);
+    expect_run(&rt, &rt, rt.alloc(), words(&(NoText, rt.alloc())), &misused);
     let starved = Row("no memory", "", 5, "fault OutOfMemory\n", "");
-    expect_run(&rt, rt.alloc(), Err(io::Error::from(AllocError)), &starved);
+    expect_run(
+        &rt,
+        &rt,
+        rt.alloc(),
+        Err(io::Error::from(AllocError)),
+        &starved,
+    );
 }

@@ -2,7 +2,9 @@
 #![tactic(auto)]
 
 mod arguments;
+mod locking;
 mod running;
 
 pub use arguments::words;
+pub use locking::LockedFiles;
 pub use running::{Errors, run};

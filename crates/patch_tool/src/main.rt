@@ -6,7 +6,7 @@ ghost use Rattle.std.specs.IoError.{error_kind};
 ghost use Rattle.std.specs.Process.{exit_status};
 ghost use Rattle.std.specs.declared.io.ErrorKind.TheVariants.{InvalidData};
 
-use patch_program::{Errors, run, words};
+use patch_program::{Errors, LockedFiles, run, words};
 use std::alloc::Global;
 use std::fs::OpenFile;
 use std::io;
@@ -41,16 +41,21 @@ fn main(rt: HostRuntime) -> ExitCode {
     let (mut output, mut errors) = (rt.stdout(), rt.stderr());
     let is_terminal = errors.is_terminal();
     let words = words(&rt);
+    let files = LockedFiles::new(&rt);
     let mut errors = Errors {
         stream: &mut errors,
         is_terminal,
     };
-    end_of(
-        &rt,
+    let ended = end_of(
+        &files,
         rt.alloc(),
         words,
         rt.reader(),
         &mut output,
         &mut errors,
-    )
+    );
+    if files.has_met_lock() {
+        let _ = errors.stream.write_all(b"fstch: the file is in use\n");
+    }
+    ended
 }
