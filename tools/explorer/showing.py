@@ -151,7 +151,7 @@ class Showing:
         spans = [self.strips.span(*span) for span in (*self.looked, *((p.block, p.start, p.end) for p in self.patches))]
         return {
             "isStore": self.geometry is not None,
-            "looks": panels.LOOKS,
+            "lookWords": panels.LOOKS,
             "unchosen": panels.UNCHOSEN,
             "untouched": panels.UNTOUCHED,
             "script": panels.script_list(self.lines),

@@ -73,9 +73,8 @@ function showScript(now) {
 // Listening.
 
 // The keys are those of a list of choices, or of what is being scrolled.
-function hasOwnKeys(target) {
-  return target.matches("select") || (target.matches(".scroll") && target.scrollWidth > target.clientWidth);
-}
+const hasOwnKeys = (target) =>
+  target.matches("select") || (target.matches(".scroll") && target.scrollWidth > target.clientWidth);
 
 function leave() {
   document.activeElement.blur();

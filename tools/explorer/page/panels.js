@@ -45,10 +45,11 @@ function chainItem(now, number) {
 }
 
 // Bytes of a block, where its patches lie, in a table of these rows.
-function bytesTable(now, block, rows, nameOf = (row) => row) {
+function bytesTable(now, block, rows) {
   const here = now.made.filter((patch) => patch.block === block).slice(-MOST.drawn);
   const strip = { ...story.strips[here[0].strip], ...columnsOf(story.strips[here[0].strip], here) };
   const cells = (row) => cellsOf(now, strip, row, { kind: "table", other: row === "written" ? "cached" : row });
+  const nameOf = (row) => (row === "crash" ? `block ${block}` : row);
   const tableRows = rows.map((row) => shape("table-row", { name: nameOf(row), cells: cells(row) }));
   return shape("table", { block, rows: tableRows.join("") });
 }
@@ -67,7 +68,7 @@ function showPatch(now) {
   put(now, "patch", patch?.html ?? story.unchosen);
   if (!patch) return;
   const hardness = patch.isHard ? ", hard: never taken back" : "";
-  at("patch-state").textContent = story.looks[lookOf(now, patch.number)] + hardness;
+  at("patch-state").textContent = story.lookWords[lookOf(now, patch.number)] + hardness;
   at("patch-class").textContent = now.names[patch.number];
   put(now, "patch-needs", chips(now, patch.needs, "nothing"));
   put(now, "patch-needing", chips(now, numbersOf(now, ({ needs }) => needs.includes(patch.number)), "nothing"));
@@ -85,7 +86,7 @@ function showCrash(now) {
   put(now, "lost", chips(now, numbersOf(now, (patch) => !isThere(patch))));
   showWhetherClosed(now, there);
   if (story.isStore) showWhatOpens(now);
-  else put(now, "left", now.touched.map((block) => bytesTable(now, block, ["crash"], () => `block ${block}`)).join(""));
+  else put(now, "left", now.touched.map((block) => bytesTable(now, block, ["crash"])).join(""));
 }
 
 function showVerdict(id, isRight, words) {
@@ -96,13 +97,13 @@ function showVerdict(id, isRight, words) {
 // Patches that are there without something on which they depend are told; there are none.
 function showWhetherClosed(now, there) {
   const found = new Set(there);
-  const missing = there.map((number) => [number, now.made[number].needs.filter((other) => !found.has(other))]);
-  const broken = missing.filter(([, others]) => others.length > 0);
+  const missing = (number) => now.made[number].needs.filter((other) => !found.has(other));
   const count = there.reduce((sum, number) => sum + now.made[number].needs.length, 0);
   const arrows = `${grouped(count)} ${count === 1 ? "arrow leads" : "arrows lead"} to what is there`;
   const none = there.length > 0 ? "None of them depends on another one." : "No patch is there.";
   const closed = `Closed. ${count > 0 ? `Each has with it what it depends on: ${arrows}.` : none}`;
-  const open = broken.map(([number, others]) => `patch ${number} without ${others.join(", ")}`).join("; ");
+  const broken = there.filter((number) => missing(number).length > 0);
+  const open = broken.map((number) => `patch ${number} without ${missing(number).join(", ")}`).join("; ");
   showVerdict("closed", open === "", open === "" ? closed : `Not closed: ${open}.`);
 }
 

@@ -88,9 +88,10 @@ function placed(strips, drawn) {
 
 // The cells of a row of bytes, in the picture or in a table; those that are otherwise in another row are marked.
 function cellsOf(now, strip, row, { other = row, kind = "svg", y = 0 } = {}) {
+  const piles = [row, other].map((name) => pileOf(now, strip, name));
   const cell = (column) => {
     if (column.isGap) return shape(`${kind}-gap`, { ...column, y });
-    const [here, there] = [row, other].map((name) => columnAt(now, strip, column, name));
+    const [here, there] = piles.map((pile) => columnUnder(pile, strip, column));
     const name = namesIn([strip.empty ? "said" : "byte", ["zeros", "empty"].includes(here.text) && "quiet"]);
     const text = kind === "svg" ? fitted(here.text, column.width - 4) : escaped(here.text);
     return shape(`${kind}-${here.bytes === there.bytes ? "cell" : "differs"}`, { ...column, y, name, text });
@@ -116,7 +117,7 @@ const lookOf = (now, number) => (now.taken.includes(number) ? "taken" : now.look
 const markOf = (now, number) => (["flight", "durable"].includes(now.looks[number]) ? now.looks[number] : "memory");
 
 const aboutPatch = (now, { number, about: [before, behind] }) =>
-  escaped(before + story.looks[lookOf(now, number)] + behind);
+  escaped(before + story.lookWords[lookOf(now, number)] + behind);
 
 function barAt(now, bar) {
   const { number, isHard, role } = bar.patch;

@@ -55,10 +55,11 @@ const ROWS = {
     !isLive(now, number) || (now.looks[number] === "flight" && state.landed.has(block)),
 };
 
-// The bytes of a column in a row, and their text: what the patch says with which they begin, or the bytes themselves.
-function columnAt(now, strip, { from, to }, row) {
-  const isHere = (patch) => patch.strip === strip.number && patch.from < to && from < patch.to;
-  const here = now.made.filter((patch) => isHere(patch) && ROWS[row](now, patch));
+const pileOf = (now, strip, row) => now.made.filter((patch) => patch.strip === strip.number && ROWS[row](now, patch));
+
+// The bytes of a column under a pile, and their text: what the patch says that begins there, or the bytes themselves.
+function columnUnder(pile, strip, { from, to }) {
+  const here = pile.filter((patch) => patch.from < to && from < patch.to);
   const bytes = new Uint8Array(to - from);
   for (const patch of here) {
     bytes.set(patch.bytes.slice(Math.max(0, from - patch.from), to - patch.from), Math.max(0, patch.from - from));
