@@ -5,7 +5,7 @@ import json
 
 from explorer import panels, store_panels
 from explorer.changes import Changes, Texts
-from explorer.standing import FLIGHT, DURABLE, Standing, directs, leading
+from explorer.standing import DURABLE, FLIGHT, Standing, directs, leading
 from explorer.strips import Strips, span_of_look
 
 MOST_DRAWN = 60  # patches
@@ -118,10 +118,10 @@ class Showing:
     def note_patches(self, now):
         """Looks, classes, and what keeps patches back."""
         standing = self.standing
-        changed = {number for block in standing.touched for number in standing.of_block[block]}
-        changed = {number for number in changed if self.has_changed(now, number)} | standing.changed
-        names = {standing.names[number] for number in changed}
-        names |= {standing.names[other] for number in changed for other in standing.needing[number]}
+        for number in standing.altered:
+            self.looks[number].note(now, standing.look(number))
+        names = {standing.names[number] for number in standing.altered}
+        names |= {standing.names[other] for number in standing.altered for other in standing.needing[number]}
         for number in (number for name in names for number in standing.members[name]):
             if standing.names[number] != number:
                 self.names[number].note(now, standing.names[number])
@@ -129,13 +129,6 @@ class Showing:
             keeper = standing.keeper(name) if standing.waits(name) else -1
             for number in standing.members[name]:
                 self.keepers[number].note(now, keeper)
-
-    def has_changed(self, now, number):
-        """It looks otherwise than before, or waits though it didn't."""
-        looks, count = self.looks[number], len(self.looks[number].listed)
-        looks.note(now, self.standing.look(number))
-        waits = self.keepers[number].listed and self.keepers[number].listed[-1][1] >= 0
-        return len(looks.listed) > count or waits != self.standing.waits(number)
 
     def note_store(self, now):
         standing = self.standing

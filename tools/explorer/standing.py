@@ -3,7 +3,7 @@
 import collections
 from dataclasses import dataclass, field
 
-from plain_model import BLOCK, shares_byte
+from plain_model import shares_byte
 
 MEMORY, FLIGHT, DURABLE = "memory", "flight", "durable"
 WAITS, TAKEN = "waits", "taken"
@@ -45,7 +45,8 @@ class Standing:
     """The marks and names of the patches made so far, the writes under way, the groups, and the bytes.
 
     `flights` has for each block whose write is under way how many patches were made before it began. `changed` has the
-    patches that the last moment made or changed, and `touched` the blocks where something may look otherwise since.
+    patches that the last moment made or changed, `touched` the blocks where something may look otherwise since, and
+    `altered` the patches that do. `states` has for each patch how it looks, and whether it waits.
     """
 
     def __init__(self, patches, direct, first):
@@ -56,7 +57,7 @@ class Standing:
         self.marks, self.names, self.members, self.needed = [], [], {}, {}
         self.of_block = collections.defaultdict(list)
         self.flights, self.groups, self.able = {}, [], {}
-        self.changed, self.touched = set(), set()
+        self.changed, self.touched, self.altered, self.states = set(), set(), set(), []
         self.over, self.known_parts = [], {}
 
     @property
@@ -71,12 +72,15 @@ class Standing:
             getattr(self, f"do_{what}")(*numbers)
         self.able.update((block, frozenset(numbers)) for block, numbers in moment.ready.items())
         self.touched |= {self.patches[number].block for number in self.changed}
+        self.altered = set(self.changed)
         for block in self.touched:
             self.known_parts.pop(block, None)
+            self.altered.update(self.renewed(block))
 
     def do_patch(self, number):
         patch = self.patches[number]
         self.marks.append(MEMORY)
+        self.states.append(None)
         self.names.append(number)
         self.members[number], self.needed[number] = [number], set(self.direct[number])
         self.of_block[patch.block].append(number)
@@ -127,6 +131,18 @@ class Standing:
     def do_close(self, group):
         self.groups[group].is_closed = True
 
+    def renewed(self, block):
+        """The patches of a block that look otherwise than before, or wait otherwise; their states are written anew."""
+        able, begin = self.able.get(block, ()), self.flights.get(block, 0)
+        for number in self.of_block[block]:
+            look, waits = self.marks[number], False
+            if look == MEMORY:
+                waits = number not in able
+                look = TAKEN if number < begin else WAITS if waits else MEMORY
+            if self.states[number] != (look, waits):
+                self.states[number] = look, waits
+                yield number
+
     # What holds now.
 
     def pile(self, block, marks):
@@ -141,20 +157,13 @@ class Standing:
     def is_live(self, number):
         return self.marks[number] != DURABLE
 
+    def look(self, number):
+        """Its mark; or of one in memory that it waits, or is taken back in the write that is under way."""
+        return self.states[number][0]
+
     def waits(self, number):
         """It is in memory, and a write of its block that began now wouldn't take it."""
-        return self.marks[number] == MEMORY and number not in self.able.get(self.patches[number].block, ())
-
-    def is_taken_back(self, number):
-        """It is in memory, and was when the write of its block began that is under way."""
-        return self.marks[number] == MEMORY and number < self.flights.get(self.patches[number].block, 0)
-
-    def look(self, number):
-        if self.marks[number] != MEMORY:
-            return self.marks[number]
-        if self.is_taken_back(number):
-            return TAKEN
-        return WAITS if self.waits(number) else MEMORY
+        return self.states[number][1]
 
     def live_blocks(self):
         """Those that have a patch which isn't durable."""
@@ -162,7 +171,7 @@ class Standing:
 
     def having(self, block, *looks):
         """The patches of a block that look so."""
-        return [number for number in self.of_block[block] if self.look(number) in looks]
+        return [number for number in self.of_block[block] if self.states[number][0] in looks]
 
     def parts(self, block):
         """What goes with the write of a block, what is taken back, and what was made since it began."""

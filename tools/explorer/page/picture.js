@@ -160,10 +160,8 @@ function linkBetween(others, bar) {
   return `M${x} ${other.y + HIGH.bar / 2}V${bar.y + HIGH.bar / 2}`;
 }
 
-function nameOfClass([name, members]) {
-  const top = members.reduce((one, bar) => (bar.y < one.y ? bar : one));
-  return shape("class-name", { ...top, name });
-}
+const nameOfClass = ([name, members]) =>
+  shape("class-name", { ...members.reduce((top, bar) => (bar.y < top.y ? bar : top)), name });
 
 // A band that goes on from the one beside it needs no name.
 function nameOfBand(bar, index, all) {
