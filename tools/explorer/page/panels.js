@@ -72,7 +72,7 @@ function showPatch(now) {
   at("patch-class").textContent = now.names[patch.number];
   put(now, "patch-needs", chips(now, patch.needs, "nothing"));
   put(now, "patch-needing", chips(now, numbersOf(now, ({ needs }) => needs.includes(patch.number)), "nothing"));
-  at("patch-waits").hidden = chainOf(now, patch.number).length === 1;
+  if (chainOf(now, patch.number).length === 1) at("patch-waits").remove();
 }
 
 // A crash that leaves the writes that were chosen on the disk.
