@@ -10,8 +10,6 @@ from explorer.strips import Strips, span_of_look
 
 MOST_DRAWN = 60  # patches
 MOST_NEEDED = 10  # of what a patch that is drawn depends on
-ABOUT = {"send": lambda patches, block, _: block, "land": lambda patches, block, _: block}
-ABOUT["patch"] = lambda patches, number: patches[number].block
 
 
 class Showing:
@@ -89,8 +87,14 @@ class Showing:
         """The block that the moment is about, if it has something to be written, or else the first that has."""
         blocks = self.standing.live_blocks()
         asked = [] if panels.is_end(line) else [json.loads(line.text).get("block")]
-        done = [ABOUT[what](self.patches, *numbers) for what, *numbers in moment.done if what in ABOUT]
+        done = [self.block_done(*each) for each in moment.done]
         return next((block for block in asked + done + blocks if block in blocks), None)
+
+    def block_done(self, what, number, *_):
+        """The block of something that is done, where it is done to one."""
+        if what == "patch":
+            return self.patches[number].block
+        return number if what in ("send", "land") else None
 
     def note_neighbours(self):
         """Where the lines before and behind end."""
