@@ -25,6 +25,8 @@ FLAGS = (
 SECONDS = 60
 KEYS = {"Tab": 9, "Enter": 13, " ": 32, "End": 35, "Home": 36, "ArrowLeft": 37, "ArrowRight": 39, "c": 67}
 TEXTS = {"Enter": "\r", " ": " "}
+# A page unpacks what it shows, and then shows it.
+IS_SHOWN = "typeof shown === 'undefined' || shown.then(() => true)"
 
 # The browser reads messages from file 3, and writes them to file 4.
 LAUNCH = """
@@ -136,6 +138,7 @@ class Browser:
         self.noticed = []
         self.ask("Page.navigate", url=url)
         self.await_event("Page.loadEventFired")
+        self.value_of(IS_SHOWN)
 
     def value_of(self, expression):
         found = self.ask("Runtime.evaluate", expression=expression, returnByValue=True, awaitPromise=True)
