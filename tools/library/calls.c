@@ -89,7 +89,8 @@ static void files_are_opened_once(void) {
     WANT(FSTCH_DONE, fstch_close(&store));
     WANT(true, is_zeros(&store));
     WANT(FSTCH_NOT_OPEN, fstch_close(&store));
-    WANT(FSTCH_DONE, open_path(&other, FILE_NAME));
+    WANT(FSTCH_DONE, fstch_open(&other, FILE_NAME, &slot));
+    WANT(777, slot);
     WANT(FSTCH_DONE, fstch_close(&other));
 }
 
@@ -147,6 +148,10 @@ static void keys_and_values_have_limits(void) {
     remove(FILE_NAME);
     WANT(FSTCH_DONE, fstch_make(FILE_NAME, 1, 4, 64));
     WANT(FSTCH_DONE, open_path(&store, FILE_NAME));
+    uint32_t entries = 777, extents = 777;
+    WANT(FSTCH_DONE, fstch_check(&store, &entries, &extents));
+    WANT(0, entries);
+    WANT(4, extents);
     WANT(FSTCH_VALUE_LENGTH, fstch_put(&store, FSTCH_NO_WRITER, key, 32, value, FSTCH_MAX_VALUE + 1));
     WANT(FSTCH_DONE, fstch_put(&store, FSTCH_NO_WRITER, key, 32, value, FSTCH_MAX_VALUE));
     WANT(FSTCH_DONE, fstch_get(&store, key, 32, into, sizeof into, &length));
@@ -208,10 +213,12 @@ static void entries_are_told(void) {
     WANT(4, extents);
     int seen[3] = {0, 0, 0};
     for (uint32_t number = 0; number < 3; number++) {
+        memset(key, 'x', sizeof key);
         WANT(FSTCH_DONE, fstch_entry(&store, number, key, sizeof key, &key_length, &value_length));
         MUST(value_length < 3);
         WANT(strlen(keys[value_length]), key_length);
         WANT(0, memcmp(keys[value_length], key, key_length));
+        WANT('x', key_length < sizeof key ? key[key_length] : 'x');
         seen[value_length]++;
         memset(key, 'x', sizeof key);
         WANT(FSTCH_BUFFER_TOO_SMALL, fstch_entry(&store, number, key, key_length - 1, &key_length, &value_length));
@@ -228,6 +235,7 @@ static void syncs_make_changes_last(void) {
     fstch_store store = new_store(1, 4);
     WANT(FSTCH_DONE, put(&store, "kept", "value"));
     WANT(FSTCH_DONE, put(&store, "deleted", "value"));
+    WANT(FSTCH_DONE, put_by(&store, FSTCH_WRITERS - 1, "empty", ""));
     WANT(FSTCH_DONE, fstch_sync(&store));
     WANT(FSTCH_DONE, delete_key(&store, "deleted"));
     WANT(FSTCH_DONE, fstch_sync(&store));
@@ -239,6 +247,11 @@ static void syncs_make_changes_last(void) {
     WANT(true, has(&store, "kept", "value"));
     WANT(true, has(&store, "deleted", NULL));
     WANT(true, has(&store, "new", NULL));
+    WANT(true, has(&store, "empty", ""));
+    WANT(FSTCH_DONE, delete_key(&store, "empty"));
+    WANT(FSTCH_NO_KEY, delete_key(&store, "empty"));
+    WANT(FSTCH_DONE, fstch_sync(&store));
+    WANT(FSTCH_DONE, fstch_sync(&store));
     WANT(FSTCH_DONE, fstch_close(&store));
 }
 
@@ -338,6 +351,7 @@ static void file_with_a_value(void) {
 
 static void damaged_files_are_refused(void) {
     static const uint8_t bad[8] = {0xff, 0xff, 0xff, 0xff, 0xff, 0xff, 0xff, 0xff};
+    static const uint8_t zeros[4096] = {0};
     uint8_t slot[64];
     file_with_a_value();
     damage(0, bad, sizeof bad);
@@ -363,6 +377,12 @@ static void damaged_files_are_refused(void) {
     file = fopen(FILE_NAME, "wb");
     MUST(file != NULL && fclose(file) == 0);
     wants_damaged(FSTCH_FILE_SIZE, 777);
+    file = fopen(FILE_NAME, "wb");
+    MUST(file != NULL && fwrite("short", 1, 5, file) == 5 && fclose(file) == 0);
+    wants_damaged(FSTCH_FILE_SIZE, 777);
+    file_with_a_value();
+    damage(0, zeros, sizeof zeros);
+    wants_damaged(FSTCH_BAD_SUPER, 777);
     /* 4,096 blocks are read, and are more than this store's; 4,097 are refused as they are */
     file_with_a_value();
     damage(4096 * 4096 - 1, bad, 1);
@@ -380,13 +400,21 @@ static void answers_have_texts(void) {
         size_t length = fstch_error_text(answers[number], text, sizeof text);
         MUST(0 < length && length < sizeof text);
         WANT(0, text[length]);
+        WANT('x', length + 1 < sizeof text ? text[length + 1] : 'x');
         WANT(length, strlen(text));
         WANT(true, strcmp(text, "unknown answer") != 0);
         WANT(length, fstch_error_text(answers[number], cut, sizeof cut - 1));
         WANT(true, strncmp(text, cut, 3) == 0 && cut[strlen(text) < 3 ? strlen(text) : 3] == 0);
         WANT(length, fstch_error_text(answers[number], text, 0));
     }
-    fstch_error_text(100, text, sizeof text);
+    memset(text, 'x', sizeof text);
+    WANT(4, fstch_error_text(FSTCH_DONE, text, sizeof text));
+    WANT(0, memcmp(text, "done\0xxx", 8));
+    WANT(22, fstch_error_text(FSTCH_ABSENT, text, 8));
+    WANT(0, memcmp(text, "there i\0x", 9));
+    WANT(14, fstch_error_text(100, text, sizeof text));
+    WANT(0, strcmp(text, "unknown answer"));
+    fstch_error_text(-3, text, sizeof text);
     WANT(0, strcmp(text, "unknown answer"));
     fstch_error_text(INT32_MIN, text, sizeof text);
     WANT(0, strcmp(text, "unknown answer"));

@@ -2,9 +2,12 @@ pub mod AsBox
 pub mod Between
 pub mod Causes
 pub mod Codes
+pub mod Landing
 pub mod Made
 pub mod Refused
 pub mod Reported
 pub mod Staying
 pub mod Synced
 pub mod Telling
+pub mod Walks
+pub mod Writing

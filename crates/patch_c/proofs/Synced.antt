@@ -15,7 +15,7 @@ steps_of_writes [] = refl
 steps_of_writes (step ∷ steps) = ap (λ all. step ∷ all) (steps_of_writes steps)
 
 -- the execution behind writes
-writes_behind : (h : History) (steps : List Step) → followed_by (execution_of h) steps ≡ execution_of (with_writes h steps)
+pub writes_behind : (h : History) (steps : List Step) → followed_by (execution_of h) steps ≡ execution_of (with_writes h steps)
 writes_behind h steps =
     ap (λ all. record (execution_of h) { steps = all })
     (sym (flat_map-append steps_in h.events (map Moved steps) ∙ ap (λ all. flat_map steps_in h.events ++ all) (steps_of_writes steps)))

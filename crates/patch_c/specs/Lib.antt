@@ -1,5 +1,6 @@
 pub mod Answering
 pub mod Handle
+pub mod Holding
 pub mod Opening
 pub mod Reading
 pub mod Saving

@@ -1,16 +1,20 @@
 -- What a sync has done.
-use Rattle.std.specs.Prelude.{ℕ, ◌≡◌, ◌⊎◌, ◌||◌, Bool, not, List, []}
+use Rattle.std.specs.Prelude.{ℕ, ◌≡◌, ◌⊎◌, ◌||◌, Bool, not, List, [], take}
 use Rattle.patch_model.specs.declared.refusals.RefusalKind.TheVariants as kind
 use Rattle.patch_model.specs.Step.{Step}
+use Rattle.patch_model.specs.Crash.{MayLeave}
 use Rattle.patch_device.specs.Device.{HasRisen}
-use Rattle.patch_history.specs.History.{History}
+use Rattle.patch_device.specs.Writes.{after_writes}
+use Rattle.patch_cache.specs.Running.{IsCrashSafe}
+use Rattle.patch_history.specs.History.{History, execution_of}
 use Rattle.patch_store.specs.Flushing.{StandsStill, with_writes}
 use Rattle.patch_store.specs.Meaning.{Store, Represents}
 use Rattle.patch_disks.specs.Answering.{IsSaved}
 use Rattle.patch_c.specs.declared.answers.Answer.{Answer}
 use Rattle.patch_c.specs.declared.answers.Answer.TheVariants.{Done, Refused, BufferTooSmall, Absent, NoSync, BadWriter}
 use Rattle.patch_c.specs.declared.opened.Opened.{Opened}
-use Rattle.patch_c.specs.Tape.{block_count_of, fault_count_of, writes_of}
+use Rattle.patch_c.specs.declared.tape.Tape.{Tape}
+use Rattle.patch_c.specs.Tape.{file_of, contents_of, block_count_of, fault_count_of, writes_of}
 
 -- all patches were brought to the disk: the store stands behind the writes, and nothing is left to be written
 pub record IsSynced (h : History) (store : Store) : Type 0 where
@@ -23,6 +27,24 @@ pub record HasWrittenOn (h : History) (store : Store) : Type 0 where
   pub writes : List Step
   pub represents : Represents store (with_writes h writes)
 
+-- on the way the device had only such blocks as a crash may leave, behind the history and the writes that were made by then
+pub record HasKeptSafe (h : History) (store : Store) (had had_now : List (List (List ℕ))) (blocks : List (List ℕ)) : Type 0 where
+  pub writes : List Step
+  pub represents : Represents store (with_writes h writes)
+  pub safe : IsCrashSafe (execution_of h) (execution_of (with_writes h writes)) had had_now blocks
+
+-- these blocks may be left by a crash behind the history and some first ones of these steps
+abbrev pub MayBeLeft : History → List Step → List (List ℕ) → Type 0
+MayBeLeft h steps blocks = (n : ℕ) × MayLeave (execution_of (with_writes h (take n steps))) blocks
+
+-- What a sync has put on an empty tape. Whichever first ones of its writes have reached the file when all ends: what the file then holds
+-- a crash may leave, behind the history and some first steps of the writes by which the store stands now.
+pub record LandsSafely (h : History) (store : Store) (before after : Tape) : Type 0 where
+  pub file : file_of after ≡ file_of before
+  pub steps : List Step
+  pub represents : Represents store (with_writes h steps)
+  pub lands : (count : ℕ) → MayBeLeft h steps (after_writes (file_of after) (take count (writes_of after)))
+
 -- A sync is done, or it has this cause: there was no memory, or the device had a fault, which a tape has for want of memory alone.
 abbrev pub HasCause : Answer → (faults faults_now : ℕ) → Type 0
 HasCause Done faults faults_now = Unit {0}
@@ -32,10 +54,12 @@ HasCause BufferTooSmall faults faults_now = ⊥
 HasCause Absent faults faults_now = ⊥
 HasCause BadWriter faults faults_now = ⊥
 
--- What is on the tape was brought to the file, or given up: the store stays as it is, and it is spent where not all is there.
+-- What is on the tape was brought to the file, or given up: the store stays as it is, and it is spent where not all is there. Where all is,
+-- the file holds what the tape did.
 pub record IsSettled (is_done : Bool) (before after : Opened) : Type 0 where
   pub store : after.store ≡ before.store
   pub no_writes : writes_of after.device ≡ []
+  pub holds : file_of after.device ≡ contents_of before.device
   pub count : block_count_of after.device ≡ block_count_of before.device
   pub faults : fault_count_of after.device ≡ fault_count_of before.device
   pub file : after.file ≡ before.file

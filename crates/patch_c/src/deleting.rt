@@ -2,7 +2,7 @@
 ghost use Rattle.std.specs.Prelude.{ℕ, ◌≡◌, ◌↔◌, IsTrue, IsFalse, IfSome, IsNone};
 ghost use Rattle.patch_history.specs.Command.{Delete, Reclaim};
 ghost use Rattle.patch_c.specs.Answering.{number_of, writer_of as writer_for, Tells, KeepsIfRefused, KeepsUnlessDone};
-ghost use Rattle.patch_c.specs.Handle.{Between};
+ghost use Rattle.patch_c.specs.Handle.{Between, KeepsRest};
 
 use crate::answers::{Answer, NOT_OPEN, told};
 use crate::handle::Handle;
@@ -17,7 +17,7 @@ impl Opened {
             Tells no (Delete key.now) (number_of result) self.old.store self.new.store) }
         ensures bad_writer { IsNone (writer_for writer) → result ≡ Answer.BadWriter }
         ensures kept { KeepsUnlessDone (number_of result) self.old.store self.new.store }
-        ensures spent { self.new.is_spent ≡ self.old.is_spent }
+        ensures rest { KeepsRest self.old self.new }
     {
         calls_stay();
         let Some(writer) = writer_of(writer) else {
@@ -29,7 +29,7 @@ impl Opened {
     fn reclaim(&mut self, extent: u32) -> Answer
         ensures told { (writer : ℕ) → Tells writer (Reclaim extent) (number_of result) self.old.store self.new.store }
         ensures kept { KeepsIfRefused (number_of result) self.old.store self.new.store }
-        ensures spent { self.new.is_spent ≡ self.old.is_spent }
+        ensures rest { KeepsRest self.old self.new }
     {
         calls_stay();
         told(self.store.reclaim(extent))
@@ -45,6 +45,7 @@ pub extern "C" fn fstch_delete(handle: &mut Handle, alloc: Global, writer: u32, 
         Tells no (Delete key.now) result before.store after.store)) }
     ensures bad_writer { IsNone (writer_for writer) → IsTrue handle.old.is_open → result ≡ number_of Answer.BadWriter }
     ensures kept { Between handle.old handle.new (λ before after. KeepsUnlessDone result before.store after.store) }
+    ensures rest { Between handle.old handle.new KeepsRest }
 {
     let Some(mut opened) = handle.take(alloc) else {
         return NOT_OPEN;
@@ -62,6 +63,7 @@ pub extern "C" fn fstch_reclaim(handle: &mut Handle, alloc: Global, extent: u32)
     ensures told { (writer : ℕ) → Between handle.old handle.new (λ before after.
         Tells writer (Reclaim extent) result before.store after.store) }
     ensures kept { Between handle.old handle.new (λ before after. KeepsIfRefused result before.store after.store) }
+    ensures rest { Between handle.old handle.new KeepsRest }
 {
     let Some(mut opened) = handle.take(alloc) else {
         return NOT_OPEN;

@@ -7,6 +7,12 @@ use crate::unopened::Unopened;
 use patch_model::{BLOCK, BlockBytes, MAX_BLOCKS, RefusalKind};
 use std::alloc::Global;
 
+/// The blocks of a file, as they were read.
+#[derive(Drop)]
+pub struct Given {
+    pub blocks: Vec<BlockBytes>,
+}
+
 /// How many blocks there are in so many bytes, if they are whole and as many as there may be.
 fn whole_blocks(length: usize) -> Option<u32>
     ensures whole { IfSome result (λ count. length ≡ count * BLOCK) }

@@ -2,7 +2,7 @@
 ghost use Rattle.std.specs.Prelude.{ℕ, ◌≡◌, ◌↔◌, IsTrue, IsFalse, IfSome, IsNone};
 ghost use Rattle.patch_history.specs.Command.{Group, Engage, Disengage, Depend, CloseGroup, Pending};
 ghost use Rattle.patch_c.specs.Answering.{number_of, engaging_writer as engaging, Tells, TellsOf, KeepsUnlessDone};
-ghost use Rattle.patch_c.specs.Handle.{Between};
+ghost use Rattle.patch_c.specs.Handle.{Between, KeepsRest};
 
 use crate::answers::{Answer, NOT_OPEN, told};
 use crate::handle::Handle;
@@ -16,7 +16,7 @@ impl Opened {
     fn create_group(&mut self, group: &mut u32) -> Answer
         ensures told { (writer : ℕ) → TellsOf writer Group (number_of result) group.old group.new self.old.store self.new.store }
         ensures kept { KeepsUnlessDone (number_of result) self.old.store self.new.store }
-        ensures spent { self.new.is_spent ≡ self.old.is_spent }
+        ensures rest { KeepsRest self.old self.new }
     {
         calls_stay();
         match self.store.create_group() {
@@ -32,7 +32,7 @@ impl Opened {
         ensures told { IfSome (engaging writer) (λ no. Tells no (Engage group) (number_of result) self.old.store self.new.store) }
         ensures bad_writer { IsNone (engaging writer) → result ≡ Answer.BadWriter }
         ensures kept { KeepsUnlessDone (number_of result) self.old.store self.new.store }
-        ensures spent { self.new.is_spent ≡ self.old.is_spent }
+        ensures rest { KeepsRest self.old self.new }
     {
         calls_stay();
         let Some(writer) = engaging_writer(writer) else {
@@ -45,7 +45,7 @@ impl Opened {
         ensures told { IfSome (engaging writer) (λ no. Tells no (Disengage group) (number_of result) self.old.store self.new.store) }
         ensures bad_writer { IsNone (engaging writer) → result ≡ Answer.BadWriter }
         ensures kept { KeepsUnlessDone (number_of result) self.old.store self.new.store }
-        ensures spent { self.new.is_spent ≡ self.old.is_spent }
+        ensures rest { KeepsRest self.old self.new }
     {
         calls_stay();
         let Some(writer) = engaging_writer(writer) else {
@@ -57,7 +57,7 @@ impl Opened {
     fn depend(&mut self, later: u32, earlier: u32) -> Answer
         ensures told { (writer : ℕ) → Tells writer (Depend later earlier) (number_of result) self.old.store self.new.store }
         ensures kept { KeepsUnlessDone (number_of result) self.old.store self.new.store }
-        ensures spent { self.new.is_spent ≡ self.old.is_spent }
+        ensures rest { KeepsRest self.old self.new }
     {
         calls_stay();
         told(self.store.depend(GroupNo(later), GroupNo(earlier)))
@@ -66,7 +66,7 @@ impl Opened {
     fn close_group(&mut self, group: u32) -> Answer
         ensures told { (writer : ℕ) → Tells writer (CloseGroup group) (number_of result) self.old.store self.new.store }
         ensures kept { KeepsUnlessDone (number_of result) self.old.store self.new.store }
-        ensures spent { self.new.is_spent ≡ self.old.is_spent }
+        ensures rest { KeepsRest self.old self.new }
     {
         calls_stay();
         told(self.store.close_group(GroupNo(group)))
@@ -99,6 +99,7 @@ pub extern "C" fn fstch_group(handle: &mut Handle, alloc: Global, group: &mut u3
     ensures told { (writer : ℕ) → Between handle.old handle.new (λ before after.
         TellsOf writer Group result group.old group.new before.store after.store) }
     ensures kept { Between handle.old handle.new (λ before after. KeepsUnlessDone result before.store after.store) }
+    ensures rest { Between handle.old handle.new KeepsRest }
 {
     let Some(mut opened) = handle.take(alloc) else {
         return NOT_OPEN;
@@ -122,6 +123,7 @@ pub extern "C" fn fstch_group_engage(
         Tells no (Engage group) result before.store after.store)) }
     ensures bad_writer { IsNone (engaging writer) → IsTrue handle.old.is_open → result ≡ number_of Answer.BadWriter }
     ensures kept { Between handle.old handle.new (λ before after. KeepsUnlessDone result before.store after.store) }
+    ensures rest { Between handle.old handle.new KeepsRest }
 {
     let Some(mut opened) = handle.take(alloc) else {
         return NOT_OPEN;
@@ -145,6 +147,7 @@ pub extern "C" fn fstch_group_disengage(
         Tells no (Disengage group) result before.store after.store)) }
     ensures bad_writer { IsNone (engaging writer) → IsTrue handle.old.is_open → result ≡ number_of Answer.BadWriter }
     ensures kept { Between handle.old handle.new (λ before after. KeepsUnlessDone result before.store after.store) }
+    ensures rest { Between handle.old handle.new KeepsRest }
 {
     let Some(mut opened) = handle.take(alloc) else {
         return NOT_OPEN;
@@ -167,6 +170,7 @@ pub extern "C" fn fstch_group_depend(
     ensures told { (writer : ℕ) → Between handle.old handle.new (λ before after.
         Tells writer (Depend later earlier) result before.store after.store) }
     ensures kept { Between handle.old handle.new (λ before after. KeepsUnlessDone result before.store after.store) }
+    ensures rest { Between handle.old handle.new KeepsRest }
 {
     let Some(mut opened) = handle.take(alloc) else {
         return NOT_OPEN;
@@ -184,6 +188,7 @@ pub extern "C" fn fstch_group_close(handle: &mut Handle, alloc: Global, group: u
     ensures told { (writer : ℕ) → Between handle.old handle.new (λ before after.
         Tells writer (CloseGroup group) result before.store after.store) }
     ensures kept { Between handle.old handle.new (λ before after. KeepsUnlessDone result before.store after.store) }
+    ensures rest { Between handle.old handle.new KeepsRest }
 {
     let Some(mut opened) = handle.take(alloc) else {
         return NOT_OPEN;

@@ -8,7 +8,8 @@
 //!
 //! A handle is two words that C may see. What it stands for is a ghost field, and the memory is a box's: `sealed` and `raw_box` turn
 //! the one into the other. `saving` brings a store to its device, which is a `tape`: no file is opened, read or written here. The
-//! functions of C that do so call the exports that are named `fstch_core_..`, and `given` takes the bytes that they have read.
+//! functions of C that do so call the exports that are named `fstch_core_..`, and `given` takes the bytes that they have read. What the
+//! file holds is `holding`, which proofs alone see.
 #![tactic(auto)]
 
 mod answers;
@@ -18,6 +19,7 @@ mod files;
 mod given;
 mod groups;
 mod handle;
+mod holding;
 mod laws;
 mod listing;
 mod opened;

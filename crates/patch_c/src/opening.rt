@@ -6,7 +6,8 @@ ghost use Rattle.patch_c.specs.Opening.{IsFresh, IsTested, IsWhyNot, HasMade, ge
 
 use crate::answers::Answer;
 use crate::copying::copy_out;
-use crate::given::blocks_in;
+use crate::given::{Given, blocks_in};
+use crate::holding::Holding;
 use crate::opened::Opened;
 use crate::tape::Tape;
 use crate::unopened::Unopened;
@@ -32,14 +33,18 @@ fn open_store(alloc: Global, blocks: Vec<BlockBytes>) -> Result<Store, Unopened>
 }
 
 /// The store of a file's bytes, on the heap.
-#[tactic(auto, using(crate::proofs::Refused::starved_why, crate::proofs::Refused::tested_why, crate::proofs::Refused::passed_why))]
+#[tactic(auto, using(crate::proofs::Refused::starved_why, crate::proofs::Refused::tested_why, crate::proofs::Refused::passed_why, crate::proofs::Staying::whole_so))]
 pub fn open_bytes(alloc: Global, file: i32, bytes: &[u8]) -> Result<Box<Opened, Global>, Unopened>
     ensures fresh { IfOk result (λ opened. IsFresh file bytes.now opened.value) }
     ensures why { IfErr result (λ why. IsWhyNot bytes.now why.refusal) }
 {
     let blocks = blocks_in(alloc, bytes)?;
-    let device = Tape::new(alloc, blocks.len() as u32);
+    let count = blocks.len() as u32;
+    let given = Given { blocks };
+    let holding = Holding::of(&given);
+    let Given { blocks } = given;
     let store = open_store(alloc, blocks)?;
+    let device = Tape::new(alloc, holding, count);
     Ok(Box::new(
         alloc,
         Opened {

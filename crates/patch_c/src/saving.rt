@@ -5,7 +5,7 @@ ghost use Rattle.patch_history.specs.History.{History};
 ghost use Rattle.patch_store.specs.Flushing.{StandsStill};
 ghost use Rattle.patch_store.specs.Meaning.{Represents};
 ghost use Rattle.patch_disks.specs.Running.{StandsOn, HasSaved};
-ghost use Rattle.patch_c.specs.Saving.{IsSynced, HasWrittenOn, HasCause};
+ghost use Rattle.patch_c.specs.Saving.{IsSynced, HasWrittenOn, HasKeptSafe, HasCause};
 
 use crate::answers::Answer;
 use patch_device::{Device, Lasting};
@@ -17,6 +17,8 @@ pub fn save<D: Lasting>(store: &mut Store, device: &mut D) -> Answer
     ensures device { IsSameDevice D.Device device.old device.new }
     ensures saved { D.is_honest device.old → (h : History) → StandsOn store.old h (D.contents device.old)
         → result ≡ Answer.Done → HasSaved h store.new (D.contents device.new) }
+    ensures safe { D.is_honest device.old → (h : History) → StandsOn store.old h (D.contents device.old)
+        → HasKeptSafe h store.new (D.had device.old) (D.had device.new) (D.contents device.new) }
     ensures synced { (h : History) → StandsStill store.old h → result ≡ Answer.Done → IsSynced h store.new }
     ensures written { (h : History) → Represents store.old h → HasWrittenOn h store.new }
     ensures cause { (h : History) → Represents store.old h → D.block_count device.old ≡ length h.opening

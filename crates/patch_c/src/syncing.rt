@@ -1,13 +1,14 @@
 //! Syncs: all changes are put on the tape, the program in C brings them from there to the file, and says whether it has.
-ghost use Rattle.std.specs.Prelude.{◌≡◌, ◌≢◌, ◌↔◌, ℕ, ◌||◌, not, IsTrue, IsFalse, IfSome, length, slice_get};
+ghost use Rattle.std.specs.Prelude.{◌≡◌, ◌≢◌, ◌↔◌, ℕ, [], ◌||◌, not, IsTrue, IsFalse, IfSome, length, slice_get};
 ghost use Rattle.patch_model.specs.declared.refusals.RefusalKind.TheVariants as kind;
 ghost use Rattle.patch_history.specs.History.{History};
 ghost use Rattle.patch_store.specs.Flushing.{StandsStill};
 ghost use Rattle.patch_store.specs.Meaning.{Represents};
+ghost use Rattle.patch_disks.specs.Running.{StandsOn, HasSaved};
 ghost use Rattle.patch_c.specs.Answering.{number_of, IsOf};
 ghost use Rattle.patch_c.specs.Handle.{Between};
-ghost use Rattle.patch_c.specs.Saving.{IsSynced, HasWrittenOn, HasCause, IsSettled};
-ghost use Rattle.patch_c.specs.Tape.{block_count_of, fault_count_of, writes_of, write_told};
+ghost use Rattle.patch_c.specs.Saving.{IsSynced, HasWrittenOn, LandsSafely, HasCause, IsSettled};
+ghost use Rattle.patch_c.specs.Tape.{file_of, contents_of, block_count_of, fault_count_of, writes_of, write_told};
 
 use crate::answers::{Answer, DONE, NOT_OPEN};
 use crate::copying::copy_out;
@@ -32,7 +33,12 @@ fn on_tape(answer: Answer) -> Answer
 impl Opened {
     /// Puts all patches on the tape. Once a sync was refused none is tried again.
     fn sync(&mut self) -> Answer
-        ensures spent { IsTrue self.old.is_spent → (result ≡ Answer.NoSync) × (self.new.store ≡ self.old.store) }
+        ensures spent { IsTrue self.old.is_spent → (result ≡ Answer.NoSync) × (self.new.store ≡ self.old.store) × (self.new.device ≡ self.old.device) }
+        ensures number { self.new.file ≡ self.old.file }
+        ensures saved { (h : History) → StandsOn self.old.store h (contents_of self.old.device)
+            → result ≡ Answer.Done → HasSaved h self.new.store (contents_of self.new.device) }
+        ensures lands { IsFalse self.old.is_spent → writes_of self.old.device ≡ [] → (h : History)
+            → StandsOn self.old.store h (file_of self.old.device) → LandsSafely h self.new.store self.old.device self.new.device }
         ensures synced { (h : History) → StandsStill self.old.store h → result ≡ Answer.Done → IsSynced h self.new.store }
         ensures written { IsFalse self.old.is_spent → (h : History) → Represents self.old.store h → HasWrittenOn h self.new.store }
         ensures fails { IsFalse self.new.is_spent ↔ (result ≡ Answer.Done) }
@@ -62,7 +68,7 @@ impl Opened {
     }
 
     /// Empties the tape. Where the file hasn't got all of it no sync is done any more.
-    #[tactic(auto, using(crate::proofs::Staying::spent_so))]
+    #[tactic(auto, using(crate::proofs::Staying::spent_so, crate::proofs::Staying::same_so))]
     fn settle(&mut self, is_done: bool)
         ensures { IsSettled is_done self.old self.new }
     {
@@ -75,18 +81,24 @@ impl Opened {
 
 /// Puts all changes on the tape, each behind those on which it depends. The store takes them for durable from then on.
 ///
-/// On a device that keeps what it is given each of its blocks is the cached one: that is said of [`save`], since of a file no contract
-/// says what it holds.
+/// What the file holds as it is called is a premise: the blocks from which it was opened, with the writes of all tapes since. Then they
+/// are what `file_of` says. Once the file has all writes of the tape its blocks are the cached ones, and with some first ones of them it
+/// holds what a crash may leave.
 #[unsafe(no_mangle)]
 pub extern "C" fn fstch_core_sync(handle: &mut Handle, alloc: Global) -> i32
     ensures open { handle.new.is_open ≡ handle.old.is_open }
     ensures not_open { (result ≡ NOT_OPEN) ↔ IsFalse handle.old.is_open }
+    ensures saved { Between handle.old handle.new (λ before after. (h : History) → StandsOn before.store h (contents_of before.device)
+        → result ≡ DONE → HasSaved h after.store (contents_of after.device)) }
+    ensures lands { Between handle.old handle.new (λ before after. IsFalse before.is_spent → writes_of before.device ≡ []
+        → (h : History) → StandsOn before.store h (file_of before.device) → LandsSafely h after.store before.device after.device) }
     ensures synced { Between handle.old handle.new (λ before after. (h : History) → StandsStill before.store h
         → result ≡ DONE → IsSynced h after.store) }
     ensures written { Between handle.old handle.new (λ before after. IsFalse before.is_spent
         → (h : History) → Represents before.store h → HasWrittenOn h after.store) }
     ensures spent { Between handle.old handle.new (λ before after. IsTrue before.is_spent
-        → (result ≡ number_of Answer.NoSync) × (after.store ≡ before.store)) }
+        → (result ≡ number_of Answer.NoSync) × (after.store ≡ before.store) × (after.device ≡ before.device)) }
+    ensures number { Between handle.old handle.new (λ before after. after.file ≡ before.file) }
     ensures fails { Between handle.old handle.new (λ before after. IsFalse after.is_spent ↔ (result ≡ DONE)) }
     ensures gave_up { result ≢ number_of (Answer.Refused kind.DeviceGaveUp) }
     ensures cause { Between handle.old handle.new (λ before after. IsFalse before.is_spent → (h : History) → Represents before.store h

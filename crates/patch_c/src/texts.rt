@@ -38,7 +38,6 @@ fn text_of(answer: i32) -> &'static str
         57 => "the file refused a write",
         -1 => "the store isn't open",
         -2 => "the store is open",
-        -3 => "the path isn't UTF-8",
         -4 => "the buffer is too small",
         -5 => "there is no such entry",
         -6 => "the file is in use",

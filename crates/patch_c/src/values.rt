@@ -4,7 +4,7 @@ ghost use Rattle.patch_history.specs.Command.{Put};
 ghost use Rattle.patch_history.specs.History.{History};
 ghost use Rattle.patch_store.specs.Meaning.{Represents};
 ghost use Rattle.patch_c.specs.Answering.{number_of, writer_of as writer_for, Tells, KeepsIfRefused};
-ghost use Rattle.patch_c.specs.Handle.{Between};
+ghost use Rattle.patch_c.specs.Handle.{Between, KeepsRest};
 ghost use Rattle.patch_c.specs.Reading.{HasGot};
 
 use crate::answers::{Answer, NOT_OPEN, told};
@@ -22,7 +22,7 @@ impl Opened {
             Tells no (Put key.now value.now) (number_of result) self.old.store self.new.store) }
         ensures bad_writer { IsNone (writer_for writer) → result ≡ Answer.BadWriter }
         ensures kept { KeepsIfRefused (number_of result) self.old.store self.new.store }
-        ensures spent { self.new.is_spent ≡ self.old.is_spent }
+        ensures rest { KeepsRest self.old self.new }
     {
         calls_stay();
         let Some(writer) = writer_of(writer) else {
@@ -58,6 +58,7 @@ pub extern "C" fn fstch_put(
         Tells no (Put key.now value.now) result before.store after.store)) }
     ensures bad_writer { IsNone (writer_for writer) → IsTrue handle.old.is_open → result ≡ number_of Answer.BadWriter }
     ensures kept { Between handle.old handle.new (λ before after. KeepsIfRefused result before.store after.store) }
+    ensures rest { Between handle.old handle.new KeepsRest }
 {
     let Some(mut opened) = handle.take(alloc) else {
         return NOT_OPEN;

@@ -3,7 +3,8 @@ use Rattle.std.specs.Prelude.{Some}
 use Rattle.patch_history.specs.Command.{Delete}
 use Rattle.patch_c.specs.declared.opened.Opened.{Opened}
 use Rattle.patch_c.specs.Answering.{number_of, writer_of, Tells}
-use Rattle.patch_c.proofs.Between.{told_so, each_some}
+use Rattle.patch_c.specs.Handle.{KeepsRest}
+use Rattle.patch_c.proofs.Between.{between_so, told_so, each_some}
 use Rattle.patch_c.proofs.deleting.fstch_delete.Goals as goal
 
 pub returns-clause-told : goal.returns-clause-told
@@ -13,3 +14,8 @@ returns-clause-told c =
     (λ number before after. Tells no (Delete c.args.key.now) number before.store after.store)
     _ c.delete-answer.result (ap (λ (o : Opened). Some o) c.deref_mut.ensures.value ∙ c.in-Some.ensures.value) c.put_back.ensures.value n)
     c.delete-answer.ensures.told
+
+pub returns-clause-rest : goal.returns-clause-rest
+returns-clause-rest c =
+    between_so c.args.handle.now c.put_back.new.self c.deref_mut.result.now c.delete-answer.new.self KeepsRest
+    (ap (λ (o : Opened). Some o) c.deref_mut.ensures.value ∙ c.in-Some.ensures.value) c.put_back.ensures.value c.delete-answer.ensures.rest

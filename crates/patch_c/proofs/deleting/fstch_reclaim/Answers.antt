@@ -3,7 +3,8 @@ use Rattle.std.specs.Prelude.{Some}
 use Rattle.patch_history.specs.Command.{Reclaim}
 use Rattle.patch_c.specs.declared.opened.Opened.{Opened}
 use Rattle.patch_c.specs.Answering.{number_of, Tells}
-use Rattle.patch_c.proofs.Between.{told_so}
+use Rattle.patch_c.specs.Handle.{KeepsRest}
+use Rattle.patch_c.proofs.Between.{between_so, told_so}
 use Rattle.patch_c.proofs.deleting.fstch_reclaim.Goals as goal
 
 pub returns-clause-told : goal.returns-clause-told
@@ -12,3 +13,8 @@ returns-clause-told c writer =
     told_so c.args.handle.now c.put_back.new.self c.deref_mut.result.now c.reclaim-answer.new.self
     (λ number before after. Tells writer (Reclaim c.args.extent) number before.store after.store)
     _ c.reclaim-answer.result (ap (λ (o : Opened). Some o) c.deref_mut.ensures.value ∙ c.in-Some.ensures.value) c.put_back.ensures.value n (c.reclaim-answer.ensures.told writer)
+
+pub returns-clause-rest : goal.returns-clause-rest
+returns-clause-rest c =
+    between_so c.args.handle.now c.put_back.new.self c.deref_mut.result.now c.reclaim-answer.new.self KeepsRest
+    (ap (λ (o : Opened). Some o) c.deref_mut.ensures.value ∙ c.in-Some.ensures.value) c.put_back.ensures.value c.reclaim-answer.ensures.rest

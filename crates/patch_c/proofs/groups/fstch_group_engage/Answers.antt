@@ -3,7 +3,8 @@ use Rattle.std.specs.Prelude.{Some}
 use Rattle.patch_history.specs.Command.{Engage}
 use Rattle.patch_c.specs.declared.opened.Opened.{Opened}
 use Rattle.patch_c.specs.Answering.{number_of, engaging_writer, Tells}
-use Rattle.patch_c.proofs.Between.{told_so, each_some}
+use Rattle.patch_c.specs.Handle.{KeepsRest}
+use Rattle.patch_c.proofs.Between.{between_so, told_so, each_some}
 use Rattle.patch_c.proofs.groups.fstch_group_engage.Goals as goal
 
 pub returns-clause-told : goal.returns-clause-told
@@ -13,3 +14,8 @@ returns-clause-told c =
     (λ number before after. Tells no (Engage c.args.group) number before.store after.store)
     _ c.engage-answer.result (ap (λ (o : Opened). Some o) c.deref_mut.ensures.value ∙ c.in-Some.ensures.value) c.put_back.ensures.value n)
     c.engage-answer.ensures.told
+
+pub returns-clause-rest : goal.returns-clause-rest
+returns-clause-rest c =
+    between_so c.args.handle.now c.put_back.new.self c.deref_mut.result.now c.engage-answer.new.self KeepsRest
+    (ap (λ (o : Opened). Some o) c.deref_mut.ensures.value ∙ c.in-Some.ensures.value) c.put_back.ensures.value c.engage-answer.ensures.rest

@@ -1,7 +1,9 @@
+use Rattle.std.proofs.Common.{refl}
 use Rattle.patch_cache.specs.Waves.{steps_since}
 use Rattle.patch_disks.proofs.Saving.{saved_so}
 use Rattle.patch_disks.proofs.Stopping.{risen_behind}
 use Rattle.patch_c.proofs.Causes.{err_so, refused_so}
+use Rattle.patch_c.proofs.Landing.{kept_so}
 use Rattle.patch_c.proofs.Synced.{synced_so, written_so}
 use Rattle.patch_c.proofs.saving.save.Goals as goal
 
@@ -32,3 +34,31 @@ pub returns-then-is_err-clause-cause : goal.returns-then-is_err-clause-cause
 returns-then-is_err-clause-cause g c h represents counted =
     risen_behind g.D.Device c.args.device.now c.flush.new.device c.sync.new.self (g.met.D.Device.faults_fit c.sync.new.self) c.flush.ensures.device
     (err_so c.sync.result c.if-is_err.ensures.value c.sync.ensures.fault)
+
+pub returns-clause-safe : goal.returns-clause-safe
+returns-clause-safe g c honest h stands =
+    let contents = g.D.Device.contents in
+    let had = g.D.Device.had in
+    let now = c.flush.ensures.device.honesty.0 honest in
+    kept_so h (steps_since c.args.store.now.cache c.flush.new.store.cache) c.args.store.now c.flush.new.store c.drain_trace-steps.new.self
+    (had c.args.device.now) (had c.flush.new.device) (had c.sync.new.self) (contents c.args.device.now) (contents c.flush.new.device) (contents c.sync.new.self)
+    stands (c.flush.ensures.ran h stands.still.represents) (c.flush.ensures.disk honest h stands.still.represents)
+    (c.sync.ensures.had now) (c.sync.ensures.same now) c.drain_trace-steps.ensures.same
+
+pub returns-in-Err-clause-safe : goal.returns-in-Err-clause-safe
+returns-in-Err-clause-safe g c honest h stands =
+    let contents = g.D.Device.contents in
+    let had = g.D.Device.had in
+    kept_so h (steps_since c.args.store.now.cache c.flush.new.store.cache) c.args.store.now c.flush.new.store c.flush.new.store
+    (had c.args.device.now) (had c.flush.new.device) (had c.flush.new.device) (contents c.args.device.now) (contents c.flush.new.device) (contents c.flush.new.device)
+    stands (c.flush.ensures.ran h stands.still.represents) (c.flush.ensures.disk honest h stands.still.represents) refl refl (λ h represents. represents)
+
+pub returns-then-is_err-clause-safe : goal.returns-then-is_err-clause-safe
+returns-then-is_err-clause-safe g c honest h stands =
+    let contents = g.D.Device.contents in
+    let had = g.D.Device.had in
+    let now = c.flush.ensures.device.honesty.0 honest in
+    kept_so h (steps_since c.args.store.now.cache c.flush.new.store.cache) c.args.store.now c.flush.new.store c.flush.new.store
+    (had c.args.device.now) (had c.flush.new.device) (had c.sync.new.self) (contents c.args.device.now) (contents c.flush.new.device) (contents c.sync.new.self)
+    stands (c.flush.ensures.ran h stands.still.represents) (c.flush.ensures.disk honest h stands.still.represents)
+    (c.sync.ensures.had now) (c.sync.ensures.same now) (λ h represents. represents)

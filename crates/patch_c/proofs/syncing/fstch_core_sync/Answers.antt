@@ -1,12 +1,13 @@
 use Rattle.std.proofs.Common.{◌≡◌, ◌∙◌, refl, ap, arith, w32, to_z, of_z, to_z-of_z}
-use Rattle.std.specs.Prelude.{Some, IsFalse, pos, length}
-use Rattle.patch_c.specs.Tape.{block_count_of, fault_count_of}
+use Rattle.std.specs.Prelude.{Some, IsFalse, pos, length, []}
+use Rattle.patch_c.specs.Tape.{file_of, contents_of, block_count_of, fault_count_of, writes_of}
 use Rattle.patch_history.specs.History.{History}
 use Rattle.patch_store.specs.Flushing.{StandsStill}
 use Rattle.patch_store.specs.Meaning.{Represents}
+use Rattle.patch_disks.specs.Running.{StandsOn, HasSaved}
 use Rattle.patch_c.specs.declared.opened.Opened.{Opened}
 use Rattle.patch_c.specs.Answering.{number_of, IsOf}
-use Rattle.patch_c.specs.Saving.{IsSynced, HasWrittenOn, HasCause}
+use Rattle.patch_c.specs.Saving.{IsSynced, HasWrittenOn, LandsSafely, HasCause}
 use Rattle.patch_c.proofs.Between.{between_so, told_so, done_is}
 use Rattle.patch_c.proofs.syncing.fstch_core_sync.Goals as goal
 
@@ -32,3 +33,23 @@ returns-clause-cause c =
     → IsOf number (λ answer. HasCause answer (fault_count_of before.device) (fault_count_of after.device)))
     _ c.sync-answer.result (ap (λ (o : Opened). Some o) c.deref_mut.ensures.value ∙ c.in-Some.ensures.value) c.put_back.ensures.value n
     (λ unspent h represents counted. (c.sync-answer.result, refl, c.sync-answer.ensures.cause unspent h represents counted))
+
+pub returns-clause-saved : goal.returns-clause-saved
+returns-clause-saved c =
+    let n : to_z w32 (of_z w32 c.number.result) ≡ number_of c.sync-answer.result = grind (arith, to_z-of_z) in
+    told_so c.args.handle.now c.put_back.new.self c.deref_mut.result.now c.sync-answer.new.self
+    (λ number before after. (h : History) → StandsOn before.store h (contents_of before.device) → number ≡ pos 0 → HasSaved h after.store (contents_of after.device))
+    _ c.sync-answer.result (ap (λ (o : Opened). Some o) c.deref_mut.ensures.value ∙ c.in-Some.ensures.value) c.put_back.ensures.value n
+    (λ h stands done. c.sync-answer.ensures.saved h stands (done_is c.sync-answer.result done))
+
+pub returns-clause-lands : goal.returns-clause-lands
+returns-clause-lands c =
+    between_so c.args.handle.now c.put_back.new.self c.deref_mut.result.now c.sync-answer.new.self
+    (λ before after. IsFalse before.is_spent → writes_of before.device ≡ [] → (h : History) → StandsOn before.store h (file_of before.device)
+    → LandsSafely h after.store before.device after.device)
+    (ap (λ (o : Opened). Some o) c.deref_mut.ensures.value ∙ c.in-Some.ensures.value) c.put_back.ensures.value c.sync-answer.ensures.lands
+
+pub returns-clause-number : goal.returns-clause-number
+returns-clause-number c =
+    between_so c.args.handle.now c.put_back.new.self c.deref_mut.result.now c.sync-answer.new.self (λ before after. after.file ≡ before.file)
+    (ap (λ (o : Opened). Some o) c.deref_mut.ensures.value ∙ c.in-Some.ensures.value) c.put_back.ensures.value c.sync-answer.ensures.number

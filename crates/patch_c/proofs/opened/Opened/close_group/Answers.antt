@@ -12,4 +12,4 @@ returns-clause-told c writer =
 
 pub invariant_of-self : goal.invariant_of-self
 invariant_of-self c =
-    record { stands = c.calls_stay.ensures _ 0 (CloseGroup c.args.group) (reply_to group_cause (λ _. Done) c.close_group.result) _ c.close_group.new.self c.args.self.now.stands (c.close_group.ensures.answer 0) }
+    record { stands = c.calls_stay.ensures _ _ 0 (CloseGroup c.args.group) (reply_to group_cause (λ _. Done) c.close_group.result) _ c.close_group.new.self c.args.self.now.stands (c.close_group.ensures.answer 0) }

@@ -19,4 +19,4 @@ returns-in-Err-clause-told c writer =
 
 pub invariant_of-self : goal.invariant_of-self
 invariant_of-self c =
-    record { stands = c.calls_stay.ensures _ 0 (Group) (reply_to group_cause (λ group. GroupMade group) c.create_group.result) _ c.create_group.new.self c.args.self.now.stands (c.create_group.ensures.answer 0) }
+    record { stands = c.calls_stay.ensures _ _ 0 (Group) (reply_to group_cause (λ group. GroupMade group) c.create_group.result) _ c.create_group.new.self c.args.self.now.stands (c.create_group.ensures.answer 0) }

@@ -9,7 +9,7 @@ use Rattle.patch_c.proofs.opened.Opened.delete.Goals as goal
 
 pub invariant_of-self : goal.invariant_of-self
 invariant_of-self c =
-    record { stands = c.calls_stay.ensures _ c.in-Some.writer (Delete c.args.key.now) (reply_to delete_cause (λ _. Done) c.delete.result) _ c.delete.new.self c.args.self.now.stands c.delete.ensures.answer }
+    record { stands = c.calls_stay.ensures _ _ c.in-Some.writer (Delete c.args.key.now) (reply_to delete_cause (λ _. Done) c.delete.result) _ c.delete.new.self c.args.self.now.stands c.delete.ensures.answer }
 
 pub returns-clause-told : goal.returns-clause-told
 returns-clause-told c =

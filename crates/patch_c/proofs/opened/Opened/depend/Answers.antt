@@ -12,4 +12,4 @@ returns-clause-told c writer =
 
 pub invariant_of-self : goal.invariant_of-self
 invariant_of-self c =
-    record { stands = c.calls_stay.ensures _ 0 (Depend c.args.later c.args.earlier) (reply_to group_cause (λ _. Done) c.depend.result) _ c.depend.new.self c.args.self.now.stands (c.depend.ensures.answer 0) }
+    record { stands = c.calls_stay.ensures _ _ 0 (Depend c.args.later c.args.earlier) (reply_to group_cause (λ _. Done) c.depend.result) _ c.depend.new.self c.args.self.now.stands (c.depend.ensures.answer 0) }

@@ -9,7 +9,7 @@ use Rattle.patch_c.proofs.opened.Opened.engage.Goals as goal
 
 pub invariant_of-self : goal.invariant_of-self
 invariant_of-self c =
-    record { stands = c.calls_stay.ensures _ c.in-Some.writer (Engage c.args.group) (reply_to group_cause (λ _. Done) c.engage.result) _ c.engage.new.self c.args.self.now.stands c.engage.ensures.answer }
+    record { stands = c.calls_stay.ensures _ _ c.in-Some.writer (Engage c.args.group) (reply_to group_cause (λ _. Done) c.engage.result) _ c.engage.new.self c.args.self.now.stands c.engage.ensures.answer }
 
 pub returns-clause-told : goal.returns-clause-told
 returns-clause-told c =

@@ -9,7 +9,7 @@ use Rattle.patch_c.proofs.opened.Opened.put.Goals as goal
 
 pub invariant_of-self : goal.invariant_of-self
 invariant_of-self c =
-    record { stands = c.calls_stay.ensures _ c.in-Some.writer (Put c.args.key.now c.args.value.now) (reply_to put_cause (λ _. Done) c.put.result) _ c.put.new.self c.args.self.now.stands c.put.ensures.answer }
+    record { stands = c.calls_stay.ensures _ _ c.in-Some.writer (Put c.args.key.now c.args.value.now) (reply_to put_cause (λ _. Done) c.put.result) _ c.put.new.self c.args.self.now.stands c.put.ensures.answer }
 
 pub returns-clause-told : goal.returns-clause-told
 returns-clause-told c =

@@ -12,4 +12,4 @@ returns-clause-told c writer =
 
 pub invariant_of-self : goal.invariant_of-self
 invariant_of-self c =
-    record { stands = c.calls_stay.ensures _ 0 (Reclaim c.args.extent) (reply_to reclaim_cause (λ _. Done) c.reclaim.result) _ c.reclaim.new.self c.args.self.now.stands (c.reclaim.ensures.answer 0) }
+    record { stands = c.calls_stay.ensures _ _ 0 (Reclaim c.args.extent) (reply_to reclaim_cause (λ _. Done) c.reclaim.result) _ c.reclaim.new.self c.args.self.now.stands (c.reclaim.ensures.answer 0) }
