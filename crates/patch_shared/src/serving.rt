@@ -258,6 +258,14 @@ fn closed<D: Device, C: Ledger, S: Ledger, T: Ledger>(
     }
 }
 
+/// Whether no patch of the book's store is in memory or in flight.
+fn is_settled(book: &Book) -> bool
+    ensures { result ≡ true → IsSettled (run_of book.now) }
+{
+    let _calls = book.calls();
+    book.store().cache().live() == 0
+}
+
 /// Whether the book holds what the threads did, over these opening blocks, and all of it is on the disk.
 fn agrees<D: Device>(ran: &Ran<D>, opening: &[BlockBytes], jobs: &[Vec<Command>]) -> bool
     requires { length jobs.now ≤ 8 }
@@ -271,7 +279,7 @@ fn agrees<D: Device>(ran: &Ran<D>, opening: &[BlockBytes], jobs: &[Vec<Command>]
         && are_told(ran.book.calls(), jobs, ran.replies.as_slice())
         && counts.flusher == ran.sent
         && counts.completer == ran.completed
-        && ran.book.store().cache().live() == 0
+        && is_settled(&ran.book)
         && ran.device.count() as usize == opening.len()
 }
 
