@@ -1,4 +1,4 @@
-//! The exports, called as C calls them.
+//! The exports, called as C calls them: each test is a list of calls, with what each answers and tells.
 ghost use Rattle.std.specs.Prelude.{IsFalse};
 
 use crate::answers::{DONE, IS_OPEN, NOT_OPEN};
@@ -18,8 +18,252 @@ use crate::texts::fstch_error_text;
 use crate::values::{fstch_get, fstch_put};
 use patch_model::BLOCK;
 use std::alloc::Global;
+use std::fmt::Debug;
+use std::process::Abort;
 
 const NO_WRITER: u32 = u32::MAX;
+
+// The number of the file.
+const FILE: i32 = 3;
+
+// What stands where a call may tell a number.
+const KEPT: usize = 7;
+
+// What stands where a call may copy bytes.
+const FILL: u8 = b'.';
+
+const ZEROS: [u8; BLOCK] = [0; BLOCK];
+
+// A key of 32 bytes, as many as there may be.
+const LONGEST: &[u8] = b"kkkkkkkkkkkkkkkkkkkkkkkkkkkkkkkk";
+
+// A key of 33 bytes, one too many.
+const LONG: &[u8] = b"kkkkkkkkkkkkkkkkkkkkkkkkkkkkkkkkk";
+
+// A call of an export. With a `room` it copies into so many bytes.
+#[derive(Clone, Copy)]
+enum Call {
+    // Makes the first block of a file that is divided so.
+    Make(u32, u32, u32, usize),
+    // Opens the file's bytes, a few others, or zeros.
+    Open,
+    OpenShort,
+    OpenZeros,
+    IsOpen,
+    File,
+    Put(u32, &'static [u8], &'static [u8]),
+    Get(&'static [u8], usize),
+    Delete(u32, &'static [u8]),
+    Reclaim(u32),
+    Check,
+    Entry(u32, usize),
+    Group,
+    Engage(u32, u32),
+    Disengage(u32, u32),
+    Depend(u32, u32),
+    CloseGroup(u32),
+    Pending(u32),
+    Sync,
+    Write(u32, usize),
+    Synced(bool),
+    // A sync with all its writes.
+    Save,
+    Close,
+    // No call: whether these bytes were copied, and what stood behind them.
+    Shows(&'static [u8]),
+}
+
+// The answer of a call, and the numbers that it tells.
+type Told = (i32, usize, usize);
+
+type Move = (Call, Told);
+
+// Ends the test, telling both, unless what came is what is wanted. A call takes the prover less than `assert_eq!` where it stands.
+fn expect_eq<T: PartialEq + Debug>(rt: &impl Abort, got: &T, want: &T) {
+    assert_eq!(rt; *got, *want);
+}
+
+fn told(answer: i32) -> Told {
+    (answer, KEPT, KEPT)
+}
+
+// So many first bytes.
+fn part(into: &mut [u8], room: usize) -> &mut [u8] {
+    let room = room.min(into.len());
+    &mut into[..room]
+}
+
+fn make(alloc: Global, divided: (u32, u32, u32), into: &mut [u8]) -> Told {
+    let (index_blocks, extents, extent_blocks) = divided;
+    let mut count = KEPT as u32;
+    let answer = fstch_core_make(
+        alloc,
+        index_blocks,
+        extents,
+        extent_blocks,
+        into,
+        &mut count,
+    );
+    (answer, count as usize, KEPT)
+}
+
+fn open(alloc: Global, handle: &mut Handle, bytes: &[u8]) -> Told {
+    let mut slot = KEPT as u32;
+    let answer = fstch_core_open(handle, alloc, FILE, bytes, &mut slot);
+    (answer, slot as usize, KEPT)
+}
+
+fn get(alloc: Global, handle: &mut Handle, key: &[u8], into: &mut [u8]) -> Told {
+    let mut len = KEPT;
+    let answer = fstch_get(handle, alloc, key, into, &mut len);
+    (answer, len, KEPT)
+}
+
+fn check(alloc: Global, handle: &mut Handle) -> Told {
+    let mut entries = KEPT as u32;
+    let mut extents = KEPT as u32;
+    let answer = fstch_check(handle, alloc, &mut entries, &mut extents);
+    (answer, entries as usize, extents as usize)
+}
+
+fn entry(alloc: Global, handle: &mut Handle, number: u32, into: &mut [u8]) -> Told {
+    let mut key_len = KEPT;
+    let mut value_len = KEPT;
+    let answer = fstch_entry(handle, alloc, number, into, &mut key_len, &mut value_len);
+    (answer, key_len, value_len)
+}
+
+fn group(alloc: Global, handle: &mut Handle) -> Told {
+    let mut made = KEPT as u32;
+    let answer = fstch_group(handle, alloc, &mut made);
+    (answer, made as usize, KEPT)
+}
+
+fn pending(alloc: Global, handle: &mut Handle, group: u32) -> Told {
+    let mut changes = KEPT as u32;
+    let answer = fstch_group_pending(handle, alloc, group, &mut changes);
+    (answer, changes as usize, KEPT)
+}
+
+fn write(alloc: Global, handle: &mut Handle, number: u32, into: &mut [u8]) -> Told {
+    let mut block = KEPT as u32;
+    let answer = fstch_core_write(handle, alloc, number, &mut block, into);
+    (answer, block as usize, KEPT)
+}
+
+fn write_block(file: &mut [u8], block: usize, from: &[u8]) {
+    if from.len() == BLOCK && block < file.len() / BLOCK {
+        let start = block * BLOCK;
+        file[start..start + BLOCK].copy_from_slice(from);
+    }
+}
+
+// Does all writes of the tape.
+fn write_all(alloc: Global, handle: &mut Handle, file: &mut [u8], into: &mut [u8]) {
+    for number in 0..10_000 {
+        let (answer, block, _) = write(alloc, handle, number, into);
+        if answer != DONE {
+            break;
+        }
+        write_block(file, block, into);
+    }
+}
+
+// Brings all changes to the file, as the program in C does.
+fn save(alloc: Global, handle: &mut Handle, file: &mut [u8], into: &mut [u8]) -> Told {
+    let answer = fstch_core_sync(handle, alloc);
+    if answer != DONE {
+        return told(answer);
+    }
+    write_all(alloc, handle, file, into);
+    told(fstch_core_synced(handle, alloc, true))
+}
+
+fn is_open(handle: &Handle) -> Told {
+    told(i32::from(fstch_is_open(handle)))
+}
+
+fn shows(into: &[u8], bytes: &[u8]) -> Told {
+    told(i32::from(into.starts_with(bytes)))
+}
+
+fn copying(alloc: Global, handle: &mut Handle, into: &mut [u8], call: &Call) -> Told {
+    into.fill(FILL);
+    match call {
+        Call::Make(index_blocks, extents, extent_blocks, room) => make(
+            alloc,
+            (*index_blocks, *extents, *extent_blocks),
+            part(into, *room),
+        ),
+        Call::Get(key, room) => get(alloc, handle, key, part(into, *room)),
+        Call::Entry(number, room) => entry(alloc, handle, *number, part(into, *room)),
+        Call::Write(number, room) => write(alloc, handle, *number, part(into, *room)),
+        _ => told(0),
+    }
+}
+
+fn grouping(alloc: Global, handle: &mut Handle, call: &Call) -> Told {
+    match call {
+        Call::Group => group(alloc, handle),
+        Call::Engage(group, writer) => told(fstch_group_engage(handle, alloc, *group, *writer)),
+        Call::Disengage(group, writer) => {
+            told(fstch_group_disengage(handle, alloc, *group, *writer))
+        }
+        Call::Depend(later, earlier) => told(fstch_group_depend(handle, alloc, *later, *earlier)),
+        Call::CloseGroup(group) => told(fstch_group_close(handle, alloc, *group)),
+        Call::Pending(group) => pending(alloc, handle, *group),
+        _ => told(0),
+    }
+}
+
+fn changing(alloc: Global, handle: &mut Handle, call: &Call) -> Told {
+    match call {
+        Call::Put(writer, key, value) => told(fstch_put(handle, alloc, *writer, key, value)),
+        Call::Delete(writer, key) => told(fstch_delete(handle, alloc, *writer, key)),
+        Call::Reclaim(extent) => told(fstch_reclaim(handle, alloc, *extent)),
+        Call::Sync => told(fstch_core_sync(handle, alloc)),
+        Call::Synced(is_done) => told(fstch_core_synced(handle, alloc, *is_done)),
+        Call::Close => told(fstch_core_close(handle, alloc)),
+        _ => told(0),
+    }
+}
+
+fn step(alloc: Global, handle: &mut Handle, file: &mut [u8], into: &mut [u8], call: &Call) -> Told {
+    match call {
+        Call::Open => open(alloc, handle, file),
+        Call::OpenShort => open(alloc, handle, b"short"),
+        Call::OpenZeros => open(alloc, handle, &ZEROS),
+        Call::IsOpen => is_open(handle),
+        Call::File => told(fstch_core_file(handle, alloc)),
+        Call::Check => check(alloc, handle),
+        Call::Save => save(alloc, handle, file, into),
+        Call::Shows(bytes) => shows(into, bytes),
+        Call::Make(_, _, _, _) | Call::Get(_, _) | Call::Entry(_, _) | Call::Write(_, _) => {
+            copying(alloc, handle, into, call)
+        }
+        Call::Group
+        | Call::Engage(_, _)
+        | Call::Disengage(_, _)
+        | Call::Depend(_, _)
+        | Call::CloseGroup(_)
+        | Call::Pending(_) => grouping(alloc, handle, call),
+        _ => changing(alloc, handle, call),
+    }
+}
+
+fn take_steps(
+    rt: &impl Abort,
+    alloc: Global,
+    handle: &mut Handle,
+    file: &mut [u8],
+    moves: &[Move],
+) {
+    let mut into = [FILL; BLOCK];
+    for (at, (call, wanted)) in moves.iter().enumerate() {
+        let seen = step(alloc, handle, file, &mut into, call);
+        expect_eq(rt, &(at, seen), &(at, *wanted));
+    }
+}
 
 // Lets go of a handle that was closed.
 fn forget(handle: Handle)
@@ -29,241 +273,177 @@ fn forget(handle: Handle)
     sealed.forget();
 }
 
+// Makes the calls, beginning with a closed handle, which they leave closed.
+fn walk(rt: &impl Abort, alloc: Global, file: &mut [u8], moves: &[Move]) {
+    let mut handle = Handle::closed(alloc);
+    take_steps(rt, alloc, &mut handle, file, moves);
+    let closed = fstch_core_close(&mut handle, alloc);
+    forget(handle);
+    expect_eq(rt, &closed, &NOT_OPEN);
+}
+
 // A file that holds an empty store, as its bytes; or none.
-fn new_file(alloc: Global, index_blocks: u32, extents: u32, extent_blocks: u32) -> Vec<u8> {
-    let mut first = [0u8; BLOCK];
-    let mut count = 0;
-    let answer = fstch_core_make(
-        alloc,
-        index_blocks,
-        extents,
-        extent_blocks,
-        &mut first,
-        &mut count,
-    );
-    if answer != DONE {
+fn new_file(alloc: Global, divided: (u32, u32, u32)) -> Vec<u8> {
+    let mut first = ZEROS;
+    let (answer, count, _) = make(alloc, divided, &mut first);
+    if answer != DONE || count > 4096 {
         return Vec::new(alloc);
     }
-    let Ok(mut bytes) = vec![in alloc; 0u8; count as usize * BLOCK] else {
+    let Ok(mut bytes) = vec![in alloc; 0u8; count * BLOCK] else {
         return Vec::new(alloc);
     };
     write_block(&mut bytes, 0, &first);
     bytes
 }
 
-fn write_block(bytes: &mut [u8], block: u32, from: &[u8; BLOCK]) {
-    let start = block as usize * BLOCK;
-    if start + BLOCK <= bytes.len() {
-        bytes[start..start + BLOCK].copy_from_slice(from);
-    }
+fn walk_on(rt: &impl Abort, alloc: Global, divided: (u32, u32, u32), moves: &[Move]) {
+    let mut file = new_file(alloc, divided);
+    walk(rt, alloc, &mut file, moves);
 }
 
-// Brings all changes to the file, as the program in C does.
-fn sync(handle: &mut Handle, alloc: Global, bytes: &mut [u8]) -> i32 {
-    let answer = fstch_core_sync(handle, alloc);
-    if answer != DONE {
-        return answer;
-    }
-    let mut block = 0;
-    let mut from = [0u8; BLOCK];
-    for number in 0..10_000 {
-        if fstch_core_write(handle, alloc, number, &mut block, &mut from) != DONE {
-            break;
-        }
-        write_block(bytes, block, &from);
-    }
-    fstch_core_synced(handle, alloc, true)
-}
+const VALUES: [Move; 21] = [
+    (Call::Open, (DONE, KEPT, KEPT)),
+    (Call::IsOpen, (1, KEPT, KEPT)),
+    (Call::Put(NO_WRITER, b"one", b"first"), (DONE, KEPT, KEPT)),
+    (Call::Put(6, b"two", b""), (DONE, KEPT, KEPT)),
+    (Call::Save, (DONE, KEPT, KEPT)),
+    (Call::Put(0, b"lost", b"lost"), (DONE, KEPT, KEPT)),
+    (Call::Close, (DONE, KEPT, KEPT)),
+    (Call::IsOpen, (0, KEPT, KEPT)),
+    (Call::Open, (DONE, KEPT, KEPT)),
+    (Call::Get(b"one", 8), (DONE, 5, KEPT)),
+    (Call::Shows(b"first..."), (1, KEPT, KEPT)),
+    (Call::Get(b"two", 8), (DONE, 0, KEPT)),
+    (Call::Get(b"lost", 8), (-5, KEPT, KEPT)),
+    (Call::Delete(NO_WRITER, b"two"), (DONE, KEPT, KEPT)),
+    (Call::Delete(NO_WRITER, b"two"), (41, KEPT, KEPT)),
+    (Call::Save, (DONE, KEPT, KEPT)),
+    (Call::Save, (DONE, KEPT, KEPT)),
+    (Call::Close, (DONE, KEPT, KEPT)),
+    (Call::Open, (DONE, KEPT, KEPT)),
+    (Call::Get(b"two", 8), (-5, KEPT, KEPT)),
+    (Call::Close, (DONE, KEPT, KEPT)),
+];
 
 #[test]
 fn values_last(rt: HostRuntime) {
-    let alloc: Global = rt.alloc();
-    let mut handle = Handle::closed(alloc);
-    let mut slot = 7;
-    let mut len = 0;
-    let mut into = [0u8; 8];
-    let mut bytes = new_file(alloc, 1, 4, 0);
-    assert!(rt; fstch_core_open(&mut handle, alloc, 3, &bytes, &mut slot) == DONE);
-    assert!(rt; fstch_is_open(&handle));
-    assert!(rt; fstch_put(&mut handle, alloc, NO_WRITER, b"one", b"first") == DONE);
-    assert!(rt; fstch_put(&mut handle, alloc, 6, b"two", b"") == DONE);
-    assert!(rt; sync(&mut handle, alloc, &mut bytes) == DONE);
-    assert!(rt; fstch_put(&mut handle, alloc, 0, b"lost", b"lost") == DONE);
-    assert!(rt; fstch_core_close(&mut handle, alloc) == DONE);
-    assert!(rt; !fstch_is_open(&handle));
-    assert!(rt; fstch_core_open(&mut handle, alloc, 3, &bytes, &mut slot) == DONE);
-    assert!(rt; fstch_get(&mut handle, alloc, b"one", &mut into, &mut len) == DONE);
-    assert!(rt; len == 5 && into == *b"first\0\0\0");
-    assert!(rt; fstch_get(&mut handle, alloc, b"two", &mut into, &mut len) == DONE);
-    assert!(rt; len == 0);
-    assert!(rt; fstch_get(&mut handle, alloc, b"lost", &mut into, &mut len) == -5);
-    assert!(rt; fstch_delete(&mut handle, alloc, NO_WRITER, b"two") == DONE);
-    assert!(rt; fstch_delete(&mut handle, alloc, NO_WRITER, b"two") == 41);
-    assert!(rt; sync(&mut handle, alloc, &mut bytes) == DONE);
-    assert!(rt; sync(&mut handle, alloc, &mut bytes) == DONE);
-    assert!(rt; fstch_core_close(&mut handle, alloc) == DONE);
-    forget(handle);
+    walk_on(&rt, rt.alloc(), (1, 4, 0), &VALUES);
 }
+
+const ENTRIES: [Move; 11] = [
+    (Call::Open, (DONE, KEPT, KEPT)),
+    (Call::Check, (DONE, 0, 3)),
+    (Call::Entry(0, 32), (-5, KEPT, KEPT)),
+    (Call::Put(1, b"key", b"value"), (DONE, KEPT, KEPT)),
+    (Call::Check, (DONE, 1, 3)),
+    (Call::Entry(0, 2), (-4, 3, 5)),
+    (Call::Shows(b"..."), (1, KEPT, KEPT)),
+    (Call::Entry(0, 32), (DONE, 3, 5)),
+    (Call::Shows(b"key."), (1, KEPT, KEPT)),
+    (Call::Reclaim(3), (34, KEPT, KEPT)),
+    (Call::Close, (DONE, KEPT, KEPT)),
+];
 
 #[test]
 fn entries_are_listed(rt: HostRuntime) {
-    let alloc: Global = rt.alloc();
-    let mut handle = Handle::closed(alloc);
-    let mut slot = 0;
-    let mut entries = 9;
-    let mut extents = 9;
-    let mut key = [0u8; 32];
-    let mut short = [0u8; 2];
-    let mut key_len = 0;
-    let mut value_len = 0;
-    let mut bytes = new_file(alloc, 2, 3, 64);
-    assert!(rt; fstch_core_open(&mut handle, alloc, 3, &bytes, &mut slot) == DONE);
-    assert!(rt; fstch_check(&mut handle, alloc, &mut entries, &mut extents) == DONE);
-    assert!(rt; entries == 0 && extents == 3);
-    assert!(rt;
-        fstch_entry(
-            &mut handle,
-            alloc,
-            0,
-            &mut key,
-            &mut key_len,
-            &mut value_len
-        ) == -5
-    );
-    assert!(rt; fstch_put(&mut handle, alloc, 1, b"key", b"value") == DONE);
-    assert!(rt; fstch_check(&mut handle, alloc, &mut entries, &mut extents) == DONE);
-    assert!(rt; entries == 1);
-    assert!(rt;
-        fstch_entry(
-            &mut handle,
-            alloc,
-            0,
-            &mut short,
-            &mut key_len,
-            &mut value_len
-        ) == -4
-    );
-    assert!(rt; key_len == 3 && value_len == 5);
-    assert!(rt;
-        fstch_entry(
-            &mut handle,
-            alloc,
-            0,
-            &mut key,
-            &mut key_len,
-            &mut value_len
-        ) == DONE
-    );
-    assert!(rt; key[0] == b'k' && key[2] == b'y' && key[3] == 0);
-    assert!(rt; fstch_reclaim(&mut handle, alloc, 3) == 34);
-    assert!(rt; fstch_core_close(&mut handle, alloc) == DONE);
-    forget(handle);
+    walk_on(&rt, rt.alloc(), (2, 3, 64), &ENTRIES);
 }
+
+const GROUPS: [Move; 18] = [
+    (Call::Open, (DONE, KEPT, KEPT)),
+    (Call::Group, (DONE, 0, KEPT)),
+    (Call::Group, (DONE, 1, KEPT)),
+    (Call::Engage(0, 0), (DONE, KEPT, KEPT)),
+    (Call::Put(0, b"data", b"1"), (DONE, KEPT, KEPT)),
+    (Call::Pending(0), (DONE, 3, KEPT)),
+    (Call::Depend(1, 0), (31, KEPT, KEPT)),
+    (Call::Disengage(0, 0), (DONE, KEPT, KEPT)),
+    (Call::Depend(1, 0), (DONE, KEPT, KEPT)),
+    (Call::Engage(1, 1), (DONE, KEPT, KEPT)),
+    (Call::Put(1, b"name", b"2"), (DONE, KEPT, KEPT)),
+    (Call::Disengage(1, 1), (DONE, KEPT, KEPT)),
+    (Call::Save, (DONE, KEPT, KEPT)),
+    (Call::Pending(1), (DONE, 0, KEPT)),
+    (Call::CloseGroup(0), (DONE, KEPT, KEPT)),
+    (Call::CloseGroup(0), (27, KEPT, KEPT)),
+    (Call::Engage(1, NO_WRITER), (-8, KEPT, KEPT)),
+    (Call::Close, (DONE, KEPT, KEPT)),
+];
 
 #[test]
 fn groups_are_ordered(rt: HostRuntime) {
-    let alloc: Global = rt.alloc();
-    let mut handle = Handle::closed(alloc);
-    let mut slot = 0;
-    let mut first = 9;
-    let mut second = 9;
-    let mut changes = 9;
-    let mut bytes = new_file(alloc, 1, 4, 0);
-    assert!(rt; fstch_core_open(&mut handle, alloc, 3, &bytes, &mut slot) == DONE);
-    assert!(rt; fstch_group(&mut handle, alloc, &mut first) == DONE);
-    assert!(rt; fstch_group(&mut handle, alloc, &mut second) == DONE);
-    assert!(rt; first == 0 && second == 1);
-    assert!(rt; fstch_group_engage(&mut handle, alloc, 0, 0) == DONE);
-    assert!(rt; fstch_put(&mut handle, alloc, 0, b"data", b"1") == DONE);
-    assert!(rt; fstch_group_pending(&mut handle, alloc, 0, &mut changes) == DONE);
-    assert!(rt; changes > 0);
-    assert!(rt; fstch_group_depend(&mut handle, alloc, 1, 0) == 31);
-    assert!(rt; fstch_group_disengage(&mut handle, alloc, 0, 0) == DONE);
-    assert!(rt; fstch_group_depend(&mut handle, alloc, 1, 0) == DONE);
-    assert!(rt; fstch_group_engage(&mut handle, alloc, 1, 1) == DONE);
-    assert!(rt; fstch_put(&mut handle, alloc, 1, b"name", b"2") == DONE);
-    assert!(rt; fstch_group_disengage(&mut handle, alloc, 1, 1) == DONE);
-    assert!(rt; sync(&mut handle, alloc, &mut bytes) == DONE);
-    assert!(rt; fstch_group_pending(&mut handle, alloc, 1, &mut changes) == DONE);
-    assert!(rt; changes == 0);
-    assert!(rt; fstch_group_close(&mut handle, alloc, 0) == DONE);
-    assert!(rt; fstch_group_close(&mut handle, alloc, 0) == 27);
-    assert!(rt; fstch_group_engage(&mut handle, alloc, 1, NO_WRITER) == -8);
-    assert!(rt; fstch_core_close(&mut handle, alloc) == DONE);
-    forget(handle);
+    walk_on(&rt, rt.alloc(), (1, 4, 0), &GROUPS);
 }
+
+const MISUSE: [Move; 27] = [
+    (Call::Put(0, b"a", b"b"), (NOT_OPEN, KEPT, KEPT)),
+    (Call::Get(b"a", 4), (NOT_OPEN, KEPT, KEPT)),
+    (Call::Sync, (NOT_OPEN, KEPT, KEPT)),
+    (Call::Write(0, 4), (NOT_OPEN, KEPT, KEPT)),
+    (Call::Synced(true), (NOT_OPEN, KEPT, KEPT)),
+    (Call::File, (-1, KEPT, KEPT)),
+    (Call::Close, (NOT_OPEN, KEPT, KEPT)),
+    (Call::OpenShort, (5, KEPT, KEPT)),
+    (Call::OpenZeros, (47, KEPT, KEPT)),
+    (Call::Make(0, 4, 0, 4), (46, KEPT, KEPT)),
+    (Call::Shows(b"....."), (1, KEPT, KEPT)),
+    (Call::Make(1, 4, 0, 4), (-4, KEPT, KEPT)),
+    (Call::Shows(b"....."), (1, KEPT, KEPT)),
+    (Call::Open, (DONE, KEPT, KEPT)),
+    (Call::Open, (IS_OPEN, KEPT, KEPT)),
+    (Call::File, (FILE, KEPT, KEPT)),
+    (Call::Put(7, b"a", b"b"), (-8, KEPT, KEPT)),
+    (Call::Put(0, b"", b"b"), (39, KEPT, KEPT)),
+    (Call::Put(0, LONG, b"b"), (39, KEPT, KEPT)),
+    (Call::Put(0, LONGEST, b"value"), (DONE, KEPT, KEPT)),
+    (Call::Get(b"", 4), (39, KEPT, KEPT)),
+    (Call::Get(LONGEST, 4), (-4, 5, KEPT)),
+    (Call::Shows(b"....."), (1, KEPT, KEPT)),
+    (Call::Get(LONGEST, 5), (DONE, 5, KEPT)),
+    (Call::Shows(b"value."), (1, KEPT, KEPT)),
+    (Call::Close, (DONE, KEPT, KEPT)),
+    (Call::Close, (NOT_OPEN, KEPT, KEPT)),
+];
 
 #[test]
 fn misuse_is_answered(rt: HostRuntime) {
-    let alloc: Global = rt.alloc();
-    let mut handle = Handle::closed(alloc);
-    let mut slot = 0;
-    let mut count = 5;
-    let mut len = 77;
-    let mut into = [1u8; 4];
-    let zeros = [0u8; BLOCK];
-    let long = [b'k'; 33];
-    assert!(rt; fstch_put(&mut handle, alloc, 0, b"a", b"b") == NOT_OPEN);
-    assert!(rt; fstch_get(&mut handle, alloc, b"a", &mut into, &mut len) == NOT_OPEN);
-    assert!(rt; fstch_core_sync(&mut handle, alloc) == NOT_OPEN);
-    assert!(rt; fstch_core_write(&mut handle, alloc, 0, &mut count, &mut into) == NOT_OPEN);
-    assert!(rt; fstch_core_synced(&mut handle, alloc, true) == NOT_OPEN);
-    assert!(rt; fstch_core_file(&mut handle, alloc) == -1);
-    assert!(rt; fstch_core_close(&mut handle, alloc) == NOT_OPEN);
-    assert!(rt; fstch_core_open(&mut handle, alloc, 3, b"short", &mut slot) == 5);
-    assert!(rt; fstch_core_open(&mut handle, alloc, 3, &zeros, &mut slot) == 47);
-    assert!(rt; fstch_core_make(alloc, 0, 4, 0, &mut into, &mut count) == 46);
-    assert!(rt; fstch_core_make(alloc, 1, 4, 0, &mut into, &mut count) == -4);
-    assert!(rt; count == 5 && into == [1, 1, 1, 1]);
-    let bytes = new_file(alloc, 1, 4, 0);
-    assert!(rt; fstch_core_open(&mut handle, alloc, 3, &bytes, &mut slot) == DONE);
-    assert!(rt; fstch_core_open(&mut handle, alloc, 3, &bytes, &mut slot) == IS_OPEN);
-    assert!(rt; fstch_core_file(&mut handle, alloc) == 3);
-    assert!(rt; fstch_put(&mut handle, alloc, 7, b"a", b"b") == -8);
-    assert!(rt; fstch_put(&mut handle, alloc, 0, b"", b"b") == 39);
-    assert!(rt; fstch_put(&mut handle, alloc, 0, &long, b"b") == 39);
-    assert!(rt; fstch_put(&mut handle, alloc, 0, &long[..32], b"value") == DONE);
-    assert!(rt; fstch_get(&mut handle, alloc, b"", &mut into, &mut len) == 39);
-    assert!(rt; len == 77);
-    assert!(rt; fstch_get(&mut handle, alloc, &long[..32], &mut into, &mut len) == -4);
-    assert!(rt; len == 5 && into == [1, 1, 1, 1]);
-    assert!(rt; fstch_core_close(&mut handle, alloc) == DONE);
-    assert!(rt; fstch_core_close(&mut handle, alloc) == NOT_OPEN);
-    forget(handle);
+    walk_on(&rt, rt.alloc(), (1, 4, 0), &MISUSE);
 }
+
+const SPENT: [Move; 12] = [
+    (Call::Open, (DONE, KEPT, KEPT)),
+    (Call::Write(0, BLOCK), (-5, KEPT, KEPT)),
+    (Call::Put(0, b"a", b"b"), (DONE, KEPT, KEPT)),
+    (Call::Sync, (DONE, KEPT, KEPT)),
+    // The value goes to the first block of the first extent, before the block of the index that names it.
+    (Call::Write(0, 9), (-4, 3, KEPT)),
+    (Call::Write(0, BLOCK), (DONE, 3, KEPT)),
+    (Call::Synced(false), (DONE, KEPT, KEPT)),
+    (Call::Write(0, BLOCK), (-5, KEPT, KEPT)),
+    (Call::Sync, (-7, KEPT, KEPT)),
+    (Call::Get(b"a", 8), (DONE, 1, KEPT)),
+    (Call::Shows(b"b."), (1, KEPT, KEPT)),
+    (Call::Close, (DONE, KEPT, KEPT)),
+];
 
 #[test]
 fn a_store_is_spent_where_its_writes_are_lost(rt: HostRuntime) {
-    let alloc: Global = rt.alloc();
-    let mut handle = Handle::closed(alloc);
-    let mut slot = 0;
-    let mut block = 9;
-    let mut len = 0;
-    let mut into = [0u8; BLOCK];
-    let bytes = new_file(alloc, 1, 4, 0);
-    assert!(rt; fstch_core_open(&mut handle, alloc, 3, &bytes, &mut slot) == DONE);
-    assert!(rt; fstch_core_write(&mut handle, alloc, 0, &mut block, &mut into) == -5);
-    assert!(rt; block == 9);
-    assert!(rt; fstch_put(&mut handle, alloc, 0, b"a", b"b") == DONE);
-    assert!(rt; fstch_core_sync(&mut handle, alloc) == DONE);
-    assert!(rt; fstch_core_write(&mut handle, alloc, 0, &mut block, &mut into[..9]) == -4);
-    assert!(rt; fstch_core_write(&mut handle, alloc, 0, &mut block, &mut into) == DONE);
-    assert!(rt; fstch_core_synced(&mut handle, alloc, false) == DONE);
-    assert!(rt; fstch_core_write(&mut handle, alloc, 0, &mut block, &mut into) == -5);
-    assert!(rt; fstch_core_sync(&mut handle, alloc) == -7);
-    assert!(rt; fstch_get(&mut handle, alloc, b"a", &mut into, &mut len) == DONE);
-    assert!(rt; len == 1 && into[0] == b'b');
-    assert!(rt; fstch_core_close(&mut handle, alloc) == DONE);
-    forget(handle);
+    walk_on(&rt, rt.alloc(), (1, 4, 0), &SPENT);
 }
+
+// How long a text is, and what a buffer of so much room has then.
+const TEXTS: [(i32, usize, usize, &[u8]); 3] = [
+    (0, 8, 4, b"done\0..."),
+    (-5, 8, 22, b"there i\0"),
+    (99, 0, 14, b"...."),
+];
 
 #[test]
 fn texts_end(rt: HostRuntime) {
-    let mut into = [1u8; 8];
-    assert!(rt; fstch_version() == 100);
-    assert!(rt; fstch_error_text(0, &mut into) == 4);
-    assert!(rt; into == *b"done\0\x01\x01\x01");
-    assert!(rt; fstch_error_text(-5, &mut into) == 22);
-    assert!(rt; into == *b"there i\0");
-    assert!(rt; fstch_error_text(99, &mut into[..0]) == 14);
+    for (answer, room, len, shown) in &TEXTS {
+        let mut into = [FILL; 8];
+        expect_eq(&rt, &fstch_error_text(*answer, part(&mut into, *room)), len);
+        expect_eq(&rt, &shows(&into, shown), &told(1));
+    }
+    expect_eq(&rt, &fstch_version(), &100);
 }
