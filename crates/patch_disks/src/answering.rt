@@ -30,24 +30,28 @@ fn answer_command(
         → IfOk result (λ text. IsTold h (writer, command_of command) (string_bytes text) store.new contents) }
     ensures stops { IfErr result (λ why. why ≡ starved) }
 {
-    let reply = reply_to(store, writer, command)?;
+    let reply = reply_to(store, writer, &command);
     Ok(reply_line(alloc, &reply)?)
 }
 
 /// Goes through one command.
-fn reply_to(store: &mut Store, writer: WriterNo, command: Command) -> Result<Reply, OutOfMemory>
+fn reply_to(store: &mut Store, writer: WriterNo, command: &Command) -> Reply
     ensures { (h : History) (contents : List (List ℕ)) → StandsOn store.old h contents
-        → IfOk result (λ reply. IsCalled h (writer, command_of command) (reply_told reply) store.new contents) }
+        → IsCalled h (writer, command_of command.now) (reply_told result) store.new contents }
 {
     model_laws::steps_extend();
     model_laws::images_stay();
-    let Ok(mut replies) = store.run(&[(writer, command)]) else {
-        return Err(OutOfMemory);
-    };
-    match replies.pop() {
-        Some(reply) => Ok(reply),
-        None => Err(OutOfMemory),
+    store.answer(writer, command)
+}
+
+/// The value that a line puts: its piece itself, where that stands once.
+fn value(alloc: Global, piece: Bytes, times: u32) -> Result<Bytes, OutOfMemory>
+    ensures { IfOk result (λ value. value ≡ value_of piece times) }
+{
+    if times == 1 {
+        return Ok(piece);
     }
+    laid_out(alloc, piece.as_slice(), times)
 }
 
 /// Puts a value under a key. It is laid out only now: of a script's lines one value at a time stands in memory.
@@ -56,14 +60,14 @@ fn put(
     store: &mut Store,
     writer: WriterNo,
     key: Bytes,
-    piece: &[u8],
+    piece: Bytes,
     times: u32,
 ) -> Result<String, Stop>
     ensures answered { (h : History) (contents : List (List ℕ)) → StandsOn store.old h contents
-        → IfOk result (λ text. IsTold h (writer, Put key (value_of piece.now times)) (string_bytes text) store.new contents) }
+        → IfOk result (λ text. IsTold h (writer, Put key (value_of piece times)) (string_bytes text) store.new contents) }
     ensures stops { IfErr result (λ why. why ≡ starved) }
 {
-    let value = laid_out(alloc, piece, times)?;
+    let value = value(alloc, piece, times)?;
     answer_command(alloc, store, writer, Command::Put { key, value })
 }
 
@@ -81,7 +85,7 @@ fn sync<D: Lasting>(
     ensures stops { D.is_honest device.old → (h : History) → StandsOn store.old h (D.contents device.old)
         → IfErr result (λ why. IsStop why (HasRisen (D.fault_count device.old) (D.fault_count device.new))) }
 {
-    let reply = reply_to(store, writer, Command::Pending { group })?;
+    let reply = reply_to(store, writer, &Command::Pending { group });
     if let Reply::Refused(_) = reply {
         return Ok(reply_line(alloc, &reply)?);
     }
@@ -108,7 +112,7 @@ pub(crate) fn answer<D: Lasting>(
             key,
             piece,
             times,
-        } => put(alloc, store, writer, key, piece.as_slice(), times),
+        } => put(alloc, store, writer, key, piece, times),
         CommandLine::Get { writer, key } => {
             answer_command(alloc, store, writer, Command::Get { key })
         }

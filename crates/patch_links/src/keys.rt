@@ -1,5 +1,5 @@
 //! The key of each live patch's class, by the patch's number.
-ghost use Rattle.std.specs.Prelude.{◌≡◌, ◌≢◌, ◌<◌, ◌⊎◌, ℕ, [], None, Some, IsSome, OnOk, is_some};
+ghost use Rattle.std.specs.Prelude.{◌≡◌, ◌≢◌, ◌<◌, ◌⊎◌, ℕ, [], true, false, None, Some, IsSome, OnOk, is_some};
 ghost use Rattle.std.specs.Option.{option_map};
 ghost use Rattle.patch_links.specs.State.{find};
 
@@ -116,11 +116,32 @@ impl<A: Allocator> Keys<A> {
         ensures here { find self.new.numbers no ≡ key }
         ensures others { (n : ℕ) → n ≢ no → find self.new.numbers n ≡ find self.old.numbers n }
     {
+        let place = no.0.wrapping_sub(self.first) as usize;
+        if self.set_at(place, no, key) {
+            return;
+        }
         match self.map.insert(no, key) {
             Ok(_) => {}
             Err(_) => {}
         }
         self.lowest = self.lowest.min(no.0);
+    }
+
+    /// Has a number lead to a key or nowhere, if it stands at this place, and tells whether it does.
+    fn set_at(&mut self, place: usize, no: PatchNo, key: Option<usize>) -> bool
+        ensures here { result ≡ true → find self.new.numbers no ≡ key }
+        ensures others { (n : ℕ) → n ≢ no → find self.new.numbers n ≡ find self.old.numbers n }
+        ensures same { result ≡ false → self.new ≡ self.old }
+    {
+        if let Some((at, _)) = self.map.get_index(place) {
+            if *at == no {
+                let (_, held) = self.map.pair_mut(place);
+                *held = key;
+                self.lowest = self.lowest.min(no.0);
+                return true;
+            }
+        }
+        false
     }
 
     /// Has a number lead to a key.

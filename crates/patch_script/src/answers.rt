@@ -1,11 +1,15 @@
 //! What a line is answered, and how that is written.
-ghost use Rattle.std.specs.Prelude.{◌≡◌, ◌++◌, ◌∷◌, [], List, OnOk, IfOk, string_bytes};
+ghost use Rattle.std.specs.Prelude.{◌≡◌, ◌++◌, ◌∷◌, [], List, OnOk, IfOk, decimal, string_bytes};
 ghost use Rattle.hex.specs.Hex.{encode_lower};
 ghost use Rattle.patch_script.specs.Answer.{answer_text, answer_line as the_line, refusal_text, seen_text, numbers_text, flight_text};
 
 use crate::digits::push_digits;
+use itoa::Buffer;
 use patch_model::{BlockNo, Bytes, GroupNo, Numbers, PatchNo, Refusal, Refuses};
 use std::alloc::{AllocError, Global};
+
+// Room for a word, a number and a line feed.
+const ROOM: usize = 24;
 
 /// What a line is answered.
 #[derive(Debug, Drop)]
@@ -47,6 +51,23 @@ pub fn push_hex(alloc: Global, out: &mut String, word: &str, bytes: &[u8]) -> Re
     push_digits(out, bytes)
 }
 
+/// Writes a number in decimal digits at the end.
+fn push_number(out: &mut String, number: u32) -> Result<(), AllocError>
+    ensures { OnOk result (string_bytes out.new ≡ string_bytes out.old ++ decimal number) }
+{
+    let mut digits = Buffer::new();
+    out.push_str(digits.format(number))
+}
+
+/// Writes a word and a number at the end. The room of both is made at once, with that of a line feed behind them.
+fn push_told(out: &mut String, word: &str, number: u32) -> Result<(), AllocError>
+    ensures { OnOk result (string_bytes out.new ≡ string_bytes out.old ++ (word.now ++ decimal number)) }
+{
+    out.reserve(ROOM)?;
+    out.push_str(word)?;
+    push_number(out, number)
+}
+
 fn push_refusal(out: &mut String, refusal: Refusal) -> Result<(), AllocError>
     ensures { OnOk result (string_bytes out.new ≡ string_bytes out.old ++ refusal_text refusal) }
 {
@@ -64,9 +85,10 @@ fn push_numbers(out: &mut String, numbers: &[PatchNo]) -> Result<(), AllocError>
     let Some((first, rest)) = numbers.split_first() else {
         return Ok(());
     };
-    write!(out, "{first}")?;
+    push_number(out, first.0)?;
     for number in rest {
-        write!(out, ",{number}")?;
+        out.push_str(",")?;
+        push_number(out, number.0)?;
     }
     Ok(())
 }
@@ -80,8 +102,8 @@ fn push_flight(
 ) -> Result<(), AllocError>
     ensures { OnOk result (string_bytes out.new ≡ string_bytes out.old ++ (word.now ++ flight_text block numbers.now)) }
 {
-    out.push_str(word)?;
-    write!(out, "{block} ")?;
+    push_told(out, word, block.0)?;
+    out.push_str(" ")?;
     push_numbers(out, numbers)
 }
 
@@ -102,8 +124,8 @@ fn push_answer(alloc: Global, out: &mut String, answer: &Answer) -> Result<(), A
     ensures { OnOk result (string_bytes out.new ≡ string_bytes out.old ++ answer_text answer.now) }
 {
     match answer {
-        Answer::Made(number) => write!(out, "patch {number}"),
-        Answer::Merged(number) => write!(out, "merged {number}"),
+        Answer::Made(number) => push_told(out, "patch ", number.0),
+        Answer::Merged(number) => push_told(out, "merged ", number.0),
         Answer::Sent { block, numbers } => push_flight(out, "sent ", *block, numbers.as_slice()),
         Answer::Landed { block, numbers } => {
             push_flight(out, "durable ", *block, numbers.as_slice())
@@ -113,9 +135,9 @@ fn push_answer(alloc: Global, out: &mut String, answer: &Answer) -> Result<(), A
         }
         Answer::Shown(bytes) => push_hex(alloc, out, "shown ", bytes.as_slice()),
         Answer::OnDisk(bytes) => push_hex(alloc, out, "disk ", bytes.as_slice()),
-        Answer::GroupMade(group) => write!(out, "group {group}"),
+        Answer::GroupMade(group) => push_told(out, "group ", group.0),
         Answer::Done => out.push_str("ok"),
-        Answer::Count(count) => write!(out, "pending {count}"),
+        Answer::Count(count) => push_told(out, "pending ", *count),
         Answer::Synced => out.push_str("synced"),
         Answer::Refused(refusal) => push_refusal(out, *refusal),
     }

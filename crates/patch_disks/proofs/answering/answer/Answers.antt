@@ -1,17 +1,11 @@
-use Rattle.std.proofs.Common.{refl, subst}
-use Rattle.std.specs.Prelude.{IfOk, string_bytes}
-use Rattle.patch_history.specs.Command as command
-use Rattle.patch_commands.specs.Value.{value_of}
+use Rattle.std.proofs.Common.{refl}
 use Rattle.patch_commands.specs.declared.commands.CommandLine.TheVariants.{Put, Get, Delete, Reclaim, Group, Engage, Disengage, Depend, Close, Pending}
-use Rattle.patch_disks.specs.Running.{IsTold}
 use Rattle.patch_disks.proofs.Coming.{each_by_reply}
 use Rattle.patch_disks.proofs.answering.answer.Goals as goal
 
 pub returns-in-Put-clause-answered : goal.returns-in-Put-clause-answered
 returns-in-Put-clause-answered g c honest h stands =
-    let told = subst (λ piece. IfOk c.put.result (λ text. IsTold h (c.in-Put.writer, command.Put c.in-Put.key (value_of piece c.in-Put.times)) (string_bytes text) c.put.new.store (g.D.Device.contents c.args.device.now)))
-    c.as_slice.ensures (c.put.ensures.answered h _ stands) in
-    rw c.in-Put.is (each_by_reply h (Put c.in-Put.writer c.in-Put.key c.in-Put.piece c.in-Put.times) c.put.result _ _ (λ reply. refl) told)
+    rw c.in-Put.is (each_by_reply h (Put c.in-Put.writer c.in-Put.key c.in-Put.piece c.in-Put.times) c.put.result _ _ (λ reply. refl) (c.put.ensures.answered h _ stands))
 
 pub returns-in-Get-clause-answered : goal.returns-in-Get-clause-answered
 returns-in-Get-clause-answered g c honest h stands =

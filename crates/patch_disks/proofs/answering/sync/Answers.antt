@@ -10,20 +10,20 @@ use Rattle.patch_disks.proofs.answering.sync.Goals as goal
 
 pub returns-in-Refused-clause-answered : goal.returns-in-Refused-clause-answered
 returns-in-Refused-clause-answered g c honest h stands =
-    let reply = c.in_ok-reply.reply in
+    let reply = c.reply_to-reply.result in
     let contents = g.D.Device.contents c.args.device.now in
     let told = c.in_ok-reply_line.ensures ∙ sym (ap (λ r. reply_line (reply_told r)) c.in-Refused.is) in
-    sync_refused h c.args.writer c.args.group (reply_told reply) (string_bytes c.in_ok-reply_line.field-0) c.reply_to.new.store contents
-    (ap (λ r. is_refused (reply_told r)) c.in-Refused.is) told (c.in_ok-reply.ensures h contents stands)
+    sync_refused h c.args.writer c.args.group (reply_told reply) (string_bytes c.in_ok-reply_line.field-0) c.reply_to-reply.new.store contents
+    (ap (λ r. is_refused (reply_told r)) c.in-Refused.is) told (c.reply_to-reply.ensures h contents stands)
 
 pub returns : goal.returns
 returns g c = record {
   device = c.save.ensures.device;
   answered = λ honest h stands.
-      let reply = c.in_ok-reply.reply in
+      let reply = c.reply_to-reply.result in
       let contents = g.D.Device.contents c.args.device.now in
-      let called = c.in_ok-reply.ensures h contents stands in
-      sync_saved h c.args.writer c.args.group (reply_told reply) (string_bytes c.in_ok-synced_line.field-0) c.reply_to.new.store contents
+      let called = c.reply_to-reply.ensures h contents stands in
+      sync_saved h c.args.writer c.args.group (reply_told reply) (string_bytes c.in_ok-synced_line.field-0) c.reply_to-reply.new.store contents
       c.save.new.store (g.D.Device.contents c.save.new.device) (not_refused reply c.in_default.not-Refused) c.in_ok-synced_line.ensures called
       (c.in_ok-save.ensures.saved honest _ called.stands);
   stops = λ honest h stands. tt;
@@ -31,5 +31,5 @@ returns g c = record {
 
 pub returns-in_err-save-clause-stops : goal.returns-in_err-save-clause-stops
 returns-in_err-save-clause-stops g c honest h stands =
-    let called = c.in_ok-reply.ensures h (g.D.Device.contents c.args.device.now) stands in
+    let called = c.reply_to-reply.ensures h (g.D.Device.contents c.args.device.now) stands in
     err_so c.from_residual-in_err-save.result c.in_err-save.field-0.0 _ _ c.from_residual-in_err-save.ensures.1 (λ risen. risen) (c.in_err-save.ensures.stops honest _ called.stands)
