@@ -1,11 +1,12 @@
 -- What the patches of an append come to.
 use Rattle.std.proofs.Common.{◌≡◌, ℕ, ◌+◌, ◌-◌, ◌/◌, ◌%◌, ◌<◌, ◌≤◌, ◌∙◌, Bool, true, false, List, [], ◌∷◌, ◌++◌, length, slice_range, Option, Some}
 use Rattle.std.proofs.Common.{None, refl, sym, ap, subst, append-nil, arith}
-use Rattle.std.specs.Prelude.{◌==◌, if◌then◌else◌, slice_set, replicate}
+use Rattle.std.specs.Prelude.{◌==◌, if◌then◌else◌, slice_set, replicate, Result}
 use Rattle.std.specs.List.{range_with_len}
 use Rattle.std.proofs.lemmas.Bool.Decides.{nat_tests}
 use Rattle.std.proofs.lemmas.List.{length-append, length-replicate}
 use Rattle.patch_model.specs.declared.patches.Undo.TheVariants.{MayDrop}
+use Rattle.patch_model.specs.declared.refusals.OutOfMemory.{OutOfMemory}
 use Rattle.patch_model.specs.Step.{Create, Merge}
 use Rattle.patch_model.specs.Execution.{Execution, extended, followed_by}
 use Rattle.patch_model.specs.State.{entries_of, next_patch}
@@ -28,7 +29,7 @@ use Rattle.patch_plans.specs.Planning.{touched, part_start, part_end, part, part
 use Rattle.patch_plans.specs.Writing.{merge_with, merge_behind}
 use Rattle.patch_plans.specs.Meaning.{Represents}
 use Rattle.patch_extent.specs.Answers.{Setting, setting, IsSettingOf, AreMade, IsWritten, IsBegun, Append, plan_of, place_for, plan_steps, before_merge}
-use Rattle.patch_extent.specs.Appending.{IsPatched, MergesBehind, IsDone, parts_of}
+use Rattle.patch_extent.specs.Appending.{IsPatched, LaysPatch, MergesBehind, IsDone, parts_of}
 use Rattle.patch_extent.specs.Merging.{IsOutcome, is_made}
 use Rattle.patch_extent.specs.declared.places.MergeOutcome.{MergeOutcome}
 use Rattle.patch_extent.proofs.Patches.{StateLaw, patches_made, entries_made, entries_stay, cached_long}
@@ -40,16 +41,19 @@ abbrev pub BlockLaw : Type 0
 BlockLaw = (run : Execution) (block : ℕ) → IsLegal run → block < length run.first → IsOrderlyBlock (history_of run block) block
 
 -- a part that was laid where the code says
-pub patched_there : (g : Geometry) (e offset k first off start stop : ℕ) (bytes : List ℕ) (writer : Option ℕ) (names : List ℕ) (gs next_gs : Groups) (c next : Contents) (num : ℕ)
-    → first ≡ first_block g e → off ≡ offset → start ≡ part_start offset k → stop ≡ part_end offset (length bytes) k
-    → IsPatched (first + start / 4096) (start % 4096) (slice_range bytes (start - off) (stop - off)) writer names gs c next_gs next num
-    → IsPatched (block_of g (part e offset bytes k)) (start_of (part e offset bytes k)) (bytes_of g (part e offset bytes k)) writer names gs c next_gs next num
-patched_there g e offset k first off start stop bytes writer names gs next_gs c next num first_is off_is start_is stop_is h =
-    subst (λ f. IsPatched (f + part_start offset k / 4096) (part_start offset k % 4096)
-    (slice_range bytes (part_start offset k - offset) (part_end offset (length bytes) k - offset)) writer names gs c next_gs next num) first_is
-    (subst (λ t. IsPatched (first + part_start offset k / 4096) (part_start offset k % 4096) (slice_range bytes (part_start offset k - offset) (t - offset)) writer names gs c next_gs next num) stop_is
-    (subst (λ s. IsPatched (first + s / 4096) (s % 4096) (slice_range bytes (s - offset) (stop - offset)) writer names gs c next_gs next num) start_is
-    (subst (λ o. IsPatched (first + start / 4096) (start % 4096) (slice_range bytes (start - o) (stop - o)) writer names gs c next_gs next num) off_is h)))
+pub laid_there : (g : Geometry) (e offset k first off start stop : ℕ) (bytes piece : List ℕ) (writer : Option ℕ) (names : List ℕ) (gs next_gs : Groups) (c next : Contents)
+    (result : Result ℕ OutOfMemory)
+    → first ≡ first_block g e → off ≡ offset → start ≡ part_start offset k → stop ≡ part_end offset (length bytes) k → piece ≡ slice_range bytes (start - off) (stop - off)
+    → LaysPatch (first + start / 4096) (start % 4096) piece writer names result gs c next_gs next
+    → LaysPatch (block_of g (part e offset bytes k)) (start_of (part e offset bytes k)) (bytes_of g (part e offset bytes k)) writer names result gs c next_gs next
+laid_there g e offset k first off start stop bytes piece writer names gs next_gs c next result first_is off_is start_is stop_is piece_is h =
+    subst (λ f. LaysPatch (f + part_start offset k / 4096) (part_start offset k % 4096)
+    (slice_range bytes (part_start offset k - offset) (part_end offset (length bytes) k - offset)) writer names result gs c next_gs next) first_is
+    (subst (λ t. LaysPatch (first + part_start offset k / 4096) (part_start offset k % 4096) (slice_range bytes (part_start offset k - offset) (t - offset)) writer names result gs c next_gs next)
+    stop_is
+    (subst (λ s. LaysPatch (first + s / 4096) (s % 4096) (slice_range bytes (s - offset) (stop - offset)) writer names result gs c next_gs next) start_is
+    (subst (λ o. LaysPatch (first + start / 4096) (start % 4096) (slice_range bytes (start - o) (stop - o)) writer names result gs c next_gs next) off_is
+    (subst (λ p. LaysPatch (first + start / 4096) (start % 4096) p writer names result gs c next_gs next) piece_is h))))
 
 -- One part more is laid.
 pub part_laid : StateLaw → (run : Execution) (a : Append) (old : Setting) (gs next_gs : Groups) (c next : Contents) (k num : ℕ)

@@ -9,8 +9,8 @@ use Rattle.patch_cache.specs.Meaning.{Represents as IsCacheOf}
 use Rattle.patch_plans.specs.Groups.{Groups, patch_of, with_patch}
 use Rattle.patch_extent.specs.declared.places.Appended.{Appended}
 use Rattle.patch_plans.specs.Extents.{offset_at}
-use Rattle.patch_recovery.specs.Change.{Made}
-use Rattle.patch_plans.specs.Planning.{parts, touched}
+use Rattle.patch_recovery.specs.Change.{Made, block_of, start_of, bytes_of}
+use Rattle.patch_plans.specs.Planning.{parts, part, touched}
 use Rattle.patch_plans.specs.Writing.{merge_with}
 use Rattle.patch_extent.specs.declared.places.MergeOutcome.{MergeOutcome}
 use Rattle.patch_extent.specs.Answers.{Setting, IsSettingOf, AreMade, IsWritten, IsBegun, Append, plan_of, place_for, MergesRightly}
@@ -30,6 +30,14 @@ abbrev pub LaysPatch : (block start : ℕ) (bytes : List ℕ) (writer : Option �
 LaysPatch block start bytes writer after result old_groups old new_groups new =
     MatchResult result (IsPatched block start bytes writer after old_groups old new_groups new)
     (λ _. (new_groups ≡ old_groups) × (new ≡ old))
+
+-- the part of an append's bytes in the k-th block touched
+abbrev pub LaysPart : Append → (k : ℕ) → Result ℕ OutOfMemory → (old new : Setting) → Type 0
+LaysPart a k result old new =
+    LaysPatch (block_of old.extents.geometry (part a.extent (offset_at old.extents a.extent) a.bytes k))
+    (start_of (part a.extent (offset_at old.extents a.extent) a.bytes k))
+    (bytes_of old.extents.geometry (part a.extent (offset_at old.extents a.extent) a.bytes k)) a.writer a.after result
+    old.groups old.cache new.groups new.cache
 
 -- the parts of an append's bytes behind the names, up to the k-th
 abbrev pub parts_of : Setting → Append → ℕ → List Made

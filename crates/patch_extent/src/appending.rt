@@ -7,21 +7,24 @@ ghost use Rattle.patch_frame.specs.Pointer.{Fits, spelling};
 ghost use Rattle.patch_cache.specs.Meaning.{Represents as IsCacheOf};
 ghost use Rattle.patch_extent.specs.declared.refusals.AppendRefusal.TheVariants as append;
 ghost use Rattle.patch_plans.specs.Extents.{offset_at};
+ghost use Rattle.patch_plans.specs.Planning.{touched};
 ghost use Rattle.patch_extent.specs.Refusals.{append_cause};
 ghost use Rattle.patch_extent.specs.Refusing.{why_not_appended};
 ghost use Rattle.patch_extent.specs.Answers.{setting, asked, AnswersAppend};
-ghost use Rattle.patch_extent.specs.Appending.{AppendsCounted, LaysParts, LaysPatch, MergesBehind};
+ghost use Rattle.patch_extent.specs.Appending.{AppendsCounted, LaysPart, LaysParts, LaysPatch, MergesBehind};
 ghost use Rattle.patch_extent.specs.Merging.{outcome_of};
 
 use crate::counting::count_patches;
 use crate::extents::Extents;
-use crate::parting::{numbers_from, part_end, part_start, touched, with_one_more};
+use crate::parting::{copied, numbers_from, part_end, part_start, touched, with_one_more};
 use crate::places::{Appended, MergeOutcome, Place};
 use crate::refusals::AppendRefusal;
 use patch_cache::{Cache, MergeRefusal};
 use patch_frame::{Pointer, laws as frame_laws, pointer_start, write_pointer};
 use patch_group::Groups;
-use patch_model::{BLOCK, BlockNo, OutOfMemory, PatchNo, Undo, WriterNo, laws as model_laws};
+use patch_model::{
+    BLOCK, BlockNo, Bytes, Numbers, OutOfMemory, PatchNo, Undo, WriterNo, laws as model_laws,
+};
 use std::alloc::Allocator;
 
 impl<A: Allocator + Copy> Extents<A> {
@@ -109,12 +112,12 @@ impl<A: Allocator + Copy> Extents<A> {
         let names = with_one_more(self.alloc, after, &kept.reset)?;
         let count = touched(kept.pointer.offset, len);
         let numbers = numbers_from(self.alloc, cache.made(), count)?;
-        self.lay_parts(cache, groups, &writer, extent, bytes, names.as_slice())?;
+        self.lay_parts(cache, groups, &writer, extent, bytes, names)?;
         let moved = Pointer {
             generation: kept.pointer.generation,
             offset: kept.pointer.offset + len,
         };
-        let no = self.lay_pointer(cache, groups, &writer, extent, moved, numbers.as_slice())?;
+        let no = self.lay_pointer(cache, groups, &writer, extent, moved, numbers)?;
         let merge = merge_behind(cache, &kept.point, no);
         let record = &mut self.each[extent as usize];
         record.pointer = moved;
@@ -132,7 +135,7 @@ impl<A: Allocator + Copy> Extents<A> {
         })
     }
 
-    /// Makes a data patch for each block that the bytes touch.
+    /// Makes a data patch for each block that the bytes touch. The last of them takes the names, the others copies of them.
     fn lay_parts(
         &self,
         cache: &mut Cache<A>,
@@ -140,32 +143,60 @@ impl<A: Allocator + Copy> Extents<A> {
         writer: &Option<WriterNo>,
         extent: u32,
         bytes: &[u8],
-        names: &[PatchNo],
+        names: Numbers<A>,
     ) -> Result<(), OutOfMemory>
         requires some { 0 < length bytes.now }
         requires known { extent < self.now.geometry.extents }
         requires room { offset_at self.now extent + length bytes.now ≤ largest_pointer self.now.geometry.format }
-        ensures { LaysParts (asked writer.now extent bytes.now names.now) result
+        ensures { LaysParts (asked writer.now extent bytes.now names) result
             (setting self.now groups.old cache.old) (setting self.now groups.new cache.new) }
     {
         model_laws::steps_extend();
         let offset = self.each[extent as usize].pointer.offset;
-        let len = bytes.len() as u32;
-        let first = self.geometry.first_block(extent);
-        for k in 0..touched(offset, len) {
-            let start = part_start(offset, k);
-            let end = part_end(offset, len, k);
-            lay(
-                cache,
-                groups,
-                writer,
-                BlockNo(first + start / BLOCK as u32),
-                start as usize % BLOCK,
-                &bytes[(start - offset) as usize..(end - offset) as usize],
-                names,
-            )?;
+        let last = touched(offset, bytes.len() as u32) - 1;
+        for k in 0..last {
+            let same = copied(self.alloc, names.as_slice())?;
+            self.lay_part(cache, groups, writer, extent, bytes, k, same)?;
         }
+        self.lay_part(cache, groups, writer, extent, bytes, last, names)?;
         Ok(())
+    }
+
+    /// Makes the data patch of the `k`-th block that the bytes touch.
+    fn lay_part(
+        &self,
+        cache: &mut Cache<A>,
+        groups: &mut Groups<A>,
+        writer: &Option<WriterNo>,
+        extent: u32,
+        bytes: &[u8],
+        k: u32,
+        names: Numbers<A>,
+    ) -> Result<PatchNo, OutOfMemory>
+        requires some { 0 < length bytes.now }
+        requires known { extent < self.now.geometry.extents }
+        requires room { offset_at self.now extent + length bytes.now ≤ largest_pointer self.now.geometry.format }
+        requires within { k < touched (offset_at self.now extent) (length bytes.now) }
+        ensures { LaysPart (asked writer.now extent bytes.now names) k result
+            (setting self.now groups.old cache.old) (setting self.now groups.new cache.new) }
+    {
+        let offset = self.each[extent as usize].pointer.offset;
+        let start = part_start(offset, k);
+        let end = part_end(offset, bytes.len() as u32, k);
+        let block = BlockNo(self.geometry.first_block(extent) + start / BLOCK as u32);
+        let part = copied(
+            self.alloc,
+            &bytes[(start - offset) as usize..(end - offset) as usize],
+        )?;
+        lay(
+            cache,
+            groups,
+            writer,
+            block,
+            start as usize % BLOCK,
+            part,
+            names,
+        )
     }
 
     /// Makes the patch of an extent's pointer record.
@@ -176,34 +207,35 @@ impl<A: Allocator + Copy> Extents<A> {
         writer: &Option<WriterNo>,
         extent: u32,
         pointer: Pointer,
-        after: &[PatchNo],
+        after: Numbers<A>,
     ) -> Result<PatchNo, OutOfMemory>
         requires known { extent < self.now.geometry.extents }
         requires fits { Fits (largest_pointer self.now.geometry.format) pointer }
-        ensures { LaysPatch (pointer_block self.now.geometry) (pointer_start extent) (spelling pointer) writer.now after.now result
+        ensures { LaysPatch (pointer_block self.now.geometry) (pointer_start extent) (spelling pointer) writer.now after result
             groups.old cache.old groups.new cache.new }
     {
         let block = BlockNo(self.geometry.pointer_block());
         let record = write_pointer(pointer);
+        let bytes = copied(self.alloc, &record)?;
         let start = pointer_start(extent);
-        lay(cache, groups, writer, block, start, &record, after)
+        lay(cache, groups, writer, block, start, bytes, after)
     }
 }
 
-/// Makes a patch that was counted. Nothing but want of memory stands against it: its block is there, its bytes are some and
-/// fit, and what it names was made.
+/// Makes a patch that was counted, of bytes and names that are given up. Nothing but want of memory stands against it: its
+/// block is there, its bytes are some and fit, and what it names was made.
 fn lay<A: Allocator + Copy>(
     cache: &mut Cache<A>,
     groups: &mut Groups<A>,
     writer: &Option<WriterNo>,
     block: BlockNo,
     start: usize,
-    bytes: &[u8],
-    after: &[PatchNo],
+    bytes: Bytes<A>,
+    after: Numbers<A>,
 ) -> Result<PatchNo, OutOfMemory>
-    ensures { LaysPatch block start bytes.now writer.now after.now result groups.old cache.old groups.new cache.new }
+    ensures { LaysPatch block start bytes writer.now after result groups.old cache.old groups.new cache.new }
 {
-    match groups.create_patch(cache, *writer, block, start, bytes, after, Undo::MayDrop) {
+    match groups.create_given(cache, *writer, block, start, bytes, after, Undo::MayDrop) {
         Ok(no) => Ok(no),
         Err(_) => Err(OutOfMemory),
     }

@@ -53,6 +53,36 @@ impl<A: Allocator + Copy> Groups<A> {
         }
     }
 
+    /// Makes a patch as [`create_patch`](Groups::create_patch) does, of bytes and names that the caller gives up: the cache's
+    /// trace keeps them, and nothing is copied for it where no group comes before.
+    pub fn create_given(
+        &mut self,
+        cache: &mut Cache<A>,
+        writer: Option<WriterNo>,
+        block: BlockNo,
+        start: usize,
+        bytes: Bytes<A>,
+        after: Numbers<A>,
+        undo: Undo,
+    ) -> Result<PatchNo, CreateRefusal>
+        ensures made { (run : Execution) → Represents cache.old run → OnOk result
+            (Represents cache.new (extended run (patch_of self.old writer block start bytes after undo))) }
+        ensures number { (run : Execution) → Represents cache.old run → IfOk result (λ no. no ≡ length (entries_of run)) }
+        ensures allowed { (run : Execution) → Represents cache.old run
+            → OnOk result (why_not_patched run self.old writer block start bytes after ≡ None) }
+        ensures joined { IfOk result (λ no. self.new ≡ with_patch self.old writer no) }
+        ensures cause { (run : Execution) → Represents cache.old run → IfErr result (λ refusal.
+            IsCauseOf (why_not_patched run self.old writer block start bytes after) (create_cause refusal)) }
+        ensures trace { OnOk result (cache.new.trace ≡ cache.old.trace ++ patch_of self.old writer block start bytes after undo ∷ []) }
+        ensures refused { OnErr result (self.new ≡ self.old) }
+        ensures refused_cache { OnErr result (cache.new ≡ cache.old) }
+    {
+        match writer {
+            Some(writer) => self.create_owned(cache, writer, block, start, bytes, after, undo),
+            None => cache.create_owned(block, start, bytes, after, undo),
+        }
+    }
+
     /// Makes a patch of this writer as [`create_patch`](Groups::create_patch) does, of bytes and names that the caller gives up:
     /// the cache's trace keeps them, and nothing is copied for it where no group comes before.
     pub fn create_owned(

@@ -14,7 +14,9 @@ use patch_cache::Cache;
 use patch_frame::{MAX_KEY, SLOT_BYTES, slot_block, slot_start};
 use patch_group::Groups;
 use patch_history::{DeleteRefusal, laws as history_laws};
-use patch_model::{BlockNo, MAX_LIVE, MAX_PATCHES, OutOfMemory, PatchNo, Undo, WriterNo};
+use patch_model::{
+    BlockNo, Bytes, MAX_LIVE, MAX_PATCHES, Numbers, OutOfMemory, PatchNo, Undo, WriterNo,
+};
 use std::alloc::Allocator;
 
 impl<A: Allocator + Copy> Store<A> {
@@ -52,10 +54,11 @@ impl<A: Allocator + Copy> Store<A> {
         requires { slot < length self.old.shelf.slots }
         ensures { ClearsSlot writer slot result self.old self.new }
     {
+        let alloc = self.alloc;
         let Some(entry) = self.index.entry(slot) else {
             return Err(OutOfMemory);
         };
-        let Ok(names) = numbers_of(self.alloc, &self.last_delete) else {
+        let Ok(names) = numbers_of(alloc, &self.last_delete) else {
             return Err(OutOfMemory);
         };
         // Never so: a slot names an extent of the disk.
@@ -65,8 +68,14 @@ impl<A: Allocator + Copy> Store<A> {
         let Ok(()) = left.reserve(1) else {
             return Err(OutOfMemory);
         };
-        let names = names.as_slice();
-        let Ok(no) = lay_slot(&mut self.groups, &mut self.cache, writer, slot, names) else {
+        let Ok(no) = lay_slot(
+            alloc,
+            &mut self.groups,
+            &mut self.cache,
+            writer,
+            slot,
+            names,
+        ) else {
             return Err(OutOfMemory);
         };
         left.push_reserved(no);
@@ -78,41 +87,33 @@ impl<A: Allocator + Copy> Store<A> {
 
 /// Makes the patch of an empty slot.
 fn lay_slot<A: Allocator + Copy>(
+    alloc: A,
     groups: &mut Groups<A>,
     cache: &mut Cache<A>,
     writer: WriterNo,
     slot: u32,
-    after: &[PatchNo],
+    after: Numbers<A>,
 ) -> Result<PatchNo, OutOfMemory>
-    ensures { LaysPatch (the_slot_block slot) (the_slot_start slot) (zeros 64) (Some writer) after.now result
+    ensures { LaysPatch (the_slot_block slot) (the_slot_start slot) (zeros 64) (Some writer) after result
         groups.old cache.old groups.new cache.new }
 {
+    let empty = Vec::from_slice(alloc, &[0_u8; SLOT_BYTES])?;
+    let bytes = Bytes::from_vec(empty);
     let block = BlockNo(slot_block(slot));
-    let empty = [0; SLOT_BYTES];
-    match groups.create_patch(
-        cache,
-        Some(writer),
-        block,
-        slot_start(slot),
-        &empty,
-        after,
-        Undo::MayDrop,
-    ) {
+    let start = slot_start(slot);
+    match groups.create_owned(cache, writer, block, start, bytes, after, Undo::MayDrop) {
         Ok(no) => Ok(no),
         Err(_) => Err(OutOfMemory),
     }
 }
 
 /// The number in a list, or none.
-fn numbers_of<A: Allocator>(
-    alloc: A,
-    number: &Option<PatchNo>,
-) -> Result<Vec<PatchNo, A>, OutOfMemory>
-    ensures { IfOk result (λ all. all.items ≡ option_to_list number.now) }
+fn numbers_of<A: Allocator>(alloc: A, number: &Option<PatchNo>) -> Result<Numbers<A>, OutOfMemory>
+    ensures { IfOk result (λ all. all ≡ option_to_list number.now) }
 {
     let mut all = Vec::with_capacity(alloc, 1)?;
     if let Some(no) = number {
         all.push(*no)?;
     }
-    Ok(all)
+    Ok(Numbers::from_vec(all))
 }

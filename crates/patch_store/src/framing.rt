@@ -20,7 +20,7 @@ use patch_frame::{
 use patch_group::Groups;
 use patch_history::laws as history_laws;
 use patch_index::{Entry, Key, OVERHEAD};
-use patch_model::{BlockNo, OutOfMemory, PatchNo, Undo, WriterNo};
+use patch_model::{BlockNo, Bytes, Numbers, OutOfMemory, PatchNo, Undo, WriterNo};
 use std::alloc::Allocator;
 
 // The most patches that a slot's patch names: a pointer's, a delete's and the upgrade's.
@@ -126,20 +126,20 @@ impl<A: Allocator + Copy> Store<A> {
             return Err(OutOfMemory);
         };
         match self.index.entry(slot) {
-            Some(was) => self.refill_slot(writer, slot, &was, entry, names.as_slice()),
-            None => self.claim_slot(writer, slot, entry, names.as_slice()),
+            Some(was) => self.refill_slot(writer, slot, &was, entry, names),
+            None => self.claim_slot(writer, slot, entry, names),
         }
     }
 
     /// What the patch of a slot comes after.
-    fn names_for(&self, slot: u32, point: PatchNo) -> Result<Vec<PatchNo, A>, OutOfMemory>
-        ensures { IfOk result (λ names. names.items ≡ names_behind self.now.shelf slot point) }
+    fn names_for(&self, slot: u32, point: PatchNo) -> Result<Numbers<A>, OutOfMemory>
+        ensures { IfOk result (λ names. names ≡ names_behind self.now.shelf slot point) }
     {
         let mut names = Vec::with_capacity(self.alloc, MAX_NAMES)?;
         names.push(point)?;
         push_number(&mut names, &self.delete_before(slot))?;
         push_number(&mut names, &self.upgrade)?;
-        Ok(names)
+        Ok(Numbers::from_vec(names))
     }
 
     /// The last delete, which comes before the patch of a slot that is empty.
@@ -158,12 +158,12 @@ impl<A: Allocator + Copy> Store<A> {
         writer: &Option<WriterNo>,
         slot: u32,
         entry: &Entry,
-        names: &[PatchNo],
+        names: Numbers<A>,
     ) -> Result<(), OutOfMemory>
         requires slot { slot < length self.old.shelf.slots }
         requires fits { FitsUsed MAX_FRAME (fields_of entry.now) }
         requires empty { slot_at self.old.shelf slot ≡ None }
-        ensures { FillsSlot writer.now slot (fields_of entry.now) names.now result self.old self.new }
+        ensures { FillsSlot writer.now slot (fields_of entry.now) names result self.old self.new }
     {
         let alloc = self.alloc;
         let Ok(_) = lay_slot(
@@ -188,12 +188,12 @@ impl<A: Allocator + Copy> Store<A> {
         slot: u32,
         was: &Entry,
         entry: &Entry,
-        names: &[PatchNo],
+        names: Numbers<A>,
     ) -> Result<(), OutOfMemory>
         requires slot { slot < length self.old.shelf.slots }
         requires fits { FitsUsed MAX_FRAME (fields_of entry.now) }
         requires used { slot_at self.old.shelf slot ≡ Some (fields_of was.now) }
-        ensures { FillsSlot writer.now slot (fields_of entry.now) names.now result self.old self.new }
+        ensures { FillsSlot writer.now slot (fields_of entry.now) names result self.old self.new }
     {
         let alloc = self.alloc;
         // Never so: a slot names an extent of the disk.
@@ -220,7 +220,7 @@ impl<A: Allocator + Copy> Store<A> {
     }
 }
 
-/// Makes the patch of a slot that names a frame. The slot's bytes are written first.
+/// Makes the patch of a slot that names a frame. The slot's bytes are written first; the patch takes them and the names.
 fn lay_slot<A: Allocator + Copy>(
     alloc: A,
     groups: &mut Groups<A>,
@@ -228,10 +228,10 @@ fn lay_slot<A: Allocator + Copy>(
     writer: &Option<WriterNo>,
     slot: u32,
     entry: &Entry,
-    after: &[PatchNo],
+    after: Numbers<A>,
 ) -> Result<PatchNo, OutOfMemory>
     requires { FitsUsed MAX_FRAME (fields_of entry.now) }
-    ensures { LaysPatch (the_slot_block slot) (the_slot_start slot) (spelling (Some (fields_of entry.now))) writer.now after.now result
+    ensures { LaysPatch (the_slot_block slot) (the_slot_start slot) (spelling (Some (fields_of entry.now))) writer.now after result
         groups.old cache.old groups.new cache.new }
 {
     let said = SlotState::Used(Slot {
@@ -241,17 +241,11 @@ fn lay_slot<A: Allocator + Copy>(
         offset: entry.offset,
         length: entry.length,
     });
-    let bytes = write_slot(alloc, &said)?;
+    let written = write_slot(alloc, &said)?;
+    let bytes = Bytes::from_vec(written);
     let block = BlockNo(slot_block(slot));
-    match groups.create_patch(
-        cache,
-        *writer,
-        block,
-        slot_start(slot),
-        bytes.as_slice(),
-        after,
-        Undo::MayDrop,
-    ) {
+    let start = slot_start(slot);
+    match groups.create_given(cache, *writer, block, start, bytes, after, Undo::MayDrop) {
         Ok(no) => Ok(no),
         Err(_) => Err(OutOfMemory),
     }

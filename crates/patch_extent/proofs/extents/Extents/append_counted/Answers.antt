@@ -31,17 +31,17 @@ pub returns-in_err-lay_parts-clause-answer : goal.returns-in_err-lay_parts-claus
 returns-in_err-lay_parts-clause-answer g c run h =
     let inside : c.args.extent < length c.args.self.now.each = omega (arith, h.represents.whole.count) in
     let at = get_or_read c.args.self.now.each c.args.extent c.index.result.now inside (c.index.ensures ∙ ap (λ s. get_or s.each c.args.extent c.index.result.now) c.self.view_is) no_extent in
-    let names = c.as_slice.ensures.value ∙ c.in_ok-names.ensures ∙ ap (λ k. c.args.after.now ++ option_to_list k.reset) at in
+    let names = c.in_ok-names.ensures ∙ ap (λ k. c.args.after.now ++ option_to_list k.reset) at in
     let told = c.in_err-lay_parts.ensures run h in
     MatchResult-from_err _ _ _ c.from_residual-in_err-lay_parts.ensures.0
     (λ _. append_begun run (asked c.args.writer c.args.extent c.args.bytes.now c.args.after.now) (setting c.args.self.now c.args.groups.now c.args.cache.now)
-    c.lay_parts.new.groups c.lay_parts.new.cache told.0 c.as_slice.result.now names (omega (arith, told.1)) told.2)
+    c.lay_parts.new.groups c.lay_parts.new.cache told.0 c.in_ok-names.names names (omega (arith, told.1)) told.2)
 
 pub returns-in_err-no-clause-answer : goal.returns-in_err-no-clause-answer
 returns-in_err-no-clause-answer g c run h =
     let inside : c.args.extent < length c.args.self.now.each = omega (arith, h.represents.whole.count) in
     let at = get_or_read c.args.self.now.each c.args.extent c.index.result.now inside (c.index.ensures ∙ ap (λ s. get_or s.each c.args.extent c.index.result.now) c.self.view_is) no_extent in
-    let names = c.as_slice.ensures.value ∙ c.in_ok-names.ensures ∙ ap (λ k. c.args.after.now ++ option_to_list k.reset) at in
+    let names = c.in_ok-names.ensures ∙ ap (λ k. c.args.after.now ++ option_to_list k.reset) at in
     let told = c.in_ok-lay_parts.ensures run h in
     let same = c.in_err-no.ensures in
     let old = setting c.args.self.now c.args.groups.now c.args.cache.now in
@@ -51,7 +51,7 @@ returns-in_err-no-clause-answer g c run h =
     (setting c.args.self.now c.args.groups.now c.args.cache.now) (setting c.args.self.now gs c.lay_pointer.new.cache)) (sym same.0)
     (subst (λ k. IsBegun run c.args.writer (plan_of run c.args.self.now (asked c.args.writer c.args.extent c.args.bytes.now c.args.after.now))
     (setting c.args.self.now c.args.groups.now c.args.cache.now) (setting c.args.self.now c.lay_parts.new.groups k)) (sym same.1)
-    (append_begun run a old c.lay_parts.new.groups c.lay_parts.new.cache (touched (offset_at c.args.self.now c.args.extent) (length c.args.bytes.now)) c.as_slice.result.now names (omega arith) told)))
+    (append_begun run a old c.lay_parts.new.groups c.lay_parts.new.cache (touched (offset_at c.args.self.now c.args.extent) (length c.args.bytes.now)) c.in_ok-names.names names (omega arith) told)))
 
 pub returns-clause-answer : goal.returns-clause-answer
 returns-clause-answer g c run h =
@@ -64,12 +64,12 @@ returns-clause-answer g c run h =
     (c.index.ensures ∙ ap (λ t. get_or t.each c.args.extent c.index.result.now) c.self.view_is) no_extent in
     let again : c.index_mut-record.result.now ≡ extent_at c.args.self.now c.args.extent = get_or_read c.args.self.now.each c.args.extent c.index_mut-record.result.now inside
     (c.index_mut-record.ensures.value ∙ ap (λ t. get_or t.each c.args.extent c.index_mut-record.result.now) c.self.view_is) no_extent in
-    let names : c.as_slice.result.now ≡ names_behind c.args.self.now c.args.extent c.args.after.now = c.as_slice.ensures.value ∙ c.in_ok-names.ensures
+    let names : c.in_ok-names.names ≡ names_behind c.args.self.now c.args.extent c.args.after.now = c.in_ok-names.ensures
     ∙ ap (λ k. c.args.after.now ++ option_to_list k.reset) at in
     let count : c.touched-count.result ≡ touched (offset_at c.args.self.now c.args.extent) (length c.args.bytes.now) = c.touched-count.ensures
     ∙ ap (λ k. touched k.pointer.offset (length c.args.bytes.now)) at in
-    let numbers : c.as_slice-2.result.now ≡ range_with_len (length (entries_of run)) (touched (offset_at c.args.self.now c.args.extent) (length c.args.bytes.now)) =
-    c.as_slice-2.ensures.value ∙ c.in_ok-numbers.ensures ∙ ap (λ n. range_with_len n c.touched-count.result) (c.made.ensures.answer run h.cache_is)
+    let numbers : c.in_ok-numbers.numbers ≡ range_with_len (length (entries_of run)) (touched (offset_at c.args.self.now c.args.extent) (length c.args.bytes.now)) =
+    c.in_ok-numbers.ensures ∙ ap (λ n. range_with_len n c.touched-count.result) (c.made.ensures.answer run h.cache_is)
     ∙ ap (range_with_len (length (entries_of run))) count in
     let a = asked c.args.writer c.args.extent c.args.bytes.now c.args.after.now in
     let old = setting c.args.self.now c.args.groups.now c.args.cache.now in
@@ -84,7 +84,7 @@ returns-clause-answer g c run h =
     let patched = subst (λ ns. IsPatched (pointer_block s.geometry) (pointer_start e)
     (spelling (record { generation = generation_at s e; offset = offset_at s e + length bytes })) writer ns gs1 c1 gs2 c2 num) numbers
     (subst (λ (k : Extent). IsPatched (pointer_block s.geometry) (pointer_start e)
-    (spelling (record { generation = k.pointer.generation; offset = k.pointer.offset + length bytes })) writer c.as_slice-2.result.now gs1 c1 gs2 c2 num) at c.in_ok-no.ensures) in
+    (spelling (record { generation = k.pointer.generation; offset = k.pointer.offset + length bytes })) writer c.in_ok-numbers.numbers gs1 c1 gs2 c2 num) at c.in_ok-no.ensures) in
     let merged = subst (λ (k : Extent). MergesBehind k.point num c.merge_behind-merge.result c2 c.merge_behind-merge.new.cache) at c.merge_behind-merge.ensures in
     let x : Extent = record { pointer = record { generation = c.index.result.now.pointer.generation; offset = c.index.result.now.pointer.offset + length c.args.bytes.now }; reset = c.index_mut-record.result.now.reset; point = Some c.in_ok-no.no } in
     let some : (offset_at c.args.self.now c.args.extent + length c.args.bytes.now == 0) ≡ false = some_offset (offset_at c.args.self.now c.args.extent) (length c.args.bytes.now) c.requires.some in

@@ -9,4 +9,4 @@ abbrev pub invariant-loop-k : goal.invariant-loop-k
 invariant-loop-k g l =
     let old = setting l.self l.fn.groups l.fn.cache in
     (run : Execution) → IsSettingOf old run
-    → AreMade run l.writer [] (parts_of old (asked l.writer l.extent l.bytes l.names) l.k) old (setting l.self l.groups l.cache)
+    → AreMade run l.writer [] (parts_of old (asked l.writer l.extent l.bytes l.fn.names) l.k) old (setting l.self l.groups l.cache)

@@ -15,6 +15,6 @@ returns g c =
       upgrade = c.self.inside.upgrade;
       left = map (λ v. v.items) c.self.inside.left.items;
     } in
-    filled_view c.args.writer.now c.args.slot (fields_of c.args.entry.now) c.args.names.now c.in-Ok.field-0 _ _ _ c.self.view_is c.in-Ok.ensures
+    filled_view c.args.writer.now c.args.slot (fields_of c.args.entry.now) c.args.names c.in-Ok.field-0 _ _ _ c.self.view_is c.in-Ok.ensures
     (shelf_claimed s c.in-Ok.field-0 c.args.slot (fields_of c.args.entry.now) c.fill.new.self c.fill.ensures
     (ap (λ (x : Store). slot_at x.shelf c.args.slot) c.self.view_is ∙ c.requires.empty)) refl

@@ -26,7 +26,7 @@ returns g c =
       left = map (λ v. v.items) c.self.inside.left.items;
     } in
     let within : e < length c.self.inside.left.items = let l = c.in-Some-get_mut.ensures.variant.0 refl in let long = c.self.inside.left.ok.0 in omega (arith, l, long) in
-    cleared_view c.args.writer c.args.slot c.in-Ok-lay_slot.no c.as_slice-names.result.now _ _ _ c.self.view_is (c.as_slice-names.ensures.value ∙ c.in-Ok.ensures) c.in-Ok-lay_slot.ensures
+    cleared_view c.args.writer c.args.slot c.in-Ok-lay_slot.no c.in-Ok.names _ _ _ c.self.view_is c.in-Ok.ensures c.in-Ok-lay_slot.ensures
     (shelf_cleared s c.in-Ok-lay_slot.no c.args.slot (fields_of c.in-Some.entry) c.clear.new.self _ c.clear.ensures (sym c.entry.ensures ∙ ap told c.in-Some.is)
     (more_left (λ v. v.items) c.self.inside.left.items e c.in-Ok-lay_slot.no c.push_reserved.new.self c.in-Some-get_mut.left.now within
     (c.push_reserved.ensures.items ∙ ap (λ xs. xs ++ c.in-Ok-lay_slot.no ∷ []) c.reserve.ensures.items) c.in-Some-get_mut.ensures.value)) refl

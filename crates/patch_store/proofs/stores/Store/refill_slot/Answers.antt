@@ -29,7 +29,7 @@ returns g c =
       left = map (λ v. v.items) c.self.inside.left.items;
     } in
     let within : was.extent < length c.self.inside.left.items = let l = c.in-Some.ensures.variant.0 refl in let long = c.self.inside.left.ok.0 in omega (arith, l, long) in
-    filled_view c.args.writer.now c.args.slot (fields_of c.args.entry.now) c.args.names.now made _ _ _ c.self.view_is c.in-Ok-lay_slot.ensures
+    filled_view c.args.writer.now c.args.slot (fields_of c.args.entry.now) c.args.names made _ _ _ c.self.view_is c.in-Ok-lay_slot.ensures
     (shelf_refilled s made c.args.slot (fields_of was) (fields_of c.args.entry.now) c.fill.new.self _ c.fill.ensures
     (ap (λ (x : Store). slot_at x.shelf c.args.slot) c.self.view_is ∙ c.requires.used)
     (more_left (λ v. v.items) c.self.inside.left.items was.extent made c.push_reserved.new.self c.in-Some.left.now within
