@@ -1,9 +1,10 @@
 //! The cache, and what is read of it.
-ghost use Rattle.std.specs.Prelude.{◌≡◌, ◌<◌, ◌≤◌, [], None, length, replicate, map, count_by, IsTrue, IsSome, MatchOption, IfOk, OnOk, OnErr, Contains};
+ghost use Rattle.std.specs.Prelude.{◌≡◌, ◌<◌, ◌≤◌, ℕ, [], None, length, replicate, map, count_by, IsTrue, IsSome, MatchOption, IfOk, OnOk, OnErr, Contains};
 ghost use Rattle.patch_model.specs.Execution.{Execution};
 ghost use Rattle.patch_model.specs.State.{entries_of, state_of};
 ghost use Rattle.patch_model.specs.Entry.{Entry, is_live, is_memory};
 ghost use Rattle.patch_model.specs.StepOf.{step_of};
+ghost use Rattle.patch_model.specs.declared.patches.Mark.TheVariants.{Durable};
 ghost use Rattle.patch_graph.specs.Meaning.{HasMark};
 ghost use Rattle.patch_cache.specs.Contents.{drained};
 ghost use Rattle.patch_cache.specs.Meaning.{Represents};
@@ -116,6 +117,13 @@ impl<A: Allocator + Copy> Cache<A> {
         ensures { (run : Execution) → Represents self.now run → MatchOption result (length (entries_of run) ≤ no) (HasMark (entries_of run) no) }
     {
         self.graph.mark_of(no)
+    }
+
+    /// A number below which every patch is durable: who asks for the marks of many patches may pass over those below it.
+    pub fn durable_below(&self) -> u32
+        ensures { (run : Execution) → Represents self.now run → (n : ℕ) → n < result → HasMark (entries_of run) n Durable }
+    {
+        self.graph.durable_below()
     }
 
     /// The least block of which a write can begin. It takes no memory.

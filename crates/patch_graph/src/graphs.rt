@@ -1,6 +1,7 @@
 //! The graph of the classes that are live.
-ghost use Rattle.std.specs.Prelude.{◌≡◌, ◌<◌, ◌≤◌, ◌+◌, List, [], false, None, MatchOption, length, IfOk, OnOk, OnErr};
+ghost use Rattle.std.specs.Prelude.{◌≡◌, ◌<◌, ◌≤◌, ◌+◌, ℕ, List, [], false, None, MatchOption, length, IfOk, OnOk, OnErr};
 ghost use Rattle.patch_model.specs.Entry.{Entry};
+ghost use Rattle.patch_model.specs.declared.patches.Mark.TheVariants.{Durable};
 ghost use Rattle.patch_graph.specs.Meaning.{Represents, IsNotLive, IsLiveClass, HasMark};
 ghost use Rattle.patch_graph.specs.Showing.{IsShown};
 ghost use Rattle.patch_graph.specs.Between.{LacksAnEnd, TellsLeastBetween, TellsReach};
@@ -243,5 +244,13 @@ impl<A: Allocator + Copy> Graph<A> {
             Some(key) => self.register.mark_at(key),
             None => Some(Mark::Durable),
         }
+    }
+
+    /// A number below which every patch is durable: who asks for the marks of many patches may pass over those below it. As a
+    /// completion leaves it, the first that is live has this number, or the next one to be made.
+    pub fn durable_below(&self) -> u32
+        ensures { (all : List Entry) → Represents self.now all → (n : ℕ) → n < result → HasMark all n Durable }
+    {
+        self.register.lowest().min(self.register.made())
     }
 }

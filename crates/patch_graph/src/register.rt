@@ -1,5 +1,5 @@
 //! The register of the live classes: where each is found.
-ghost use Rattle.std.specs.Prelude.{◌≡◌, []};
+ghost use Rattle.std.specs.Prelude.{◌≡◌, ◌<◌, ℕ, [], None};
 ghost use Rattle.std.specs.Option.{option_map, option_copied};
 ghost use Rattle.patch_links.specs.State.{find, class_at};
 ghost use Rattle.patch_graph.specs.Showing.{shown};
@@ -57,6 +57,13 @@ impl<A: Allocator> Register<A> {
         ensures { result ≡ find self.now.numbers no }
     {
         self.links.find(no)
+    }
+
+    /// A number below which no patch is live.
+    pub fn lowest(&self) -> u32
+        ensures { (n : ℕ) → n < result → find self.now.numbers n ≡ None }
+    {
+        self.links.lowest()
     }
 
     /// The class at a key.

@@ -6,6 +6,7 @@ pub mod Ranges
 pub mod Arranging
 pub mod Entering
 pub mod Pending
+pub mod Below
 pub mod Passing
 pub mod Patching
 pub mod Writing

@@ -73,7 +73,7 @@ none_first p n ns none = elim (cases_Bool (p n)) [
   | inr f ↦ (let all = one_first p n ns in let one : cond {A = ℕ} (p n) 1 0 ≡ 0 = rw f refl in (f, omega (arith, all, one, none)))
 ]
 
-none_more : (p : ℕ → Bool) (n : ℕ) (ns : List ℕ) → p n ≡ false → count_by p ns ≡ 0 → count_by p (n ∷ ns) ≡ 0
+pub none_more : (p : ℕ → Bool) (n : ℕ) (ns : List ℕ) → p n ≡ false → count_by p ns ≡ 0 → count_by p (n ∷ ns) ≡ 0
 none_more p n ns f rest = let all = one_first p n ns in let one : cond {A = ℕ} (p n) 1 0 ≡ 0 = rw f refl in omega (arith, all, one, rest)
 
 -- what doesn't pass one test doesn't pass the other

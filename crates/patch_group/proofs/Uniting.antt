@@ -14,7 +14,7 @@ use Rattle.patch_group.proofs.Arranging.{AreRising, rising_same, rising-rises}
 use Rattle.patch_plans.specs.Members.{In-append_left, In-append_right, append-In, In-rising, rising-In, In-flat_map, flat_map-In}
 use Rattle.patch_group.proofs.Ranges.{patches_in-push}
 
-range-In : (a n x : ℕ) → In (range_with_len a n) x → (a ≤ x) × (x < a + n)
+pub range-In : (a n x : ℕ) → In (range_with_len a n) x → (a ≤ x) × (x < a + n)
 range-In a zero x i = absurd i
 range-In a (suc n) x (inl e) = (omega (arith, e), omega (arith, e))
 range-In a (suc n) x (inr i) = let r = range-In (a + 1) n x i in (omega (arith, r.0), omega (arith, r.1))
@@ -62,7 +62,7 @@ pub record AreListed (runs : List Run) (at : ℕ) (listed : List ℕ) (next : �
 pub none_listed : (runs : List Run) → AreListed runs 0 [] 0
 none_listed runs = record { rises = tt; below = λ x i. absurd i; from = λ x i. i; all = λ x i. i; over = λ j d x p q low high. absurd (omega (arith, high)) }
 
-numbers-In : (r : Run) (x : ℕ) → In (numbers_of r) x → (first_of r ≤ x) × (x ≤ r.last)
+pub numbers-In : (r : Run) (x : ℕ) → In (numbers_of r) x → (first_of r ≤ x) × (x ≤ r.last)
 numbers-In r x i = elim (append-In (range_with_len r.first (r.last - r.first)) (r.last ∷ []) x i) [
   | inl j ↦ let at = range-In r.first (r.last - r.first) x j in (omega (arith, at.0), omega (arith, at.0, at.1))
   | inr j ↦ elim j [ inl e ↦ (omega (arith, e), omega (arith, e)) | inr none ↦ absurd none ]

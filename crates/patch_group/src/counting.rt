@@ -8,6 +8,7 @@ ghost use Rattle.patch_plans.specs.Groups.{why_not_counted, pending};
 ghost use Rattle.patch_plans.specs.Groups as groups;
 ghost use Rattle.patch_plans.specs.Order.{AreGroupsOf};
 ghost use Rattle.patch_group.specs.Records.{numbers_of, patches_in};
+ghost use Rattle.patch_group.specs.Pending.{NonePendingBelow};
 ghost use Rattle.patch_group.specs.Refusals.{group_cause};
 
 use crate::calls::Groups;
@@ -41,20 +42,26 @@ fn count_pending<A: Allocator + Copy>(cache: &Cache<A>, runs: &[Run]) -> u32
     ensures { (run : Execution) → Represents cache.now run
         → result ≡ min (count_by (groups.is_pending (entries_of run)) (patches_in runs.now)) 4294967295 }
 {
+    let from = none_pending_below(cache);
     let mut count = 0;
     for run in runs {
-        count = count_run(cache, run, count);
+        count = count_run(cache, run, from, count);
     }
     count
 }
 
-/// The count with those of one run.
-fn count_run<A: Allocator + Copy>(cache: &Cache<A>, numbers: &Run, before: u32) -> u32
+/// The count with those of one run. None below `from` is looked at.
+fn count_run<A: Allocator + Copy>(cache: &Cache<A>, numbers: &Run, from: u32, before: u32) -> u32
+    requires { (run : Execution) → Represents cache.now run → NonePendingBelow run from }
     ensures { (run : Execution) → Represents cache.now run
         → result ≡ min (before + count_by (groups.is_pending (entries_of run)) (numbers_of numbers.now)) 4294967295 }
 {
+    if numbers.last < from {
+        return before;
+    }
     let mut count = before;
-    for no in numbers.first..numbers.last {
+    let first = numbers.first.max(from);
+    for no in first..numbers.last {
         count = count_if_pending(cache, PatchNo(no), count);
     }
     count_if_pending(cache, PatchNo(numbers.last), count)
@@ -70,6 +77,15 @@ fn count_if_pending<A: Allocator + Copy>(cache: &Cache<A>, no: PatchNo, before: 
     } else {
         before
     }
+}
+
+/// A number below which no patch is pending: each that was made is on the disk. So of a group only those from there on are looked
+/// at, however many it ever had.
+pub(crate) fn none_pending_below<A: Allocator + Copy>(cache: &Cache<A>) -> u32
+    ensures { (run : Execution) → Represents cache.now run → NonePendingBelow run result }
+{
+    model_laws::executions_are_orderly();
+    cache.durable_below()
 }
 
 /// Whether a patch was made and isn't on the disk yet.

@@ -6,9 +6,10 @@ ghost use Rattle.patch_cache.specs.Meaning.{Represents};
 ghost use Rattle.patch_plans.specs.Groups.{patches_of};
 ghost use Rattle.patch_plans.specs.Groups as groups;
 ghost use Rattle.patch_group.specs.Records.{numbers_of, patches_in};
+ghost use Rattle.patch_group.specs.Pending.{NonePendingBelow};
 
 use crate::calls::Groups;
-use crate::counting::is_pending;
+use crate::counting::{is_pending, none_pending_below};
 use crate::records::Run;
 use patch_cache::Cache;
 use patch_model::{GroupNo, OutOfMemory, PatchNo};
@@ -41,22 +42,29 @@ fn wait_for_each<A: Allocator + Copy>(
     ensures { (run : Execution) → Represents cache.now run
         → OnOk result (waiting.new.items ≡ waiting.old.items ++ filter (groups.is_pending (entries_of run)) (patches_in runs.now)) }
 {
+    let from = none_pending_below(cache);
     for run in runs {
-        wait_for_run(cache, run, waiting)?;
+        wait_for_run(cache, run, from, waiting)?;
     }
     Ok(())
 }
 
-/// Puts the pending patches of one run behind those that are listed.
+/// Puts the pending patches of one run behind those that are listed. None below `from` is looked at.
 fn wait_for_run<A: Allocator + Copy>(
     cache: &Cache<A>,
     numbers: &Run,
+    from: u32,
     waiting: &mut Vec<PatchNo, A>,
 ) -> Result<(), OutOfMemory>
+    requires { (run : Execution) → Represents cache.now run → NonePendingBelow run from }
     ensures { (run : Execution) → Represents cache.now run
         → OnOk result (waiting.new.items ≡ waiting.old.items ++ filter (groups.is_pending (entries_of run)) (numbers_of numbers.now)) }
 {
-    for no in numbers.first..numbers.last {
+    if numbers.last < from {
+        return Ok(());
+    }
+    let first = numbers.first.max(from);
+    for no in first..numbers.last {
         wait_if_pending(cache, PatchNo(no), waiting)?;
     }
     wait_if_pending(cache, PatchNo(numbers.last), waiting)

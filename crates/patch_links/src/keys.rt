@@ -21,6 +21,8 @@ pub struct Keys<A: Allocator = Global> {
     first: u32,
     /// No number below this one leads anywhere.
     lowest: u32,
+    /// One above the greatest number that ever led somewhere, if there is a number above it.
+    end: u32,
 }
 
 impl<A: Allocator> Model for Keys<A> {
@@ -46,6 +48,7 @@ impl<A: Allocator + Copy> Keys<A> {
             gone: 0,
             first: 0,
             lowest: 0,
+            end: 0,
         }
     }
 }
@@ -152,6 +155,7 @@ impl<A: Allocator> Keys<A> {
     {
         let count = (self.map.len() & 0xFFFF_FFFF) as u32;
         self.first = no.0.wrapping_sub(count);
+        self.end = self.end.max(no.0.saturating_add(1));
         self.lead(no, Some(key));
     }
 
@@ -178,12 +182,23 @@ impl<A: Allocator> Keys<A> {
         self.pass_gone();
     }
 
-    /// Passes over the lowest number, if it leads nowhere. One at a time: those behind it are passed over as more are taken away.
+    /// Passes over all numbers from the lowest on that lead nowhere, up to the greatest that ever led somewhere. None is passed
+    /// over twice, so that takes a few instructions a patch in all.
     fn pass_gone(&mut self)
         ensures { self.new ≡ self.old }
     {
-        if self.get(PatchNo(self.lowest)).is_none() {
-            self.lowest = self.lowest.saturating_add(1);
+        self.lowest = self.first_leading();
+    }
+
+    /// The first number that leads somewhere, or one behind all that ever did.
+    fn first_leading(&self) -> u32
+        ensures { (n : ℕ) → n < result → find self.now.numbers n ≡ None }
+    {
+        for no in self.lowest..self.end {
+            if self.get(PatchNo(no)).is_some() {
+                return no;
+            }
         }
+        self.lowest.max(self.end)
     }
 }

@@ -1,5 +1,5 @@
 //! The live classes of all blocks.
-ghost use Rattle.std.specs.Prelude.{◌≡◌, [], IfOk, OnOk, OnErr, false, true, is_some};
+ghost use Rattle.std.specs.Prelude.{◌≡◌, ◌<◌, ℕ, [], None, IfOk, OnOk, OnErr, false, true, is_some};
 ghost use Rattle.std.specs.Option.{option_copied};
 ghost use Rattle.patch_links.specs.State.{find, class_at};
 ghost use Rattle.patch_links.specs.Ready.{AreReady, TellsReady, TellsEmpty};
@@ -109,6 +109,13 @@ impl<A: Allocator> Links<A> {
         ensures { result ≡ find self.now.numbers no }
     {
         find(&self.keys, no)
+    }
+
+    /// A number below which no patch is live: as a landing leaves it, the least live one, or where there is none one above the newest.
+    pub fn lowest(&self) -> u32
+        ensures { (n : ℕ) → n < result → find self.now.numbers n ≡ None }
+    {
+        self.keys.lowest()
     }
 
     /// The key that the next class gets.
