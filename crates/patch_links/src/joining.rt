@@ -13,7 +13,7 @@ use crate::admitting::admit_all;
 use crate::keys::Keys;
 use crate::leaving::withdraw;
 use crate::lists::{Blocks, OfBlock};
-use crate::nodes::{Class, Node, Nodes, block_at, find, is_due, is_ready};
+use crate::nodes::{Class, Node, Nodes, block_at, find, is_due, is_ready, note_place};
 use patch_model::{BlockNo, Mark, PatchNo};
 use patch_numbers::NumberList;
 use std::alloc::{AllocError, Allocator};
@@ -182,25 +182,36 @@ fn members<A: Allocator>(node: &Node<A>) -> &[PatchNo]
     node.class.members.as_slice()
 }
 
-/// The block's lists once the two classes are one. Whether both were in the ready set.
+/// Notes the place of the key that stands there now, if there is one.
+fn renote<A: Allocator>(nodes: &mut Nodes<A>, list: &OfBlock<A>, place: usize)
+    ensures { nodes.new.slots ≡ nodes.old.slots }
+{
+    if let Some(key) = list.ready().get(place) {
+        note_place(nodes, *key, place);
+    }
+}
+
+/// The block's lists once the other class is part of that at the key `keep`.
 fn relist<A: Allocator>(
-    nodes: &Nodes<A>,
+    nodes: &mut Nodes<A>,
     list: &mut OfBlock<A>,
     block: BlockNo,
     keep: usize,
     gone: usize,
-    ready: bool,
+    other: &Node<A>,
 )
-    requires { IsRelisting block keep gone ready nodes.now.slots list.old }
-    ensures { IsListed block nodes.now.slots list.new }
+    requires { IsRelisting block keep gone other.now.ready nodes.old.slots list.old }
+    ensures same { nodes.new.slots ≡ nodes.old.slots }
+    ensures listed { IsListed block nodes.new.slots list.new }
 {
-    if ready {
-        list.leave_ready(gone);
-    } else {
-        list.leave_waiting(keep, gone);
-        if is_due(nodes, keep) {
-            list.push(keep);
-        }
+    if other.ready {
+        let place = list.leave_ready(gone, other.place);
+        renote(nodes, list, place);
+        return;
+    }
+    list.leave_waiting(keep, gone);
+    if is_due(nodes, keep) {
+        list.push(keep);
     }
 }
 
@@ -235,7 +246,7 @@ fn join_alike<A: Allocator + Copy>(
     }
     remove(nodes, gone);
     redirect(keys, members(&other), keep);
-    relist(nodes, list, block, keep, gone, other.ready);
+    relist(nodes, list, block, keep, gone, &other);
     Ok(())
 }
 

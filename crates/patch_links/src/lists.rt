@@ -1,7 +1,7 @@
 //! Which of each block's classes are ready, and which in flight.
 ghost use Rattle.std.specs.Prelude.{◌≡◌, ◌≢◌, ◌<◌, ◌≤◌, ◌+◌, ◌-◌, ◌==◌, ◌++◌, ◌∷◌, [], ℕ, length, filter, not, slice_index_or, Some, None, IfOk, OnOk, OnErr, IsSome, IfSome, IfNone, take, drop, vec_capacity};
-ghost use Rattle.patch_links.specs.Lists.{of_at, pushed, times, ChangesOf, LosesFlying};
-ghost use Rattle.patch_links.specs.Joining.{is_neither, is_another};
+ghost use Rattle.patch_links.specs.Lists.{of_at, pushed, times, once, ChangesOf, LosesFlying};
+ghost use Rattle.patch_links.specs.Joining.{is_neither};
 ghost use Rattle.patch_links.specs.Leaving.{HasLeft, LosesLast};
 
 use std::alloc::{AllocError, Allocator, Global};
@@ -208,14 +208,19 @@ impl<A: Allocator> OfBlock<A> {
         self.count = self.count.saturating_sub(1);
     }
 
-    /// One class fewer, since one of the ready set is part of another one from now on.
-    pub fn leave_ready(&mut self, gone: usize)
-        ensures ready { self.new.ready ≡ filter (is_another gone) self.old.ready }
+    /// One class fewer, since one of the ready set, which has all keys, is part of another one from now on. The last key takes
+    /// the place of its key, which is told.
+    pub fn leave_ready(&mut self, gone: usize, hint: usize) -> usize
+        requires within { self.old.done ≤ length self.old.ready }
+        requires some { 0 < times (take self.old.done self.old.ready) gone }
+        ensures less { (k : ℕ) → times self.new.ready k + once (gone == k) ≡ times self.old.ready k }
         ensures rest { self.new ≡ record self.old { ready = self.new.ready; done = length self.new.ready; count = self.old.count - 1 } }
     {
-        self.ready.retain(|key| *key != gone);
+        let place = self.place_of(gone, hint);
+        self.ready.swap_remove(place);
         self.done = self.ready.len();
         self.count = self.count.saturating_sub(1);
+        place
     }
 }
 
