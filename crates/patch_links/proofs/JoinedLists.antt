@@ -11,8 +11,8 @@ use Rattle.patch_links.specs.State.{Node, Nodes, Numbers, node_at, is_at}
 use Rattle.patch_links.specs.Waiting.{of_block, ready_in, is_due}
 use Rattle.patch_links.specs.Lists.{OfBlock, times, once, due_in, flying_in, classes_of, IsListed, IsSettled, pushed}
 use Rattle.patch_links.specs.Merging.{may_join}
-use Rattle.patch_links.specs.Joining.{inner, IsNodeJoined, is_neither, is_another}
-use Rattle.patch_links.proofs.Counts.{count-cons, count-last, count-zero}
+use Rattle.patch_links.specs.Joining.{inner, IsNodeJoined, is_neither}
+use Rattle.patch_links.proofs.Counts.{count-cons, count-last, count-zero, once-most}
 use Rattle.patch_links.proofs.Places.{is-at, below-nodes, passes, count-free}
 use Rattle.patch_links.proofs.Listings.{AreAlike, ready-most}
 use Rattle.patch_links.proofs.Landings.{ready-due}
@@ -53,10 +53,6 @@ take-kept p (x ∷ xs) (suc i) h f =
 -- one class fewer, and neither of the keys among those that nothing keeps out
 abbrev pub without_both : ℕ → ℕ → OfBlock → OfBlock
 without_both keep gone of = record of { ready = filter (is_neither keep gone) of.ready; count = of.count - 1 }
-
--- one class fewer, and its key not in the ready set, which has all the others
-abbrev pub without_ready : ℕ → OfBlock → OfBlock
-without_ready gone of = record of { ready = filter (is_another gone) of.ready; done = length (filter (is_another gone) of.ready); count = of.count - 1 }
 
 module _ (block keep gone : ℕ) (x y : Node) (old new : Nodes) (numbers : Numbers) (apart : keep ≢ gone) (at-keep : node_at old keep ≡ Some x) (at-gone : node_at old gone ≡ Some y)
     (joined : IsNodeJoined keep gone x y numbers old new) (may : may_join x.class y.class ≡ true) (of-block : x.class.block ≡ block) where
@@ -242,32 +238,38 @@ module _ (block keep gone : ℕ) (x y : Node) (old new : Nodes) (numbers : Numbe
     ready-keep = is-at (ready_in block) new keep z joined.here ∙ and_from _ _ (eq-eqb z.class.block block block-z) (joined.ready ∙ on)
         ∙ sym (is-at (ready_in block) old keep x at-keep ∙ and_from _ _ (eq-eqb x.class.block block of-block) on)
 
-    another-gone : is_another gone gone ≡ false
-    another-gone = ap not (eq-eqb gone gone refl)
+    module _ (now : OfBlock) (less : (k : ℕ) → times now.ready k + once (gone == k) ≡ times of.ready k) (rest : now ≡ record of { ready = now.ready; done = length now.ready; count = of.count - 1 }) where
+      by-test : (test : Node → Bool) → ((k : ℕ) → times of.ready k ≡ once (is_at test old k)) → is_at test new keep ≡ is_at test old keep → (k : ℕ) → times now.ready k ≡ once (is_at test new k)
+      by-test test holds same k =
+          let a = less k in
+          let b = holds k in
+          elim (cases_eq k gone) [
+            | inl e ↦
+                let one : once (gone == k) ≡ 1 = ap once (eq-eqb gone k (sym e)) in
+                let most = once-most (is_at test old k) in
+                let none : once (is_at test new k) ≡ 0 = ap once (ap (is_at test new) e ∙ test-gone test) in omega arith
+            | inr g ↦
+                let z : once (gone == k) ≡ 0 = ap once (ne_eqb gone k (λ e. g (sym e))) in
+                let alike : is_at test new k ≡ is_at test old k = elim (cases_eq k keep) [ inl e ↦ rw e same | inr d ↦ test-else test k d g ] in
+                let as_often : once (is_at test new k) ≡ once (is_at test old k) = ap once alike in omega arith
+          ]
 
-    by-test : (test : Node → Bool) → ((k : ℕ) → times of.ready k ≡ once (is_at test old k)) → is_at test new keep ≡ is_at test old keep
-        → (k : ℕ) → times (filter (is_another gone) of.ready) k ≡ once (is_at test new k)
-    by-test test holds same k = elim (cases_eq k gone) [
-      | inl e ↦ rw e (times-left (is_another gone) of.ready gone another-gone ∙ sym (ap once (test-gone test)))
-      | inr g ↦ times-kept (is_another gone) of.ready k (ap not (ne_eqb k gone g)) ∙ holds k ∙ ap once (elim (cases_eq k keep) [
-        | inl e ↦ rw e (sym same)
-        | inr d ↦ sym (test-else test k d g)
-      ])
-    ]
-
-    pub listed-ready : IsListed block new (without_ready gone of)
-    listed-ready =
-        let fewer = one-fewer in
-        let counted = l.counted in
-        let r = l.room_ready in
-        let f = l.room_flying in
-        let rest : List ℕ = filter (is_another gone) of.ready in
-        record {
-          due = by-test (due_in block) l.due (due-joint ∙ sym due-before);
-          ready = λ k. ap (λ xs. times xs k) (take_all (length rest) rest (omega arith)) ∙ by-test (ready_in block) (settled-holds block old of l settled) ready-keep k;
-          flying = λ k. l.flying k ∙ sym (ap once (flying-same k));
-          counted = omega arith;
-          within = omega arith;
-          room_ready = omega arith;
-          room_flying = omega arith;
-        }
+      pub listed-ready : IsListed block new now
+      listed-ready =
+          let fewer = one-fewer in
+          let counted = l.counted in
+          let r = l.room_ready in
+          let f = l.room_flying in
+          let done : now.done ≡ length now.ready = ap (λ o. o.done) rest in
+          let count : now.count ≡ of.count - 1 = ap (λ o. o.count) rest in
+          let room_one : now.room_ready ≡ of.room_ready = ap (λ o. o.room_ready) rest in
+          let room_two : now.room_flying ≡ of.room_flying = ap (λ o. o.room_flying) rest in
+          record {
+            due = by-test (due_in block) l.due (due-joint ∙ sym due-before);
+            ready = λ k. ap (λ xs. times xs k) (take_all now.done now.ready (omega arith)) ∙ by-test (ready_in block) (settled-holds block old of l settled) ready-keep k;
+            flying = λ k. ap (λ o. times o.flying k) rest ∙ l.flying k ∙ sym (ap once (flying-same k));
+            counted = omega arith;
+            within = omega arith;
+            room_ready = omega arith;
+            room_flying = omega arith;
+          }

@@ -16,7 +16,8 @@ pub mod Joins
 pub mod JoinedLists
 pub mod Redirecting
 pub mod Orders
-pub mod Leveling
+pub mod Swaps
+pub mod Withdrawals
 pub mod Relisting
 pub mod Pairs
 pub mod Following

@@ -133,28 +133,49 @@ lower-owed numbers from block nodes n rest debt h key y at =
           rw is (let e : x.waits ≡ unmet_of new numbers key x.class + (debt key x.class + passed_by numbers from block rest key x.class) = omega arith in e)
     ]
 
+-- what classes owe, told in another way
+pub owing-alike : (nodes : Nodes) (numbers : Numbers) (debt other : ℕ → Class → ℕ) → ((key : ℕ) (c : Class) → debt key c ≡ other key c) → AreOwing nodes numbers debt → AreOwing nodes numbers other
+owing-alike nodes numbers debt other same h key x at = ap (λ n. x.waits + n) (sym (same key x.class)) ∙ h key x at
+
+-- a class that owes a number waits for one more once it is raised
+pub raised-up : (numbers : Numbers) (from block : ℕ) (nodes : Nodes) (n : ℕ) (rest : List ℕ) (debt : ℕ → Class → ℕ) (key : ℕ) (x : Node)
+    → AreOwing nodes numbers (λ k c. debt k c + passed_by numbers from block (n ∷ rest) k c) → node_at nodes key ≡ Some x → touches numbers from block n key x ≡ true → raised x ≡ record x { waits = x.waits + 1 }
+raised-up numbers from block nodes n rest debt key x h at t =
+    let owed = h key x at in
+    let cons = passed_by-cons numbers from block n rest key x in
+    let most : unmet_of nodes numbers key x.class ≤ length x.class.after = count_by-le-length (is_unmet nodes numbers key x.class.block) x.class.after in
+    let one : once (touches numbers from block n key x) ≡ 1 = ap once t in
+    let low : nat_lt x.waits (length x.class.after) ≡ true = lt-ltb x.waits (length x.class.after) (omega arith) in
+    ap (λ b. record x { waits = if b then x.waits + 1 else x.waits }) low
+
 -- one number is raised
-pub raise-owing : (numbers : Numbers) (from block : ℕ) (nodes : Nodes) (n : ℕ) (rest : List ℕ) → AreOwing nodes numbers (passed_by numbers from block (n ∷ rest))
-    → AreOwing (passed_to raised numbers from block nodes n) numbers (passed_by numbers from block rest)
-raise-owing numbers from block nodes n rest h key y at =
+pub raise-more : (numbers : Numbers) (from block : ℕ) (nodes : Nodes) (n : ℕ) (rest : List ℕ) (debt : ℕ → Class → ℕ)
+    → AreOwing nodes numbers (λ key c. debt key c + passed_by numbers from block (n ∷ rest) key c)
+    → AreOwing (passed_to raised numbers from block nodes n) numbers (λ key c. debt key c + passed_by numbers from block rest key c)
+raise-more numbers from block nodes n rest debt h key y at =
     let new : Nodes = passed_to raised numbers from block nodes n in
     let was = now-was (λ x. if touches numbers from block n key x then raised x else x) (node_at nodes key) (node_at new key) y (passed-at raised numbers from block nodes n key) at in
     let x = was.0 in
     let owed = h key x was.1 in
     let cons = passed_by-cons numbers from block n rest key x in
     let same = unmet-alike nodes new numbers key x.class (λ j. ready-passed raised numbers from block nodes n x.class.block j (λ z. refl)) in
-    let most : unmet_of nodes numbers key x.class ≤ length x.class.after = count_by-le-length (is_unmet nodes numbers key x.class.block) x.class.after in
     elim (cases_Bool (touches numbers from block n key x)) [
       | inl t ↦
           let one : once (touches numbers from block n key x) ≡ 1 = ap once t in
-          let low : nat_lt x.waits (length x.class.after) ≡ true = lt-ltb x.waits (length x.class.after) (omega arith) in
-          let is : y ≡ record x { waits = x.waits + 1 } = was.2 ∙ ap (λ b. if b then raised x else x) t ∙ ap (λ b. record x { waits = if b then x.waits + 1 else x.waits }) low in
-          rw is (let e : x.waits + 1 + passed_by numbers from block rest key x.class ≡ unmet_of new numbers key x.class = omega arith in e)
+          let is : y ≡ record x { waits = x.waits + 1 } = was.2 ∙ ap (λ b. if b then raised x else x) t ∙ raised-up numbers from block nodes n rest debt key x h was.1 t in
+          rw is (let e : x.waits + 1 + (debt key x.class + passed_by numbers from block rest key x.class) ≡ unmet_of new numbers key x.class = omega arith in e)
       | inr t ↦
-          let is : y ≡ x = was.2 ∙ ap (λ b. if b then raised x else x) t in
           let one : once (touches numbers from block n key x) ≡ 0 = ap once t in
-          rw is (let e : x.waits + passed_by numbers from block rest key x.class ≡ unmet_of new numbers key x.class = omega arith in e)
+          let is : y ≡ x = was.2 ∙ ap (λ b. if b then raised x else x) t in
+          rw is (let e : x.waits + (debt key x.class + passed_by numbers from block rest key x.class) ≡ unmet_of new numbers key x.class = omega arith in e)
     ]
+
+-- the same where nothing else is owed
+pub raise-owing : (numbers : Numbers) (from block : ℕ) (nodes : Nodes) (n : ℕ) (rest : List ℕ) → AreOwing nodes numbers (passed_by numbers from block (n ∷ rest))
+    → AreOwing (passed_to raised numbers from block nodes n) numbers (passed_by numbers from block rest)
+raise-owing numbers from block nodes n rest h =
+    owing-alike (passed_to raised numbers from block nodes n) numbers (λ key c. 0 + passed_by numbers from block rest key c) (passed_by numbers from block rest) (λ key c. omega arith)
+    (raise-more numbers from block nodes n rest (λ key c. 0) (owing-alike nodes numbers (passed_by numbers from block (n ∷ rest)) (λ key c. 0 + passed_by numbers from block (n ∷ rest) key c) (λ key c. omega arith) h))
 
 -- of the block, the class at the key is in the ready set of the one nodes and not of the others, and no other class differs
 pub record IsFlipped (j block : ℕ) (lo hi : Nodes) : Type 0 where
@@ -278,17 +299,24 @@ owed-ready nodes numbers j block debt of off linked owed key y at =
     rw class (let e : y.waits ≡ unmet_of new numbers key x.class + (debt key x.class + passed_by numbers j block (followers_at nodes j) key x.class) = omega arith in e)
 
 -- the class leaves the ready set, and what depends on it waits for it, once it was told
-pub owing-unready : (nodes : Nodes) (numbers : Numbers) (j block : ℕ) → is_at (of_block block) nodes j ≡ true → is_at (ready_in block) nodes j ≡ true
-    → AreLinked nodes numbers → AreCounted nodes numbers → AreOwing (changed_at unreadied nodes j) numbers (passed_by numbers j block (followers_at nodes j))
-owing-unready nodes numbers j block of on linked owed key y at =
+pub unready-more : (nodes : Nodes) (numbers : Numbers) (j block : ℕ) (debt : ℕ → Class → ℕ) → is_at (of_block block) nodes j ≡ true → is_at (ready_in block) nodes j ≡ true
+    → AreLinked nodes numbers → AreOwing nodes numbers debt → AreOwing (changed_at unreadied nodes j) numbers (λ key c. debt key c + passed_by numbers j block (followers_at nodes j) key c)
+unready-more nodes numbers j block debt of on linked owing key y at =
     let new : Nodes = changed_at unreadied nodes j in
     let was = now-was (λ x. if key == j then unreadied x else x) (node_at nodes key) (node_at new key) y (changed-at unreadied nodes j key) at in
     let x = was.0 in
     let class : y.class ≡ x.class = ap (λ z. z.class) was.2 ∙ kept-if (λ z. z.class) unreadied (key == j) x refl in
     let waits : y.waits ≡ x.waits = ap (λ z. z.waits) was.2 ∙ kept-if (λ z. z.waits) unreadied (key == j) x refl in
-    let o = owed key x was.1 in
+    let o = owing key x was.1 in
     let m = unmet-moves j block new nodes numbers (followers_at nodes j) key x.class (flipped-out nodes j block of on) (link-at nodes numbers j key block x of linked was.1) in
-    rw class (let e : y.waits + passed_by numbers j block (followers_at nodes j) key x.class ≡ unmet_of new numbers key x.class = omega arith in e)
+    rw class (let e : y.waits + (debt key x.class + passed_by numbers j block (followers_at nodes j) key x.class) ≡ unmet_of new numbers key x.class = omega arith in e)
+
+-- the same where nothing is owed yet
+pub owing-unready : (nodes : Nodes) (numbers : Numbers) (j block : ℕ) → is_at (of_block block) nodes j ≡ true → is_at (ready_in block) nodes j ≡ true
+    → AreLinked nodes numbers → AreCounted nodes numbers → AreOwing (changed_at unreadied nodes j) numbers (passed_by numbers j block (followers_at nodes j))
+owing-unready nodes numbers j block of on linked counted =
+    owing-alike (changed_at unreadied nodes j) numbers (λ key c. 0 + passed_by numbers j block (followers_at nodes j) key c) (passed_by numbers j block (followers_at nodes j)) (λ key c. omega arith)
+    (unready-more nodes numbers j block (λ key c. 0) of on linked (λ key x at. let c = counted key x at in omega arith))
 
 pub owed-alike : (nodes : Nodes) (numbers : Numbers) (debt other : ℕ → Class → ℕ) → ((key : ℕ) (c : Class) → debt key c ≡ other key c) → AreOwed nodes numbers debt → AreOwed nodes numbers other
 owed-alike nodes numbers debt other same h key x at = h key x at ∙ ap (λ n. unmet_of nodes numbers key x.class + n) (same key x.class)

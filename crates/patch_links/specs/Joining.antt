@@ -25,9 +25,6 @@ pub record IsNodeJoined (keep gone : ℕ) (x y : Node) (numbers : Numbers) (old 
 abbrev pub is_neither : ℕ → ℕ → ℕ → Bool
 is_neither keep gone key = not (key == keep) && not (key == gone)
 
-abbrev pub is_another : ℕ → ℕ → Bool
-is_another gone key = not (key == gone)
-
 -- members, followers and counts agree
 pub record AreTied (nodes : Nodes) (numbers : Numbers) : Type 0 where
   pub members : AreMembers nodes numbers

@@ -7,6 +7,7 @@ pub mod MarkFlight
 pub mod MarkDurable
 pub mod Merging
 pub mod Joining
+pub mod Leaving
 pub mod Adding
 pub mod Following
 pub mod Keys

@@ -330,6 +330,7 @@ where
     Node {
         class,
         ready: false,
+        place: 0,
         waits,
         followers: NumberList::new(alloc),
     }

@@ -115,8 +115,9 @@ fn admit_next<A: Allocator>(
     ensures rest { KeepsRest block nodes.old.slots nodes.new.slots }
     ensures owed { KeepsOwed keys.now.numbers nodes.old.slots nodes.new.slots }
 {
+    let place = list.done();
     let key = list.next();
-    put_ready(nodes, key);
+    put_ready(nodes, key, place);
     pay_all(nodes, keys, list, key, block);
 }
 

@@ -1,8 +1,8 @@
 //! Two classes made one.
 ghost use Rattle.std.specs.Prelude.{None, [], ◌≡◌, ◌≢◌, ◌+◌, ◌≤◌, ◌++◌, ◌==◌, ℕ, false, min, length, count_by, if◌then◌else◌, Some, OnOk, OnErr};
 ghost use Rattle.std.specs.Option.{option_map};
-ghost use Rattle.patch_links.specs.State.{Node as SeenNode, find, leads_at, node_at, slots_of, is_at, changed_at};
-ghost use Rattle.patch_links.specs.Waiting.{ready_in, AreCounted};
+ghost use Rattle.patch_links.specs.State.{Node as SeenNode, find, leads_at, node_at, slots_of, changed_at};
+ghost use Rattle.patch_links.specs.Waiting.{AreCounted};
 ghost use Rattle.patch_links.specs.Lists.{IsListed, IsSettled, AreListed, AreSettled};
 ghost use Rattle.patch_links.specs.Standing.{AreBelow, KeepsRest, Stands};
 ghost use Rattle.patch_links.specs.Merging.{may_join, may_join_at, AreRedirected};
@@ -10,10 +10,10 @@ ghost use Rattle.patch_links.specs.Joining.{FitsAt, may_join_with, may_join_both
 
 use crate::adding::alone;
 use crate::admitting::admit_all;
-use crate::flying::take_out;
 use crate::keys::Keys;
+use crate::leaving::withdraw;
 use crate::lists::{Blocks, OfBlock};
-use crate::nodes::{Class, Node, Nodes, block_at, find, is_due, is_ready};
+use crate::nodes::{Class, Node, Nodes, block_at, find, is_due, is_ready, note_place};
 use patch_model::{BlockNo, Mark, PatchNo};
 use patch_numbers::NumberList;
 use std::alloc::{AllocError, Allocator};
@@ -182,25 +182,36 @@ fn members<A: Allocator>(node: &Node<A>) -> &[PatchNo]
     node.class.members.as_slice()
 }
 
-/// The block's lists once the two classes are one. Whether both were in the ready set.
+/// Notes the place of the key that stands there now, if there is one.
+fn renote<A: Allocator>(nodes: &mut Nodes<A>, list: &OfBlock<A>, place: usize)
+    ensures { nodes.new.slots ≡ nodes.old.slots }
+{
+    if let Some(key) = list.ready().get(place) {
+        note_place(nodes, *key, place);
+    }
+}
+
+/// The block's lists once the other class is part of that at the key `keep`.
 fn relist<A: Allocator>(
-    nodes: &Nodes<A>,
+    nodes: &mut Nodes<A>,
     list: &mut OfBlock<A>,
     block: BlockNo,
     keep: usize,
     gone: usize,
-    ready: bool,
+    other: &Node<A>,
 )
-    requires { IsRelisting block keep gone ready nodes.now.slots list.old }
-    ensures { IsListed block nodes.now.slots list.new }
+    requires { IsRelisting block keep gone other.now.ready nodes.old.slots list.old }
+    ensures same { nodes.new.slots ≡ nodes.old.slots }
+    ensures listed { IsListed block nodes.new.slots list.new }
 {
-    if ready {
-        list.leave_ready(gone);
-    } else {
-        list.leave_both(keep, gone);
-        if is_due(nodes, keep) {
-            list.push(keep);
-        }
+    if other.ready {
+        let place = list.leave_ready(gone, other.place);
+        renote(nodes, list, place);
+        return;
+    }
+    list.leave_waiting(keep, gone);
+    if is_due(nodes, keep) {
+        list.push(keep);
     }
 }
 
@@ -235,25 +246,11 @@ fn join_alike<A: Allocator + Copy>(
     }
     remove(nodes, gone);
     redirect(keys, members(&other), keep);
-    relist(nodes, list, block, keep, gone, other.ready);
+    relist(nodes, list, block, keep, gone, &other);
     Ok(())
 }
 
-/// Takes all of the block's classes out of the ready set.
-fn drain<A: Allocator>(nodes: &mut Nodes<A>, keys: &Keys<A>, list: &mut OfBlock<A>, block: BlockNo)
-    requires listed { IsListed block nodes.old.slots list.old }
-    requires settled { IsSettled list.old }
-    requires tied { AreTied nodes.old.slots keys.now.numbers }
-    ensures listed { IsListed block nodes.new.slots list.new }
-    ensures rest { KeepsRest block nodes.old.slots nodes.new.slots }
-    ensures none { (key : ℕ) → is_at (ready_in block) nodes.new.slots key ≡ false }
-    ensures counted { AreCounted nodes.new.slots keys.now.numbers }
-{
-    take_out(nodes, keys, list.ready(), block);
-    list.restart(nodes);
-}
-
-/// Takes all of the block's classes out of the ready set, where just one of the two is in it.
+/// Takes that one of the two out of the ready set that is in it, and what follows it there, where just one of them is.
 fn level<A: Allocator>(
     nodes: &mut Nodes<A>,
     keys: &Keys<A>,
@@ -271,8 +268,14 @@ fn level<A: Allocator>(
     ensures level { AreLevel block keep gone nodes.new.slots }
     ensures settled { IsSettledFor block keep nodes.new.slots list.new }
 {
-    if is_ready(nodes, block, keep) != is_ready(nodes, block, gone) {
-        drain(nodes, keys, list, block);
+    let ready = is_ready(nodes, block, keep);
+    if ready == is_ready(nodes, block, gone) {
+        return;
+    }
+    if ready {
+        withdraw(nodes, keys, list, block, keep);
+    } else {
+        withdraw(nodes, keys, list, block, gone);
     }
 }
 

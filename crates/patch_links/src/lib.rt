@@ -10,6 +10,7 @@ mod hashing;
 mod joining;
 mod keys;
 mod landing;
+mod leaving;
 mod links;
 mod lists;
 mod nodes;

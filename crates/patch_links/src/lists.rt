@@ -1,11 +1,9 @@
 //! Which of each block's classes are ready, and which in flight.
-ghost use Rattle.std.specs.Prelude.{◌≡◌, ◌≢◌, ◌<◌, ◌≤◌, ◌+◌, ◌-◌, ◌==◌, ◌++◌, ◌∷◌, [], ℕ, length, filter, not, slice_index_or, Some, None, IfOk, OnOk, OnErr, IsSome, IfSome, IfNone, take, vec_capacity};
-ghost use Rattle.patch_links.specs.State.{is_at};
-ghost use Rattle.patch_links.specs.Waiting.{is_due};
-ghost use Rattle.patch_links.specs.Lists.{of_at, pushed, ChangesOf, LosesFlying};
-ghost use Rattle.patch_links.specs.Joining.{is_neither, is_another};
+ghost use Rattle.std.specs.Prelude.{◌≡◌, ◌≢◌, ◌<◌, ◌≤◌, ◌+◌, ◌-◌, ◌==◌, ◌++◌, ◌∷◌, [], ℕ, length, filter, not, slice_index_or, Some, None, IfOk, OnOk, OnErr, IsSome, IfSome, IfNone, take, drop, vec_capacity};
+ghost use Rattle.patch_links.specs.Lists.{of_at, pushed, times, once, ChangesOf, LosesFlying};
+ghost use Rattle.patch_links.specs.Joining.{is_neither};
+ghost use Rattle.patch_links.specs.Leaving.{HasLeft, LosesLast};
 
-use crate::nodes::{Nodes, is_due};
 use std::alloc::{AllocError, Allocator, Global};
 use std::marker::Model;
 
@@ -88,6 +86,13 @@ impl<A: Allocator> OfBlock<A> {
         self.ready.push_reserved(key);
     }
 
+    /// How many keys of the first list are those of the ready set.
+    pub fn done(&self) -> usize
+        ensures { result ≡ self.now.done }
+    {
+        self.done
+    }
+
     /// The keys of the ready set.
     pub fn ready(&self) -> &[usize]
         ensures { result.now ≡ self.now.ready }
@@ -155,33 +160,108 @@ impl<A: Allocator> OfBlock<A> {
         self.count += 1;
     }
 
-    /// The ready set is empty, and of the first list those keys are left that nothing keeps out.
-    pub fn restart(&mut self, nodes: &Nodes<A>)
-        ensures ready { self.new.ready ≡ filter (is_at is_due nodes.now.slots) self.old.ready }
-        ensures rest { self.new ≡ record self.old { ready = self.new.ready; done = 0 } }
+    /// Where the key stands among those of the ready set: mostly there where it is thought to.
+    fn place_of(&self, key: usize, hint: usize) -> usize
+        requires within { self.now.done ≤ length self.now.ready }
+        requires some { 0 < times (take self.now.done self.now.ready) key }
+        ensures before { result < self.now.done }
+        ensures here { slice_index_or self.now.ready result 0 ≡ key }
     {
-        self.ready.retain(|key| is_due(nodes, *key));
-        self.done = 0;
+        if hint < self.done && self.ready[hint] == key {
+            return hint;
+        }
+        last_place(self.ready.as_slice(), self.done, key)
+    }
+
+    /// The key of a class that leaves the ready set changes places with the last one there. Which that is, and its place now.
+    pub fn leave(&mut self, key: usize, hint: usize) -> (usize, usize)
+        requires within { self.old.done ≤ length self.old.ready }
+        requires some { 0 < times (take self.old.done self.old.ready) key }
+        ensures { HasLeft self.old self.new key }
+    {
+        let place = self.place_of(key, hint);
+        let last = self.done - 1;
+        let moved = self.ready[last];
+        self.ready.swap(place, last);
+        self.done = last;
+        (moved, place)
+    }
+
+    /// Takes the last key out that stands behind those of the ready set, if there is one.
+    pub fn take_waiting(&mut self) -> Option<usize>
+        ensures none { IfNone result ((self.new ≡ self.old) × (length self.old.ready ≤ self.old.done)) }
+        ensures some { IfSome result (λ key. LosesLast self.old self.new key) }
+    {
+        if self.ready.len() <= self.done {
+            return None;
+        }
+        self.ready.pop()
     }
 
     /// One class fewer, since two of them that are not in the ready set are one from now on.
-    pub fn leave_both(&mut self, keep: usize, gone: usize)
-        ensures ready { self.new.ready ≡ filter (is_neither keep gone) self.old.ready }
+    pub fn leave_waiting(&mut self, keep: usize, gone: usize)
+        requires { self.old.done ≤ length self.old.ready }
+        ensures ready { self.new.ready ≡ take self.old.done self.old.ready ++ filter (is_neither keep gone) (drop self.old.done self.old.ready) }
         ensures rest { self.new ≡ record self.old { ready = self.new.ready; count = self.old.count - 1 } }
     {
-        self.ready.retain(|key| *key != keep && *key != gone);
+        drop_both(&mut self.ready, self.done, keep, gone);
         self.count = self.count.saturating_sub(1);
     }
 
-    /// One class fewer, since one of the ready set is part of another one from now on.
-    pub fn leave_ready(&mut self, gone: usize)
-        ensures ready { self.new.ready ≡ filter (is_another gone) self.old.ready }
+    /// One class fewer, since one of the ready set, which has all keys, is part of another one from now on. The last key takes
+    /// the place of its key, which is told.
+    pub fn leave_ready(&mut self, gone: usize, hint: usize) -> usize
+        requires within { self.old.done ≤ length self.old.ready }
+        requires some { 0 < times (take self.old.done self.old.ready) gone }
+        ensures less { (k : ℕ) → times self.new.ready k + once (gone == k) ≡ times self.old.ready k }
         ensures rest { self.new ≡ record self.old { ready = self.new.ready; done = length self.new.ready; count = self.old.count - 1 } }
     {
-        self.ready.retain(|key| *key != gone);
+        let place = self.place_of(gone, hint);
+        self.ready.swap_remove(place);
         self.done = self.ready.len();
         self.count = self.count.saturating_sub(1);
+        place
     }
+}
+
+/// Whether the key is neither of the two.
+fn is_neither(keep: usize, gone: usize, key: usize) -> bool
+    ensures { result ≡ is_neither keep gone key }
+{
+    key != keep && key != gone
+}
+
+/// Takes both keys out of those behind the first so many.
+fn drop_both<A: Allocator>(keys: &mut Vec<usize, A>, first: usize, keep: usize, gone: usize)
+    requires { first ≤ length keys.old.items }
+    ensures keys { keys.new.items ≡ take first keys.old.items ++ filter (is_neither keep gone) (drop first keys.old.items) }
+    ensures room { vec_capacity keys.new ≡ vec_capacity keys.old }
+{
+    let mut place = first;
+    while place < keys.len() {
+        if is_neither(keep, gone, keys[place]) {
+            place += 1;
+        } else {
+            keys.remove(place);
+        }
+    }
+}
+
+/// The last place before so many where the key stands.
+fn last_place(keys: &[usize], count: usize, key: usize) -> usize
+    requires within { count ≤ length keys.now }
+    requires some { 0 < times (take count keys.now) key }
+    ensures before { result < count }
+    ensures here { slice_index_or keys.now result 0 ≡ key }
+{
+    let mut place = count;
+    while place > 0 {
+        place -= 1;
+        if keys[place] == key {
+            return place;
+        }
+    }
+    place
 }
 
 /// Makes room for so many keys in all, and at first for some more.

@@ -50,6 +50,8 @@ pub struct Node<A: Allocator = Global> {
     pub class: Class<A>,
     /// Whether its block's ready set has it.
     pub ready: bool,
+    /// Where its key stands there, if it has it: a hint, which no proof asks for.
+    pub place: usize,
     /// How many of the numbers that it depends on keep it out of there.
     pub waits: usize,
     /// A number of each class that depends on it, for each time that it does. Those that lead to the class itself are
@@ -163,16 +165,34 @@ pub fn raise<A: Allocator>(nodes: &mut Nodes<A>, key: usize)
     }
 }
 
-/// Has the ready set have the class at a key.
-pub fn put_ready<A: Allocator>(nodes: &mut Nodes<A>, key: usize)
+/// Has the ready set have the class at a key, which stands at this place there.
+pub fn put_ready<A: Allocator>(nodes: &mut Nodes<A>, key: usize, place: usize)
     ensures { nodes.new.slots ≡ changed_at readied nodes.old.slots key }
 {
     if let Some(node) = nodes.get_mut(key) {
         node.ready = true;
+        node.place = place;
     }
 }
 
-/// Has it have that class no more.
+/// Where the key stands among those of the ready set, as it was noted.
+pub fn place_at<A: Allocator>(nodes: &Nodes<A>, key: usize) -> usize {
+    match nodes.get(key) {
+        Some(node) => node.place,
+        None => 0,
+    }
+}
+
+/// Notes where the key stands among those of the ready set.
+pub fn note_place<A: Allocator>(nodes: &mut Nodes<A>, key: usize, place: usize)
+    ensures { nodes.new.slots ≡ nodes.old.slots }
+{
+    if let Some(node) = nodes.get_mut(key) {
+        node.place = place;
+    }
+}
+
+/// Has the ready set have the class at a key no more.
 pub fn take_ready<A: Allocator>(nodes: &mut Nodes<A>, key: usize)
     ensures { nodes.new.slots ≡ changed_at unreadied nodes.old.slots key }
 {

@@ -1,7 +1,7 @@
 use Rattle.std.proofs.Common.{sym, ap, subst, ◌∙◌}
-use Rattle.patch_links.specs.State.{changed_at}
+use Rattle.patch_links.specs.State.{changed_at, slots_of}
 use Rattle.patch_links.specs.Lists.{IsListed}
-use Rattle.patch_links.specs.Joining.{KeepsOrder}
+use Rattle.patch_links.specs.Joining.{KeepsOrder, AreClassesJoined}
 use Rattle.patch_links.proofs.Orders.{order-same, order-joined, classes-joined, met-fits, nodes-joined, taken-level, taken-moved}
 use Rattle.patch_links.proofs.joining.join_alike.Goals as goal
 
@@ -31,7 +31,7 @@ relist-requires g c =
       joined = joined;
       listed = c.requires.listed;
       settled = c.requires.settled;
-      flag = ap (λ z. z.ready) c.other.view_is ∙ taken-level c.args.block c.args.keep c.args.gone c.args.nodes.now.slots c.requires.pair c.requires.level c.take_at.new.nodes.slots c.in-Some.other
+      flag = taken-level c.args.block c.args.keep c.args.gone c.args.nodes.now.slots c.requires.pair c.requires.level c.take_at.new.nodes.slots c.in-Some.other
           c.in-Some.ensures.taken c.in-Some.ensures.others;
     }
 
@@ -39,13 +39,15 @@ pub returns-clause-order : goal.returns-clause-order
 returns-clause-order g c =
     let joined = nodes-joined c.args.block c.args.keep c.args.gone c.args.nodes.now.slots c.requires.pair c.requires.level c.take_at.new.nodes.slots c.in-Some.other c.in-Some.ensures.taken c.in-Some.ensures.others
     c.absorb_at.new.nodes.slots c.remove.new.nodes.slots c.args.keys.now.numbers (rw c.count_inner-inner.ensures at c.in_default-absorb_at.ensures.absorbed) c.remove.ensures.gone c.remove.ensures.others in
-    order-joined c.args.block c.args.keep c.args.gone c.args.nodes.now.slots c.requires.pair c.requires.level c.remove.new.nodes.slots c.args.keys.now.numbers c.redirect.new.keys.numbers c.requires.tied joined
+    subst (λ nodes. KeepsOrder c.args.block c.args.nodes.now.slots nodes c.args.keys.now.numbers c.redirect.new.keys.numbers) (sym c.relist.ensures.same)
+    (order-joined c.args.block c.args.keep c.args.gone c.args.nodes.now.slots c.requires.pair c.requires.level c.remove.new.nodes.slots c.args.keys.now.numbers c.redirect.new.keys.numbers c.requires.tied joined
     (taken-moved c.args.block c.args.keep c.args.gone c.args.nodes.now.slots c.requires.pair c.requires.level c.take_at.new.nodes.slots c.in-Some.other c.in-Some.ensures.taken c.in-Some.ensures.others
-    c.members.result.now c.args.keys.now.numbers c.redirect.new.keys.numbers c.members.ensures c.redirect.ensures)
+    c.members.result.now c.args.keys.now.numbers c.redirect.new.keys.numbers c.members.ensures c.redirect.ensures))
 
 pub returns-clause-joined : goal.returns-clause-joined
 returns-clause-joined g c =
     let joined = nodes-joined c.args.block c.args.keep c.args.gone c.args.nodes.now.slots c.requires.pair c.requires.level c.take_at.new.nodes.slots c.in-Some.other c.in-Some.ensures.taken c.in-Some.ensures.others
     c.absorb_at.new.nodes.slots c.remove.new.nodes.slots c.args.keys.now.numbers (rw c.count_inner-inner.ensures at c.in_default-absorb_at.ensures.absorbed) c.remove.ensures.gone c.remove.ensures.others in
-    classes-joined c.args.keep c.args.gone c.args.nodes.now.slots c.remove.new.nodes.slots c.args.keys.now.numbers c.redirect.new.keys.numbers joined (taken-moved c.args.block c.args.keep c.args.gone c.args.nodes.now.slots c.requires.pair c.requires.level c.take_at.new.nodes.slots c.in-Some.other c.in-Some.ensures.taken c.in-Some.ensures.others
-    c.members.result.now c.args.keys.now.numbers c.redirect.new.keys.numbers c.members.ensures c.redirect.ensures)
+    subst (λ nodes. AreClassesJoined c.args.keep c.args.gone (slots_of c.args.nodes.now.slots) (slots_of nodes) c.args.keys.now.numbers c.redirect.new.keys.numbers) (sym c.relist.ensures.same)
+    (classes-joined c.args.keep c.args.gone c.args.nodes.now.slots c.remove.new.nodes.slots c.args.keys.now.numbers c.redirect.new.keys.numbers joined (taken-moved c.args.block c.args.keep c.args.gone c.args.nodes.now.slots c.requires.pair c.requires.level c.take_at.new.nodes.slots c.in-Some.other c.in-Some.ensures.taken c.in-Some.ensures.others
+    c.members.result.now c.args.keys.now.numbers c.redirect.new.keys.numbers c.members.ensures c.redirect.ensures))
