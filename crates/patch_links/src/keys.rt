@@ -119,8 +119,8 @@ impl<A: Allocator> Keys<A> {
         ensures here { find self.new.numbers no ≡ key }
         ensures others { (n : ℕ) → n ≢ no → find self.new.numbers n ≡ find self.old.numbers n }
     {
-        let place = no.0.wrapping_sub(self.first) as usize;
-        if self.set_at(place, no, key) {
+        let at = no.0.wrapping_sub(self.first) as usize;
+        if self.set_at(at, no, key) {
             return;
         }
         match self.map.insert(no, key) {
@@ -136,11 +136,11 @@ impl<A: Allocator> Keys<A> {
         ensures others { (n : ℕ) → n ≢ no → find self.new.numbers n ≡ find self.old.numbers n }
         ensures same { result ≡ false → self.new ≡ self.old }
     {
-        if let Some((at, _)) = self.map.get_index(place) {
-            if *at == no {
+        if let Some((there, _)) = self.map.get_index(place) {
+            if *there == no {
                 let (_, held) = self.map.pair_mut(place);
                 *held = key;
-                self.lowest = self.lowest.min(no.0);
+                self.lowest = no.0.min(self.lowest);
                 return true;
             }
         }

@@ -13,7 +13,7 @@ pub returns-then-eq-clause-here : goal.returns-then-eq-clause-here
 returns-then-eq-clause-here g c set =
     let map = c.self.inside.map in
     let now = with_value_at map c.args.place c.args.key in
-    let same : c.in-Some.at.now ≡ c.args.no = eqb-true c.in-Some.at.now c.args.no (sym c.eq.ensures ∙ c.if-eq.true) in
+    let same : c.in-Some.there.now ≡ c.args.no = eqb-true c.in-Some.there.now c.args.no (sym c.eq.ensures ∙ c.if-eq.true) in
     let u : Updates nat_eq map now c.args.no (Some c.args.key) = subst (λ k. Updates nat_eq map now k (Some c.args.key)) same
     (updates-with_value_at map c.args.place c.args.key nat_eq_equiv c.self.invariant.0 _ _ (sym c.in-Some.ensures.entry)) in
     let unique = subst (λ ks. IsDistinct nat_eq ks) (sym (keys-with_value_at map c.args.place c.args.key)) c.self.invariant.0 in
@@ -23,7 +23,7 @@ pub returns-then-eq-clause-others : goal.returns-then-eq-clause-others
 returns-then-eq-clause-others g c n differ =
     let map = c.self.inside.map in
     let now = with_value_at map c.args.place c.args.key in
-    let same : c.in-Some.at.now ≡ c.args.no = eqb-true c.in-Some.at.now c.args.no (sym c.eq.ensures ∙ c.if-eq.true) in
+    let same : c.in-Some.there.now ≡ c.args.no = eqb-true c.in-Some.there.now c.args.no (sym c.eq.ensures ∙ c.if-eq.true) in
     let u : Updates nat_eq map now c.args.no (Some c.args.key) = subst (λ k. Updates nat_eq map now k (Some c.args.key)) same
     (updates-with_value_at map c.args.place c.args.key nat_eq_equiv c.self.invariant.0 _ _ (sym c.in-Some.ensures.entry)) in
     let unique = subst (λ ks. IsDistinct nat_eq ks) (sym (keys-with_value_at map c.args.place c.args.key)) c.self.invariant.0 in
@@ -33,7 +33,7 @@ pub invariant_of-self : goal.invariant_of-self
 invariant_of-self g c =
     let map = c.self.inside.map in
     let now = with_value_at map c.args.place c.args.key in
-    let same : c.in-Some.at.now ≡ c.args.no = eqb-true c.in-Some.at.now c.args.no (sym c.eq.ensures ∙ c.if-eq.true) in
+    let same : c.in-Some.there.now ≡ c.args.no = eqb-true c.in-Some.there.now c.args.no (sym c.eq.ensures ∙ c.if-eq.true) in
     let u : Updates nat_eq map now c.args.no (Some c.args.key) = subst (λ k. Updates nat_eq map now k (Some c.args.key)) same
     (updates-with_value_at map c.args.place c.args.key nat_eq_equiv c.self.invariant.0 _ _ (sym c.in-Some.ensures.entry)) in
     let unique = subst (λ ks. IsDistinct nat_eq ks) (sym (keys-with_value_at map c.args.place c.args.key)) c.self.invariant.0 in
