@@ -4,9 +4,13 @@ use Rattle.std.proofs.Common.{None, refl, sym, ap, subst, append-nil, arith}
 use Rattle.std.specs.Prelude.{◌==◌, if◌then◌else◌, slice_set, replicate, Result}
 use Rattle.std.specs.List.{range_with_len}
 use Rattle.std.proofs.lemmas.Bool.Decides.{nat_tests}
-use Rattle.std.proofs.lemmas.List.{length-append, length-replicate}
+use Rattle.std.proofs.lemmas.List.{length-append, length-replicate, take_all}
+use Rattle.std.proofs.Math.Nat.{div-add-mod}
 use Rattle.patch_model.specs.declared.patches.Undo.TheVariants.{MayDrop}
 use Rattle.patch_model.specs.declared.refusals.OutOfMemory.{OutOfMemory}
+use Rattle.patch_model.specs.declared.refusals.Refusal.{Refusal}
+use Rattle.patch_model.specs.declared.refusals.RefusalKind.TheVariants as kind
+use Rattle.patch_model.specs.Refusing.{bare}
 use Rattle.patch_model.specs.Step.{Create, Merge}
 use Rattle.patch_model.specs.Execution.{Execution, extended, followed_by}
 use Rattle.patch_model.specs.State.{entries_of, next_patch}
@@ -20,6 +24,7 @@ use Rattle.patch_frame.specs.Pointer.{Fits, spelling}
 use Rattle.patch_cache.specs.Contents.{Contents}
 use Rattle.patch_cache.specs.Meaning.{Represents as IsCacheOf}
 use Rattle.patch_cache.specs.Creating.{IsMade}
+use Rattle.patch_cache.specs.Refusals.{IsCause}
 use Rattle.patch_plans.specs.Groups.{Groups, named, with_patch}
 use Rattle.patch_recovery.specs.Change.{Point, Made, block_of, start_of, bytes_of}
 use Rattle.patch_extent.specs.declared.places.Appended.{Appended}
@@ -28,7 +33,7 @@ use Rattle.patch_plans.specs.Extents.{Extents, extent_at, generation_at, offset_
 use Rattle.patch_plans.specs.Planning.{touched, part_start, part_end, part, parts, names_behind, reset_plan}
 use Rattle.patch_plans.specs.Writing.{merge_with, merge_behind}
 use Rattle.patch_plans.specs.Meaning.{Represents}
-use Rattle.patch_extent.specs.Answers.{Setting, setting, IsSettingOf, AreMade, IsWritten, IsBegun, Append, plan_of, place_for, plan_steps, before_merge}
+use Rattle.patch_extent.specs.Answers.{Setting, setting, asked, IsSettingOf, AreMade, IsWritten, IsBegun, Append, plan_of, place_for, plan_steps, before_merge}
 use Rattle.patch_extent.specs.Appending.{IsPatched, LaysPatch, MergesBehind, IsDone, parts_of}
 use Rattle.patch_extent.specs.Merging.{IsOutcome, is_made}
 use Rattle.patch_extent.specs.declared.places.MergeOutcome.{MergeOutcome}
@@ -54,6 +59,19 @@ laid_there g e offset k first off start stop bytes piece writer names gs next_gs
     (subst (λ s. LaysPatch (first + s / 4096) (s % 4096) (slice_range bytes (s - offset) (stop - offset)) writer names result gs c next_gs next) start_is
     (subst (λ o. LaysPatch (first + start / 4096) (start % 4096) (slice_range bytes (start - o) (stop - o)) writer names result gs c next_gs next) off_is
     (subst (λ p. LaysPatch (first + start / 4096) (start % 4096) p writer names result gs c next_gs next) piece_is h))))
+
+-- where the bytes touch one block, its part is all of them, and begins where they do
+pub starts_whole : (offset : ℕ) → offset ≡ part_start offset 0
+starts_whole offset = let d = div-add-mod offset 4096 in omega (arith, d)
+
+pub part_whole : (offset : ℕ) (bytes : List ℕ) → 0 < length bytes → touched offset (length bytes) ≤ 1
+    → bytes ≡ slice_range bytes (offset - offset) (part_end offset (length bytes) 0 - offset)
+part_whole offset bytes some one =
+    let d = div-add-mod offset 4096 in
+    let dl = div-add-mod (offset + length bytes - 1) 4096 in
+    let none : offset - offset ≡ 0 = omega arith in
+    let long : length bytes ≤ part_end offset (length bytes) 0 - offset - 0 = omega arith in
+    sym (ap (λ n. slice_range bytes n (part_end offset (length bytes) 0 - offset)) none ∙ take_all (part_end offset (length bytes) 0 - offset - 0) bytes long)
 
 -- One part more is laid.
 pub part_laid : StateLaw → (run : Execution) (a : Append) (old : Setting) (gs next_gs : Groups) (c next : Contents) (k num : ℕ)
@@ -128,6 +146,19 @@ merges_counted law run (Some b) num true = entries_stay law run (Merge b num) re
 
 pub some_offset : (offset len : ℕ) → 0 < len → (offset + len == 0) ≡ false
 some_offset offset len some = grind (arith, nat_tests)
+
+-- an append of the same bytes, told otherwise
+pub done_as : (run : Execution) (writer : Option ℕ) (extent : ℕ) (bs bytes after : List ℕ) (old new : Setting) (appended : Appended)
+    → bs ≡ bytes → IsDone run (asked writer extent bs after) old new appended → IsDone run (asked writer extent bytes after) old new appended
+done_as run writer extent bs bytes after old new appended same h = subst (λ b. IsDone run (asked writer extent b after) old new appended) same h
+
+-- the cause against an append, told otherwise
+pub caused : (o : Option Refusal) (r t : Refusal) → o ≡ Some r → t ≡ r → IsCause o t
+caused o r t h same = rw h same
+
+-- or want of memory, where there is none
+pub wanting : (o : Option Refusal) (t : Refusal) → o ≡ None → t ≡ bare kind.OutOfMemory → IsCause o t
+wanting o t h same = rw h same
 
 -- The pointer patch and its merge finish an append.
 pub append_done : StateLaw → PointerLaw → BlockLaw → (run : Execution) (a : Append) (old : Setting) (gs1 gs2 : Groups) (c1 c2 c3 : Contents) (num : ℕ) (outcome : MergeOutcome) (appended : Appended)

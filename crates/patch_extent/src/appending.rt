@@ -54,6 +54,31 @@ impl<A: Allocator + Copy> Extents<A> {
         ensures refused_cache { IfErr result (λ refusal. refusal ≢ append.OutOfMemory → cache.new ≡ cache.old) }
     {
         self.why_not_appended(cache, extent, bytes.len(), after)?;
+        let bytes = copied(self.alloc, bytes)?;
+        Ok(self.append_counted(cache, groups, writer, extent, bytes, after)?)
+    }
+
+    /// Appends as [`append`](Extents::append) does, bytes that the caller gives up: where they touch one block its patch takes
+    /// them, and they aren't copied for it.
+    pub fn append_given(
+        &mut self,
+        cache: &mut Cache<A>,
+        groups: &mut Groups<A>,
+        writer: Option<WriterNo>,
+        extent: u32,
+        bytes: Bytes<A>,
+        after: &[PatchNo],
+    ) -> Result<Appended, AppendRefusal>
+        requires { 0 < length bytes }
+        ensures answer { AnswersAppend (asked writer extent bytes after.now) result
+            (setting self.old groups.old cache.old) (setting self.new groups.new cache.new) }
+        ensures geometry { self.new.geometry ≡ self.old.geometry }
+        ensures refused { OnErr result (self.new ≡ self.old) }
+        ensures refused_groups { IfErr result (λ refusal. refusal ≢ append.OutOfMemory → groups.new ≡ groups.old) }
+        ensures refused_cache { IfErr result (λ refusal. refusal ≢ append.OutOfMemory → cache.new ≡ cache.old) }
+    {
+        let len = bytes.as_slice().len();
+        self.why_not_appended(cache, extent, len, after)?;
         Ok(self.append_counted(cache, groups, writer, extent, bytes, after)?)
     }
 
@@ -92,14 +117,14 @@ impl<A: Allocator + Copy> Extents<A> {
         groups: &mut Groups<A>,
         writer: Option<WriterNo>,
         extent: u32,
-        bytes: &[u8],
+        bytes: Bytes<A>,
         after: &[PatchNo],
     ) -> Result<Appended, OutOfMemory>
-        requires some { 0 < length bytes.now }
+        requires some { 0 < length bytes }
         requires known { extent < self.old.geometry.extents }
-        requires room { offset_at self.old extent + length bytes.now ≤ largest_pointer self.old.geometry.format }
+        requires room { offset_at self.old extent + length bytes ≤ largest_pointer self.old.geometry.format }
         requires numbers { cache.old.graph.made ≤ 16777216 }
-        ensures answer { AppendsCounted (asked writer extent bytes.now after.now) result
+        ensures answer { AppendsCounted (asked writer extent bytes after.now) result
             (setting self.old groups.old cache.old) (setting self.new groups.new cache.new) }
         ensures geometry { self.new.geometry ≡ self.old.geometry }
         ensures refused { OnErr result (self.new ≡ self.old) }
@@ -108,11 +133,11 @@ impl<A: Allocator + Copy> Extents<A> {
         model_laws::executions_are_orderly();
         frame_laws::pointers_are_read_again();
         let kept = self.each[extent as usize];
-        let len = bytes.len() as u32;
+        let len = bytes.as_slice().len() as u32;
         let names = with_one_more(self.alloc, after, &kept.reset)?;
         let count = touched(kept.pointer.offset, len);
         let numbers = numbers_from(self.alloc, cache.made(), count)?;
-        self.lay_parts(cache, groups, &writer, extent, bytes, names)?;
+        self.lay_given(cache, groups, &writer, extent, bytes, names)?;
         let moved = Pointer {
             generation: kept.pointer.generation,
             offset: kept.pointer.offset + len,
@@ -133,6 +158,40 @@ impl<A: Allocator + Copy> Extents<A> {
             pointer_patch: no,
             merge,
         })
+    }
+
+    /// Makes a data patch for each block that the bytes touch. Where that is one, its patch takes the bytes.
+    fn lay_given(
+        &self,
+        cache: &mut Cache<A>,
+        groups: &mut Groups<A>,
+        writer: &Option<WriterNo>,
+        extent: u32,
+        bytes: Bytes<A>,
+        names: Numbers<A>,
+    ) -> Result<(), OutOfMemory>
+        requires some { 0 < length bytes }
+        requires known { extent < self.now.geometry.extents }
+        requires room { offset_at self.now extent + length bytes ≤ largest_pointer self.now.geometry.format }
+        ensures { LaysParts (asked writer.now extent bytes names) result
+            (setting self.now groups.old cache.old) (setting self.now groups.new cache.new) }
+    {
+        let offset = self.each[extent as usize].pointer.offset;
+        if touched(offset, bytes.as_slice().len() as u32) > 1 {
+            return self.lay_parts(cache, groups, writer, extent, bytes.as_slice(), names);
+        }
+        model_laws::steps_extend();
+        let block = BlockNo(self.geometry.first_block(extent) + offset / BLOCK as u32);
+        lay(
+            cache,
+            groups,
+            writer,
+            block,
+            offset as usize % BLOCK,
+            bytes,
+            names,
+        )?;
+        Ok(())
     }
 
     /// Makes a data patch for each block that the bytes touch. The last of them takes the names, the others copies of them.

@@ -35,16 +35,17 @@ impl<A: Allocator + Copy> Store<A> {
         slot: u32,
         extent: u32,
         key: &[u8],
-        frame: &[u8],
+        frame: Bytes<A>,
     ) -> Result<(), OutOfMemory>
         requires slot { slot < length self.old.shelf.slots }
         requires known { extent < self.old.shelf.extents.geometry.extents }
-        ensures { PutsFrame writer.now slot extent key.now frame.now result self.old self.new }
+        ensures { PutsFrame writer.now slot extent key.now frame result self.old self.new }
     {
         history_laws::frames_compose();
         history_laws::plans_continue();
         frame_laws::frames_are_read_again();
-        let Some(entry) = self.next_entry(extent, key, frame.len()) else {
+        let len = frame.as_slice().len();
+        let Some(entry) = self.next_entry(extent, key, len) else {
             return Err(OutOfMemory);
         };
         let Ok(point) = self.append_frame(writer, extent, frame) else {
@@ -88,13 +89,13 @@ impl<A: Allocator + Copy> Store<A> {
         &mut self,
         writer: &Option<WriterNo>,
         extent: u32,
-        frame: &[u8],
+        frame: Bytes<A>,
     ) -> Result<PatchNo, OutOfMemory>
-        requires some { 0 < length frame.now }
+        requires some { 0 < length frame }
         requires known { extent < self.old.shelf.extents.geometry.extents }
-        ensures { AppendsFrame (asked writer.now extent frame.now []) result self.old self.new }
+        ensures { AppendsFrame (asked writer.now extent frame []) result self.old self.new }
     {
-        let Ok(appended) = self.extents.append(
+        let Ok(appended) = self.extents.append_given(
             &mut self.cache,
             &mut self.groups,
             *writer,

@@ -8,7 +8,7 @@ use patch_extent::Place;
 use patch_frame::decode_within;
 use patch_history::laws as history_laws;
 use patch_index::{Entry, LiveSlots};
-use patch_model::OutOfMemory;
+use patch_model::{Bytes, OutOfMemory};
 use std::alloc::Allocator;
 
 impl<A: Allocator + Copy> Store<A> {
@@ -43,7 +43,8 @@ impl<A: Allocator + Copy> Store<A> {
         let Ok(frame) = self.frame_of(&entry) else {
             return Err(OutOfMemory);
         };
-        self.put_frame(&None, slot, extent, entry.key.as_slice(), frame.as_slice())
+        let frame = Bytes::from_vec(frame);
+        self.put_frame(&None, slot, extent, entry.key.as_slice(), frame)
     }
 
     /// The bytes of a frame.

@@ -20,7 +20,7 @@ use patch_extent::touched;
 use patch_frame::{MAX_KEY, encode, laws as frame_laws};
 use patch_history::{PutRefusal, laws as history_laws};
 use patch_index::OVERHEAD;
-use patch_model::{MAX_LIVE, MAX_PATCHES, WriterNo};
+use patch_model::{Bytes, MAX_LIVE, MAX_PATCHES, WriterNo};
 use std::alloc::Allocator;
 
 // The patches of a put beside those of the frame's bytes: the pointer's and the slot's.
@@ -56,7 +56,8 @@ impl<A: Allocator + Copy> Store<A> {
             return Err(PutRefusal::OutOfMemory);
         };
         let Target { slot, extent } = target;
-        let Ok(()) = self.put_frame(&Some(writer), slot, extent, key, frame.as_slice()) else {
+        let frame = Bytes::from_vec(frame);
+        let Ok(()) = self.put_frame(&Some(writer), slot, extent, key, frame) else {
             return Err(PutRefusal::OutOfMemory);
         };
         Ok(())

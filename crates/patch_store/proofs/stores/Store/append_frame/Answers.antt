@@ -5,4 +5,4 @@ use Rattle.patch_store.proofs.stores.Store.append_frame.Goals as goal
 
 pub returns : goal.returns
 returns g c =
-    appended_view (asked c.args.writer.now c.args.extent c.args.frame.now []) _ _ _ c.in-Ok.appended c.self.view_is c.in-Ok.ensures.answer refl c.counted_with-self-inside.ensures
+    appended_view (asked c.args.writer.now c.args.extent c.args.frame []) _ _ _ c.in-Ok.appended c.self.view_is c.in-Ok.ensures.answer refl c.counted_with-self-inside.ensures

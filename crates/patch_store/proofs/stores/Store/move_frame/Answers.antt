@@ -35,8 +35,8 @@ pub returns : goal.returns
 returns g c st e d m =
     let old = c.args.self.now in
     let used = sym (ap (λ (x : Store). slot_at x.shelf c.args.slot) c.self.view_is) ∙ sym c.entry.ensures ∙ ap told c.in-Some.is in
-    let asks = asked_by_slot st c.args.slot e d old m (fields_of c.in-Some.entry) c.in-Some-extent_for_move.extent c.as_slice.result.now c.as_slice-2.result.now
+    let asks = asked_by_slot st c.args.slot e d old m (fields_of c.in-Some.entry) c.in-Some-extent_for_move.extent c.as_slice.result.now c.from_vec-frame.result
     used (sym c.extent_for_move.ensures ∙ c.in-Some-extent_for_move.is) c.as_slice.ensures
-    (λ cached. c.as_slice-2.ensures.value ∙ c.in-Ok.ensures st.run d m.standing.setting_is cached) in
+    (λ cached. c.from_vec-frame.ensures ∙ c.in-Ok.ensures st.run d m.standing.setting_is cached) in
     subst (λ x. MatchResult c.put_frame.result (λ _. IsFramed (framing st None c.args.slot x d) old c.put_frame.new.self)
     (λ _. IsFramedInPart (framing st None c.args.slot x d) old c.put_frame.new.self)) asks.1 (c.put_frame.ensures st d asks.0)

@@ -38,7 +38,7 @@ returns-in_default-put_frame-clause-answer g c h was =
     } in
     given_up_so h c.args.writer c.args.key.now c.args.value.now _ _ c.args.self.now is c.put_frame.new.self
     (c.in_default-put_frame.ensures (standing_of h) (record { key = c.args.key.now; value = c.args.value.now })
-    (asks_so h c.args.writer c.args.key.now c.args.value.now _ _ c.args.self.now is c.as_slice.result.now (c.as_slice.ensures.value ∙ c.in-Ok.ensures)))
+    (asks_so h c.args.writer c.args.key.now c.args.value.now _ _ c.args.self.now is c.from_vec-frame.result (c.from_vec-frame.ensures ∙ c.in-Ok.ensures)))
 
 pub returns-clause-answer : goal.returns-clause-answer
 returns-clause-answer g c h was =
@@ -53,4 +53,4 @@ returns-clause-answer g c h was =
     } in
     put_so h c.args.writer c.args.key.now c.args.value.now _ _ c.args.self.now is c.put_frame.new.self
     (c.in-Ok-put_frame.ensures (standing_of h) (record { key = c.args.key.now; value = c.args.value.now })
-    (asks_so h c.args.writer c.args.key.now c.args.value.now _ _ c.args.self.now is c.as_slice.result.now (c.as_slice.ensures.value ∙ c.in-Ok.ensures)))
+    (asks_so h c.args.writer c.args.key.now c.args.value.now _ _ c.args.self.now is c.from_vec-frame.result (c.from_vec-frame.ensures ∙ c.in-Ok.ensures)))
