@@ -307,6 +307,18 @@ fn live_numbers_lead_to_their_classes_between_durable_ones(rt: HostRuntime) -> R
     Ok(walk_in_tens(&rt, &mut links, rt.alloc())?)
 }
 
+// Where the first patch is made durable last, all that were made before it are passed over with it.
+#[test]
+fn all_that_lead_nowhere_are_passed_over(rt: HostRuntime) -> Result<(), Fail> {
+    let mut links = Links::new(rt.alloc());
+    add_ten(&rt, &mut links, rt.alloc(), 0)?;
+    expect_eq(&rt, &links.lowest(), &0);
+    links.fly(BlockNo(1));
+    links.land(BlockNo(1));
+    expect_eq(&rt, &links.lowest(), &10);
+    Ok(())
+}
+
 // A patch that depends on nothing, in a heap.
 fn class_in(heap: &LocalHeap, no: u32) -> Class<&LocalHeap> {
     Class {
