@@ -1,5 +1,5 @@
 -- Keys that change places in a list.
-use Rattle.std.proofs.Common.{◌≡◌, ℕ, zero, suc, ◌+◌, ◌<◌, ◌≤◌, ◌∙◌, inl, inr, Bool, true, false, List, [], ◌∷◌, ◌++◌, length, refl, sym, ap, arith, take, drop}
+use Rattle.std.proofs.Common.{◌≡◌, ℕ, zero, suc, ◌+◌, ◌<◌, ◌≤◌, ◌∙◌, inl, inr, Bool, true, List, [], ◌∷◌, ◌++◌, length, refl, sym, ap, arith, take, drop}
 use Rattle.std.specs.Prelude.{◌==◌, filter, slice_set, slice_index_or}
 use Rattle.std.specs.List.{swap}
 use Rattle.std.proofs.lemmas.Bool.{cases_eq}
@@ -62,13 +62,6 @@ left-swapped of now place last key before within at next is rest =
       long = ap length is ∙ length-swap of.ready place last;
       rest = rest ∙ ap (λ n. record of { ready = now.ready; done = n }) (sym d);
     }
-
--- one place fewer is left to look at, where the key doesn't stand
-pub times-less : (xs : List ℕ) (place key : ℕ) → place < length xs → (slice_index_or xs place 0 == key) ≡ false → times (take (place + 1) xs) key ≡ times (take place xs) key
-times-less xs place key low not_here =
-    let a : times (take (place + 1) xs) key ≡ times (take place xs) key + once (slice_index_or xs place 0 == key) =
-    ap (λ ys. times ys key) (take_more xs place 0 low) ∙ count-last (λ j. j == key) (take place xs) (slice_index_or xs place 0) in
-    let z : once (slice_index_or xs place 0 == key) ≡ 0 = ap once not_here in omega arith
 
 -- those behind the first ones are filtered, where the first ones pass
 pub filter-behind : (p : ℕ → Bool) (xs : List ℕ) (n : ℕ) → ((k : ℕ) → In (take n xs) k → p k ≡ true) → take n xs ++ filter p (drop n xs) ≡ filter p xs

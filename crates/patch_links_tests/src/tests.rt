@@ -517,6 +517,32 @@ fn a_ready_class_joins_a_waiting_one(rt: HostRuntime) -> Result<(), Fail> {
     walk(&rt, rt.alloc(), &JOINED_TO_A_WAITING_ONE)
 }
 
+// A class that may be sent joins one that waits, and just what follows it may no more be sent, until what they wait for is durable.
+const FOLLOWED_AND_JOINED: [Move<'static>; 17] = [
+    Move::Add(1, &[]),
+    Move::Add(0, &[]),
+    Move::Add(0, &[1]),
+    Move::Add(0, &[]),
+    Move::Add(0, &[2, 1]),
+    Move::Add(0, &[3]),
+    Move::Add(0, &[0]),
+    Move::Ready(0, &[1, 2, 3, 4, 5]),
+    Move::Join(6, 1),
+    Move::Ready(0, &[3, 5]),
+    Move::Agree,
+    Move::Join(3, 5),
+    Move::Ready(0, &[3, 5]),
+    Move::Send(1),
+    Move::Complete(1),
+    Move::Ready(0, &[1, 2, 3, 4, 5, 6]),
+    Move::Agree,
+];
+
+#[test]
+fn what_follows_a_ready_class_waits_with_it(rt: HostRuntime) -> Result<(), Fail> {
+    walk(&rt, rt.alloc(), &FOLLOWED_AND_JOINED)
+}
+
 // Two classes of which one waits for the other alone, elsewhere kept out: joined they wait for the rest.
 const WAITING_FOR_ITSELF: [Move<'static>; 14] = [
     Move::Add(1, &[]),
