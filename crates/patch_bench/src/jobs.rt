@@ -2,7 +2,7 @@
 use crate::digests::Digest;
 use crate::disks::{run_on_new, small_extents};
 use crate::patches::{all_over, behind_another, group_chain, overlapping, replay_on_new};
-use crate::puts::{large_values, mixed, overwrites, small_values, synced};
+use crate::puts::{engaged, large_values, mixed, overwrites, small_values, synced};
 use crate::random::Random;
 use crate::waiting::{Behind, chain, reclaims};
 use crate::writers::{of_writers, serve_on_new};
@@ -29,11 +29,12 @@ pub fn run<T: Threads + Wait + Sync>(rt: &T, alloc: Global, request: Request<'_>
         "values" => values(alloc, &mut random, size, &mut digest)?,
         "mixed" => mix(alloc, &mut random, size, &mut digest)?,
         "synced" => sync_all(alloc, &mut random, size, &mut digest)?,
+        "engaged" => engage_all(alloc, &mut random, size, &mut digest)?,
         "waiting" => wait_all(alloc, &mut random, size, &mut digest)?,
         "patches" => patch(alloc, &mut random, size, &mut digest)?,
         "writers" => write(rt, alloc, &mut random, size, &mut digest)?,
         "each" => each(rt, alloc, &mut random, size, &mut digest)?,
-        _ => bail!("JOB is values, mixed, synced, waiting, patches, writers or each"),
+        _ => bail!("JOB is values, mixed, synced, engaged, waiting, patches, writers or each"),
     }
     Ok(digest.value())
 }
@@ -81,6 +82,20 @@ fn sync_all(alloc: Global, random: &mut Random, size: u32, digest: &mut Digest) 
 /// One of these, with so many puts.
 fn sync_each(alloc: Global, random: &mut Random, puts: u32, digest: &mut Digest) -> Result<()> {
     let script = synced(alloc, random, puts)?;
+    run_on_new(alloc, small_extents(16, 250), &script, digest)
+}
+
+/// Stores with a sync behind each put, of a group that has all patches. SIZE is how many there are.
+fn engage_all(alloc: Global, random: &mut Random, size: u32, digest: &mut Digest) -> Result<()> {
+    for _ in 0..size {
+        engage_each(alloc, random, 4_000, digest)?;
+    }
+    Ok(())
+}
+
+/// One of these, with so many puts.
+fn engage_each(alloc: Global, random: &mut Random, puts: u32, digest: &mut Digest) -> Result<()> {
+    let script = engaged(alloc, random, puts)?;
     run_on_new(alloc, small_extents(16, 250), &script, digest)
 }
 
@@ -163,6 +178,7 @@ fn each<T: Threads + Wait + Sync>(
     fill(alloc, random, calls, digest)?;
     mix_each(alloc, random, calls, digest)?;
     sync_each(alloc, random, calls, digest)?;
+    engage_each(alloc, random, calls, digest)?;
     wait(alloc, random, size, digest)?;
     patch_each(alloc, random, 2, digest)?;
     write_each(rt, alloc, random, calls, digest)

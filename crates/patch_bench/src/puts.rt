@@ -144,14 +144,29 @@ pub fn mixed(alloc: Global, random: &mut Random, count: u32) -> Result<String, A
     Ok(script)
 }
 
+/// So many values of 96 bytes under a thousand keys, and a sync after each.
+fn put_and_sync(script: &mut String, random: &mut Random, count: u32) -> Result<(), AllocError> {
+    for _ in 0..count {
+        let key = random.below(1_000);
+        put_spelled(script, random, key, 12)?;
+        sync(script)?;
+    }
+    Ok(())
+}
+
 /// Values of 96 bytes under a thousand keys, a sync after each, and a get of each tenth key at the end.
 pub fn synced(alloc: Global, random: &mut Random, count: u32) -> Result<String, AllocError> {
     let mut script = new_script(alloc)?;
-    for _ in 0..count {
-        let key = random.below(1_000);
-        put_spelled(&mut script, random, key, 12)?;
-        sync(&mut script)?;
-    }
+    put_and_sync(&mut script, random, count)?;
+    get_hundred(&mut script, 10)?;
+    Ok(script)
+}
+
+/// The same, where the group that is synced is engaged all the while, so that it has all patches.
+pub fn engaged(alloc: Global, random: &mut Random, count: u32) -> Result<String, AllocError> {
+    let mut script = new_script(alloc)?;
+    script.push_str("{\"op\":\"engage\",\"group\":0}\n")?;
+    put_and_sync(&mut script, random, count)?;
     get_hundred(&mut script, 10)?;
     Ok(script)
 }
