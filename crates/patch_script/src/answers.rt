@@ -10,6 +10,8 @@ use std::alloc::{AllocError, Global};
 
 // Room for a word, a number and a line feed.
 const ROOM: usize = 24;
+// Room for a number of a list and its comma, where it has no more than five digits.
+const ROOM_OF_ONE: usize = 6;
 
 /// What a line is answered.
 #[derive(Debug, Drop)]
@@ -78,17 +80,18 @@ fn push_refusal(out: &mut String, refusal: Refusal) -> Result<(), AllocError>
     }
 }
 
-/// Each number behind a comma but the first.
+/// Each number behind a comma but the first. Their digits are written in one place, one number after another.
 fn push_numbers(out: &mut String, numbers: &[PatchNo]) -> Result<(), AllocError>
     ensures { OnOk result (string_bytes out.new ≡ string_bytes out.old ++ numbers_text numbers.now) }
 {
     let Some((first, rest)) = numbers.split_first() else {
         return Ok(());
     };
-    push_number(out, first.0)?;
+    let mut digits = Buffer::new();
+    out.push_str(digits.format(first.0))?;
     for number in rest {
         out.push_str(",")?;
-        push_number(out, number.0)?;
+        out.push_str(digits.format(number.0))?;
     }
     Ok(())
 }
@@ -102,6 +105,8 @@ fn push_flight(
 ) -> Result<(), AllocError>
     ensures { OnOk result (string_bytes out.new ≡ string_bytes out.old ++ (word.now ++ flight_text block numbers.now)) }
 {
+    let room = numbers.len().saturating_mul(ROOM_OF_ONE);
+    out.reserve(room.saturating_add(ROOM))?;
     push_told(out, word, block.0)?;
     out.push_str(" ")?;
     push_numbers(out, numbers)
