@@ -20,7 +20,9 @@ fn report_of<D: Device>(alloc: Global, device: &mut D) -> Result<Report, Stop>
     ensures had { D.is_honest device.old → D.had device.new ≡ D.had device.old }
 {
     let store = open_store(alloc, device)?;
-    report_on(&store)
+    let report = report_on(&store);
+    drop(store);
+    report
 }
 
 fn report_on(store: &Store) -> Result<Report, Stop> {

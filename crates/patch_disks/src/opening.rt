@@ -75,7 +75,10 @@ pub fn open_store<D: Device>(alloc: Global, device: &mut D) -> Result<Store, Sto
     let cache = open_cache(alloc, device)?;
     match Store::open(alloc, cache) {
         Ok(store) => Ok(store),
-        Err((_, fault)) => Err(Stop::Refused(fault.refusal())),
+        Err((cache, fault)) => {
+            drop(cache);
+            Err(Stop::Refused(fault.refusal()))
+        }
     }
 }
 

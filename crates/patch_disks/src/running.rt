@@ -88,7 +88,9 @@ fn run_lines<W: Output, D: Lasting, P: Progress>(
         → TellsWhyItStops result writer.new.failed (D.fault_count device.old) (D.fault_count device.new) (D.contents device.old) }
 {
     let mut store = open_store(alloc, device)?;
-    answer_and_save(alloc, writer, &mut store, device, lines, progress)
+    let ran = answer_and_save(alloc, writer, &mut store, device, lines, progress);
+    drop(store);
+    ran
 }
 
 /// Runs the script that the reader gives on the store of a device, and writes an answer for each of its lines.

@@ -34,7 +34,9 @@ fn upgrade<W: Output, D: Lasting>(
     device: &mut D,
 ) -> Result<(), Stop> {
     let mut store = open_store(alloc, device)?;
-    upgrade_and_tell(writer, &mut store, device)
+    let upgraded = upgrade_and_tell(writer, &mut store, device);
+    drop(store);
+    upgraded
 }
 
 /// Makes the store of a device one of version 2, whose extents have as many blocks as before, and writes `upgraded`.

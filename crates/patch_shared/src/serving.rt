@@ -43,11 +43,13 @@ impl<D: Device> Finished<D> {
         ensures replies { result.1 ≡ self.replies }
     {
         let Finished {
-            store: _,
+            store,
             device,
             replies,
-            book: _,
+            book,
         } = self;
+        drop(store);
+        drop(book);
         (device, replies)
     }
 }
@@ -299,6 +301,7 @@ fn finish<D: Device + Drop>(ran: Ran<D>) -> Result<Finished<D>, ServeFault<D>>
         ..
     } = ran;
     if let Err(cause) = read_back(&mut device, book.store().cache()) {
+        drop(book);
         return Err(with_device(cause, device));
     }
     let (store, book) = book.into_parts();
@@ -370,6 +373,7 @@ fn serve_lists<D: Device + Drop + Send, G: Gate + Sync, R: Threads + Wait + Sync
     ensures fault { IfErr result (IsFaultWith D.Device device) }
 {
     let Ok(opening) = copy_cached(alloc, store.cache()) else {
+        drop(store);
         return Err(ServeFault::bare(Cause::OutOfMemory));
     };
     serve_over(rt, alloc, store, device, jobs, gate, opening)
@@ -416,6 +420,7 @@ fn compared<D: Device + Drop>(
     ensures fault { IfErr result (IsFaultWith D.Device ran.device) }
 {
     if !agrees(&ran, opening.as_slice(), jobs) {
+        drop(ran);
         return Err(ServeFault::bare(Cause::Disagreed));
     }
     finish(ran)

@@ -9,12 +9,29 @@ use super::{
 use patch_model::{
     BLOCK, BlockBytes, BlockNo, Bytes, Numbers, OutOfMemory, Patch, PatchNo, Undo, pile,
 };
-use patch_view::PutBackRefusal::{DependencyTaken, NotTaken};
-use patch_view::TakeRefusal::{AlreadyTaken, DependentApplied, Hard, InFlight, Unknown};
 use patch_view::{BlockState, BlockView, PutBackRefusal, TakeRefusal};
 use std::alloc::Global;
 use std::process::Abort;
 use std::test::Fail;
+
+// How a patch is taken, or not: the number is that of one above it.
+#[derive(Clone, Copy)]
+enum Taking {
+    Done,
+    Unknown,
+    InFlight,
+    Hard,
+    Twice,
+    Below(u32),
+}
+
+// How a patch is put back, or not: the number is that of one below it.
+#[derive(Clone, Copy)]
+enum Putting {
+    Done,
+    NotTaken,
+    Above(u32),
+}
 
 #[derive(Clone, Copy)]
 enum Deed<'a> {
@@ -37,8 +54,8 @@ enum Deed<'a> {
     DepartEach(u32, u32),
     Land(u32),
     LandEach,
-    Take(u32, Result<(), TakeRefusal>),
-    Back(u32, Result<(), PutBackRefusal>),
+    Take(u32, Taking),
+    Back(u32, Putting),
     TakeAll,
     Restore,
 }
@@ -143,6 +160,29 @@ fn join_what_is_gone(block: &mut BlockState, a: u32, b: u32) -> Result<(), OutOf
     Ok(())
 }
 
+impl Taking {
+    fn answer(self) -> Result<(), TakeRefusal> {
+        match self {
+            Taking::Done => Ok(()),
+            Taking::Unknown => Err(TakeRefusal::Unknown),
+            Taking::InFlight => Err(TakeRefusal::InFlight),
+            Taking::Hard => Err(TakeRefusal::Hard),
+            Taking::Twice => Err(TakeRefusal::AlreadyTaken),
+            Taking::Below(above) => Err(TakeRefusal::DependentApplied(PatchNo(above))),
+        }
+    }
+}
+
+impl Putting {
+    fn answer(self) -> Result<(), PutBackRefusal> {
+        match self {
+            Putting::Done => Ok(()),
+            Putting::NotTaken => Err(PutBackRefusal::NotTaken),
+            Putting::Above(below) => Err(PutBackRefusal::DependencyTaken(PatchNo(below))),
+        }
+    }
+}
+
 fn expect_back(
     rt: &impl Abort,
     answer: Result<(), PutBackRefusal>,
@@ -151,28 +191,36 @@ fn expect_back(
     expect_eq(rt, &answer, &want);
 }
 
-fn act(rt: &impl Abort, block: &mut BlockState, deed: &Deed) -> Result<(), OutOfMemory> {
+// A deed by which patches are laid or merged.
+fn make(rt: &impl Abort, block: &mut BlockState, deed: &Deed) -> Result<(), OutOfMemory> {
     match deed {
         Deed::Lay(no, start, bytes, after) => return lay(rt, block, *no, *start, bytes, *after),
-        Deed::Join(a, b) => return block.join(PatchNo(*a), PatchNo(*b)),
-        Deed::Draw(a, b, drawn) => expect_eq(rt, &has_joint(block, *a, *b)?, drawn),
-        Deed::JoinBy(a, b) => return join_by(block, *a, *b),
-        Deed::JoinNothing => block.join_by(None),
-        Deed::JoinGone(a, b) => return join_what_is_gone(block, *a, *b),
         Deed::LayHard(no, start, bytes) => return lay_hard(rt, block, *no, *start, bytes),
+        Deed::Join(a, b) => return block.join(PatchNo(*a), PatchNo(*b)),
+        Deed::JoinBy(a, b) => return join_by(block, *a, *b),
+        Deed::JoinGone(a, b) => return join_what_is_gone(block, *a, *b),
+        Deed::Draw(a, b, drawn) => expect_eq(rt, &has_joint(block, *a, *b)?, drawn),
+        _ => {}
+    }
+    Ok(())
+}
+
+// A deed that makes nothing.
+fn act(rt: &impl Abort, block: &mut BlockState, deed: &Deed) {
+    match deed {
         Deed::LayNothing(no, start, bytes) => assert!(rt;
             is_unentered(rt, block, *no, *start, bytes)
         ),
+        Deed::JoinNothing => block.join_by(None),
         Deed::Depart(no) => block.depart(PatchNo(*no)),
         Deed::DepartEach(a, b) => block.depart_each(&[PatchNo(*a), PatchNo(*b)]),
         Deed::Land(no) => block.land(PatchNo(*no)),
         Deed::LandEach => block.land_each(),
-        Deed::Take(no, answer) => expect_taken(rt, block.take(PatchNo(*no)), *answer),
-        Deed::Back(no, answer) => expect_back(rt, block.put_back(PatchNo(*no)), *answer),
-        Deed::TakeAll => {} // `expect_shown` has a view do it.
+        Deed::Take(no, taking) => expect_taken(rt, block.take(PatchNo(*no)), taking.answer()),
+        Deed::Back(no, putting) => expect_back(rt, block.put_back(PatchNo(*no)), putting.answer()),
         Deed::Restore => block.put_all_back(),
+        _ => {} // `make` does it; of `TakeAll` `expect_shown` has a view do it.
     }
-    Ok(())
 }
 
 // After a deed the block shows these bytes.
@@ -191,7 +239,8 @@ fn step(
     lines: &[Line],
     line: &Line,
 ) -> Result<(), Fail> {
-    act(rt, block, &line.0)?;
+    make(rt, block, &line.0)?;
+    act(rt, block, &line.0);
     let want = piled(rt, alloc, lines, line.1)?;
     expect_shown(rt, block, &line.0, want.as_slice());
     Ok(())
@@ -214,19 +263,19 @@ fn walk(rt: &impl Abort, alloc: Global, lines: &[Line]) -> Result<(), Fail> {
     take_steps(rt, alloc, &mut block, lines)
 }
 
-const ONE_OVER_ANOTHER: [Line<'static>; 12] = [
+static ONE_OVER_ANOTHER: [Line<'static>; 12] = [
     Line(Deed::Lay(0, 0, &[0xa1, 0xa2, 0xa3, 0xa4], None), &[]),
     Line(Deed::Lay(1, 2, &[0xb1, 0xb2, 0xb3, 0xb4], None), &[]),
-    Line(Deed::Take(0, Err(DependentApplied(PatchNo(1)))), &[]),
-    Line(Deed::Take(1, Ok(())), &[1]),
-    Line(Deed::Take(0, Ok(())), &[0, 1]),
-    Line(Deed::Back(1, Err(DependencyTaken(PatchNo(0)))), &[0, 1]),
-    Line(Deed::Back(0, Ok(())), &[1]),
+    Line(Deed::Take(0, Taking::Below(1)), &[]),
+    Line(Deed::Take(1, Taking::Done), &[1]),
+    Line(Deed::Take(0, Taking::Done), &[0, 1]),
+    Line(Deed::Back(1, Putting::Above(0)), &[0, 1]),
+    Line(Deed::Back(0, Putting::Done), &[1]),
     Line(Deed::Restore, &[]),
     Line(Deed::Join(0, 1), &[]),
-    Line(Deed::Take(1, Ok(())), &[0, 1]),
-    Line(Deed::Take(0, Err(AlreadyTaken)), &[0, 1]),
-    Line(Deed::Back(0, Ok(())), &[]),
+    Line(Deed::Take(1, Taking::Done), &[0, 1]),
+    Line(Deed::Take(0, Taking::Twice), &[0, 1]),
+    Line(Deed::Back(0, Putting::Done), &[]),
 ];
 
 #[test]
@@ -234,19 +283,19 @@ fn the_upper_of_two_is_taken_first(rt: HostRuntime) -> Result<(), Fail> {
     walk(&rt, rt.alloc(), &ONE_OVER_ANOTHER)
 }
 
-const THREE_APART: [Line<'static>; 12] = [
+static THREE_APART: [Line<'static>; 12] = [
     Line(Deed::Lay(0, 0, &[0xaa], None), &[]),
     Line(Deed::Lay(1, 4, &[0xbb], None), &[]),
     Line(Deed::Lay(2, 8, &[0xcc], None), &[]),
-    Line(Deed::Take(0, Ok(())), &[0]),
-    Line(Deed::Back(2, Err(NotTaken)), &[0]),
-    Line(Deed::Take(2, Ok(())), &[0, 2]),
+    Line(Deed::Take(0, Taking::Done), &[0]),
+    Line(Deed::Back(2, Putting::NotTaken), &[0]),
+    Line(Deed::Take(2, Taking::Done), &[0, 2]),
     Line(Deed::Restore, &[]),
-    Line(Deed::Take(2, Ok(())), &[2]),
-    Line(Deed::Take(0, Ok(())), &[0, 2]),
+    Line(Deed::Take(2, Taking::Done), &[2]),
+    Line(Deed::Take(0, Taking::Done), &[0, 2]),
     Line(Deed::TakeAll, &[0, 1, 2]),
-    Line(Deed::Take(7, Err(Unknown)), &[]),
-    Line(Deed::Back(7, Err(NotTaken)), &[]),
+    Line(Deed::Take(7, Taking::Unknown), &[]),
+    Line(Deed::Back(7, Putting::NotTaken), &[]),
 ];
 
 #[test]
@@ -254,17 +303,17 @@ fn patches_apart_are_taken_in_any_order(rt: HostRuntime) -> Result<(), Fail> {
     walk(&rt, rt.alloc(), &THREE_APART)
 }
 
-const NAMED_AND_HARD: [Line<'static>; 11] = [
+static NAMED_AND_HARD: [Line<'static>; 11] = [
     Line(Deed::Lay(0, 0, &[0xaa], None), &[]),
     Line(Deed::Lay(1, 4, &[0xbb], Some(0)), &[]),
-    Line(Deed::Take(0, Err(DependentApplied(PatchNo(1)))), &[]),
-    Line(Deed::Take(1, Ok(())), &[1]),
-    Line(Deed::Take(1, Err(AlreadyTaken)), &[1]),
+    Line(Deed::Take(0, Taking::Below(1)), &[]),
+    Line(Deed::Take(1, Taking::Done), &[1]),
+    Line(Deed::Take(1, Taking::Twice), &[1]),
     Line(Deed::Restore, &[]),
     Line(Deed::LayHard(2, 8, &[0x11, 0x12]), &[]),
-    Line(Deed::Take(2, Err(Hard)), &[]),
+    Line(Deed::Take(2, Taking::Hard), &[]),
     Line(Deed::Lay(3, 9, &[0x22, 0x23], None), &[]),
-    Line(Deed::Take(3, Ok(())), &[3]),
+    Line(Deed::Take(3, Taking::Done), &[3]),
     Line(Deed::Restore, &[]),
 ];
 
@@ -276,27 +325,27 @@ fn named_ones_wait_and_hard_ones_stay(rt: HostRuntime) -> Result<(), Fail> {
 // The place of the merge in the walk after it.
 const MERGE: usize = 6;
 
-const MERGED_OVER_A_GAP: [Line<'static>; 21] = [
+static MERGED_OVER_A_GAP: [Line<'static>; 21] = [
     Line(Deed::Lay(0, 0, &[0xaa, 0xaa], None), &[]),
     Line(Deed::Lay(1, 4, &[0xbb, 0xbb], None), &[]),
     Line(Deed::Lay(2, 2, &[0xcc, 0xcc, 0xcc], None), &[]),
     Line(Deed::Draw(0, 2, true), &[]),
-    Line(Deed::Take(0, Ok(())), &[0]),
+    Line(Deed::Take(0, Taking::Done), &[0]),
     Line(Deed::Restore, &[]),
     Line(Deed::Join(0, 2), &[]),
-    Line(Deed::Take(1, Err(DependentApplied(PatchNo(0)))), &[]),
-    Line(Deed::Take(0, Ok(())), &[0, 2]),
-    Line(Deed::Take(1, Ok(())), &[0, 1, 2]),
-    Line(Deed::Back(2, Err(DependencyTaken(PatchNo(1)))), &[0, 1, 2]),
+    Line(Deed::Take(1, Taking::Below(0)), &[]),
+    Line(Deed::Take(0, Taking::Done), &[0, 2]),
+    Line(Deed::Take(1, Taking::Done), &[0, 1, 2]),
+    Line(Deed::Back(2, Putting::Above(1)), &[0, 1, 2]),
     Line(Deed::Restore, &[]),
     Line(Deed::TakeAll, &[0, 1, 2]),
     Line(Deed::Depart(1), &[]),
-    Line(Deed::Take(1, Err(InFlight)), &[]),
-    Line(Deed::Take(2, Ok(())), &[0, 2]),
+    Line(Deed::Take(1, Taking::InFlight), &[]),
+    Line(Deed::Take(2, Taking::Done), &[0, 2]),
     Line(Deed::Restore, &[]),
     Line(Deed::Land(1), &[]),
-    Line(Deed::Take(1, Err(Unknown)), &[]),
-    Line(Deed::Take(0, Ok(())), &[0, 2]),
+    Line(Deed::Take(1, Taking::Unknown), &[]),
+    Line(Deed::Take(0, Taking::Done), &[0, 2]),
     Line(Deed::Restore, &[]),
 ];
 
@@ -316,7 +365,7 @@ fn a_merge_over_a_gap_is_taken_as_one(rt: HostRuntime) -> Result<(), Fail> {
 
 // Patches that become one class in turn: its lists are made anew where they are full, where they come second, and where
 // the numbers interleave; else they take in the newest.
-const GROWN: [Line<'static>; 32] = [
+static GROWN: [Line<'static>; 32] = [
     Line(Deed::Lay(0, 0, &[0xa0], None), &[]),
     Line(Deed::Lay(1, 1, &[0xa1], Some(0)), &[]),
     Line(Deed::Join(0, 1), &[]),
@@ -324,34 +373,31 @@ const GROWN: [Line<'static>; 32] = [
     Line(Deed::Lay(3, 2, &[0xa3, 0xa4], Some(2)), &[]),
     Line(Deed::Draw(3, 1, true), &[]),
     Line(Deed::Join(3, 1), &[]),
-    Line(Deed::Take(2, Err(DependentApplied(PatchNo(0)))), &[]),
-    Line(Deed::Take(3, Ok(())), &[0, 1, 3]),
+    Line(Deed::Take(2, Taking::Below(0)), &[]),
+    Line(Deed::Take(3, Taking::Done), &[0, 1, 3]),
     Line(Deed::Restore, &[]),
     Line(Deed::Lay(4, 3, &[0xa5], Some(3)), &[]),
     Line(Deed::JoinBy(0, 4), &[]),
     Line(Deed::Lay(5, 0, &[0xc1, 0xc2], Some(4)), &[]),
-    Line(Deed::Take(4, Err(DependentApplied(PatchNo(5)))), &[]),
+    Line(Deed::Take(4, Taking::Below(5)), &[]),
     Line(Deed::Join(5, 4), &[]),
-    Line(Deed::Take(5, Ok(())), &[0, 1, 3, 4, 5]),
-    Line(Deed::Take(2, Ok(())), &[0, 1, 2, 3, 4, 5]),
-    Line(
-        Deed::Back(1, Err(DependencyTaken(PatchNo(2)))),
-        &[0, 1, 2, 3, 4, 5],
-    ),
+    Line(Deed::Take(5, Taking::Done), &[0, 1, 3, 4, 5]),
+    Line(Deed::Take(2, Taking::Done), &[0, 1, 2, 3, 4, 5]),
+    Line(Deed::Back(1, Putting::Above(2)), &[0, 1, 2, 3, 4, 5]),
     Line(Deed::Restore, &[]),
     Line(Deed::Lay(6, 5, &[0xb6], None), &[]),
     Line(Deed::Join(2, 6), &[]),
     Line(Deed::Lay(7, 6, &[0xb7], None), &[]),
     Line(Deed::Join(2, 7), &[]),
-    Line(Deed::Take(6, Err(DependentApplied(PatchNo(0)))), &[]),
-    Line(Deed::Take(0, Ok(())), &[0, 1, 3, 4, 5]),
-    Line(Deed::Take(7, Ok(())), &[0, 1, 2, 3, 4, 5, 6, 7]),
+    Line(Deed::Take(6, Taking::Below(0)), &[]),
+    Line(Deed::Take(0, Taking::Done), &[0, 1, 3, 4, 5]),
+    Line(Deed::Take(7, Taking::Done), &[0, 1, 2, 3, 4, 5, 6, 7]),
     Line(Deed::Restore, &[]),
     Line(Deed::Join(7, 0), &[]),
-    Line(Deed::Take(6, Ok(())), &[0, 1, 2, 3, 4, 5, 6, 7]),
+    Line(Deed::Take(6, Taking::Done), &[0, 1, 2, 3, 4, 5, 6, 7]),
     Line(Deed::Restore, &[]),
     Line(Deed::Depart(6), &[]),
-    Line(Deed::Take(2, Err(InFlight)), &[]),
+    Line(Deed::Take(2, Taking::InFlight), &[]),
 ];
 
 #[test]
@@ -359,17 +405,17 @@ fn a_class_takes_in_the_newest_patch(rt: HostRuntime) -> Result<(), Fail> {
     walk(&rt, rt.alloc(), &GROWN)
 }
 
-const TWO_OF_THREE_TOGETHER: [Line<'static>; 11] = [
+static TWO_OF_THREE_TOGETHER: [Line<'static>; 11] = [
     Line(Deed::Lay(0, 0, &[0xaa], None), &[]),
     Line(Deed::Lay(1, 4, &[0xbb], None), &[]),
     Line(Deed::Lay(2, 8, &[0xcc], None), &[]),
     Line(Deed::DepartEach(0, 2), &[]),
-    Line(Deed::Take(0, Err(InFlight)), &[]),
-    Line(Deed::Take(2, Err(InFlight)), &[]),
+    Line(Deed::Take(0, Taking::InFlight), &[]),
+    Line(Deed::Take(2, Taking::InFlight), &[]),
     Line(Deed::LandEach, &[]),
-    Line(Deed::Take(0, Err(Unknown)), &[]),
-    Line(Deed::Take(2, Err(Unknown)), &[]),
-    Line(Deed::Take(1, Ok(())), &[1]),
+    Line(Deed::Take(0, Taking::Unknown), &[]),
+    Line(Deed::Take(2, Taking::Unknown), &[]),
+    Line(Deed::Take(1, Taking::Done), &[1]),
     Line(Deed::Restore, &[]),
 ];
 
@@ -378,17 +424,17 @@ fn two_of_three_depart_and_land_together(rt: HostRuntime) -> Result<(), Fail> {
     walk(&rt, rt.alloc(), &TWO_OF_THREE_TOGETHER)
 }
 
-const OVER_ONE_IN_FLIGHT: [Line<'static>; 10] = [
+static OVER_ONE_IN_FLIGHT: [Line<'static>; 10] = [
     Line(Deed::Lay(0, 0, &[0x11], None), &[]),
     Line(Deed::Depart(0), &[]),
     Line(Deed::Lay(1, 0, &[0x22], None), &[]),
-    Line(Deed::Take(1, Ok(())), &[1]),
-    Line(Deed::Take(0, Err(InFlight)), &[1]),
+    Line(Deed::Take(1, Taking::Done), &[1]),
+    Line(Deed::Take(0, Taking::InFlight), &[1]),
     Line(Deed::Restore, &[]),
     Line(Deed::TakeAll, &[1]),
     Line(Deed::Land(0), &[]),
-    Line(Deed::Take(0, Err(Unknown)), &[]),
-    Line(Deed::Take(1, Ok(())), &[1]),
+    Line(Deed::Take(0, Taking::Unknown), &[]),
+    Line(Deed::Take(1, Taking::Done), &[1]),
 ];
 
 #[test]
@@ -396,12 +442,12 @@ fn one_over_a_flight_is_taken_alone(rt: HostRuntime) -> Result<(), Fail> {
     walk(&rt, rt.alloc(), &OVER_ONE_IN_FLIGHT)
 }
 
-const UNDER_A_LATER_DURABLE_ONE: [Line<'static>; 6] = [
+static UNDER_A_LATER_DURABLE_ONE: [Line<'static>; 6] = [
     Line(Deed::Lay(1, 0, &[0xaa], Some(0)), &[]),
     Line(Deed::Lay(2, 4, &[0xbb], None), &[]),
     Line(Deed::Depart(2), &[]),
     Line(Deed::Land(2), &[]),
-    Line(Deed::Take(1, Ok(())), &[1]),
+    Line(Deed::Take(1, Taking::Done), &[1]),
     Line(Deed::Restore, &[]),
 ];
 
@@ -410,11 +456,11 @@ fn one_under_a_later_durable_one_is_taken(rt: HostRuntime) -> Result<(), Fail> {
     walk(&rt, rt.alloc(), &UNDER_A_LATER_DURABLE_ONE)
 }
 
-const HARD_OVER_HARD: [Line<'static>; 6] = [
+static HARD_OVER_HARD: [Line<'static>; 6] = [
     Line(Deed::LayHard(0, 0, &[0x11]), &[]),
     Line(Deed::LayHard(1, 0, &[0x22]), &[]),
-    Line(Deed::Take(1, Err(Hard)), &[]),
-    Line(Deed::Back(1, Err(NotTaken)), &[]),
+    Line(Deed::Take(1, Taking::Hard), &[]),
+    Line(Deed::Back(1, Putting::NotTaken), &[]),
     Line(Deed::Lay(2, 0, &[0x33], None), &[]),
     Line(Deed::TakeAll, &[2]),
 ];
@@ -424,15 +470,15 @@ fn hard_ones_are_never_taken(rt: HostRuntime) -> Result<(), Fail> {
     walk(&rt, rt.alloc(), &HARD_OVER_HARD)
 }
 
-const NOT_ENTERED_AT_FIRST: [Line<'static>; 9] = [
+static NOT_ENTERED_AT_FIRST: [Line<'static>; 9] = [
     Line(Deed::Lay(0, 0, &[0xa1, 0xa2, 0xa3, 0xa4], None), &[]),
     Line(Deed::LayNothing(1, 2, &[0xb1, 0xb2, 0xb3, 0xb4]), &[]),
-    Line(Deed::Take(1, Err(Unknown)), &[]),
-    Line(Deed::Take(0, Ok(())), &[0]),
+    Line(Deed::Take(1, Taking::Unknown), &[]),
+    Line(Deed::Take(0, Taking::Done), &[0]),
     Line(Deed::Restore, &[]),
     Line(Deed::Lay(1, 2, &[0xb1, 0xb2, 0xb3, 0xb4], None), &[]),
-    Line(Deed::Take(0, Err(DependentApplied(PatchNo(1)))), &[]),
-    Line(Deed::Take(1, Ok(())), &[1]),
+    Line(Deed::Take(0, Taking::Below(1)), &[]),
+    Line(Deed::Take(1, Taking::Done), &[1]),
     Line(Deed::Restore, &[]),
 ];
 
@@ -441,13 +487,13 @@ fn one_that_is_not_entered_is_not_laid(rt: HostRuntime) -> Result<(), Fail> {
     walk(&rt, rt.alloc(), &NOT_ENTERED_AT_FIRST)
 }
 
-const HARD_OVER_ANOTHER: [Line<'static>; 7] = [
+static HARD_OVER_ANOTHER: [Line<'static>; 7] = [
     Line(Deed::Lay(0, 0, &[0xa1, 0xa2, 0xa3, 0xa4], None), &[]),
     Line(Deed::LayHard(1, 2, &[0xb1, 0xb2, 0xb3, 0xb4]), &[]),
-    Line(Deed::Take(1, Err(Hard)), &[]),
-    Line(Deed::Take(0, Err(DependentApplied(PatchNo(1)))), &[]),
+    Line(Deed::Take(1, Taking::Hard), &[]),
+    Line(Deed::Take(0, Taking::Below(1)), &[]),
     Line(Deed::Lay(2, 3, &[0xcc], None), &[]),
-    Line(Deed::Take(2, Ok(())), &[2]),
+    Line(Deed::Take(2, Taking::Done), &[2]),
     Line(Deed::Restore, &[]),
 ];
 
@@ -456,14 +502,14 @@ fn a_hard_one_over_another_stays(rt: HostRuntime) -> Result<(), Fail> {
     walk(&rt, rt.alloc(), &HARD_OVER_ANOTHER)
 }
 
-const NO_JOINT: [Line<'static>; 9] = [
+static NO_JOINT: [Line<'static>; 9] = [
     Line(Deed::Lay(0, 0, &[1, 2], None), &[]),
     Line(Deed::Lay(1, 2, &[3], None), &[]),
     Line(Deed::Draw(0, 0, false), &[]),
     Line(Deed::Draw(0, 7, false), &[]),
     Line(Deed::Draw(7, 0, false), &[]),
     Line(Deed::JoinNothing, &[]),
-    Line(Deed::Take(0, Ok(())), &[0]),
+    Line(Deed::Take(0, Taking::Done), &[0]),
     Line(Deed::Restore, &[]),
     Line(Deed::JoinGone(0, 1), &[]),
 ];

@@ -9,6 +9,6 @@ returns-in-Ok-clause-new g c =
     let untouched = c.in_ok-cache.ensures.untouched in
     unused_store c.in-Ok.store _ c.in-Ok.ensures.cache untouched (c.in-Ok.ensures.opened untouched.first untouched.cache_is)
 
-pub returns-clause-stops : goal.returns-clause-stops
-returns-clause-stops g c honest =
+pub returns-in-Err-clause-stops : goal.returns-in-Err-clause-stops
+returns-in-Err-clause-stops g c honest =
     open_stops c.in-Err.fault _ _ _ _ (ap (λ r. Refused r) c.refusal.ensures) (c.in-Err.ensures.opened _ (c.in_ok-cache.ensures.gives honest))

@@ -4,14 +4,14 @@ use Rattle.patch_disks.proofs.running.run_lines.Goals as goal
 
 pub returns-clause-run : goal.returns-clause-run
 returns-clause-run g c honest =
-    c.answer_and_save.ensures.run (c.open_store.ensures.device.honesty.0 honest) _ (sym (c.open_store.ensures.same honest)) (c.in_ok-store.ensures.opened honest)
+    c.answer_and_save-ran.ensures.run (c.open_store.ensures.device.honesty.0 honest) _ (sym (c.open_store.ensures.same honest)) (c.in_ok-store.ensures.opened honest)
 
 pub returns-in_err-store-clause-some : goal.returns-in_err-store-clause-some
 returns-in_err-store-clause-some g c honest fine = none_written c.args.lines.items _ _
 
 pub returns-clause-some : goal.returns-clause-some
 returns-clause-some g c honest =
-    c.answer_and_save.ensures.some (c.open_store.ensures.device.honesty.0 honest) _ (sym (c.open_store.ensures.same honest)) (c.in_ok-store.ensures.opened honest)
+    c.answer_and_save-ran.ensures.some (c.open_store.ensures.device.honesty.0 honest) _ (sym (c.open_store.ensures.same honest)) (c.in_ok-store.ensures.opened honest)
 
 pub returns-in_err-store-clause-stops : goal.returns-in_err-store-clause-stops
 returns-in_err-store-clause-stops g c honest =
@@ -19,5 +19,5 @@ returns-in_err-store-clause-stops g c honest =
 
 pub returns-clause-stops : goal.returns-clause-stops
 returns-clause-stops g c honest =
-    each_stop_for c.answer_and_save.result _ _ (broken_behind g.D.Device _ _ _ _ _ (g.met.D.Device.faults_fit c.answer_and_save.new.device) c.open_store.ensures.device)
-    (c.answer_and_save.ensures.stops (c.open_store.ensures.device.honesty.0 honest) _ (sym (c.open_store.ensures.same honest)) (c.in_ok-store.ensures.opened honest))
+    each_stop_for c.answer_and_save-ran.result _ _ (broken_behind g.D.Device _ _ _ _ _ (g.met.D.Device.faults_fit c.answer_and_save-ran.new.device) c.open_store.ensures.device)
+    (c.answer_and_save-ran.ensures.stops (c.open_store.ensures.device.honesty.0 honest) _ (sym (c.open_store.ensures.same honest)) (c.in_ok-store.ensures.opened honest))
