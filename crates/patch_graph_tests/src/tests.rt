@@ -83,10 +83,11 @@ enum Move<'a> {
     // What may be written of a block.
     Ready(u32, &'a [u32]),
     // Whether the first patch's class reaches the second's, and what lies between them.
-    Paths(u32, u32, Path, Option<PatchNo>),
+    Paths(u32, u32, Path, Option<u32>),
     MarkOf(u32, Option<Mark>),
-    ClassOf(u32, Option<PatchNo>),
-    Live(u32, Option<LiveClass>),
+    ClassOf(u32, Option<u32>),
+    // How far the class of the first two patches has come, where the patch is of it and it lives.
+    Live(u32, Option<Mark>),
 }
 
 fn make<A: Allocator + Copy>(
@@ -147,26 +148,47 @@ fn expect_paths(
     a: u32,
     b: u32,
     path: Path,
-    between: Option<PatchNo>,
+    between: Option<u32>,
 ) {
     let there = matches!(path, Path::There);
     expect_eq(rt, &graph.reaches(PatchNo(a), PatchNo(b)), &there);
-    expect_eq(rt, &graph.between(PatchNo(a), PatchNo(b)), &between);
+    expect_eq(
+        rt,
+        &graph.between(PatchNo(a), PatchNo(b)),
+        &between.map(|no| PatchNo(no)),
+    );
 }
 
 fn expect_mark(rt: &impl Abort, graph: &Graph, no: u32, mark: Option<Mark>) {
     expect_eq(rt, &graph.mark_of(PatchNo(no)), &mark);
 }
 
-fn expect_class(rt: &impl Abort, graph: &Graph, no: u32, name: Option<PatchNo>) {
-    expect_eq(rt, &graph.class_of(PatchNo(no)), &name);
+fn expect_class(rt: &impl Abort, graph: &Graph, no: u32, name: Option<u32>) {
+    expect_eq(
+        rt,
+        &graph.class_of(PatchNo(no)),
+        &name.map(|no| PatchNo(no)),
+    );
 }
 
-fn expect_live(rt: &impl Abort, graph: &Graph, no: u32, class: Option<LiveClass>) {
-    expect_eq(rt, &graph.live_class(PatchNo(no)), &class);
+// A class of two patches that touch.
+fn touching(mark: Mark) -> LiveClass {
+    LiveClass {
+        name: PatchNo(0),
+        block: BlockNo(3),
+        mark,
+        hard: false,
+        start: 10,
+        stop: 20,
+    }
 }
 
-fn step(rt: &impl Abort, alloc: Global, graph: &mut Graph, next: &Move) -> Result<(), Fail> {
+fn expect_live(rt: &impl Abort, graph: &Graph, no: u32, mark: Option<Mark>) {
+    expect_eq(rt, &graph.live_class(PatchNo(no)), &mark.map(touching));
+}
+
+// A move that changes the graph.
+fn change(rt: &impl Abort, graph: &mut Graph, next: &Move) -> Result<(), Fail> {
     match next {
         Move::Make(block, start, stop, after) => {
             make(rt, graph, &ask_for(*block, *start, *stop, *after))?;
@@ -175,13 +197,22 @@ fn step(rt: &impl Abort, alloc: Global, graph: &mut Graph, next: &Move) -> Resul
             rt, graph, *block, *after, *hardness,
         )?,
         Move::Merge(a, b, name) => merge(rt, graph, *a, *b, *name)?,
-        Move::Ready(block, numbers) => expect_ready(rt, alloc, graph, *block, numbers)?,
         Move::Send(block) => graph.mark_flight(BlockNo(*block)),
         Move::Complete(block) => graph.mark_durable(BlockNo(*block)),
+        _ => {}
+    }
+    Ok(())
+}
+
+// A move that looks at the graph.
+fn look(rt: &impl Abort, alloc: Global, graph: &mut Graph, next: &Move) -> Result<(), Fail> {
+    match next {
+        Move::Ready(block, numbers) => return expect_ready(rt, alloc, graph, *block, numbers),
         Move::Paths(a, b, path, between) => expect_paths(rt, graph, *a, *b, *path, *between),
         Move::MarkOf(no, mark) => expect_mark(rt, graph, *no, *mark),
         Move::ClassOf(no, name) => expect_class(rt, graph, *no, *name),
-        Move::Live(no, class) => expect_live(rt, graph, *no, *class),
+        Move::Live(no, mark) => expect_live(rt, graph, *no, *mark),
+        _ => {}
     }
     Ok(())
 }
@@ -193,43 +224,27 @@ fn take_steps(
     moves: &[Move],
 ) -> Result<(), Fail> {
     for next in moves {
-        step(rt, alloc, graph, next)?;
+        change(rt, graph, next)?;
+        look(rt, alloc, graph, next)?;
     }
     Ok(())
 }
 
 fn walk(rt: &impl Abort, alloc: Global, moves: &[Move]) -> Result<(), Fail> {
     let mut graph = Graph::new(alloc);
-    take_steps(rt, alloc, &mut graph, moves)
+    let walked = take_steps(rt, alloc, &mut graph, moves);
+    drop(graph);
+    walked
 }
 
-// A class of two patches that touch.
-const IN_MEMORY: LiveClass = LiveClass {
-    name: PatchNo(0),
-    block: BlockNo(3),
-    mark: Mark::Memory,
-    hard: false,
-    start: 10,
-    stop: 20,
-};
-
-const IN_FLIGHT: LiveClass = LiveClass {
-    name: PatchNo(0),
-    block: BlockNo(3),
-    mark: Mark::Flight,
-    hard: false,
-    start: 10,
-    stop: 20,
-};
-
-const A_LIVE_CLASS: [Move<'static>; 9] = [
+static A_LIVE_CLASS: [Move<'static>; 9] = [
     Move::Make(3, 10, 14, None),
     Move::Make(3, 14, 20, None),
     Move::Merge(1, 0, 0),
-    Move::Live(1, Some(IN_MEMORY)),
+    Move::Live(1, Some(Mark::Memory)),
     Move::Live(2, None),
     Move::Send(3),
-    Move::Live(0, Some(IN_FLIGHT)),
+    Move::Live(0, Some(Mark::Flight)),
     Move::Complete(3),
     Move::Live(0, None),
 ];
@@ -240,7 +255,7 @@ fn a_live_class_is_shown(rt: HostRuntime) -> Result<(), Fail> {
     walk(&rt, rt.alloc(), &A_LIVE_CLASS)
 }
 
-const ACROSS_TWO_BLOCKS: [Move<'static>; 13] = [
+static ACROSS_TWO_BLOCKS: [Move<'static>; 13] = [
     Move::Make(0, 0, 1, None),
     Move::Make(1, 0, 1, Some(0)),
     Move::Make(0, 1, 2, Some(1)),
@@ -262,7 +277,7 @@ fn what_is_in_flight_on_either_block_is_not_met(rt: HostRuntime) -> Result<(), F
     walk(&rt, rt.alloc(), &ACROSS_TWO_BLOCKS)
 }
 
-const OVER_A_FLIGHT: [Move<'static>; 12] = [
+static OVER_A_FLIGHT: [Move<'static>; 12] = [
     Move::Make(0, 0, 1, None),
     Move::Send(0),
     Move::MarkOf(0, Some(Mark::Flight)),
@@ -283,19 +298,19 @@ fn a_patch_over_a_flight_waits_for_it(rt: HostRuntime) -> Result<(), Fail> {
     walk(&rt, rt.alloc(), &OVER_A_FLIGHT)
 }
 
-const MERGED_CLASSES: [Move<'static>; 16] = [
+static MERGED_CLASSES: [Move<'static>; 16] = [
     Move::Make(0, 0, 2, None),
     Move::Make(0, 4, 6, None),
     Move::Make(0, 2, 5, None),
     Move::Make(1, 0, 1, Some(2)),
     Move::Merge(0, 2, 0),
-    Move::ClassOf(2, Some(PatchNo(0))),
-    Move::ClassOf(1, Some(PatchNo(1))),
+    Move::ClassOf(2, Some(0)),
+    Move::ClassOf(1, Some(1)),
     Move::Paths(0, 1, Path::There, None),
     Move::Paths(1, 2, Path::Missing, None),
-    Move::Paths(3, 1, Path::There, Some(PatchNo(0))),
+    Move::Paths(3, 1, Path::There, Some(0)),
     Move::Merge(1, 2, 0),
-    Move::ClassOf(1, Some(PatchNo(0))),
+    Move::ClassOf(1, Some(0)),
     Move::Ready(0, &[0, 1, 2]),
     Move::Send(0),
     Move::Complete(0),
@@ -308,11 +323,11 @@ fn a_class_takes_in_one_that_it_depends_on(rt: HostRuntime) -> Result<(), Fail> 
     walk(&rt, rt.alloc(), &MERGED_CLASSES)
 }
 
-const RING_ON_A_BLOCK: [Move<'static>; 6] = [
+static RING_ON_A_BLOCK: [Move<'static>; 6] = [
     Move::Make(0, 0, 4, None),
     Move::Make(0, 2, 6, None),
     Move::Make(0, 4, 8, None),
-    Move::Paths(2, 0, Path::There, Some(PatchNo(1))),
+    Move::Paths(2, 0, Path::There, Some(1)),
     Move::Paths(0, 2, Path::Missing, None),
     Move::Paths(2, 1, Path::There, None),
 ];
@@ -323,7 +338,7 @@ fn a_third_class_lies_between_on_a_block(rt: HostRuntime) -> Result<(), Fail> {
     walk(&rt, rt.alloc(), &RING_ON_A_BLOCK)
 }
 
-const REWRITTEN_IN_PARTS: [Move<'static>; 20] = [
+static REWRITTEN_IN_PARTS: [Move<'static>; 20] = [
     Move::Make(0, 0, 100, None),
     Move::Make(0, 20, 40, None),
     Move::Make(0, 60, 80, None),
@@ -332,14 +347,14 @@ const REWRITTEN_IN_PARTS: [Move<'static>; 20] = [
     Move::Make(0, 70, 90, None),
     Move::Make(0, 30, 70, None),
     Move::Make(1, 30, 70, None),
-    Move::Paths(3, 0, Path::There, Some(PatchNo(1))),
+    Move::Paths(3, 0, Path::There, Some(1)),
     Move::Paths(4, 1, Path::There, None),
-    Move::Paths(4, 0, Path::There, Some(PatchNo(1))),
+    Move::Paths(4, 0, Path::There, Some(1)),
     Move::Paths(4, 3, Path::Missing, None),
     Move::Paths(5, 2, Path::There, None),
     Move::Paths(5, 3, Path::Missing, None),
     Move::Paths(6, 3, Path::There, None),
-    Move::Paths(6, 1, Path::There, Some(PatchNo(3))),
+    Move::Paths(6, 1, Path::There, Some(3)),
     Move::Paths(6, 4, Path::Missing, None),
     Move::Paths(7, 6, Path::Missing, None),
     Move::Send(0),
@@ -352,13 +367,13 @@ fn a_block_is_rewritten_in_parts(rt: HostRuntime) -> Result<(), Fail> {
     walk(&rt, rt.alloc(), &REWRITTEN_IN_PARTS)
 }
 
-const RING_THROUGH_BLOCKS: [Move<'static>; 7] = [
+static RING_THROUGH_BLOCKS: [Move<'static>; 7] = [
     Move::Make(0, 0, 1, None),
     Move::Make(1, 0, 1, Some(0)),
     Move::Make(2, 0, 1, Some(1)),
     Move::Make(0, 1, 2, Some(2)),
     Move::Make(3, 0, 1, None),
-    Move::Paths(3, 0, Path::There, Some(PatchNo(1))),
+    Move::Paths(3, 0, Path::There, Some(1)),
     Move::Paths(0, 3, Path::Missing, None),
 ];
 
@@ -368,12 +383,12 @@ fn a_third_class_lies_between_through_other_blocks(rt: HostRuntime) -> Result<()
     walk(&rt, rt.alloc(), &RING_THROUGH_BLOCKS)
 }
 
-const ENDS_THAT_ARE_NOT_LIVE: [Move<'static>; 19] = [
+static ENDS_THAT_ARE_NOT_LIVE: [Move<'static>; 19] = [
     Move::Make(0, 0, 1, None),
     Move::Make(1, 0, 1, Some(0)),
     Move::Make(2, 0, 1, Some(1)),
     Move::Make(1, 1, 2, None),
-    Move::Paths(2, 0, Path::There, Some(PatchNo(1))),
+    Move::Paths(2, 0, Path::There, Some(1)),
     Move::Paths(1, 1, Path::Missing, None),
     Move::Paths(2, 4, Path::Missing, None),
     Move::Paths(4, 0, Path::Missing, None),
@@ -383,7 +398,7 @@ const ENDS_THAT_ARE_NOT_LIVE: [Move<'static>; 19] = [
     Move::Paths(1, 3, Path::Missing, None),
     Move::Paths(3, 0, Path::There, None),
     Move::Send(0),
-    Move::Paths(2, 0, Path::There, Some(PatchNo(1))),
+    Move::Paths(2, 0, Path::There, Some(1)),
     Move::Complete(0),
     Move::Paths(2, 0, Path::Missing, None),
     Move::Paths(0, 2, Path::Missing, None),
@@ -396,7 +411,7 @@ fn numbers_that_are_not_live_reach_nothing(rt: HostRuntime) -> Result<(), Fail> 
     walk(&rt, rt.alloc(), &ENDS_THAT_ARE_NOT_LIVE)
 }
 
-const HARD_PATCHES: [Move<'static>; 8] = [
+static HARD_PATCHES: [Move<'static>; 8] = [
     Move::MakeLoose(0, None, Hardness::Hard),
     Move::MakeLoose(0, None, Hardness::Hard),
     Move::MakeLoose(1, Some(1), Hardness::Soft),
@@ -446,7 +461,19 @@ fn fill_and_add(rt: &impl Abort, graph: &mut Graph) -> Result<(), Fail> {
 #[test]
 fn as_many_as_may_be_live_and_one_more(rt: HostRuntime) -> Result<(), Fail> {
     let mut graph = Graph::new(rt.alloc());
-    fill_and_add(&rt, &mut graph)
+    let filled = fill_and_add(&rt, &mut graph);
+    drop(graph);
+    filled
+}
+
+// How many may be written of the block.
+fn count_ready(
+    alloc: Global,
+    graph: &mut Graph<&LocalHeap>,
+    block: u32,
+) -> Result<usize, OutOfMemory> {
+    let ready = graph.ready(alloc, BlockNo(block))?;
+    Ok(ready.len())
 }
 
 // A patch that was refused leaves no trace.
@@ -456,15 +483,11 @@ fn expect_unmade(
     graph: &mut Graph<&LocalHeap>,
     block: u32,
     made: u32,
-) -> Result<(), Fail> {
-    expect_eq(
-        rt,
-        &(graph.made(), graph.mark_of(PatchNo(made))),
-        &(made, None),
-    );
-    let before = graph.ready(alloc, BlockNo(block))?;
-    expect_eq(rt, &before.len(), &(made as usize));
-    Ok(())
+) {
+    expect_eq(rt, &graph.made(), &made);
+    expect_eq(rt, &graph.mark_of(PatchNo(made)), &None);
+    let ready = count_ready(alloc, graph, block);
+    expect_eq(rt, &ready, &Ok(made as usize));
 }
 
 fn give_back(ballast: &mut Vec<u8, &LocalHeap>) {
@@ -481,10 +504,11 @@ fn add_twice(
     ask: &Ask,
 ) -> Result<bool, Fail> {
     let made = graph.made();
-    if add(rt, graph, ask).is_ok() {
+    let first = add(rt, graph, ask);
+    if first.is_ok() {
         return Ok(false);
     }
-    expect_unmade(rt, alloc, graph, ask.block, made)?;
+    expect_unmade(rt, alloc, graph, ask.block, made);
     give_back(ballast);
     make(rt, graph, ask)?;
     Ok(true)
@@ -533,7 +557,9 @@ fn walk_beside(
     ballast: &mut Vec<u8, &LocalHeap>,
 ) -> Result<bool, Fail> {
     let mut graph = Graph::new(heap);
-    make_and_merge(rt, alloc, &mut graph, ballast)
+    let made = make_and_merge(rt, alloc, &mut graph, ballast);
+    drop(graph);
+    made
 }
 
 // What fills a heap but for a little, until it is given back.
@@ -546,7 +572,9 @@ const HEAP_STEP: usize = 16;
 fn walk_in(rt: &impl Abort, alloc: Global, size: usize) -> Result<bool, Fail> {
     let heap = LocalHeap::new(alloc, size)?;
     let mut ballast = Vec::with_capacity(&heap, BALLAST)?;
-    walk_beside(rt, alloc, &heap, &mut ballast)
+    let walked = walk_beside(rt, alloc, &heap, &mut ballast);
+    drop(ballast);
+    walked
 }
 
 // How many heaps are too small, each larger than the one before it.
@@ -607,16 +635,18 @@ fn count_refused(rt: &impl Abort, alloc: Global, graph: &mut Graph) -> Result<u3
     Ok(refused)
 }
 
-fn expect_refused(rt: &impl Abort, alloc: Global, graph: &mut Graph) -> Result<(), Fail> {
+fn answer_much(rt: &impl Abort, graph: &mut Graph) -> Result<(), Fail> {
     for byte in 0..ANSWERED {
         add(rt, graph, &ask_for(0, byte, byte + 1, None))?;
     }
+    Ok(())
+}
+
+fn expect_refused(rt: &impl Abort, alloc: Global, graph: &mut Graph) -> Result<(), Fail> {
+    answer_much(rt, graph)?;
     let refused = count_refused(rt, alloc, graph)?;
-    expect_eq(
-        rt,
-        &(&refused, &(refused > 0 && refused < HEAPS)),
-        &(&refused, &true),
-    );
+    let some = refused > 0 && refused < HEAPS;
+    expect_eq(rt, &(refused, some), &(refused, true));
     Ok(())
 }
 
@@ -624,7 +654,9 @@ fn expect_refused(rt: &impl Abort, alloc: Global, graph: &mut Graph) -> Result<(
 #[test]
 fn a_refused_answer_changes_nothing(rt: HostRuntime) -> Result<(), Fail> {
     let mut graph = Graph::new(rt.alloc());
-    expect_refused(&rt, rt.alloc(), &mut graph)
+    let refused = expect_refused(&rt, rt.alloc(), &mut graph);
+    drop(graph);
+    refused
 }
 
 // How many blocks a walk by chance goes over.
@@ -789,5 +821,7 @@ fn ready_agrees(rt: HostRuntime) -> Result<(), Fail> {
         merges: 0,
     };
     let mut graph = Graph::new(rt.alloc());
-    walk_by_chance(&rt, rt.alloc(), &mut graph, &mut chance)
+    let walked = walk_by_chance(&rt, rt.alloc(), &mut graph, &mut chance);
+    drop(graph);
+    walked
 }

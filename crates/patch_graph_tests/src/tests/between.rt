@@ -534,13 +534,13 @@ fn between_agrees_where_the_lower_class_lies_in_a_ring(rt: HostRuntime) -> Resul
     expect_shapes(&rt, rt.alloc(), Joining::LowerRing)
 }
 
-const RING_BY_AN_ILLEGAL_MERGE: [Move<'static>; 6] = [
+static RING_BY_AN_ILLEGAL_MERGE: [Move<'static>; 6] = [
     Move::Make(2, 0, 1, None),
     Move::Make(0, 0, 1, Some(0)),
     Move::Make(1, 0, 1, Some(1)),
     Move::Make(0, 1, 2, Some(2)),
     Move::Merge(1, 3, 1),
-    Move::Paths(1, 0, Path::There, Some(PatchNo(2))),
+    Move::Paths(1, 0, Path::There, Some(2)),
 ];
 
 // A third class depends on the upper one and is one on which that depends: it lies between, by a path on which the upper one comes
