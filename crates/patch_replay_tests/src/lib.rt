@@ -10,6 +10,8 @@ mod rows_of_groups;
 #[cfg(test)]
 mod rows_of_merges;
 #[cfg(test)]
+mod rows_of_refusals;
+#[cfg(test)]
 mod rows_of_writes;
 #[cfg(test)]
 mod tests;

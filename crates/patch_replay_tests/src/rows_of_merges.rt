@@ -23,8 +23,9 @@ pub const ROWS_OF_MERGES: [Row; 9] = [
 {"op":"patch","block":0,"start":2,"hex":"02020202"}
 {"op":"patch","block":0,"start":4,"hex":"03030303"}
 {"op":"merge","a":0,"b":2}
+{"op":"merge","a":2,"b":0}
 "#,
-        answers: "patch 0\npatch 1\npatch 2\nrefused WouldCycle 1\n",
+        answers: "patch 0\npatch 1\npatch 2\nrefused WouldCycle 1\nrefused WouldCycle 1\n",
         status: Status::Done,
     },
     Row {
@@ -47,8 +48,11 @@ pub const ROWS_OF_MERGES: [Row; 9] = [
 {"op":"view","block":0,"take":[1],"start":0,"len":6}
 {"op":"view","block":0,"take":[0],"start":0,"len":6}
 {"op":"view","block":0,"take":[0,1],"start":0,"len":6}
+{"op":"send","block":0}
+{"op":"complete","block":0}
+{"op":"disk","block":0,"start":0,"len":7}
 "#,
-        answers: "patch 0\npatch 1\npatch 2\nmerged 0\nrefused DependentApplied 0\nwithout 00000000bbbb cached aaaaccccccbb\nwithout 000000000000 cached aaaaccccccbb\n",
+        answers: "patch 0\npatch 1\npatch 2\nmerged 0\nrefused DependentApplied 0\nwithout 00000000bbbb cached aaaaccccccbb\nwithout 000000000000 cached aaaaccccccbb\nsent 0 0,1,2\ndurable 0 0,1,2\ndisk aaaaccccccbb00\n",
         status: Status::Done,
     },
     Row {
@@ -76,8 +80,11 @@ pub const ROWS_OF_MERGES: [Row; 9] = [
 {"op":"send","block":0}
 {"op":"complete","block":0}
 {"op":"merge","a":0,"b":1}
+{"op":"merge","a":2,"b":1}
+{"op":"disk","block":0,"start":0,"len":3}
+{"op":"disk","block":1,"start":0,"len":1}
 "#,
-        answers: "patch 0\npatch 1\npatch 2\nrefused Unknown\nrefused Same\nrefused OtherBlock\nmerged 0\nsent 0 0,1\ndurable 0 0,1\nrefused NotInMemory 0\n",
+        answers: "patch 0\npatch 1\npatch 2\nrefused Unknown\nrefused Same\nrefused OtherBlock\nmerged 0\nsent 0 0,1\ndurable 0 0,1\nrefused NotInMemory 0\nrefused NotInMemory 1\ndisk aabb00\ndisk 00\n",
         status: Status::Done,
     },
     Row {
@@ -86,10 +93,13 @@ pub const ROWS_OF_MERGES: [Row; 9] = [
         script: r#"{"drop":true,"op":"patch","block":0,"start":0,"hex":"11"}
 {"drop":true,"op":"patch","block":0,"start":0,"hex":"22"}
 {"op":"merge","a":0,"b":1}
+{"op":"merge","a":1,"b":0}
 {"op":"view","block":0,"take":[1],"start":0,"len":1}
 {"op":"send","block":0}
+{"op":"complete","block":0}
+{"op":"disk","block":0,"start":0,"len":2}
 "#,
-        answers: "patch 0\npatch 1\nrefused Hard 0\nrefused Hard\nsent 0 0,1\n",
+        answers: "patch 0\npatch 1\nrefused Hard 0\nrefused Hard 1\nrefused Hard\nsent 0 0,1\ndurable 0 0,1\ndisk 2200\n",
         status: Status::Done,
     },
     Row {

@@ -14,10 +14,15 @@ pub const ROWS_OF_WRITES: [Row; 14] = [
 {"op":"disk","block":0,"start":0,"len":2}
 {"op":"send","block":1}
 {"op":"send","block":0}
+{"op":"disk","block":1,"start":0,"len":2}
 {"op":"complete","block":1}
 {"op":"send","block":0}
+{"op":"disk","block":0,"start":0,"len":2}
+{"op":"disk","block":1,"start":0,"len":2}
+{"op":"complete","block":0}
+{"op":"disk","block":0,"start":0,"len":3}
 "#,
-        answers: "patch 0\npatch 1\npatch 2\nsent 0 0\ndurable 0 0\ndisk aa00\nsent 1 1\nrefused NothingReady\ndurable 1 1\nsent 0 2\n",
+        answers: "patch 0\npatch 1\npatch 2\nsent 0 0\ndurable 0 0\ndisk aa00\nsent 1 1\nrefused NothingReady\ndisk 0000\ndurable 1 1\nsent 0 2\ndisk aa00\ndisk bb00\ndurable 0 2\ndisk aacc00\n",
         status: Status::Done,
     },
     Row {
@@ -29,8 +34,9 @@ pub const ROWS_OF_WRITES: [Row; 14] = [
 {"op":"send","block":0}
 {"op":"complete","block":0}
 {"op":"view","block":0,"take":[1],"start":0,"len":5}
+{"op":"disk","block":0,"start":0,"len":6}
 "#,
-        answers: "patch 0\npatch 1\npatch 2\nsent 0 2\ndurable 0 2\nwithout 00000000bb cached aa000000bb\n",
+        answers: "patch 0\npatch 1\npatch 2\nsent 0 2\ndurable 0 2\nwithout 00000000bb cached aa000000bb\ndisk 00000000bb00\n",
         status: Status::Done,
     },
     Row {
@@ -41,14 +47,18 @@ pub const ROWS_OF_WRITES: [Row; 14] = [
 {"op":"patch","block":0,"start":0,"hex":"22"}
 {"op":"send","block":0}
 {"op":"merge","a":0,"b":1}
+{"op":"merge","a":1,"b":0}
 {"op":"view","block":0,"take":[1],"start":0,"len":1}
 {"op":"view","block":0,"take":[0],"start":0,"len":1}
 {"op":"complete","block":0}
 {"op":"disk","block":0,"start":0,"len":1}
 {"op":"view","block":0,"take":[0],"start":0,"len":1}
 {"op":"send","block":0}
+{"op":"disk","block":0,"start":0,"len":1}
+{"op":"complete","block":0}
+{"op":"disk","block":0,"start":0,"len":2}
 "#,
-        answers: "patch 0\nsent 0 0\npatch 1\nrefused AlreadyInFlight\nrefused NotInMemory 0\nwithout 11 cached 22\nrefused InFlight\ndurable 0 0\ndisk 11\nrefused Durable\nsent 0 1\n",
+        answers: "patch 0\nsent 0 0\npatch 1\nrefused AlreadyInFlight\nrefused NotInMemory 0\nrefused NotInMemory 0\nwithout 11 cached 22\nrefused InFlight\ndurable 0 0\ndisk 11\nrefused Durable\nsent 0 1\ndisk 11\ndurable 0 1\ndisk 2200\n",
         status: Status::Done,
     },
     Row {
@@ -76,8 +86,10 @@ pub const ROWS_OF_WRITES: [Row; 14] = [
         script: r#"{"op":"patch","block":0,"start":0,"hex":"aa"}
 {"op":"patch","block":0,"start":1,"hex":"bb"}
 {"op":"send","block":0}
+{"op":"complete","block":0}
+{"op":"disk","block":0,"start":0,"len":3}
 "#,
-        answers: "patch 0\npatch 1\nsent 0 0,1\n",
+        answers: "patch 0\npatch 1\nsent 0 0,1\ndurable 0 0,1\ndisk aabb00\n",
         status: Status::Done,
     },
     Row {

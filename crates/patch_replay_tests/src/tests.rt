@@ -4,6 +4,7 @@ ghost use Rattle.std.specs.Prelude.{◌<◌, ◌≤◌, ⊤};
 use crate::rows::{DEFAULT_BLOCKS, ROWS, Row};
 use crate::rows_of_groups::ROWS_OF_GROUPS;
 use crate::rows_of_merges::ROWS_OF_MERGES;
+use crate::rows_of_refusals::ROWS_OF_REFUSALS;
 use crate::rows_of_writes::ROWS_OF_WRITES;
 use patch_model::{BLOCK, MAX_BLOCKS, MAX_LIVE, OutOfMemory};
 use patch_replay::{
@@ -62,6 +63,7 @@ fn worked_scripts(rt: HostRuntime) {
     check_each(&rt, rt.alloc(), &ROWS_OF_WRITES);
     check_each(&rt, rt.alloc(), &ROWS_OF_MERGES);
     check_each(&rt, rt.alloc(), &ROWS_OF_GROUPS);
+    check_each(&rt, rt.alloc(), &ROWS_OF_REFUSALS);
 }
 
 // A script of one byte so many times, how its replay ends, and what it writes.
