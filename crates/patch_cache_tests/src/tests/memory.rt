@@ -1,23 +1,23 @@
 //! Each allocation refused in turn.
-use super::scripts::ask_in;
+use super::asked::{Asked, ask_of};
+use super::waves::{expect_flushed, flush, make_chain};
 use super::*;
 use linked_list_allocator::LocalHeap;
-use patch_device::MemDevice;
-use patch_model::{Mark, RefusalKind};
+use patch_cache::Move::{Back, Take};
+use patch_model::RefusalKind;
 use patch_testing::{HEAP, fill, hole_of};
-use std::alloc::Global;
 
-// Asks of each kind, in the words of the scripts.
-const LINES: [&str; 9] = [
-    "patch 0 0 abcd",
-    "patch 0 2 EFGH 0",
-    "bare 1 7 i",
-    "merge 0 1",
-    "view 0 0 6 1",
-    "send 0",
-    "patch 0 8 j 0 2",
-    "send 1",
-    "complete 0",
+// Asks of each kind.
+static LINES: [Asked<'static>; 9] = [
+    Asked::Patch(0, 0, b"abcd", &[]),
+    Asked::Patch(0, 2, b"EFGH", &[0]),
+    Asked::Bare(1, 7, b"i", &[]),
+    Asked::Merge(0, 1),
+    Asked::View(0, 0, 6, &[1], &[]),
+    Asked::Send(0),
+    Asked::Patch(0, 8, b"j", &[0, 2]),
+    Asked::Send(1),
+    Asked::Complete(0),
 ];
 
 // What an ask is refused for want of memory.
@@ -26,98 +26,82 @@ const NO_MEMORY: Refusal = Refusal {
     number: None,
 };
 
-// A cache of two blocks in a heap, with its flights and its device, which has memory of its own, as what is made aside has.
-struct Bench<'a> {
+// What is shown when all was asked, by calls and by lists.
+const CALLED: Shown = (4, 4, [Some(Mark::Flight), Some(Mark::Flight)], None, 7);
+
+const LISTED: Shown = (4, 2, [Some(Mark::Durable), Some(Mark::Durable)], None, 8);
+
+// A heap, and the memory of what is made aside.
+#[derive(Clone, Copy)]
+struct Room<'a> {
     alloc: Global,
     heap: &'a LocalHeap,
-    cache: Cache<&'a LocalHeap>,
-    flights: Flights<&'a LocalHeap>,
-    device: MemDevice,
 }
 
-// How many patches were made and are live, how far the first has come, which block is ready, and how long the trace is.
-type Shown = (u32, u32, Option<Mark>, Option<BlockNo>, usize);
+// A cache of two blocks in a heap, whose device has memory of its own.
+type InHeap<'a> = Bench<&'a LocalHeap, MemDevice>;
 
-fn shown(cache: &mut Cache<&LocalHeap>) -> Shown {
-    let ready = cache.next_ready();
-    let mark = cache.mark_of(PatchNo(0));
-    (cache.made(), cache.live(), mark, ready, cache.trace().len())
+fn open_in_heap<'a>(rt: &impl Abort, room: Room<'a>) -> InHeap<'a> {
+    open_bench(rt, room.heap, 2, open_device(rt, room.alloc, 2))
 }
 
-fn expect_shown(rt: &impl Abort, cache: &mut Cache<&LocalHeap>, want: Shown) {
-    expect_equal(rt, "shown", shown(cache), want);
+// What is walked through in one hole after another.
+#[derive(Clone, Copy)]
+enum Walk {
+    // Each ask by the call of its kind, or in a list of its own.
+    Calls,
+    Lists,
+    // All asks in one list.
+    OneList,
+    Opening,
+    Flushes,
 }
 
-fn push_asks<'a>(heap: &'a LocalHeap, asks: &mut Vec<Ask<&'a LocalHeap>>) -> Result<(), Fail> {
-    for line in LINES.iter() {
-        asks.push(ask_in(heap, line)?)?;
+fn asks_of<'a>(rt: &impl Abort, room: Room<'a>) -> Vec<Ask<&'a LocalHeap>> {
+    let mut asks = Vec::new(room.alloc);
+    for asked in LINES.iter() {
+        let pushed = asks.push(ask_of(rt, room.heap, asked)).is_ok();
+        assert!(rt; pushed);
     }
-    Ok(())
+    asks
 }
 
-fn asks_in<'a>(alloc: Global, heap: &'a LocalHeap) -> Result<Vec<Ask<&'a LocalHeap>>, Fail> {
-    let mut asks = Vec::new(alloc);
-    push_asks(heap, &mut asks)?;
-    Ok(asks)
-}
-
-fn create(
-    cache: &mut Cache<&LocalHeap>,
-    block: BlockNo,
-    start: usize,
+// Makes a patch, which names two others at most.
+fn create<A: Allocator + Copy>(
+    cache: &mut Cache<A>,
+    (block, start): (u32, usize),
     bytes: &[u8],
-    after: &[PatchNo],
+    after: &[u32],
     undo: Undo,
 ) -> Result<(), Refusal> {
-    cache
-        .create(block, start, bytes, after, undo)
-        .map_err(Refuses::refusal)?;
-    Ok(())
-}
-
-fn merge(cache: &mut Cache<&LocalHeap>, a: PatchNo, b: PatchNo) -> Result<(), Refusal> {
-    cache.merge(a, b).map_err(Refuses::refusal)?;
-    Ok(())
-}
-
-fn send(cache: &mut Cache<&LocalHeap>, block: BlockNo) -> Result<(), Refusal> {
-    cache.send(block).map_err(Refuses::refusal)?.abandon();
-    Ok(())
+    let block = BlockNo(block);
+    outcome(match *after {
+        [] => cache.create(block, start, bytes, &[], undo),
+        [first] => cache.create(block, start, bytes, &[PatchNo(first)], undo),
+        [first, second, ..] => {
+            let named = [PatchNo(first), PatchNo(second)];
+            cache.create(block, start, bytes, &named, undo)
+        }
+    })
 }
 
 // Asks by the call of the ask's kind. Views and completions are no calls of one name.
-fn call(cache: &mut Cache<&LocalHeap>, ask: &Ask<&LocalHeap>) -> Result<(), Refusal> {
-    match ask {
-        Ask::Create {
-            block,
-            start,
-            bytes,
-            after,
-            undo,
-        } => create(
-            cache,
-            *block,
-            *start,
-            bytes.as_slice(),
-            after.as_slice(),
-            *undo,
-        ),
-        Ask::Merge { a, b } => merge(cache, *a, *b),
-        Ask::Send { block } => send(cache, *block),
-        Ask::View { .. } | Ask::Complete { .. } => Ok(()),
+fn call<A: Allocator + Copy>(cache: &mut Cache<A>, asked: &Asked) -> Result<(), Refusal> {
+    match *asked {
+        Asked::Patch(block, start, bytes, after) => {
+            create(cache, (block, start), bytes, after, Undo::Keep)
+        }
+        Asked::Bare(block, start, bytes, after) => {
+            create(cache, (block, start), bytes, after, Undo::MayDrop)
+        }
+        Asked::Merge(a, b) => outcome(cache.merge(PatchNo(a), PatchNo(b))),
+        Asked::Send(block) => outcome(send_in_vain(cache, block)),
+        Asked::Complete(_) | Asked::View(..) => Ok(()),
     }
-}
-
-// Asks each by its call.
-fn ask_by_call(cache: &mut Cache<&LocalHeap>, asks: &[Ask<&LocalHeap>]) -> Result<(), Refusal> {
-    for ask in asks {
-        call(cache, ask)?;
-    }
-    Ok(())
 }
 
 // How many answers there are; or the first refusal among them.
-fn count_answers(answers: &[Answer<&LocalHeap>]) -> Result<usize, Refusal> {
+fn count_answers<A: Allocator>(answers: &[Answer<A>]) -> Result<usize, Refusal> {
     for answer in answers {
         if let Answer::Refused(refusal) = answer {
             return Err(*refusal);
@@ -126,542 +110,339 @@ fn count_answers(answers: &[Answer<&LocalHeap>]) -> Result<usize, Refusal> {
     Ok(answers.len())
 }
 
-fn run<'a>(
-    bench: &mut Bench<'a>,
-    asks: &[Ask<&'a LocalHeap>],
-) -> Vec<Answer<&'a LocalHeap>, &'a LocalHeap> {
-    match bench.cache.run(&mut bench.flights, &mut bench.device, asks) {
-        Ok(answers) => answers,
-        Err((answers, OutOfMemory)) => answers,
-    }
+// Asks them in a list.
+fn ask_list<'a>(bench: &mut InHeap<'a>, asks: &[Ask<&'a LocalHeap>]) -> Result<usize, Refusal> {
+    let answers = answers_of(bench, asks);
+    let counted = count_answers(&answers);
+    drop(answers);
+    counted
 }
 
-// Asks them in a list. How many were answered; or the first refusal.
-fn ask_by_list<'a>(bench: &mut Bench<'a>, asks: &[Ask<&'a LocalHeap>]) -> Result<usize, Refusal> {
-    let answers = run(bench, asks);
-    count_answers(&answers)
-}
-
+// Asks by a call, or else by a list. How many asks were answered, or the first refusal.
 fn ask<'a>(
-    bench: &mut Bench<'a>,
+    bench: &mut InHeap<'a>,
+    called: Option<&Asked>,
     asks: &[Ask<&'a LocalHeap>],
-    by_list: bool,
-) -> Result<(), Refusal> {
-    if !by_list {
-        return ask_by_call(&mut bench.cache, asks);
+) -> Result<usize, Refusal> {
+    let Some(asked) = called else {
+        return ask_list(bench, asks);
+    };
+    match call(&mut bench.cache, asked) {
+        Ok(()) => Ok(1),
+        Err(refusal) => Err(refusal),
     }
-    if ask_by_list(bench, asks)? < asks.len() {
-        return Err(NO_MEMORY);
-    }
-    Ok(())
 }
 
 // Asks where only a hole of this size is left.
 fn ask_in_hole<'a>(
-    bench: &mut Bench<'a>,
-    asks: &[Ask<&'a LocalHeap>],
-    by_list: bool,
-    hole: usize,
-) -> Result<Result<(), Refusal>, OutOfMemory> {
-    let ballast = fill(bench.alloc, bench.heap, hole)?;
-    let answer = ask(bench, asks, by_list);
-    drop(ballast);
-    Ok(answer)
-}
-
-fn expect_answer(rt: &impl Abort, answer: Result<(), Refusal>, want: Result<(), Refusal>) {
-    expect_equal(rt, "answer", answer, want);
-}
-
-// Asks where only a hole of this size is left, and again with memory where that is refused. Whether it was.
-fn ask_twice<'a>(
     rt: &impl Abort,
-    bench: &mut Bench<'a>,
+    room: Room<'a>,
+    bench: &mut InHeap<'a>,
+    called: Option<&Asked>,
     asks: &[Ask<&'a LocalHeap>],
-    by_list: bool,
     hole: usize,
-) -> Result<bool, Fail> {
-    let before = shown(&mut bench.cache);
-    let first = ask_in_hole(bench, asks, by_list, hole)?;
-    if first.is_ok() {
-        return Ok(false);
-    }
-    expect_answer(rt, first, Err(NO_MEMORY));
-    expect_shown(rt, &mut bench.cache, before);
-    expect_answer(rt, ask(bench, asks, by_list), Ok(()));
-    Ok(true)
+) -> Result<usize, Refusal> {
+    let ballast = fill(room.alloc, room.heap, hole).expect(rt, "ballast");
+    let answer = ask(bench, called, asks);
+    drop(ballast);
+    answer
 }
 
-// Asks each in turn, twice, and counts those that were refused at first.
+// Asks where only a hole of this size is left, and again with memory where that is refused, or there is no room for an answer.
+// Whether it was.
+fn is_asked_again<'a>(
+    rt: &impl Abort,
+    room: Room<'a>,
+    bench: &mut InHeap<'a>,
+    called: Option<&Asked>,
+    asks: &[Ask<&'a LocalHeap>],
+    hole: usize,
+) -> bool {
+    let before = shown(&mut bench.cache);
+    let first = ask_in_hole(rt, room, bench, called, asks, hole);
+    if first == Ok(1) {
+        return false;
+    }
+    if first != Ok(0) {
+        expect_equal(rt, "answer", first, Err(NO_MEMORY));
+    }
+    expect_shown(rt, &mut bench.cache, before);
+    expect_equal(rt, "answer", ask(bench, called, asks), Ok(1));
+    true
+}
+
+// Asks each in turn, by calls or in lists, and counts those that were asked again.
 fn ask_each<'a>(
     rt: &impl Abort,
-    bench: &mut Bench<'a>,
+    room: Room<'a>,
+    bench: &mut InHeap<'a>,
     asks: &[Ask<&'a LocalHeap>],
-    by_list: bool,
+    by_call: bool,
     hole: usize,
-    refused: &mut [u32],
-) -> Result<(), Fail> {
-    for (one, count) in asks.chunks(1).zip(refused.iter_mut()) {
-        if ask_twice(rt, bench, one, by_list, hole)? {
-            *count = count.saturating_add(1);
-        }
+    counts: &mut [u32],
+) {
+    for ((asked, one), count) in LINES.iter().zip(asks.chunks(1)).zip(counts.iter_mut()) {
+        let called = by_call.then_some(asked);
+        let again = is_asked_again(rt, room, bench, called, one, hole);
+        *count = count.saturating_add(u32::from(again));
     }
-    Ok(())
 }
 
-fn expect_asked(rt: &impl Abort, cache: &mut Cache<&LocalHeap>, by_list: bool) -> Result<(), Fail> {
-    let want = if by_list {
-        (4, 2, Some(Mark::Durable), None, 8)
-    } else {
-        (4, 4, Some(Mark::Flight), None, 7)
-    };
+// What is shown when all was asked.
+fn expect_asked(rt: &impl Abort, cache: &mut Cache<&LocalHeap>, want: Shown) {
     expect_shown(rt, cache, want);
-    let bytes = cache.read(BlockNo(0), 0, 9)?;
-    expect_equal(rt, "bytes", bytes, b"abEFGH\0\0j");
-    Ok(())
-}
-
-fn ask_all(
-    rt: &impl Abort,
-    bench: &mut Bench,
-    by_list: bool,
-    hole: usize,
-    refused: &mut [u32],
-) -> Result<(), Fail> {
-    let asks = asks_in(bench.alloc, bench.heap)?;
-    ask_each(rt, bench, &asks, by_list, hole, refused)
-}
-
-fn ask_and_look(
-    rt: &impl Abort,
-    bench: &mut Bench,
-    by_list: bool,
-    hole: usize,
-    refused: &mut [u32],
-) -> Result<(), Fail> {
-    ask_all(rt, bench, by_list, hole, refused)?;
-    expect_asked(rt, &mut bench.cache, by_list)
-}
-
-fn open_bench<'a>(
-    rt: &impl Abort,
-    alloc: Global,
-    heap: &'a LocalHeap,
-) -> Result<Bench<'a>, OutOfMemory> {
-    let device = MemDevice::new(alloc, 2)?;
-    Ok(Bench {
-        alloc,
-        heap,
-        cache: open_zeros(rt, heap, 2)?,
-        flights: Flights::new(heap),
-        device,
-    })
-}
-
-fn close(bench: Bench) {
-    let Bench {
-        alloc: _,
-        heap: _,
-        cache: _,
-        flights,
-        device: _,
-    } = bench;
-    flights.abandon();
-}
-
-fn ask_anew(
-    rt: &impl Abort,
-    alloc: Global,
-    heap: &LocalHeap,
-    by_list: bool,
-    hole: usize,
-    refused: &mut [u32],
-) -> Result<(), Fail> {
-    let mut bench = open_bench(rt, alloc, heap)?;
-    let asked = ask_and_look(rt, &mut bench, by_list, hole, refused);
-    close(bench);
-    asked
-}
-
-pub(super) fn expect_empty(rt: &impl Abort, heap: &LocalHeap) {
-    expect_equal(rt, "used", heap.used(), 0);
-}
-
-// Each hole is larger than the one before it, so that one allocation more succeeds now and then, until all do. How many of
-// the asks were refused.
-fn refuse_each(
-    rt: &impl Abort,
-    alloc: Global,
-    heap: &LocalHeap,
-    by_list: bool,
-) -> Result<usize, Fail> {
-    let mut refused = [0u32; 9];
-    for size in 1..400usize {
-        let before = refused;
-        ask_anew(rt, alloc, heap, by_list, hole_of(size), &mut refused)?;
-        expect_empty(rt, heap);
-        if refused == before {
-            return Ok(count_above_zero(&refused));
-        }
-    }
-    Err(Fail::from("refused in the largest hole"))
-}
-
-fn count_above_zero(counts: &[u32]) -> usize {
-    counts.iter().filter(|count| **count > 0).count()
-}
-
-fn expect_refused(
-    rt: &impl Abort,
-    alloc: Global,
-    heap: &LocalHeap,
-    by_list: bool,
-    kinds: usize,
-) -> Result<(), Fail> {
-    let refused = refuse_each(rt, alloc, heap, by_list)?;
-    expect_equal(rt, "refused", refused, kinds);
-    Ok(())
-}
-
-// All but the view and the completion.
-#[test]
-fn of_calls(rt: HostRuntime) -> Result<(), Fail> {
-    let heap = LocalHeap::new(rt.alloc(), HEAP)?;
-    expect_refused(&rt, rt.alloc(), &heap, false, 7)
-}
-
-#[test]
-fn of_lists_of_one_ask(rt: HostRuntime) -> Result<(), Fail> {
-    let heap = LocalHeap::new(rt.alloc(), HEAP)?;
-    expect_refused(&rt, rt.alloc(), &heap, true, 9)
-}
-
-fn ask_list_in_hole<'a>(
-    bench: &mut Bench<'a>,
-    asks: &[Ask<&'a LocalHeap>],
-    hole: usize,
-) -> Result<Result<usize, Refusal>, OutOfMemory> {
-    let ballast = fill(bench.alloc, bench.heap, hole)?;
-    let answered = ask_by_list(bench, asks);
-    drop(ballast);
-    Ok(answered)
-}
-
-// Asks with memory what is left of a list.
-fn ask_rest<'a>(
-    rt: &impl Abort,
-    bench: &mut Bench<'a>,
-    asks: &[Ask<&'a LocalHeap>],
-    answered: usize,
-) -> Result<(), Fail> {
-    let rest = asks.get(answered..).ok_or("too many answers")?;
-    expect_equal(rt, "answers", ask_by_list(bench, rest), Ok(rest.len()));
-    let want = (4, 2, Some(Mark::Durable), None, 8);
-    expect_shown(rt, &mut bench.cache, want);
-    Ok(())
-}
-
-fn ask_list_twice<'a>(
-    rt: &impl Abort,
-    bench: &mut Bench<'a>,
-    asks: &[Ask<&'a LocalHeap>],
-    hole: usize,
-) -> Result<Result<usize, Refusal>, Fail> {
-    let first = ask_list_in_hole(bench, asks, hole)?;
-    if let Ok(answered) = first {
-        ask_rest(rt, bench, asks, answered)?;
-    }
-    Ok(first)
+    expect_read(rt, cache, 0, 0, 9, Ok(b"abEFGH\0\0j"));
 }
 
 // Asks all in one list where only a hole of this size is left. Where no room was left for an answer, the asks from there on
 // are asked with memory.
-fn ask_list(
+fn ask_at_once<'a>(
     rt: &impl Abort,
-    bench: &mut Bench,
+    room: Room<'a>,
+    bench: &mut InHeap<'a>,
+    asks: &[Ask<&'a LocalHeap>],
     hole: usize,
-) -> Result<Result<usize, Refusal>, Fail> {
-    let asks = asks_in(bench.alloc, bench.heap)?;
-    ask_list_twice(rt, bench, &asks, hole)
+) -> Result<usize, Refusal> {
+    let first = ask_in_hole(rt, room, bench, None, asks, hole);
+    if let Ok(answered) = first {
+        let rest = asks.get(answered..).expect(rt, "no more answers than asks");
+        expect_equal(rt, "answers", ask_list(bench, rest), Ok(rest.len()));
+        expect_shown(rt, &mut bench.cache, LISTED);
+    }
+    first
 }
 
-fn ask_list_anew(
-    rt: &impl Abort,
-    alloc: Global,
-    heap: &LocalHeap,
-    hole: usize,
-) -> Result<Result<usize, Refusal>, Fail> {
-    let mut bench = open_bench(rt, alloc, heap)?;
-    let asked = ask_list(rt, &mut bench, hole);
-    close(bench);
-    asked
-}
-
-// How many lists came to an end for want of room for an answer, and how many had a refusal.
-#[derive(Clone, Copy)]
-struct Tally {
-    short: u32,
-    refused: u32,
-}
-
-// Counts what became of a list. Whether all of it was answered.
-fn tell_in(rt: &impl Abort, tally: &mut Tally, asked: Result<usize, Refusal>) -> bool {
+// Counts a list that came to an end for want of room for an answer, or else one that had a refusal.
+fn count_list(rt: &impl Abort, asked: Result<usize, Refusal>, counts: &mut [u32; 9]) {
     match asked {
-        Ok(9) => return true,
-        Ok(_) => tally.short = tally.short.saturating_add(1),
+        Ok(9) => {}
+        Ok(_) => counts[0] = counts[0].saturating_add(1),
         Err(refusal) => {
             expect_equal(rt, "refusal", refusal, NO_MEMORY);
-            tally.refused = tally.refused.saturating_add(1);
+            counts[1] = counts[1].saturating_add(1);
         }
     }
-    false
 }
 
-fn expect_both(rt: &impl Abort, tally: &Tally) {
-    let Tally { short, refused } = tally;
-    assert!(rt; *short > 1 && *refused > 1, "{short} {refused}");
-}
-
-fn refuse_lists(rt: &impl Abort, alloc: Global, heap: &LocalHeap) -> Result<(), Fail> {
-    let mut tally = Tally {
-        short: 0,
-        refused: 0,
-    };
-    for size in 1..800usize {
-        let asked = ask_list_anew(rt, alloc, heap, hole_of(size))?;
-        if tell_in(rt, &mut tally, asked) {
-            expect_both(rt, &tally);
-            return Ok(());
+fn ask_all<'a>(
+    rt: &impl Abort,
+    room: Room<'a>,
+    bench: &mut InHeap<'a>,
+    walk: Walk,
+    hole: usize,
+    counts: &mut [u32; 9],
+) {
+    let asks = asks_of(rt, room);
+    match walk {
+        Walk::Calls => {
+            ask_each(rt, room, bench, &asks, true, hole, counts);
+            expect_asked(rt, &mut bench.cache, CALLED);
         }
+        Walk::Lists => {
+            ask_each(rt, room, bench, &asks, false, hole, counts);
+            expect_asked(rt, &mut bench.cache, LISTED);
+        }
+        _ => count_list(rt, ask_at_once(rt, room, bench, &asks, hole), counts),
     }
-    Err(Fail::from("refused in the largest hole"))
+    drop(asks);
 }
 
-#[test]
-fn of_a_list_of_each_kind_of_ask(rt: HostRuntime) -> Result<(), Fail> {
-    let heap = LocalHeap::new(rt.alloc(), HEAP)?;
-    refuse_lists(&rt, rt.alloc(), &heap)
+// Asks all of a new cache. Whether anything was counted.
+fn is_counted(rt: &impl Abort, room: Room, walk: Walk, hole: usize, counts: &mut [u32; 9]) -> bool {
+    let before = *counts;
+    let mut bench = open_in_heap(rt, room);
+    ask_all(rt, room, &mut bench, walk, hole, counts);
+    close(bench);
+    before != *counts
 }
 
 // Whether no cache was opened. One that was has no patch.
-fn is_none(rt: &impl Abort, opened: Result<Cache<&LocalHeap>, OutOfMemory>) -> bool {
+fn is_none(rt: &impl Abort, opened: &mut Result<Cache<&LocalHeap>, OutOfMemory>) -> bool {
     match opened {
-        Ok(mut cache) => {
-            expect_shown(rt, &mut cache, (0, 0, None, None, 0));
+        Ok(cache) => {
+            expect_shown(rt, cache, (0, 0, [None; 2], None, 0));
             false
         }
         Err(OutOfMemory) => true,
     }
 }
 
-// Opens a cache of these blocks where only a hole of this size is left. Whether that was refused.
-fn is_refused_of<'a>(
-    rt: &impl Abort,
-    alloc: Global,
-    heap: &'a LocalHeap,
-    blocks: Vec<BlockBytes<&'a LocalHeap>, &'a LocalHeap>,
-    hole: usize,
-) -> Result<bool, OutOfMemory> {
-    let ballast = fill(alloc, heap, hole)?;
-    let opened = open(rt, heap, blocks);
+// Opens a cache where only a hole of this size is left. Whether that was refused.
+fn is_not_opened(rt: &impl Abort, room: Room, hole: usize) -> bool {
+    let blocks = zeros(room.heap, 2).expect(rt, "blocks");
+    let ballast = fill(room.alloc, room.heap, hole).expect(rt, "ballast");
+    assert!(rt; !blocks.is_empty() && blocks.len() <= MAX_BLOCKS);
+    let mut opened = Cache::open(room.heap, blocks);
     drop(ballast);
-    Ok(is_none(rt, opened))
+    let none = is_none(rt, &mut opened);
+    drop(opened);
+    none
 }
 
-fn is_refused(
+fn flush_in_hole<'a>(
     rt: &impl Abort,
-    alloc: Global,
-    heap: &LocalHeap,
+    room: Room<'a>,
+    bench: &mut InHeap<'a>,
     hole: usize,
-) -> Result<bool, OutOfMemory> {
-    let blocks = zeros(heap, 2)?;
-    is_refused_of(rt, alloc, heap, blocks, hole)
+) -> Result<(), FlushRefusal> {
+    let ballast = fill(room.alloc, room.heap, hole).expect(rt, "ballast");
+    let flushed = flush(bench);
+    drop(ballast);
+    flushed
 }
 
-fn refuse_to_open(rt: &impl Abort, alloc: Global, heap: &LocalHeap) -> Result<(), Fail> {
-    for size in 1..400usize {
-        let refused = is_refused(rt, alloc, heap, hole_of(size))?;
-        expect_empty(rt, heap);
+// Flushes a chain where only a hole of this size is left, and again with memory where that is refused. Whether it was.
+fn is_flushed_again<'a>(
+    rt: &impl Abort,
+    room: Room<'a>,
+    bench: &mut InHeap<'a>,
+    hole: usize,
+) -> bool {
+    make_chain(rt, &mut bench.cache);
+    let first = flush_in_hole(rt, room, bench, hole);
+    if first.is_err() {
+        expect_equal(rt, "first", first, Err(FlushRefusal::OutOfMemory));
+        expect_equal(rt, "second", flush(bench), Ok(()));
+    }
+    expect_flushed(rt, bench);
+    first.is_err()
+}
+
+fn is_refused_a_flush(rt: &impl Abort, room: Room, hole: usize) -> bool {
+    let mut bench = open_in_heap(rt, room);
+    let again = is_flushed_again(rt, room, &mut bench, hole);
+    close(bench);
+    again
+}
+
+fn is_refused(rt: &impl Abort, room: Room, walk: Walk, hole: usize, counts: &mut [u32; 9]) -> bool {
+    match walk {
+        Walk::Calls | Walk::Lists | Walk::OneList => is_counted(rt, room, walk, hole, counts),
+        Walk::Opening => is_not_opened(rt, room, hole),
+        Walk::Flushes => is_refused_a_flush(rt, room, hole),
+    }
+}
+
+// Each hole is larger than the one before it, so that one allocation more succeeds now and then, until all do. In how many of
+// them something was refused, and how often each ask was.
+fn walk_in(rt: &impl Abort, room: Room, walk: Walk) -> (usize, [u32; 9]) {
+    let mut counts = [0; 9];
+    for size in 1..800usize {
+        let refused = is_refused(rt, room, walk, hole_of(size), &mut counts);
+        expect_equal(rt, "used", room.heap.used(), 0);
         if !refused {
-            assert!(rt; size > 2, "refused {size}");
-            return Ok(());
+            return (size - 1, counts);
         }
     }
-    Err(Fail::from("refused in the largest hole"))
+    panic!(rt; "refused in the largest hole")
+}
+
+fn walk_through(rt: &impl Abort, alloc: Global, walk: Walk) -> (usize, [u32; 9]) {
+    let heap = LocalHeap::new(alloc, HEAP).expect(rt, "a heap");
+    walk_in(rt, Room { alloc, heap: &heap }, walk)
+}
+
+// So many of the asks are refused in some hole.
+fn expect_refused(rt: &impl Abort, alloc: Global, walk: Walk, kinds: usize) {
+    let (_, counts) = walk_through(rt, alloc, walk);
+    let mut refused = 0usize;
+    for count in counts {
+        if count > 0 {
+            refused = refused.saturating_add(1);
+        }
+    }
+    expect_equal(rt, "refused", refused, kinds);
+}
+
+// All but the view and the completion.
+#[test]
+fn of_calls(rt: HostRuntime) {
+    expect_refused(&rt, rt.alloc(), Walk::Calls, 7);
 }
 
 #[test]
-fn of_opening(rt: HostRuntime) -> Result<(), Fail> {
-    let heap = LocalHeap::new(rt.alloc(), HEAP)?;
-    refuse_to_open(&rt, rt.alloc(), &heap)
+fn of_lists_of_one_ask(rt: HostRuntime) {
+    expect_refused(&rt, rt.alloc(), Walk::Lists, 9);
 }
 
-// Makes a patch of one byte on the block, and begins its write.
-fn begin<'a>(
-    cache: &mut Cache<&'a LocalHeap>,
-    block: BlockNo,
-) -> Result<Flight<&'a LocalHeap>, Refusal> {
-    create(cache, block, 0, &[0xaa], &[], Undo::Keep)?;
-    cache.send(block).map_err(Refuses::refusal)
+#[test]
+fn of_a_list_of_each_kind_of_ask(rt: HostRuntime) {
+    let (_, [short, refused, ..]) = walk_through(&rt, rt.alloc(), Walk::OneList);
+    assert!(&rt; short > 1 && refused > 1, "{short} {refused}");
+}
+
+#[test]
+fn of_opening(rt: HostRuntime) {
+    let (refused, _) = walk_through(&rt, rt.alloc(), Walk::Opening);
+    assert!(&rt; refused > 1, "{refused}");
+}
+
+#[test]
+fn flushes_go_on_after_want_of_memory(rt: HostRuntime) {
+    let (refused, _) = walk_through(&rt, rt.alloc(), Walk::Flushes);
+    assert!(&rt; refused > 0);
 }
 
 // Drains the trace. How many steps it had.
 fn drain(cache: &mut Cache<&LocalHeap>) -> Result<usize, OutOfMemory> {
-    Ok(cache.drain_trace()?.len())
+    let steps = cache.drain_trace()?;
+    let count = steps.len();
+    drop(steps);
+    Ok(count)
 }
 
 // Drains the trace where no memory is left.
-fn drain_in_full(
-    alloc: Global,
-    heap: &LocalHeap,
-    cache: &mut Cache<&LocalHeap>,
-) -> Result<Result<usize, OutOfMemory>, OutOfMemory> {
-    let ballast = fill(alloc, heap, 0)?;
+fn drain_in_full<'a>(
+    rt: &impl Abort,
+    room: Room<'a>,
+    cache: &mut Cache<&'a LocalHeap>,
+) -> Result<usize, OutOfMemory> {
+    let ballast = fill(room.alloc, room.heap, 0).expect(rt, "ballast");
     let drained = drain(cache);
     drop(ballast);
-    Ok(drained)
+    drained
 }
 
-fn expect_undrained(
-    rt: &impl Abort,
-    alloc: Global,
-    heap: &LocalHeap,
-    cache: &mut Cache<&LocalHeap>,
-) -> Result<(), Fail> {
+// Drains the trace of a write that is given up, where no memory is left and then with memory.
+fn drain_twice<'a>(rt: &impl Abort, room: Room<'a>, cache: &mut Cache<&'a LocalHeap>) {
+    make(rt, cache, 1, 0, &[0xaa], &[]);
+    expect_equal(rt, "send", send_in_vain(cache, 1), Ok(()));
     let before = shown(cache);
-    let drained = drain_in_full(alloc, heap, cache)?;
+    let drained = drain_in_full(rt, room, cache);
     expect_equal(rt, "drained", drained, Err(OutOfMemory));
     expect_shown(rt, cache, before);
-    Ok(())
-}
-
-fn expect_drained(rt: &impl Abort, cache: &mut Cache<&LocalHeap>) {
-    expect_equal(rt, "drained", drain(cache), Ok(2));
-    expect_equal(rt, "left", cache.trace().len(), 0);
-}
-
-// Drains the trace of a write that is given up.
-fn drain_twice(
-    rt: &impl Abort,
-    alloc: Global,
-    heap: &LocalHeap,
-    cache: &mut Cache<&LocalHeap>,
-) -> Result<(), Fail> {
-    create(cache, BlockNo(1), 0, &[0xaa], &[], Undo::Keep)?;
-    send(cache, BlockNo(1))?;
-    expect_undrained(rt, alloc, heap, cache)?;
-    expect_drained(rt, cache);
-    Ok(())
-}
-
-fn is_done(cache: &mut Cache<&LocalHeap>, landed: Landed) -> bool {
-    match cache.complete(landed) {
-        Ok(_) => true,
-        Err(stranger) => {
-            stranger.abandon();
-            false
-        }
-    }
-}
-
-// Writes a flight out, and completes it. Whether both were done.
-fn completes<'a>(
-    cache: &mut Cache<&'a LocalHeap>,
-    device: &mut MemDevice,
-    flight: Flight<&'a LocalHeap>,
-) -> bool {
-    match write_out(device, flight) {
-        Ok(landed) => is_done(cache, landed),
-        Err((flight, Fault)) => {
-            flight.abandon();
-            false
-        }
-    }
-}
-
-// Completes a write where no memory is left. Whether it was done.
-fn completes_in_full<'a>(
-    alloc: Global,
-    heap: &LocalHeap,
-    cache: &mut Cache<&'a LocalHeap>,
-    device: &mut MemDevice,
-    flight: Flight<&'a LocalHeap>,
-) -> bool {
-    let ballast = fill(alloc, heap, 0);
-    let completed = completes(cache, device, flight);
-    ballast.is_ok() && completed
+    let got = (drain(cache), cache.trace().len());
+    expect_equal(rt, "drained and left", got, (Ok(2), 0));
 }
 
 // Completes a write where no memory is left, after a drain that left the trace no more room than for that.
-fn complete_in(
-    rt: &impl Abort,
-    alloc: Global,
-    heap: &LocalHeap,
-    cache: &mut Cache<&LocalHeap>,
-    device: &mut MemDevice,
-) -> Result<(), Fail> {
-    let flight = begin(cache, BlockNo(0))?;
-    let drained = drain(cache).is_ok();
-    let completed = completes_in_full(alloc, heap, cache, device, flight);
-    expect_equal(rt, "completed", (drained, completed), (true, true));
-    expect_shown(rt, cache, (1, 0, Some(Mark::Durable), None, 1));
-    Ok(())
-}
-
-fn complete_over(
-    rt: &impl Abort,
-    alloc: Global,
-    heap: &LocalHeap,
-    cache: &mut Cache<&LocalHeap>,
-) -> Result<(), Fail> {
-    let mut device = MemDevice::new(alloc, 2)?;
-    complete_in(rt, alloc, heap, cache, &mut device)
-}
-
-// Whether the patch is taken back and put back, and what byte is under it.
-fn take_and_put_back(cache: &mut Cache<&LocalHeap>) -> Result<(bool, bool, u8), NoSuchBlock> {
-    let mut view = cache.view(BlockNo(1))?;
-    let taken = view.take(PatchNo(0)).is_ok();
-    let byte = view.bytes()[0];
-    let back = view.put_back(PatchNo(0)).is_ok();
-    view.restore();
-    Ok((taken, back, byte))
-}
-
-fn expect_moved(rt: &impl Abort, cache: &mut Cache<&LocalHeap>) {
-    let moved = take_and_put_back(cache);
-    expect_equal(rt, "moved", moved, Ok((true, true, 0)));
-}
-
-fn look(rt: &impl Abort, cache: &mut Cache<&LocalHeap>) -> Result<(), Fail> {
-    expect_equal(rt, "ready", cache.next_ready(), Some(BlockNo(1)));
-    expect_moved(rt, cache);
-    let byte = cache.read(BlockNo(1), 0, 1)?;
-    expect_equal(rt, "byte", byte, &[0xbb]);
-    Ok(())
-}
-
-fn look_in_full(
-    rt: &impl Abort,
-    alloc: Global,
-    heap: &LocalHeap,
-    cache: &mut Cache<&LocalHeap>,
-) -> Result<(), Fail> {
-    let ballast = fill(alloc, heap, 0)?;
-    let looked = look(rt, cache);
+fn complete_in_full<'a>(rt: &impl Abort, room: Room<'a>, bench: &mut InHeap<'a>) {
+    make(rt, &mut bench.cache, 0, 0, &[0xaa], &[]);
+    let flight = send(rt, &mut bench.cache, 0);
+    let drained = drain(&mut bench.cache);
+    let ballast = fill(room.alloc, room.heap, 0).expect(rt, "ballast");
+    let (landed, _) = written(rt, &mut bench.device, flight);
+    let done = completed(&mut bench.cache, landed).is_ok();
     drop(ballast);
-    looked
+    expect_equal(rt, "completed", (drained, done), (Ok(2), true));
+    let want = (1, 0, [Some(Mark::Durable), None], None, 1);
+    expect_shown(rt, &mut bench.cache, want);
 }
+
+// The patch is taken back and put back.
+const MOVES: [Moved; 2] = [
+    (Take(PatchNo(0)), Ok(()), &[0, 0]),
+    (Back(PatchNo(0)), Ok(()), &[0xbb, 0]),
+];
 
 // Looks where no memory is left.
-fn look_in(
-    rt: &impl Abort,
-    alloc: Global,
-    heap: &LocalHeap,
-    cache: &mut Cache<&LocalHeap>,
-) -> Result<(), Fail> {
-    cache.create(BlockNo(1), 0, &[0xbb], &[], Undo::Keep)?;
-    look_in_full(rt, alloc, heap, cache)
+fn look_in_full(rt: &impl Abort, room: Room, cache: &mut Cache<&LocalHeap>) {
+    make(rt, cache, 1, 2, &[0xbb], &[]);
+    let ballast = fill(room.alloc, room.heap, 0).expect(rt, "ballast");
+    expect_equal(rt, "ready", cache.next_ready(), Some(BlockNo(1)));
+    expect_equal(rt, "view", view_through(rt, cache, 1, &MOVES), Ok(()));
+    expect_read(rt, cache, 1, 2, 1, Ok(&[0xbb]));
+    drop(ballast);
 }
 
 // What is tried of a cache of two blocks where no memory is left.
@@ -672,42 +453,33 @@ enum Trial {
     Look,
 }
 
-fn attempt(
-    rt: &impl Abort,
-    alloc: Global,
-    heap: &LocalHeap,
-    cache: &mut Cache<&LocalHeap>,
-    trial: &Trial,
-) -> Result<(), Fail> {
+fn attempt(rt: &impl Abort, room: Room, trial: Trial) {
+    let mut bench = open_in_heap(rt, room);
     match trial {
-        Trial::Drain => drain_twice(rt, alloc, heap, cache),
-        Trial::Complete => complete_over(rt, alloc, heap, cache),
-        Trial::Look => look_in(rt, alloc, heap, cache),
+        Trial::Drain => drain_twice(rt, room, &mut bench.cache),
+        Trial::Complete => complete_in_full(rt, room, &mut bench),
+        Trial::Look => look_in_full(rt, room, &mut bench.cache),
     }
+    close(bench);
 }
 
-fn attempt_in(rt: &impl Abort, alloc: Global, heap: &LocalHeap, trial: &Trial) -> Result<(), Fail> {
-    let mut cache = open_zeros(rt, heap, 2)?;
-    attempt(rt, alloc, heap, &mut cache, trial)
-}
-
-fn try_out(rt: &impl Abort, alloc: Global, trial: &Trial) -> Result<(), Fail> {
-    let heap = LocalHeap::new(alloc, HEAP)?;
-    attempt_in(rt, alloc, &heap, trial)
+fn try_out(rt: &impl Abort, alloc: Global, trial: Trial) {
+    let heap = LocalHeap::new(alloc, HEAP).expect(rt, "a heap");
+    attempt(rt, Room { alloc, heap: &heap }, trial);
 }
 
 // A trace can't be drained where no room is left for the completion of a write that is under way.
 #[test]
-fn of_draining(rt: HostRuntime) -> Result<(), Fail> {
-    try_out(&rt, rt.alloc(), &Trial::Drain)
+fn of_draining(rt: HostRuntime) {
+    try_out(&rt, rt.alloc(), Trial::Drain);
 }
 
 #[test]
-fn completions_take_none(rt: HostRuntime) -> Result<(), Fail> {
-    try_out(&rt, rt.alloc(), &Trial::Complete)
+fn completions_take_none(rt: HostRuntime) {
+    try_out(&rt, rt.alloc(), Trial::Complete);
 }
 
 #[test]
-fn looks_and_views_take_none(rt: HostRuntime) -> Result<(), Fail> {
-    try_out(&rt, rt.alloc(), &Trial::Look)
+fn looks_and_views_take_none(rt: HostRuntime) {
+    try_out(&rt, rt.alloc(), Trial::Look);
 }

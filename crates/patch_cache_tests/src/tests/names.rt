@@ -1,117 +1,77 @@
 //! The texts and names of refusals.
 use super::*;
-use patch_model::RefusalKind;
-use std::alloc::AllocError;
 use std::fmt;
 
-// Writes a line: the text of a refusal, and the code, the name and the number of what is answered in its place.
-fn tell<R>(told: &mut String, refusal: R) -> Result<(), AllocError>
-where
-    R: Refuses + Copy + fmt::Display,
-{
-    let Refusal { kind, number } = refusal.refusal();
-    let number = number.unwrap_or(0);
-    writeln!(told, "{refusal}: {} {kind} {number}", kind.code())
-}
-
-fn tell_each<R>(told: &mut String, refusals: &[R]) -> Result<(), AllocError>
+// Writes a line for each: the text of a refusal, and the code, the name and the number of what is answered in its place.
+fn tell_each<R>(rt: &impl Abort, told: &mut String, refusals: &[R])
 where
     R: Refuses + Copy + fmt::Display,
 {
     for refusal in refusals {
-        tell(told, *refusal)?;
+        let Refusal { kind, number } = refusal.refusal();
+        let number = number.unwrap_or(0);
+        let line = writeln!(told, "{refusal}: {} {kind} {number}", kind.code());
+        assert!(rt; line.is_ok());
     }
-    Ok(())
 }
 
-fn tell_of_create(told: &mut String) -> Result<(), AllocError> {
-    tell_each(
-        told,
-        &[
-            CreateRefusal::NoSuchBlock,
-            CreateRefusal::EmptyPatch,
-            CreateRefusal::OutOfBlock,
-            CreateRefusal::UnknownDependency,
-            CreateRefusal::NumbersSpent,
-            CreateRefusal::TooManyLive,
-            CreateRefusal::OutOfMemory,
-        ],
-    )
-}
+const CREATE: [CreateRefusal; 7] = [
+    CreateRefusal::NoSuchBlock,
+    CreateRefusal::EmptyPatch,
+    CreateRefusal::OutOfBlock,
+    CreateRefusal::UnknownDependency,
+    CreateRefusal::NumbersSpent,
+    CreateRefusal::TooManyLive,
+    CreateRefusal::OutOfMemory,
+];
 
-fn tell_of_merge(told: &mut String) -> Result<(), AllocError> {
-    tell_each(
-        told,
-        &[
-            MergeRefusal::Unknown,
-            MergeRefusal::NotInMemory(PatchNo(3)),
-            MergeRefusal::Same,
-            MergeRefusal::OtherBlock,
-            MergeRefusal::Hard(PatchNo(4)),
-            MergeRefusal::Apart,
-            MergeRefusal::WouldCycle(PatchNo(5)),
-            MergeRefusal::OutOfMemory,
-        ],
-    )
-}
+const MERGE: [MergeRefusal; 8] = [
+    MergeRefusal::Unknown,
+    MergeRefusal::NotInMemory(PatchNo(3)),
+    MergeRefusal::Same,
+    MergeRefusal::OtherBlock,
+    MergeRefusal::Hard(PatchNo(4)),
+    MergeRefusal::Apart,
+    MergeRefusal::WouldCycle(PatchNo(5)),
+    MergeRefusal::OutOfMemory,
+];
 
-fn tell_of_send(told: &mut String) -> Result<(), AllocError> {
-    tell_each(
-        told,
-        &[
-            SendRefusal::NoSuchBlock,
-            SendRefusal::AlreadyInFlight,
-            SendRefusal::NothingReady,
-            SendRefusal::OutOfMemory,
-        ],
-    )
-}
+const SEND: [SendRefusal; 4] = [
+    SendRefusal::NoSuchBlock,
+    SendRefusal::AlreadyInFlight,
+    SendRefusal::NothingReady,
+    SendRefusal::OutOfMemory,
+];
 
-fn tell_of_take(told: &mut String) -> Result<(), AllocError> {
-    tell_each(
-        told,
-        &[
-            TakeRefusal::Unknown,
-            TakeRefusal::Durable,
-            TakeRefusal::InFlight,
-            TakeRefusal::Hard,
-            TakeRefusal::AlreadyTaken,
-            TakeRefusal::DependentApplied(PatchNo(6)),
-        ],
-    )
-}
+const TAKE: [TakeRefusal; 6] = [
+    TakeRefusal::Unknown,
+    TakeRefusal::Durable,
+    TakeRefusal::InFlight,
+    TakeRefusal::Hard,
+    TakeRefusal::AlreadyTaken,
+    TakeRefusal::DependentApplied(PatchNo(6)),
+];
 
-fn tell_of_flush(told: &mut String) -> Result<(), AllocError> {
-    tell_each(
-        told,
-        &[
-            FlushRefusal::DeviceGaveUp(BlockNo(7)),
-            FlushRefusal::OutOfMemory,
-        ],
-    )
-}
+const FLUSH: [FlushRefusal; 2] = [
+    FlushRefusal::DeviceGaveUp(BlockNo(7)),
+    FlushRefusal::OutOfMemory,
+];
 
-fn tell_of_read(told: &mut String) -> Result<(), AllocError> {
-    tell_each(told, &[ReadRefusal::NoSuchBlock, ReadRefusal::OutOfBlock])
-}
-
-fn tell_all(told: &mut String) -> Result<(), AllocError> {
-    tell_of_create(told)?;
-    tell_of_merge(told)?;
-    tell_of_send(told)?;
-    tell_of_take(told)?;
-    tell_of_flush(told)?;
-    tell_of_read(told)?;
-    let gave_up = DeviceGaveUp(BlockNo(8));
-    writeln!(told, "{NoSuchBlock}, {Fault}, {gave_up}")
-}
+const READ: [ReadRefusal; 2] = [ReadRefusal::NoSuchBlock, ReadRefusal::OutOfBlock];
 
 #[test]
-fn texts_of_refusals(rt: HostRuntime) -> Result<(), Fail> {
+fn texts_of_refusals(rt: HostRuntime) {
     let mut told = String::new(rt.alloc());
-    tell_all(&mut told)?;
-    expect_equal(&rt, "texts", told.as_str(), TEXTS);
-    Ok(())
+    tell_each(&rt, &mut told, &CREATE);
+    tell_each(&rt, &mut told, &MERGE);
+    tell_each(&rt, &mut told, &SEND);
+    tell_each(&rt, &mut told, &TAKE);
+    tell_each(&rt, &mut told, &FLUSH);
+    tell_each(&rt, &mut told, &READ);
+    let gave_up = DeviceGaveUp(BlockNo(8));
+    let line = writeln!(&mut told, "{NoSuchBlock}, {Fault}, {gave_up}").is_ok();
+    expect_equal(&rt, "texts", (line, told.as_str()), (true, TEXTS));
+    drop(told);
 }
 
 const TEXTS: &str = "\
@@ -147,72 +107,47 @@ OutOfBlock: 15 OutOfBlock 0
 NoSuchBlock, Fault, DeviceGaveUp 8
 ";
 
-// The code and the name of a refusal.
-fn expect_named(rt: &impl Abort, code: u8, name: &str, want: (u8, &str)) {
-    expect_equal(rt, "code and name", (code, name), want);
-}
-
-fn expect_steps_named(rt: &impl Abort) {
-    expect_named(
-        rt,
-        CreateRefusal::TooManyLive.code(),
-        CreateRefusal::TooManyLive.name(),
-        (18, "TooManyLive"),
-    );
-    expect_named(
-        rt,
-        MergeRefusal::Apart.code(),
-        MergeRefusal::Apart.name(),
-        (22, "Apart"),
-    );
-    expect_named(
-        rt,
-        SendRefusal::NothingReady.code(),
-        SendRefusal::NothingReady.name(),
-        (25, "NothingReady"),
-    );
-}
-
-fn expect_looks_named(rt: &impl Abort) {
-    expect_named(
-        rt,
-        TakeRefusal::Durable.code(),
-        TakeRefusal::Durable.name(),
-        (7, "Durable"),
-    );
-    expect_named(
-        rt,
-        ReadRefusal::OutOfBlock.code(),
-        ReadRefusal::OutOfBlock.name(),
-        (15, "OutOfBlock"),
-    );
-}
-
-fn expect_flushes_named(rt: &impl Abort) {
-    expect_named(
-        rt,
-        FlushRefusal::OutOfMemory.code(),
-        FlushRefusal::OutOfMemory.name(),
-        (1, "OutOfMemory"),
-    );
-    expect_named(
-        rt,
-        DeviceGaveUp(BlockNo(1)).code(),
-        DeviceGaveUp(BlockNo(1)).name(),
-        (57, "DeviceGaveUp"),
-    );
-}
+// The codes and the names of refusals.
+static NAMES: [(u8, &str); 9] = [
+    (18, "TooManyLive"),
+    (22, "Apart"),
+    (25, "NothingReady"),
+    (7, "Durable"),
+    (15, "OutOfBlock"),
+    (1, "OutOfMemory"),
+    (57, "DeviceGaveUp"),
+    (2, "NoSuchBlock"),
+    (3, "Fault"),
+];
 
 #[test]
 fn names_and_codes_of_refusals(rt: HostRuntime) {
-    expect_steps_named(&rt);
-    expect_looks_named(&rt);
-    expect_flushes_named(&rt);
-    expect_named(
-        &rt,
-        NoSuchBlock.code(),
-        NoSuchBlock.name(),
-        (2, "NoSuchBlock"),
+    let create = (
+        CreateRefusal::TooManyLive.code(),
+        CreateRefusal::TooManyLive.name(),
     );
-    expect_named(&rt, Fault.code(), Fault.name(), (3, "Fault"));
+    let merge = (MergeRefusal::Apart.code(), MergeRefusal::Apart.name());
+    let send = (
+        SendRefusal::NothingReady.code(),
+        SendRefusal::NothingReady.name(),
+    );
+    let take = (TakeRefusal::Durable.code(), TakeRefusal::Durable.name());
+    let read = (
+        ReadRefusal::OutOfBlock.code(),
+        ReadRefusal::OutOfBlock.name(),
+    );
+    let flush = (
+        FlushRefusal::OutOfMemory.code(),
+        FlushRefusal::OutOfMemory.name(),
+    );
+    let gave_up = (
+        DeviceGaveUp(BlockNo(1)).code(),
+        DeviceGaveUp(BlockNo(1)).name(),
+    );
+    let no_block = (NoSuchBlock.code(), NoSuchBlock.name());
+    let fault = (Fault.code(), Fault.name());
+    let got = [
+        create, merge, send, take, read, flush, gave_up, no_block, fault,
+    ];
+    expect_equal(&rt, "codes and names", got.as_slice(), NAMES.as_slice());
 }

@@ -1,209 +1,210 @@
 //! Writes in waves: flushes, flights that are landed, and writes one at a time.
-use super::memory::expect_empty;
 use super::*;
-use linked_list_allocator::LocalHeap;
-use patch_device::{Device, FaultyDevice, MemDevice};
-use patch_model::{BLOCK, Mark};
-use patch_testing::{HEAP, fill, hole_of};
-use std::alloc::Global;
 
-// A cache of two blocks with its flights.
-struct Bench<A: Allocator + Copy> {
-    cache: Cache<A>,
-    flights: Flights<A>,
-}
+// How far the four patches of a chain have come.
+type Marks = [Option<Mark>; 4];
+
+const MADE_DURABLE: Marks = [Some(Mark::Durable); 4];
+
+// The first write is under way.
+const SENT: Marks = [
+    Some(Mark::Flight),
+    Some(Mark::Flight),
+    Some(Mark::Memory),
+    Some(Mark::Memory),
+];
+
+const LANDED: Marks = [
+    Some(Mark::Durable),
+    Some(Mark::Durable),
+    Some(Mark::Memory),
+    Some(Mark::Memory),
+];
+
+// The first wave is done, and the second is under way.
+const SENT_AGAIN: Marks = [
+    Some(Mark::Durable),
+    Some(Mark::Durable),
+    Some(Mark::Flight),
+    Some(Mark::Memory),
+];
 
 // Makes two patches of the first block, one of the second after the first of them, and one of the first block after that.
-fn make_chain<A: Allocator + Copy>(cache: &mut Cache<A>) -> Result<(), CreateRefusal> {
-    let data = cache.create(BlockNo(0), 0, b"da", &[], Undo::Keep)?;
-    cache.create(BlockNo(0), 2, b"ta", &[], Undo::Keep)?;
-    let name = cache.create(BlockNo(1), 0, b"name", &[data], Undo::Keep)?;
-    cache.create(BlockNo(0), 4, b"end", &[name], Undo::Keep)?;
-    Ok(())
+pub(super) fn make_chain<A: Allocator + Copy>(rt: &impl Abort, cache: &mut Cache<A>) {
+    let data = make(rt, cache, 0, 0, b"da", &[]);
+    make(rt, cache, 0, 2, b"ta", &[]);
+    let name = make(rt, cache, 1, 0, b"name", &[data]);
+    make(rt, cache, 0, 4, b"end", &[name]);
 }
 
-fn open_chain<A: Allocator + Copy>(rt: &impl Abort, alloc: A) -> Result<Bench<A>, Fail> {
-    let mut cache = open_zeros(rt, alloc, 2)?;
-    make_chain(&mut cache)?;
-    Ok(Bench {
-        cache,
-        flights: Flights::new(alloc),
-    })
+fn open_chain<D>(rt: &impl Abort, alloc: Global, device: D) -> Bench<Global, D> {
+    let mut bench = open_bench(rt, alloc, 2, device);
+    make_chain(rt, &mut bench.cache);
+    bench
 }
 
-fn close<A: Allocator + Copy>(bench: Bench<A>) {
-    let Bench { cache: _, flights } = bench;
-    flights.abandon();
-}
-
-fn flush<A: Allocator + Copy, D: Device>(
-    bench: &mut Bench<A>,
-    device: &mut D,
+pub(super) fn flush<A: Allocator + Copy, D: Device>(
+    bench: &mut Bench<A, D>,
 ) -> Result<(), FlushRefusal> {
-    bench.cache.flush(&mut bench.flights, device)
+    bench.cache.flush(&mut bench.flights, &mut bench.device)
 }
 
-fn land<D: Device>(bench: &mut Bench<Global>, device: &mut D) -> Result<(), DeviceGaveUp> {
-    bench.cache.land(&mut bench.flights, device)
+fn land<D: Device>(bench: &mut Bench<Global, D>) -> Result<(), DeviceGaveUp> {
+    bench.cache.land(&mut bench.flights, &mut bench.device)
 }
 
-fn write_next<D: Device>(bench: &mut Bench<Global>, device: &mut D) -> Result<bool, FlushRefusal> {
-    bench.cache.write_next(&mut bench.flights, device)
+fn write_next<D: Device>(bench: &mut Bench<Global, D>) -> Result<bool, FlushRefusal> {
+    bench
+        .cache
+        .write_next(&mut bench.flights, &mut bench.device)
 }
 
-// How far the four patches have come.
-fn expect_marks<A: Allocator + Copy>(rt: &impl Abort, bench: &Bench<A>, marks: [Mark; 4]) {
-    let got = [0, 1, 2, 3].map(|no| bench.cache.mark_of(PatchNo(no)));
-    expect_equal(rt, "marks", got, marks.map(Some));
+fn expect_marks<A: Allocator + Copy>(rt: &impl Abort, cache: &Cache<A>, marks: Marks) {
+    let got = [
+        cache.mark_of(PatchNo(0)),
+        cache.mark_of(PatchNo(1)),
+        cache.mark_of(PatchNo(2)),
+        cache.mark_of(PatchNo(3)),
+    ];
+    expect_equal(rt, "marks", got, marks);
 }
 
-fn expect_flushed<A: Allocator + Copy>(rt: &impl Abort, bench: &mut Bench<A>) {
-    expect_marks(rt, bench, [Mark::Durable; 4]);
-    expect_equal(rt, "live", bench.cache.live(), 0);
-    expect_equal(rt, "ready", bench.cache.next_ready(), None);
+// All of the chain is on the disk.
+pub(super) fn expect_flushed<A: Allocator + Copy, D: Device>(
+    rt: &impl Abort,
+    bench: &mut Bench<A, D>,
+) {
+    expect_marks(rt, &bench.cache, MADE_DURABLE);
+    let left = (bench.cache.live(), bench.cache.next_ready());
+    expect_equal(rt, "left", left, (0, None));
+    expect_disk(rt, &mut bench.device, 0, b"dataend");
+    expect_disk(rt, &mut bench.device, 1, b"name");
 }
 
-// Which blocks were written, in order.
-fn expect_written(rt: &impl Abort, device: &MemDevice, blocks: &[u32]) {
-    expect_equal(rt, "writes", device.writes().len(), blocks.len());
-    for (write, block) in device.writes().iter().zip(blocks) {
-        expect_equal(rt, "block", write.0, *block);
+// The block of a write.
+fn block_of(device: &MemDevice, at: usize) -> Option<u32> {
+    match device.writes().get(at) {
+        Some(write) => Some(write.0),
+        None => None,
     }
 }
 
-// What a block of the disk begins with.
-fn expect_start<D: Device>(
-    rt: &impl Abort,
-    device: &mut D,
-    block: u32,
-    start: &[u8],
-) -> Result<(), Fail> {
-    let mut bytes = [0; BLOCK];
-    device.read(block, &mut bytes)?;
-    expect_equal(rt, "start", bytes.get(..start.len()), Some(start));
-    Ok(())
+// Which blocks were written, in order: three at most.
+fn expect_written(rt: &impl Abort, device: &MemDevice, blocks: [Option<u32>; 4]) {
+    let got = [
+        block_of(device, 0),
+        block_of(device, 1),
+        block_of(device, 2),
+        block_of(device, 3),
+    ];
+    expect_equal(rt, "writes", got, blocks);
 }
 
-fn expect_disk<D: Device>(rt: &impl Abort, device: &mut D) -> Result<(), Fail> {
-    expect_start(rt, device, 0, b"dataend\0")?;
-    expect_start(rt, device, 1, b"name\0")
-}
-
-fn flush_and_look(
-    rt: &impl Abort,
-    bench: &mut Bench<Global>,
-    device: &mut MemDevice,
-) -> Result<(), Fail> {
-    flush(bench, device)?;
+fn flush_and_look(rt: &impl Abort, bench: &mut Bench<Global, MemDevice>) {
+    expect_equal(rt, "flush", flush(bench), Ok(()));
     expect_flushed(rt, bench);
-    expect_written(rt, device, &[0, 1, 0]);
-    expect_disk(rt, device)
+    expect_written(rt, &bench.device, [Some(0), Some(1), Some(0), None]);
+}
+
+fn write_each(rt: &impl Abort, bench: &mut Bench<Global, MemDevice>) {
+    expect_equal(rt, "first", write_next(bench), Ok(true));
+    expect_marks(rt, &bench.cache, LANDED);
+    expect_equal(rt, "second", write_next(bench), Ok(true));
+    expect_written(rt, &bench.device, [Some(0), Some(1), None, None]);
+    expect_equal(rt, "third", write_next(bench), Ok(true));
+    expect_flushed(rt, bench);
+    expect_equal(rt, "fourth", write_next(bench), Ok(false));
+    expect_flushed(rt, bench);
+}
+
+// Begins a write of the block, if one can begin, and holds its flight. Whether one did.
+fn sends<D: Device>(bench: &mut Bench<Global, D>, block: u32) -> bool {
+    let ask = Ask::Send {
+        block: BlockNo(block),
+    };
+    let answer = bench
+        .cache
+        .answer(&mut bench.flights, &mut bench.device, &ask);
+    let sent = matches!(answer, Answer::Sent { .. });
+    drop(answer);
+    sent
+}
+
+// Begins a write of the first block, whose flight is held.
+fn hold_first<D: Device>(rt: &impl Abort, bench: &mut Bench<Global, D>) {
+    expect_equal(rt, "sent", sends(bench, 0), true);
+    expect_marks(rt, &bench.cache, SENT);
+}
+
+fn expect_landed<D: Device>(rt: &impl Abort, bench: &mut Bench<Global, D>) {
+    expect_equal(rt, "landing", land(bench), Ok(()));
+    expect_marks(rt, &bench.cache, LANDED);
+    expect_disk(rt, &mut bench.device, 0, b"data");
+}
+
+fn send_and_land(rt: &impl Abort, bench: &mut Bench<Global, MemDevice>) {
+    hold_first(rt, bench);
+    expect_landed(rt, bench);
+    expect_landed(rt, bench);
+    expect_written(rt, &bench.device, [Some(0), None, None, None]);
+}
+
+// What is done with a chain over a device in memory.
+#[derive(Clone, Copy)]
+enum Writes {
+    Flush,
+    OneByOne,
+    Landing,
+}
+
+fn write_chain(rt: &impl Abort, alloc: Global, writes: Writes) {
+    let mut bench = open_chain(rt, alloc, open_device(rt, alloc, 2));
+    match writes {
+        Writes::Flush => flush_and_look(rt, &mut bench),
+        Writes::OneByOne => write_each(rt, &mut bench),
+        Writes::Landing => send_and_land(rt, &mut bench),
+    }
+    close(bench);
 }
 
 // Three waves: what is after the second block waits for it, and what isn't goes with the first write of its block.
 #[test]
-fn a_flush_writes_a_block_once_a_wave(rt: HostRuntime) -> Result<(), Fail> {
-    let mut device = MemDevice::new(rt.alloc(), 2)?;
-    let mut bench = open_chain(&rt, rt.alloc())?;
-    let flushed = flush_and_look(&rt, &mut bench, &mut device);
-    close(bench);
-    flushed
-}
-
-fn write_each(
-    rt: &impl Abort,
-    bench: &mut Bench<Global>,
-    device: &mut MemDevice,
-) -> Result<(), Fail> {
-    expect_equal(rt, "first", write_next(bench, device), Ok(true));
-    expect_marks(
-        rt,
-        bench,
-        [Mark::Durable, Mark::Durable, Mark::Memory, Mark::Memory],
-    );
-    expect_equal(rt, "second", write_next(bench, device), Ok(true));
-    expect_written(rt, device, &[0, 1]);
-    expect_equal(rt, "third", write_next(bench, device), Ok(true));
-    expect_flushed(rt, bench);
-    expect_equal(rt, "fourth", write_next(bench, device), Ok(false));
-    expect_disk(rt, device)
+fn a_flush_writes_a_block_once_a_wave(rt: HostRuntime) {
+    write_chain(&rt, rt.alloc(), Writes::Flush);
 }
 
 #[test]
-fn writes_go_one_at_a_time(rt: HostRuntime) -> Result<(), Fail> {
-    let mut device = MemDevice::new(rt.alloc(), 2)?;
-    let mut bench = open_chain(&rt, rt.alloc())?;
-    let written = write_each(&rt, &mut bench, &mut device);
-    close(bench);
-    written
-}
-
-// Begins a write of the first block, whose flight is held.
-fn send<D: Device>(rt: &impl Abort, bench: &mut Bench<Global>, device: &mut D) {
-    let ask = Ask::Send { block: BlockNo(0) };
-    let answer = bench.cache.answer(&mut bench.flights, device, &ask);
-    assert!(rt; matches!(answer, Answer::Sent { .. }));
-    expect_marks(
-        rt,
-        bench,
-        [Mark::Flight, Mark::Flight, Mark::Memory, Mark::Memory],
-    );
-}
-
-fn send_and_land(
-    rt: &impl Abort,
-    bench: &mut Bench<Global>,
-    device: &mut MemDevice,
-) -> Result<(), Fail> {
-    send(rt, bench, device);
-    land(bench, device)?;
-    expect_marks(
-        rt,
-        bench,
-        [Mark::Durable, Mark::Durable, Mark::Memory, Mark::Memory],
-    );
-    land(bench, device)?;
-    expect_written(rt, device, &[0]);
-    expect_start(rt, device, 0, b"data\0")
+fn writes_go_one_at_a_time(rt: HostRuntime) {
+    write_chain(&rt, rt.alloc(), Writes::OneByOne);
 }
 
 #[test]
-fn held_flights_are_landed(rt: HostRuntime) -> Result<(), Fail> {
-    let mut device = MemDevice::new(rt.alloc(), 2)?;
-    let mut bench = open_chain(&rt, rt.alloc())?;
-    let landed = send_and_land(&rt, &mut bench, &mut device);
-    close(bench);
-    landed
-}
-
-// Begins a write of the block, if one can begin, and holds its flight. Whether one did.
-fn send_if_ready(bench: &mut Bench<Global>, device: &mut MemDevice, block: BlockNo) -> bool {
-    let ask = Ask::Send { block };
-    let answer = bench.cache.answer(&mut bench.flights, device, &ask);
-    matches!(answer, Answer::Sent { .. })
+fn held_flights_are_landed(rt: HostRuntime) {
+    write_chain(&rt, rt.alloc(), Writes::Landing);
 }
 
 // Begins a write of each block of which one can begin: each block is asked in turn. Whether there was such a block.
-fn send_over_all(bench: &mut Bench<Global>, device: &mut MemDevice) -> bool {
+fn send_over_all(bench: &mut Bench<Global, MemDevice>) -> bool {
     let mut sent = false;
     for at in 0..bench.cache.blocks() {
-        let more = send_if_ready(bench, device, BlockNo(at));
+        let more = sends(bench, at);
         sent = sent || more;
     }
     sent
 }
 
-// A flush of which each wave goes over all blocks.
-fn flush_over_all(bench: &mut Bench<Global>, device: &mut MemDevice) -> Result<(), Fail> {
+// A flush of which each wave goes over all blocks. Whether all flights landed.
+fn flush_over_all(bench: &mut Bench<Global, MemDevice>) -> bool {
     let turns = u64::from(bench.cache.live()) + 1;
-    land(bench, device)?;
+    let mut landed = land(bench).is_ok();
     for _ in 0..turns {
-        if !send_over_all(bench, device) {
-            return Ok(());
+        if !send_over_all(bench) {
+            return landed;
         }
-        land(bench, device)?;
+        let more = land(bench).is_ok();
+        landed = landed && more;
     }
-    Ok(())
+    landed
 }
 
 // Whose waves: those of the cache's own flush, or those that go over all blocks.
@@ -213,10 +214,10 @@ enum Waves {
     OverAll,
 }
 
-fn flush_in(bench: &mut Bench<Global>, device: &mut MemDevice, waves: Waves) -> Result<(), Fail> {
+fn flushes_in(bench: &mut Bench<Global, MemDevice>, waves: Waves) -> bool {
     match waves {
-        Waves::OfFlush => Ok(flush(bench, device)?),
-        Waves::OverAll => flush_over_all(bench, device),
+        Waves::OfFlush => flush(bench).is_ok(),
+        Waves::OverAll => flush_over_all(bench),
     }
 }
 
@@ -225,85 +226,75 @@ pub(super) fn drawn(seed: u32) -> u32 {
 }
 
 // Makes a patch on a drawn block. About every second one names one of the sixteen before it. Its block.
-fn make_drawn(cache: &mut Cache, seed: u32) -> Result<BlockNo, CreateRefusal> {
-    let block = BlockNo((seed >> 8) % cache.blocks().max(1));
+fn make_drawn(rt: &impl Abort, cache: &mut Cache, seed: u32) -> u32 {
+    let block = (seed >> 8) % cache.blocks().max(1);
     let start = (seed >> 16) as usize % 64;
     let back = (seed >> 24) % 32 + 1;
     match cache.made().checked_sub(back) {
-        Some(no) if back <= 16 => cache.create(block, start, b"up", &[PatchNo(no)], Undo::Keep)?,
-        _ => cache.create(block, start, b"on", &[], Undo::Keep)?,
+        Some(no) if back <= 16 => make(rt, cache, block, start, b"up", &[PatchNo(no)]),
+        _ => make(rt, cache, block, start, b"on", &[]),
     };
-    Ok(block)
+    block
 }
 
 // Makes 24 patches. After every sixth one a write of its block begins, if one can begin. The last seed.
-fn make_many(
-    bench: &mut Bench<Global>,
-    device: &mut MemDevice,
-    first: u32,
-) -> Result<u32, CreateRefusal> {
+fn make_many(rt: &impl Abort, bench: &mut Bench<Global, MemDevice>, first: u32) -> u32 {
     let mut seed = first;
     for at in 0..24u32 {
         seed = drawn(seed);
-        let block = make_drawn(&mut bench.cache, seed)?;
+        let block = make_drawn(rt, &mut bench.cache, seed);
         if at % 6 == 5 {
-            send_if_ready(bench, device, block);
+            sends(bench, block);
         }
     }
-    Ok(seed)
+    seed
 }
 
-fn go_rounds(
-    rt: &impl Abort,
-    bench: &mut Bench<Global>,
-    device: &mut MemDevice,
-    waves: Waves,
-) -> Result<(), Fail> {
+// Eight rounds that are flushed in these waves. Writes are under way as each flush begins.
+fn go_rounds(rt: &impl Abort, bench: &mut Bench<Global, MemDevice>, waves: Waves) {
     let mut seed = bench.cache.blocks();
     for _ in 0..8u32 {
-        seed = make_many(bench, device, seed)?;
-        flush_in(bench, device, waves)?;
-        expect_equal(rt, "live", bench.cache.live(), 0);
+        seed = make_many(rt, bench, seed);
+        let flushed = flushes_in(bench, waves);
+        let got = (flushed, bench.cache.live());
+        expect_equal(rt, "flushed and live", got, (true, 0));
     }
-    Ok(())
 }
 
-// A device of so many blocks, after eight rounds that are flushed in these waves. Writes are under way as each flush begins.
-fn written_in(
-    rt: &impl Abort,
-    alloc: Global,
-    blocks: u32,
-    waves: Waves,
-) -> Result<MemDevice, Fail> {
-    let mut device = MemDevice::new(alloc, blocks)?;
-    let cache = open_zeros(rt, alloc, blocks as usize)?;
-    let mut bench = Bench {
-        cache,
-        flights: Flights::new(alloc),
-    };
-    let gone = go_rounds(rt, &mut bench, &mut device, waves);
-    close(bench);
-    gone?;
-    Ok(device)
+fn is_same_write(device: &MemDevice, want: &MemDevice, at: usize) -> bool {
+    match (device.writes().get(at), want.writes().get(at)) {
+        (Some(write), Some(wanted)) => {
+            write.0 == wanted.0 && write.1.as_slice() == wanted.1.as_slice()
+        }
+        _ => false,
+    }
 }
 
 // The same blocks were written, in the same order, with the same bytes.
 fn expect_same_writes(rt: &impl Abort, device: &MemDevice, want: &MemDevice) {
-    expect_equal(rt, "writes", device.writes().len(), want.writes().len());
-    for (write, wanted) in device.writes().iter().zip(want.writes()) {
-        expect_equal(rt, "block", write.0, wanted.0);
-        assert!(rt; write.1.as_slice() == wanted.1.as_slice());
+    let count = device.writes().len();
+    expect_equal(rt, "writes", count, want.writes().len());
+    for at in 0..count {
+        let same = is_same_write(device, want, at);
+        expect_equal(rt, "same", (at, same), (at, true));
     }
 }
 
+fn expect_same_waves(rt: &impl Abort, alloc: Global, blocks: u32) {
+    let mut bench = open_bench(rt, alloc, blocks as usize, open_device(rt, alloc, blocks));
+    go_rounds(rt, &mut bench, Waves::OfFlush);
+    let mut other = open_bench(rt, alloc, blocks as usize, open_device(rt, alloc, blocks));
+    go_rounds(rt, &mut other, Waves::OverAll);
+    expect_same_writes(rt, &bench.device, &other.device);
+    close(bench);
+    close(other);
+}
+
 #[test]
-fn a_flush_writes_as_waves_over_all_blocks(rt: HostRuntime) -> Result<(), Fail> {
+fn a_flush_writes_as_waves_over_all_blocks(rt: HostRuntime) {
     for blocks in [1, 2, 63, 64, 65, 129, 200] {
-        let device = written_in(&rt, rt.alloc(), blocks, Waves::OfFlush)?;
-        let want = written_in(&rt, rt.alloc(), blocks, Waves::OverAll)?;
-        expect_same_writes(&rt, &device, &want);
+        expect_same_waves(&rt, rt.alloc(), blocks);
     }
-    Ok(())
 }
 
 type Two<D> = FaultyDevice<FaultyDevice<D>>;
@@ -312,7 +303,7 @@ type Four<D> = Two<Two<D>>;
 
 type Seven<D> = Four<Two<FaultyDevice<D>>>;
 
-type Eight<D> = Four<Four<D>>;
+type Eight<D> = FaultyDevice<Seven<D>>;
 
 // A device that refuses a write once so many were done, and more of them one behind another.
 fn one_fault<D: Device>(inner: D, done: u64) -> FaultyDevice<D> {
@@ -331,198 +322,105 @@ fn seven_faults<D: Device>(inner: D, done: u64) -> Seven<D> {
     four_faults(two_faults(one_fault(inner, done), done), done)
 }
 
-fn eight_faults(alloc: Global, done: u64) -> Result<Eight<MemDevice>, OutOfMemory> {
-    let device = MemDevice::new(alloc, 2)?;
-    Ok(four_faults(four_faults(device, done), done))
+fn eight_faults(rt: &impl Abort, alloc: Global, done: u64) -> Eight<MemDevice> {
+    one_fault(seven_faults(open_device(rt, alloc, 2), done), done)
 }
 
-fn flush_after_faults<D: Device>(
-    rt: &impl Abort,
-    bench: &mut Bench<Global>,
-    device: &mut D,
-) -> Result<(), Fail> {
-    flush(bench, device)?;
+fn flush_after_faults<D: Device>(rt: &impl Abort, bench: &mut Bench<Global, D>) {
+    expect_equal(rt, "flush", flush(bench), Ok(()));
     expect_flushed(rt, bench);
-    expect_disk(rt, device)
+}
+
+fn overcome<D: Device + Drop>(rt: &impl Abort, alloc: Global, device: D) {
+    let mut bench = open_chain(rt, alloc, device);
+    flush_after_faults(rt, &mut bench);
+    close(bench);
 }
 
 #[test]
-fn seven_faults_are_overcome(rt: HostRuntime) -> Result<(), Fail> {
-    let mut device = seven_faults(MemDevice::new(rt.alloc(), 2)?, 0);
-    let mut bench = open_chain(&rt, rt.alloc())?;
-    let flushed = flush_after_faults(&rt, &mut bench, &mut device);
-    close(bench);
-    flushed
+fn seven_faults_are_overcome(rt: HostRuntime) {
+    let device = open_device(&rt, rt.alloc(), 2);
+    overcome(&rt, rt.alloc(), seven_faults(device, 0));
 }
 
 // A patch of each of two blocks, whose flights land one behind the other.
-fn open_pair(rt: &impl Abort, alloc: Global) -> Result<Bench<Global>, Fail> {
-    let mut cache = open_zeros(rt, alloc, 2)?;
-    cache.create(BlockNo(0), 0, b"one", &[], Undo::Keep)?;
-    cache.create(BlockNo(1), 0, b"two", &[], Undo::Keep)?;
-    Ok(Bench {
-        cache,
-        flights: Flights::new(alloc),
-    })
+fn flush_pair<D: Device>(rt: &impl Abort, bench: &mut Bench<Global, D>) {
+    make(rt, &mut bench.cache, 0, 0, b"one", &[]);
+    make(rt, &mut bench.cache, 1, 0, b"two", &[]);
+    expect_equal(rt, "flush", flush(bench), Ok(()));
+    expect_equal(rt, "live", bench.cache.live(), 0);
+    expect_disk(rt, &mut bench.device, 0, b"one");
+    expect_disk(rt, &mut bench.device, 1, b"two");
+}
+
+fn overcome_both<D: Device + Drop>(rt: &impl Abort, alloc: Global, device: D) {
+    let mut bench = open_bench(rt, alloc, 2, device);
+    flush_pair(rt, &mut bench);
+    close(bench);
 }
 
 // Each flight has eight tries of its own.
 #[test]
-fn seven_faults_of_each_of_two_flights_are_overcome(rt: HostRuntime) -> Result<(), Fail> {
-    let second = seven_faults(MemDevice::new(rt.alloc(), 2)?, 1);
-    let mut device = seven_faults(second, 0);
-    let mut bench = open_pair(&rt, rt.alloc())?;
-    let flushed = flush(&mut bench, &mut device);
-    let live = bench.cache.live();
-    close(bench);
-    flushed?;
-    expect_equal(&rt, "live", live, 0);
-    expect_start(&rt, &mut device, 0, b"one\0")?;
-    expect_start(&rt, &mut device, 1, b"two\0")
+fn seven_faults_of_each_of_two_flights_are_overcome(rt: HostRuntime) {
+    let device = open_device(&rt, rt.alloc(), 2);
+    let second = seven_faults(device, 1);
+    overcome_both(&rt, rt.alloc(), seven_faults(second, 0));
 }
 
 // The first wave is done, and stays so; the flight of the second is given up, and held.
-fn flush_in_vain<D: Device>(
-    rt: &impl Abort,
-    bench: &mut Bench<Global>,
-    device: &mut D,
-) -> Result<(), Fail> {
+fn flush_in_vain<D: Device>(rt: &impl Abort, bench: &mut Bench<Global, D>) {
     let gave_up = Err(FlushRefusal::DeviceGaveUp(BlockNo(1)));
-    expect_equal(rt, "flush", flush(bench, device), gave_up);
-    expect_marks(
-        rt,
-        bench,
-        [Mark::Durable, Mark::Durable, Mark::Flight, Mark::Memory],
-    );
-    expect_start(rt, device, 0, b"data\0")?;
-    flush_after_faults(rt, bench, device)
+    expect_equal(rt, "flush", flush(bench), gave_up);
+    expect_marks(rt, &bench.cache, SENT_AGAIN);
+    expect_disk(rt, &mut bench.device, 0, b"data");
+    flush_after_faults(rt, bench);
 }
 
-#[test]
-fn eight_faults_end_a_flush(rt: HostRuntime) -> Result<(), Fail> {
-    let mut device = eight_faults(rt.alloc(), 1)?;
-    let mut bench = open_chain(&rt, rt.alloc())?;
-    let flushed = flush_in_vain(&rt, &mut bench, &mut device);
-    close(bench);
-    flushed
-}
-
-fn land_in_vain<D: Device>(
-    rt: &impl Abort,
-    bench: &mut Bench<Global>,
-    device: &mut D,
-) -> Result<(), Fail> {
-    send(rt, bench, device);
+fn land_in_vain<D: Device>(rt: &impl Abort, bench: &mut Bench<Global, D>) {
+    hold_first(rt, bench);
     let gave_up = Err(DeviceGaveUp(BlockNo(0)));
-    expect_equal(rt, "landing", land(bench, device), gave_up);
-    expect_marks(
-        rt,
-        bench,
-        [Mark::Flight, Mark::Flight, Mark::Memory, Mark::Memory],
-    );
-    land(bench, device)?;
-    expect_marks(
-        rt,
-        bench,
-        [Mark::Durable, Mark::Durable, Mark::Memory, Mark::Memory],
-    );
-    expect_start(rt, device, 0, b"data\0")
-}
-
-#[test]
-fn eight_faults_end_a_landing(rt: HostRuntime) -> Result<(), Fail> {
-    let mut device = eight_faults(rt.alloc(), 0)?;
-    let mut bench = open_chain(&rt, rt.alloc())?;
-    let landed = land_in_vain(&rt, &mut bench, &mut device);
-    close(bench);
-    landed
+    expect_equal(rt, "landing", land(bench), gave_up);
+    expect_marks(rt, &bench.cache, SENT);
+    expect_landed(rt, bench);
 }
 
 // While its flight is held, nothing can begin.
-fn write_in_vain<D: Device>(
-    rt: &impl Abort,
-    bench: &mut Bench<Global>,
-    device: &mut D,
-) -> Result<(), Fail> {
+fn write_in_vain<D: Device>(rt: &impl Abort, bench: &mut Bench<Global, D>) {
     let gave_up = Err(FlushRefusal::DeviceGaveUp(BlockNo(0)));
-    expect_equal(rt, "first", write_next(bench, device), gave_up);
-    expect_marks(
-        rt,
-        bench,
-        [Mark::Flight, Mark::Flight, Mark::Memory, Mark::Memory],
-    );
-    expect_equal(rt, "second", write_next(bench, device), Ok(false));
-    land(bench, device)?;
-    flush_after_faults(rt, bench, device)
+    expect_equal(rt, "first", write_next(bench), gave_up);
+    expect_marks(rt, &bench.cache, SENT);
+    expect_equal(rt, "second", write_next(bench), Ok(false));
+    expect_equal(rt, "landing", land(bench), Ok(()));
+    flush_after_faults(rt, bench);
+}
+
+// Writes a chain over a device that refuses a write eight times.
+fn write_over<D: Device + Drop>(rt: &impl Abort, alloc: Global, device: D, writes: Writes) {
+    let mut bench = open_chain(rt, alloc, device);
+    match writes {
+        Writes::Flush => flush_in_vain(rt, &mut bench),
+        Writes::OneByOne => write_in_vain(rt, &mut bench),
+        Writes::Landing => land_in_vain(rt, &mut bench),
+    }
+    close(bench);
+}
+
+// The device refuses the write that comes once so many were done.
+fn write_in_vain_as(rt: &impl Abort, alloc: Global, done: u64, writes: Writes) {
+    write_over(rt, alloc, eight_faults(rt, alloc, done), writes);
 }
 
 #[test]
-fn eight_faults_end_a_write(rt: HostRuntime) -> Result<(), Fail> {
-    let mut device = eight_faults(rt.alloc(), 0)?;
-    let mut bench = open_chain(&rt, rt.alloc())?;
-    let written = write_in_vain(&rt, &mut bench, &mut device);
-    close(bench);
-    written
-}
-
-// Flushes where only a hole of this size is left.
-fn flush_in_hole<'a>(
-    alloc: Global,
-    heap: &'a LocalHeap,
-    bench: &mut Bench<&'a LocalHeap>,
-    device: &mut MemDevice,
-    hole: usize,
-) -> Result<Result<(), FlushRefusal>, OutOfMemory> {
-    let ballast = fill(alloc, heap, hole)?;
-    let answer = flush(bench, device);
-    drop(ballast);
-    Ok(answer)
-}
-
-// Flushes in a hole, and again with memory where that is refused. Whether it was.
-fn flush_twice<'a>(
-    rt: &impl Abort,
-    alloc: Global,
-    heap: &'a LocalHeap,
-    bench: &mut Bench<&'a LocalHeap>,
-    device: &mut MemDevice,
-    hole: usize,
-) -> Result<bool, Fail> {
-    let first = flush_in_hole(alloc, heap, bench, device, hole)?;
-    if first.is_err() {
-        expect_equal(rt, "first", first, Err(FlushRefusal::OutOfMemory));
-        flush(bench, device)?;
-    }
-    expect_flushed(rt, bench);
-    expect_disk(rt, device)?;
-    Ok(first.is_err())
-}
-
-fn flush_anew(rt: &impl Abort, alloc: Global, heap: &LocalHeap, hole: usize) -> Result<bool, Fail> {
-    let mut device = MemDevice::new(alloc, 2)?;
-    let mut bench = open_chain(rt, heap)?;
-    let refused = flush_twice(rt, alloc, heap, &mut bench, &mut device, hole);
-    close(bench);
-    refused
-}
-
-// Each hole is larger than the one before it, so that one allocation more succeeds now and then, until all do. How many
-// flushes were refused.
-fn refuse_each(rt: &impl Abort, alloc: Global, heap: &LocalHeap) -> Result<usize, Fail> {
-    for size in 1..400usize {
-        let refused = flush_anew(rt, alloc, heap, hole_of(size))?;
-        expect_empty(rt, heap);
-        if !refused {
-            return Ok(size - 1);
-        }
-    }
-    Err(Fail::from("refused in the largest hole"))
+fn eight_faults_end_a_flush(rt: HostRuntime) {
+    write_in_vain_as(&rt, rt.alloc(), 1, Writes::Flush);
 }
 
 #[test]
-fn flushes_go_on_after_want_of_memory(rt: HostRuntime) -> Result<(), Fail> {
-    let heap = LocalHeap::new(rt.alloc(), HEAP)?;
-    let refused = refuse_each(&rt, rt.alloc(), &heap)?;
-    assert!(rt; refused > 0);
-    Ok(())
+fn eight_faults_end_a_landing(rt: HostRuntime) {
+    write_in_vain_as(&rt, rt.alloc(), 0, Writes::Landing);
+}
+
+#[test]
+fn eight_faults_end_a_write(rt: HostRuntime) {
+    write_in_vain_as(&rt, rt.alloc(), 0, Writes::OneByOne);
 }
