@@ -1,5 +1,5 @@
-//! A new disk and a book of its store, what is asked of it, and what is left when writers were served.
-ghost use Rattle.std.specs.Prelude.{◌≡◌, ◌<◌, ◌≤◌, length, IfOk, vec_len};
+//! New disks and their stores, what writers ask and what they are told, and what is left when several of them were served.
+ghost use Rattle.std.specs.Prelude.{◌≡◌, ◌<◌, ◌≤◌, length, vec_len};
 ghost use Rattle.patch_shared.specs.Kept.{IsNew};
 ghost use Rattle.patch_shared_tests.specs.Fresh.{IsUnchanged};
 
@@ -10,16 +10,13 @@ use patch_history::{Command, Reply};
 use patch_model::{
     BLOCK, BlockBytes, BlockNo, Bytes, MAX_BLOCKS, OutOfMemory, RefusalKind, Step, WriterNo,
 };
-use patch_shared::{Actor, Book, Cause, Counts, Finished, Gate, OpenGate, ServeFault, serve};
+use patch_shared::{Actor, Book, Cause, Finished, Gate, OpenGate, ServeFault, serve};
 use patch_store::{Store, make};
 use std::alloc::{Allocator, Global};
+use std::fmt::Debug;
 use std::process::Abort;
 use std::sync::Wait;
-use std::sync::atomic::{AtomicBool, AtomicU64, Ordering};
-use std::test::Fail;
-use std::thread;
 use std::thread::Threads;
-use std::time::{Clock, Duration};
 
 mod books;
 mod crashes;
@@ -27,6 +24,11 @@ mod devices;
 mod gates;
 mod memory;
 mod serving;
+
+// Ends the test, telling both, unless what came is what is wanted. A call takes the prover less than `assert_eq!` where it stands.
+fn expect_eq<T: PartialEq + Debug>(rt: &impl Abort, got: &T, want: &T) {
+    assert_eq!(rt; *got, *want);
+}
 
 // One index block and two extents: 35 blocks.
 const SMALL: Geometry = Geometry {
@@ -37,65 +39,62 @@ const SMALL: Geometry = Geometry {
 
 const COUNT: u32 = 35;
 
-fn bytes<A: Allocator>(alloc: A, of: &[u8]) -> Result<Bytes<A>, OutOfMemory> {
-    Ok(Bytes::from_vec(Vec::from_slice(alloc, of)?))
-}
-
-fn put<A: Allocator + Copy>(alloc: A, key: &[u8], value: &[u8]) -> Result<Command<A>, OutOfMemory> {
-    let key = bytes(alloc, key)?;
-    let value = bytes(alloc, value)?;
-    Ok(Command::Put { key, value })
-}
-
-// The cache of a new disk.
-fn new_cache<A: Allocator + Copy>(alloc: A) -> Result<Cache<A>, OutOfMemory>
-    ensures { IfOk result IsUnchanged }
+// The cache of these blocks.
+fn cache_of<A: Allocator + Copy>(
+    rt: &impl Abort,
+    alloc: A,
+    blocks: Vec<BlockBytes<A>, A>,
+) -> Cache<A>
+    ensures { IsUnchanged result }
 {
-    let Ok(blocks) = make(alloc, SMALL) else {
-        return Err(OutOfMemory);
-    };
-    if blocks.is_empty() || blocks.len() > MAX_BLOCKS {
-        return Err(OutOfMemory);
+    assert!(rt; !blocks.is_empty() && blocks.len() <= MAX_BLOCKS);
+    match Cache::open(alloc, blocks) {
+        Ok(cache) => cache,
+        Err(_) => panic!(rt; "no memory for a cache"),
     }
-    Cache::open(alloc, blocks)
+}
+
+// The store of these blocks.
+fn store_of<A: Allocator + Copy>(
+    rt: &impl Abort,
+    alloc: A,
+    blocks: Vec<BlockBytes<A>, A>,
+) -> Store<A>
+    ensures { IsNew result }
+{
+    let cache = cache_of(rt, alloc, blocks);
+    match Store::open(alloc, cache) {
+        Ok(store) => store,
+        Err(_) => panic!(rt; "a disk was not opened"),
+    }
 }
 
 // The store of a new disk.
-fn new_store<A: Allocator + Copy>(alloc: A) -> Result<Store<A>, OutOfMemory>
-    ensures { IfOk result IsNew }
+fn new_store<A: Allocator + Copy>(rt: &impl Abort, alloc: A) -> Store<A>
+    ensures { IsNew result }
 {
-    let cache = new_cache(alloc)?;
-    match Store::open(alloc, cache) {
-        Ok(store) => Ok(store),
-        Err(_) => Err(OutOfMemory),
-    }
+    store_of(rt, alloc, make(alloc, SMALL).expect(rt, "a new disk"))
 }
 
-// The book of a new disk.
-fn new_book<A: Allocator + Copy>(alloc: A) -> Result<Book<A>, OutOfMemory> {
-    match Book::open(alloc, new_store(alloc)?).ok() {
-        Some(book) => Ok(book),
-        None => Err(OutOfMemory),
-    }
+// The store that the device holds.
+fn opened<D: Device>(rt: &impl Abort, alloc: Global, device: &mut D) -> Store {
+    store_of(
+        rt,
+        alloc,
+        load(alloc, device).expect(rt, "a device that is read"),
+    )
 }
 
-fn write_new_disk(alloc: Global, device: &mut MemDevice) -> Result<(), Fail> {
-    let Ok(blocks) = make(alloc, SMALL) else {
-        return Err(Fail::from("no new disk was made"));
-    };
-    for n in 0..blocks.len() {
-        if device.write(n as u32, blocks[n].as_slice()).is_err() {
-            return Err(Fail::from("a device in memory refused a write"));
-        }
-    }
-    Ok(())
-}
-
-// A device that holds a new disk.
-fn new_device(alloc: Global) -> Result<MemDevice, Fail> {
-    let mut device = MemDevice::new(alloc, COUNT)?;
-    write_new_disk(alloc, &mut device)?;
-    Ok(device)
+// A device that holds a new disk. It was written once: but for the first, the blocks of both are of zeros.
+fn new_device(rt: &impl Abort, alloc: Global) -> MemDevice {
+    let blocks = make(alloc, SMALL).expect(rt, "a new disk");
+    let first = blocks.first().expect(rt, "a first block");
+    let mut device = MemDevice::new(alloc, COUNT).expect(rt, "memory for a device");
+    device
+        .write(0, first.as_slice())
+        .expect(rt, "a good device");
+    drop(blocks);
+    device
 }
 
 // What is asked.
@@ -115,98 +114,179 @@ enum Told<'a> {
     Refused(RefusalKind),
 }
 
-fn command_of(alloc: Global, ask: &Ask<'_>) -> Result<Command, OutOfMemory> {
+// What a writer asks, and what it is told.
+type Talk<'a> = &'a [(Ask<'a>, Told<'a>)];
+
+fn bytes<A: Allocator>(rt: &impl Abort, alloc: A, of: &[u8]) -> Bytes<A> {
+    Bytes::from_vec(Vec::from_slice(alloc, of).expect(rt, "memory for bytes"))
+}
+
+fn command_of<A: Allocator + Copy>(rt: &impl Abort, alloc: A, ask: &Ask<'_>) -> Command<A> {
     match ask {
-        Ask::Put(key, value) => put(alloc, key, value),
-        Ask::Get(key) => Ok(Command::Get {
-            key: bytes(alloc, key)?,
-        }),
-        Ask::Delete(key) => Ok(Command::Delete {
-            key: bytes(alloc, key)?,
-        }),
+        Ask::Put(key, value) => Command::Put {
+            key: bytes(rt, alloc, key),
+            value: bytes(rt, alloc, value),
+        },
+        Ask::Get(key) => Command::Get {
+            key: bytes(rt, alloc, key),
+        },
+        Ask::Delete(key) => Command::Delete {
+            key: bytes(rt, alloc, key),
+        },
     }
 }
 
 // The commands of one writer.
-fn job_of(alloc: Global, asks: &[Ask<'_>]) -> Result<Vec<Command>, OutOfMemory> {
-    let mut job = Vec::with_capacity(alloc, asks.len())?;
-    for ask in asks {
-        job.push(command_of(alloc, ask)?)?;
+fn job_of(rt: &impl Abort, alloc: Global, talk: Talk<'_>) -> Vec<Command> {
+    let mut job = Vec::new(alloc);
+    for (ask, _) in talk {
+        job.push(command_of(rt, alloc, ask))
+            .expect(rt, "memory for a command");
     }
-    Ok(job)
+    job
 }
 
-// One writer puts a value and reads it, and another puts one and reads a key that has none.
-fn two_jobs(alloc: Global) -> Result<Vec<Vec<Command>>, OutOfMemory> {
-    let first = job_of(alloc, &[Ask::Put(b"a", &[1]), Ask::Get(b"a")])?;
-    let second = job_of(alloc, &[Ask::Put(b"b", &[2]), Ask::Get(b"c")])?;
-    Ok(vec![in alloc; first, second]?)
+fn jobs_of(rt: &impl Abort, alloc: Global, talks: &[Talk<'_>]) -> Vec<Vec<Command>> {
+    let mut jobs = Vec::new(alloc);
+    for talk in talks {
+        jobs.push(job_of(rt, alloc, talk))
+            .expect(rt, "memory for a job");
+    }
+    jobs
 }
 
 fn is_told(reply: &Reply, told: &Told<'_>) -> bool {
-    match (reply, told) {
-        (Reply::Done, Told::Done) => true,
-        (Reply::Absent, Told::Absent) => true,
-        (Reply::Refused(refusal), Told::Refused(kind)) => refusal.kind == *kind,
-        (Reply::Value(bytes), Told::Value(value)) => bytes.as_slice() == *value,
+    match reply {
+        Reply::Done => matches!(told, Told::Done),
+        Reply::Absent => matches!(told, Told::Absent),
+        Reply::Refused(refusal) => matches!(told, Told::Refused(kind) if refusal.kind == *kind),
+        Reply::Value(bytes) => matches!(told, Told::Value(value) if bytes.as_slice() == *value),
         _ => false,
     }
 }
 
-// How often a thread looks for what it waits for, before it is late.
-const TURNS: u32 = 1_000_000;
-
-// How often something has come about, for threads that wait for it. One of them that waits too long is late.
-#[derive(Drop)]
-struct Turn {
-    turns: u32,
-    came: AtomicU64,
-    late: AtomicBool,
+// Whether a key has this value, or none.
+fn has<A: Allocator + Copy>(store: &Store<A>, key: &[u8], value: Option<&[u8]>) -> bool {
+    let Ok(found) = store.get(key) else {
+        return false;
+    };
+    let same = match (&found, value) {
+        (Some(found), Some(value)) => found.as_slice() == value,
+        (None, None) => true,
+        _ => false,
+    };
+    drop(found);
+    same
 }
 
-impl Turn {
-    fn new(turns: u32) -> Turn {
-        Turn {
-            turns,
-            came: AtomicU64::new(0),
-            late: AtomicBool::new(false),
+// What became of a call of a book.
+#[derive(Clone, Copy)]
+enum Came {
+    // The book had no room.
+    Refused,
+    // The store had none: the reply says so.
+    Starved,
+    Done,
+    Otherwise,
+}
+
+const WRITER: Actor = Actor::Writer(WriterNo(0));
+
+// Gives a command.
+fn give<A: Allocator + Copy>(book: &mut Book<A>, command: &Command<A>) -> Came {
+    let answer = book.command(WRITER, command);
+    let came = match &answer {
+        Err(OutOfMemory) => Came::Refused,
+        Ok(Reply::Done) => Came::Done,
+        Ok(Reply::Refused(refusal)) if refusal.kind == RefusalKind::OutOfMemory => Came::Starved,
+        Ok(_) => Came::Otherwise,
+    };
+    drop(answer);
+    came
+}
+
+// Does this so many times.
+fn give_often<A: Allocator + Copy>(
+    rt: &impl Abort,
+    alloc: A,
+    book: &mut Book<A>,
+    ask: &Ask<'_>,
+    times: usize,
+) {
+    let command = command_of(rt, alloc, ask);
+    for _ in 0..times {
+        assert!(rt; matches!(give(book, &command), Came::Done));
+    }
+    drop(command);
+}
+
+// The book of a new disk, in which this is done so many times.
+fn new_book<A: Allocator + Copy>(
+    rt: &impl Abort,
+    alloc: A,
+    ask: &Ask<'_>,
+    times: usize,
+) -> Book<A> {
+    match Book::open(alloc, new_store(rt, alloc)) {
+        Ok(mut book) => {
+            give_often(rt, alloc, &mut book, ask, times);
+            book
         }
-    }
-
-    // It has come about once more.
-    fn come(&self) {
-        self.came.fetch_add(1, Ordering::SeqCst);
-    }
-
-    // Waits until it has come about so often, unless some thread was late for it before.
-    fn wait(&self, rt: &impl Clock, times: u64) {
-        for _ in 0..self.turns {
-            if self.came.load(Ordering::SeqCst) >= times || self.is_late() {
-                return;
-            }
-            thread::sleep(rt, Duration::from_micros(10));
-        }
-        self.late.store(true, Ordering::SeqCst);
-    }
-
-    fn is_late(&self) -> bool {
-        self.late.load(Ordering::SeqCst)
+        Err(_) => panic!(rt; "no memory for a book"),
     }
 }
 
-// What is left of the writers that were served, without the store.
-#[derive(Drop)]
-struct Outcome<D: Device> {
+// Serves one to eight writers on the store of a new disk, which the device holds.
+fn serve_all<D: Device + Drop + Send, G: Gate + Sync, R: Threads + Wait + Abort + Sync>(
+    rt: &R,
+    alloc: Global,
     device: D,
-    replies: Vec<Vec<Reply>>,
-    // The entries of the book, and its counts.
-    calls: usize,
-    counts: Counts,
-    // The sends in the trace.
-    sends: u64,
-    live: u32,
-    // The blocks with all patches.
-    cached: Vec<BlockBytes>,
+    jobs: Vec<Vec<Command>>,
+    gate: &G,
+) -> Result<Finished<D>, ServeFault<D>> {
+    assert!(rt; !jobs.is_empty());
+    assert!(rt; jobs.len() <= 8);
+    let store = new_store(rt, alloc);
+    serve(rt, alloc, store, device, jobs, gate)
+}
+
+// The same, where no fault is met.
+fn serve_well<D: Device + Drop + Send, G: Gate + Sync, R: Threads + Wait + Abort + Sync>(
+    rt: &R,
+    alloc: Global,
+    device: D,
+    jobs: Vec<Vec<Command>>,
+    gate: &G,
+) -> Finished<D> {
+    match serve_all(rt, alloc, device, jobs, gate) {
+        Ok(finished) => finished,
+        Err(fault) => panic!(rt; "serving ended with {}", fault.cause),
+    }
+}
+
+fn expect_talk(rt: &impl Abort, replies: &[Reply], talk: Talk<'_>) {
+    assert!(rt; replies.len() == talk.len());
+    for at in 0..talk.len() {
+        expect_eq(rt, &(at, is_told(&replies[at], &talk[at].1)), &(at, true));
+    }
+}
+
+// The writers were told this and nothing more, and just these calls are in the book.
+fn expect_talks<D: Device>(rt: &impl Abort, finished: &Finished<D>, talks: &[Talk<'_>]) {
+    assert!(rt; talks.len() <= 8 && finished.replies.len() == talks.len());
+    let mut calls = 0usize;
+    let mut of_each = [0; 8];
+    for writer in 0..talks.len() {
+        expect_talk(rt, finished.replies[writer].as_slice(), talks[writer]);
+        calls = calls.saturating_add(talks[writer].len());
+        of_each[writer] = talks[writer].len() as u64;
+    }
+    let book = &finished.book;
+    expect_eq(
+        rt,
+        &(book.calls.len(), book.counts.writers),
+        &(calls, of_each),
+    );
 }
 
 fn sends_in(trace: &[Step]) -> u64 {
@@ -219,121 +299,26 @@ fn sends_in(trace: &[Step]) -> u64 {
     sends
 }
 
-fn cached_blocks(alloc: Global, cache: &Cache) -> Result<Vec<BlockBytes>, OutOfMemory> {
-    let mut blocks = Vec::new(alloc);
+// Whether these are the blocks with all patches.
+fn are_cached(cache: &Cache, blocks: &[BlockBytes]) -> bool {
     for n in 0..cache.blocks() {
-        match cache.read(BlockNo(n), 0, BLOCK) {
-            Ok(bytes) if bytes.len() == BLOCK => blocks.push(BlockBytes::from_slice(
-                alloc, bytes,
-            )?)?,
-            _ => return Err(OutOfMemory),
+        match (cache.read(BlockNo(n), 0, BLOCK), blocks.get(n as usize)) {
+            (Ok(bytes), Some(block)) if bytes == block.as_slice() => {}
+            _ => return false,
         }
     }
-    Ok(blocks)
+    blocks.len() == cache.blocks() as usize
 }
 
-fn outcome_of<D: Device + Drop>(
-    alloc: Global,
-    finished: Finished<D>,
-) -> Result<Outcome<D>, OutOfMemory> {
-    let cached = cached_blocks(alloc, finished.store.cache())?;
-    let sends = sends_in(finished.store.cache().trace());
-    let live = finished.store.cache().live();
-    let Finished {
-        device,
-        replies,
-        book,
-        ..
-    } = finished;
-    Ok(Outcome {
-        device,
-        replies,
-        calls: book.calls.len(),
-        counts: book.counts,
-        sends,
-        live,
-        cached,
-    })
-}
-
-fn out_of_memory<D: Device>() -> ServeFault<D> {
-    ServeFault {
-        cause: Cause::OutOfMemory,
-        device: None,
-    }
-}
-
-// Serves one to eight writers on the store of a new disk, which the device holds.
-fn serve_all<D: Device + Drop + Send, G: Gate + Sync, R: Threads + Wait + Abort + Sync>(
-    rt: &R,
-    alloc: Global,
-    device: D,
-    jobs: Vec<Vec<Command>>,
-    gate: &G,
-) -> Result<Outcome<D>, ServeFault<D>> {
-    assert!(rt; !jobs.is_empty());
-    assert!(rt; jobs.len() <= 8);
-    let Ok(store) = new_store(alloc) else {
-        return Err(out_of_memory());
-    };
-    let finished = serve(rt, alloc, store, device, jobs, gate)?;
-    match outcome_of(alloc, finished) {
-        Ok(outcome) => Ok(outcome),
-        Err(_) => Err(out_of_memory()),
-    }
-}
-
-// The same, where no fault is met.
-fn serve_well<D: Device + Drop + Send, G: Gate + Sync, R: Threads + Wait + Abort + Sync>(
-    rt: &R,
-    alloc: Global,
-    device: D,
-    jobs: Vec<Vec<Command>>,
-    gate: &G,
-) -> Result<Outcome<D>, Fail> {
-    match serve_all(rt, alloc, device, jobs, gate) {
-        Ok(outcome) => Ok(outcome),
-        Err(fault) => {
-            assert!(rt; false, "serving ended with {}", fault.cause);
-            Err(Fail::from("serving ended with a fault"))
-        }
-    }
-}
-
-// The writer was told this, and nothing more.
-fn expect_writer<D: Device>(
-    rt: &impl Abort,
-    outcome: &Outcome<D>,
-    writer: usize,
-    told: &[Told<'_>],
-) {
-    assert!(rt; writer < outcome.replies.len());
-    let replies = outcome.replies[writer].as_slice();
-    assert_eq!(rt; replies.len(), told.len());
-    for at in 0..replies.len() {
-        assert!(rt;
-            at < told.len() && is_told(&replies[at], &told[at]),
-            "reply {at} to writer {writer}"
-        );
-    }
-}
-
-// Whether the device holds these blocks and no others.
-fn holds<D: Device>(alloc: Global, device: &mut D, blocks: &[BlockBytes]) -> bool {
-    let Ok(held) = load(alloc, device) else {
-        return false;
-    };
-    held.len() == blocks.len()
-        && held
-            .iter()
-            .zip(blocks)
-            .all(|(held, block)| held.as_slice() == block.as_slice())
-}
-
-// Every patch is on the disk, every write that was begun has ended, and the device holds what the cache did.
-fn expect_settled<D: Device>(rt: &impl Abort, alloc: Global, outcome: &mut Outcome<D>) {
-    assert_eq!(rt; outcome.live, 0);
-    assert_eq!(rt; outcome.counts.flusher, outcome.sends);
-    assert_eq!(rt; outcome.counts.completer, outcome.sends);
-    assert!(rt; holds(alloc, &mut outcome.device, &outcome.cached));
+// Every patch is on the disk, every write that was begun has ended, and the device holds what the cache does. How many writes were begun.
+fn expect_settled<D: Device>(rt: &impl Abort, alloc: Global, finished: &mut Finished<D>) -> u64 {
+    let cache = finished.store.cache();
+    let sends = sends_in(cache.trace());
+    let counts = finished.book.counts;
+    let settled = (cache.live(), counts.flusher, counts.completer);
+    expect_eq(rt, &settled, &(0, sends, sends));
+    let blocks = load(alloc, &mut finished.device).expect(rt, "a device that is read");
+    assert!(rt; are_cached(cache, &blocks));
+    drop(blocks);
+    sends
 }

@@ -2,6 +2,7 @@
 ghost use Rattle.std.specs.Prelude.{◌≡◌, ◌≤◌};
 ghost use Rattle.patch_device.specs.Device.{most_faults};
 
+use super::gates::Holding;
 use super::*;
 use patch_device::{DeviceRefusal, FaultyDevice};
 
@@ -13,65 +14,86 @@ const CALLS: u64 = 38;
 // How often a call is tried.
 const TRIES: u64 = 8;
 
-// Which calls are refused.
-#[derive(Clone, Copy, PartialEq, Eq)]
+// Which calls go wrong.
+#[derive(Clone, Copy)]
 enum Kind {
     Reads,
     Writes,
     All,
 }
 
-// So many calls of this kind pass, and then so many in a row are refused. A refused write lands where that is said.
+// How a write goes wrong.
 #[derive(Clone, Copy)]
-struct Plan {
-    kind: Kind,
-    passed: u64,
-    refused: u64,
-    lands: bool,
+enum Way {
+    // It is refused, and isn't done.
+    Refused,
+    // It is done, and refused all the same.
+    Lands,
+    // It isn't done, and nobody is told.
+    Forgotten,
 }
 
-// A device that refuses calls so, and counts all of them.
+// So many calls of this kind go well, and then so many in a row go wrong.
+#[derive(Clone, Copy)]
+pub(super) struct Plan {
+    kind: Kind,
+    well: u64,
+    wrong: u64,
+    way: Way,
+}
+
+// No call goes wrong.
+pub(super) const GOOD: Plan = Plan {
+    kind: Kind::All,
+    well: 0,
+    wrong: 0,
+    way: Way::Refused,
+};
+
+// A device whose calls go wrong so. It counts all of them, and those that it refuses. A gate may hold its writes.
 #[derive(Drop)]
-struct Failing {
+pub(super) struct Odd<'a> {
     inner: MemDevice,
     plan: Plan,
+    pub(super) gate: Option<&'a Holding<HostRuntime>>,
     calls: u64,
     faults: u64,
     ghost faults_fit: { faults ≤ most_faults },
 }
 
-impl Failing {
-    fn new(inner: MemDevice, plan: Plan) -> Failing {
-        Failing {
+impl<'a> Odd<'a> {
+    pub(super) fn new(inner: MemDevice, plan: Plan) -> Odd<'a> {
+        Odd {
             inner,
             plan,
+            gate: None,
             calls: 0,
             faults: 0,
         }
     }
 
-    // Counts a call, and answers whether it is to be refused.
-    fn is_refusing(&mut self, kind: Kind) -> bool
+    // Counts a call, and answers whether it goes wrong.
+    fn goes_wrong(&mut self, is_write: bool) -> bool
         ensures inner { self.new.inner ≡ self.old.inner }
         ensures faults { self.new.faults ≡ self.old.faults }
     {
         self.calls = self.calls.saturating_add(1);
-        if self.plan.kind != Kind::All && self.plan.kind != kind {
+        let is_meant = match self.plan.kind {
+            Kind::Reads => !is_write,
+            Kind::Writes => is_write,
+            Kind::All => true,
+        };
+        if is_meant && self.plan.well > 0 {
+            self.plan.well -= 1;
             return false;
         }
-        if self.plan.passed > 0 {
-            self.plan.passed -= 1;
-            return false;
-        }
-        if self.plan.refused > 0 {
-            self.plan.refused -= 1;
-            return true;
-        }
-        false
+        let wrong = is_meant && self.plan.wrong > 0;
+        self.plan.wrong -= wrong as u64;
+        wrong
     }
 }
 
-impl Device for Failing {
+impl<'a> Device for Odd<'a> {
     ghost use Rattle.std.specs.Prelude.{[]};
     ghost use Rattle.patch_device.specs.MemDevice.{block_count_of};
 
@@ -93,7 +115,7 @@ impl Device for Failing {
         if n >= self.inner.count() {
             return Err(DeviceRefusal::NoSuchBlock);
         }
-        if self.is_refusing(Kind::Reads) || self.inner.read(n, into).is_err() {
+        if self.goes_wrong(false) || self.inner.read(n, into).is_err() {
             self.faults = self.faults.saturating_add(1);
             return Err(DeviceRefusal::Fault);
         }
@@ -104,10 +126,17 @@ impl Device for Failing {
         if n >= self.inner.count() {
             return Err(DeviceRefusal::NoSuchBlock);
         }
-        let refused = self.is_refusing(Kind::Writes);
-        let lands = !refused || self.plan.lands;
+        if let Some(gate) = self.gate {
+            gate.begin();
+        }
+        let (lands, is_told) = match (self.goes_wrong(true), self.plan.way) {
+            (false, _) => (true, false),
+            (true, Way::Refused) => (false, true),
+            (true, Way::Lands) => (true, true),
+            (true, Way::Forgotten) => (false, false),
+        };
         let failed = lands && self.inner.write(n, from).is_err();
-        if refused || failed {
+        if is_told || failed {
             self.faults = self.faults.saturating_add(1);
             return Err(DeviceRefusal::Fault);
         }
@@ -123,236 +152,157 @@ impl Device for Failing {
     ghost faults_fit = { λ d. d.faults_fit };
 }
 
-// A device that says of each write that it was done, and does none.
-#[derive(Drop)]
-struct Forgetful {
-    inner: MemDevice,
-}
-
-impl Device for Forgetful {
-    ghost use Rattle.std.specs.Prelude.{[]};
-    ghost use Rattle.patch_device.specs.Device.{none_fits};
-    ghost use Rattle.patch_device.specs.MemDevice.{block_count_of};
-
-    ghost contents = { λ _. [] };
-
-    ghost had = { λ _. [] };
-
-    ghost is_honest = { λ _. ⊥ };
-
-    ghost block_count = { λ d. block_count_of d.inner };
-
-    ghost fault_count = { λ _. 0 };
-
-    fn count(&self) -> u32 {
-        self.inner.count()
-    }
-
-    fn read(&mut self, n: u32, into: &mut [u8]) -> Result<(), DeviceRefusal> {
-        self.inner.read(n, into)
-    }
-
-    fn write(&mut self, n: u32, _from: &[u8]) -> Result<(), DeviceRefusal> {
-        if n >= self.inner.count() {
-            return Err(DeviceRefusal::NoSuchBlock);
-        }
-        Ok(())
-    }
-
-    ghost blocks_counted = { λ d h. absurd h };
-
-    ghost blocks_whole = { λ d h. absurd h };
-
-    ghost last_had = { λ d h. absurd h };
-
-    ghost faults_fit = { λ _. none_fits };
-}
-
 // One writer, who puts one value.
-fn one_put(alloc: Global) -> Result<Vec<Vec<Command>>, OutOfMemory> {
-    let job = job_of(alloc, &[Ask::Put(b"k", &[1, 2])])?;
-    Ok(vec![in alloc; job]?)
-}
+static ONE_PUT: [Talk<'static>; 1] = [&[(Ask::Put(b"k", &[1, 2]), Told::Done)]];
 
-fn serve_put<D: Device + Drop + Send, R: Threads + Wait + Abort + Sync>(
+// The run ends so. The calls and faults of the device that comes back, if one does.
+fn expect_fault<R: Threads + Wait + Abort + Sync>(
     rt: &R,
     alloc: Global,
-    device: D,
-) -> Result<Result<Outcome<D>, ServeFault<D>>, OutOfMemory> {
-    Ok(serve_all(rt, alloc, device, one_put(alloc)?, &OpenGate))
-}
-
-#[test]
-fn a_device_that_forgets_is_found_out(rt: HostRuntime) -> Result<(), Fail> {
-    let device = Forgetful {
-        inner: new_device(rt.alloc())?,
-    };
-    match serve_put(&rt, rt.alloc(), device)? {
-        Ok(_) => Err(Fail::from("nobody saw that nothing was written")),
+    plan: Plan,
+    cause: Cause,
+    left: Option<(u64, u64)>,
+) {
+    let device = Odd::new(new_device(rt, alloc), plan);
+    match serve_all(rt, alloc, device, jobs_of(rt, alloc, &ONE_PUT), &OpenGate) {
+        Ok(_) => panic!(rt; "a device that fails was borne with"),
         Err(fault) => {
-            assert!(&rt; fault.cause == Cause::ReadBack(BlockNo(1)));
-            assert!(&rt; fault.device.is_none());
-            Ok(())
+            let back = match &fault.device {
+                Some(device) => Some((device.calls, device.faults)),
+                None => None,
+            };
+            expect_eq(rt, &(fault.cause, back), &(cause, left));
+            drop(fault);
         }
     }
 }
 
-// The run goes to its end, and makes just one call more for each that is refused. How many were.
-fn borne<R: Threads + Wait + Abort + Sync>(rt: &R, alloc: Global, plan: Plan) -> Result<u64, Fail> {
-    let device = Failing::new(new_device(alloc)?, plan);
-    let mut outcome = serve_well(rt, alloc, device, one_put(alloc)?, &OpenGate)?;
-    let faults = outcome.device.faults;
-    assert_eq!(rt; outcome.device.calls, CALLS.saturating_add(faults));
-    outcome.device.plan.refused = 0;
-    assert_eq!(rt; outcome.sends, WRITES);
-    expect_writer(rt, &outcome, 0, &[Told::Done]);
-    expect_settled(rt, alloc, &mut outcome);
-    Ok(faults)
+// The run goes to its end, and makes just one call more for each that is refused. So many are.
+fn expect_borne<R: Threads + Wait + Abort + Sync>(rt: &R, alloc: Global, plan: Plan, faults: u64) {
+    let device = Odd::new(new_device(rt, alloc), plan);
+    let jobs = jobs_of(rt, alloc, &ONE_PUT);
+    let mut finished = serve_well(rt, alloc, device, jobs, &OpenGate);
+    let device = &mut finished.device;
+    let counted = (device.calls, device.faults);
+    expect_eq(rt, &counted, &(CALLS.saturating_add(faults), faults));
+    device.plan.wrong = 0;
+    expect_talks(rt, &finished, &ONE_PUT);
+    expect_eq(rt, &expect_settled(rt, alloc, &mut finished), &WRITES);
+    drop(finished);
 }
 
-// The same, where all are refused that are to be.
-fn expect_borne<R: Threads + Wait + Abort + Sync>(
-    rt: &R,
-    alloc: Global,
-    plan: Plan,
-) -> Result<(), Fail> {
-    assert_eq!(rt; borne(rt, alloc, plan)?, plan.refused);
-    Ok(())
-}
-
-// The run ends at this block, after so many calls, and the device comes back.
-fn expect_gave_up<R: Threads + Wait + Abort + Sync>(
-    rt: &R,
-    alloc: Global,
-    plan: Plan,
-    block: u32,
-    calls: u64,
-) -> Result<(), Fail> {
-    let device = Failing::new(new_device(alloc)?, plan);
-    let fault = match serve_put(rt, alloc, device)? {
-        Ok(_) => return Err(Fail::from("a device that gives up was borne with")),
-        Err(fault) => fault,
-    };
-    assert!(rt; fault.cause == Cause::DeviceGaveUp(BlockNo(block)));
-    match fault.device {
-        Some(device) => {
-            assert_eq!(rt; (device.calls, device.faults), (calls, TRIES));
-            Ok(())
-        }
-        None => Err(Fail::from("the device did not come back")),
-    }
-}
-
-fn first(kind: Kind, refused: u64, lands: bool) -> Plan {
+fn first(kind: Kind, wrong: u64, way: Way) -> Plan {
     Plan {
         kind,
-        passed: 0,
-        refused,
-        lands,
+        well: 0,
+        wrong,
+        way,
     }
 }
 
 #[test]
-fn a_write_refused_eight_times_ends_the_run(rt: HostRuntime) -> Result<(), Fail> {
-    for lands in [false, true] {
-        let seven = first(Kind::Writes, TRIES - 1, lands);
-        expect_borne(&rt, rt.alloc(), seven)?;
-        let eight = first(Kind::Writes, TRIES, lands);
-        expect_gave_up(&rt, rt.alloc(), eight, 3, TRIES)?;
-    }
-    Ok(())
+fn a_device_that_forgets_is_found_out(rt: HostRuntime) {
+    let forgetful = first(Kind::Writes, u64::MAX, Way::Forgotten);
+    let cause = Cause::ReadBack(BlockNo(1));
+    expect_fault(&rt, rt.alloc(), forgetful, cause, None);
 }
 
 #[test]
-fn a_read_refused_eight_times_ends_the_run(rt: HostRuntime) -> Result<(), Fail> {
-    let seven = first(Kind::Reads, TRIES - 1, false);
-    expect_borne(&rt, rt.alloc(), seven)?;
-    let eight = first(Kind::Reads, TRIES, false);
-    expect_gave_up(&rt, rt.alloc(), eight, 0, WRITES + TRIES)
-}
-
-// The call behind so many others fails, once.
-fn once(passed: u64, lands: bool) -> Plan {
-    Plan {
-        kind: Kind::All,
-        passed,
-        refused: 1,
-        lands,
+fn a_call_refused_eight_times_ends_the_run(rt: HostRuntime) {
+    for (kind, way, block, calls) in [
+        (Kind::Writes, Way::Refused, 3, TRIES),
+        (Kind::Writes, Way::Lands, 3, TRIES),
+        (Kind::Reads, Way::Refused, 0, WRITES + TRIES),
+    ] {
+        let seven = first(kind, TRIES - 1, way);
+        expect_borne(&rt, rt.alloc(), seven, TRIES - 1);
+        let eight = first(kind, TRIES, way);
+        let cause = Cause::DeviceGaveUp(BlockNo(block));
+        expect_fault(&rt, rt.alloc(), eight, cause, Some((calls, TRIES)));
     }
 }
 
-// How many calls can fail, each in its turn, until a run meets no fault.
-fn count_faults<R: Threads + Wait + Abort + Sync>(
-    rt: &R,
-    alloc: Global,
-    lands: bool,
-) -> Result<u64, Fail> {
-    for passed in 0..1000 {
-        if borne(rt, alloc, once(passed, lands))? == 0 {
-            return Ok(passed);
+// Each call in its turn, and then none.
+#[test]
+fn each_call_may_fail_once(rt: HostRuntime) {
+    for way in [Way::Refused, Way::Lands] {
+        for well in 0..CALLS + 1 {
+            let plan = Plan {
+                kind: Kind::All,
+                well,
+                wrong: 1,
+                way,
+            };
+            expect_borne(&rt, rt.alloc(), plan, (well < CALLS) as u64);
         }
     }
-    Err(Fail::from("there was no end of calls"))
 }
 
-#[test]
-fn each_call_may_fail_once(rt: HostRuntime) -> Result<(), Fail> {
-    for lands in [false, true] {
-        assert_eq!(&rt; count_faults(&rt, rt.alloc(), lands)?, CALLS);
-    }
-    Ok(())
+// Two devices, one in the other, each of which refuses the first write that it is given. It doesn't land.
+fn refusing_twice<D: Device>(inner: D) -> FaultyDevice<FaultyDevice<D>> {
+    FaultyDevice::new(FaultyDevice::new(inner, 0, false), 0, false)
 }
 
-// A device that refuses the first write, which doesn't land.
-fn refusing<D: Device>(inner: D) -> FaultyDevice<D> {
-    FaultyDevice::new(inner, 0, false)
-}
-
-// Four of them, one in another.
-fn refusing_four_times<D: Device>(
-    inner: D,
-) -> FaultyDevice<FaultyDevice<FaultyDevice<FaultyDevice<D>>>> {
-    refusing(refusing(refusing(refusing(inner))))
-}
-
-// The run ends, and gives back the device, in which so many others are.
-fn expect_nested_gave_up<D: Device + Drop + Send, R: Threads + Wait + Abort + Sync>(
+// What a run of the one put does with a device: it ends, and gives the device back, or it goes to its end.
+fn expect_end<D: Device + Drop + Send, R: Threads + Wait + Abort + Sync>(
     rt: &R,
     alloc: Global,
     device: D,
-) -> Result<(), Fail> {
-    match serve_put(rt, alloc, device)? {
-        Ok(_) => Err(Fail::from("a device that gives up was borne with")),
+    gives_up: bool,
+) {
+    match serve_all(rt, alloc, device, jobs_of(rt, alloc, &ONE_PUT), &OpenGate) {
+        Ok(mut finished) => {
+            assert!(rt; !gives_up);
+            expect_talks(rt, &finished, &ONE_PUT);
+            expect_settled(rt, alloc, &mut finished);
+            drop(finished);
+        }
         Err(fault) => {
-            assert!(rt; fault.cause == Cause::DeviceGaveUp(BlockNo(3)));
-            assert!(rt; fault.device.is_some());
-            Ok(())
+            let ended = (fault.cause, fault.device.is_some());
+            expect_eq(rt, &(gives_up, ended), &(true, (GAVE_UP, true)));
+            drop(fault);
         }
     }
 }
 
-// The run goes to its end.
-fn expect_nested_borne<D: Device + Drop + Send, R: Threads + Wait + Abort + Sync>(
+const GAVE_UP: Cause = Cause::DeviceGaveUp(BlockNo(3));
+
+// The same with the device in two more, in four and in six. Each is a function of its own, so that none sees a type of all.
+fn expect_end_in_two<D: Device + Drop + Send, R: Threads + Wait + Abort + Sync>(
     rt: &R,
     alloc: Global,
     device: D,
-) -> Result<(), Fail> {
-    let mut outcome = serve_well(rt, alloc, device, one_put(alloc)?, &OpenGate)?;
-    expect_writer(rt, &outcome, 0, &[Told::Done]);
-    expect_settled(rt, alloc, &mut outcome);
-    Ok(())
+    gives_up: bool,
+) {
+    expect_end(rt, alloc, refusing_twice(device), gives_up);
+}
+
+fn expect_end_in_four<D: Device + Drop + Send, R: Threads + Wait + Abort + Sync>(
+    rt: &R,
+    alloc: Global,
+    device: D,
+    gives_up: bool,
+) {
+    expect_end_in_two(rt, alloc, refusing_twice(device), gives_up);
+}
+
+fn expect_end_in_six<D: Device + Drop + Send, R: Threads + Wait + Abort + Sync>(
+    rt: &R,
+    alloc: Global,
+    device: D,
+    gives_up: bool,
+) {
+    expect_end_in_four(rt, alloc, refusing_twice(device), gives_up);
 }
 
 #[test]
-fn eight_devices_in_one_another_end_the_run(rt: HostRuntime) -> Result<(), Fail> {
-    let inner = new_device(rt.alloc())?;
-    let device = refusing_four_times(refusing_four_times(inner));
-    expect_nested_gave_up(&rt, rt.alloc(), device)
+fn eight_devices_in_one_another_end_the_run(rt: HostRuntime) {
+    let two = refusing_twice(new_device(&rt, rt.alloc()));
+    expect_end_in_six(&rt, rt.alloc(), two, true);
 }
 
 #[test]
-fn seven_devices_in_one_another_do_not(rt: HostRuntime) -> Result<(), Fail> {
-    let inner = new_device(rt.alloc())?;
-    let device = refusing_four_times(refusing(refusing(refusing(inner))));
-    expect_nested_borne(&rt, rt.alloc(), device)
+fn seven_devices_in_one_another_do_not(rt: HostRuntime) {
+    let one = FaultyDevice::new(new_device(&rt, rt.alloc()), 0, false);
+    expect_end_in_six(&rt, rt.alloc(), one, false);
 }

@@ -1,300 +1,288 @@
 //! Writers that are held at their calls, and a device that is held at a write: they get on only where the others go on meanwhile.
-ghost use Rattle.std.specs.Prelude.{◌≤◌};
-ghost use Rattle.patch_model.specs.declared.limits.TheConstants.{MAX_WRITER};
-
+use super::devices::{GOOD, Odd};
 use super::*;
-use patch_device::DeviceRefusal;
+use patch_model::MAX_WRITER;
+use std::sync::atomic::{AtomicBool, AtomicU64, Ordering};
+use std::thread;
+use std::time::{Clock, Duration};
+
+// How often a thread looks for what it waits for, before it is late.
+pub(super) const TURNS: u32 = 1_000_000;
 
 // How often one looks who is to be late.
 const FEW: u32 = 100;
 
-fn writer_of(actor: Actor) -> Option<u8> {
-    match actor {
-        Actor::Writer(writer) => Some(writer.0),
-        _ => None,
-    }
-}
-
-// Holds the first call of writer 0 until the second one of writer 1 is answered, and that one until the first is at the gate.
+// How often something has come about, for threads that wait for it. One of them that waits too long is late.
 #[derive(Drop)]
-struct TwoWriters<R: Clock + Drop> {
-    rt: R,
-    first: Turn,
-    second: Turn,
+struct Turn {
+    came: AtomicU64,
+    late: AtomicBool,
 }
 
-impl<R: Clock + Drop> TwoWriters<R> {
-    fn new(rt: R, turns: u32) -> TwoWriters<R> {
-        TwoWriters {
-            rt,
-            first: Turn::new(turns),
-            second: Turn::new(turns),
+impl Turn {
+    fn new() -> Turn {
+        Turn {
+            came: AtomicU64::new(0),
+            late: AtomicBool::new(false),
         }
     }
 
-    fn is_late(&self) -> bool {
-        self.first.is_late() || self.second.is_late()
+    // It has come about once more.
+    fn come(&self) {
+        self.came.fetch_add(1, Ordering::SeqCst);
     }
-}
 
-impl<R: Clock + Drop> Gate for TwoWriters<R> {
-    fn before(&self, actor: Actor, call: u64) {
-        match (writer_of(actor), call) {
-            (Some(0), 1) => {
-                self.first.come();
-                self.second.wait(&self.rt, 1);
+    // Waits until it has come about so often, unless some thread was late for it before.
+    fn wait(&self, rt: &impl Clock, turns: u32, times: u64) {
+        for _ in 0..turns {
+            if self.came.load(Ordering::SeqCst) >= times || self.late.load(Ordering::SeqCst) {
+                return;
             }
-            (Some(1), 2) => self.first.wait(&self.rt, 1),
-            _ => {}
+            thread::sleep(rt, Duration::from_micros(10));
         }
-    }
-
-    fn after(&self, actor: Actor, call: u64) {
-        if let (Some(1), 2) = (writer_of(actor), call) {
-            self.second.come();
-        }
+        self.late.store(true, Ordering::SeqCst);
     }
 }
 
-#[test]
-fn gate_two_writers(rt: HostRuntime) -> Result<(), Fail> {
-    let alloc = rt.alloc();
-    let gate = TwoWriters::new(rt, TURNS);
-    let mut outcome = serve_well(&rt, alloc, new_device(alloc)?, two_jobs(alloc)?, &gate)?;
-    assert!(&rt; !gate.is_late());
-    expect_writer(&rt, &outcome, 0, &[Told::Done, Told::Value(&[1])]);
-    expect_writer(&rt, &outcome, 1, &[Told::Done, Told::Absent]);
-    expect_settled(&rt, alloc, &mut outcome);
-    Ok(())
+// Whom a gate holds.
+#[derive(Clone, Copy)]
+pub(super) enum Hold {
+    // The first call of each other writer until the second one of this writer is answered, and that one until so much has begun: a
+    // first call at the gate, or a write of a held device, which is held until that answer too.
+    Last(u8, u64),
+    // Each call of a writer until as many writes have ended as it has made calls: so there are as many at least.
+    Pace,
 }
 
-// The two calls of this writer, at the gate alone.
-fn pass<G: Gate>(gate: &G, writer: u8)
-    requires { writer ≤ MAX_WRITER }
-{
-    for call in [1, 2] {
-        gate.before(Actor::Writer(WriterNo(writer)), call);
-        gate.after(Actor::Writer(WriterNo(writer)), call);
-    }
-}
-
-// Whether a writer is late where the first one makes both its calls before the last one.
-fn is_late_in_turn(rt: HostRuntime, first: u8, last: u8) -> bool
-    requires { (first ≤ MAX_WRITER) × (last ≤ MAX_WRITER) }
-{
-    let gate = TwoWriters::new(rt, FEW);
-    pass(&gate, first);
-    pass(&gate, last);
-    gate.is_late()
-}
-
-#[test]
-fn writers_one_after_the_other_are_late(rt: HostRuntime) -> Result<(), Fail> {
-    assert!(&rt; is_late_in_turn(rt, 0, 1));
-    assert!(&rt; is_late_in_turn(rt, 1, 0));
-    Ok(())
-}
-
-// Holds the second call of writer 0 until the device has begun a write, and that write until the call is answered.
+// What has begun, and what has ended: the second call of the last writer, or a write.
 #[derive(Drop)]
-struct Writing<R: Clock + Drop> {
+pub(super) struct Holding<R: Clock + Drop> {
     rt: R,
-    write: Turn,
-    answer: Turn,
+    hold: Hold,
+    turns: u32,
+    begun: Turn,
+    ended: Turn,
 }
 
-impl<R: Clock + Drop> Writing<R> {
-    fn new(rt: R, turns: u32) -> Writing<R> {
-        Writing {
+impl<R: Clock + Drop> Holding<R> {
+    pub(super) fn new(rt: R, hold: Hold, turns: u32) -> Holding<R> {
+        Holding {
             rt,
-            write: Turn::new(turns),
-            answer: Turn::new(turns),
+            hold,
+            turns,
+            begun: Turn::new(),
+            ended: Turn::new(),
         }
     }
 
-    fn is_late(&self) -> bool {
-        self.write.is_late() || self.answer.is_late()
+    // Something has begun, and is held until the end of the other.
+    pub(super) fn begin(&self) {
+        self.begun.come();
+        self.ended.wait(&self.rt, self.turns, 1);
+    }
+
+    // Whether some thread was late for what begins, and for what ends.
+    pub(super) fn late(&self) -> (bool, bool) {
+        (
+            self.begun.late.load(Ordering::SeqCst),
+            self.ended.late.load(Ordering::SeqCst),
+        )
     }
 }
 
-impl<R: Clock + Drop> Gate for Writing<R> {
+impl<R: Clock + Drop> Gate for Holding<R> {
     fn before(&self, actor: Actor, call: u64) {
-        if let (Some(0), 2) = (writer_of(actor), call) {
-            self.write.wait(&self.rt, 1);
-        }
-    }
-
-    fn after(&self, actor: Actor, call: u64) {
-        if let (Some(0), 2) = (writer_of(actor), call) {
-            self.answer.come();
-        }
-    }
-}
-
-// A device whose writes are held so.
-#[derive(Drop)]
-struct HeldDevice<'a, R: Clock + Drop> {
-    inner: MemDevice,
-    gate: &'a Writing<R>,
-}
-
-impl<'a, R: Clock + Drop> Device for HeldDevice<'a, R> {
-    ghost use Rattle.std.specs.Prelude.{[]};
-    ghost use Rattle.patch_device.specs.MemDevice.{block_count_of, fault_count_of, faults_fit_law};
-
-    ghost contents = { λ _. [] };
-
-    ghost had = { λ _. [] };
-
-    ghost is_honest = { λ _. ⊥ };
-
-    ghost block_count = { λ d. block_count_of d.inner };
-
-    ghost fault_count = { λ d. fault_count_of d.inner };
-
-    fn count(&self) -> u32 {
-        self.inner.count()
-    }
-
-    fn read(&mut self, n: u32, into: &mut [u8]) -> Result<(), DeviceRefusal> {
-        self.inner.read(n, into)
-    }
-
-    fn write(&mut self, n: u32, from: &[u8]) -> Result<(), DeviceRefusal> {
-        self.gate.write.come();
-        self.gate.answer.wait(&self.gate.rt, 1);
-        self.inner.write(n, from)
-    }
-
-    ghost blocks_counted = { λ d h. absurd h };
-
-    ghost blocks_whole = { λ d h. absurd h };
-
-    ghost last_had = { λ d h. absurd h };
-
-    ghost faults_fit = { λ d. faults_fit_law d.inner };
-}
-
-#[test]
-fn gate_write(rt: HostRuntime) -> Result<(), Fail> {
-    let alloc = rt.alloc();
-    let job = job_of(alloc, &[Ask::Put(b"a", &[1]), Ask::Get(b"a")])?;
-    let jobs = vec![in alloc; job]?;
-    let gate = Writing::new(rt, TURNS);
-    let device = HeldDevice {
-        inner: new_device(alloc)?,
-        gate: &gate,
-    };
-    let mut outcome = serve_well(&rt, alloc, device, jobs, &gate)?;
-    assert!(&rt; !gate.is_late());
-    expect_writer(&rt, &outcome, 0, &[Told::Done, Told::Value(&[1])]);
-    expect_settled(&rt, alloc, &mut outcome);
-    Ok(())
-}
-
-// One write of a held device.
-fn write_held(alloc: Global, gate: &Writing<impl Clock + Drop>) -> Result<bool, Fail> {
-    let mut device = HeldDevice {
-        inner: new_device(alloc)?,
-        gate,
-    };
-    Ok(device.write(3, &[0; BLOCK]).is_ok())
-}
-
-#[test]
-fn a_write_before_or_behind_the_calls_is_late(rt: HostRuntime) -> Result<(), Fail> {
-    let before = Writing::new(rt, FEW);
-    assert!(&rt; write_held(rt.alloc(), &before)?);
-    assert!(&rt; before.is_late());
-    let behind = Writing::new(rt, FEW);
-    pass(&behind, 0);
-    assert!(&rt; behind.is_late());
-    Ok(())
-}
-
-// Holds the first calls of writers 0 to 6 until the second one of writer 7 is answered, and that one until all of them are at the
-// gate.
-#[derive(Drop)]
-struct EightWriters<R: Clock + Drop> {
-    rt: R,
-    firsts: Turn,
-    last: Turn,
-}
-
-impl<R: Clock + Drop> EightWriters<R> {
-    fn new(rt: R, turns: u32) -> EightWriters<R> {
-        EightWriters {
-            rt,
-            firsts: Turn::new(turns),
-            last: Turn::new(turns),
-        }
-    }
-
-    fn is_late(&self) -> bool {
-        self.firsts.is_late() || self.last.is_late()
-    }
-}
-
-impl<R: Clock + Drop> Gate for EightWriters<R> {
-    fn before(&self, actor: Actor, call: u64) {
-        match (writer_of(actor), call) {
-            (Some(7), 1) => {}
-            (Some(_), 1) => {
-                self.firsts.come();
-                self.last.wait(&self.rt, 1);
+        let Actor::Writer(writer) = actor else {
+            return;
+        };
+        match self.hold {
+            Hold::Pace => self
+                .ended
+                .wait(&self.rt, self.turns, call.saturating_sub(1)),
+            Hold::Last(last, times) if writer.0 == last => {
+                if call == 2 {
+                    self.begun.wait(&self.rt, self.turns, times);
+                }
             }
-            (Some(7), 2) => self.firsts.wait(&self.rt, 7),
-            _ => {}
+            Hold::Last(..) => {
+                if call == 1 {
+                    self.begin();
+                }
+            }
         }
     }
 
     fn after(&self, actor: Actor, call: u64) {
-        if let (Some(7), 2) = (writer_of(actor), call) {
-            self.last.come();
+        let ends = match (self.hold, actor) {
+            (Hold::Pace, Actor::Completer) => true,
+            (Hold::Last(last, _), Actor::Writer(writer)) => writer.0 == last && call == 2,
+            _ => false,
+        };
+        if ends {
+            self.ended.come();
         }
     }
 }
+
+/// One writer puts a value and reads it, and another puts one and reads a key that has none.
+pub(super) static TWO: [Talk<'static>; 2] = [
+    &[
+        (Ask::Put(b"a", &[1]), Told::Done),
+        (Ask::Get(b"a"), Told::Value(&[1])),
+    ],
+    &[
+        (Ask::Put(b"b", &[2]), Told::Done),
+        (Ask::Get(b"c"), Told::Absent),
+    ],
+];
+
+static ONE: [Talk<'static>; 1] = [&[
+    (Ask::Put(b"a", &[1]), Told::Done),
+    (Ask::Get(b"a"), Told::Value(&[1])),
+]];
 
 // Each of eight writers puts its number under a key of its own, and reads it.
-fn eight_jobs(alloc: Global) -> Result<Vec<Vec<Command>>, OutOfMemory> {
-    let mut jobs = Vec::with_capacity(alloc, 8)?;
-    for n in 0..8u8 {
-        jobs.push(job_of(alloc, &[Ask::Put(&[n], &[n]), Ask::Get(&[n])])?)?;
+macro_rules! own {
+    ($n:literal) => {
+        &[
+            (Ask::Put(&[$n], &[$n]), Told::Done),
+            (Ask::Get(&[$n]), Told::Value(&[$n])),
+        ]
+    };
+}
+
+static EIGHT: [Talk<'static>; 8] = [
+    own!(0),
+    own!(1),
+    own!(2),
+    own!(3),
+    own!(4),
+    own!(5),
+    own!(6),
+    own!(7),
+];
+
+// Nobody is late where a new gate holds these writers, and a device at its writes where that is said.
+fn expect_held<R: Threads + Wait + Abort + Sync>(
+    rt: &R,
+    alloc: Global,
+    gate: &Holding<HostRuntime>,
+    holds_writes: bool,
+    talks: &[Talk<'_>],
+) {
+    let mut device = Odd::new(new_device(rt, alloc), GOOD);
+    if holds_writes {
+        device.gate = Some(gate);
     }
-    Ok(jobs)
+    let mut finished = serve_well(rt, alloc, device, jobs_of(rt, alloc, talks), gate);
+    expect_eq(rt, &gate.late(), &(false, false));
+    expect_talks(rt, &finished, talks);
+    expect_settled(rt, alloc, &mut finished);
+    drop(finished);
 }
 
 #[test]
-fn gate_eight_writers(rt: HostRuntime) -> Result<(), Fail> {
-    let alloc = rt.alloc();
-    let jobs = eight_jobs(alloc)?;
-    let gate = EightWriters::new(rt, TURNS);
-    let mut outcome = serve_well(&rt, alloc, new_device(alloc)?, jobs, &gate)?;
-    assert!(&rt; !gate.is_late());
-    for n in 0..8u8 {
-        expect_writer(&rt, &outcome, n as usize, &[Told::Done, Told::Value(&[n])]);
-    }
-    expect_settled(&rt, alloc, &mut outcome);
-    Ok(())
-}
-
-// So many writers are at their first calls before writer 7 comes.
-fn held_behind(rt: HostRuntime, writers: u8) -> EightWriters<HostRuntime>
-    requires { writers ≤ MAX_WRITER }
-{
-    let gate = EightWriters::new(rt, FEW);
-    for n in 0..writers {
-        gate.before(Actor::Writer(WriterNo(n)), 1);
-    }
-    pass(&gate, 7);
-    gate
+fn gate_two_writers(rt: HostRuntime) {
+    let gate = Holding::new(rt, Hold::Last(1, 1), TURNS);
+    expect_held(&rt, rt.alloc(), &gate, false, &TWO);
 }
 
 #[test]
-fn eight_writers_wait_for_each_other(rt: HostRuntime) -> Result<(), Fail> {
-    let six = held_behind(rt, 6);
-    assert!(&rt; six.firsts.is_late() && six.last.is_late());
-    let seven = held_behind(rt, 7);
-    assert!(&rt; !seven.firsts.is_late() && seven.last.is_late());
-    Ok(())
+fn gate_write(rt: HostRuntime) {
+    let gate = Holding::new(rt, Hold::Last(0, 1), TURNS);
+    expect_held(&rt, rt.alloc(), &gate, true, &ONE);
+}
+
+#[test]
+fn gate_eight_writers(rt: HostRuntime) {
+    let gate = Holding::new(rt, Hold::Last(7, 7), TURNS);
+    expect_held(&rt, rt.alloc(), &gate, false, &EIGHT);
+}
+
+// Calls that pass a gate one after another, and whether the last writer is late for what begins, and some other for its end.
+struct Passing {
+    hold: Hold,
+    calls: &'static [(u8, u64)],
+    late: (bool, bool),
+}
+
+static PASSING: [Passing; 5] = [
+    // Of two writers the first makes both its calls before the last, and behind it.
+    Passing {
+        hold: Hold::Last(1, 1),
+        calls: &[(0, 1), (0, 2), (1, 1), (1, 2)],
+        late: (false, true),
+    },
+    Passing {
+        hold: Hold::Last(1, 1),
+        calls: &[(1, 1), (1, 2), (0, 1), (0, 2)],
+        late: (true, false),
+    },
+    // A writer makes its calls, and no write has begun.
+    Passing {
+        hold: Hold::Last(0, 1),
+        calls: &[(0, 1), (0, 2)],
+        late: (true, false),
+    },
+    // Six writers of eight are at their first calls before the last one comes, and seven.
+    Passing {
+        hold: Hold::Last(7, 7),
+        calls: &[
+            (0, 1),
+            (1, 1),
+            (2, 1),
+            (3, 1),
+            (4, 1),
+            (5, 1),
+            (7, 1),
+            (7, 2),
+        ],
+        late: (true, true),
+    },
+    Passing {
+        hold: Hold::Last(7, 7),
+        calls: &[
+            (0, 1),
+            (1, 1),
+            (2, 1),
+            (3, 1),
+            (4, 1),
+            (5, 1),
+            (6, 1),
+            (7, 1),
+            (7, 2),
+        ],
+        late: (false, true),
+    },
+];
+
+fn pass(rt: &impl Abort, gate: &impl Gate, calls: &[(u8, u64)]) {
+    for (writer, call) in calls {
+        assert!(rt; *writer <= MAX_WRITER);
+        gate.before(Actor::Writer(WriterNo(*writer)), *call);
+        gate.after(Actor::Writer(WriterNo(*writer)), *call);
+    }
+}
+
+#[test]
+fn writers_one_after_the_other_are_late(rt: HostRuntime) {
+    for passing in &PASSING {
+        let gate = Holding::new(rt, passing.hold, FEW);
+        pass(&rt, &gate, passing.calls);
+        expect_eq(
+            &rt,
+            &(passing.calls, gate.late()),
+            &(passing.calls, passing.late),
+        );
+    }
+}
+
+#[test]
+fn a_write_before_the_calls_is_late(rt: HostRuntime) {
+    let gate = Holding::new(rt, Hold::Last(0, 1), FEW);
+    let mut device = Odd::new(new_device(&rt, rt.alloc()), GOOD);
+    device.gate = Some(&gate);
+    assert!(&rt; device.write(3, &[0; BLOCK]).is_ok());
+    expect_eq(&rt, &gate.late(), &(false, true));
+    drop(device);
 }
