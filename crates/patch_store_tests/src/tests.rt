@@ -3,7 +3,9 @@
 use patch_cache::Cache;
 use patch_frame::{Format, Geometry};
 use patch_history::{MakeRefusal, OpenFault};
-use patch_model::{BLOCK, BlockBytes, MAX_BLOCKS, OutOfMemory, WriterNo};
+use patch_model::{
+    BLOCK, BlockBytes, MAX_BLOCKS, OutOfMemory, RefusalKind, Refuses, Step, WriterNo,
+};
 use patch_store::{Store, make};
 use std::alloc::{Allocator, Global};
 use std::fmt::Debug;
@@ -17,10 +19,14 @@ mod memory;
 mod opening;
 mod walks;
 
+use Ask::{Delete, Get, Put, Reclaim, Upgrade};
+
 // Ends the test, telling both, unless what came is what is wanted. A call takes the prover less than `assert_eq!` where it stands.
 fn expect_eq<T: PartialEq + Debug>(rt: &impl Abort, got: &T, want: &T) {
     assert_eq!(rt; *got, *want);
 }
+
+const WRITER: WriterNo = WriterNo(0);
 
 // One index block and two extents: 35 blocks.
 const SMALL: Geometry = Geometry {
@@ -29,37 +35,26 @@ const SMALL: Geometry = Geometry {
     format: Format::One,
 };
 
+const OF_THREE: Geometry = Geometry {
+    index: 1,
+    extents: 3,
+    format: Format::One,
+};
+
+const OF_FOUR: Geometry = Geometry {
+    index: 1,
+    extents: 4,
+    format: Format::One,
+};
+
+const OF_LONGER: Geometry = Geometry {
+    index: 1,
+    extents: 2,
+    format: Format::Two { length: 64 },
+};
+
 // Bytes that stand somewhere on a disk: in which block, from where, and which.
 type Piece<'a> = (usize, usize, &'a [u8]);
-
-// The fronts of the superblocks of one index block and two extents, and of longer extents.
-const FRONT: [u8; 20] = *b"FSTCHUNK\0\0\0\x01\0\0\0\x01\0\0\0\x02";
-
-const FRONT_TWO: [u8; 24] = *b"FSTCHUNK\0\0\0\x02\0\0\0\x01\0\0\0\x02\0\0\0\x40";
-
-fn disk(index: u32, extents: u32, format: Format) -> Geometry {
-    Geometry {
-        index,
-        extents,
-        format,
-    }
-}
-
-const ZEROS: [u8; BLOCK] = [0; BLOCK];
-
-// So many blocks, of which the first one begins so and the others are zeros.
-fn expect_disk(rt: &impl Abort, blocks: &[BlockBytes], count: usize, front: &[u8]) {
-    expect_eq(rt, &blocks.len(), &count);
-    for (no, block) in blocks.iter().enumerate() {
-        let bytes = block.as_slice();
-        let is_new = if no == 0 {
-            bytes.starts_with(front)
-        } else {
-            bytes == ZEROS.as_slice()
-        };
-        expect_eq(rt, &(&no, &is_new), &(&no, &true));
-    }
-}
 
 fn made<A: Allocator + Copy>(
     alloc: A,
@@ -71,21 +66,23 @@ fn made<A: Allocator + Copy>(
     }
 }
 
-fn expect_no_geometry(rt: &impl Abort, alloc: Global, geometry: Geometry) {
-    let refused = match make(alloc, geometry) {
-        Ok(_) => false,
-        Err(refusal) => refusal == MakeRefusal::Geometry,
-    };
-    assert!(rt; refused);
+// Lays these bytes on a disk.
+fn lay<A: Allocator + Copy>(
+    blocks: &mut [BlockBytes<A>],
+    block: usize,
+    start: usize,
+    bytes: &[u8],
+) {
+    if let Some(block) = blocks.get_mut(block) {
+        if bytes.len() <= BLOCK && start <= BLOCK - bytes.len() {
+            block.write(start, bytes);
+        }
+    }
 }
 
 fn lay_pieces<A: Allocator + Copy>(blocks: &mut [BlockBytes<A>], pieces: &[Piece<'_>]) {
     for (block, start, bytes) in pieces {
-        if let Some(block) = blocks.get_mut(*block) {
-            if bytes.len() <= BLOCK && *start <= BLOCK - bytes.len() {
-                block.write(*start, bytes);
-            }
-        }
+        lay(blocks, *block, *start, bytes);
     }
 }
 
@@ -117,7 +114,7 @@ fn open_store<A: Allocator + Copy>(
     Store::open(alloc, cache)
 }
 
-// The store that the blocks hold.
+// The store that the blocks hold. Whoever has it lets it go by `drop`, which takes the prover less than the end of its scope.
 fn opened<A: Allocator + Copy>(
     rt: &impl Abort,
     alloc: A,
@@ -130,69 +127,131 @@ fn opened<A: Allocator + Copy>(
     }
 }
 
-fn open_with<A: Allocator + Copy>(
+// What a store is asked for. A reading names the value that is wanted, or none.
+#[derive(Clone, Copy)]
+enum Ask<'a> {
+    Put(&'a [u8], &'a [u8]),
+    Get(&'a [u8], Option<&'a [u8]>),
+    Delete(&'a [u8]),
+    Reclaim(u32),
+    Upgrade,
+}
+
+// Whether it is done, or of which kind the refusal is.
+type Said = Result<(), RefusalKind>;
+
+// What is asked, and what is wanted to be said to it.
+type Turn<'a> = (Ask<'a>, Said);
+
+fn kind_of<R: Refuses>(answer: Result<(), R>) -> Said {
+    match answer {
+        Ok(()) => Ok(()),
+        Err(refusal) => Err(refusal.kind()),
+    }
+}
+
+// Another value than is wanted is told as one that isn't read back.
+fn read<A: Allocator + Copy>(store: &Store<A>, key: &[u8], value: Option<&[u8]>) -> Said {
+    match store.get(key) {
+        Ok(Some(got)) if Some(got.as_slice()) == value => Ok(()),
+        Ok(None) if value.is_none() => Ok(()),
+        Ok(_) => Err(RefusalKind::ReadBack),
+        Err(refusal) => Err(refusal.kind()),
+    }
+}
+
+fn said_to<A: Allocator + Copy>(store: &mut Store<A>, what: Ask<'_>) -> Said {
+    match what {
+        Put(key, value) => kind_of(store.put(WRITER, key, value)),
+        Get(key, value) => read(store, key, value),
+        Delete(key) => kind_of(store.delete(WRITER, key)),
+        Reclaim(extent) => kind_of(store.reclaim(extent)),
+        Upgrade => kind_of(store.upgrade()),
+    }
+}
+
+// The first of these turns to which something else is said, and what that is.
+fn walk<A: Allocator + Copy>(store: &mut Store<A>, turns: &[Turn<'_>]) -> Option<(usize, Said)> {
+    for (at, (what, want)) in turns.iter().enumerate() {
+        let got = said_to(store, *what);
+        if got != *want {
+            return Some((at, got));
+        }
+    }
+    None
+}
+
+// A store on a new disk with these pieces over it, behind these turns.
+fn behind<A: Allocator + Copy>(
     rt: &impl Abort,
     alloc: A,
     geometry: Geometry,
     pieces: &[Piece<'_>],
+    turns: &[Turn<'_>],
 ) -> Result<Store<A>, Fail> {
-    opened(rt, alloc, disk_with(alloc, geometry, pieces)?)
+    let mut store = opened(rt, alloc, disk_with(alloc, geometry, pieces)?)?;
+    expect_eq(rt, &walk(&mut store, turns), &None);
+    Ok(store)
 }
 
-fn is_value(got: Option<&[u8]>, value: Option<&[u8]>) -> bool {
-    match (got, value) {
-        (Some(got), Some(value)) => got == value,
-        (None, None) => true,
-        _ => false,
-    }
-}
-
-// Asserts that a key has this value, or none.
-fn expect_value<A: Allocator + Copy>(
-    rt: &impl Abort,
-    store: &Store<A>,
-    key: &[u8],
-    value: Option<&[u8]>,
-) {
-    match store.get(key) {
-        Ok(Some(got)) => assert!(rt; is_value(Some(got.as_slice()), value)),
-        Ok(None) => assert!(rt; value.is_none()),
-        Err(_) => assert!(rt; false, "a key could not be read"),
-    }
-}
-
-// A key, and its value.
-type Pair<'a> = (&'a [u8], Option<&'a [u8]>);
-
-fn expect_values<A: Allocator + Copy>(rt: &impl Abort, store: &Store<A>, pairs: &[Pair<'_>]) {
-    for (key, value) in pairs {
-        expect_value(rt, store, key, *value);
-    }
-}
-
-// The blocks open, and these keys have these values.
+// The blocks open, and then the store goes through these turns.
 fn expect_opened(
     rt: &impl Abort,
     alloc: Global,
     blocks: Vec<BlockBytes>,
-    pairs: &[Pair<'_>],
+    turns: &[Turn<'_>],
 ) -> Result<(), Fail> {
-    let store = opened(rt, alloc, blocks)?;
-    expect_values(rt, &store, pairs);
+    let mut store = opened(rt, alloc, blocks)?;
+    let other = walk(&mut store, turns);
+    drop(store);
+    expect_eq(rt, &other, &None);
+    Ok(())
+}
+
+const ZEROS: [u8; BLOCK] = [0; BLOCK];
+
+// The first block that isn't one of a new disk, whose first one begins so and whose others are zeros.
+fn first_used(blocks: &[BlockBytes], front: &[u8]) -> Option<usize> {
+    for (no, block) in blocks.iter().enumerate() {
+        let bytes = block.as_slice();
+        let is_new = if no == 0 {
+            bytes.starts_with(front)
+        } else {
+            bytes == ZEROS.as_slice()
+        };
+        if !is_new {
+            return Some(no);
+        }
+    }
+    None
+}
+
+// New disks of one index block and two extents, and of longer extents: how many blocks they have, and what they begin with.
+const NEW: &[(Geometry, usize, &'static [u8])] = &[
+    (SMALL, 35, b"FSTCHUNK\0\0\0\x01\0\0\0\x01\0\0\0\x02"),
+    (
+        OF_LONGER,
+        131,
+        b"FSTCHUNK\0\0\0\x02\0\0\0\x01\0\0\0\x02\0\0\0\x40",
+    ),
+];
+
+fn expect_new(rt: &impl Abort, alloc: Global) -> Result<(), Fail> {
+    for (geometry, count, front) in NEW {
+        let blocks = made(alloc, *geometry)?;
+        let used = first_used(&blocks, front);
+        expect_eq(rt, &(blocks.len(), used), &(*count, None));
+    }
     Ok(())
 }
 
 #[test]
 fn new_disks_begin_with_a_superblock_and_are_zeros(rt: HostRuntime) -> Result<(), Fail> {
-    let blocks = made(rt.alloc(), disk(1, 2, Format::One))?;
-    expect_disk(&rt, &blocks, 35, &FRONT);
-    let longer = made(rt.alloc(), disk(1, 2, Format::Two { length: 64 }))?;
-    expect_disk(&rt, &longer, 131, &FRONT_TWO);
-    Ok(())
+    expect_new(&rt, rt.alloc())
 }
 
 // How many index blocks and extents, and which format, no disk may have together.
-const REFUSED: [(u32, u32, Format); 6] = [
+const REFUSED: &[(u32, u32, Format)] = &[
     (0, 2, Format::One),
     (17, 2, Format::One),
     (1, 1, Format::One),
@@ -201,10 +260,20 @@ const REFUSED: [(u32, u32, Format); 6] = [
     (1, 64, Format::Two { length: 64 }),
 ];
 
+fn expect_refused(rt: &impl Abort, alloc: Global) {
+    for (index, extents, format) in REFUSED {
+        let geometry = Geometry {
+            index: *index,
+            extents: *extents,
+            format: *format,
+        };
+        let refusal = make(alloc, geometry).err();
+        expect_eq(rt, &refusal, &Some(MakeRefusal::Geometry));
+    }
+}
+
 #[test]
 fn disks_that_none_may_be_divided_like_are_refused(rt: HostRuntime) -> Result<(), Fail> {
-    for (index, extents, format) in &REFUSED {
-        expect_no_geometry(&rt, rt.alloc(), disk(*index, *extents, *format));
-    }
+    expect_refused(&rt, rt.alloc());
     Ok(())
 }

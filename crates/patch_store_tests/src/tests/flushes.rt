@@ -1,5 +1,4 @@
 //! Flushes: what the disk holds then, and devices that fail.
-use super::walks::{Ask, Said, Turn, behind};
 use super::*;
 use patch_device::{Device, FaultyDevice, MemDevice, load};
 use patch_store::flush;
@@ -11,30 +10,30 @@ const COUNT: u32 = 35;
 const WRITES: u64 = 4;
 
 // What a store of a small disk has gone through before it is flushed.
-const TURNS: [Turn<'static>; 4] = [
-    (Ask::Put(b"a", 1, 5000), Said::Done),
-    (Ask::Put(b"b", 2, 1), Said::Done),
-    (Ask::Delete(b"b"), Said::Done),
-    (Ask::Put(b"b", 3, 2), Said::Done),
+const TURNS: &[Turn<'static>] = &[
+    (Put(b"a", &[1; 5000]), Ok(())),
+    (Put(b"b", &[2]), Ok(())),
+    (Delete(b"b"), Ok(())),
+    (Put(b"b", &[3, 3]), Ok(())),
 ];
 
 // The map of these commands.
-const MAP: [Pair<'static>; 2] = [(b"a", Some(&[1; 5000])), (b"b", Some(&[3, 3]))];
+const MAP: &[Turn<'static>] = &[
+    (Get(b"a", Some(&[1; 5000])), Ok(())),
+    (Get(b"b", Some(&[3, 3])), Ok(())),
+];
 
-fn write_all(device: &mut MemDevice, blocks: &[BlockBytes]) -> Result<(), Fail> {
-    let mut number = 0u32;
-    for block in blocks {
-        if device.write(number, block.as_slice()).is_err() {
-            return Err(Fail::from("a device in memory refused a write"));
-        }
-        number = number.saturating_add(1);
+// Of a new disk only the first block isn't zeros.
+fn write_first(device: &mut MemDevice, blocks: &[BlockBytes]) -> Result<(), Fail> {
+    match blocks.first() {
+        Some(first) if device.write(0, first.as_slice()).is_ok() => Ok(()),
+        _ => Err(Fail::from("a device in memory refused a write")),
     }
-    Ok(())
 }
 
 fn write_new_disk(alloc: Global, device: &mut MemDevice) -> Result<(), Fail> {
-    let blocks = disk_with(alloc, SMALL, &[])?;
-    write_all(device, &blocks)
+    let blocks = made(alloc, SMALL)?;
+    write_first(device, &blocks)
 }
 
 // A device that holds a new disk.
@@ -44,28 +43,25 @@ fn new_device(alloc: Global) -> Result<MemDevice, Fail> {
     Ok(device)
 }
 
-fn blocks_of<D: Device>(alloc: Global, device: &mut D) -> Result<Vec<BlockBytes>, Fail> {
-    match load(alloc, device) {
-        Ok(blocks) => Ok(blocks),
-        Err(_) => Err(Fail::from("a device was not loaded")),
+// The device's blocks open as the map of the commands.
+fn expect_on_disk<D: Device>(rt: &impl Abort, alloc: Global, device: &mut D) -> Result<(), Fail> {
+    match load(alloc, device).ok() {
+        Some(blocks) => expect_opened(rt, alloc, blocks, MAP),
+        None => Err(Fail::from("a device was not loaded")),
     }
 }
 
-// The device's blocks open as the map of the commands.
-fn expect_on_disk<D: Device>(rt: &impl Abort, alloc: Global, device: &mut D) -> Result<(), Fail> {
-    let blocks = blocks_of(alloc, device)?;
-    expect_opened(rt, alloc, blocks, &MAP)
-}
-
-fn flush_all<D: Device>(rt: &impl Abort, store: &mut Store, device: &mut D) {
-    assert!(rt; flush(store, device).is_ok());
-    expect_eq(rt, &store.cache().live(), &0);
+fn new_store(rt: &impl Abort, alloc: Global) -> Result<Store, Fail> {
+    behind(rt, alloc, SMALL, &[], TURNS)
 }
 
 // Flushes the commands to the device, all of them.
 fn expect_flushed<D: Device>(rt: &impl Abort, alloc: Global, device: &mut D) -> Result<(), Fail> {
-    let mut store = behind(rt, alloc, SMALL, &TURNS)?;
-    flush_all(rt, &mut store, device);
+    let mut store = new_store(rt, alloc)?;
+    let is_flushed = flush(&mut store, device).is_ok();
+    let live = store.cache().live();
+    drop(store);
+    expect_eq(rt, &(is_flushed, live), &(true, 0));
     Ok(())
 }
 
@@ -80,7 +76,9 @@ fn expect_written(rt: &impl Abort, alloc: Global, device: &mut MemDevice) -> Res
 #[test]
 fn a_flushed_disk_is_opened_again(rt: HostRuntime) -> Result<(), Fail> {
     let mut device = new_device(rt.alloc())?;
-    expect_written(&rt, rt.alloc(), &mut device)
+    let ended = expect_written(&rt, rt.alloc(), &mut device);
+    drop(device);
+    ended
 }
 
 // Whether one of so many calls more of the device fails, and the next one.
@@ -93,13 +91,25 @@ fn fails_still<D: Device>(device: &mut D, calls: u64) -> bool {
     false
 }
 
-// This call fails, landing or not: it is tried again. Whether it was met.
+// Flushes the commands to the device, of which this call fails: it is tried again. Whether it was met.
+fn flush_over<D: Device>(
+    rt: &impl Abort,
+    alloc: Global,
+    device: &mut D,
+    at: u64,
+) -> Result<bool, Fail> {
+    expect_flushed(rt, alloc, device)?;
+    let met = !fails_still(device, at);
+    expect_on_disk(rt, alloc, device)?;
+    Ok(met)
+}
+
+// The call fails landing, or not.
 fn flush_over_a_fault(rt: &impl Abort, alloc: Global, at: u64, lands: bool) -> Result<bool, Fail> {
     let mut device = FaultyDevice::new(new_device(alloc)?, at, lands);
-    expect_flushed(rt, alloc, &mut device)?;
-    let met = !fails_still(&mut device, at);
-    expect_on_disk(rt, alloc, &mut device)?;
-    Ok(met)
+    let met = flush_over(rt, alloc, &mut device, at);
+    drop(device);
+    met
 }
 
 // How many calls of a flush can fail, each in its turn, until none is left.

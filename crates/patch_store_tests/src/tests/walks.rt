@@ -1,33 +1,7 @@
 //! Lists of commands that a store goes through, with the reply to each.
 use super::*;
 use patch_history::{Command, Reply};
-use patch_model::{Bytes, RefusalKind};
-
-// What is asked. The value of a put is so many of one byte.
-#[derive(Clone, Copy)]
-pub(super) enum Ask<'a> {
-    Put(&'a [u8], u8, usize),
-    Get(&'a [u8]),
-    Delete(&'a [u8]),
-    Reclaim(u32),
-    Upgrade,
-}
-
-// What is answered. A value is so many of one byte.
-#[derive(Clone, Copy)]
-pub(super) enum Said {
-    Done,
-    Value(u8, usize),
-    Absent,
-    Refused(RefusalKind),
-}
-
-pub(super) type Turn<'a> = (Ask<'a>, Said);
-
-use Ask::{Delete, Get, Put, Reclaim, Upgrade};
-use Said::{Absent, Done, Refused, Value};
-
-const WRITER: WriterNo = WriterNo(0);
+use patch_model::Bytes;
 
 // A key of 32 bytes, as many as there may be.
 const LONGEST_KEY: &[u8] = b"xxxxxxxxxxxxxxxxxxxxxxxxxxxxxxxx";
@@ -35,36 +9,30 @@ const LONGEST_KEY: &[u8] = b"xxxxxxxxxxxxxxxxxxxxxxxxxxxxxxxx";
 // A key of 33 bytes, one too many.
 const LONG_KEY: &[u8] = b"xxxxxxxxxxxxxxxxxxxxxxxxxxxxxxxxx";
 
-// 65 keys of one byte each.
-const KEYS: &[u8] = b"0123456789ABCDEFGHIJKLMNOPQRSTUVWXYZabcdefghijklmnopqrstuvwxyz+-*";
+// The longest value that there may be in an extent of 16 blocks of version 1, and one byte more.
+const FILLING: [u8; 32_768] = [0x61; 32_768];
 
-// One index block and so many extents.
-fn with_extents(extents: u32) -> Geometry {
-    disk(1, extents, Format::One)
-}
+const TOO_LONG: [u8; 32_769] = [0; 32_769];
 
 fn bytes_of(alloc: Global, bytes: &[u8]) -> Result<Bytes, OutOfMemory> {
     Ok(Bytes::from_vec(Vec::from_slice(alloc, bytes)?))
 }
 
-fn put_of(alloc: Global, key: Bytes, byte: u8, len: usize) -> Result<Command, OutOfMemory> {
-    let value = vec![in alloc; byte; len]?;
-    Ok(Command::Put {
-        key,
-        value: Bytes::from_vec(value),
-    })
+fn put_of(alloc: Global, key: Bytes, value: &[u8]) -> Result<Command, OutOfMemory> {
+    let value = bytes_of(alloc, value)?;
+    Ok(Command::Put { key, value })
 }
 
-fn command_of(alloc: Global, ask: &Ask<'_>) -> Result<Command, OutOfMemory> {
-    match ask {
-        Put(key, byte, len) => put_of(alloc, bytes_of(alloc, key)?, *byte, *len),
-        Get(key) => Ok(Command::Get {
+fn command_of(alloc: Global, what: Ask<'_>) -> Result<Command, OutOfMemory> {
+    match what {
+        Put(key, value) => put_of(alloc, bytes_of(alloc, key)?, value),
+        Get(key, _) => Ok(Command::Get {
             key: bytes_of(alloc, key)?,
         }),
         Delete(key) => Ok(Command::Delete {
             key: bytes_of(alloc, key)?,
         }),
-        Reclaim(extent) => Ok(Command::Reclaim { extent: *extent }),
+        Reclaim(extent) => Ok(Command::Reclaim { extent }),
         Upgrade => Ok(Command::Upgrade),
     }
 }
@@ -76,224 +44,233 @@ fn push_commands(
     commands: &mut Commands,
     turns: &[Turn<'_>],
 ) -> Result<(), OutOfMemory> {
-    for turn in turns {
-        commands.push((WRITER, command_of(alloc, &turn.0)?))?;
+    for (what, _) in turns {
+        commands.push((WRITER, command_of(alloc, *what)?))?;
     }
     Ok(())
 }
 
-fn are_all(bytes: &[u8], byte: u8, len: usize) -> bool {
-    for other in bytes {
-        if *other != byte {
-            return false;
-        }
-    }
-    bytes.len() == len
+fn commands_of(alloc: Global, turns: &[Turn<'_>]) -> Result<Commands, OutOfMemory> {
+    let mut commands = Vec::new(alloc);
+    push_commands(alloc, &mut commands, turns)?;
+    Ok(commands)
 }
 
-fn is_said(reply: &Reply, said: &Said) -> bool {
-    match (reply, said) {
-        (Reply::Done, Done) => true,
-        (Reply::Absent, Absent) => true,
-        (Reply::Refused(refusal), Refused(kind)) => refusal.kind == *kind,
-        (Reply::Value(bytes), Value(byte, len)) => are_all(bytes.as_slice(), *byte, *len),
+fn is_said(reply: &Reply, turn: &Turn<'_>) -> bool {
+    match (reply, turn) {
+        (Reply::Value(bytes), (Get(_, Some(value)), Ok(()))) => bytes.as_slice() == *value,
+        (Reply::Absent, (Get(_, None), Ok(()))) => true,
+        (Reply::Done, (Get(..), _)) => false,
+        (Reply::Done, (_, Ok(()))) => true,
+        (Reply::Refused(refusal), (_, Err(kind))) => refusal.kind == *kind,
         _ => false,
     }
 }
 
-fn expect_replies(rt: &impl Abort, replies: &[Reply], turns: &[Turn<'_>]) {
-    expect_eq(rt, &replies.len(), &turns.len());
-    for (at, (reply, turn)) in replies.iter().zip(turns.iter()).enumerate() {
-        expect_eq(rt, &(&at, &is_said(reply, &turn.1)), &(&at, &true));
+// How many of the turns are replied to as is wanted, before the first that isn't.
+fn count_said(replies: &[Reply], turns: &[Turn<'_>]) -> usize {
+    let mut count = 0usize;
+    for (reply, turn) in replies.iter().zip(turns.iter()) {
+        if !is_said(reply, turn) {
+            break;
+        }
+        count = count.saturating_add(1);
     }
+    count
 }
 
-// Goes through the commands, and looks at each reply.
-pub(super) fn go(
-    rt: &impl Abort,
+// How many replies there are to the commands of these turns, and how many at their front are as is wanted.
+fn count_replies(
     store: &mut Store,
     commands: &[(WriterNo, Command)],
     turns: &[Turn<'_>],
-) -> Result<(), Fail> {
-    match store.run(commands) {
-        Ok(replies) => {
-            expect_replies(rt, &replies, turns);
-            Ok(())
+) -> (usize, usize) {
+    let replies = match store.run(commands) {
+        Ok(replies) => replies,
+        Err((replies, OutOfMemory)) => replies,
+    };
+    (replies.len(), count_said(&replies, turns))
+}
+
+// On a new disk with these pieces over it.
+fn run_anew(
+    rt: &impl Abort,
+    alloc: Global,
+    geometry: Geometry,
+    pieces: &[Piece<'_>],
+    turns: &[Turn<'_>],
+) -> Result<(usize, usize), Fail> {
+    let commands = commands_of(alloc, turns)?;
+    match behind(rt, alloc, geometry, pieces, &[]) {
+        Ok(mut store) => {
+            let counts = count_replies(&mut store, &commands, turns);
+            drop(store);
+            drop(commands);
+            Ok(counts)
         }
-        Err(_) => Err(Fail::from("no room for the replies")),
+        Err(fail) => {
+            drop(commands);
+            Err(fail)
+        }
     }
 }
 
-// Goes through the commands of these turns, and looks at each reply.
-fn take(rt: &impl Abort, alloc: Global, store: &mut Store, turns: &[Turn<'_>]) -> Result<(), Fail> {
-    let mut commands = Vec::new(alloc);
-    push_commands(alloc, &mut commands, turns)?;
-    go(rt, store, &commands, turns)
-}
+// Commands with what is wanted of each, on a disk that is divided like this and has these pieces.
+type Walk = (
+    &'static str,
+    Geometry,
+    &'static [Piece<'static>],
+    &'static [Turn<'static>],
+);
 
-// A store on a new disk, behind these commands.
-pub(super) fn behind(
-    rt: &impl Abort,
-    alloc: Global,
-    geometry: Geometry,
-    turns: &[Turn<'_>],
-) -> Result<Store, Fail> {
-    let mut store = open_with(rt, alloc, geometry, &[])?;
-    take(rt, alloc, &mut store, turns)?;
-    Ok(store)
-}
+const WALKS: &[Walk] = &[
+    (
+        "keys are put, read and deleted",
+        OF_FOUR,
+        &[],
+        &[
+            (Put(b"k", b""), Ok(())),
+            (Get(b"k", Some(b"")), Ok(())),
+            (Delete(b"k"), Ok(())),
+            (Get(b"k", None), Ok(())),
+            (Delete(b"k"), Err(RefusalKind::NoKey)),
+            (Put(b"k", &[1]), Ok(())),
+            (Put(b"k", &[2; 5000]), Ok(())),
+            (Get(b"k", Some(&[2; 5000])), Ok(())),
+        ],
+    ),
+    (
+        "keys and values have their limits",
+        OF_FOUR,
+        &[],
+        &[
+            (Put(LONGEST_KEY, &[1]), Ok(())),
+            (Put(LONG_KEY, &[1]), Err(RefusalKind::KeyLength)),
+            (Put(b"", &[1]), Err(RefusalKind::KeyLength)),
+            (Get(b"", None), Err(RefusalKind::KeyLength)),
+            (Delete(LONG_KEY), Err(RefusalKind::KeyLength)),
+            (Put(b"v", &FILLING), Ok(())),
+            (Put(b"w", &TOO_LONG), Err(RefusalKind::ValueLength)),
+        ],
+    ),
+    (
+        "the last empty extent is kept",
+        SMALL,
+        &[],
+        &[
+            (Put(b"a", &FILLING), Ok(())),
+            (Put(b"b", &FILLING), Err(RefusalKind::NoSpace)),
+            (Reclaim(0), Err(RefusalKind::OpenExtent)),
+            (Reclaim(1), Err(RefusalKind::EmptyExtent)),
+            (Reclaim(2), Err(RefusalKind::NoSuchExtent)),
+        ],
+    ),
+    (
+        "two extents are won back",
+        OF_THREE,
+        &[],
+        &[
+            (Put(b"a", &FILLING), Ok(())),
+            (Put(b"b", &[0x62; 32_768]), Ok(())),
+            (Reclaim(0), Ok(())),
+            (Reclaim(1), Ok(())),
+            (Reclaim(1), Err(RefusalKind::EmptyExtent)),
+            (Get(b"a", Some(&FILLING)), Ok(())),
+            (Get(b"b", Some(&[0x62; 32_768])), Ok(())),
+        ],
+    ),
+    (
+        "a current extent without a live frame is won back",
+        SMALL,
+        &[],
+        &[
+            (Put(b"k", b""), Ok(())),
+            (Delete(b"k"), Ok(())),
+            (Reclaim(0), Ok(())),
+            (Reclaim(0), Err(RefusalKind::EmptyExtent)),
+            (Put(b"m", &[1]), Ok(())),
+            (Get(b"m", Some(&[1])), Ok(())),
+        ],
+    ),
+    (
+        "longer values fit behind an upgrade",
+        OF_FOUR,
+        &[],
+        &[
+            (Put(b"v", &[9; 65_488]), Err(RefusalKind::ValueLength)),
+            (Upgrade, Ok(())),
+            (Put(b"v", &[9; 65_488]), Ok(())),
+            (Put(b"v", &[9; 65_489]), Err(RefusalKind::ValueLength)),
+            (Upgrade, Err(RefusalKind::AlreadyVersion2)),
+        ],
+    ),
+    (
+        "values are as long as their extents allow",
+        OF_LONGER,
+        &[],
+        &[
+            (Put(b"a", &[7; 131_072]), Ok(())),
+            (Put(b"b", &[7; 131_073]), Err(RefusalKind::ValueLength)),
+            (Get(b"a", Some(&[7; 131_072])), Ok(())),
+        ],
+    ),
+    (
+        "of two full extents the one without a frame is won back",
+        SMALL,
+        // The one slot names a frame of the first extent.
+        &[
+            (3, 0, b"FCH1\x01\0\0\0\0\0\0\x01k\x071HCF"),
+            (2, 0, b"\0\0\0\0\0\x01\0\0\0\0\0\0\0\x01\0\0"),
+            (1, 0, b"\x01\x01\0\0\0\0\0\0\0\0\0\0\0\0\0\x12k"),
+        ],
+        &[
+            (Reclaim(0), Err(RefusalKind::NoSpace)),
+            (Reclaim(1), Ok(())),
+            (Get(b"k", Some(&[7])), Ok(())),
+        ],
+    ),
+];
 
-fn walk(
-    rt: &impl Abort,
-    alloc: Global,
-    geometry: Geometry,
-    turns: &[Turn<'_>],
-) -> Result<(), Fail> {
-    let _store = behind(rt, alloc, geometry, turns)?;
+fn expect_walks(rt: &impl Abort, alloc: Global) -> Result<(), Fail> {
+    for (name, geometry, pieces, turns) in WALKS {
+        let counts = run_anew(rt, alloc, *geometry, pieces, turns)?;
+        let all = turns.len();
+        expect_eq(rt, &(*name, counts), &(*name, (all, all)));
+    }
     Ok(())
 }
 
-// An upgrade, and a longer value than there may be before it.
-pub(super) const LONGER: [Turn<'static>; 2] = [(Upgrade, Done), (Put(b"a", 1, 40_000), Done)];
-
-const ONE_KEY: [Turn<'static>; 8] = [
-    (Put(b"k", 0, 0), Done),
-    (Get(b"k"), Value(0, 0)),
-    (Delete(b"k"), Done),
-    (Get(b"k"), Absent),
-    (Delete(b"k"), Refused(RefusalKind::NoKey)),
-    (Put(b"k", 1, 1), Done),
-    (Put(b"k", 2, 5000), Done),
-    (Get(b"k"), Value(2, 5000)),
-];
-
 #[test]
-fn keys_are_put_read_and_deleted(rt: HostRuntime) -> Result<(), Fail> {
-    walk(&rt, rt.alloc(), with_extents(4), &ONE_KEY)
+fn commands_are_replied_to_as_worked(rt: HostRuntime) -> Result<(), Fail> {
+    expect_walks(&rt, rt.alloc())
 }
 
-const LIMITS: [Turn<'static>; 7] = [
-    (Put(LONGEST_KEY, 1, 1), Done),
-    (Put(LONG_KEY, 1, 1), Refused(RefusalKind::KeyLength)),
-    (Put(b"", 1, 1), Refused(RefusalKind::KeyLength)),
-    (Get(b""), Refused(RefusalKind::KeyLength)),
-    (Delete(LONG_KEY), Refused(RefusalKind::KeyLength)),
-    (Put(b"v", 0, 32_768), Done),
-    (Put(b"w", 0, 32_769), Refused(RefusalKind::ValueLength)),
-];
-
-#[test]
-fn keys_and_values_have_their_limits(rt: HostRuntime) -> Result<(), Fail> {
-    walk(&rt, rt.alloc(), with_extents(4), &LIMITS)
-}
-
-const LAST_EMPTY: [Turn<'static>; 5] = [
-    (Put(b"a", 0x5a, 32_768), Done),
-    (Put(b"b", 0x5b, 32_768), Refused(RefusalKind::NoSpace)),
-    (Reclaim(0), Refused(RefusalKind::OpenExtent)),
-    (Reclaim(1), Refused(RefusalKind::EmptyExtent)),
-    (Reclaim(2), Refused(RefusalKind::NoSuchExtent)),
-];
-
-#[test]
-fn the_last_empty_extent_is_kept(rt: HostRuntime) -> Result<(), Fail> {
-    walk(&rt, rt.alloc(), with_extents(2), &LAST_EMPTY)
-}
-
-const TWO_WON: [Turn<'static>; 7] = [
-    (Put(b"a", 0x61, 32_768), Done),
-    (Put(b"b", 0x62, 32_768), Done),
-    (Reclaim(0), Done),
-    (Reclaim(1), Done),
-    (Reclaim(1), Refused(RefusalKind::EmptyExtent)),
-    (Get(b"a"), Value(0x61, 32_768)),
-    (Get(b"b"), Value(0x62, 32_768)),
-];
-
-#[test]
-fn two_extents_are_won_back(rt: HostRuntime) -> Result<(), Fail> {
-    walk(&rt, rt.alloc(), with_extents(3), &TWO_WON)
-}
-
-const CURRENT_WON: [Turn<'static>; 6] = [
-    (Put(b"k", 0, 0), Done),
-    (Delete(b"k"), Done),
-    (Reclaim(0), Done),
-    (Reclaim(0), Refused(RefusalKind::EmptyExtent)),
-    (Put(b"m", 1, 1), Done),
-    (Get(b"m"), Value(1, 1)),
-];
-
-#[test]
-fn a_current_extent_without_a_live_frame_is_won_back(rt: HostRuntime) -> Result<(), Fail> {
-    walk(&rt, rt.alloc(), with_extents(2), &CURRENT_WON)
-}
-
-const UPGRADED: [Turn<'static>; 5] = [
-    (Put(b"v", 9, 65_488), Refused(RefusalKind::ValueLength)),
-    (Upgrade, Done),
-    (Put(b"v", 9, 65_488), Done),
-    (Put(b"v", 9, 65_489), Refused(RefusalKind::ValueLength)),
-    (Upgrade, Refused(RefusalKind::AlreadyVersion2)),
-];
-
-#[test]
-fn longer_values_fit_behind_an_upgrade(rt: HostRuntime) -> Result<(), Fail> {
-    walk(&rt, rt.alloc(), with_extents(4), &UPGRADED)
-}
-
-const LONGEST: [Turn<'static>; 3] = [
-    (Put(b"a", 7, 131_072), Done),
-    (Put(b"b", 7, 131_073), Refused(RefusalKind::ValueLength)),
-    (Get(b"a"), Value(7, 131_072)),
-];
-
-#[test]
-fn values_are_as_long_as_their_extents_allow(rt: HostRuntime) -> Result<(), Fail> {
-    walk(
-        &rt,
-        rt.alloc(),
-        disk(1, 2, Format::Two { length: 64 }),
-        &LONGEST,
-    )
-}
+// 65 keys of one byte each.
+const KEYS: &[u8] = b"0123456789ABCDEFGHIJKLMNOPQRSTUVWXYZabcdefghijklmnopqrstuvwxyz+-*";
 
 // A put for each slot of an index block, one more, and one of a key that has a slot.
 fn push_puts(turns: &mut Vec<Turn<'static>>) -> Result<(), OutOfMemory> {
     for at in 0..KEYS.len() {
         let said = if at < 64 {
-            Done
+            Ok(())
         } else {
-            Refused(RefusalKind::IndexFull)
+            Err(RefusalKind::IndexFull)
         };
-        turns.push((Put(&KEYS[at..at + 1], 0, 0), said))?;
+        turns.push((Put(&KEYS[at..at + 1], b""), said))?;
     }
-    turns.push((Put(b"0", 0, 0), Done))?;
+    turns.push((Put(b"0", b""), Ok(())))?;
+    Ok(())
+}
+
+fn expect_full(rt: &impl Abort, alloc: Global) -> Result<(), Fail> {
+    let mut turns = Vec::new(alloc);
+    push_puts(&mut turns)?;
+    let counts = run_anew(rt, alloc, SMALL, &[], &turns)?;
+    expect_eq(rt, &counts, &(66, 66));
     Ok(())
 }
 
 #[test]
 fn an_index_is_full_with_64_keys(rt: HostRuntime) -> Result<(), Fail> {
-    let mut turns = Vec::new(rt.alloc());
-    push_puts(&mut turns)?;
-    walk(&rt, rt.alloc(), with_extents(2), &turns)
-}
-
-// Two full extents, and one slot, which names a frame of the first.
-const FULL: [Piece<'static>; 3] = [
-    (3, 0, b"FCH1\x01\0\0\0\0\0\0\x01k\x071HCF"),
-    (2, 0, b"\0\0\0\0\0\x01\0\0\0\0\0\0\0\x01\0\0"),
-    (1, 0, b"\x01\x01\0\0\0\0\0\0\0\0\0\0\0\0\0\x12k"),
-];
-
-const FULL_WON: [Turn<'static>; 3] = [
-    (Reclaim(0), Refused(RefusalKind::NoSpace)),
-    (Reclaim(1), Done),
-    (Get(b"k"), Value(7, 1)),
-];
-
-#[test]
-fn of_two_full_extents_the_one_without_a_frame_is_won_back(rt: HostRuntime) -> Result<(), Fail> {
-    let mut store = open_with(&rt, rt.alloc(), SMALL, &FULL)?;
-    take(&rt, rt.alloc(), &mut store, &FULL_WON)
+    expect_full(&rt, rt.alloc())
 }
