@@ -1,4 +1,5 @@
 //! Runs of the program: what it answers to words and a script.
+use crate::tests::expect_eq;
 use patch_program::{Errors, LockedFiles, run, words};
 use std::alloc::{AllocError, Global};
 use std::env::{Env, FillError};
@@ -7,7 +8,6 @@ use std::os::unix::fs::FileExt;
 use std::process::Abort;
 use std::rt::Files;
 use std::sync::Wait;
-use std::test::Fail;
 use std::thread::Threads;
 use std::{fs, io};
 
@@ -27,7 +27,7 @@ const BLOCKS: &str = "'--blocks <N>'";
 
 const PAGE: &str = "docs/SCRIPTS.md";
 
-const ROWS: [Row; 17] = [
+static ROWS: [Row; 17] = [
     Row("fstch replay", "", 0, "", ""),
     Row("fstch replay", LAST_OF_EIGHT, 0, ONE_SHOWN, ""),
     Row("fstch replay --blocks 8", LAST_OF_EIGHT, 0, ONE_SHOWN, ""),
@@ -69,7 +69,7 @@ const OF_A_SYNC: &str = r#"{"op":"sync","group":0}"#;
 const HELD: &str = "entry 6b 2\nextent 0 0 38 19\nextent 1 0 0 0\nclean\n";
 
 /// Commands on one file, in their order.
-const ROWS_OF_FILES: [Row; 21] = [
+static ROWS_OF_FILES: [Row; 21] = [
     Row("fstch check patch_tool_disk", "", 4, "fault Disk\n", ""),
     Row("fstch run patch_tool_disk", PUT, 4, "fault Disk\n", ""),
     Row(
@@ -183,17 +183,13 @@ const ROWS_OF_FILES: [Row; 21] = [
     ),
 ];
 
-fn push_words(alloc: Global, words: &mut Vec<String>, text: &str) -> Result<(), AllocError> {
-    for word in text.split(' ') {
-        words.push(String::from_str(alloc, word)?)?;
-    }
-    Ok(())
-}
-
-fn words_of(alloc: Global, text: &str) -> Result<Vec<String>, AllocError> {
+fn words_of(rt: &impl Abort, alloc: Global, text: &str) -> Vec<String> {
     let mut words = Vec::new(alloc);
-    push_words(alloc, &mut words, text)?;
-    Ok(words)
+    for word in text.split(' ') {
+        let word = String::from_str(alloc, word).expect(rt, "memory for a word");
+        words.push(word).expect(rt, "memory for words");
+    }
+    words
 }
 
 /// A run on these words, with this on standard input, ends so.
@@ -218,11 +214,20 @@ fn expect_run<F: FileExt + OpenFile + Drop + Send, H: Files<File = F> + Threads 
         &mut out,
         &mut stream,
     );
-    assert_eq!(rt; ended, status, "{name}");
-    assert_eq!(rt; out.as_slice(), output.as_bytes(), "{name}");
-    let errors = std::str::from_utf8(&errors).unwrap_or("no text");
-    assert!(rt; errors.contains(said), "{name}: {errors}");
-    assert_eq!(rt; errors.is_empty(), said.is_empty(), "{name}: {errors}");
+    expect_eq(
+        rt,
+        &(name, ended, out.as_slice()),
+        &(name, status, output.as_bytes()),
+    );
+    let told = std::str::from_utf8(&errors).unwrap_or("no text");
+    let wanted = (told.contains(said), told.is_empty());
+    expect_eq(
+        rt,
+        &(name, told, wanted),
+        &(name, told, (true, said.is_empty())),
+    );
+    drop(out);
+    drop(errors);
 }
 
 fn expect_each<F: FileExt + OpenFile + Drop + Send, H: Files<File = F> + Threads + Wait + Sync>(
@@ -230,28 +235,25 @@ fn expect_each<F: FileExt + OpenFile + Drop + Send, H: Files<File = F> + Threads
     files: &H,
     alloc: Global,
     rows: &[Row],
-) -> Result<(), Fail> {
+) {
     for row in rows {
-        let words = words_of(alloc, row.0)?;
-        expect_run(rt, files, alloc, Ok(words), row);
+        expect_run(rt, files, alloc, Ok(words_of(rt, alloc, row.0)), row);
     }
-    Ok(())
 }
 
 #[test]
-fn runs_end_as_they_should(rt: HostRuntime) -> Result<(), Fail> {
-    expect_each(&rt, &rt, rt.alloc(), &ROWS)
+fn runs_end_as_they_should(rt: HostRuntime) {
+    expect_each(&rt, &rt, rt.alloc(), &ROWS);
 }
 
 #[test]
-fn a_store_is_made_run_checked_and_upgraded(rt: HostRuntime) -> Result<(), Fail> {
+fn a_store_is_made_run_checked_and_upgraded(rt: HostRuntime) {
     let _old = fs::remove_file(&rt, "patch_tool_disk");
-    expect_each(&rt, &rt, rt.alloc(), &ROWS_OF_FILES)?;
-    fs::remove_file(&rt, "patch_tool_disk")?;
-    Ok(())
+    expect_each(&rt, &rt, rt.alloc(), &ROWS_OF_FILES);
+    fs::remove_file(&rt, "patch_tool_disk").expect(&rt, "a file that is there");
 }
 
-const TO_BE_LOCKED: [Row; 1] = [Row(
+static TO_BE_LOCKED: [Row; 1] = [Row(
     "fstch make patch_locked_disk --index 1 --extents 2",
     "",
     0,
@@ -259,7 +261,7 @@ const TO_BE_LOCKED: [Row; 1] = [Row(
     "",
 )];
 
-const IN_USE: [Row; 4] = [
+static IN_USE: [Row; 4] = [
     Row("fstch check patch_locked_disk", "", 4, "fault Disk\n", ""),
     Row("fstch run patch_locked_disk", PUT, 4, "fault Disk\n", ""),
     Row(
@@ -272,25 +274,27 @@ const IN_USE: [Row; 4] = [
     Row("fstch upgrade patch_locked_disk", "", 4, "fault Disk\n", ""),
 ];
 
-const LET_GO: [Row; 2] = [
+static LET_GO: [Row; 2] = [
     Row("fstch run patch_locked_disk", PUT, 0, "ok\n", ""),
     Row("fstch upgrade patch_locked_disk", "", 0, "upgraded\n", ""),
 ];
 
 #[test]
-fn a_file_in_use_is_refused(rt: HostRuntime) -> Result<(), Fail> {
+fn a_file_in_use_is_refused(rt: HostRuntime) {
     let path = "patch_locked_disk";
     let _old = fs::remove_file(&rt, path);
     let files = LockedFiles::new(&rt);
-    expect_each(&rt, &files, rt.alloc(), &TO_BE_LOCKED)?;
+    expect_each(&rt, &files, rt.alloc(), &TO_BE_LOCKED);
     assert!(rt; !files.has_met_lock());
-    let held = OpenOptions::new().read(true).open(&files, path)?;
-    expect_each(&rt, &files, rt.alloc(), &IN_USE)?;
+    let held = OpenOptions::new()
+        .read(true)
+        .open(&files, path)
+        .expect(&rt, "a file that is opened");
+    expect_each(&rt, &files, rt.alloc(), &IN_USE);
     assert!(rt; files.has_met_lock());
     drop(held);
-    expect_each(&rt, &files, rt.alloc(), &LET_GO)?;
-    fs::remove_file(&rt, path)?;
-    Ok(())
+    expect_each(&rt, &files, rt.alloc(), &LET_GO);
+    fs::remove_file(&rt, path).expect(&rt, "a file that is there");
 }
 
 /// A command line whose second word is one byte that is no text.

@@ -1,10 +1,13 @@
 //! Files with damaged bytes, and what a check of each writes.
-use super::files::{Deed, HELD, LENGTH, MADE, OK, PUT, Turn, follow};
+use super::files::{HELD, LENGTH, MADE, OK, PUT, follow, lay};
 use super::*;
-use patch_files::check_file;
 use patch_model::BLOCK;
-use std::alloc::AllocError;
 use std::fs;
+use std::fs::OpenFile;
+use std::os::unix::fs::FileExt;
+use std::rt::Files;
+use std::sync::Wait;
+use std::thread::Threads;
 
 /// What becomes of a file's bytes.
 #[derive(Clone, Copy)]
@@ -21,98 +24,43 @@ enum Damage {
     Cut(usize),
 }
 
-// Where the block begins.
-fn start_of(block: usize) -> usize {
-    block.saturating_mul(BLOCK)
-}
-
-fn set(bytes: &mut [u8], at: usize, byte: u8) {
-    if let Some(place) = bytes.get_mut(at) {
-        *place = byte;
-    }
-}
-
-// Copies so many bytes from one place to another.
-fn copy(bytes: &mut [u8], from: usize, to: usize, count: usize) {
-    for at in 0..count {
-        if let Some(byte) = bytes.get(from.saturating_add(at)).copied() {
-            set(bytes, to.saturating_add(at), byte);
-        }
-    }
-}
-
-fn zero(bytes: &mut [u8], block: usize) {
-    for at in 0..BLOCK {
-        set(bytes, start_of(block).saturating_add(at), 0);
-    }
-}
-
-fn exchange(bytes: &mut [u8], one: usize, other: usize) {
-    for at in 0..BLOCK {
-        let (one, other) = (
-            start_of(one).saturating_add(at),
-            start_of(other).saturating_add(at),
-        );
-        if one < bytes.len() && other < bytes.len() {
-            bytes.swap(one, other);
-        }
-    }
-}
-
 // How many bytes a slot has.
 const SLOT: usize = 64;
 
-// A copy of the file's bytes with this damage.
-fn damaged(alloc: Global, good: &[u8], damage: Damage) -> Result<Vec<u8>, AllocError> {
-    let mut bytes = Vec::from_slice(alloc, good)?;
+// Copies so many bytes of the good file to another place.
+fn copy(bytes: &mut [u8], good: &[u8], from: usize, to: usize, count: usize) {
+    let piece = good.get(from..from.saturating_add(count)).unwrap_or(&[]);
+    lay(bytes, to, piece);
+}
+
+// Does this damage to a copy of the good file's bytes.
+fn spoil(bytes: &mut Vec<u8>, good: &[u8], damage: Damage) {
     match damage {
-        Damage::Changed(at, byte) => set(&mut bytes, at, byte),
-        Damage::Zeroed(block) => zero(&mut bytes, block),
-        Damage::Swapped(one, other) => exchange(&mut bytes, one, other),
+        Damage::Changed(at, byte) => lay(bytes, at, &[byte]),
+        Damage::Zeroed(block) => lay(bytes, block.saturating_mul(BLOCK), &[0; BLOCK]),
+        Damage::Swapped(one, other) => {
+            let (one, other) = (one.saturating_mul(BLOCK), other.saturating_mul(BLOCK));
+            copy(bytes, good, one, other, BLOCK);
+            copy(bytes, good, other, one, BLOCK);
+        }
         Damage::Repeated(slot) => {
             let to = BLOCK.saturating_add(slot.saturating_mul(SLOT));
-            copy(&mut bytes, BLOCK, to, SLOT);
+            copy(bytes, good, BLOCK, to, SLOT);
         }
         Damage::Cut(length) => bytes.truncate(length),
     }
-    Ok(bytes)
 }
 
-// A check of the file ends so.
-fn expect_checked(rt: &impl Abort, files: &HostRuntime, path: &str, end: End) {
-    let mut out = Sink::new(Vec::new(files.alloc()));
-    let status = check_file(files, files.alloc(), &mut out, path);
-    expect_end(rt, status, out.into_inner().as_slice(), end);
-}
-
-// So does one of each file that these bytes become.
-fn expect_each(
-    rt: &impl Abort,
-    files: &HostRuntime,
-    path: &str,
-    good: &[u8],
-    damages: &[(Damage, End)],
-) -> Result<(), Fail> {
-    for (damage, end) in damages {
-        let bytes = damaged(files.alloc(), good, *damage)?;
-        fs::write(files, path, bytes.as_slice())?;
-        expect_checked(rt, files, path, *end);
-    }
-    Ok(())
-}
-
-// The same of the file as it stands, which isn't there at last.
-fn expect_damages(
-    rt: &impl Abort,
-    files: &HostRuntime,
-    path: &str,
-    damages: &[(Damage, End)],
-) -> Result<(), Fail> {
-    let good = fs::read(files, path)?;
-    expect_eq(rt, &good.len(), &LENGTH);
-    expect_each(rt, files, path, &good, damages)?;
-    fs::remove_file(files, path)?;
-    Ok(())
+// A check of the file that these bytes become ends so.
+fn expect_damage<
+    F: FileExt + OpenFile + Drop + Send,
+    H: Files<File = F> + Threads + Wait + Abort + Sync,
+>(rt: &H, files: &HostRuntime, path: &str, good: &[u8], row: (Damage, End)) {
+    let mut bytes = Vec::from_slice(files.alloc(), good).expect(rt, "memory for bytes");
+    spoil(&mut bytes, good, row.0);
+    fs::write(files, path, bytes.as_slice()).expect(rt, "a file that is written");
+    follow(rt, files.alloc(), path, &[(Deed::Check, row.1)]);
+    drop(bytes);
 }
 
 const SIZE: End = End(Status::Failed, 4, "fault FileSize\n");
@@ -130,16 +78,6 @@ const OF_NO_ENTRIES: &[(Damage, End)] = &[
     (Damage::Changed(0, 0), SUPERBLOCK),
     (Damage::Changed(4144, 1), SLOT_0),
 ];
-
-const MADE_AND_CHECKED: &[Turn<'static>] = &[(Deed::Make(SMALL), MADE), (Deed::Check, EMPTY_STORE)];
-
-#[test]
-fn a_damaged_file_of_no_entries_is_refused(rt: HostRuntime) -> Result<(), Fail> {
-    let path = "patch_files_new";
-    let _old = fs::remove_file(&rt, path);
-    follow(&rt, rt.alloc(), path, MADE_AND_CHECKED);
-    expect_damages(&rt, &rt, path, OF_NO_ENTRIES)
-}
 
 // Damages of the file behind one put that are told by their own words.
 const OF_ONE_PUT: &[(Damage, End)] = &[
@@ -169,23 +107,53 @@ const OF_ONE_PUT: &[(Damage, End)] = &[
     ),
 ];
 
-const ONE_PUT: &[Turn<'static>] = &[(Deed::Make(SMALL), MADE), (Deed::Run(PUT), OK)];
+// A file's path, what is done with it, how a check of each damage ends, and from which block on no slot names one: those aren't
+// looked at.
+struct Row {
+    path: &'static str,
+    turns: &'static [Turn<'static>],
+    damages: &'static [(Damage, End)],
+    unseen: usize,
+}
 
-// The blocks that no slot names aren't looked at.
-fn expect_unseen(rt: &impl Abort, files: &HostRuntime, path: &str) -> Result<(), Fail> {
-    let good = fs::read(files, path)?;
-    for block in 4..35 {
-        expect_each(rt, files, path, &good, &[(Damage::Zeroed(block), HELD)])?;
+static NO_ENTRIES: Row = Row {
+    path: "patch_files_new",
+    turns: &[(Deed::Make(SMALL), MADE), (Deed::Check, EMPTY_STORE)],
+    damages: OF_NO_ENTRIES,
+    unseen: COUNT as usize,
+};
+
+static ONE_PUT: Row = Row {
+    path: "patch_files_damaged",
+    turns: &[(Deed::Make(SMALL), MADE), (Deed::Run(PUT), OK)],
+    damages: OF_ONE_PUT,
+    unseen: 4,
+};
+
+fn expect_row<
+    F: FileExt + OpenFile + Drop + Send,
+    H: Files<File = F> + Threads + Wait + Abort + Sync,
+>(rt: &H, files: &HostRuntime, row: &Row) {
+    let _old = fs::remove_file(files, row.path);
+    follow(rt, files.alloc(), row.path, row.turns);
+    let good = fs::read(files, row.path).expect(rt, "a file that is read");
+    expect_eq(rt, &good.len(), &LENGTH);
+    for block in row.unseen..COUNT as usize {
+        expect_damage(rt, files, row.path, &good, (Damage::Zeroed(block), HELD));
     }
-    fs::write(files, path, good.as_slice())?;
-    Ok(())
+    for damage in row.damages {
+        expect_damage(rt, files, row.path, &good, *damage);
+    }
+    drop(good);
+    fs::remove_file(files, row.path).expect(rt, "a file that is there");
 }
 
 #[test]
-fn each_damage_of_a_file_is_told(rt: HostRuntime) -> Result<(), Fail> {
-    let path = "patch_files_damaged";
-    let _old = fs::remove_file(&rt, path);
-    follow(&rt, rt.alloc(), path, ONE_PUT);
-    expect_unseen(&rt, &rt, path)?;
-    expect_damages(&rt, &rt, path, OF_ONE_PUT)
+fn a_damaged_file_of_no_entries_is_refused(rt: HostRuntime) {
+    expect_row(&rt, &rt, &NO_ENTRIES);
+}
+
+#[test]
+fn each_damage_of_a_file_is_told(rt: HostRuntime) {
+    expect_row(&rt, &rt, &ONE_PUT);
 }

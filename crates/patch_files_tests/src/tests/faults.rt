@@ -7,74 +7,87 @@ use patch_replay::Output;
 use std::io;
 use std::io::{ErrorKind, Read, Write};
 
-const PUT: &[u8] = br#"{"op":"put","key":"k","hex":"01"}
+const PUT_AND_GET: &str = r#"{"op":"put","key":"k","hex":"01"}
 {"op":"get","key":"k"}"#;
 
 #[test]
-fn a_disk_without_a_store_is_left_as_it_is(rt: HostRuntime) -> Result<(), Fail> {
-    let mut device = MemDevice::new(rt.alloc(), COUNT)?;
-    let end = End(Status::Failed, 4, "fault BadSuper\n");
-    expect_run(&rt, rt.alloc(), &mut device, PUT, end);
-    expect_check(&rt, rt.alloc(), &mut device, end);
-    expect_upgrade(&rt, rt.alloc(), &mut device, end);
+fn a_disk_without_a_store_is_left_as_it_is(rt: HostRuntime) {
+    let mut device = MemDevice::new(rt.alloc(), COUNT).expect(&rt, "memory for a device");
+    let deeds = [Deed::Run(PUT_AND_GET), Deed::Check, Deed::Upgrade];
+    let turns = deeds.map(|deed| (deed, failed("fault BadSuper\n")));
+    expect_on(&rt, rt.alloc(), &mut device, &turns);
     assert!(&rt; device.writes().is_empty());
-    Ok(())
+    drop(device);
 }
 
-// Fails one call of a device more, the first one that the other leaves.
-fn failing<D: Device>(device: D, call: u64) -> FaultyDevice<D> {
-    FaultyDevice::new(device, call, false)
+// Two devices, one in the other, each of which fails this call of those that it is given, once.
+fn failing_twice<D: Device>(device: D, call: u64) -> FaultyDevice<FaultyDevice<D>> {
+    FaultyDevice::new(FaultyDevice::new(device, call, false), call, false)
 }
 
 #[test]
-fn a_read_that_fails_is_a_fault_of_the_disk(rt: HostRuntime) -> Result<(), Fail> {
-    let mut device = failing(new_device(rt.alloc())?, 3);
-    expect_check(
-        &rt,
-        rt.alloc(),
-        &mut device,
-        End(Status::Failed, 4, "fault Disk\n"),
-    );
-    expect_check(&rt, rt.alloc(), &mut device, EMPTY_STORE);
-    Ok(())
+fn a_read_that_fails_is_a_fault_of_the_disk(rt: HostRuntime) {
+    let mut device = FaultyDevice::new(new_device(&rt, rt.alloc()), 3, false);
+    let turns = [
+        (Deed::Check, failed("fault Disk\n")),
+        (Deed::Check, EMPTY_STORE),
+    ];
+    expect_on(&rt, rt.alloc(), &mut device, &turns);
+    drop(device);
 }
 
-// A device that fails the call behind the reads of its blocks four times.
-fn failing_often<D: Device>(
+// The call behind the reads of all blocks.
+const BEHIND: u64 = COUNT as u64;
+
+// The commands end so on the device in two more that fail the call behind the reads of its blocks, and so on in four and in six. Each is a
+// function of its own, so that none sees a type of all.
+fn expect_in_two<D: Lasting + Drop>(rt: &impl Abort, alloc: Global, device: D, turns: &[Turn<'_>]) {
+    let mut device = failing_twice(device, BEHIND);
+    expect_on(rt, alloc, &mut device, turns);
+    drop(device);
+}
+
+fn expect_in_four<D: Lasting + Drop>(
+    rt: &impl Abort,
+    alloc: Global,
     device: D,
-) -> FaultyDevice<FaultyDevice<FaultyDevice<FaultyDevice<D>>>> {
-    let call = COUNT as u64;
-    failing(failing(failing(failing(device, call), call), call), call)
+    turns: &[Turn<'_>],
+) {
+    expect_in_two(rt, alloc, failing_twice(device, BEHIND), turns);
 }
+
+fn expect_in_six<D: Lasting + Drop>(rt: &impl Abort, alloc: Global, device: D, turns: &[Turn<'_>]) {
+    expect_in_four(rt, alloc, failing_twice(device, BEHIND), turns);
+}
+
+static GIVEN_UP: [&[Turn<'static>]; 2] = [
+    // A device that gives up ends a run behind its answers.
+    &[
+        (
+            Deed::Run(PUT_AND_GET),
+            End(Status::Failed, 4, "ok\nvalue 01\nfault DeviceGaveUp 3\n"),
+        ),
+        (Deed::Check, EMPTY_STORE),
+    ],
+    &[(
+        Deed::Run(files::PUT),
+        End(Status::Failed, 4, "ok\nfault DeviceGaveUp 3\n"),
+    )],
+];
+
+static BORNE: [Turn<'static>; 2] = [
+    (Deed::Run(files::PUT), files::OK),
+    (Deed::Check, files::HELD),
+];
 
 #[test]
-fn a_device_that_gives_up_ends_a_run_behind_its_answers(rt: HostRuntime) -> Result<(), Fail> {
-    let mut device = failing_often(failing_often(new_device(rt.alloc())?));
-    let end = End(Status::Failed, 4, "ok\nvalue 01\nfault DeviceGaveUp 3\n");
-    expect_run_and_check(&rt, rt.alloc(), &mut device, PUT, (end, EMPTY_STORE));
-    Ok(())
-}
-
-fn expect_given_up(rt: &impl Abort, alloc: Global) -> Result<(), Fail> {
-    let mut device = failing_often(failing_often(new_device(alloc)?));
-    let end = failed("ok\nfault DeviceGaveUp 3\n");
-    expect_run(rt, alloc, &mut device, files::PUT.as_bytes(), end);
-    Ok(())
-}
-
-fn expect_borne(rt: &impl Abort, alloc: Global) -> Result<(), Fail> {
-    let call = COUNT as u64;
-    let three = failing(failing(failing(new_device(alloc)?, call), call), call);
-    let mut device = failing_often(three);
-    let ends = (files::OK, files::HELD);
-    expect_run_and_check(rt, alloc, &mut device, files::PUT.as_bytes(), ends);
-    Ok(())
-}
-
-#[test]
-fn eight_refusals_of_a_write_end_a_run_and_seven_do_not(rt: HostRuntime) -> Result<(), Fail> {
-    expect_given_up(&rt, rt.alloc())?;
-    expect_borne(&rt, rt.alloc())
+fn eight_refusals_of_a_write_end_a_run_and_seven_do_not(rt: HostRuntime) {
+    for turns in GIVEN_UP {
+        let two = failing_twice(new_device(&rt, rt.alloc()), BEHIND);
+        expect_in_six(&rt, rt.alloc(), two, turns);
+    }
+    let one = FaultyDevice::new(new_device(&rt, rt.alloc()), BEHIND, false);
+    expect_in_six(&rt, rt.alloc(), one, &BORNE);
 }
 
 /// A reader that fails at once.
@@ -88,14 +101,14 @@ impl Read for Torn {
 }
 
 #[test]
-fn a_reader_that_fails_is_told(rt: HostRuntime) -> Result<(), Fail> {
-    let mut device = new_device(rt.alloc())?;
+fn a_reader_that_fails_is_told(rt: HostRuntime) {
+    let mut device = new_device(&rt, rt.alloc());
     let mut out = Sink::new(Vec::new(rt.alloc()));
     let mut torn = Source::new(Torn);
     let status = run_script(rt.alloc(), &mut torn, &mut out, &mut device, &mut Quiet);
-    let end = End(Status::Failed, 4, "fault Read\n");
+    let end = failed("fault Read\n");
     expect_end(&rt, status, out.into_inner().as_slice(), end);
-    Ok(())
+    drop(device);
 }
 
 /// A writer that fails at once.
@@ -121,22 +134,18 @@ impl Output for Closed {
 }
 
 #[test]
-fn a_writer_that_fails_ends_the_run(rt: HostRuntime) -> Result<(), Fail> {
-    let mut device = new_device(rt.alloc())?;
+fn a_writer_that_fails_ends_the_run(rt: HostRuntime) {
+    let mut device = new_device(&rt, rt.alloc());
     let mut closed = Sink::new(Closed);
-    let mut script = Source::new(PUT);
-    let status = run_script(
+    let mut script = Source::new(PUT_AND_GET.as_bytes());
+    let run = run_script(
         rt.alloc(),
         &mut script,
         &mut closed,
         &mut device,
         &mut Quiet,
     );
-    expect_eq(&rt, &status, &Status::Failed);
-    expect_eq(
-        &rt,
-        &check_disk(rt.alloc(), &mut closed, &mut device),
-        &Status::Failed,
-    );
-    Ok(())
+    let checked = check_disk(rt.alloc(), &mut closed, &mut device);
+    expect_eq(&rt, &(run, checked), &(Status::Failed, Status::Failed));
+    drop(device);
 }

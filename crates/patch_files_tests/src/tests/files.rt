@@ -1,9 +1,6 @@
 //! Commands on a file, one behind another: how each ends, and what the file holds.
-ghost use Rattle.std.specs.Prelude.{◌<◌, ◌≤◌};
-
 use super::*;
 use patch_files::{check_file, make_file, run_file, serve_file, upgrade_file};
-use std::alloc::AllocError;
 use std::fs;
 use std::fs::OpenFile;
 use std::os::unix::fs::FileExt;
@@ -24,12 +21,6 @@ pub(super) enum Deed<'a> {
 
 pub(super) type Turn<'a> = (Deed<'a>, End);
 
-fn expect_few(rt: &impl Abort, writers: u32)
-    ensures { (0 < writers) × (writers ≤ 8) }
-{
-    assert!(rt; 0 < writers && writers <= 8);
-}
-
 // How the command ends on the file of this path.
 fn end_of<F: FileExt + OpenFile + Drop + Send, H: Files<File = F> + Threads + Wait + Abort + Sync>(
     rt: &H,
@@ -45,7 +36,7 @@ fn end_of<F: FileExt + OpenFile + Drop + Send, H: Files<File = F> + Threads + Wa
             run_file(rt, alloc, &mut source, out, path, &mut Quiet)
         }
         Deed::Serve(writers, script) => {
-            expect_few(rt, *writers);
+            assert!(rt; 0 < *writers && *writers <= 8);
             let mut source = Source::new(script.as_bytes());
             serve_file(rt, alloc, &mut source, out, path, *writers)
         }
@@ -80,22 +71,13 @@ pub(super) fn follow_anew<
 /// Bytes, and where in the file they stand.
 pub(super) type Piece<'a> = (usize, &'a [u8]);
 
-// Lays the bytes over those from this place on.
-fn lay(bytes: &mut [u8], from: usize, piece: &[u8]) {
+/// Lays the bytes over those from this place on.
+pub(super) fn lay(bytes: &mut [u8], from: usize, piece: &[u8]) {
     for (at, byte) in piece.iter().enumerate() {
         if let Some(place) = bytes.get_mut(from.saturating_add(at)) {
             *place = *byte;
         }
     }
-}
-
-// So many bytes, which are these pieces over zeros.
-fn laid(alloc: Global, length: usize, pieces: &[Piece<'_>]) -> Result<Vec<u8>, AllocError> {
-    let mut bytes = vec![in alloc; 0; length]?;
-    for (from, piece) in pieces {
-        lay(&mut bytes, *from, piece);
-    }
-    Ok(bytes)
 }
 
 /// The file has so many bytes, which are these pieces over zeros.
@@ -105,16 +87,16 @@ pub(super) fn expect_bytes(
     path: &str,
     length: usize,
     pieces: &[Piece<'_>],
-) -> Result<(), Fail> {
-    let want = laid(files.alloc(), length, pieces)?;
-    let held = fs::read(files, path)?;
-    expect_eq(rt, &held.len(), &length);
-    expect_eq(
-        rt,
-        &(&path, &(held.as_slice() == want.as_slice())),
-        &(&path, &true),
-    );
-    Ok(())
+) {
+    let mut want = vec![in files.alloc(); 0; length].expect(rt, "memory for bytes");
+    for (from, piece) in pieces {
+        lay(&mut want, *from, piece);
+    }
+    let held = fs::read(files, path).expect(rt, "a file that is read");
+    let same = held.as_slice() == want.as_slice();
+    expect_eq(rt, &(path, held.len(), same), &(path, length, true));
+    drop(held);
+    drop(want);
 }
 
 /// How many bytes a file of [`SMALL`] has.
@@ -134,21 +116,3 @@ pub(super) const HELD: End = End(
     0,
     "entry 6b 2\nextent 0 0 19 19\nextent 1 0 0 0\nclean\n",
 );
-
-const DISK: End = End(Status::Failed, 4, "fault Disk\n");
-
-const KEPT: &[Turn<'static>] = &[
-    (Deed::Check, DISK),
-    (Deed::Run(PUT), DISK),
-    (Deed::Make(SMALL), MADE),
-    (Deed::Run(PUT), OK),
-    (Deed::Make(SMALL), DISK),
-    (Deed::Check, HELD),
-    (Deed::Upgrade, UPGRADED),
-    (Deed::Check, HELD),
-];
-
-#[test]
-fn a_store_is_kept_in_a_file(rt: HostRuntime) -> Result<(), Fail> {
-    follow_anew(&rt, rt.alloc(), "patch_files_disk", KEPT)
-}

@@ -1,6 +1,6 @@
 //! Worked scripts on files: what is answered, what a check writes then, and the bytes of the file.
 use super::files::{
-    Deed, HELD, LENGTH, MADE, OK, PUT, Piece, Turn, UPGRADED, expect_bytes, follow, follow_anew,
+    HELD, LENGTH, MADE, OK, PUT, Piece, UPGRADED, expect_bytes, follow, follow_anew,
 };
 use super::*;
 use std::fs;
@@ -48,11 +48,6 @@ const LENGTHS: &[Turn<'static>] = &[
     ),
 ];
 
-#[test]
-fn keys_and_values_of_each_length_are_answered(rt: HostRuntime) -> Result<(), Fail> {
-    follow_anew(&rt, rt.alloc(), "patch_files_lengths", LENGTHS)
-}
-
 const TWICE: &str = r#"{"op":"put","key":"k","hex":"01"}
 {"op":"put","key":"k","hex":"02"}
 {"op":"get","key":"k"}"#;
@@ -69,11 +64,6 @@ const REPLACED: &[Turn<'static>] = &[
         ),
     ),
 ];
-
-#[test]
-fn a_value_that_is_replaced_stays_in_its_extent(rt: HostRuntime) -> Result<(), Fail> {
-    follow_anew(&rt, rt.alloc(), "patch_files_twice", REPLACED)
-}
 
 const FULL: &str = r#"{"op":"put","key":"a","hex":"61","times":32768}
 {"op":"put","key":"b","hex":"62","times":32768}
@@ -93,11 +83,6 @@ const KEPT_EMPTY: &[Turn<'static>] = &[
     ),
 ];
 
-#[test]
-fn the_last_empty_extent_is_kept(rt: HostRuntime) -> Result<(), Fail> {
-    follow_anew(&rt, rt.alloc(), "patch_files_full", KEPT_EMPTY)
-}
-
 const MOVED: &str = r#"{"op":"put","key":"a","hex":"61","times":32768}
 {"op":"put","key":"b","hex":"62","times":32768}
 {"op":"reclaim","extent":0}"#;
@@ -114,11 +99,6 @@ const WON_BACK: &[Turn<'static>] = &[
         ),
     ),
 ];
-
-#[test]
-fn an_extent_that_is_won_back_has_another_generation(rt: HostRuntime) -> Result<(), Fail> {
-    follow_anew(&rt, rt.alloc(), "patch_files_moved", WON_BACK)
-}
 
 const MOVED_AGAIN: &str = r#"{"op":"put","key":"a","hex":"61","times":32768}
 {"op":"put","key":"b","hex":"62","times":32768}
@@ -140,11 +120,6 @@ const MOVED_BACK: &[Turn<'static>] = &[
         ),
     ),
 ];
-
-#[test]
-fn a_frame_goes_back_to_an_extent_that_was_won(rt: HostRuntime) -> Result<(), Fail> {
-    follow_anew(&rt, rt.alloc(), "patch_files_moved_again", MOVED_BACK)
-}
 
 const EMPTIED: &str = r#"{"op":"put","key":"k","hex":""}
 {"op":"delete","key":"k"}
@@ -168,11 +143,6 @@ const REUSED: &[Turn<'static>] = &[
     ),
 ];
 
-#[test]
-fn a_current_extent_without_a_frame_is_won_back(rt: HostRuntime) -> Result<(), Fail> {
-    follow_anew(&rt, rt.alloc(), "patch_files_emptied", REUSED)
-}
-
 const OF_TWO: &str = r#"{"writer":0,"op":"put","key":"a","hex":"01"}
 {"writer":0,"op":"get","key":"a"}
 {"writer":1,"op":"put","key":"b","hex":"02"}
@@ -193,11 +163,6 @@ const SERVED_TWO: &[Turn<'static>] = &[
         ),
     ),
 ];
-
-#[test]
-fn two_writers_are_served_on_a_file(rt: HostRuntime) -> Result<(), Fail> {
-    follow_anew(&rt, rt.alloc(), "patch_files_of_two", SERVED_TWO)
-}
 
 const OF_THREE: &str = r#"{"writer":0,"op":"put","key":"a","hex":"01"}
 {"writer":0,"op":"get","key":"a"}
@@ -221,11 +186,6 @@ const SERVED_THREE: &[Turn<'static>] = &[
     ),
 ];
 
-#[test]
-fn three_writers_are_served_on_a_file(rt: HostRuntime) -> Result<(), Fail> {
-    follow_anew(&rt, rt.alloc(), "patch_files_of_three", SERVED_THREE)
-}
-
 // The frame of key `k` with bytes 1 and 2 at the front of the first extent, its pointer record and its slot.
 const FRAME: Piece<'static> = (12_288, b"FCH1\x01\0\0\0\0\0\0\x02k\x01\x021HCF");
 
@@ -239,20 +199,8 @@ const SECOND_SUPERBLOCK: Piece<'static> = (0, b"FSTCHUNK\0\0\0\x02\0\0\0\x01\0\0
 
 const AGAIN: End = End(Status::Failed, 4, "fault AlreadyVersion2\n");
 
-// The commands end so, and then the file has these bytes over zeros.
+// The commands end so, and then the file has these bytes over zeros, where some are named.
 type Stage = (&'static [Turn<'static>], &'static [Piece<'static>]);
-
-fn expect_stages<
-    F: FileExt + OpenFile + Drop + Send,
-    H: Files<File = F> + Threads + Wait + Abort + Sync,
->(rt: &H, files: &HostRuntime, path: &str, length: usize, stages: &[Stage]) -> Result<(), Fail> {
-    let _old = fs::remove_file(files, path);
-    for (turns, pieces) in stages {
-        follow(rt, files.alloc(), path, turns);
-        expect_bytes(rt, files, path, length, pieces)?;
-    }
-    Ok(())
-}
 
 const WRITTEN: &[Stage] = &[
     (&[(Deed::Make(SMALL), MADE)], &[SUPERBLOCK]),
@@ -267,14 +215,6 @@ const WRITTEN: &[Stage] = &[
     ),
 ];
 
-#[test]
-fn a_put_and_an_upgrade_write_just_their_bytes(rt: HostRuntime) -> Result<(), Fail> {
-    let path = "patch_files_bytes";
-    expect_stages(&rt, &rt, path, LENGTH, WRITTEN)?;
-    fs::remove_file(&rt, path)?;
-    Ok(())
-}
-
 const LONGER: Geometry = Geometry {
     index: 1,
     extents: 2,
@@ -286,34 +226,29 @@ const OF_LONGER: Piece<'static> = (0, b"FSTCHUNK\0\0\0\x02\0\0\0\x01\0\0\0\x02\0
 const LONG_VALUES: &str = r#"{"op":"put","key":"a","hex":"07","times":131072}
 {"op":"put","key":"b","hex":"07","times":131073}"#;
 
-const LENGTHENED: &[Stage] = &[(
-    &[(Deed::Make(LONGER), End(Status::Done, 0, "made 131\n"))],
-    &[OF_LONGER],
-)];
-
-const FILLED: &[Turn<'static>] = &[
+const LENGTHENED: &[Stage] = &[
     (
-        Deed::Run(LONG_VALUES),
-        End(Status::Done, 0, "ok\nrefused ValueLength\n"),
+        &[(Deed::Make(LONGER), End(Status::Done, 0, "made 131\n"))],
+        &[OF_LONGER],
     ),
     (
-        Deed::Check,
-        End(
-            Status::Done,
-            0,
-            "entry 61 131072\nextent 0 0 131089 131089\nextent 1 0 0 0\nclean\n",
-        ),
+        &[
+            (
+                Deed::Run(LONG_VALUES),
+                End(Status::Done, 0, "ok\nrefused ValueLength\n"),
+            ),
+            (
+                Deed::Check,
+                End(
+                    Status::Done,
+                    0,
+                    "entry 61 131072\nextent 0 0 131089 131089\nextent 1 0 0 0\nclean\n",
+                ),
+            ),
+        ],
+        &[],
     ),
 ];
-
-#[test]
-fn a_file_of_longer_extents_takes_longer_values(rt: HostRuntime) -> Result<(), Fail> {
-    let path = "patch_files_longer";
-    expect_stages(&rt, &rt, path, 536_576, LENGTHENED)?;
-    follow(&rt, rt.alloc(), path, FILLED);
-    fs::remove_file(&rt, path)?;
-    Ok(())
-}
 
 const LONG: &str = r#"{"op":"put","key":"v","hex":"09","times":65488}"#;
 
@@ -330,7 +265,93 @@ const UPGRADING: &[Turn<'static>] = &[
     (Deed::Upgrade, AGAIN),
 ];
 
+const DISK: End = End(Status::Failed, 4, "fault Disk\n");
+
+const KEPT: &[Turn<'static>] = &[
+    (Deed::Check, DISK),
+    (Deed::Run(PUT), DISK),
+    (Deed::Make(SMALL), MADE),
+    (Deed::Run(PUT), OK),
+    (Deed::Make(SMALL), DISK),
+    (Deed::Check, HELD),
+    (Deed::Upgrade, UPGRADED),
+    (Deed::Check, HELD),
+];
+
+// The path of a file that isn't there at first, and what is done with it.
+type Row = (&'static str, &'static [Turn<'static>]);
+
+static OF_VALUES: [Row; 4] = [
+    // A store is kept in a file.
+    ("patch_files_disk", KEPT),
+    // Keys and values of each length are answered.
+    ("patch_files_lengths", LENGTHS),
+    // A value that is replaced stays in its extent.
+    ("patch_files_twice", REPLACED),
+    // An upgraded file takes longer values.
+    ("patch_files_upgraded", UPGRADING),
+];
+
+static OF_EXTENTS: [Row; 4] = [
+    // The last empty extent is kept.
+    ("patch_files_full", KEPT_EMPTY),
+    // An extent that is won back has another generation.
+    ("patch_files_moved", WON_BACK),
+    // A frame goes back to an extent that was won.
+    ("patch_files_moved_again", MOVED_BACK),
+    // A current extent without a frame is won back.
+    ("patch_files_emptied", REUSED),
+];
+
+static OF_WRITERS: [Row; 2] = [
+    ("patch_files_of_two", SERVED_TWO),
+    ("patch_files_of_three", SERVED_THREE),
+];
+
 #[test]
-fn an_upgraded_file_takes_longer_values(rt: HostRuntime) -> Result<(), Fail> {
-    follow_anew(&rt, rt.alloc(), "patch_files_upgraded", UPGRADING)
+fn values_are_put_and_read(rt: HostRuntime) -> Result<(), Fail> {
+    for (path, turns) in &OF_VALUES {
+        follow_anew(&rt, rt.alloc(), path, turns)?;
+    }
+    Ok(())
+}
+
+#[test]
+fn extents_are_won_back(rt: HostRuntime) -> Result<(), Fail> {
+    for (path, turns) in &OF_EXTENTS {
+        follow_anew(&rt, rt.alloc(), path, turns)?;
+    }
+    Ok(())
+}
+
+#[test]
+fn two_and_three_writers_are_served_on_a_file(rt: HostRuntime) -> Result<(), Fail> {
+    for (path, turns) in &OF_WRITERS {
+        follow_anew(&rt, rt.alloc(), path, turns)?;
+    }
+    Ok(())
+}
+
+fn expect_stages<
+    F: FileExt + OpenFile + Drop + Send,
+    H: Files<File = F> + Threads + Wait + Abort + Sync,
+>(rt: &H, files: &HostRuntime, path: &str, length: usize, stages: &[Stage]) {
+    let _old = fs::remove_file(files, path);
+    for (turns, pieces) in stages {
+        follow(rt, files.alloc(), path, turns);
+        if !pieces.is_empty() {
+            expect_bytes(rt, files, path, length, pieces);
+        }
+    }
+    fs::remove_file(files, path).expect(rt, "a file that is there");
+}
+
+#[test]
+fn a_put_and_an_upgrade_write_just_their_bytes(rt: HostRuntime) {
+    expect_stages(&rt, &rt, "patch_files_bytes", LENGTH, WRITTEN);
+}
+
+#[test]
+fn a_file_of_longer_extents_takes_longer_values(rt: HostRuntime) {
+    expect_stages(&rt, &rt, "patch_files_longer", 536_576, LENGTHENED);
 }
