@@ -1,6 +1,4 @@
 //! Worked appends, resets and reads in both versions, the limit of live patches, want of memory, and the texts of refusals.
-ghost use Rattle.std.specs.Prelude.{◌≡◌};
-
 use patch_cache::Cache;
 use patch_extent::{
     AppendRefusal, Appended, Extents, ExtentsFault, MergeOutcome, Place, ReadRefusal, ResetRefusal,
@@ -8,10 +6,11 @@ use patch_extent::{
 use patch_frame::{Format, Geometry};
 use patch_group::Groups;
 use patch_model::{
-    BLOCK, BlockBytes, BlockNo, GroupNo, MAX_BLOCKS, OutOfMemory, PatchNo, Step, Undo, WriterNo,
+    BLOCK, BlockBytes, BlockNo, GroupNo, MAX_BLOCKS, MAX_LIVE, OutOfMemory, PatchNo, RefusalKind,
+    Refuses, Step, Undo, WriterNo,
 };
 use patch_testing::zeros;
-use std::alloc::{Allocator, Global};
+use std::alloc::{AllocError, Allocator, Global};
 use std::fmt::Debug;
 use std::process::Abort;
 use std::test::Fail;
@@ -45,18 +44,6 @@ fn blocks_with<A: Allocator + Copy>(
     Ok(blocks)
 }
 
-// A cache of so many blocks of zeros, but for these pointer records.
-fn open_cache<A: Allocator + Copy>(
-    rt: &impl Abort,
-    alloc: A,
-    count: usize,
-    records: &[u8],
-) -> Result<Cache<A>, OutOfMemory> {
-    let blocks = blocks_with(alloc, count, records)?;
-    assert!(rt; !blocks.is_empty() && blocks.len() <= MAX_BLOCKS);
-    Cache::open(alloc, blocks)
-}
-
 // One index block and two extents.
 fn geometry_of(format: Format) -> Geometry {
     Geometry {
@@ -66,65 +53,96 @@ fn geometry_of(format: Format) -> Geometry {
     }
 }
 
-// A cache, with its groups and its extents.
-#[derive(Drop)]
-struct Bench {
-    alloc: Global,
-    cache: Cache,
-    groups: Groups,
-    extents: Extents,
-    // How many appends there were.
-    appends: u8,
-}
-
-// How many blocks a disk of this geometry has.
-fn count_blocks(rt: &impl Abort, geometry: Geometry) -> usize {
+// How many blocks a disk of this format has.
+fn count_blocks(rt: &impl Abort, format: Format) -> usize {
+    let geometry = geometry_of(format);
     assert!(rt; geometry.is_valid());
     geometry.block_count() as usize
 }
 
-fn open_extents(
+// A cache of a disk of zeros, but for these pointer records. Whoever has it, or a bench, lets it go by `drop`, which takes the prover
+// less than the end of its scope.
+fn open_cache<A: Allocator + Copy>(
     rt: &impl Abort,
-    alloc: Global,
-    cache: &Cache,
-    geometry: Geometry,
-) -> Result<Extents, ExtentsFault> {
+    alloc: A,
+    format: Format,
+    records: &[u8],
+) -> Result<Cache<A>, OutOfMemory> {
+    let blocks = blocks_with(alloc, count_blocks(rt, format), records)?;
+    assert!(rt; !blocks.is_empty() && blocks.len() <= MAX_BLOCKS);
+    Cache::open(alloc, blocks)
+}
+
+fn open_extents<A: Allocator + Copy>(
+    rt: &impl Abort,
+    alloc: A,
+    cache: &Cache<A>,
+    format: Format,
+) -> Result<Extents<A>, ExtentsFault> {
+    let geometry = geometry_of(format);
     assert!(rt; geometry.is_valid());
     assert!(rt; cache.blocks() == geometry.block_count());
     Extents::open(alloc, cache, geometry)
 }
 
-fn open_bench(
+// A cache, with its groups and its extents.
+#[derive(Drop)]
+struct Bench<A: Allocator + Copy = Global> {
+    cache: Cache<A>,
+    groups: Groups<A>,
+    extents: Extents<A>,
+}
+
+fn open_bench<A: Allocator + Copy>(
     rt: &impl Abort,
-    alloc: Global,
-    geometry: Geometry,
+    alloc: A,
+    format: Format,
     records: &[u8],
-) -> Result<Bench, Fail> {
-    let cache = open_cache(rt, alloc, count_blocks(rt, geometry), records)?;
-    let extents = open_extents(rt, alloc, &cache, geometry)?;
-    Ok(Bench {
-        alloc,
-        cache,
-        groups: Groups::new(alloc),
-        extents,
-        appends: 0,
-    })
+) -> Result<Bench<A>, Fail> {
+    let cache = open_cache(rt, alloc, format, records)?;
+    match open_extents(rt, alloc, &cache, format) {
+        Ok(extents) => Ok(Bench {
+            cache,
+            groups: Groups::new(alloc),
+            extents,
+        }),
+        Err(_) => {
+            drop(cache);
+            Err(Fail::from("extents were not opened"))
+        }
+    }
 }
 
 // Appends these bytes, of which there is one at least.
-fn append_bytes<A: Allocator + Copy>(
-    cache: &mut Cache<A>,
-    groups: &mut Groups<A>,
-    extents: &mut Extents<A>,
+fn append<A: Allocator + Copy>(
+    bench: &mut Bench<A>,
     writer: Option<WriterNo>,
     extent: u32,
     bytes: &[u8],
     after: &[PatchNo],
-) -> Result<Appended, AppendRefusal>
-    ensures { extents.new.geometry ≡ extents.old.geometry }
-{
+) -> Result<Appended, AppendRefusal> {
     if bytes.is_empty() {
         return Err(AppendRefusal::OutOfMemory);
     }
+    let Bench {
+        cache,
+        groups,
+        extents,
+    } = bench;
     extents.append(cache, groups, writer, extent, bytes, after)
+}
+
+fn reset<A: Allocator + Copy>(bench: &mut Bench<A>, extent: u32) -> Result<PatchNo, ResetRefusal> {
+    let Bench { cache, extents, .. } = bench;
+    extents.reset(cache, extent, &[])
+}
+
+// Whether a call is done, or of which kind the refusal is.
+type Said = Result<(), RefusalKind>;
+
+fn kind_of<T: Copy, R: Refuses>(answer: Result<T, R>) -> Said {
+    match answer {
+        Ok(_) => Ok(()),
+        Err(refusal) => Err(refusal.kind()),
+    }
 }

@@ -1,6 +1,5 @@
 //! As many live patches as there may be.
 use super::*;
-use patch_model::{BlockNo, MAX_LIVE, RefusalKind, Refuses, Undo};
 
 // An append that touches two blocks makes three patches, and each of so many short ones, which touch one, two: in all one less
 // than may live.
@@ -33,18 +32,11 @@ fn shown(bench: &Bench) -> Shown {
     (cache.live(), cache.made(), cache.trace().len(), last, past)
 }
 
-fn append_to_first(bench: &mut Bench, bytes: &[u8]) -> Result<(), AppendRefusal> {
-    let Bench {
-        cache,
-        groups,
-        extents,
-        ..
-    } = bench;
-    append_bytes(cache, groups, extents, None, 0, bytes, &[])?;
-    Ok(())
+fn append_to_first(bench: &mut Bench, bytes: &[u8]) -> Said {
+    kind_of(append(bench, None, 0, bytes, &[]))
 }
 
-fn append_all(bench: &mut Bench) -> Result<(), AppendRefusal> {
+fn append_all(bench: &mut Bench) -> Said {
     append_to_first(bench, &[7; LONG])?;
     for _ in 0..APPENDS {
         append_to_first(bench, &[7; SHORT])?;
@@ -52,48 +44,38 @@ fn append_all(bench: &mut Bench) -> Result<(), AppendRefusal> {
     Ok(())
 }
 
-fn append_one_more(bench: &mut Bench) -> Option<RefusalKind> {
-    match append_to_first(bench, &[7]) {
-        Ok(()) => None,
-        Err(refusal) => Some(refusal.kind()),
-    }
+fn create_one(cache: &mut Cache) -> Said {
+    kind_of(cache.create(BlockNo(0), 0, &[7], &[], Undo::Keep))
 }
 
-fn create_one(cache: &mut Cache) -> Option<RefusalKind> {
-    match cache.create(BlockNo(0), 0, &[7], &[], Undo::Keep) {
-        Ok(_) => None,
-        Err(refusal) => Some(refusal.kind()),
-    }
-}
+const TOO_MANY: Said = Err(RefusalKind::TooManyLive);
 
 // An append needs two, and there is room for one: it changes nothing.
 fn expect_no_append(rt: &impl Abort, bench: &mut Bench) {
     let before = shown(bench);
     expect_equal(rt, "last", before.0, MAX_LIVE - 1);
     expect_equal(rt, "pointer", (before.3, before.4), (true, false));
-    let refused = append_one_more(bench);
-    expect_equal(rt, "append", refused, Some(RefusalKind::TooManyLive));
+    expect_equal(rt, "append", append_to_first(bench, &[7]), TOO_MANY);
     expect_equal(rt, "shown", shown(bench), before);
 }
 
 // A patch alone still fits, and no more.
 fn expect_room_for_one(rt: &impl Abort, cache: &mut Cache) {
-    expect_equal(rt, "patch", create_one(cache), None);
+    expect_equal(rt, "patch", create_one(cache), Ok(()));
     expect_equal(rt, "full", cache.live(), MAX_LIVE);
-    let refused = create_one(cache);
-    expect_equal(rt, "one more", refused, Some(RefusalKind::TooManyLive));
+    expect_equal(rt, "one more", create_one(cache), TOO_MANY);
 }
 
-fn expect_filled(rt: &impl Abort, bench: &mut Bench) {
-    assert!(rt; append_all(bench).is_ok());
-    expect_no_append(rt, bench);
+fn expect_filled(rt: &impl Abort, alloc: Global) -> Result<(), Fail> {
+    let mut bench = open_bench(rt, alloc, Format::Two { length: 64 }, &[])?;
+    expect_equal(rt, "all", append_all(&mut bench), Ok(()));
+    expect_no_append(rt, &mut bench);
     expect_room_for_one(rt, &mut bench.cache);
+    drop(bench);
+    Ok(())
 }
 
 #[test]
 fn an_append_is_refused_where_too_many_patches_live(rt: HostRuntime) -> Result<(), Fail> {
-    let geometry = geometry_of(Format::Two { length: 64 });
-    let mut bench = open_bench(&rt, rt.alloc(), geometry, &[])?;
-    expect_filled(&rt, &mut bench);
-    Ok(())
+    expect_filled(&rt, rt.alloc())
 }

@@ -1,52 +1,24 @@
 //! Lists of calls, with what each of them answers and which steps they leave in the trace.
-ghost use Rattle.std.specs.Prelude.{◌<◌};
-
 use super::*;
 
 // A call, or a look at the trace.
 #[derive(Clone, Copy)]
 enum Move {
     // Bytes of the value of the count of appends so far, from 1.
-    Append {
-        extent: u32,
-        len: usize,
-    },
+    Append { extent: u32, len: usize },
     // By a writer.
-    By {
-        writer: u8,
-        extent: u32,
-        len: usize,
-    },
+    By { writer: u8, extent: u32, len: usize },
     // One byte, behind a patch.
-    Behind {
-        extent: u32,
-        after: u32,
-    },
-    Reset {
-        extent: u32,
-    },
-    Read {
-        extent: u32,
-        generation: u32,
-        offset: u32,
-        len: u32,
-    },
+    Behind { extent: u32, after: u32 },
+    Reset { extent: u32 },
+    Read(Place),
     // To make a group.
     Group,
     // To let a writer's patches belong to a group, and no more.
-    Engage {
-        writer: u8,
-        group: u32,
-    },
-    Leave {
-        writer: u8,
-        group: u32,
-    },
+    Engage { writer: u8, group: u32 },
+    Leave { writer: u8, group: u32 },
     // To let a group depend on another.
-    Order {
-        group: u32,
-        on: u32,
-    },
+    Order { group: u32, on: u32 },
     // The steps since the last look.
     Trace,
 }
@@ -54,7 +26,7 @@ enum Move {
 use Move::{Append, Behind, By, Engage, Group, Leave, Order, Read, Reset, Trace};
 
 // 5,000 bytes, 10 more, a reset, and one byte.
-const WORKED: [Move; 17] = [
+const WORKED: &[Move] = &[
     Append {
         extent: 0,
         len: 5000,
@@ -62,45 +34,45 @@ const WORKED: [Move; 17] = [
     Trace,
     Append { extent: 0, len: 10 },
     Trace,
-    Read {
+    Read(Place {
         extent: 0,
         generation: 0,
         offset: 4999,
         len: 3,
-    },
+    }),
     Reset { extent: 0 },
     Trace,
     Append { extent: 0, len: 1 },
     Trace,
-    Read {
+    Read(Place {
         extent: 0,
         generation: 0,
         offset: 0,
         len: 5000,
-    },
-    Read {
+    }),
+    Read(Place {
         extent: 0,
         generation: 1,
         offset: 0,
         len: 2,
-    },
-    Read {
+    }),
+    Read(Place {
         extent: 0,
         generation: 1,
         offset: 0,
         len: 1,
-    },
+    }),
     Append {
         extent: 0,
         len: 65_536,
     },
     Append { extent: 2, len: 1 },
-    Read {
+    Read(Place {
         extent: 2,
         generation: 0,
         offset: 0,
         len: 0,
-    },
+    }),
     Reset { extent: 2 },
     Behind {
         extent: 0,
@@ -109,27 +81,32 @@ const WORKED: [Move; 17] = [
 ];
 
 const WORKED_TOLD: &str = "\
-append extent 0 generation 0 offset 0 len 5000 by 2
-trace 3.0+4096[] 4.0+904[] 2.0+8[0,1] = 0000000000001388
-append extent 0 generation 0 offset 5000 len 10 by 4 merged
-trace 4.904+10[] 2.0+8[3] = 0000000000001392 merge 2 4
+append Ok(Appended { place: Place { extent: 0, generation: 0, offset: 0, len: 5000 }, pointer_patch: PatchNo(2), merge: NotLegal })
+  3.0+4096 None behind []
+  4.0+904 None behind []
+  2.0+8 Some([0, 0, 0, 0, 0, 0, 19, 136]) behind [PatchNo(0), PatchNo(1)]
+append Ok(Appended { place: Place { extent: 0, generation: 0, offset: 5000, len: 10 }, pointer_patch: PatchNo(4), merge: Made })
+  4.904+10 None behind []
+  2.0+8 Some([0, 0, 0, 0, 0, 0, 19, 146]) behind [PatchNo(3)]
+  merge 2 4
 read 1x1 2x2
-reset 5
-trace 2.0+8[] = 0000000100000000
-append extent 0 generation 1 offset 0 len 1 by 7
-trace 3.0+1[5] = 03 2.0+8[6] = 0000000100000001
-read refused OldGeneration
-read refused PastPointer
+reset Ok(PatchNo(5))
+  2.0+8 Some([0, 0, 0, 1, 0, 0, 0, 0]) behind []
+append Ok(Appended { place: Place { extent: 0, generation: 1, offset: 0, len: 1 }, pointer_patch: PatchNo(7), merge: NotLegal })
+  3.0+1 Some([3]) behind [PatchNo(5)]
+  2.0+8 Some([0, 0, 0, 1, 0, 0, 0, 1]) behind [PatchNo(6)]
+read OldGeneration
+read PastPointer
 read 3x1
-append refused ExtentFull
-append refused NoSuchExtent
-read refused NoSuchExtent
-reset refused NoSuchExtent
-append refused UnknownDependency
+append Err(ExtentFull)
+append Err(NoSuchExtent)
+read NoSuchExtent
+reset Err(NoSuchExtent)
+append Err(UnknownDependency)
 ";
 
 // Extents of 64 blocks, the second of which is filled.
-const LONG: [Move; 6] = [
+const LONG: &[Move] = &[
     Append { extent: 1, len: 1 },
     Trace,
     Append {
@@ -137,12 +114,12 @@ const LONG: [Move; 6] = [
         len: 262_143,
     },
     Append { extent: 1, len: 1 },
-    Read {
+    Read(Place {
         extent: 1,
         generation: 0,
         offset: 0,
         len: 262_144,
-    },
+    }),
     Append {
         extent: 0,
         len: 65_537,
@@ -150,16 +127,17 @@ const LONG: [Move; 6] = [
 ];
 
 const LONG_TOLD: &str = "\
-append extent 1 generation 0 offset 0 len 1 by 1
-trace 67.0+1[] = 01 2.8+8[0] = 0000000000000001
-append extent 1 generation 0 offset 1 len 262143 by 66 merged
-append refused ExtentFull
+append Ok(Appended { place: Place { extent: 1, generation: 0, offset: 0, len: 1 }, pointer_patch: PatchNo(1), merge: NotLegal })
+  67.0+1 Some([1]) behind []
+  2.8+8 Some([0, 0, 0, 0, 0, 0, 0, 1]) behind [PatchNo(0)]
+append Ok(Appended { place: Place { extent: 1, generation: 0, offset: 1, len: 262143 }, pointer_patch: PatchNo(66), merge: Made })
+append Err(ExtentFull)
 read 1x1 2x262143
-append extent 0 generation 0 offset 0 len 65537 by 84
+append Ok(Appended { place: Place { extent: 0, generation: 0, offset: 0, len: 65537 }, pointer_patch: PatchNo(84), merge: NotLegal })
 ";
 
 // The patches of a writer join its groups, and name those of the groups before.
-const GROUPED: [Move; 9] = [
+const GROUPED: &[Move] = &[
     Group,
     Group,
     Engage {
@@ -189,51 +167,41 @@ const GROUPED: [Move; 9] = [
 ];
 
 const GROUPED_TOLD: &str = "\
-ok
-ok
-ok
-append extent 0 generation 0 offset 0 len 1 by 1
-ok
-ok
-ok
-append extent 1 generation 0 offset 0 len 1 by 3
-trace 3.0+1[] = 01 2.0+8[0] = 0000000000000001 19.0+1[0,1] = 02 2.8+8[2,0,1] = 0000000000000001
+group Ok(GroupNo(0))
+group Ok(GroupNo(1))
+engage Ok(())
+append Ok(Appended { place: Place { extent: 0, generation: 0, offset: 0, len: 1 }, pointer_patch: PatchNo(1), merge: NotLegal })
+leave Ok(())
+order Ok(())
+engage Ok(())
+append Ok(Appended { place: Place { extent: 1, generation: 0, offset: 0, len: 1 }, pointer_patch: PatchNo(3), merge: NotLegal })
+  3.0+1 Some([1]) behind []
+  2.0+8 Some([0, 0, 0, 0, 0, 0, 0, 1]) behind [PatchNo(0)]
+  19.0+1 Some([2]) behind [PatchNo(0), PatchNo(1)]
+  2.8+8 Some([0, 0, 0, 0, 0, 0, 0, 1]) behind [PatchNo(2), PatchNo(0), PatchNo(1)]
 ";
 
 // An extent of the last generation.
-const SPENT: [Move; 3] = [Reset { extent: 0 }, Append { extent: 0, len: 1 }, Trace];
+const SPENT: &[Move] = &[Reset { extent: 0 }, Append { extent: 0, len: 1 }, Trace];
 
 const SPENT_TOLD: &str = "\
-reset refused GenerationSpent
-append extent 0 generation 4294967295 offset 7 len 1 by 1
-trace 3.7+1[] = 01 2.0+8[0] = ffffffff00000008
+reset Err(GenerationSpent)
+append Ok(Appended { place: Place { extent: 0, generation: 4294967295, offset: 7, len: 1 }, pointer_patch: PatchNo(1), merge: NotLegal })
+  3.7+1 Some([1]) behind []
+  2.0+8 Some([255, 255, 255, 255, 0, 0, 0, 8]) behind [PatchNo(0)]
 ";
 
-fn tell_numbers(told: &mut String, numbers: &[PatchNo]) -> Result<(), Fail> {
-    told.push('[')?;
-    for (place, no) in numbers.iter().enumerate() {
-        if place > 0 {
-            told.push(',')?;
-        }
-        write!(told, "{no}")?;
-    }
-    told.push(']')?;
-    Ok(())
+// What is answered.
+fn tell<T: Copy + Debug>(told: &mut String, what: &str, answer: T) -> Result<(), AllocError> {
+    writeln!(told, "{what} {answer:?}")
 }
 
-// The bytes, if they are few.
-fn tell_few(told: &mut String, bytes: &[u8]) -> Result<(), Fail> {
-    if bytes.len() > 8 {
-        return Ok(());
-    }
-    told.push_str(" = ")?;
-    for byte in bytes {
-        write!(told, "{byte:02x}")?;
-    }
-    Ok(())
+// The bytes of a patch, if they are few.
+fn few(bytes: &[u8]) -> Option<&[u8]> {
+    if bytes.len() <= 8 { Some(bytes) } else { None }
 }
 
-fn tell_step(told: &mut String, step: &Step) -> Result<(), Fail> {
+fn tell_step(told: &mut String, step: &Step) -> Result<(), AllocError> {
     match step {
         Step::Create {
             block,
@@ -242,37 +210,35 @@ fn tell_step(told: &mut String, step: &Step) -> Result<(), Fail> {
             after,
             ..
         } => {
-            let len = bytes.as_slice().len();
-            write!(told, " {block}.{start}+{len}")?;
-            tell_numbers(told, after.as_slice())?;
-            tell_few(told, bytes.as_slice())
+            let (bytes, after) = (bytes.as_slice(), after.as_slice());
+            let (len, few) = (bytes.len(), few(bytes));
+            writeln!(told, "  {block}.{start}+{len} {few:?} behind {after:?}")
         }
-        Step::Merge { a, b } => {
-            write!(told, " merge {a} {b}")?;
-            Ok(())
-        }
-        Step::Send { .. } | Step::Complete { .. } => {
-            told.push_str(" write")?;
-            Ok(())
-        }
+        Step::Merge { a, b } => writeln!(told, "  merge {a} {b}"),
+        Step::Send { .. } | Step::Complete { .. } => told.push_str("  write\n"),
     }
 }
 
-fn tell_steps(told: &mut String, steps: &[Step]) -> Result<(), Fail> {
-    told.push_str("trace")?;
+fn tell_steps(told: &mut String, steps: &[Step]) -> Result<(), AllocError> {
     for step in steps {
         tell_step(told, step)?;
     }
     Ok(())
 }
 
-fn tell_trace(told: &mut String, bench: &mut Bench) -> Result<(), Fail> {
-    let steps = bench.cache.drain_trace()?;
-    tell_steps(told, steps.as_slice())
+fn tell_trace(told: &mut String, cache: &mut Cache) -> Result<(), AllocError> {
+    match cache.drain_trace() {
+        Ok(steps) => {
+            let ended = tell_steps(told, &steps);
+            drop(steps);
+            ended
+        }
+        Err(OutOfMemory) => Err(AllocError),
+    }
 }
 
 // How often each value stands there in a row.
-fn tell_runs(told: &mut String, bytes: &[u8]) -> Result<(), Fail> {
+fn tell_runs(told: &mut String, bytes: &[u8]) -> Result<(), AllocError> {
     told.push_str("read")?;
     let mut from = 0;
     for at in 0..bytes.len() {
@@ -283,114 +249,37 @@ fn tell_runs(told: &mut String, bytes: &[u8]) -> Result<(), Fail> {
             from = at + 1;
         }
     }
-    Ok(())
+    told.push('\n')
 }
 
-fn tell_read(told: &mut String, bench: &Bench, place: Place) -> Result<(), Fail> {
+fn tell_read(told: &mut String, bench: &Bench, place: Place) -> Result<(), AllocError> {
     match bench.extents.read(&bench.cache, place) {
         Ok(bytes) => tell_runs(told, bytes.as_slice()),
-        Err(refusal) => {
-            write!(told, "read refused {refusal}")?;
-            Ok(())
-        }
+        Err(refusal) => tell(told, "read", refusal),
     }
+}
+
+// A bench, and how many appends there were.
+#[derive(Drop)]
+struct Walker {
+    bench: Bench,
+    appends: u8,
 }
 
 // So many bytes of the value of the count of appends.
 fn append_some(
-    bench: &mut Bench,
+    walker: &mut Walker,
+    alloc: Global,
     writer: Option<WriterNo>,
     extent: u32,
     len: usize,
     after: &[PatchNo],
 ) -> Result<Appended, AppendRefusal> {
-    bench.appends = bench.appends.saturating_add(1);
-    let Ok(bytes) = vec![in bench.alloc; bench.appends; len] else {
-        return Err(AppendRefusal::OutOfMemory);
-    };
-    let Bench {
-        cache,
-        groups,
-        extents,
-        ..
-    } = bench;
-    append_bytes(
-        cache,
-        groups,
-        extents,
-        writer,
-        extent,
-        bytes.as_slice(),
-        after,
-    )
-}
-
-fn tell_merge(told: &mut String, merge: MergeOutcome) -> Result<(), Fail> {
-    match merge {
-        MergeOutcome::Made => told.push_str(" merged")?,
-        MergeOutcome::NotLegal => {}
-        MergeOutcome::NoMemory => told.push_str(" without memory")?,
+    walker.appends = walker.appends.saturating_add(1);
+    match vec![in alloc; walker.appends; len] {
+        Ok(bytes) => append(&mut walker.bench, writer, extent, bytes.as_slice(), after),
+        Err(_) => Err(AppendRefusal::OutOfMemory),
     }
-    Ok(())
-}
-
-fn tell_appended(told: &mut String, appended: &Appended) -> Result<(), Fail> {
-    let Place {
-        extent,
-        generation,
-        offset,
-        len,
-    } = appended.place;
-    let by = appended.pointer_patch;
-    write!(
-        told,
-        "append extent {extent} generation {generation} offset {offset} len {len} by {by}"
-    )?;
-    tell_merge(told, appended.merge)
-}
-
-fn tell_append(
-    told: &mut String,
-    bench: &mut Bench,
-    writer: Option<WriterNo>,
-    extent: u32,
-    len: usize,
-    after: &[PatchNo],
-) -> Result<(), Fail> {
-    match append_some(bench, writer, extent, len, after) {
-        Ok(appended) => tell_appended(told, &appended),
-        Err(refusal) => {
-            write!(told, "append refused {refusal}")?;
-            Ok(())
-        }
-    }
-}
-
-fn tell_reset(told: &mut String, bench: &mut Bench, extent: u32) -> Result<(), Fail> {
-    let Bench { cache, extents, .. } = bench;
-    match extents.reset(cache, extent, &[]) {
-        Ok(no) => write!(told, "reset {no}")?,
-        Err(refusal) => write!(told, "reset refused {refusal}")?,
-    }
-    Ok(())
-}
-
-fn group_some(groups: &mut Groups, step: Move) -> Result<(), Fail> {
-    match step {
-        Engage { writer, group } => groups.engage(writer_of(writer), GroupNo(group))?,
-        Leave { writer, group } => groups.disengage(writer_of(writer), GroupNo(group))?,
-        Order { group, on } => groups.depend(GroupNo(group), GroupNo(on))?,
-        _ => {
-            groups.create()?;
-        }
-    }
-    Ok(())
-}
-
-fn tell_group(told: &mut String, bench: &mut Bench, step: Move) -> Result<(), Fail> {
-    group_some(&mut bench.groups, step)?;
-    told.push_str("ok")?;
-    Ok(())
 }
 
 // One of two writers.
@@ -398,60 +287,71 @@ fn writer_of(writer: u8) -> WriterNo {
     WriterNo(if writer == 0 { 0 } else { 1 })
 }
 
-fn tell_move(told: &mut String, bench: &mut Bench, step: Move) -> Result<(), Fail> {
+fn tell_move(
+    told: &mut String,
+    alloc: Global,
+    walker: &mut Walker,
+    step: Move,
+) -> Result<(), AllocError> {
     match step {
-        Append { extent, len } => tell_append(told, bench, None, extent, len, &[])?,
+        Append { extent, len } => {
+            let answer = append_some(walker, alloc, None, extent, len, &[]);
+            tell(told, "append", answer)
+        }
         By {
             writer,
             extent,
             len,
-        } => tell_append(told, bench, Some(writer_of(writer)), extent, len, &[])?,
-        Behind { extent, after } => tell_append(told, bench, None, extent, 1, &[PatchNo(after)])?,
-        Reset { extent } => tell_reset(told, bench, extent)?,
-        Read {
-            extent,
-            generation,
-            offset,
-            len,
-        } => tell_read(
-            told,
-            bench,
-            Place {
-                extent,
-                generation,
-                offset,
-                len,
-            },
-        )?,
-        Group | Engage { .. } | Leave { .. } | Order { .. } => tell_group(told, bench, step)?,
-        Trace => tell_trace(told, bench)?,
+        } => {
+            let writer = Some(writer_of(writer));
+            let answer = append_some(walker, alloc, writer, extent, len, &[]);
+            tell(told, "append", answer)
+        }
+        Behind { extent, after } => {
+            let answer = append_some(walker, alloc, None, extent, 1, &[PatchNo(after)]);
+            tell(told, "append", answer)
+        }
+        Reset { extent } => tell(told, "reset", reset(&mut walker.bench, extent)),
+        Read(place) => tell_read(told, &walker.bench, place),
+        Trace => tell_trace(told, &mut walker.bench.cache),
+        Group => tell(told, "group", walker.bench.groups.create()),
+        Engage { writer, group } => {
+            let groups = &mut walker.bench.groups;
+            tell(
+                told,
+                "engage",
+                groups.engage(writer_of(writer), GroupNo(group)),
+            )
+        }
+        Leave { writer, group } => {
+            let groups = &mut walker.bench.groups;
+            tell(
+                told,
+                "leave",
+                groups.disengage(writer_of(writer), GroupNo(group)),
+            )
+        }
+        Order { group, on } => {
+            let groups = &mut walker.bench.groups;
+            tell(told, "order", groups.depend(GroupNo(group), GroupNo(on)))
+        }
     }
-    told.push('\n')?;
-    Ok(())
 }
 
-fn tell_each(told: &mut String, bench: &mut Bench, moves: &[Move]) -> Result<(), Fail> {
-    for step in moves {
-        tell_move(told, bench, *step)?;
-    }
-    Ok(())
-}
-
-// What is told of the moves is this.
-fn expect_told(
-    rt: &impl Abort,
-    bench: &mut Bench,
-    moves: &[Move],
+fn tell_moves(
     told: &mut String,
-    want: &str,
-) -> Result<(), Fail> {
-    tell_each(told, bench, moves)?;
-    expect_equal(rt, "told", told.as_str(), want);
+    alloc: Global,
+    walker: &mut Walker,
+    moves: &[Move],
+) -> Result<(), AllocError> {
+    for step in moves {
+        tell_move(told, alloc, walker, *step)?;
+    }
     Ok(())
 }
 
 // Walks through the moves on a disk of this format with these pointer records, and what is told is this.
-fn walk(
+fn expect_told(
     rt: &impl Abort,
     alloc: Global,
     format: Format,
@@ -459,36 +359,42 @@ fn walk(
     moves: &[Move],
     want: &str,
 ) -> Result<(), Fail> {
-    let mut bench = open_bench(rt, alloc, geometry_of(format), records)?;
     let mut told = String::new(alloc);
-    expect_told(rt, &mut bench, moves, &mut told, want)
+    let mut walker = Walker {
+        bench: open_bench(rt, alloc, format, records)?,
+        appends: 0,
+    };
+    let ended = tell_moves(&mut told, alloc, &mut walker, moves);
+    drop(walker);
+    expect_equal(rt, "told", (ended, told.as_str()), (Ok(()), want));
+    Ok(())
 }
 
 #[test]
 fn appends_and_resets_are_as_worked(rt: HostRuntime) -> Result<(), Fail> {
-    walk(&rt, rt.alloc(), Format::One, &[], &WORKED, WORKED_TOLD)
+    expect_told(&rt, rt.alloc(), Format::One, &[], WORKED, WORKED_TOLD)
 }
 
 #[test]
 fn long_extents_are_filled(rt: HostRuntime) -> Result<(), Fail> {
     let format = Format::Two { length: 64 };
-    walk(&rt, rt.alloc(), format, &[], &LONG, LONG_TOLD)
+    expect_told(&rt, rt.alloc(), format, &[], LONG, LONG_TOLD)
 }
 
 #[test]
 fn groups_order_appends(rt: HostRuntime) -> Result<(), Fail> {
-    walk(&rt, rt.alloc(), Format::One, &[], &GROUPED, GROUPED_TOLD)
+    expect_told(&rt, rt.alloc(), Format::One, &[], GROUPED, GROUPED_TOLD)
 }
 
 #[test]
 fn the_last_generation_stays(rt: HostRuntime) -> Result<(), Fail> {
     let records = [0xff, 0xff, 0xff, 0xff, 0, 0, 0, 7];
-    walk(&rt, rt.alloc(), Format::One, &records, &SPENT, SPENT_TOLD)
+    expect_told(&rt, rt.alloc(), Format::One, &records, SPENT, SPENT_TOLD)
 }
 
 // Pointer records on a disk of this format, and why it isn't opened: a pointer past its extent, and a byte behind the records. The
 // largest pointer of each version is opened.
-const RECORDS: [(&'static str, Format, &'static [u8], Option<ExtentsFault>); 5] = [
+const RECORDS: &[(&'static str, Format, &'static [u8], Option<ExtentsFault>)] = &[
     ("full", Format::One, b"\0\0\0\0\0\x01\0\0", None),
     ("past", Format::One, b"\0\0\0\0\0\x01\0\x01", BAD_POINTER),
     (
@@ -513,76 +419,86 @@ const RECORDS: [(&'static str, Format, &'static [u8], Option<ExtentsFault>); 5] 
 
 const BAD_POINTER: Option<ExtentsFault> = Some(ExtentsFault::BadPointer);
 
+// Why the extents of a cache aren't opened.
 fn fault_of(
     rt: &impl Abort,
     alloc: Global,
     format: Format,
     records: &[u8],
 ) -> Result<Option<ExtentsFault>, OutOfMemory> {
-    let geometry = geometry_of(format);
-    let cache = open_cache(rt, alloc, count_blocks(rt, geometry), records)?;
-    Ok(open_extents(rt, alloc, &cache, geometry).err())
+    let cache = open_cache(rt, alloc, format, records)?;
+    let fault = open_extents(rt, alloc, &cache, format).err();
+    drop(cache);
+    Ok(fault)
 }
 
-// Why the extents of a cache aren't opened behind one more patch, of the first pointer record.
+// The same behind one more patch, of the first pointer record.
 fn fault_behind(
     rt: &impl Abort,
     alloc: Global,
     cache: &mut Cache,
     record: &[u8],
-) -> Result<Option<ExtentsFault>, Fail> {
-    cache.create(BlockNo(2), 0, record, &[], Undo::MayDrop)?;
-    Ok(open_extents(rt, alloc, cache, geometry_of(Format::One)).err())
+) -> Option<ExtentsFault> {
+    let patch = cache.create(BlockNo(2), 0, record, &[], Undo::MayDrop);
+    assert!(rt; patch.is_ok());
+    open_extents(rt, alloc, cache, Format::One).err()
+}
+
+// The cache's pointer is mended, and broken again.
+fn expect_cached(rt: &impl Abort, alloc: Global) -> Result<(), Fail> {
+    let mut cache = open_cache(rt, alloc, Format::One, b"\0\0\0\0\0\x01\0\x01")?;
+    let mended = fault_behind(rt, alloc, &mut cache, b"\0\0\0\0\0\x01\0\0");
+    let broken = fault_behind(rt, alloc, &mut cache, b"\0\0\0\0\0\x02\0\0");
+    drop(cache);
+    expect_equal(rt, "faults", (mended, broken), (None, BAD_POINTER));
+    Ok(())
 }
 
 #[test]
 fn pointers_are_those_that_are_cached(rt: HostRuntime) -> Result<(), Fail> {
-    let geometry = geometry_of(Format::One);
-    let count = count_blocks(&rt, geometry);
-    let mut cache = open_cache(&rt, rt.alloc(), count, b"\0\0\0\0\0\x01\0\x01")?;
-    let mended = fault_behind(&rt, rt.alloc(), &mut cache, b"\0\0\0\0\0\x01\0\0")?;
-    expect_equal(&rt, "mended", mended, None);
-    let broken = fault_behind(&rt, rt.alloc(), &mut cache, b"\0\0\0\0\0\x02\0\0")?;
-    expect_equal(&rt, "broken", broken, BAD_POINTER);
+    expect_cached(&rt, rt.alloc())
+}
+
+fn expect_records(rt: &impl Abort, alloc: Global) -> Result<(), Fail> {
+    for (what, format, records, fault) in RECORDS {
+        let got = fault_of(rt, alloc, *format, records)?;
+        expect_equal(rt, what, got, *fault);
+    }
     Ok(())
 }
 
 #[test]
 fn bad_pointers_are_refused(rt: HostRuntime) -> Result<(), Fail> {
-    for (what, format, records, fault) in &RECORDS {
-        let got = fault_of(&rt, rt.alloc(), *format, records)?;
-        expect_equal(&rt, what, got, *fault);
-    }
-    Ok(())
+    expect_records(&rt, rt.alloc())
 }
 
-// Appends to the second extent, and resets it.
-fn move_pointer(
-    rt: &impl Abort,
-    cache: &mut Cache,
-    groups: &mut Groups,
-    extents: &mut Extents,
-) -> Result<(), Fail>
-    requires { 1 < extents.old.geometry.extents }
-{
-    append_bytes(cache, groups, extents, None, 1, b"bytes", &[])?;
-    expect_equal(rt, "appended", extents.pointer(1), (0, 5));
-    extents.reset(cache, 1, &[])?;
-    expect_equal(rt, "reset", extents.pointer(1), (1, 0));
-    expect_equal(rt, "other", extents.pointer(0), (0, 0));
+fn pointer_of(rt: &impl Abort, extents: &Extents, extent: u32) -> (u32, u32) {
+    assert!(rt; extent < extents.geometry().extents);
+    extents.pointer(extent)
+}
+
+// The second extent's pointer behind an append and behind a reset, and the first one's.
+fn pointers_told(rt: &impl Abort, bench: &mut Bench) -> [(Said, (u32, u32)); 3] {
+    let appended = kind_of(append(bench, None, 1, b"bytes", &[]));
+    let behind_append = pointer_of(rt, &bench.extents, 1);
+    let emptied = kind_of(reset(bench, 1));
+    [
+        (appended, behind_append),
+        (emptied, pointer_of(rt, &bench.extents, 1)),
+        (Ok(()), pointer_of(rt, &bench.extents, 0)),
+    ]
+}
+
+fn expect_pointers(rt: &impl Abort, alloc: Global) -> Result<(), Fail> {
+    let mut bench = open_bench(rt, alloc, Format::One, &[])?;
+    let told = pointers_told(rt, &mut bench);
+    drop(bench);
+    let want = [(Ok(()), (0, 5)), (Ok(()), (1, 0)), (Ok(()), (0, 0))];
+    expect_equal(rt, "pointers", told, want);
     Ok(())
 }
 
 #[test]
 fn pointers_are_told(rt: HostRuntime) -> Result<(), Fail> {
-    let geometry = Geometry {
-        index: 1,
-        extents: 2,
-        format: Format::One,
-    };
-    let mut cache = open_cache(&rt, rt.alloc(), 35, &[])?;
-    assert!(rt; cache.blocks() == 35);
-    let mut extents = Extents::open(rt.alloc(), &cache, geometry)?;
-    let mut groups = Groups::new(rt.alloc());
-    move_pointer(&rt, &mut cache, &mut groups, &mut extents)
+    expect_pointers(&rt, rt.alloc())
 }
