@@ -1,6 +1,7 @@
 //! What a graph tells between two classes, beside what one search through all below the upper one finds, on graphs of many shapes.
+use super::chance::{Chance, chance_from};
 use super::plain::Plain;
-use super::{Chance, Move, Path, expect_eq, walk};
+use super::{Move, Path, expect_eq, walk};
 use patch_graph::Graph;
 use patch_model::{BlockNo, MAX_PATCHES, PatchNo, Undo};
 use std::alloc::Global;
@@ -629,14 +630,6 @@ fn grow_by_chance(
         step_by_chance(rt, pair, chance, rarity)?;
     }
     ask_by_chance(rt, pair, chance)
-}
-
-fn chance_from(seed: u32) -> Chance {
-    Chance {
-        drawn: seed,
-        flights: [false; 8],
-        merges: 0,
-    }
 }
 
 fn expect_graph(
