@@ -5,3 +5,4 @@ pub mod Parsing
 pub mod Cutting
 pub mod Blocks
 pub mod Lanes
+pub mod Joining

@@ -101,7 +101,9 @@ pub fn read_line<K: LineReader>(
         return Ok(None);
     }
     let value = read_json(alloc, bytes)?;
-    Ok(Some(read_tree(alloc, reader, &value)?))
+    let line = read_tree(alloc, reader, &value);
+    drop(value);
+    Ok(Some(line?))
 }
 
 fn read_object<K: ObjectReader>(
@@ -124,9 +126,14 @@ fn read_any_object<K: ObjectReader>(
 {
     let value = read_json(alloc, bytes)?;
     if !value.is_object() {
+        drop(value);
         return Err(LineError::Unreadable(Defect::NotAnObject));
     }
-    read_object(alloc, reader, &Object::of_value(&value))
+    let object = Object::of_value(&value);
+    let line = read_object(alloc, reader, &object);
+    drop(object);
+    drop(value);
+    line
 }
 
 /// What is on a line, nothing on a blank one. So many bytes of lines, `trees`, are read as trees at once, this one's among them; a
@@ -148,7 +155,9 @@ pub fn read_object_line<K: ObjectReader>(
         return Ok(Some(read_any_object(alloc, reader, bytes)?));
     }
     if let Some(object) = read_plain_object(alloc, bytes, scratch)? {
-        return Ok(Some(read_object(alloc, reader, &object)?));
+        let line = read_object(alloc, reader, &object);
+        drop(object);
+        return Ok(Some(line?));
     }
     *trees = bytes.len().saturating_mul(TREES);
     if bytes.len() >= LONG {

@@ -1,6 +1,6 @@
 //! The object of a line, and its fields. A plain one lies in a row: its values are texts, whole numbers of 32 bits, flags and lists of
 //! such numbers, as those of nearly every line are. Any other is a tree of JSON values.
-ghost use Rattle.std.specs.Prelude.{IfOk, IfErr, false, ◌≡◌, ◌≤◌, length, [], option_map};
+ghost use Rattle.std.specs.Prelude.{IfOk, IfErr, OnOk, false, ◌≡◌, ◌≤◌, ◌++◌, ◌∷◌, length, [], Some, option_map};
 ghost use Rattle.patch_script.specs.Gives.{Gives, Fails};
 ghost use Rattle.patch_script.specs.Field.{whole, wholes, wholes_of, positive, writer_number, hex_bytes, needed, optional};
 ghost use Rattle.patch_script.specs.Name.{name_of};
@@ -118,6 +118,16 @@ fn as_whole(found: Entry<'_>, name: Name) -> Result<u32, LineError>
     }
 }
 
+/// A whole number of 32 bits above 0.
+fn as_positive(found: Entry<'_>, name: Name) -> Result<u32, LineError>
+    ensures { Gives result (positive (entry_data found.entry)) }
+{
+    match as_whole(found, name)? {
+        0 => Err(wrong(name)),
+        number => Ok(number),
+    }
+}
+
 fn as_flag(found: Entry<'_>, name: Name) -> Result<bool, LineError>
     ensures { Gives result (as_bool (entry_data found.entry)) }
 {
@@ -174,9 +184,19 @@ fn as_patches(alloc: Global, wholes: &[u32]) -> Result<Numbers, LineError>
 {
     let mut numbers = Vec::with_capacity(alloc, wholes.len())?;
     for whole in wholes {
-        numbers.push(PatchNo(*whole))?;
+        numbers.push_reserved(PatchNo(*whole));
     }
     Ok(Items::from_vec(numbers))
+}
+
+/// Adds the number of a JSON value to others.
+fn push_whole(numbers: &mut Vec<PatchNo>, value: &Value, name: Name) -> Result<(), LineError>
+    ensures ok { OnOk result (option_map (λ n. numbers.old.items ++ n ∷ []) (whole (view value.now)) ≡ Some numbers.new.items) }
+    ensures err { IfErr result (λ e. Fails e (whole (view value.now))) }
+{
+    let number = as_whole(Entry::Tree(value), name)?;
+    numbers.push(PatchNo(number))?;
+    Ok(())
 }
 
 /// The numbers of a list of JSON values.
@@ -185,7 +205,10 @@ fn numbers_in(alloc: Global, values: &Vec<Value>, name: Name) -> Result<Numbers,
 {
     let mut numbers = Vec::new(alloc);
     for value in values {
-        numbers.push(PatchNo(as_whole(Entry::Tree(value), name)?))?;
+        if let Err(error) = push_whole(&mut numbers, value, name) {
+            drop(numbers);
+            return Err(error);
+        }
     }
     Ok(Items::from_vec(numbers))
 }
@@ -229,10 +252,9 @@ impl<'a> Object<'a> {
     pub fn positive_number(&self, name: Name) -> Result<u32, LineError>
         ensures { Gives result (needed positive (name_of name) (object_data self.now)) }
     {
-        let found = found_at(self, name).ok_or(missing(name))?;
-        match as_whole(found, name)? {
-            0 => Err(wrong(name)),
-            number => Ok(number),
+        match found_at(self, name) {
+            Some(found) => as_positive(found, name),
+            None => Err(missing(name)),
         }
     }
 

@@ -49,17 +49,23 @@ pub fn read_lines<K: LineReader>(
         match read_line(alloc, reader, bytes) {
             Ok(None) => {}
             Ok(Some(line)) => {
-                if lines.push(line).is_err() {
+                if let Err(left) = lines.push(line) {
+                    drop(left);
+                    drop(lines);
                     return Err(ScriptError::OutOfMemory);
                 }
             }
             Err(LineError::Unreadable(defect)) => {
+                drop(lines);
                 return Err(ScriptError::BadLine {
                     line: number,
                     defect,
                 });
             }
-            Err(LineError::OutOfMemory) => return Err(ScriptError::OutOfMemory),
+            Err(LineError::OutOfMemory) => {
+                drop(lines);
+                return Err(ScriptError::OutOfMemory);
+            }
         }
     }
     Ok(lines)
@@ -83,17 +89,27 @@ pub fn read_objects<K: ObjectReader>(
         match read_object_line(alloc, reader, &mut scratch, &mut trees, bytes) {
             Ok(None) => (),
             Ok(Some(line)) => {
-                if found.push(line).is_err() {
+                if let Err(left) = found.push(line) {
+                    drop(left);
+                    drop(found);
+                    drop(scratch);
                     return Err(ScriptError::OutOfMemory);
                 }
             }
             Err(LineError::Unreadable(defect)) => {
+                drop(found);
+                drop(scratch);
                 let line = number;
                 return Err(ScriptError::BadLine { line, defect });
             }
-            Err(LineError::OutOfMemory) => return Err(ScriptError::OutOfMemory),
+            Err(LineError::OutOfMemory) => {
+                drop(found);
+                drop(scratch);
+                return Err(ScriptError::OutOfMemory);
+            }
         }
     }
+    drop(scratch);
     Ok(found)
 }
 

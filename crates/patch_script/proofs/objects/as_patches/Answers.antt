@@ -6,4 +6,4 @@ pub returns : goal.returns
 returns c =
     let over = c.loop-whole-test.false in
     let all : take c.loop-whole.whole-index c.args.wholes.now ≡ c.args.wholes.now = take_all c.loop-whole.whole-index c.args.wholes.now over in
-    wholes_fit c.args.wholes.now c.type_inv.wholes ∙ ap Some (sym (c.from_vec.ensures ∙ c.loop-whole.invariant ∙ all))
+    wholes_fit c.args.wholes.now c.type_inv.wholes ∙ ap Some (sym (c.from_vec.ensures ∙ c.loop-whole.invariant.taken ∙ all))
