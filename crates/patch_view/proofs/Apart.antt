@@ -1,5 +1,5 @@
 -- Classes of which no two have a common member.
-use Rattle.std.proofs.Common.{◌≡◌, ◌≢◌, ℕ, zero, suc, ◌+◌, ◌<◌, ◌≤◌, ◌⊎◌, ◌∙◌, true, false, not, inl, inr, List, [], ◌∷◌, ◌++◌, length, filter, get_or, set, get_or-set_same, get_or-set_other, refl, sym, ap, arith, subst, Bool, Option, Some, None}
+use Rattle.std.proofs.Common.{◌≡◌, ◌≢◌, ℕ, zero, suc, ◌+◌, min, ◌<◌, ◌≤◌, ◌⊎◌, ◌∙◌, true, false, not, inl, inr, List, [], ◌∷◌, ◌++◌, length, filter, get_or, set, get_or-set_same, get_or-set_other, refl, sym, ap, arith, subst, Bool, Option, Some, None}
 use Rattle.std.specs.Prelude.{is_some, ◌==◌, ◌&&◌, nat_lt, if◌then◌else◌}
 use Rattle.std.specs.List.{insert, remove, list_all}
 use Rattle.std.proofs.lemmas.Bool.{cases_Bool, cases_eq, cases_lt, cases_order, both_ways, and_parts, or_cases, eqb-true, ltb-true}
@@ -37,6 +37,12 @@ member_inside cs i n on = elim (cases_lt i (length cs)) [
   | inl w ↦ w
   | inr past ↦ absurd (both_ways _ (none_among cs i n past) on)
 ]
+
+pub none_apart : (cs : List Class) (m : Members) → cs ≡ [] → KnownApart m cs
+none_apart cs m empty known = record {
+  upto = λ i n on. let w = member_inside cs i n on in let l = ap length empty in absurd (omega (arith, w, l));
+  once = λ i j n on also. let w = member_inside cs i n on in let l = ap length empty in absurd (omega (arith, w, l));
+}
 
 -- each class came from a place of its own, or has the members of the one there
 places_apart : (old new : List Class) (newest : ℕ) (f : ℕ → ℕ)
@@ -265,3 +271,21 @@ not_some (Some i) e = absurd (cc)
 -- where less is known
 pub less_apart : (m : Members) (others : Bool) (cs : List Class) → KnownApart m cs → KnownApart (unless_other m others) cs
 less_apart m others cs a known = a (and_parts m.are_apart (not others) known).0
+
+-- A number below which none of the first classes has a member.
+
+pub lowest-first : (b : Block) (lowest i n : ℕ) → i < 0 → is_among (class_at b i).members n ≡ true → lowest ≤ n
+lowest-first b lowest i n none on = absurd (omega arith)
+
+pub lowest-next : (b : Block) (c : Class) (at before own lowest : ℕ) → c ≡ class_at b at → lowest ≡ min before own
+    → ((i n : ℕ) → i < at → is_among (class_at b i).members n ≡ true → before ≤ n) → ((n : ℕ) → is_among c.members n ≡ true → own ≤ n)
+    → (i n : ℕ) → i < at + 1 → is_among (class_at b i).members n ≡ true → lowest ≤ n
+lowest-next b c at before own lowest here is earlier of_own i n w on = elim (cases_eq i at) [
+  | inl e ↦ let least = of_own n (ap (λ k. is_among k.members n) here ∙ sym (ap (λ (z : ℕ). is_among (class_at b z).members n) e) ∙ on) in omega (arith, is, least)
+  | inr ne ↦ let least = earlier i n (omega (arith, w, ne)) on in omega (arith, is, least)
+]
+
+pub lowest-all : (b : Block) (count lowest : ℕ) → length b.classes ≤ count
+    → ((i n : ℕ) → i < count → is_among (class_at b i).members n ≡ true → lowest ≤ n)
+    → (i n : ℕ) → is_among (class_at b i).members n ≡ true → lowest ≤ n
+lowest-all b count lowest over all i n on = let w = member_inside b.classes i n on in all i n (omega (arith, w, over)) on

@@ -1,4 +1,5 @@
 pub mod Sets
+pub mod Reading
 pub mod Numbers
 pub mod Interleaving
 pub mod Naming

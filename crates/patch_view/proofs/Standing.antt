@@ -18,6 +18,9 @@ marked_inside q none cs i on = elim (cases_lt i (length cs)) [
   | inr past ↦ absurd (both_ways _ (ap q (get_or_past cs i no_class past) ∙ none) on)
 ]
 
+pub none_within : (q : Class → Bool) → q no_class ≡ false → (cs : List Class) (p : Places) → cs ≡ [] → StandWithin q p cs
+none_within q none cs p empty i on = let w = marked_inside q none cs i on in let l = ap length empty in absurd (omega (arith, w, l))
+
 -- what was changed has no such class unless there was one
 pub spread_within : (q : Class → Bool) → q no_class ≡ false → (old new : List Class) (p : Places) (n : ℕ) → length new ≤ n → StandWithin q p old
     → ((i : ℕ) → i < length new → q (get_or new i no_class) ≡ true → (j : ℕ) × (q (get_or old j no_class) ≡ true))

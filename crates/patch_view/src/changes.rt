@@ -277,6 +277,7 @@ impl<A: Allocator> BlockState<A> {
         self.taken = self.taken.spread_over(self.classes.len(), is_taken);
         self.flying = self.flying.spread_over(self.classes.len(), is_flying);
         forget(&mut self.image);
+        drop(upper);
     }
 
     /// Puts the record of the classes at two places in place of both. Where the higher one depends on none between them, as the
@@ -513,6 +514,7 @@ impl<A: Allocator> BlockState<A> {
     {
         let gone = self.classes.remove(at);
         forget_unless(&mut self.image, !gone.is_takeable());
+        drop(gone);
         trim_gap(&mut self.image, at, at + 1);
         self.taken = self.taken.spread(self.classes.len());
         self.flying = self.flying.spread(self.classes.len());

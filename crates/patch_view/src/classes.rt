@@ -1,5 +1,5 @@
 //! What a block keeps of a live class.
-ghost use Rattle.std.specs.Prelude.{ℕ, ◌≡◌, ◌||◌, ◌+◌, ◌≤◌, ◌++◌, ◌∷◌, length, IfOk, IsTrue, IsPermutation, true, false, [], min, max, replicate, ◌-◌};
+ghost use Rattle.std.specs.Prelude.{ℕ, ◌≡◌, ◌||◌, ◌+◌, ◌≤◌, ◌++◌, ◌∷◌, length, IfOk, OnOk, IsTrue, IsPermutation, true, false, [], min, max, replicate, ◌-◌};
 ghost use Rattle.std.specs.List.{list_any, list_all};
 ghost use Rattle.std.specs.List.Sorted.{IsNonDecreasing};
 ghost use Rattle.patch_model.specs.Entry.{is_among};
@@ -8,12 +8,15 @@ ghost use Rattle.patch_view.specs.State.{spans, follow_on, has_room_for, is_arou
 ghost use Rattle.patch_view.specs.Gaps.{saved_end, saves_any};
 ghost use Rattle.patch_view.specs.Rests.{IsFree, IsUnion, HasListsOf};
 
-use crate::number_lists::{NumberList, interleave, is_interleaved, is_listed, least_of, place_in};
+use crate::number_lists::{
+    NumberList, interleave, is_interleaved, is_listed, least_of, place_in, put_in_turn,
+};
 use crate::rests::Rests;
 use crate::spans::swap_span;
 use patch_model::{BLOCK, OutOfMemory, PatchNo};
 use std::alloc::{Allocator, Global};
 use std::marker::Model;
+use std::mem::replace;
 
 /// Which way a class is exchanged.
 #[derive(Clone, Copy)]
@@ -261,16 +264,52 @@ impl<A: Allocator> Class<A> {
         if growing && self.is_around(high) {
             return Ok(None);
         }
-        let width = self.stop.max(high.stop) - self.start.min(high.start);
-        let zeros = vec![in alloc.clone()?; 0u8; width]?;
-        if !growing {
-            let both = self.merged(alloc, high, zeros)?;
-            let class = Box::new(alloc.clone()?, both)?;
-            return Ok(Some(Drawn { class, growing }));
+        if growing {
+            self.drawn_growing(alloc, high)
+        } else {
+            self.drawn_whole(alloc, high)
         }
+    }
+
+    /// Draws up the record of both without lists, which this one's grow into.
+    fn drawn_growing(&self, alloc: &A, high: &Class<A>) -> Result<Option<Drawn<A>>, OutOfMemory>
+    where
+        A: Clone,
+        requires { has_room_for self.now high.now ≡ true }
+        ensures { IfOk result (λ drawn. IsDrawn self.now high.now drawn) }
+    {
+        let zeros = self.zeros_for(alloc, high)?;
         let both = self.merged_with(high, NumberList::none(), NumberList::none(), zeros);
-        let class = Box::new(alloc.clone()?, both)?;
-        Ok(Some(Drawn { class, growing }))
+        let class = boxed(alloc, both)?;
+        Ok(Some(Drawn {
+            class,
+            growing: true,
+        }))
+    }
+
+    /// Draws up the record of both with their lists.
+    fn drawn_whole(&self, alloc: &A, high: &Class<A>) -> Result<Option<Drawn<A>>, OutOfMemory>
+    where
+        A: Clone,
+        ensures { IfOk result (λ drawn. IsDrawn self.now high.now drawn) }
+    {
+        let zeros = self.zeros_for(alloc, high)?;
+        let both = self.merged(alloc, high, zeros)?;
+        let class = boxed(alloc, both)?;
+        Ok(Some(Drawn {
+            class,
+            growing: false,
+        }))
+    }
+
+    /// A zero for each byte from the first of this class and a higher one to the last.
+    fn zeros_for(&self, alloc: &A, high: &Class<A>) -> Result<Vec<u8, A>, OutOfMemory>
+    where
+        A: Clone,
+        ensures { IfOk result (λ zeros. zeros.items ≡ replicate (max self.now.stop high.now.stop - min self.now.start high.now.start) 0) }
+    {
+        let width = self.stop.max(high.stop) - self.start.min(high.start);
+        Ok(vec![in alloc.clone()?; 0u8; width]?)
     }
 
     /// This class and a higher one as one class: on the bytes that they share it has what this one saved. It has room for as
@@ -284,10 +323,14 @@ impl<A: Allocator> Class<A> {
         let most_members = self.members.len().saturating_add(high.members.len());
         let most_names = self.after.len().saturating_add(high.after.len());
         let room = most_members.max(most_names);
-        let (these, those) = (self.members.as_slice(), high.members.as_slice());
-        let members = NumberList::from_vec(both_lists(alloc.clone()?, these, those, room)?);
-        let (these, those) = (self.after.as_slice(), high.after.as_slice());
-        let after = NumberList::from_vec(both_lists(alloc.clone()?, these, those, room)?);
+        let members = both_lists(alloc, &self.members, &high.members, room)?;
+        let after = match both_lists(alloc, &self.after, &high.after, room) {
+            Ok(after) => after,
+            Err(refusal) => {
+                drop(members);
+                return Err(refusal);
+            }
+        };
         Ok(self.merged_with(high, members, after, zeros))
     }
 
@@ -344,7 +387,7 @@ impl<A: Allocator> Class<A> {
             has_their_span && self.is_called_by_a_member()
         } else {
             let is_of_both = class.is_union_of(self, high);
-            *self = class;
+            drop(replace(self, class));
             is_of_both
         }
     }
@@ -514,28 +557,56 @@ impl<A: Allocator> Class<A> {
     }
 }
 
-/// The numbers of two lists that rise, rising, with room for so many more. They are interleaved only where the one list doesn't
-/// follow the other.
-fn both_lists<A: Allocator>(
-    alloc: A,
-    these: &[PatchNo],
-    those: &[PatchNo],
+/// The record in memory of its own.
+fn boxed<A: Allocator + Clone>(alloc: &A, class: Class<A>) -> Result<Box<Class<A>, A>, OutOfMemory>
+    ensures { IfOk result (λ boxed. boxed.value ≡ class) }
+{
+    match alloc.clone() {
+        Ok(alloc) => Ok(Box::new(alloc, class)?),
+        Err(refusal) => {
+            drop(class);
+            Err(refusal.into())
+        }
+    }
+}
+
+/// The numbers of two lists that rise, rising, with room for so many more.
+fn both_lists<A: Allocator + Clone>(
+    alloc: &A,
+    these: &NumberList<A>,
+    those: &NumberList<A>,
     room: usize,
-) -> Result<Vec<PatchNo, A>, OutOfMemory>
-    requires these { IsNonDecreasing these.now }
-    requires those { IsNonDecreasing those.now }
-    ensures all { IfOk result (λ all. IsPermutation (these.now ++ those.now) all.items) }
+) -> Result<NumberList<A>, OutOfMemory>
+    requires these { IsNonDecreasing these.now.items }
+    requires those { IsNonDecreasing those.now.items }
+    ensures all { IfOk result (λ all. IsPermutation (these.now.items ++ those.now.items) all.items) }
     ensures rising { IfOk result (λ all. IsNonDecreasing all.items) }
 {
+    let (these, those) = (these.as_slice(), those.as_slice());
     let wanted = these.len().saturating_add(those.len()).saturating_add(room);
-    let mut all = Vec::with_capacity(alloc, wanted)?;
+    let mut all = Vec::with_capacity(alloc.clone()?, wanted)?;
+    put_both(&mut all, these, those)?;
+    Ok(NumberList::from_vec(all))
+}
+
+/// Puts the numbers of two lists that rise into an empty one, rising. They are interleaved only where the one list doesn't follow
+/// the other.
+fn put_both<A: Allocator>(
+    all: &mut Vec<PatchNo, A>,
+    these: &[PatchNo],
+    those: &[PatchNo],
+) -> Result<(), OutOfMemory>
+    requires empty { all.old.items ≡ [] }
+    requires these { IsNonDecreasing these.now }
+    requires those { IsNonDecreasing those.now }
+    ensures all { OnOk result (IsPermutation (these.now ++ those.now) all.new.items) }
+    ensures rising { OnOk result (IsNonDecreasing all.new.items) }
+{
     if follow_on(these, those) {
-        all.extend_from_slice(these)?;
-        all.extend_from_slice(those)?;
+        put_in_turn(all, these, those)
     } else {
-        interleave(&mut all, these, those)?;
+        interleave(all, these, those)
     }
-    Ok(all)
 }
 
 /// Whether of two lists that rise none of the second has a number below the last of the first.

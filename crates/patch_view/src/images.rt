@@ -214,7 +214,9 @@ pub(crate) fn gap_of_departing<A: Allocator>(
     requires gap { KnownGap image.now classes.now }
     ensures { IfSome result (λ gap. DepartsAlone classes.now at gap) }
 {
-    let image = image.as_ref()?;
+    let Some(image) = image else {
+        return None;
+    };
     if image.is_known() && classes[at].is_takeable() {
         gap_left(classes, image.gap, at)
     } else {

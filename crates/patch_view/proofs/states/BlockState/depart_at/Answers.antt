@@ -1,10 +1,13 @@
-use Rattle.std.proofs.Common.{◌≡◌, ◌<◌, ◌∙◌, length, ap, sym, subst, refl}
+use Rattle.std.proofs.Common.{◌≡◌, ◌<◌, ◌≤◌, ◌∙◌, length, set, ap, sym, subst, refl}
 use Rattle.std.proofs.lemmas.List.{get_or_default}
 use Rattle.patch_view.specs.State.{Class, no_class, departed}
 use Rattle.std.specs.Prelude.{Some}
 use Rattle.patch_view.specs.declared.gaps.Gap.{Gap}
 use Rattle.patch_view.specs.Gaps.{saved_end}
 use Rattle.patch_view.specs.Images.{DepartsAlone, KeepsSpan}
+use Rattle.patch_view.specs.State.{Block, departed_at}
+use Rattle.patch_view.specs.Images.{KnownGap}
+use Rattle.patch_view.proofs.Reading.{in_vec}
 use Rattle.patch_view.proofs.Standing.{kept_within, set_within}
 use Rattle.patch_view.proofs.Apart.{set_apart}
 use Rattle.patch_view.proofs.Covering.{IsLike, like_there, set_rests}
@@ -42,3 +45,29 @@ invariant_of-self g c =
       departed_gap c.self.inside.image c.keep_span.new.image c.self.inside.classes.items c.depart.new.self c.args.at c.start-start.result c.saved_end-stop.result c.self.inside.bytes.items
           c.gap_of_departing-gap.result within (is ∙ ap departed was) alone keeps,
     )
+
+pub gap_of_departing-gap-requires-clause-there : goal.gap_of_departing-gap-requires-clause-there
+gap_of_departing-gap-requires-clause-there g c =
+    subst (λ cs. c.args.at < length cs) (sym (c.as_slice.ensures.value ∙ ap (λ (b : Block). b.classes) c.self.view_is)) c.requires
+
+pub gap_of_departing-gap-requires-clause-gap : goal.gap_of_departing-gap-requires-clause-gap
+gap_of_departing-gap-requires-clause-gap g c = subst (KnownGap c.self.inside.image) (sym c.as_slice.ensures.value) c.self.invariant.6
+
+pub index_mut-class-requires : goal.index_mut-class-requires
+index_mut-class-requires g c = in_vec c.self.inside.classes c.args.at (subst (λ (b : Block). c.args.at < length b.classes) (sym c.self.view_is) c.requires)
+
+pub keep_span-requires-clause-range : goal.keep_span-requires-clause-range
+keep_span-requires-clause-range g c = subst (λ n. n ≤ c.saved_end-stop.result) (sym c.start-start.ensures) c.saved_end-stop.ensures.range
+
+pub keep_span-requires-clause-within : goal.keep_span-requires-clause-within
+keep_span-requires-clause-within g c = c.saved_end-stop.ensures.fits
+
+pub keep_span-requires-clause-length : goal.keep_span-requires-clause-length
+keep_span-requires-clause-length g c = ap length c.as_slice-2.ensures.value ∙ c.self.invariant.0
+
+pub returns : goal.returns
+returns g c =
+    let within : c.args.at < length c.self.inside.classes.items = subst (λ (b : Block). c.args.at < length b.classes) (sym c.self.view_is) c.requires in
+    let was = c.index_mut-class.ensures.value ∙ get_or_default c.self.inside.classes.items c.args.at c.index_mut-class.result.now no_class within in
+    ap (λ (k : Class). let b : Block = record { bytes = c.self.inside.bytes.items; classes = set c.self.inside.classes.items c.args.at k } in b) (c.depart.ensures ∙ ap departed was)
+    ∙ ap (λ (b : Block). departed_at b c.args.at) c.self.view_is

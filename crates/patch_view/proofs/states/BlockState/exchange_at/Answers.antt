@@ -1,6 +1,7 @@
-use Rattle.std.proofs.Common.{◌<◌, ◌∙◌, length, ap, sym, subst, refl}
+use Rattle.std.proofs.Common.{◌<◌, ◌∙◌, List, ℕ, length, set, ap, sym, subst, refl}
 use Rattle.std.proofs.lemmas.List.{with_items_is, get_or_default}
-use Rattle.patch_view.specs.State.{Class, no_class}
+use Rattle.patch_view.specs.State.{Class, Block, no_class, laid_on, exchanged_with, exchanged_at}
+use Rattle.patch_view.proofs.Reading.{in_vec}
 use Rattle.patch_view.proofs.Standing.{kept_within, set_within}
 use Rattle.patch_view.proofs.Apart.{set_apart}
 use Rattle.patch_view.proofs.Covering.{IsLike, like_there, set_rests}
@@ -31,3 +32,23 @@ invariant_of-self g c =
       (λ m is on. no_image c.forget.new.image m c.forget.ensures is on),
       (λ m is on. no_image c.forget.new.image m c.forget.ensures is on),
     )
+
+pub index_mut-class-requires : goal.index_mut-class-requires
+index_mut-class-requires g c = in_vec c.self.inside.classes c.args.at (subst (λ (b : Block). c.args.at < length b.classes) (sym c.self.view_is) c.requires)
+
+pub exchange-requires : goal.exchange-requires
+exchange-requires g c = ap length c.as_mut_slice.ensures.value ∙ c.self.invariant.0
+
+pub returns : goal.returns
+returns g c =
+    let within : c.args.at < length c.self.inside.classes.items = subst (λ (b : Block). c.args.at < length b.classes) (sym c.self.view_is) c.requires in
+    let held : Class = c.index_mut-class.result.now in
+    let bytes : List ℕ = c.self.inside.bytes.items in
+    let is_held = c.as_mut_slice.ensures.value in
+    let was = c.index_mut-class.ensures.value ∙ get_or_default c.self.inside.classes.items c.args.at held no_class within in
+    let laid = with_items_is c.self.inside.bytes c.exchange.new.bytes (c.exchange.auto.bytes ∙ c.as_mut_slice.ensures.len) ∙ c.exchange.ensures.laid ∙ ap (laid_on held) is_held in
+    let exchanged = c.exchange.ensures.class ∙ ap (λ (bs : List ℕ). exchanged_with held bs c.args.turn) is_held in
+    ap (λ (bs : List ℕ). let b : Block = record { bytes = bs; classes = set c.self.inside.classes.items c.args.at c.exchange.new.self } in b) laid
+    ∙ ap (λ (k : Class). let b : Block = record { bytes = laid_on held bytes; classes = set c.self.inside.classes.items c.args.at k } in b) exchanged
+    ∙ ap (λ (k : Class). let b : Block = record { bytes = laid_on k bytes; classes = set c.self.inside.classes.items c.args.at (exchanged_with k bytes c.args.turn) } in b) was
+    ∙ ap (λ (b : Block). exchanged_at b c.args.at c.args.turn) c.self.view_is

@@ -1,8 +1,8 @@
-use Rattle.std.proofs.Common.{◌≡◌, ◌∷◌, [], ◌++◌, false, inr, rules, ◌+◌, ap, ◌∙◌, length, sym, refl, ◌≤◌, List, ℕ, Bool, not, arith}
+use Rattle.std.proofs.Common.{◌≡◌, ◌∷◌, [], ◌++◌, false, inr, rules, ◌+◌, ap, ◌∙◌, length, sym, subst, refl, ◌≤◌, List, ℕ, Bool, not, arith}
 use Rattle.std.specs.Prelude.{◌==◌, if◌then◌else◌}
 use Rattle.std.proofs.lemmas.List.{with_items_is}
 use Rattle.std.proofs.lemmas.Result.{MatchResult-from_err}
-use Rattle.patch_view.specs.State.{Class, is_takeable, laid_over}
+use Rattle.patch_view.specs.State.{Class, Block, is_takeable, laid_over, with_laid}
 use Rattle.patch_view.proofs.Standing.{pushed_within}
 use Rattle.patch_view.proofs.Apart.{laid_apart}
 use Rattle.patch_view.proofs.Covering.{laid_rests}
@@ -53,3 +53,56 @@ pub returns-in_err-enter-clause-entered : goal.returns-in_err-enter-clause-enter
 returns-in_err-enter-clause-entered g c =
     MatchResult-from_err _ _ _ c.from_residual-in_err-enter.ensures.0
     (λ _. inr (c.in_err-enter.field-0.0, record { shown = _; shows = refl; left = _; met = c.in_err-enter.ensures; leaves = refl }))
+
+pub invariant_of-self : goal.invariant_of-self
+invariant_of-self g c = let same = c.in_err-make_record_room.ensures.same in rw same c.self.invariant
+
+pub put_over-requires-clause-fits : goal.put_over-requires-clause-fits
+put_over-requires-clause-fits g c =
+    let long = ap length c.as_mut_slice-block.ensures.value ∙ c.self.invariant.0 in
+    subst (λ (n : ℕ). c.args.start + length c.args.bytes.now ≤ n) (sym long) c.requires.fits
+
+pub put_over-requires-clause-same : goal.put_over-requires-clause-same
+put_over-requires-clause-same g c = c.as_mut_slice.ensures.value ∙ c.in_ok-saved.ensures
+
+pub new-class-requires-clause-fits : goal.new-class-requires-clause-fits
+new-class-requires-clause-fits g c = c.requires.fits
+
+pub push_reserved-requires : goal.push_reserved-requires
+push_reserved-requires g c = c.in_ok-make_record_room.ensures.room
+
+pub returns-clause-done : goal.returns-clause-done
+returns-clause-done g c =
+    let start : ℕ = c.args.start in
+    let bytes : List ℕ = c.args.bytes.now in
+    let hard : Bool = c.args.hard in
+    let before : List ℕ = c.self.inside.bytes.items in
+    let classes : List Class = c.self.inside.classes.items in
+    let buffer : c.as_mut_slice-block.result.now ≡ before = c.as_mut_slice-block.ensures.value in
+    let laid : (with_items c.self.inside.bytes c.put_over.new.buffer).items ≡ laid_over start bytes before =
+    with_items_is c.self.inside.bytes c.put_over.new.buffer (c.put_over.auto.buffer ∙ c.as_mut_slice-block.ensures.len) ∙ c.put_over.ensures.laid
+    ∙ ap (laid_over start bytes) buffer in
+    let saves : (with_items c.in_ok-saved.saved c.put_over.new.saved).items ≡ (if hard then [] else slice_range before start (start + length bytes)) =
+    with_items_is c.in_ok-saved.saved c.put_over.new.saved (c.put_over.auto.saved ∙ c.as_mut_slice.ensures.len) ∙ c.put_over.ensures.kept
+    ∙ ap (λ (z : List ℕ). if hard then [] else slice_range z start (start + length bytes)) buffer in
+    let items : c.push_reserved.new.self.items ≡ classes ++ c.new-class.result ∷ [] =
+    c.push_reserved.ensures.items ∙ ap (λ (ks : List Class). ks ++ c.new-class.result ∷ []) c.in_ok-make_record_room.ensures.same in
+    let with_class = λ (saved : List ℕ). let b : Block = record {
+      bytes = laid_over start bytes before;
+      classes = classes ++ (record {
+        name = c.args.no;
+        members = c.args.no ∷ [];
+        start = start;
+        stop = start + length bytes;
+        saved = saved;
+        after = c.args.all.items;
+        flying = false;
+        hard = hard;
+        taken = false;
+        room = 0;
+      }) ∷ [];
+    } in b in
+    ap (λ (bs : List ℕ). let b : Block = record { bytes = bs; classes = c.push_reserved.new.self.items } in b) laid
+    ∙ ap (λ (ks : List Class). let b : Block = record { bytes = laid_over start bytes before; classes = ks } in b) (items ∙ ap (λ (k : Class). classes ++ k ∷ []) c.new-class.ensures)
+    ∙ ap with_class saves
+    ∙ ap (λ (b : Block). with_laid b c.args.no start bytes c.args.all.items hard) c.self.view_is

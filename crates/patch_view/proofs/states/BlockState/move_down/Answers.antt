@@ -2,6 +2,7 @@ use Rattle.std.proofs.Common.{◌≡◌, [], false, ◌≤◌, arith, ap, sym, s
 use Rattle.std.proofs.lemmas.List.{with_items_is}
 use Rattle.std.specs.List.{insert, remove}
 use Rattle.patch_view.specs.State.{Block, no_class, follows, moved_down, Class, TakenWithin, FlyingWithin, KnownApart}
+use Rattle.patch_view.proofs.Reading.{next_not_past, below_next, part_some}
 use Rattle.patch_view.proofs.Moving.{length-moved}
 use Rattle.patch_view.proofs.Standing.{moved_within}
 use Rattle.patch_view.proofs.Apart.{moved_apart}
@@ -45,3 +46,19 @@ invariant_of-self g c =
       (λ m is on. no_image c.forget.new.image m c.forget.ensures is on),
       (λ m is on. no_image c.forget.new.image m c.forget.ensures is on),
     )
+
+pub slice_bounds-passed-start : goal.slice_bounds-passed-start
+slice_bounds-passed-start g c = below_next c.args.front c.args.k c.requires.down
+
+pub slice_bounds-passed-count : goal.slice_bounds-passed-count
+slice_bounds-passed-count g c = below_next c.args.front c.args.k c.requires.down
+
+pub slice_bounds-passed-end : goal.slice_bounds-passed-end
+slice_bounds-passed-end g c =
+    let within : c.args.k < length c.deref_mut.result.now = rw (c.deref_mut.ensures.value ∙ ap (λ b. b.classes) c.self.view_is) c.requires.within in
+    next_not_past c.args.k (length c.deref_mut.result.now) within
+
+pub rotate_right-requires : goal.rotate_right-requires
+rotate_right-requires g c =
+    let within : c.args.k < length c.deref_mut.result.now = rw (c.deref_mut.ensures.value ∙ ap (λ b. b.classes) c.self.view_is) c.requires.within in
+    part_some c.deref_mut.result.now c.args.front c.args.k c.requires.down within
