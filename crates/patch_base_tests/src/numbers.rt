@@ -1,7 +1,7 @@
-//! Numbers put into lists that are short, long, and long again.
+//! Numbers put into lists that are short, long, and long again, and into sets.
 use crate::expecting::expect_eq;
 use patch_model::PatchNo;
-use patch_numbers::NumberList;
+use patch_numbers::{BlockSet, NumberList};
 use std::test::Fail;
 
 const NUMBERS: [PatchNo; 5] = [PatchNo(9), PatchNo(3), PatchNo(7), PatchNo(1), PatchNo(4)];
@@ -61,5 +61,21 @@ fn numbers_come_one_by_one_where_there_is_room(rt: HostRuntime) -> Result<(), Fa
         list.push_reserved(no);
     }
     expect_eq(&rt, &list.as_slice(), &NUMBERS.as_slice());
+    Ok(())
+}
+
+#[test]
+fn the_least_number_of_a_set_is_found_from_one_on(rt: HostRuntime) -> Result<(), Fail> {
+    let mut set = BlockSet::new();
+    expect_eq(&rt, &set.least_from(0), &None);
+    for number in [4095, 64, 7, 700] {
+        set.insert(number);
+    }
+    expect_eq(&rt, &set.least_from(0), &Some(7));
+    expect_eq(&rt, &set.least_from(8), &Some(64));
+    expect_eq(&rt, &set.least_from(65), &Some(700));
+    set.remove(700);
+    expect_eq(&rt, &set.least_from(65), &Some(4095));
+    expect_eq(&rt, &set.least_from(4096), &None);
     Ok(())
 }

@@ -1,5 +1,4 @@
-pub mod BlockSets
-pub mod Waiting
+pub mod Shut
 pub mod Opening
 pub mod GivingUp
 pub mod Permitting
@@ -26,4 +25,5 @@ pub mod Serving
 pub mod Single
 pub mod Counting
 pub mod Waving
+pub mod GivenUp
 pub mod Passing

@@ -44,10 +44,10 @@ lengths (c ∷ cs) [] all = absurd all
 lengths (c ∷ cs) (g ∷ gs) all = (all.0.coherent.long, lengths cs gs all.1)
 
 -- a cache of these blocks, with nothing made, sent or in flight
-pub opened : (blocks : List Block) (bytes : List (List ℕ)) (writes : List (Option Write)) (n : ℕ) (g : Graph) (trace : List Step) (waiting : List ℕ) → AreUnpatched blocks bytes → IsGraphOf g []
+pub opened : (blocks : List Block) (bytes : List (List ℕ)) (writes : List (Option Write)) (n : ℕ) (g : Graph) (trace : List Step) → AreUnpatched blocks bytes → IsGraphOf g []
     → writes ≡ replicate n None → n ≡ length bytes → 0 < length bytes → length bytes ≤ MAX_BLOCKS
-    → Represents (record { blocks = blocks; writes = writes; graph = g; sends = 0; live = 0; trace = trace; waiting = waiting }) (record { first = bytes; steps = [] })
-opened blocks bytes writes n g trace waiting all empty none long some few = record {
+    → Represents (record { blocks = blocks; writes = writes; graph = g; sends = 0; live = 0; trace = trace }) (record { first = bytes; steps = [] })
+opened blocks bytes writes n g trace all empty none long some few = record {
   legal = record { some = some; few = few; blocks = All-from_recursion (λ b. length b ≡ BLOCK) bytes (lengths blocks bytes all); steps = tt };
   count = as_many blocks bytes all;
   blocks = λ b h. each blocks bytes b all h;
@@ -55,7 +55,6 @@ opened blocks bytes writes n g trace waiting all empty none long some few = reco
   graph = empty;
   sends = refl;
   live = refl;
-  waiting = λ b known none. inr refl;
 }
 
 pub as_long : {X : Type 0} (n : ℕ) (none : X) → length (replicate n none) ≡ n

@@ -18,10 +18,11 @@ use Rattle.patch_model.specs.Refusing.{why_not_sent}
 use Rattle.patch_model.specs.Member.{In, Contains-from_In, filter-In}
 use Rattle.patch_model.specs.Pile.{pile}
 use Rattle.patch_model.specs.History.{history_of, image, cached}
+use Rattle.patch_graph.specs.Between.{HasNoRing}
+use Rattle.patch_graph.specs.Meaning.{Represents as IsGraphOf}
+use Rattle.patch_graph.specs.Ready.{IsShut}
 use Rattle.patch_cache.specs.Contents.{Contents}
 use Rattle.patch_cache.specs.Running.{Runs, RunsBeside, held_by}
-use Rattle.patch_cache.specs.BlockSets.{holds}
-use Rattle.patch_cache.specs.Waiting.{AreWaiting}
 use Rattle.patch_cache.specs.Flights.{AreFlightsOf}
 use Rattle.patch_cache.specs.Waves.{is_send, steps_since, classes_in_memory, live_classes, HasGoneOnBeside, HasKept, Continues, EndsOne, HoldsBegun, begun, IsPass, IsFlushed, IsSentOr}
 use Rattle.patch_cache.specs.declared.flights.Flights.{Flights}
@@ -29,7 +30,7 @@ use Rattle.patch_cache.specs.declared.flights.Flight.{Flight as Held}
 use Rattle.patch_cache.proofs.Crashing.{DisksStay, TrailsJoin, unwritten_step}
 use Rattle.patch_cache.proofs.Holding.{StatesExtend, ImagesStay}
 use Rattle.patch_cache.proofs.Counting.{count_le, count-append}
-use Rattle.patch_cache.proofs.Waiting.{none_between}
+use Rattle.patch_cache.proofs.Shut.{FlyingLaw, RingLaw, none_between}
 use Rattle.patch_cache.proofs.Waving.{since_is, since_both, sends_since, continues, gone_still, gone_send, gone_both, kept_unmoved, kept_both, went_by, keeps_by, fewer_sent, images_sent}
 
 -- the law of what a write of a block needs
@@ -156,16 +157,18 @@ pass_more join {others = others} extend stay disks orderly largest law run at be
 pub pass_begun : {A : Type 0} {others : Bool} (run : Execution) (cache : Contents) (flights : Flights A) → RunsBeside others cache flights run → Passed others run 0 false [] cache flights
 pass_begun run cache flights runs = record { gone = gone_still run cache flights runs; kept = λ had contents. kept_unmoved run had contents; pass = (refl, λ b within why. omega (arith, within)) }
 
--- a pass up to one block is one up to another, if none of the blocks between waits
-pub pass_skipped : LargestLaw → SentLaw → {A : Type 0} {others : Bool} → (run : Execution) (from at : ℕ) (sent : Bool) (steps : List Step) (cache : Contents) (flights : Flights A)
-    → ((b : ℕ) → from ≤ b → b < at → holds cache.waiting b ≡ false) → Passed others run from sent steps cache flights → Passed others run at sent steps cache flights
-pass_skipped largest law run from at true steps cache flights none first = record { gone = first.gone; kept = first.kept; pass = first.pass }
-pass_skipped largest law run from at false steps cache flights none first =
+-- a pass up to one block is one up to another, if the blocks between are shut
+pub pass_skipped : RingLaw → FlyingLaw → SentLaw → {A : Type 0} {others : Bool} → (run : Execution) (from at : ℕ) (sent : Bool) (steps : List Step) (cache : Contents) (flights : Flights A)
+    → ((all : List Entry) → IsGraphOf cache.graph all → HasNoRing all → (b : ℕ) → from ≤ b → b < at → IsShut all b) → Passed others run from sent steps cache flights → Passed others run at sent steps cache flights
+pass_skipped ring flying law run from at true steps cache flights none first = record { gone = first.gone; kept = first.kept; pass = first.pass }
+pass_skipped ring flying law run from at false steps cache flights none first =
     let same = same_run run steps first.pass.0 in
-    let are = subst (AreWaiting cache.waiting) same first.gone.runs.cache_is.waiting in record {
+    let is = first.gone.runs.cache_is in
+    let legal : IsLegal run = subst IsLegal same is.legal in
+    let shut = none (entries_of run) (subst (λ r. IsGraphOf cache.graph (entries_of r)) same is.graph) (λ x y apart to back. ring run x y legal to back) in record {
       gone = first.gone;
       kept = first.kept;
-      pass = (first.pass.0, λ b within why. none_between run cache.waiting from b are (largest run) (λ n this. ((law run n).0 this).0) first.pass.1 (λ over. none b over within) why);
+      pass = (first.pass.0, λ b within why. none_between flying run from b legal (λ n this. ((law run n).0 this).0) first.pass.1 (λ over. shut b over within) why);
     }
 
 pub pass_ended : SentLaw → (run : Execution) (at : ℕ) (sent : Bool) (steps : List Step) → length run.first ≤ at → IsPassTo run at sent steps → IsPass run sent steps

@@ -39,7 +39,6 @@ shows_alike c s t run same r = record {
   graph = r.graph;
   sends = r.sends;
   live = r.live;
-  waiting = r.waiting;
 }
 
 only_here : (block n : ℕ) (names : List ℕ) → n ≡ block → only_of block names n ≡ names
@@ -83,7 +82,6 @@ in_place c block b names now run h r at = record {
   graph = r.graph;
   sends = r.sends;
   live = r.live;
-  waiting = r.waiting;
 }
 
 -- the block is lent from its place of the cache, which showed what it shows now

@@ -1,5 +1,5 @@
 -- A step that changes one block and the graph, and no write under way.
-use Rattle.std.proofs.Common.{◌≡◌, ◌≢◌, ℕ, ◌<◌, ◌∙◌, List, [], Option, Some, None, Result, Ok, Err, inl, inr, length, get_or, set, refl, sym, ap, subst, arith}
+use Rattle.std.proofs.Common.{◌≡◌, ◌≢◌, ℕ, ◌+◌, ◌<◌, ◌≤◌, ◌∙◌, List, [], Option, Some, None, Result, Ok, Err, inl, inr, length, get_or, set, refl, sym, ap, subst, arith}
 use Rattle.std.specs.Prelude.{count_by, slice_set}
 use Rattle.std.specs.Result.{OnErr}
 use Rattle.std.proofs.lemmas.Bool.{cases_eq}
@@ -17,8 +17,6 @@ use Rattle.patch_graph.specs.State.{Graph}
 use Rattle.patch_graph.specs.Meaning.{Represents as IsGraphOf}
 use Rattle.patch_cache.specs.Contents.{Contents, Write, no_block}
 use Rattle.patch_cache.specs.Meaning.{Represents, IsWriteOf}
-use Rattle.patch_cache.specs.Waiting.{IsWithBlock}
-use Rattle.patch_cache.proofs.Waiting.{kept_waiting}
 
 -- the step lets the writes be, and the blocks but for one
 pub record StepsOn (run : Execution) (step : Step) (block : ℕ) : Type 0 where
@@ -45,10 +43,10 @@ block_stays blocks block state run next b h elsewhere here was = elim (cases_eq 
 ]
 
 -- the cache after it
-pub stepped : (c : Contents) (run : Execution) (step : Step) (block place : ℕ) (state : Block) (graph : Graph) (live : ℕ) (trace : List Step) (waiting : List ℕ) → place ≡ block → Represents c run → StepsOn run step block
-    → IsWithBlock place c.waiting waiting → block < length run.first → IsBlockOf state [] (history_of (extended run step) block) → IsGraphOf graph (entries_of (extended run step)) → live ≡ count_by is_live (entries_of (extended run step))
-    → Represents (record { blocks = slice_set c.blocks place state; writes = c.writes; graph = graph; sends = c.sends; live = live; trace = trace; waiting = waiting }) (extended run step)
-stepped c run step block place state graph live trace waiting there was on more h here holds counted = record {
+pub stepped : (c : Contents) (run : Execution) (step : Step) (block place : ℕ) (state : Block) (graph : Graph) (live : ℕ) (trace : List Step) → place ≡ block → Represents c run → StepsOn run step block
+    → block < length run.first → IsBlockOf state [] (history_of (extended run step) block) → IsGraphOf graph (entries_of (extended run step)) → live ≡ count_by is_live (entries_of (extended run step))
+    → Represents (record { blocks = slice_set c.blocks place state; writes = c.writes; graph = graph; sends = c.sends; live = live; trace = trace }) (extended run step)
+stepped c run step block place state graph live trace there was on h here holds counted = record {
   legal = on.legal;
   count = length-set c.blocks place state ∙ was.count;
   blocks = λ b k.
@@ -58,7 +56,6 @@ stepped c run step block place state graph live trace waiting there was on more 
   graph = holds;
   sends = was.sends ∙ sym on.sends;
   live = counted;
-  waiting = kept_waiting run step block c.waiting waiting on.flights on.elsewhere (subst (λ (n : ℕ). IsWithBlock n c.waiting waiting) there more) was.waiting;
 }
 
 -- the block at a place, as it is lent
@@ -80,3 +77,18 @@ unchanged c blocks graph trace a b d = rw (a, b, d) refl
 pub on_err : {T E P : Type 0} → (r : Result T E) → P → OnErr r P
 on_err (Ok x) p = tt
 on_err (Err x) p = p
+
+-- a step that was noted leaves the trace room for each write under way
+pub noted_fits : (more had long under before after : ℕ) → long ≡ had → more ≡ had + 1 → long + (under + 1) ≤ before → after ≡ before → more + under ≤ after
+noted_fits more had long under before after is one room same = omega arith
+
+-- a block of the cache has its place
+pub within : (c now : Contents) (block place long : ℕ) → place ≡ block → c ≡ now → block < length now.blocks → long ≡ length c.blocks → place < long
+within c now block place long there same known is = let many = ap (λ (v : Contents). length v.blocks) same in omega arith
+
+-- a place below the count of blocks that was read is that of a block, and of its write
+pub below_count : (c now : Contents) (block place found long : ℕ) → place ≡ block → c ≡ now → long ≡ length c.blocks → found ≡ long → place < found → block < length now.blocks
+below_count c now block place found long there same known read below = let many = ap (λ (v : Contents). length v.blocks) same in omega arith
+
+pub below_writes : (place found long wide blocks writes : ℕ) → found ≡ long → long ≡ blocks → wide ≡ writes → writes ≡ blocks → place < found → place < wide
+below_writes place found long wide blocks writes read known as_wide same below = omega arith

@@ -19,7 +19,6 @@ use Rattle.patch_graph.specs.State.{Graph}
 use Rattle.patch_graph.specs.Meaning.{Represents as IsGraphOf}
 use Rattle.patch_cache.specs.Contents.{Contents, Write, no_block}
 use Rattle.patch_cache.specs.Meaning.{Represents, IsWriteOf}
-use Rattle.patch_cache.specs.Waiting.{AreWaiting}
 
 -- what is known of an execution's new step, which is of the one block
 pub record IsStepOf (run : Execution) (step : Step) (block : ℕ) : Type 0 where
@@ -28,12 +27,12 @@ pub record IsStepOf (run : Execution) (step : Step) (block : ℕ) : Type 0 where
   pub others : (other : ℕ) → other ≢ block → history_of (extended run step) other ≡ history_of run other
   pub writes : (other : ℕ) (w : Option Write) → other ≢ block → IsWriteOf run other w → IsWriteOf (extended run step) other w
 
-pub stepped : (run : Execution) (step : Step) (c : Contents) (i block : ℕ) (b : Block) (w : Option Write) (g : Graph) (sends live : ℕ) (trace : List Step) (waiting : List ℕ)
+pub stepped : (run : Execution) (step : Step) (c : Contents) (i block : ℕ) (b : Block) (w : Option Write) (g : Graph) (sends live : ℕ) (trace : List Step)
     → i ≡ block → Represents c run → length c.writes ≡ length c.blocks → IsStepOf run step block
     → IsBlockOf b [] (history_of (extended run step) block) → IsWriteOf (extended run step) block w → IsGraphOf g (entries_of (extended run step))
-    → sends ≡ (state_of (extended run step)).sends → live ≡ count_by is_live (entries_of (extended run step)) → AreWaiting waiting (extended run step)
-    → Represents (record { blocks = set c.blocks i b; writes = set c.writes i w; graph = g; sends = sends; live = live; trace = trace; waiting = waiting }) (extended run step)
-stepped run step c i block b w g sends live trace waiting place at long is new write graph same_sends same_live waits = record {
+    → sends ≡ (state_of (extended run step)).sends → live ≡ count_by is_live (entries_of (extended run step))
+    → Represents (record { blocks = set c.blocks i b; writes = set c.writes i w; graph = g; sends = sends; live = live; trace = trace }) (extended run step)
+stepped run step c i block b w g sends live trace place at long is new write graph same_sends same_live = record {
   legal = is.legal;
   count = length-set c.blocks i b ∙ at.count;
   blocks = λ other h. elim (cases_Bool (other == block)) [
@@ -61,7 +60,6 @@ stepped run step c i block b w g sends live trace waiting place at long is new w
   graph = graph;
   sends = same_sends;
   live = same_live;
-  waiting = waits;
 }
 
 -- a write that begins is one of its block, and those of other blocks are as they were

@@ -10,7 +10,7 @@ pub record Write : Type 0 where
   pub numbers : List ℕ
 
 -- each block with its records and its write under way, the graph of the patches, how many writes began, how many patches
--- are live, the steps since the trace was drained, and the set of the blocks of which a write may begin
+-- are live, and the steps since the trace was drained
 pub record Contents : Type 0 where
   pub blocks : List Block
   pub writes : List (Option Write)
@@ -18,7 +18,6 @@ pub record Contents : Type 0 where
   pub sends : ℕ
   pub live : ℕ
   pub trace : List Step
-  pub waiting : List ℕ
 
 abbrev pub no_block : Block
 no_block = record { bytes = []; classes = [] }

@@ -1,6 +1,4 @@
-pub mod BlockSets
 pub mod Contents
-pub mod Waiting
 pub mod Meaning
 pub mod Opening
 pub mod Refusals

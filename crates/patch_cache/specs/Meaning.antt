@@ -8,7 +8,6 @@ use Rattle.patch_model.specs.History.{history_of}
 use Rattle.patch_view.specs.Meaning.{Represents as IsBlockOf}
 use Rattle.patch_graph.specs.Meaning.{Represents as IsGraphOf}
 use Rattle.patch_cache.specs.Contents.{Contents, Write, block_at, write_at}
-use Rattle.patch_cache.specs.Waiting.{AreWaiting}
 
 -- the block's write under way, or that it has none
 abbrev pub IsWriteOf : Execution → ℕ → Option Write → Type 0
@@ -16,7 +15,7 @@ IsWriteOf run block None = IsFalse (has_flight (state_of run) block)
 IsWriteOf run block (Some write) = Contains (state_of run).flights (block, write.sequence) × (write.numbers ≡ numbers_of (flying_of (entries_of run) block))
 
 -- The cache holds what a legal execution left: each block with its patches but for the classes that are taken back of it,
--- the graph of its live patches, their count, the count of sends, each write under way, and which blocks may be sent.
+-- the graph of its live patches, their count, the count of sends, and each write under way.
 pub record Shows (c : Contents) (taken : ℕ → List ℕ) (run : Execution) : Type 0 where
   pub legal : IsLegal run
   pub count : length c.blocks ≡ length run.first
@@ -25,7 +24,6 @@ pub record Shows (c : Contents) (taken : ℕ → List ℕ) (run : Execution) : T
   pub graph : IsGraphOf c.graph (entries_of run)
   pub sends : c.sends ≡ (state_of run).sends
   pub live : c.live ≡ count_by is_live (entries_of run)
-  pub waiting : AreWaiting c.waiting run
 
 -- with nothing taken back
 abbrev pub Represents : Contents → Execution → Type 0

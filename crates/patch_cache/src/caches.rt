@@ -11,7 +11,6 @@ ghost use Rattle.patch_cache.specs.Meaning.{Represents};
 ghost use Rattle.patch_cache.specs.Flights.{IsLeastReady};
 ghost use Rattle.patch_cache.specs.Opening.{AreUnpatched};
 
-use crate::block_sets::BlockSet;
 use crate::writes::Write;
 use patch_graph::Graph;
 use patch_model::{
@@ -36,8 +35,6 @@ pub struct Cache<A: Allocator + Copy = Global> {
     pub(crate) trace: Vec<Step<A>, A>,
     /// How many blocks have a write under way: the trace keeps room for the completion of each.
     pub(crate) under_way: usize,
-    /// Each block that has a patch in memory or in flight, and no write under way. It may hold others too.
-    pub(crate) waiting: BlockSet,
 }
 
 impl<A: Allocator + Copy> Model for Cache<A> {
@@ -55,7 +52,6 @@ impl<A: Allocator + Copy> Model for Cache<A> {
       sends = c.sends;
       live = c.live;
       trace = map step_of c.trace.items;
-      waiting = c.waiting;
     } };
 
     ghost invariant = { λ c. (length c.writes.items ≡ length c.blocks.items)
@@ -84,7 +80,6 @@ impl<A: Allocator + Copy> Cache<A> {
             live: 0,
             trace: Vec::new(alloc),
             under_way: 0,
-            waiting: BlockSet::new(),
         })
     }
 
@@ -135,16 +130,11 @@ impl<A: Allocator + Copy> Cache<A> {
     {
         model_laws::some_is_ready();
         model_laws::pairs_merge();
+        model_laws::patches_are_placed();
+        model_laws::flights_are_single();
+        model_laws::paths_form_no_ring();
         model_laws::ready_is_largest();
-        let mut from = 0;
-        while let Some(at) = self.waiting.least_from(from) {
-            let block = BlockNo(at as u32);
-            if self.why_not_sent(block).is_none() {
-                return Some(block);
-            }
-            from = at + 1;
-        }
-        None
+        self.graph.next_open(0)
     }
 
     /// The steps that were accepted since the trace was drained last, the oldest first.

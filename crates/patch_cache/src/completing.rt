@@ -5,14 +5,11 @@ ghost use Rattle.patch_model.specs.Step.{Complete};
 ghost use Rattle.patch_model.specs.State.{state_of};
 ghost use Rattle.patch_cache.specs.Meaning.{Represents};
 ghost use Rattle.patch_cache.specs.Flights.{IsEnded, IsWithdrawn};
-ghost use Rattle.patch_cache.specs.Waiting.{IsWithLive};
 
-use crate::block_sets::BlockSet;
 use crate::caches::Cache;
 use crate::flights::Landed;
 use crate::writes::{Done, Write};
-use patch_model::{BlockNo, MAX_BLOCKS, Step, laws as model_laws};
-use patch_view::BlockState;
+use patch_model::{BlockNo, Step, laws as model_laws};
 use std::alloc::Allocator;
 
 impl<A: Allocator + Copy> Cache<A> {
@@ -40,23 +37,12 @@ impl<A: Allocator + Copy> Cache<A> {
         let numbers = write.numbers;
         let state = &mut self.blocks[block.0 as usize];
         state.land_each();
-        stay_waiting(&mut self.waiting, state, block);
         self.graph.mark_durable(block);
         let live = self.live as usize;
         self.live = live.saturating_sub(numbers.as_slice().len()) as u32;
         self.under_way -= 1;
         self.trace.push_reserved(Step::Complete { block });
         Ok(Done { block, numbers })
-    }
-}
-
-/// Puts a block that has a patch in memory into the set.
-fn stay_waiting<A: Allocator>(waiting: &mut BlockSet, state: &BlockState<A>, block: BlockNo)
-    requires { block < MAX_BLOCKS }
-    ensures { IsWithLive block state.now waiting.old waiting.new }
-{
-    if !state.is_clear() {
-        waiting.insert(block.0 as usize);
     }
 }
 

@@ -131,8 +131,7 @@ impl<A: Allocator + Copy> Cache<A> {
         model_laws::live_are_counted();
         model_laws::flights_are_ready();
         self.trace.reserve(self.under_way + 1)?;
-        let at = block.0 as usize;
-        let state = &mut self.blocks[at];
+        let state = &mut self.blocks[block.0 as usize];
         let no = lay_on(
             state,
             &mut self.graph,
@@ -142,7 +141,6 @@ impl<A: Allocator + Copy> Cache<A> {
             after.as_slice(),
             undo,
         )?;
-        self.waiting.insert(at);
         self.live += 1;
         self.trace.push_reserved(Step::Create {
             block,

@@ -69,12 +69,14 @@ impl<A: Allocator + Copy> Cache<A> {
         model_laws::images_stay();
         model_laws::disks_stay();
         model_laws::trails_join();
+        model_laws::patches_are_placed();
+        model_laws::paths_form_no_ring();
         let mut sent = false;
         let mut from = 0;
-        while let Some(at) = self.waiting.least_from(from) {
-            let more = self.send_if_ready(flights, BlockNo(at as u32))?;
+        while let Some(block) = self.graph.next_open(from) {
+            let more = self.send_if_ready(flights, block)?;
             sent = sent || more;
-            from = at + 1;
+            from = block.0 as usize + 1;
         }
         Ok(sent)
     }

@@ -6,7 +6,6 @@
 #![tactic(auto)]
 
 mod asks;
-mod block_sets;
 mod caches;
 mod completing;
 mod creating;

@@ -102,10 +102,8 @@ impl<A: Allocator + Copy> Cache<A> {
         model_laws::live_are_counted();
         model_laws::flights_are_ready();
         self.trace.reserve(self.under_way + 1)?;
-        let at = block.0 as usize;
-        let state = &mut self.blocks[at];
+        let state = &mut self.blocks[block.0 as usize];
         let name = join_on(state, &mut self.graph, a, b)?;
-        self.waiting.insert(at);
         self.trace.push_reserved(Step::Merge { a, b });
         Ok(name)
     }

@@ -108,7 +108,6 @@ impl<A: Allocator + Copy> Cache<A> {
             sequence,
             numbers: noted,
         });
-        self.waiting.remove(at);
         self.under_way += 1;
         self.sends = sequence.saturating_add(1);
         self.trace.push_reserved(Step::Send { block });

@@ -21,3 +21,4 @@ pub mod Joining
 pub mod Entered
 pub mod Tops
 pub mod Laying
+pub mod Opened

@@ -1,7 +1,8 @@
 -- What a send takes, by marks on the keys of classes.
-use Rattle.std.specs.Prelude.{ℕ, if◌then◌else◌, ◌++◌, ◌∷◌, Bool, true, false, ◌≡◌, ◌≢◌, ◌<◌, ◌↔◌, ◌&&◌, not, IsTrue, List, [], length, Some, slice_index_or}
+use Rattle.std.specs.Prelude.{ℕ, if◌then◌else◌, ◌++◌, ◌∷◌, Bool, true, false, ◌≡◌, ◌≢◌, ◌<◌, ◌≤◌, ◌⊎◌, ◌↔◌, ◌&&◌, not, IsTrue, List, [], length, Option, None, Some, slice_index_or}
 use Rattle.std.specs.Option.{option_map_or}
-use Rattle.patch_model.specs.Entry.{Entry}
+use Rattle.patch_model.specs.declared.limits.TheConstants.{MAX_BLOCKS}
+use Rattle.patch_model.specs.Entry.{Entry, is_flight}
 use Rattle.patch_model.specs.Member.{In}
 use Rattle.patch_model.specs.Ready.{ready}
 use Rattle.patch_model.specs.State.{numbers_of}
@@ -19,6 +20,23 @@ AreReady g block numbers = (all : List Entry) → Represents g all → HasNoRing
 -- whether a send of the block takes any patch
 abbrev pub TellsReady : Graph → ℕ → Bool → Type 0
 TellsReady g block any = (all : List Entry) → Represents g all → HasNoRing all → IsTrue any ↔ (ready all block ≢ [])
+
+-- a write of the block can begin: something of it is ready, and nothing in flight
+pub record IsOpen (all : List Entry) (block : ℕ) : Type 0 where
+  pub some : ready all block ≢ []
+  pub still : (e : Entry) → In all e → e.patch.block ≡ block → is_flight e ≡ false
+
+-- none can: nothing of it is ready, or something in flight
+abbrev pub IsShut : List Entry → ℕ → Type 0
+IsShut all block = (ready all block ≡ []) ⊎ ((e : Entry) × In all e × (e.patch.block ≡ block) × (is_flight e ≡ true))
+
+-- the least block from one on of which a write can begin
+abbrev pub IsNextOpen : List Entry → ℕ → Option ℕ → Type 0
+IsNextOpen all from None = (block : ℕ) → from ≤ block → block < MAX_BLOCKS → IsShut all block
+IsNextOpen all from (Some least) = (from ≤ least) × (least < MAX_BLOCKS) × IsOpen all least × ((block : ℕ) → from ≤ block → block < least → IsShut all block)
+
+abbrev pub TellsNextOpen : Graph → ℕ → Option ℕ → Type 0
+TellsNextOpen g from found = (all : List Entry) → Represents g all → HasNoRing all → IsNextOpen all from found
 
 -- the keys of the block's classes are among these
 abbrev pub HoldsKeys : Slots → ℕ → List ℕ → Type 0

@@ -1,11 +1,12 @@
 //! The graph of the classes that are live.
-ghost use Rattle.std.specs.Prelude.{◌≡◌, ◌<◌, ◌≤◌, ◌+◌, ℕ, List, [], false, None, MatchOption, length, IfOk, OnOk, OnErr};
+ghost use Rattle.std.specs.Prelude.{◌≡◌, ◌<◌, ◌≤◌, ◌+◌, ℕ, List, [], false, None, MatchOption, length, IfOk, IfSome, OnOk, OnErr};
+ghost use Rattle.patch_model.specs.declared.limits.TheConstants.{MAX_BLOCKS};
 ghost use Rattle.patch_model.specs.Entry.{Entry};
 ghost use Rattle.patch_model.specs.declared.patches.Mark.TheVariants.{Durable};
 ghost use Rattle.patch_graph.specs.Meaning.{Represents, IsNotLive, IsLiveClass, HasMark};
 ghost use Rattle.patch_graph.specs.Showing.{IsShown};
 ghost use Rattle.patch_graph.specs.Between.{LacksAnEnd, TellsLeastBetween, TellsReach};
-ghost use Rattle.patch_graph.specs.Ready.{AreReady, TellsReady};
+ghost use Rattle.patch_graph.specs.Ready.{AreReady, TellsReady, TellsNextOpen};
 ghost use Rattle.patch_graph.specs.MarkFlight.{PutsInFlight};
 ghost use Rattle.patch_graph.specs.MarkDurable.{MakesDurable};
 ghost use Rattle.patch_graph.specs.Merging.{Merges};
@@ -17,7 +18,7 @@ use crate::mark_durable::land;
 use crate::mark_flight::fly;
 use crate::merging;
 use crate::newcomers::Newcomer;
-use crate::queries::{between, is_any_ready, numbers_ready, numbers_searched, reaches};
+use crate::queries::{between, is_any_ready, next_open, numbers_ready, numbers_searched, reaches};
 use crate::register::Register;
 use crate::scratch::Scratch;
 use patch_model::{BlockNo, MAX_PATCHES, Mark, OutOfMemory, PatchNo, Undo};
@@ -101,6 +102,15 @@ impl<A: Allocator + Copy> Graph<A> {
         ensures { TellsReady self.now block result }
     {
         is_any_ready(&self.register, block)
+    }
+
+    /// The least block from one on, of those below [`MAX_BLOCKS`](patch_model::MAX_BLOCKS), of which a write can begin: a send of it
+    /// takes some patch, and none of its patches is in flight.
+    pub fn next_open(&self, from: usize) -> Option<BlockNo>
+        ensures answer { TellsNextOpen self.now from result }
+        ensures within { IfSome result (λ block. (from ≤ block) × (block < MAX_BLOCKS)) }
+    {
+        next_open(&self.register, from)
     }
 
     /// Draws up a patch of the bytes from `start` to `stop`, which [`put_in`](Graph::put_in) adds. It depends on the patches that

@@ -1,7 +1,8 @@
 //! What is asked of the classes.
-ghost use Rattle.std.specs.Prelude.{◌≡◌, ◌≤◌, false, None, length, IfOk};
+ghost use Rattle.std.specs.Prelude.{◌≡◌, ◌<◌, ◌≤◌, false, None, length, IfOk, IfSome};
+ghost use Rattle.patch_model.specs.declared.limits.TheConstants.{MAX_BLOCKS};
 ghost use Rattle.patch_graph.specs.State.{KeysFit};
-ghost use Rattle.patch_graph.specs.Ready.{AreReady, TellsReady};
+ghost use Rattle.patch_graph.specs.Ready.{AreReady, TellsReady, TellsNextOpen};
 ghost use Rattle.patch_graph.specs.Between.{LacksAKey, TellsBetweenKeys, TellsLeastBetween, TellsReach, is_newest};
 ghost use Rattle.patch_graph.specs.Marks.{AreClear, HoldsMarked};
 ghost use Rattle.patch_graph.specs.Search.{IsReachable, IsUnderWay, steps};
@@ -58,6 +59,15 @@ pub fn is_any_ready<A: Allocator>(register: &Register<A>, block: BlockNo) -> boo
 {
     laws::ready_is_largest();
     register.links.any_ready(block)
+}
+
+/// The least block from one on of which a write can begin, of those below `MAX_BLOCKS`.
+pub fn next_open<A: Allocator>(register: &Register<A>, from: usize) -> Option<BlockNo>
+    ensures answer { TellsNextOpen register.now from result }
+    ensures within { IfSome result (λ block. (from ≤ block) × (block < MAX_BLOCKS)) }
+{
+    laws::ready_is_largest();
+    register.links.next_open(from)
 }
 
 /// `reaches`, on marks and a queue.

@@ -22,3 +22,4 @@ pub mod Relisting
 pub mod Pairs
 pub mod Following
 pub mod Leads
+pub mod Openings

@@ -21,6 +21,14 @@ Chain-append : (slots : Slots) (numbers : Numbers) (a b c : ℕ) → Chain slots
 Chain-append slots numbers a b c (one x at d led) q = onward x at d led q
 Chain-append slots numbers a b c (onward {j = j} x at d led p) q = onward x at d led (Chain-append slots numbers j b c p q)
 
+pub no-key : (ks : List ℕ) (k : ℕ) → (length ks == 0) ≡ true → is_among ks k ≡ false
+no-key [] k t = refl
+no-key (j ∷ ks) k t = let z : length (j ∷ ks) ≡ 0 = eqb-true (length (j ∷ ks)) 0 t in absurd (omega arith)
+
+pub some-key : (ks : List ℕ) → (length ks == 0) ≡ false → (k : ℕ) × (is_among ks k ≡ true)
+some-key [] t = absurd (cc)
+some-key (j ∷ ks) t = (j, In-among (j ∷ ks) j (inl refl))
+
 -- what escapes from a set is in no met set within it
 escapes-out : (slots : Slots) (numbers : Numbers) (start other : ℕ → Bool) (k : ℕ) → IsWithin other start → AreMet slots numbers other → Escapes slots numbers start k → other k ≡ true → ⊥
 escapes-out slots numbers start other k within met e t = by k e t
@@ -241,14 +249,6 @@ module _ (block : ℕ) (nodes : Nodes) (numbers : Numbers) (blocks : Blocks) (s 
     none = λ t k. sym (in-list k) ∙ ap (λ ks. is_among ks k) (sym is) ∙ no-key keys k (elim (cases_Bool empty) [ inl u ↦ sym e ∙ u | inr u ↦ absurd (both_ways _ t (ap not u)) ]);
     some = λ t. let k = some-key keys (elim (cases_Bool empty) [ inl u ↦ absurd (both_ways _ (ap not u) t) | inr u ↦ sym e ∙ u ]) in (k.0, sym (in-list k.0) ∙ ap (λ ks. is_among ks k.0) (sym is) ∙ k.1);
   }
-    where
-      no-key : (ks : List ℕ) (k : ℕ) → (length ks == 0) ≡ true → is_among ks k ≡ false
-      no-key [] k t = refl
-      no-key (j ∷ ks) k t = let z : length (j ∷ ks) ≡ 0 = eqb-true (length (j ∷ ks)) 0 t in absurd (omega arith)
-
-      some-key : (ks : List ℕ) → (length ks == 0) ≡ false → (k : ℕ) × (is_among ks k ≡ true)
-      some-key [] t = absurd (cc)
-      some-key (j ∷ ks) t = (j, In-among (j ∷ ks) j (inl refl))
 
   pub tells-empty : (count : ℕ) → count ≡ (of_at blocks block).count → TellsEmpty slots block (count == 0)
   tells-empty count is = record {

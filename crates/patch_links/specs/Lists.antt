@@ -1,7 +1,9 @@
 -- The keys of a block's classes that are ready, and of those in flight.
-use Rattle.std.specs.Prelude.{ℕ, Bool, ◌≡◌, ◌≢◌, ◌≤◌, ◌-◌, ◌==◌, ◌&&◌, ◌∷◌, ◌++◌, if◌then◌else◌, slice_index_or, take, List, [], length, count_by, false}
+use Rattle.std.specs.Prelude.{ℕ, Bool, true, Option, None, Some, ◌≡◌, ◌≢◌, ◌<◌, ◌≤◌, ◌-◌, ◌==◌, ◌&&◌, ◌∷◌, ◌++◌, if◌then◌else◌, not, slice_index_or, take, List, [], length, count_by, false}
 use Rattle.std.specs.Option.{option_map_or}
+use Rattle.patch_model.specs.declared.limits.TheConstants.{MAX_BLOCKS}
 use Rattle.patch_model.specs.Entry.{marks_flight}
+use Rattle.patch_numbers.specs.BlockSets.{holds}
 use Rattle.patch_links.specs.State.{Node, Nodes, is_at}
 use Rattle.patch_links.specs.Waiting.{of_block, ready_in, is_due}
 
@@ -20,6 +22,10 @@ Blocks = List OfBlock
 
 abbrev pub nothing : OfBlock
 nothing = record { ready = []; done = 0; flying = []; count = 0; room_ready = 0; room_flying = 0 }
+
+-- those of all blocks
+pub record ByBlock : Type 0 where
+  pub items : Blocks
 
 -- what is kept of the block
 abbrev pub of_at : Blocks → ℕ → OfBlock
@@ -79,3 +85,16 @@ pub record ChangesOf (block : ℕ) (old new : Blocks) (of : OfBlock) : Type 0 wh
 pub record LosesFlying (old new : OfBlock) (key : ℕ) : Type 0 where
   pub was : old.flying ≡ new.flying ++ key ∷ []
   pub changed : new ≡ record old { flying = new.flying; count = old.count - 1 }
+
+-- a write of the block can begin: something of it is ready, and nothing in flight
+abbrev pub is_open : OfBlock → Bool
+is_open of = not (length of.ready == 0) && length of.flying == 0
+
+-- the set has just those blocks of which a write can begin
+abbrev pub AreOpen : List ℕ → Blocks → Type 0
+AreOpen words blocks = (block : ℕ) → block < MAX_BLOCKS → holds words block ≡ is_open (of_at blocks block)
+
+-- the least block from one on of which a write can begin
+abbrev pub IsLeastOpen : Blocks → ℕ → Option ℕ → Type 0
+IsLeastOpen blocks from None = (block : ℕ) → from ≤ block → block < MAX_BLOCKS → is_open (of_at blocks block) ≡ false
+IsLeastOpen blocks from (Some least) = (from ≤ least) × (least < MAX_BLOCKS) × (is_open (of_at blocks least) ≡ true) × ((block : ℕ) → from ≤ block → block < least → is_open (of_at blocks block) ≡ false)

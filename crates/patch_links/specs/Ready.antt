@@ -1,8 +1,9 @@
 -- What may be sent of a block.
-use Rattle.std.specs.Prelude.{ℕ, Bool, true, false, ◌≡◌, ◌≢◌, ◌<◌, ◌&&◌, ◌==◌, List, [], ◌∷◌, ◌++◌, Some}
+use Rattle.std.specs.Prelude.{ℕ, Bool, true, false, ◌≡◌, ◌≢◌, ◌<◌, ◌≤◌, ◌⊎◌, ◌&&◌, ◌==◌, List, [], ◌∷◌, ◌++◌, Option, None, Some}
 use Rattle.std.specs.List.{list_all, AllByRecursion}
 use Rattle.std.specs.Option.{option_map_or}
-use Rattle.patch_model.specs.Entry.{marks_memory, is_among}
+use Rattle.patch_model.specs.declared.limits.TheConstants.{MAX_BLOCKS}
+use Rattle.patch_model.specs.Entry.{marks_memory, marks_flight, is_among}
 use Rattle.patch_links.specs.State.{Class, Nodes, Slots, Numbers, find, class_at, node_at, leads}
 use Rattle.patch_model.specs.Member.{In}
 
@@ -77,6 +78,24 @@ pub record TellsReady (slots : Slots) (numbers : Numbers) (block : ℕ) (any : B
   pub is : IsReadySet slots numbers block set
   pub none : any ≡ false → (key : ℕ) → set key ≡ false
   pub some : any ≡ true → (key : ℕ) × (set key ≡ true)
+
+-- some class of the block is in flight
+abbrev pub HasFlying : Slots → ℕ → Type 0
+HasFlying slots block = (key : ℕ) × (c : Class) × (class_at slots key ≡ Some c) × (c.block ≡ block) × (marks_flight c.mark ≡ true)
+
+-- a write of the block can begin: some class may be sent with it, and none is in flight
+pub record IsOpen (slots : Slots) (numbers : Numbers) (block : ℕ) : Type 0 where
+  pub ready : TellsReady slots numbers block true
+  pub still : (key : ℕ) (c : Class) → class_at slots key ≡ Some c → c.block ≡ block → marks_flight c.mark ≡ false
+
+-- none can
+abbrev pub IsShut : Slots → Numbers → ℕ → Type 0
+IsShut slots numbers block = TellsReady slots numbers block false ⊎ HasFlying slots block
+
+-- the least block from one on of which a write can begin
+abbrev pub IsNextOpen : Slots → Numbers → ℕ → Option ℕ → Type 0
+IsNextOpen slots numbers from None = (block : ℕ) → from ≤ block → block < MAX_BLOCKS → IsShut slots numbers block
+IsNextOpen slots numbers from (Some least) = (from ≤ least) × (least < MAX_BLOCKS) × IsOpen slots numbers least × ((block : ℕ) → from ≤ block → block < least → IsShut slots numbers block)
 
 -- the same numbers, rising
 pub record IsArranged (old new : List ℕ) : Type 0 where

@@ -10,8 +10,9 @@ ghost use Rattle.patch_links.specs.Standing.{AreBelow, KeepsBare, KeepsOwed, Kee
 ghost use Rattle.patch_links.specs.Adding.{followed, followed_to, AreFollowed, HasLists, HasPut, HasRoom, HasRoomForAll, HasRoomTo, IsEnlisting, IsJoining, IsNewClass, IsRoomier, KeepsLists, LeadNowhere};
 
 use crate::admitting::admit_all;
+use crate::blocks::{Blocks, note};
 use crate::keys::Keys;
-use crate::lists::{Blocks, OfBlock};
+use crate::lists::{Lists, OfBlock};
 use crate::nodes::{Class, Node, Nodes, find, is_due};
 use patch_model::{BlockNo, Mark, PatchNo};
 use patch_numbers::NumberList;
@@ -158,55 +159,55 @@ fn follow_all<A: Allocator>(
 }
 
 /// Gives so many blocks their lists, which hold no key yet; those that have some keep them.
-fn fill<A: Allocator + Copy>(alloc: A, blocks: &mut Blocks<A>, count: usize)
-    requires { count ≤ vec_capacity blocks.old }
-    ensures kept { KeepsLists blocks.old.items blocks.new.items }
-    ensures long { count ≤ length blocks.new.items }
+fn fill<A: Allocator + Copy>(alloc: A, lists: &mut Lists<A>, count: usize)
+    requires { count ≤ vec_capacity lists.old }
+    ensures kept { KeepsLists lists.old.items lists.new.items }
+    ensures long { count ≤ length lists.new.items }
 {
-    while blocks.len() < count {
-        blocks.push_reserved(OfBlock::new(alloc));
+    while lists.len() < count {
+        lists.push_reserved(OfBlock::new(alloc));
     }
 }
 
 /// Gives the block its lists, and those before it.
 fn lengthen<A: Allocator + Copy>(
     alloc: A,
-    blocks: &mut Blocks<A>,
+    lists: &mut Lists<A>,
     block: BlockNo,
 ) -> Result<(), AllocError>
-    ensures kept { KeepsLists blocks.old.items blocks.new.items }
-    ensures long { OnOk result (block < length blocks.new.items) }
+    ensures kept { KeepsLists lists.old.items lists.new.items }
+    ensures long { OnOk result (block < length lists.new.items) }
 {
     let count = block.0 as usize + 1;
-    if count <= blocks.len() {
+    if count <= lists.len() {
         return Ok(());
     }
-    blocks.reserve(count.saturating_sub(blocks.len()))?;
-    fill(alloc, blocks, count);
+    lists.reserve(count.saturating_sub(lists.len()))?;
+    fill(alloc, lists, count);
     Ok(())
 }
 
 /// Makes room for the keys of one more class of the block, which has its lists.
-fn grow_lists<A: Allocator>(blocks: &mut Blocks<A>, block: BlockNo) -> Result<(), AllocError>
-    requires { block < length blocks.old.items }
-    ensures kept { KeepsLists blocks.old.items blocks.new.items }
-    ensures room { OnOk result (HasLists block blocks.new.items) }
+fn grow_lists<A: Allocator>(lists: &mut Lists<A>, block: BlockNo) -> Result<(), AllocError>
+    requires { block < length lists.old.items }
+    ensures kept { KeepsLists lists.old.items lists.new.items }
+    ensures room { OnOk result (HasLists block lists.new.items) }
 {
-    let list = &mut blocks[block.0 as usize];
+    let list = &mut lists[block.0 as usize];
     list.grow()
 }
 
 /// The same, whether it has them or not.
 fn make_lists<A: Allocator + Copy>(
     alloc: A,
-    blocks: &mut Blocks<A>,
+    lists: &mut Lists<A>,
     block: BlockNo,
 ) -> Result<(), AllocError>
-    ensures kept { KeepsLists blocks.old.items blocks.new.items }
-    ensures room { OnOk result (HasLists block blocks.new.items) }
+    ensures kept { KeepsLists lists.old.items lists.new.items }
+    ensures room { OnOk result (HasLists block lists.new.items) }
 {
-    lengthen(alloc, blocks, block)?;
-    grow_lists(blocks, block)
+    lengthen(alloc, lists, block)?;
+    grow_lists(lists, block)
 }
 
 /// One more class of the block, at the key.
@@ -255,8 +256,11 @@ fn enlist<A: Allocator>(
     ensures bare { KeepsBare nodes.old.slots nodes.new.slots }
     ensures counted { AreCounted nodes.new.slots keys.now.numbers }
 {
-    match blocks.get_mut(block.0 as usize) {
-        Some(list) => enlist_in(nodes, keys, list, block, key),
+    match blocks.lists.get_mut(block.0 as usize) {
+        Some(list) => {
+            enlist_in(nodes, keys, list, block, key);
+            note(&mut blocks.open, block, list.is_open());
+        }
         None => {}
     }
 }
@@ -354,7 +358,7 @@ fn make_room<A: Allocator + Copy>(
     ensures next { nodes.new.vacant_key ≡ nodes.old.vacant_key }
 {
     reserve_all(nodes, keys, after(class))?;
-    make_lists(alloc, blocks, class.block)?;
+    make_lists(alloc, &mut blocks.lists, class.block)?;
     keys.reserve()?;
     nodes.reserve(1)
 }

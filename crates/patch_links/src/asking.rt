@@ -5,7 +5,7 @@ ghost use Rattle.patch_links.specs.State.{node_at};
 ghost use Rattle.patch_links.specs.Lists.{of_at};
 ghost use Rattle.patch_links.specs.Ready.{members_at, gathered, IsArranged};
 
-use crate::lists::Blocks;
+use crate::blocks::Blocks;
 use crate::nodes::Nodes;
 use patch_model::{BlockNo, PatchNo};
 use std::alloc::{AllocError, Allocator};
@@ -14,7 +14,7 @@ use std::alloc::{AllocError, Allocator};
 pub fn ready_keys<A: Allocator>(blocks: &Blocks<A>, block: BlockNo) -> &[usize]
     ensures { result.now ≡ (of_at blocks.now.items block).ready }
 {
-    match blocks.get(block.0 as usize) {
+    match blocks.lists.get(block.0 as usize) {
         Some(list) => list.ready(),
         None => &[],
     }
@@ -24,7 +24,7 @@ pub fn ready_keys<A: Allocator>(blocks: &Blocks<A>, block: BlockNo) -> &[usize]
 pub fn count<A: Allocator>(blocks: &Blocks<A>, block: BlockNo) -> usize
     ensures { result ≡ (of_at blocks.now.items block).count }
 {
-    match blocks.get(block.0 as usize) {
+    match blocks.lists.get(block.0 as usize) {
         Some(list) => list.count(),
         None => 0,
     }

@@ -7,8 +7,9 @@ ghost use Rattle.patch_links.specs.Lists.{HoldsJust, IsListed, IsSettled, of_at}
 ghost use Rattle.patch_links.specs.Standing.{KeepsRest, KeepsMarks, KeepsPlain, Stands};
 ghost use Rattle.patch_links.specs.MarkFlight.{AreFlown, flown_node, AreNodesFlown, IsPutInFlight};
 
+use crate::blocks::{Blocks, note};
 use crate::keys::Keys;
-use crate::lists::{Blocks, OfBlock};
+use crate::lists::OfBlock;
 use crate::nodes::{Nodes, find, follower_at, follower_count, is_of, raise, take_ready};
 use patch_model::{BlockNo, Mark, PatchNo};
 use std::alloc::Allocator;
@@ -131,7 +132,8 @@ pub fn fly<A: Allocator>(
     ensures flown { AreFlown (is_among (of_at blocks.old.items block).ready) (slots_of nodes.old.slots) (slots_of nodes.new.slots) }
     ensures plain { KeepsPlain nodes.old.slots nodes.new.slots }
 {
-    if let Some(list) = blocks.get_mut(block.0 as usize) {
+    if let Some(list) = blocks.lists.get_mut(block.0 as usize) {
         fly_list(nodes, keys, list, block);
+        note(&mut blocks.open, block, list.is_open());
     }
 }

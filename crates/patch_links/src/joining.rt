@@ -10,9 +10,10 @@ ghost use Rattle.patch_links.specs.Joining.{FitsAt, may_join_with, may_join_both
 
 use crate::adding::alone;
 use crate::admitting::admit_all;
+use crate::blocks::{Blocks, note};
 use crate::keys::Keys;
 use crate::leaving::withdraw;
-use crate::lists::{Blocks, OfBlock};
+use crate::lists::OfBlock;
 use crate::nodes::{Class, Node, Nodes, block_at, find, is_due, is_ready, note_place};
 use patch_model::{BlockNo, Mark, PatchNo};
 use patch_numbers::NumberList;
@@ -355,8 +356,12 @@ fn join_at<A: Allocator + Copy>(
     ensures refused { OnErr result (slots_of nodes.new.slots ≡ slots_of nodes.old.slots) }
     ensures numbers { OnErr result (keys.new.numbers ≡ keys.old.numbers) }
 {
-    match blocks.get_mut(block.0 as usize) {
-        Some(list) => join_in(alloc, nodes, keys, list, block, keep, gone),
+    match blocks.lists.get_mut(block.0 as usize) {
+        Some(list) => {
+            let joined = join_in(alloc, nodes, keys, list, block, keep, gone);
+            note(&mut blocks.open, block, list.is_open());
+            joined
+        }
         None => Ok(()),
     }
 }

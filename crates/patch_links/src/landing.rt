@@ -7,8 +7,8 @@ ghost use Rattle.patch_links.specs.Standing.{KeepsBare, PaysOne, AreBelow, Stand
 ghost use Rattle.patch_links.specs.MarkDurable.{AreForgotten, AreLanded, AreTold, HasPopped, IsForgotten, IsLanding, PaysLed};
 
 use crate::admitting::settle;
+use crate::blocks::{Blocks, note};
 use crate::keys::Keys;
-use crate::lists::Blocks;
 use crate::nodes::{Nodes, block_at, find};
 use patch_model::{BlockNo, PatchNo};
 use std::alloc::Allocator;
@@ -47,8 +47,11 @@ fn tell_at<A: Allocator>(
     ensures bare { KeepsBare nodes.old.slots nodes.new.slots }
     ensures paid { PaysOne keys.now.numbers key nodes.old.slots nodes.new.slots }
 {
-    match blocks.get_mut(block.0 as usize) {
-        Some(list) => settle(nodes, keys, list, block, key),
+    match blocks.lists.get_mut(block.0 as usize) {
+        Some(list) => {
+            settle(nodes, keys, list, block, key);
+            note(&mut blocks.open, block, list.is_open());
+        }
         None => {}
     }
 }
@@ -132,8 +135,12 @@ fn next_landing<A: Allocator>(blocks: &mut Blocks<A>, block: BlockNo) -> Option<
     ensures same { IfNone result ((other : ℕ) → of_at blocks.new.items other ≡ of_at blocks.old.items other) }
     ensures some { IfSome result (λ key. HasPopped block blocks.old.items blocks.new.items key) }
 {
-    match blocks.get_mut(block.0 as usize) {
-        Some(list) => list.land(),
+    match blocks.lists.get_mut(block.0 as usize) {
+        Some(list) => {
+            let landed = list.land();
+            note(&mut blocks.open, block, list.is_open());
+            landed
+        }
         None => None,
     }
 }

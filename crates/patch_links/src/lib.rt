@@ -5,6 +5,7 @@
 mod adding;
 mod admitting;
 mod asking;
+mod blocks;
 mod flying;
 mod hashing;
 mod joining;

@@ -2,7 +2,7 @@
 ghost use Rattle.std.specs.Prelude.{◌≡◌, ◌<◌, ℕ, [], None, IfOk, OnOk, OnErr, false, true, is_some};
 ghost use Rattle.std.specs.Option.{option_copied};
 ghost use Rattle.patch_links.specs.State.{find, class_at};
-ghost use Rattle.patch_links.specs.Ready.{AreReady, TellsReady, TellsEmpty};
+ghost use Rattle.patch_links.specs.Ready.{AreReady, TellsReady, TellsEmpty, IsNextOpen};
 ghost use Rattle.patch_links.specs.Adding.{IsNew, IsAdded};
 ghost use Rattle.patch_links.specs.MarkFlight.{HasFlown};
 ghost use Rattle.patch_links.specs.MarkDurable.{HasLanded};
@@ -11,11 +11,11 @@ ghost use Rattle.patch_links.specs.Following.{AreFollowers};
 
 use crate::adding::{add, is_new};
 use crate::asking::{count, numbers, ready_keys};
+use crate::blocks::Blocks;
 use crate::flying::fly;
 use crate::joining::join;
 use crate::keys::Keys;
 use crate::landing::land;
-use crate::lists::Blocks;
 use crate::nodes::{Class, Nodes, find};
 use patch_model::{BlockNo, PatchNo};
 use std::alloc::{AllocError, Allocator, Global};
@@ -165,6 +165,17 @@ impl<A: Allocator> Links<A> {
         ensures { TellsReady self.now.slots self.now.numbers block result }
     {
         !ready_keys(&self.blocks, block).is_empty()
+    }
+
+    /// The least block from one on, of those below `MAX_BLOCKS`, of which a write can begin: some class may be sent with it, and
+    /// none of its classes is in flight.
+    pub fn next_open(&self, from: usize) -> Option<BlockNo>
+        ensures { IsNextOpen self.now.slots self.now.numbers from result }
+    {
+        match self.blocks.next_open(from) {
+            Some(number) => Some(BlockNo(number as u32)),
+            None => None,
+        }
     }
 
     /// The numbers of all that may be sent with the block, rising.

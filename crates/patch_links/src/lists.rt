@@ -1,6 +1,6 @@
 //! Which of each block's classes are ready, and which in flight.
 ghost use Rattle.std.specs.Prelude.{◌≡◌, ◌≢◌, ◌<◌, ◌≤◌, ◌+◌, ◌-◌, ◌==◌, ◌++◌, ◌∷◌, [], ℕ, length, filter, not, slice_index_or, Some, None, IfOk, OnOk, OnErr, IsSome, IfSome, IfNone, take, drop, vec_capacity};
-ghost use Rattle.patch_links.specs.Lists.{of_at, pushed, times, once, ChangesOf, LosesFlying};
+ghost use Rattle.patch_links.specs.Lists.{of_at, pushed, times, once, is_open, ChangesOf, LosesFlying};
 ghost use Rattle.patch_links.specs.Joining.{is_neither};
 ghost use Rattle.patch_links.specs.Leaving.{HasLeft, LosesLast};
 
@@ -40,7 +40,7 @@ impl<A: Allocator> Model for OfBlock<A> {
 }
 
 /// The lists of each block, by its number. What they take in memory goes with the highest number of a block.
-pub type Blocks<A> = Vec<OfBlock<A>, A>;
+pub type Lists<A> = Vec<OfBlock<A>, A>;
 
 impl<A: Allocator + Copy> OfBlock<A> {
     /// Of a block without classes.
@@ -105,6 +105,13 @@ impl<A: Allocator> OfBlock<A> {
         ensures { result ≡ self.now.count }
     {
         self.count
+    }
+
+    /// Whether a write of the block can begin: some class of it is ready, or comes into the ready set, and none is in flight.
+    pub fn is_open(&self) -> bool
+        ensures { result ≡ is_open self.now }
+    {
+        !self.ready.is_empty() && self.flying.is_empty()
     }
 
     /// All ready classes are in flight.

@@ -47,6 +47,13 @@ impl Slow {
         None
     }
 
+    /// Whether a class of the block is in flight.
+    pub fn is_flying(&self, block: u32) -> bool {
+        self.classes
+            .iter()
+            .any(|class| class.block == block && class.flying)
+    }
+
     fn is_kept_out(&self, place: usize, class: &SlowClass, set: &[bool]) -> bool {
         for no in class.after.iter() {
             if let Some(other) = self.place_of(*no) {

@@ -69,6 +69,9 @@ fn expect_block(
     let none = !slow.classes.iter().any(|class| class.block == block);
     expect_eq(rt, &links.is_empty_of(BlockNo(block)), &none);
     let numbers = slow.ready_numbers(block)?;
+    let is_open = !numbers.is_empty() && !slow.is_flying(block);
+    let is_next = links.next_open(block as usize) == Some(BlockNo(block));
+    expect_eq(rt, &is_next, &is_open);
     expect_ready(rt, links, slow.alloc, block, numbers.as_slice())
 }
 

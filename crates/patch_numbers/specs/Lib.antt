@@ -1,1 +1,2 @@
+pub mod BlockSets
 pub mod NumberList

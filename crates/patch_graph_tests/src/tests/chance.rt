@@ -1,4 +1,4 @@
-//! A thousand steps by chance: what a send of each block takes is what a search finds.
+//! A thousand steps by chance: what a send of each block takes is what a search finds, and of which block a write can begin.
 use super::{Ask, ask_for, expect_eq, make};
 use patch_graph::laws::ready_slow;
 use patch_graph::{Graph, LiveClass};
@@ -153,6 +153,17 @@ fn expect_agreements(rt: &impl Abort, alloc: Global, graph: &mut Graph) -> Resul
     Ok(())
 }
 
+// The first block that has something ready and no flight is the next of which a write can begin.
+fn expect_next_open(rt: &impl Abort, graph: &Graph, chance: &Chance) {
+    let mut open = None;
+    for block in (0..BLOCKS).rev() {
+        if graph.any_ready(BlockNo(block)) && !chance.is_flying(block) {
+            open = Some(BlockNo(block));
+        }
+    }
+    expect_eq(rt, &graph.next_open(0), &open);
+}
+
 fn walk_by_chance(
     rt: &impl Abort,
     alloc: Global,
@@ -162,6 +173,7 @@ fn walk_by_chance(
     for _ in 0..STEPS {
         step_by_chance(rt, graph, chance)?;
         expect_agreements(rt, alloc, graph)?;
+        expect_next_open(rt, graph, chance);
     }
     let is_long = chance.merges > 20 && graph.made() > 400;
     expect_eq(rt, &(&chance.merges, &is_long), &(&chance.merges, &true));

@@ -1,10 +1,58 @@
-use Rattle.std.proofs.Common.{◌≡◌, ◌+◌, Some, subst, sym, ap, ◌∙◌, arith}
-use Rattle.patch_links.specs.State.{Links, class_at}
+use Rattle.std.proofs.Common.{◌≡◌, ◌+◌, ◌<◌, ◌≤◌, ℕ, Some, Ok, Err, Result, OnErr, subst, sym, ap, refl, ◌∙◌, arith}
+use Rattle.patch_links.specs.State.{Class, Links, class_at}
+use Rattle.patch_links.specs.Adding.{IsNew}
 use Rattle.patch_graph.specs.State.{Graph, KeysFit}
-use Rattle.patch_graph.specs.Skyline.{trimmed}
+use Rattle.patch_graph.specs.Skyline.{Skylines, trimmed}
 use Rattle.patch_graph.specs.Adding.{IsAdded}
 use Rattle.patch_graph.proofs.Entered.{put-in, added-fit}
 use Rattle.patch_graph.proofs.adding.insert.Goals as goal
+
+new_for : (low made : ℕ) (class : Class) → low ≤ made → IsNew made class → IsNew low class
+new_for low made class upto new = record {
+  fresh = (let fresh = new.fresh in omega arith);
+  members = new.members;
+  memory = new.memory;
+  after = new.after;
+}
+
+in_wider : (key room wider : ℕ) → key < room → room ≤ wider → key < wider
+in_wider key room wider within more = omega arith
+
+at_most : (a b : ℕ) → a ≡ b → a ≤ b
+at_most a b is = omega arith
+
+on_err : {X E : Type 0} (r : Result X E) (P : Type 0) → P → OnErr r P
+on_err (Ok x) P p = tt
+on_err (Err e) P p = p
+
+pub lay-requires-clause-some : goal.lay-requires-clause-some
+lay-requires-clause-some g c = subst (λ (k : Class). k.start < k.stop) (sym c.class.view_is) c.requires.some
+
+pub lay-requires-clause-new : goal.lay-requires-clause-new
+lay-requires-clause-new g c =
+    new_for c.register.inside.links.made c.register.inside.made c.args.class c.register.invariant
+    (subst (λ (v : Graph). IsNew v.made c.args.class) (sym c.register.view_is) c.requires.new)
+
+pub invariant_of-register : goal.invariant_of-register
+invariant_of-register g c = subst (λ (l : Links). l.made ≤ c.register.inside.made) (sym c.in_err-key.ensures.refused_class) c.register.invariant
+
+pub invariant_of-register-2 : goal.invariant_of-register-2
+invariant_of-register-2 g c =
+    at_most _ _ (c.in_ok-key.ensures.added.made ∙ ap (λ (n : ℕ). n + 1) c.requires.name
+    ∙ ap (λ (v : Graph). v.made + 1) (sym c.register.view_is))
+
+pub returns-in_err-reserve-clause-fit : goal.returns-in_err-reserve-clause-fit
+returns-in_err-reserve-clause-fit g c fit key d at = in_wider key _ _ (fit key d at) c.reserve.ensures.kept
+
+pub returns-in_err-reserve-clause-refused : goal.returns-in_err-reserve-clause-refused
+returns-in_err-reserve-clause-refused g c = on_err _ _ refl
+
+pub returns-in_err-key-clause-refused : goal.returns-in_err-key-clause-refused
+returns-in_err-key-clause-refused g c =
+    let made : ℕ = c.register.inside.made in
+    on_err _ _ (ap (λ (l : Links). let v : Graph = record { made = made; slots = l.slots; numbers = l.numbers; tops = trimmed c.lay.new.skylines.items } in v) c.in_err-key.ensures.refused_class
+    ∙ ap (λ (tops : Skylines). let v : Graph = record { made = made; slots = c.register.inside.links.slots; numbers = c.register.inside.links.numbers; tops = tops } in v) c.in_err-key.ensures.refused
+    ∙ c.register.view_is)
 
 pub returns-clause-inserted : goal.returns-clause-inserted
 returns-clause-inserted g c =

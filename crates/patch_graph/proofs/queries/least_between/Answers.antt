@@ -1,9 +1,22 @@
-use Rattle.std.proofs.Common.{◌∙◌, subst, arith, length}
+use Rattle.std.proofs.Common.{◌≡◌, ◌≤◌, ◌∙◌, ℕ, refl, sym, subst, arith, length}
+use Rattle.std.proofs.lemmas.Bool.{leb-true}
+use Rattle.patch_links.specs.State.{Slots}
+use Rattle.patch_graph.specs.State.{KeysFit}
 use Rattle.patch_graph.specs.Search.{steps}
 use Rattle.patch_graph.specs.Between.{TellsBetweenKeys}
 use Rattle.patch_graph.specs.declared.searching.Way.TheVariants.{Up, Down}
-use Rattle.patch_graph.proofs.Searches.{course_held}
+use Rattle.patch_graph.proofs.Searches.{course_held, tail-within}
 use Rattle.patch_graph.proofs.queries.least_between.Goals as goal
+
+-- rooms that are as long as others fit as these do
+long_as : (a b c d : ℕ) → a ≡ c → b ≡ d → c ≤ d → a ≤ b
+long_as a b c d first second fits = omega arith
+
+upto_both : (a b c : ℕ) → a ≤ b → b ≤ c → a ≤ c
+upto_both a b c first second = omega arith
+
+fit_within : (slots : Slots) (room wider : ℕ) → room ≤ wider → KeysFit slots room → KeysFit slots wider
+fit_within slots room wider more fit key class at = let low = fit key class at in omega arith
 
 pub take_turns-requires-clause-above : goal.take_turns-requires-clause-above
 take_turns-requires-clause-above g c = c.begin.ensures.begun.1 (steps c.args.register.now.slots c.args.register.now.numbers Up) (length c.begin.new.marks)
@@ -36,3 +49,75 @@ clear-requires-2 g c =
 pub returns-clause-answer : goal.returns-clause-answer
 returns-clause-answer g c =
     subst (λ from. TellsBetweenKeys c.args.register.now from c.args.to c.least_below.result) (c.take_turns.ensures.from_below ∙ c.begin-2.ensures.begun.0) c.least_below.ensures.answer
+
+pub take_turns-requires-clause-queue_fits : goal.take_turns-requires-clause-queue_fits
+take_turns-requires-clause-queue_fits g c = long_as _ _ _ _ c.begin-2.ensures.length c.begin-2.ensures.length_queue c.requires.queue_fits
+
+pub take_turns-requires-clause-found_fit : goal.take_turns-requires-clause-found_fit
+take_turns-requires-clause-found_fit g c = long_as _ _ _ _ c.begin.ensures.length c.begin.ensures.length_queue c.requires.found_fit
+
+pub slice_bounds-clear-end : goal.slice_bounds-clear-end
+slice_bounds-clear-end g c =
+    upto_both _ _ _ (tail-within _ _ _ _ _ _ _ c.take_turns.ensures.below)
+    (long_as _ _ _ _ (c.take_turns.ensures.length ∙ c.begin-2.ensures.length) (c.take_turns.ensures.length_queue ∙ c.begin-2.ensures.length_queue) c.requires.queue_fits)
+
+pub slice_bounds-clear-end-2 : goal.slice_bounds-clear-end-2
+slice_bounds-clear-end-2 g c =
+    upto_both _ _ _ (tail-within _ _ _ _ _ _ _ c.take_turns.ensures.above)
+    (long_as _ _ _ _ (c.take_turns.ensures.length_met ∙ c.begin.ensures.length) (c.take_turns.ensures.length_found ∙ c.begin.ensures.length_queue) c.requires.found_fit)
+
+pub least_above-requires-clause-fits : goal.least_above-requires-clause-fits
+least_above-requires-clause-fits g c =
+    fit_within c.args.register.now.slots (length c.args.marks.now) _ (long_as _ _ _ _ refl (c.take_turns.ensures.length_met ∙ c.begin.ensures.length) c.requires.met_fit) c.requires.fits
+
+pub least_above-requires-clause-fits_met : goal.least_above-requires-clause-fits_met
+least_above-requires-clause-fits_met g c =
+    subst (KeysFit c.args.register.now.slots) (sym (c.clear.ensures.length ∙ c.take_turns.ensures.length ∙ c.begin-2.ensures.length)) c.requires.fits
+
+pub least_above-requires-clause-queue_fits : goal.least_above-requires-clause-queue_fits
+least_above-requires-clause-queue_fits g c =
+    long_as _ _ _ _ (c.take_turns.ensures.length_met ∙ c.begin.ensures.length) (c.take_turns.ensures.length_found ∙ c.begin.ensures.length_queue) c.requires.found_fit
+
+pub least_above-requires-clause-found_fit : goal.least_above-requires-clause-found_fit
+least_above-requires-clause-found_fit g c =
+    long_as _ _ _ _ (c.clear.ensures.length ∙ c.take_turns.ensures.length ∙ c.begin-2.ensures.length) (c.take_turns.ensures.length_queue ∙ c.begin-2.ensures.length_queue)
+    c.requires.queue_fits
+
+pub least_above-requires-clause-above : goal.least_above-requires-clause-above
+least_above-requires-clause-above g c = c.take_turns.ensures.above
+
+pub least_above-requires-clause-clear : goal.least_above-requires-clause-clear
+least_above-requires-clause-clear g c = c.clear.ensures.clear
+
+pub returns-then-not-is_whole-clause-cleared : goal.returns-then-not-is_whole-clause-cleared
+returns-then-not-is_whole-clause-cleared g c = c.least_above.ensures.cleared_met
+
+pub returns-then-not-is_whole-clause-cleared_met : goal.returns-then-not-is_whole-clause-cleared_met
+returns-then-not-is_whole-clause-cleared_met g c = c.least_above.ensures.cleared
+
+pub least_below-requires-clause-fits : goal.least_below-requires-clause-fits
+least_below-requires-clause-fits g c = subst (KeysFit c.args.register.now.slots) (sym (c.take_turns.ensures.length ∙ c.begin-2.ensures.length)) c.requires.fits
+
+pub least_below-requires-clause-queue_fits : goal.least_below-requires-clause-queue_fits
+least_below-requires-clause-queue_fits g c =
+    long_as _ _ _ _ (c.take_turns.ensures.length ∙ c.begin-2.ensures.length) (c.take_turns.ensures.length_queue ∙ c.begin-2.ensures.length_queue) c.requires.queue_fits
+
+pub least_below-requires-clause-dead_ends_fit : goal.least_below-requires-clause-dead_ends_fit
+least_below-requires-clause-dead_ends_fit g c =
+    long_as _ _ _ _ (c.take_turns.ensures.length ∙ c.begin-2.ensures.length) (c.clear-2.ensures.length ∙ c.take_turns.ensures.length_met ∙ c.begin.ensures.length)
+    c.requires.met_fit
+
+pub least_below-requires-clause-below : goal.least_below-requires-clause-below
+least_below-requires-clause-below g c = c.take_turns.ensures.below
+
+pub least_below-requires-clause-whole : goal.least_below-requires-clause-whole
+least_below-requires-clause-whole g c = leb-true _ _ (sym c.is_whole.ensures ∙ c.if-not-is_whole.false)
+
+pub least_below-requires-clause-clear : goal.least_below-requires-clause-clear
+least_below-requires-clause-clear g c = c.clear-2.ensures.clear
+
+pub returns-clause-cleared : goal.returns-clause-cleared
+returns-clause-cleared g c = c.least_below.ensures.cleared
+
+pub returns-clause-cleared_met : goal.returns-clause-cleared_met
+returns-clause-cleared_met g c = c.least_below.ensures.cleared_ends

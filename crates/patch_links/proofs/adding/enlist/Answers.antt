@@ -1,10 +1,16 @@
-use Rattle.patch_links.proofs.Keeping.{changes-of}
+use Rattle.std.proofs.Common.{ap, sym, subst}
+use Rattle.patch_links.specs.Lists.{IsListed, nothing}
 use Rattle.patch_links.proofs.Newcomers.{listed-newcomer}
+use Rattle.patch_links.proofs.Openings.{changes-in, list-at, open-noted}
 use Rattle.patch_links.proofs.adding.enlist.Goals as goal
+
+pub invariant_of-blocks : goal.invariant_of-blocks
+invariant_of-blocks g c = open-noted c.blocks-2.inside.open c.note.new.open c.blocks-2.inside.lists.items c.args.block c.block.inside.0 c.enlist_in.new.list c.is_open.result c.blocks-2.invariant c.block.view_is
+    c.in-Some.ensures.item.3.0 c.is_open.ensures c.note.ensures
 
 pub returns-in-Some-clause-listed : goal.returns-in-Some-clause-listed
 returns-in-Some-clause-listed g c = listed-newcomer c.args.block c.args.key c.requires.enlisting.before c.args.nodes.now.slots c.requires.enlisting.newcomer c.enlist_in.new.nodes.slots _ _ _
-    c.requires.enlisting.listed (changes-of c.args.blocks.now.items c.args.block c.block.inside.0 c.enlist_in.new.list c.block.view_is c.in-Some.ensures.item.3.0)
+    c.requires.enlisting.listed (changes-in c.args.blocks.now.items c.blocks-2.inside.lists.items c.args.block c.block.inside.0 c.enlist_in.new.list (ap (λ z. z.items) c.blocks-2.view_is) c.block.view_is c.in-Some.ensures.item.3.0)
     c.enlist_in.ensures.listed c.enlist_in.ensures.rest
 
 pub returns-in-Some-clause-counted : goal.returns-in-Some-clause-counted

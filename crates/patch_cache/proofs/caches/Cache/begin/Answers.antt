@@ -18,9 +18,8 @@ use Rattle.patch_graph.specs.Between.{HasNoRing}
 use Rattle.patch_cache.specs.Contents.{Contents, no_block}
 use Rattle.patch_cache.specs.Meaning.{Represents, IsWriteOf}
 use Rattle.patch_cache.proofs.Departing.{may_depart}
-use Rattle.patch_cache.specs.BlockSets.{holds as is_in}
 use Rattle.patch_cache.proofs.Underway.{one_more}
-use Rattle.patch_cache.proofs.Waiting.{sent_waiting}
+use Rattle.patch_cache.proofs.Stepping.{within}
 use Rattle.patch_cache.proofs.Writing.{IsStepOf, stepped, sent_here, sent_other}
 use Rattle.patch_cache.proofs.caches.Cache.begin.Goals as goal
 
@@ -41,9 +40,9 @@ returns-clause-begun g c = λ run at may.
     let seen = subst (λ (v : Contents). Represents v run) (sym c.self.view_is) at in
     let largest = c.ready_is_largest.ensures.largest all block (c.ready_is_largest.ensures.made run) in
     let place : c.block.inside.0 ≡ block = c.block.view_is in
-    let within : c.block.inside.0 < c.self.inside.blocks.len = let known = lawful.0 in let count = seen.count in let long = c.self.inside.blocks.ok.0 in omega arith in
+    let inside : c.block.inside.0 < c.self.inside.blocks.len = within _ c.args.self.now block c.block.inside.0 _ place c.self.view_is c.requires.known c.self.inside.blocks.ok.0 in
     let found : c.index_mut-state.result.now ≡ get_or c.self.inside.blocks.items block no_block =
-    get_or_read_under c.self.inside.blocks.items c.block.inside.0 c.self.inside.blocks.len c.index_mut-state.result.now no_block c.index_mut-state.ensures.value within c.self.inside.blocks.ok.0
+    get_or_read_under c.self.inside.blocks.items c.block.inside.0 c.self.inside.blocks.len c.index_mut-state.result.now no_block c.index_mut-state.ensures.value inside c.self.inside.blocks.ok.0
     ∙ ap (λ (i : ℕ). get_or c.self.inside.blocks.items i no_block) place in
     let here : IsBlockOf c.index_mut-state.result.now [] h = subst (λ z. IsBlockOf z [] h) (sym found) (seen.blocks block lawful.0) in
     let slice : c.as_slice-2.result.now ≡ numbers_of set = c.as_slice-2.ensures.value ∙ numbers in
@@ -79,10 +78,8 @@ returns-clause-begun g c = λ run at may.
       writes = λ other w differ. sent_other run block other w state differ (c.flights_are_ready.ensures.sent_elsewhere run block other (λ e. differ (sym e)));
     } in (
       record { block_is = refl; sequence_is = seen.sends; numbers_are = c.from_vec.ensures ∙ numbers; image_is = copied },
-      stepped run (Send block) _ c.block.inside.0 block c.depart_each.new.self _ c.mark_flight.new.self c.saturating_add-self-inside.result c.self.inside.live _ _
-          c.block.view_is seen c.self.invariant.0 is flies write graph sends counted
-          (sent_waiting run block _ _ state (λ other differ. c.steps_change_blocks.ensures.sent_elsewhere run block other differ)
-          (λ n. c.remove.ensures n ∙ ap (λ (k : ℕ). not (n == k) && is_in c.self.inside.waiting n) place) seen.waiting),
+      stepped run (Send block) _ c.block.inside.0 block c.depart_each.new.self _ c.mark_flight.new.self c.saturating_add-self-inside.result c.self.inside.live _
+          c.block.view_is seen c.self.invariant.0 is flies write graph sends counted,
     )
 
 pub returns-clause-trace : goal.returns-clause-trace
@@ -107,3 +104,6 @@ invariant_of-self-2 g c =
       ap (λ n. n + 1) c.self.invariant.2 ∙ sym (one_more ws c.block.inside.0 _ within none),
       omega arith,
     )
+
+pub index_mut-state-requires : goal.index_mut-state-requires
+index_mut-state-requires g c = within _ c.args.self.now c.args.block c.block.inside.0 _ c.block.view_is c.self.view_is c.requires.known c.self.inside.blocks.ok.0

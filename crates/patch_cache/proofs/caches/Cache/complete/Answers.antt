@@ -15,7 +15,6 @@ use Rattle.patch_graph.specs.Meaning.{Represents as IsGraphOf}
 use Rattle.patch_cache.specs.Contents.{Contents, no_block}
 use Rattle.patch_cache.specs.Meaning.{Represents, IsWriteOf}
 use Rattle.patch_cache.proofs.Refusing.{has_one}
-use Rattle.patch_cache.proofs.Waiting.{landed_waiting}
 use Rattle.patch_cache.proofs.Writing.{IsStepOf, stepped, landed_here, landed_other}
 use Rattle.patch_cache.proofs.Underway.{no_stranger, placed, one_less}
 use Rattle.patch_cache.proofs.caches.Cache.complete.Goals as goal
@@ -112,18 +111,10 @@ returns-clause-done g c = λ run at.
         sends = c.self.inside.sends;
         live = c.saturating_sub.result;
         trace = map step_of c.push_reserved.new.self.items;
-        waiting = c.stay_waiting.new.waiting;
       }) next) rest
-          (stepped run (Complete block) _ c.block.inside.0 block c.land_each.new.self None c.mark_durable.new.self c.self.inside.sends c.saturating_sub.result _ _
-          place seen c.self.invariant.0 is ended (landed_here run block state) graph sends counted
-          (landed_waiting run block _ _ _ state (λ other differ. c.steps_change_blocks.ensures.landed_elsewhere run block other differ) ended c.stay_waiting.ensures seen.waiting)),
+          (stepped run (Complete block) _ c.block.inside.0 block c.land_each.new.self None c.mark_durable.new.self c.self.inside.sends c.saturating_sub.result _
+          place seen c.self.invariant.0 is ended (landed_here run block state) graph sends counted),
     )
-
-pub stay_waiting-requires : goal.stay_waiting-requires
-stay_waiting-requires g c =
-    let within = slice_get_within c.self.inside.writes.items c.args.landed.block (Some c.in-Some.write) c.in-Some.ensures.0 in
-    let below : c.args.landed.block < 4096 = let long = c.self.invariant.0 in let fits = c.self.invariant.1 in omega arith in
-    below
 
 pub returns-clause-trace : goal.returns-clause-trace
 returns-clause-trace g c =

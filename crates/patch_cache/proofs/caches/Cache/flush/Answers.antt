@@ -1,11 +1,12 @@
-use Rattle.std.proofs.Common.{Bool, false, ◌∙◌, length, sym, ap, subst, arith}
+use Rattle.std.proofs.Common.{Bool, Result, false, ◌∙◌, length, sym, ap, subst, arith}
 use Rattle.patch_model.specs.Execution.{Execution, followed_by}
 use Rattle.patch_model.specs.State.{entries_of}
 use Rattle.patch_device.specs.SameDevice.{same_both}
 use Rattle.patch_cache.specs.Running.{Runs, RunsBeside}
-use Rattle.patch_cache.specs.Waves.{steps_since, HasGoneOnBeside, IsFlushed}
-use Rattle.patch_cache.specs.Refused.{refused_later}
+use Rattle.patch_cache.specs.Waves.{steps_since, HasGoneOnBeside, IsFlushed, RisesIfGivenUp, IsHeldIfGivenUp}
+use Rattle.patch_cache.specs.Refused.{IfGivenUp, refused_later}
 use Rattle.patch_cache.proofs.Waving.{continues_both, since_both, went_both, keeps_both, sends_since, given_so}
+use Rattle.patch_cache.proofs.GivenUp.{rises_so, held_so, no_device_gave_up, risen_later}
 use Rattle.patch_cache.proofs.Passing.{passed_none, passed_some, flushed_after, few_classes}
 use Rattle.patch_cache.proofs.caches.Cache.flush.Goals as goal
 
@@ -179,3 +180,58 @@ returns-in_err-land-2-clause-tries g c honest =
     let sends = sends_since old mid sent before.trace wave.trace in
     let lands = sends_since old sent c.land-in-loop.new.self (continues_both old mid sent before.trace wave.trace) told.trace in
     let ends = told.ends in omega (arith, so_far, wave_tried, held, none, sends, lands, ends)
+
+-- which device was given up
+pub returns-in_err-land-clause-gave_up : goal.returns-in_err-land-clause-gave_up
+returns-in_err-land-clause-gave_up g c others run on =
+    rises_so c.from_residual.result c.in_err-land.field-0.0.0 _ _ c.from_residual.ensures.1 (c.in_err-land.ensures.cause others run on)
+
+pub returns-in_err-land-clause-refused : goal.returns-in_err-land-clause-refused
+returns-in_err-land-clause-refused g c others run on =
+    given_so g.D.Device c.from_residual.result c.in_err-land.field-0.0.0 _ _ _ c.from_residual.ensures.1 (c.in_err-land.ensures.gave_up others run on)
+
+pub returns-in_err-land-clause-held : goal.returns-in_err-land-clause-held
+returns-in_err-land-clause-held g c = held_so c.from_residual.result c.in_err-land.field-0.0.0 c.land.new.flights c.from_residual.ensures.1 c.in_err-land.ensures.block
+
+pub returns-in_err-send_all-clause-gave_up : goal.returns-in_err-send_all-clause-gave_up
+returns-in_err-send_all-clause-gave_up g c others run on =
+    no_device_gave_up c.from_residual-in_err-send_all.result (λ r. RisesIfGivenUp r (g.D.Device.fault_count c.args.device.now) (g.D.Device.fault_count c.loop.device)) c.from_residual-in_err-send_all.ensures.1 tt
+
+pub returns-in_err-send_all-clause-refused : goal.returns-in_err-send_all-clause-refused
+returns-in_err-send_all-clause-refused g c others run on =
+    no_device_gave_up c.from_residual-in_err-send_all.result (λ r. IfGivenUp g.D.Device r c.send_all.new.flights c.args.device.now c.loop.device) c.from_residual-in_err-send_all.ensures.1 tt
+
+pub returns-in_err-send_all-clause-held : goal.returns-in_err-send_all-clause-held
+returns-in_err-send_all-clause-held g c =
+    no_device_gave_up c.from_residual-in_err-send_all.result (λ r. IsHeldIfGivenUp r c.send_all.new.flights) c.from_residual-in_err-send_all.ensures.1 tt
+
+pub returns-in_err-land-2-clause-gave_up : goal.returns-in_err-land-2-clause-gave_up
+returns-in_err-land-2-clause-gave_up g c others run on =
+    let before = c.loop.invariant in
+    let first = before.ran others run on.runs in
+    let sent = c.send_all.ensures.ran others _ first.runs in
+    let told = c.in_err-land-2.ensures.cause others _ (record { runs = sent.runs; blocks = before.same.count ∙ on.blocks }) in
+    rises_so c.from_residual-in_err-land-2.result c.in_err-land-2.field-0.0.0 _ _ c.from_residual-in_err-land-2.ensures.1 (risen_later _ _ _ _ before.same.faults told)
+
+pub returns-in_err-land-2-clause-held : goal.returns-in_err-land-2-clause-held
+returns-in_err-land-2-clause-held g c =
+    held_so c.from_residual-in_err-land-2.result c.in_err-land-2.field-0.0.0 c.land-in-loop.new.flights c.from_residual-in_err-land-2.ensures.1 c.in_err-land-2.ensures.block
+
+-- what the way to each exit adds to the trace, and leaves of the device
+pub returns-then-not-branch-clause-ran : goal.returns-then-not-branch-clause-ran
+returns-then-not-branch-clause-ran g c others run runs =
+    let told = c.send_all.ensures in
+    let first = c.loop.invariant.ran others run runs in
+    went_both run c.args.self.now c.loop.self c.send_all.new.self _ _ c.loop.invariant.trace told.trace first (told.ran others _ first.runs)
+
+pub returns-then-not-branch-clause-trace : goal.returns-then-not-branch-clause-trace
+returns-then-not-branch-clause-trace g c = continues_both c.args.self.now c.loop.self c.send_all.new.self c.loop.invariant.trace c.send_all.ensures.trace
+
+pub returns-in_err-land-2-clause-trace : goal.returns-in_err-land-2-clause-trace
+returns-in_err-land-2-clause-trace g c =
+    let old = c.args.self.now in
+    let sent = c.send_all.new.self in
+    continues_both old sent c.land-in-loop.new.self (continues_both old c.loop.self sent c.loop.invariant.trace c.send_all.ensures.trace) c.land-in-loop.ensures.trace
+
+pub returns-in_err-land-2-clause-device : goal.returns-in_err-land-2-clause-device
+returns-in_err-land-2-clause-device g c = same_both g.D.Device c.args.device.now c.loop.device c.land-in-loop.new.device c.loop.invariant.same c.land-in-loop.ensures.device

@@ -1,4 +1,5 @@
-use Rattle.std.proofs.Common.{◌∙◌, ℕ, List, map, length, refl, sym, ap, subst, arith}
+use Rattle.std.proofs.Common.{◌≡◌, ◌∙◌, ◌+◌, ◌≤◌, ◌++◌, ◌∷◌, [], ℕ, List, map, length, length-set, length-append, refl, sym, ap, subst, arith}
+use Rattle.std.proofs.lemmas.List.{map-append}
 use Rattle.patch_model.specs.Step.{Step, Create}
 use Rattle.patch_model.specs.StepOf.{step_of}
 use Rattle.patch_model.specs.Entry.{Entry}
@@ -7,7 +8,7 @@ use Rattle.patch_model.specs.Legal.{IsLegalCreate}
 use Rattle.patch_cache.specs.Contents.{Contents}
 use Rattle.patch_cache.specs.Creating.{MayLay, IsLaid}
 use Rattle.patch_cache.specs.Meaning.{Represents}
-use Rattle.patch_cache.proofs.Stepping.{StepsOn, stepped, lent, put_back, unchanged, on_err}
+use Rattle.patch_cache.proofs.Stepping.{StepsOn, stepped, lent, put_back, unchanged, on_err, noted_fits, within}
 use Rattle.patch_cache.proofs.caches.Cache.make.Goals as goal
 
 pub returns-in_err-reserve-clause-refused : goal.returns-in_err-reserve-clause-refused
@@ -40,4 +41,34 @@ returns-clause-made g c = λ run at why.
     let made = lays (record { run_legal = at.legal; on_block = here; in_graph = seen.graph; legal = lawful }) in
     let one = c.live_are_counted.ensures.made run a.block a.start a.bytes a.after a.undo in
     let live = seen.live in
-    (why, made.number_is, stepped _ run step a.block c.block.inside.0 _ _ _ _ _ c.block.view_is seen on c.insert.ensures lawful.known made.on_block made.in_graph (omega (arith, one, live)))
+    (why, made.number_is, stepped _ run step a.block c.block.inside.0 _ _ _ _ c.block.view_is seen on lawful.known made.on_block made.in_graph (omega (arith, one, live)))
+
+pub returns-clause-trace : goal.returns-clause-trace
+returns-clause-trace g c =
+    ap (map step_of) (rw c.reserve.ensures.items at c.push_reserved.ensures.items) ∙ map-append step_of c.self.inside.trace.items _
+    ∙ ap (λ (v : Contents). v.trace ++ Create c.args.block c.args.start c.args.bytes c.args.after c.args.undo ∷ []) c.self.view_is
+
+pub invariant_of-self-in_err-no : goal.invariant_of-self-in_err-no
+invariant_of-self-in_err-no g c =
+    let blocks = length-set c.self.inside.blocks.items c.block.inside.0 c.lay_on.new.state in
+    let same = ap length c.reserve.ensures.items in
+    let room = c.reserve.ensures.capacity in
+    let before = c.self.invariant.3 in (
+      c.self.invariant.0 ∙ sym blocks,
+      subst (λ (n : ℕ). n ≤ 4096) (sym blocks) c.self.invariant.1,
+      c.self.invariant.2,
+      omega (arith, same, room, before),
+    )
+
+pub invariant_of-self-2 : goal.invariant_of-self-2
+invariant_of-self-2 g c =
+    let blocks = length-set c.self.inside.blocks.items c.block.inside.0 c.lay_on.new.state in
+    let longer : length c.push_reserved.new.self.items ≡ length c.reserve.new.self.items + 1 = ap length c.push_reserved.ensures.items ∙ length-append c.reserve.new.self.items _ in (
+      c.self.invariant.0 ∙ sym blocks,
+      subst (λ (n : ℕ). n ≤ 4096) (sym blocks) c.self.invariant.1,
+      c.self.invariant.2,
+      noted_fits _ _ _ c.self.inside.under_way _ _ c.reserve.new.self.ok.0 longer c.in_ok-reserve.ensures.ok c.push_reserved.ensures.capacity,
+    )
+
+pub index_mut-state-requires : goal.index_mut-state-requires
+index_mut-state-requires g c = within _ c.args.self.now c.args.block c.block.inside.0 _ c.block.view_is c.self.view_is c.requires.known c.self.inside.blocks.ok.0

@@ -7,7 +7,7 @@ use Rattle.patch_model.specs.State.{entries_of}
 use Rattle.patch_model.specs.Legal.{block_of_patch}
 use Rattle.patch_cache.specs.Contents.{Contents}
 use Rattle.patch_cache.specs.Meaning.{Represents}
-use Rattle.patch_cache.proofs.Stepping.{StepsOn, stepped, lent, put_back, unchanged, on_err}
+use Rattle.patch_cache.proofs.Stepping.{StepsOn, stepped, lent, put_back, unchanged, on_err, within}
 use Rattle.patch_cache.proofs.caches.Cache.make_one.Goals as goal
 
 pub returns-in_err-name-clause-refused : goal.returns-in_err-name-clause-refused
@@ -36,7 +36,7 @@ returns-clause-merged g c = λ run at may.
     let known : block < length run.first = let inside = c.requires.known in let many = at.count in omega (arith, inside, many, of_a) in
     let here = lent _ block c.block.inside.0 _ run place c.index_mut-state.ensures.value seen known in
     let made = c.in_ok-name.ensures.merged run (record { run_legal = at.legal; legal = lawful; on_block = here; in_graph = seen.graph }) in
-    (lawful, made.name_is, stepped _ run step block c.block.inside.0 _ _ _ _ _ place seen on c.insert.ensures known made.on_block made.in_graph (seen.live ∙ sym (c.live_are_counted.ensures.merged run a b)))
+    (lawful, made.name_is, stepped _ run step block c.block.inside.0 _ _ _ _ place seen on known made.on_block made.in_graph (seen.live ∙ sym (c.live_are_counted.ensures.merged run a b)))
 
 pub returns-clause-trace : goal.returns-clause-trace
 returns-clause-trace g c =
@@ -66,3 +66,6 @@ invariant_of-self-2 g c =
       c.self.invariant.2,
       omega arith,
     )
+
+pub index_mut-state-requires : goal.index_mut-state-requires
+index_mut-state-requires g c = within _ c.args.self.now c.args.block c.block.inside.0 _ c.block.view_is c.self.view_is c.requires.known c.self.inside.blocks.ok.0

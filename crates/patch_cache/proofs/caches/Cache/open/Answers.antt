@@ -14,4 +14,4 @@ invariant_of-result g c =
 
 pub returns-clause-answer : goal.returns-clause-answer
 returns-clause-answer g c =
-    opened _ _ _ c.len-count.result _ _ _ c.in_ok-unpatched.ensures c.new.ensures c.in_ok-writes.ensures (let long = c.args.blocks.ok in let count = c.len-count.ensures in omega (arith, long, count)) c.requires.some c.requires.few
+    opened _ _ _ c.len-count.result _ _ c.in_ok-unpatched.ensures c.new.ensures c.in_ok-writes.ensures (let long = c.args.blocks.ok in let count = c.len-count.ensures in omega (arith, long, count)) c.requires.some c.requires.few

@@ -1,4 +1,4 @@
-use Rattle.std.proofs.Common.{◌≡◌, ℕ, List, Result, Ok, Err}
+use Rattle.std.proofs.Common.{◌≡◌, ◌∙◌, ◌≤◌, ℕ, List, Result, Ok, Err, length-set, sym, subst}
 use Rattle.std.specs.Result.{MatchResult, OnErr}
 use Rattle.patch_model.specs.Execution.{Execution}
 use Rattle.patch_model.specs.History.{History, history_of}
@@ -12,6 +12,7 @@ use Rattle.patch_view.specs.Refusal.{put_back_cause}
 use Rattle.patch_cache.specs.Viewing.{with_move}
 use Rattle.patch_cache.specs.declared.asks.Move.TheVariants.{Back}
 use Rattle.patch_cache.proofs.Showing.{Lent, started, put_back, put_back_is_refused, only_one, as_was, still_a_view}
+use Rattle.patch_cache.proofs.Stepping.{within}
 use Rattle.patch_cache.proofs.caches.Cache.put_back_of.Goals as goal
 
 answered : {X : Type 0} → (r : Result X PutBackRefusal) (now c : Contents) (block place number : ℕ) (b after : Block) (names : List ℕ) (run : Execution) → Lent now c block place b
@@ -52,3 +53,11 @@ pub returns-clause-view : goal.returns-clause-view
 returns-clause-view g c = λ before as_view.
     still_a_view before c.args.self.now _ c.args.block c.block.inside.0 c.index_mut-state.result.now c.put_back.new.self
     (record { same = c.self.view_is; place_is = c.block.view_is; known = c.requires; value = c.index_mut-state.ensures.value }) c.put_back.ensures.outline as_view
+
+pub index_mut-state-requires : goal.index_mut-state-requires
+index_mut-state-requires g c = within _ c.args.self.now c.args.block c.block.inside.0 _ c.block.view_is c.self.view_is c.requires c.self.inside.blocks.ok.0
+
+pub invariant_of-self : goal.invariant_of-self
+invariant_of-self g c =
+    let blocks = length-set c.self.inside.blocks.items c.block.inside.0 c.put_back.new.self in
+    (c.self.invariant.0 ∙ sym blocks, subst (λ (n : ℕ). n ≤ 4096) (sym blocks) c.self.invariant.1, c.self.invariant.2, c.self.invariant.3)

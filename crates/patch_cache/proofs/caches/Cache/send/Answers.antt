@@ -18,7 +18,6 @@ returns-in_ok-begin-in-None-clause-sent g c = λ run at.
       sends = c.self.inside.sends;
       live = c.self.inside.live;
       trace = map step_of c.self.inside.trace.items;
-      waiting = c.self.inside.waiting;
     } in
     let same : now ≡ c.args.self.now = c.self.view_is ∙ c.in-None.ensures.same in
     let seen : Represents now run = subst (λ (v : Contents). Represents v run) (sym same) at in

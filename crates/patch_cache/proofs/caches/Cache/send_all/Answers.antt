@@ -1,7 +1,7 @@
-use Rattle.std.proofs.Common.{◌≡◌, ◌<◌, ◌≤◌, ◌||◌, ◌+◌, ℕ, [], false, refl, sym, ap, subst, ◌∙◌, arith}
+use Rattle.std.proofs.Common.{◌≡◌, ◌<◌, ◌≤◌, ◌||◌, ◌+◌, ℕ, [], false, None, Some, refl, sym, ap, subst, ◌∙◌, arith}
 use Rattle.std.specs.Prelude.{count_by}
 use Rattle.patch_model.specs.State.{entries_of}
-use Rattle.patch_cache.specs.BlockSets.{holds}
+use Rattle.patch_graph.specs.Ready.{TellsNextOpen}
 use Rattle.patch_cache.specs.Contents.{Contents}
 use Rattle.patch_cache.specs.Waves.{is_send, steps_since, Continues, HasKept, begun}
 use Rattle.patch_cache.proofs.Waving.{none_added, no_sends, since_is, since_more, continues, continues_both, gone_same}
@@ -10,8 +10,8 @@ use Rattle.patch_cache.proofs.Passing.{LargestLaw, Passed, pass_begun, pass_more
 use Rattle.patch_cache.proofs.caches.Cache.send_all.Goals.{then-sent, else-sent}
 use Rattle.patch_cache.proofs.caches.Cache.send_all.Goals as goal
 
-pub loop-at-init : goal.loop-at-init
-loop-at-init g c =
+pub loop-block-init : goal.loop-block-init
+loop-block-init g c =
     let old = c.args.self.now in
     let none = none_added old old refl in
     record {
@@ -21,63 +21,65 @@ loop-at-init g c =
       kept = λ e. refl;
     }
 
-pub loop-at-preserved : goal.loop-at-preserved
-loop-at-preserved g c =
+pub loop-block-preserved : goal.loop-block-preserved
+loop-block-preserved g c =
     let old = c.args.self.now in
-    let mid = c.loop-at.self in
+    let mid = c.loop-block.self in
     let next = c.send_if_ready.new.self in
-    let before = c.loop-at.invariant in
+    let before = c.loop-block.invariant in
     let told = c.in_ok-more.ensures in
-    let more = begun c.in-Some.at c.in_ok-more.more in
-    let is : c.if-sent.sent ≡ (c.loop-at.sent || c.in_ok-more.more) = elim c.if-sent.branch [
+    let more = begun c.in-Some.block c.in_ok-more.more in
+    let is : c.if-sent.sent ≡ (c.loop-block.sent || c.in_ok-more.more) = elim c.if-sent.branch [
       | then-sent w ↦ w.sent-is ∙ sym (rw w.if-sent.true refl)
       | else-sent w ↦ w.sent-is ∙ sym (rw w.if-sent.false refl)
     ] in
     let largest : LargestLaw = λ run block. c.ready_is_largest.ensures.largest (entries_of run) block (c.ready_is_largest.ensures.made run) in
-    let skipped = subst (λ (v : Contents). (b : ℕ) → c.loop-at.from ≤ b → b < c.in-Some.at → holds v.waiting b ≡ false) c.self.view_is c.in-Some.ensures.3 in
+    let skipped = subst (λ (v : Contents). TellsNextOpen v.graph c.loop-block.from (Some c.in-Some.block)) c.self.view_is c.in-Some.ensures.answer in
     record {
       so_far = λ others run runs.
-          let first = pass_skipped largest c.pairs_merge.ensures.sent run c.loop-at.from c.in-Some.at c.loop-at.sent (steps_since old mid) mid c.loop-at.flights skipped (before.so_far others run runs) in
-          subst (λ b. Passed others run (c.in-Some.at + 1) b (steps_since old next) next c.send_if_ready.new.flights) (sym is)
-          (subst (λ s. Passed others run (c.in-Some.at + 1) (c.loop-at.sent || c.in_ok-more.more) s next c.send_if_ready.new.flights) (sym (since_more old mid next more before.trace told.trace))
+          let first = pass_skipped c.paths_form_no_ring.ensures.back c.patches_are_placed.ensures.flying c.pairs_merge.ensures.sent run c.loop-block.from c.in-Some.block c.loop-block.sent (steps_since old mid) mid c.loop-block.flights
+          (λ all seen ring. (skipped all seen ring).3) (before.so_far others run runs) in
+          subst (λ n. Passed others run (n + 1) c.if-sent.sent (steps_since old next) next c.send_if_ready.new.flights) (sym c.block.view_is)
+          (subst (λ b. Passed others run (c.in-Some.block + 1) b (steps_since old next) next c.send_if_ready.new.flights) (sym is)
+          (subst (λ s. Passed others run (c.in-Some.block + 1) (c.loop-block.sent || c.in_ok-more.more) s next c.send_if_ready.new.flights) (sym (since_more old mid next more before.trace told.trace))
           (pass_more c.trails_join.ensures c.steps_extend.ensures.state c.images_stay.ensures c.disks_stay.ensures c.executions_are_orderly.ensures.patches largest
-          c.pairs_merge.ensures.sent run c.in-Some.at c.loop-at.sent c.in_ok-more.more (steps_since old mid) mid next c.loop-at.flights c.send_if_ready.new.flights first (told.sent others _ first.gone.runs)));
+          c.pairs_merge.ensures.sent run c.in-Some.block c.loop-block.sent c.in_ok-more.more (steps_since old mid) mid next c.loop-block.flights c.send_if_ready.new.flights first (told.sent others _ first.gone.runs))));
       trace = continues_both old mid next before.trace (continues mid next more told.trace);
       count =
           let so_far = before.count in
           let one = told.count in
           let both = ap (λ s. count_by is_send s) (since_more old mid next more before.trace told.trace) ∙ count-append is_send (steps_since old mid) more in omega (arith, so_far, one, both);
       kept = λ e.
-          let none = neither c.loop-at.sent c.in_ok-more.more (sym is ∙ e) in
+          let none = neither c.loop-block.sent c.in_ok-more.more (sym is ∙ e) in
           told.kept none.1 ∙ before.kept none.0;
     }
 
 -- a write was given up
 pub returns-in_err-more-clause-ran : goal.returns-in_err-more-clause-ran
 returns-in_err-more-clause-ran g c others run runs =
-    let first = c.loop-at.invariant.so_far others run runs in
-    gone_same run c.args.self.now c.loop-at.self c.send_if_ready.new.self c.loop-at.flights c.send_if_ready.new.flights c.in_err-more.ensures.refused c.in_err-more.ensures.held first.gone
+    let first = c.loop-block.invariant.so_far others run runs in
+    gone_same run c.args.self.now c.loop-block.self c.send_if_ready.new.self c.loop-block.flights c.send_if_ready.new.flights c.in_err-more.ensures.refused c.in_err-more.ensures.held first.gone
 
 pub returns-in_err-more-clause-trace : goal.returns-in_err-more-clause-trace
-returns-in_err-more-clause-trace g c = subst (λ (x : Contents). Continues c.args.self.now x) (sym c.in_err-more.ensures.refused) c.loop-at.invariant.trace
+returns-in_err-more-clause-trace g c = subst (λ (x : Contents). Continues c.args.self.now x) (sym c.in_err-more.ensures.refused) c.loop-block.invariant.trace
 
 pub returns-in_err-more-clause-disk : goal.returns-in_err-more-clause-disk
 returns-in_err-more-clause-disk g c had contents others run runs =
-    let first = c.loop-at.invariant.so_far others run runs in
+    let first = c.loop-block.invariant.so_far others run runs in
     subst (λ (x : Contents). HasKept run (steps_since c.args.self.now x) had had contents contents) (sym c.in_err-more.ensures.refused) (first.kept had contents)
 
 pub returns-clause-ran : goal.returns-clause-ran
-returns-clause-ran g c others run runs = (c.loop-at.invariant.so_far others run runs).gone
+returns-clause-ran g c others run runs = (c.loop-block.invariant.so_far others run runs).gone
 
 pub returns-clause-disk : goal.returns-clause-disk
-returns-clause-disk g c had contents others run runs = (c.loop-at.invariant.so_far others run runs).kept had contents
+returns-clause-disk g c had contents others run runs = (c.loop-block.invariant.so_far others run runs).kept had contents
 
 pub returns-clause-pass : goal.returns-clause-pass
 returns-clause-pass g c run runs =
     let others = false in
     let old = c.args.self.now in
-    let mid = c.loop-at.self in
-    let largest : LargestLaw = λ run block. c.ready_is_largest.ensures.largest (entries_of run) block (c.ready_is_largest.ensures.made run) in
-    let skipped = subst (λ (v : Contents). (b : ℕ) → c.loop-at.from ≤ b → b < 4096 → holds v.waiting b ≡ false) c.self.view_is c.in_default.ensures in
-    let first = pass_skipped largest c.pairs_merge.ensures.sent run c.loop-at.from 4096 c.loop-at.sent (steps_since old mid) mid c.loop-at.flights skipped (c.loop-at.invariant.so_far others run runs) in
-    pass_ended c.pairs_merge.ensures.sent run 4096 c.loop-at.sent (steps_since old mid) (let few = runs.cache_is.legal.few in omega (arith, few)) first.pass
+    let mid = c.loop-block.self in
+    let skipped = subst (λ (v : Contents). TellsNextOpen v.graph c.loop-block.from None) c.self.view_is c.in_default.ensures.answer in
+    let first = pass_skipped c.paths_form_no_ring.ensures.back c.patches_are_placed.ensures.flying c.pairs_merge.ensures.sent run c.loop-block.from 4096 c.loop-block.sent (steps_since old mid) mid c.loop-block.flights
+    skipped (c.loop-block.invariant.so_far others run runs) in
+    pass_ended c.pairs_merge.ensures.sent run 4096 c.loop-block.sent (steps_since old mid) (let few = runs.cache_is.legal.few in omega (arith, few)) first.pass

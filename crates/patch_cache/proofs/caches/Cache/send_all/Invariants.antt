@@ -6,12 +6,12 @@ use Rattle.patch_cache.specs.Waves.{is_send, steps_since, Continues}
 use Rattle.patch_cache.proofs.Passing.{Passed}
 use Rattle.patch_cache.proofs.caches.Cache.send_all.Given as goal
 
-abbrev pub decreases-loop-at : goal.decreases-loop-at
-decreases-loop-at g l = 4096 - l.from
+abbrev pub decreases-loop-block : goal.decreases-loop-block
+decreases-loop-block g l = 4096 - l.from
 
 -- the blocks so far
-abbrev pub invariant-loop-at : goal.invariant-loop-at
-invariant-loop-at g l = record {
+abbrev pub invariant-loop-block : goal.invariant-loop-block
+invariant-loop-block g l = record {
   so_far : (others : Bool) (run : Execution) → RunsBeside others l.fn.self l.fn.flights run → Passed others run l.from l.sent (steps_since l.fn.self l.self) l.self l.flights;
   trace : Continues l.fn.self l.self;
   count : length (held_by l.flights) ≡ length (held_by l.fn.flights) + count_by is_send (steps_since l.fn.self l.self);

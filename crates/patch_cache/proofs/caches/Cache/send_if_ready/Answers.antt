@@ -1,10 +1,13 @@
-use Rattle.std.proofs.Common.{◌≡◌, ◌++◌, ◌∷◌, [], length, length-append, sym, ap, subst, ◌∙◌}
+use Rattle.std.proofs.Common.{◌≡◌, ◌++◌, ◌∷◌, [], length, length-append, refl, sym, ap, subst, ◌∙◌}
 use Rattle.patch_model.specs.Execution.{extended}
 use Rattle.patch_model.specs.Step as the
 use Rattle.patch_cache.specs.Contents.{Contents}
 use Rattle.patch_cache.specs.Meaning.{Represents}
 use Rattle.patch_cache.specs.Flights.{AreFlightsBeside}
+use Rattle.patch_cache.specs.Refusals.{send_cause}
 use Rattle.patch_cache.proofs.Holding.{held_send}
+use Rattle.patch_cache.proofs.Refusing.{not_told}
+use Rattle.patch_cache.proofs.Waving.{none_added}
 use Rattle.patch_cache.proofs.caches.Cache.send_if_ready.Goals as goal
 
 pub returns-in-Ok-clause-sent : goal.returns-in-Ok-clause-sent
@@ -37,3 +40,16 @@ returns-in-Ok-clause-count g c =
     let flight = c.in-Ok.flight in
     let held : c.push_reserved.new.self.items ≡ c.args.flights.now.held.items ++ flight ∷ [] = c.push_reserved.ensures.items ∙ ap (λ xs. xs ++ flight ∷ []) c.reserve.ensures.items in
     ap length held ∙ length-append c.args.flights.now.held.items (flight ∷ [])
+
+-- no write can begin
+pub returns-then-is_some-clause-sent : goal.returns-then-is_some-clause-sent
+returns-then-is_some-clause-sent g c = λ others run runs. (
+  λ none. not_told send_cause c.why_not_sent.result (sym c.is_some.ensures ∙ c.if-is_some.true) (c.why_not_sent.ensures.cause run runs.cache_is ∙ none),
+  record { cache_is = subst (λ (x : Contents). Represents x run) (sym c.why_not_sent.ensures.same) runs.cache_is; flights_are = runs.flights_are },
+)
+
+pub returns-then-is_some-clause-trace : goal.returns-then-is_some-clause-trace
+returns-then-is_some-clause-trace g c = none_added c.args.self.now c.why_not_sent.new.self c.why_not_sent.ensures.same
+
+pub returns-then-is_some-clause-more : goal.returns-then-is_some-clause-more
+returns-then-is_some-clause-more g c = λ run runs. refl

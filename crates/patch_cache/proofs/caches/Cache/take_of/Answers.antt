@@ -1,4 +1,4 @@
-use Rattle.std.proofs.Common.{◌≡◌, ◌∙◌, refl, ℕ, List, true, false, Result, Ok, Err, sym, ap, subst}
+use Rattle.std.proofs.Common.{◌≡◌, ◌∙◌, ◌≤◌, refl, ℕ, List, length-set, true, false, Result, Ok, Err, sym, ap, subst}
 use Rattle.std.specs.Result.{IsErr, IsErrAnd, IsOk, MatchResult, OnErr}
 use denote.Enum.Bare.{sameb}
 use Rattle.patch_model.specs.declared.refusals.Refusal.{Refusal}
@@ -16,7 +16,8 @@ use Rattle.patch_cache.specs.Refusals.{take_cause}
 use Rattle.patch_cache.specs.Viewing.{with_move}
 use Rattle.patch_cache.specs.declared.asks.Move.TheVariants.{Take}
 use Rattle.patch_cache.specs.declared.refusals.TakeRefusal.{TakeRefusal}
-use Rattle.patch_cache.proofs.Showing.{unmade_stays, durable_stays, durable_is_left, not_made, started, taken, take_is_refused, as_was, only_one, still_a_view}
+use Rattle.patch_cache.proofs.Showing.{unmade_stays, durable_stays, durable_is_left, not_made, started, taken, take_is_refused, as_was, only_one, still_a_view, its_own_view}
+use Rattle.patch_cache.proofs.Stepping.{within}
 use Rattle.patch_cache.proofs.caches.Cache.take_of.Goals as goal
 
 durable : (m : Mark) → true ≡ sameb the_type m Durable → m ≡ Durable
@@ -117,3 +118,34 @@ pub returns-clause-others : goal.returns-clause-others
 returns-clause-others g c =
     only_one c.args.self.now _ c.args.block c.block.inside.0 c.index_mut-state.result.now c.take.new.self
     (record { same = c.self.view_is; place_is = c.block.view_is; known = c.requires; value = c.index_mut-state.ensures.value })
+
+pub index_mut-state-requires : goal.index_mut-state-requires
+index_mut-state-requires g c = within _ c.args.self.now c.args.block c.block.inside.0 _ c.block.view_is c.self.view_is c.requires c.self.inside.blocks.ok.0
+
+pub invariant_of-self : goal.invariant_of-self
+invariant_of-self g c =
+    let blocks = length-set c.self.inside.blocks.items c.block.inside.0 c.take.new.self in
+    (c.self.invariant.0 ∙ sym blocks, subst (λ (n : ℕ). n ≤ 4096) (sym blocks) c.self.invariant.1, c.self.invariant.2, c.self.invariant.3)
+
+pub invariant_of-self-2 : goal.invariant_of-self-2
+invariant_of-self-2 g c =
+    let blocks = length-set c.self.inside.blocks.items c.block.inside.0 c.take.new.self in
+    (c.self.invariant.0 ∙ sym blocks, subst (λ (n : ℕ). n ≤ 4096) (sym blocks) c.self.invariant.1, c.self.invariant.2, c.self.invariant.3)
+
+pub returns-in_default-clause-others : goal.returns-in_default-clause-others
+returns-in_default-clause-others g c = (its_own_view c.args.self.now c.args.block).others
+
+pub returns-in_default-clause-view : goal.returns-in_default-clause-view
+returns-in_default-clause-view g c = λ before as_view. as_view
+
+pub returns-in_default-clause-refused : goal.returns-in_default-clause-refused
+returns-in_default-clause-refused g c = refl
+
+pub returns-then-eq-clause-others : goal.returns-then-eq-clause-others
+returns-then-eq-clause-others g c = (its_own_view c.args.self.now c.args.block).others
+
+pub returns-then-eq-clause-view : goal.returns-then-eq-clause-view
+returns-then-eq-clause-view g c = λ before as_view. as_view
+
+pub returns-then-eq-clause-refused : goal.returns-then-eq-clause-refused
+returns-then-eq-clause-refused g c = refl

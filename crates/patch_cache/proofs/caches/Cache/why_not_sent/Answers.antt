@@ -10,6 +10,7 @@ use Rattle.patch_model.specs.History.{history_of}
 use Rattle.patch_view.specs.State.{Block}
 use Rattle.patch_view.specs.Meaning.{Represents as IsBlockOf}
 use Rattle.patch_cache.proofs.Refusing.{beyond, has_one, already, nothing, none_ready, something, is_none}
+use Rattle.patch_cache.proofs.Stepping.{below_count, below_writes}
 use Rattle.patch_cache.proofs.caches.Cache.why_not_sent.Goals as goal
 
 pub returns-then-at-len-clause-cause : goal.returns-then-at-len-clause-cause
@@ -82,3 +83,12 @@ returns-clause-not_under_way g c = λ t.
     get_or_read_under c.self.inside.writes.items c.block.inside.0 c.self.inside.writes.len c.index.result.now None c.index.ensures (omega arith) c.self.inside.writes.ok.0
     ∙ ap (λ (i : ℕ). get_or c.self.inside.writes.items i None) c.block.view_is ∙ ap (λ (v : Contents). get_or v.writes c.args.block None) c.self.view_is in
     is_none (write_at c.args.self.now c.args.block) (ap is_some (sym write) ∙ sym c.is_some.ensures ∙ c.if-is_some.false)
+
+pub index-requires : goal.index-requires
+index-requires g c = below_writes _ _ _ _ _ _ c.len.ensures c.self.inside.blocks.ok.0 c.self.inside.writes.ok.0 c.self.invariant.0 c.if-at-len.false
+
+pub index-requires-2 : goal.index-requires-2
+index-requires-2 g c = subst (λ n. c.block.inside.0 < n) c.len.ensures c.if-at-len.false
+
+pub returns-clause-known : goal.returns-clause-known
+returns-clause-known g c = λ none. below_count _ c.args.self.now c.args.block c.block.inside.0 _ _ c.block.view_is c.self.view_is c.self.inside.blocks.ok.0 c.len.ensures c.if-at-len.false

@@ -1,7 +1,7 @@
 use Rattle.std.proofs.Common.{◌∙◌, ap, ◌==◌, ◌||◌}
-use Rattle.patch_cache.specs.BlockSets.{holds}
-use Rattle.patch_cache.proofs.BlockSets.{is_inserted, rows_inserted}
-use Rattle.patch_cache.proofs.block_sets.BlockSet.insert.Goals as goal
+use Rattle.patch_numbers.specs.BlockSets.{holds}
+use Rattle.patch_numbers.proofs.BlockSets.{is_inserted, rows_inserted}
+use Rattle.patch_numbers.proofs.block_sets.BlockSet.insert.Goals as goal
 
 pub invariant_of-self : goal.invariant_of-self
 invariant_of-self c = λ row within. rows_inserted c.self.inside.words c.self.inside.filled c.args.number row c.self.told c.requires within c.self.invariant

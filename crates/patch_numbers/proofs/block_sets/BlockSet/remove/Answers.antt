@@ -1,7 +1,7 @@
 use Rattle.std.proofs.Common.{◌∙◌, ap, ◌==◌, ◌&&◌, not, arith}
-use Rattle.patch_cache.specs.BlockSets.{holds}
-use Rattle.patch_cache.proofs.BlockSets.{is_removed, rows_emptied}
-use Rattle.patch_cache.proofs.block_sets.BlockSet.remove.Goals as goal
+use Rattle.patch_numbers.specs.BlockSets.{holds}
+use Rattle.patch_numbers.proofs.BlockSets.{is_removed, rows_emptied}
+use Rattle.patch_numbers.proofs.block_sets.BlockSet.remove.Goals as goal
 
 pub invariant_of-self : goal.invariant_of-self
 invariant_of-self c = λ row within. rows_emptied c.self.inside.words c.self.inside.filled _ _ row c.self.told (omega arith) within c.if-left-eq0.true c.self.invariant

@@ -1,7 +1,7 @@
 use Rattle.std.proofs.Common.{◌+◌, ◌*◌, ◌/◌, subst, Some}
-use Rattle.patch_cache.specs.BlockSets.{IsLeastFrom}
-use Rattle.patch_cache.proofs.BlockSets.{AreFilled, not_empty, least_later}
-use Rattle.patch_cache.proofs.block_sets.BlockSet.least_from.Goals as goal
+use Rattle.patch_numbers.specs.BlockSets.{IsLeastFrom}
+use Rattle.patch_numbers.proofs.BlockSets.{AreFilled, not_empty, least_later}
+use Rattle.patch_numbers.proofs.block_sets.BlockSet.least_from.Goals as goal
 
 pub returns-in_err-bit : goal.returns-in_err-bit
 returns-in_err-bit c =

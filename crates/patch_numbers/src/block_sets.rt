@@ -1,6 +1,6 @@
 //! Sets of block numbers.
 ghost use Rattle.std.specs.Prelude.{◌≡◌, ◌<◌, ◌==◌, ◌&&◌, ◌||◌, ℕ, not, false};
-ghost use Rattle.patch_cache.specs.BlockSets.{holds, IsLowestFrom, IsLeastFrom};
+ghost use Rattle.patch_numbers.specs.BlockSets.{holds, IsLowestFrom, IsLeastFrom};
 
 use patch_model::MAX_BLOCKS;
 use std::marker::Model;
@@ -8,7 +8,7 @@ use std::marker::Model;
 /// A set of block numbers, in no memory of its own: a bit for each in 64 words, and a bit for each word that isn't 0. So its
 /// least number is found in a few steps.
 #[derive(Drop)]
-pub(crate) struct BlockSet {
+pub struct BlockSet {
     words: [u64; 64],
     filled: u64,
 }
@@ -26,7 +26,7 @@ impl Model for BlockSet {
 
 impl BlockSet {
     /// No number yet.
-    pub(crate) fn new() -> BlockSet
+    pub fn new() -> BlockSet
         ensures { (n : ℕ) → holds result n ≡ false }
     {
         BlockSet {
@@ -36,7 +36,7 @@ impl BlockSet {
     }
 
     /// Puts a number in, if it isn't there.
-    pub(crate) fn insert(&mut self, number: usize)
+    pub fn insert(&mut self, number: usize)
         requires { number < MAX_BLOCKS }
         ensures { (n : ℕ) → holds self.new n ≡ (n == number || holds self.old n) }
     {
@@ -46,7 +46,7 @@ impl BlockSet {
     }
 
     /// Takes a number out, if it is there.
-    pub(crate) fn remove(&mut self, number: usize)
+    pub fn remove(&mut self, number: usize)
         requires { number < MAX_BLOCKS }
         ensures { (n : ℕ) → holds self.new n ≡ (not (n == number) && holds self.old n) }
     {
@@ -59,7 +59,7 @@ impl BlockSet {
     }
 
     /// The least number that is there, from one on.
-    pub(crate) fn least_from(&self, from: usize) -> Option<usize>
+    pub fn least_from(&self, from: usize) -> Option<usize>
         ensures { IsLeastFrom self.now from result }
     {
         if from >= MAX_BLOCKS {
