@@ -12,3 +12,4 @@ pub mod Patching
 pub mod Writing
 pub mod Steps
 pub mod Uniting
+pub mod Stopping

@@ -2,13 +2,16 @@ use Rattle.std.proofs.Common.{Err, false, arith, ◌≡◌, ◌∙◌, subst, sy
 use Rattle.std.specs.Prelude.{count_by}
 use Rattle.patch_model.specs.Execution.{followed_by}
 use Rattle.patch_model.specs.State.{entries_of}
+use Rattle.patch_device.specs.SameDevice.{same_both}
 use Rattle.patch_cache.specs.Refused.{given_up_later}
 use Rattle.patch_cache.specs.Waves.{steps_since}
 use Rattle.patch_plans.specs.Groups.{is_pending, patches_of}
-use Rattle.patch_group.specs.Syncing.{IsSynced}
+use Rattle.patch_group.specs.Syncing.{IsSynced, RisesIfSyncStops, IfSyncStops, IsHeldIfSyncStops}
+use Rattle.patch_group.specs.declared.refusals.SyncRefusal.TheVariants as refusal
 use Rattle.patch_group.proofs.Pending.{none_left}
 use Rattle.patch_group.proofs.Steps.{for_all, landed_first}
-use Rattle.patch_group.proofs.Writing.{went_both, keeps_both, since_both, sends_both, sync_stops, stays_past, groups_stay}
+use Rattle.patch_group.proofs.Writing.{continues_both, went_both, keeps_both, since_both, sends_both, sync_stops, stays_past, groups_stay}
+use Rattle.patch_group.proofs.Stopping.{sync_rises, sync_holds, told_as}
 use Rattle.patch_group.proofs.syncing.sync.Goals as goal
 
 pub returns-in_err-land-clause-stands : goal.returns-in_err-land-clause-stands
@@ -123,3 +126,54 @@ returns-in_err-write_all_of-clause-refused g c run on =
     let told = c.in_err-write_all_of.ensures.refused _ (record { runs = (first.ran false run on.runs).runs; blocks = first.device.count ∙ on.blocks }) in
     sync_stops (Unit {0}) g.D.Device _ c.in_err-write_all_of.field-0.0 _ _ _ c.from_residual-in_err-write_all_of.ensures.1
     (given_up_later {T = Unit {0}} g.D.Device (Err c.in_err-write_all_of.field-0.0) _ c.args.device.now c.land.new.device c.write_all_of.new.device first.device told)
+
+-- what a sync that stops tells
+pub returns-in_err-land-clause-gave_up : goal.returns-in_err-land-clause-gave_up
+returns-in_err-land-clause-gave_up g c run on =
+    let device = g.D.Device in
+    told_as c.from_residual.result (refusal.DeviceGaveUp c.in_err-land.field-0.0.0) (λ r. RisesIfSyncStops r (device.fault_count c.args.device.now) (device.fault_count c.land.new.device)) c.from_residual.ensures.1
+    (c.in_err-land.ensures.cause false run on)
+
+pub returns-in_err-land-clause-refused : goal.returns-in_err-land-clause-refused
+returns-in_err-land-clause-refused g c run on =
+    told_as c.from_residual.result (refusal.DeviceGaveUp c.in_err-land.field-0.0.0) (λ r. IfSyncStops g.D.Device r c.land.new.flights c.args.device.now c.land.new.device) c.from_residual.ensures.1
+    (c.in_err-land.ensures.gave_up false run on)
+
+pub returns-in_err-land-clause-held : goal.returns-in_err-land-clause-held
+returns-in_err-land-clause-held g c =
+    told_as c.from_residual.result (refusal.DeviceGaveUp c.in_err-land.field-0.0.0) (λ r. IsHeldIfSyncStops r c.land.new.flights) c.from_residual.ensures.1 c.in_err-land.ensures.block
+
+pub returns-in_err-waiting-clause-gave_up : goal.returns-in_err-waiting-clause-gave_up
+returns-in_err-waiting-clause-gave_up g c run on =
+    let device = g.D.Device in
+    told_as c.from_residual-in_err-waiting.result refusal.OutOfMemory (λ r. RisesIfSyncStops r (device.fault_count c.args.device.now) (device.fault_count c.land.new.device)) c.from_residual-in_err-waiting.ensures.1 tt
+
+pub returns-in_err-waiting-clause-refused : goal.returns-in_err-waiting-clause-refused
+returns-in_err-waiting-clause-refused g c run on =
+    told_as c.from_residual-in_err-waiting.result refusal.OutOfMemory (λ r. IfSyncStops g.D.Device r c.land.new.flights c.args.device.now c.land.new.device) c.from_residual-in_err-waiting.ensures.1 tt
+
+pub returns-in_err-waiting-clause-held : goal.returns-in_err-waiting-clause-held
+returns-in_err-waiting-clause-held g c =
+    told_as c.from_residual-in_err-waiting.result refusal.OutOfMemory (λ r. IsHeldIfSyncStops r c.land.new.flights) c.from_residual-in_err-waiting.ensures.1 tt
+
+pub returns-in_err-write_all_of-clause-gave_up : goal.returns-in_err-write_all_of-clause-gave_up
+returns-in_err-write_all_of-clause-gave_up g c run on =
+    let first = c.land.ensures in
+    let told = c.in_err-write_all_of.ensures.gave_up _ (record { runs = (first.ran false run on.runs).runs; blocks = first.device.count ∙ on.blocks }) in
+    sync_rises (Unit {0}) c.from_residual-in_err-write_all_of.result c.in_err-write_all_of.field-0.0 _ _ _ c.from_residual-in_err-write_all_of.ensures.1 first.device.faults told
+
+pub returns-in_err-write_all_of-clause-held : goal.returns-in_err-write_all_of-clause-held
+returns-in_err-write_all_of-clause-held g c =
+    sync_holds (Unit {0}) c.from_residual-in_err-write_all_of.result c.in_err-write_all_of.field-0.0 c.write_all_of.new.flights c.from_residual-in_err-write_all_of.ensures.1 c.in_err-write_all_of.ensures.held
+
+pub returns-in_err-write_all_of-clause-trace : goal.returns-in_err-write_all_of-clause-trace
+returns-in_err-write_all_of-clause-trace g c = continues_both c.traces_join.ensures.joined c.args.cache.now c.land.new.self c.write_all_of.new.cache c.land.ensures.trace c.write_all_of.ensures.trace
+
+pub returns-in_err-write_all_of-clause-device : goal.returns-in_err-write_all_of-clause-device
+returns-in_err-write_all_of-clause-device g c = same_both g.D.Device c.args.device.now c.land.new.device c.write_all_of.new.device c.land.ensures.device c.write_all_of.ensures.device
+
+pub returns-clause-trace : goal.returns-clause-trace
+returns-clause-trace g c = continues_both c.traces_join.ensures.joined c.args.cache.now c.land.new.self c.write_all_of.new.cache c.land.ensures.trace c.write_all_of.ensures.trace
+
+pub returns-clause-device : goal.returns-clause-device
+returns-clause-device g c = same_both g.D.Device c.args.device.now c.land.new.device c.write_all_of.new.device c.land.ensures.device c.write_all_of.ensures.device

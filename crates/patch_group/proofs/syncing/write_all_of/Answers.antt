@@ -11,6 +11,7 @@ use Rattle.patch_group.specs.Syncing.{IsSynced}
 use Rattle.patch_group.proofs.Pending.{none_still, none_pending_of}
 use Rattle.patch_group.proofs.Writing.{continues_both, went_both, keeps_both, since_both, sends_both, write_stops, stays_past, wrote_none, wrote_some, same_run}
 use Rattle.patch_group.proofs.Steps.{none_fly, leads_on, leads_here, wrote_nothing}
+use Rattle.patch_group.proofs.Stopping.{write_rises, write_holds}
 use Rattle.patch_group.proofs.syncing.write_all_of.Goals as goal
 
 -- all of them are on the disk
@@ -169,3 +170,25 @@ loop-preserved g c =
       landed = λ none. told.landed (before.landed none);
       same = same_both g.D.Device _ _ _ before.same told.device;
     }
+
+-- what a write that was given up leaves
+pub returns-in_err-write_next-clause-gave_up : goal.returns-in_err-write_next-clause-gave_up
+returns-in_err-write_next-clause-gave_up g c run on =
+    let before = c.loop.invariant in
+    let told = c.in_err-write_next.ensures.gave_up _ (record { runs = (before.ran run on.runs).runs; blocks = before.same.count ∙ on.blocks }) in
+    write_rises Bool c.from_residual.result c.in_err-write_next.field-0.0 _ _ _ c.from_residual.ensures.1 before.same.faults told
+
+pub returns-in_err-write_next-clause-held : goal.returns-in_err-write_next-clause-held
+returns-in_err-write_next-clause-held g c = write_holds Bool c.from_residual.result c.in_err-write_next.field-0.0 c.write_next.new.flights c.from_residual.ensures.1 c.in_err-write_next.ensures.held
+
+pub returns-in_err-write_next-clause-trace : goal.returns-in_err-write_next-clause-trace
+returns-in_err-write_next-clause-trace g c = continues_both c.traces_join.ensures.joined c.args.cache.now c.loop.cache c.write_next.new.self c.loop.invariant.trace c.write_next.ensures.trace
+
+pub returns-in_err-write_next-clause-device : goal.returns-in_err-write_next-clause-device
+returns-in_err-write_next-clause-device g c = same_both g.D.Device c.args.device.now c.loop.device c.write_next.new.device c.loop.invariant.same c.write_next.ensures.device
+
+pub returns-then-not-branch-clause-trace : goal.returns-then-not-branch-clause-trace
+returns-then-not-branch-clause-trace g c = continues_both c.traces_join.ensures.joined c.args.cache.now c.loop.cache c.write_next.new.self c.loop.invariant.trace c.write_next.ensures.trace
+
+pub returns-then-not-branch-clause-device : goal.returns-then-not-branch-clause-device
+returns-then-not-branch-clause-device g c = same_both g.D.Device c.args.device.now c.loop.device c.write_next.new.device c.loop.invariant.same c.write_next.ensures.device
