@@ -1,5 +1,5 @@
 -- What calls do to the groups that are kept.
-use Rattle.std.proofs.Common.{◌≡◌, ℕ, zero, suc, ◌<◌, ◌∙◌, true, false, List, [], ◌∷◌, length, map, refl, sym, ap, arith, get_or, set, None}
+use Rattle.std.proofs.Common.{◌≡◌, ℕ, zero, suc, ◌<◌, ◌≤◌, ◌∙◌, true, false, List, [], ◌∷◌, length, map, refl, sym, ap, subst, arith, get_or, set, None}
 use Rattle.std.proofs.lemmas.List.{map-set, length-map}
 use Rattle.patch_plans.specs.Groups.{Group, Groups, fresh, is_open, is_engaged, is_engaged_by, why_not_disengaged, why_not_closed}
 use Rattle.patch_group.specs.declared.records.Record.{Record}
@@ -28,3 +28,9 @@ pub within : {A : Type 0} → (records : List (Record A)) (now : Groups) (group 
 within {A} records now group at seen named l =
     let long : length now.groups ≡ length records = ap length (sym seen) ∙ length-map records group_of in
     omega (arith, long, named, l)
+
+-- groups that have more room are as many as before
+pub roomier : {A : Type 0} → (old new : List (Record A)) → map group_of new ≡ map group_of old → length old ≤ 1024 → length new ≤ 1024
+roomier old new same few =
+    let long : length new ≡ length old = sym (length-map new group_of) ∙ ap length same ∙ length-map old group_of in
+    subst (λ n. n ≤ 1024) (sym long) few

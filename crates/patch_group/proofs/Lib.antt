@@ -13,3 +13,4 @@ pub mod Writing
 pub mod Steps
 pub mod Uniting
 pub mod Stopping
+pub mod Befores

@@ -1,9 +1,11 @@
 -- Groups as the code keeps them.
-use Rattle.std.specs.Prelude.{ℕ, ◌+◌, ◌-◌, ◌++◌, ◌<◌, ◌==◌, min, max, List, [], ◌∷◌, map, filter, length, slice_index_or, vec_len, vec_capacity, Contains}
+use Rattle.std.specs.Prelude.{ℕ, ◌+◌, ◌-◌, ◌++◌, ◌<◌, ◌==◌, min, max, List, [], ◌∷◌, map, filter, length, slice_index_or, vec_len, vec_capacity, All, Contains, ◌≡◌}
 use Rattle.std.specs.List.{flat_map, range_with_len}
-use Rattle.patch_plans.specs.Groups.{Group}
+use Rattle.patch_plans.specs.Rising.{rising}
+use Rattle.patch_plans.specs.Groups.{Group, Groups, before, engaged_by}
 use Rattle.patch_group.specs.declared.records.Run.{Run}
 use Rattle.patch_group.specs.declared.records.Record.{Record}
+use Rattle.patch_group.specs.declared.records.Before.{Before}
 
 -- the numbers of a run
 abbrev pub numbers_of : Run → List ℕ
@@ -22,6 +24,17 @@ patches_in runs = flat_map numbers_of runs
 
 abbrev pub group_of : {A : Type 0} → Record A → Group
 group_of g = record { started = g.started; sealed = g.sealed; closed = g.closed; before = g.before.items; patches = patches_in g.runs.items }
+
+abbrev pub groups_of : {A : Type 0} → List (Record A) → List (ℕ × ℕ) → Groups
+groups_of records engagements = record { groups = map group_of records; engaged = engagements }
+
+-- the groups before those that the writer has engaged, in order
+abbrev pub groups_before : Groups → ℕ → List ℕ
+groups_before gs writer = rising (flat_map (before gs) (engaged_by gs writer))
+
+-- what is kept of writers is what is before their groups
+abbrev pub AreBefore : {A : Type 0} → Groups → List (Before A) → Type 0
+AreBefore gs kept = All (λ k. k.groups.items ≡ groups_before gs k.writer) kept
 
 -- the groups of the writer's engagements
 abbrev pub names_of : List (ℕ × ℕ) → ℕ → List ℕ

@@ -4,7 +4,7 @@ ghost use Rattle.patch_cache.specs.Refusals.{IsCause};
 ghost use Rattle.patch_plans.specs.Groups.{no_groups, is_open, is_engaged_by, is_engaged, why_not_begun, why_not_engaged, why_not_disengaged, why_not_closed, begun, engaged, disengaged, closed};
 ghost use Rattle.patch_group.specs.Refusals.{group_cause};
 
-use crate::records::Record;
+use crate::records::{Before, Record};
 use crate::refusals::GroupRefusal;
 use patch_model::{GroupNo, OutOfMemory, WriterNo};
 use patch_plans::MAX_GROUPS;
@@ -17,24 +17,28 @@ use std::marker::Model;
 /// before these. A group depends on another by `depend`, before it is engaged for the first time; from then on the other
 /// is sealed: it is never engaged again and depends on no further group. So what is before a group is all there when its first
 /// patch is made.
+///
+/// Which groups are before those of a writer is found with its first patch and kept, while engagements and orders stay as they are.
 #[derive(Drop)]
 pub struct Groups<A: Allocator + Copy = Global> {
     pub(crate) alloc: A,
     pub(crate) groups: Vec<Record<A>, A>,
     pub(crate) engaged: Vec<(WriterNo, GroupNo), A>,
+    pub(crate) before: Vec<Before<A>, A>,
 }
 
 impl<A: Allocator + Copy> Model for Groups<A> {
-    ghost use Rattle.std.specs.Prelude.{◌≤◌, length, map};
+    ghost use Rattle.std.specs.Prelude.{◌≤◌, length};
     ghost use Rattle.patch_plans.specs.Groups.{Groups as State, AreApart};
-    ghost use Rattle.patch_group.specs.Records.{group_of};
+    ghost use Rattle.patch_group.specs.Records.{groups_of, AreBefore};
     ghost use Rattle.patch_plans.specs.declared.limits.TheConstants.{MAX_GROUPS};
 
     ghost Value = { State };
 
-    ghost view = { λ c. record { groups = map group_of c.groups.items; engaged = c.engaged.items } };
+    ghost view = { λ c. groups_of c.groups.items c.engaged.items };
 
-    ghost invariant = { λ c. (length c.groups.items ≤ MAX_GROUPS) × AreApart c.engaged.items };
+    ghost invariant = { λ c. (length c.groups.items ≤ MAX_GROUPS) × AreApart c.engaged.items
+        × AreBefore (groups_of c.groups.items c.engaged.items) c.before.items };
 }
 
 impl<A: Allocator + Copy> Groups<A> {
@@ -46,6 +50,7 @@ impl<A: Allocator + Copy> Groups<A> {
             alloc,
             groups: Vec::new(alloc),
             engaged: Vec::new(alloc),
+            before: Vec::new(alloc),
         }
     }
 
@@ -60,6 +65,7 @@ impl<A: Allocator + Copy> Groups<A> {
             return Err(GroupRefusal::TooManyGroups);
         }
         self.groups.reserve(1)?;
+        self.before.clear();
         self.groups.push_reserved(Record {
             started: false,
             sealed: false,
@@ -80,6 +86,7 @@ impl<A: Allocator + Copy> Groups<A> {
             return Err(refusal);
         }
         self.engaged.reserve(1)?;
+        self.before.clear();
         let record = &mut self.groups[group.0 as usize];
         record.started = true;
         self.engaged.push_reserved((writer, group));
@@ -116,6 +123,7 @@ impl<A: Allocator + Copy> Groups<A> {
         if !self.is_engaged_by(writer, group) {
             return Err(GroupRefusal::NotEngaged);
         }
+        self.before.clear();
         self.engaged.retain(|engagement| !(engagement.0 == writer && engagement.1 == group));
         Ok(())
     }
@@ -132,6 +140,7 @@ impl<A: Allocator + Copy> Groups<A> {
         if self.is_engaged(group) {
             return Err(GroupRefusal::Engaged);
         }
+        self.before.clear();
         let record = &mut self.groups[group.0 as usize];
         record.closed = true;
         Ok(())

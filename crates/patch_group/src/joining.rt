@@ -107,23 +107,28 @@ impl<A: Allocator + Copy> Groups<A> {
         ensures refused { OnErr result (self.new ≡ self.old) }
         ensures refused_cache { OnErr result (cache.new ≡ cache.old) }
     {
+        let names = self.names_behind(writer, after)?;
+        self.create_naming(cache, writer, block, start, bytes, names, undo)
+    }
+
+    /// What a patch of this writer names: the numbers that it is given, and behind them all patches of the groups before.
+    fn names_behind(
+        &mut self,
+        writer: WriterNo,
+        after: Numbers<A>,
+    ) -> Result<Numbers<A>, OutOfMemory>
+        ensures names { IfOk result (λ names. names ≡ after ++ after_of self.old writer) }
+        ensures same { self.new ≡ self.old }
+    {
         if self.engages_none() {
-            return cache.create_owned(block, start, bytes, after, undo);
+            return Ok(after);
         }
-        let before = self.after_of(writer)?;
+        let before = self.after_of_next(writer)?;
         if before.is_empty() {
-            return self.create_naming(cache, writer, block, start, bytes, after, undo);
+            return Ok(after);
         }
         let names = self.both(after.as_slice(), before.as_slice())?;
-        self.create_naming(
-            cache,
-            writer,
-            block,
-            start,
-            bytes,
-            Numbers::from_vec(names),
-            undo,
-        )
+        Ok(Numbers::from_vec(names))
     }
 
     /// Makes a patch of this writer that names just these.
@@ -155,10 +160,9 @@ impl<A: Allocator + Copy> Groups<A> {
         Ok(no)
     }
 
-    /// Whether no writer has engaged a group. Then patches come after no others for it, and join none.
+    /// Whether no writer has engaged a group. Then patches come after no others for it.
     fn engages_none(&self) -> bool
-        ensures first { IsTrue result → (writer : ℕ) → after_of self.now writer ≡ [] }
-        ensures apart { IsTrue result → (writer n : ℕ) → with_patch self.now (Some writer) n ≡ self.now }
+        ensures { IsTrue result → (writer : ℕ) → after_of self.now writer ≡ [] }
     {
         let engaged = self.engaged.as_slice();
         engaged.is_empty()

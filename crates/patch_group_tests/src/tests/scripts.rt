@@ -9,7 +9,7 @@ use std::alloc::{AllocError, Global};
 // first byte, `patch BLOCK LETTERS` one of none; it names those that the line names further.
 //
 // `after WRITER`, `sync GROUP` and `disk BLOCK` are no asks. The asks between them are a list, or answered one by one.
-const SCRIPTS: [&str; 10] = [
+const SCRIPTS: [&str; 11] = [
     // The second group depends on the first: what waits, and what is sealed.
     "\
 group = group 0
@@ -136,6 +136,49 @@ sync 2 = synced
 disk 3 = e
 disk 4 = f
 pending 1 = count 0
+",
+    // Which groups are before those of a writer is kept, until an engagement or an order changes it.
+    "\
+group = group 0
+group = group 1
+group = group 2
+group = group 3
+engage 0 0 = ok
+by 0 0 a = patch 0
+disengage 0 0 = ok
+engage 0 1 = ok
+by 0 1 b = patch 1
+disengage 0 1 = ok
+depend 2 0 = ok
+engage 0 2 = ok
+by 0 2 c = patch 2
+by 0 2 d = patch 3
+by 1 5 z = patch 4
+after 0 = 0
+after 1 =
+depend 3 1 = ok
+engage 0 3 = ok
+by 0 3 e = patch 5
+after 0 = 0 1
+engage 1 3 = ok
+by 1 4 f = patch 6
+after 1 = 1
+after 0 = 0 1
+disengage 0 2 = ok
+by 0 6 g = patch 7
+after 0 = 1
+after 1 = 1
+disengage 0 3 = ok
+by 0 7 h = patch 8
+after 0 =
+send 6 = refused NothingReady
+send 7 = sent 7
+send 1 = sent 1
+complete 1 = durable 1
+send 6 = sent 6
+send 4 = sent 4
+send 3 = refused NothingReady
+send 2 = refused NothingReady
 ",
     // What the cache refuses is in no group.
     "\

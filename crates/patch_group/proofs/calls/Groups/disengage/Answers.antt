@@ -5,6 +5,7 @@ use Rattle.std.proofs.lemmas.List.Kept.{AllPairs-filter}
 use Rattle.patch_plans.specs.Groups.{Groups, AreApart, disengaged, is_open, is_engaged_by}
 use Rattle.patch_group.specs.Records.{group_of}
 use Rattle.patch_group.proofs.Keeping.{may_disengage}
+use Rattle.patch_group.proofs.Befores.{none_kept}
 use Rattle.patch_group.proofs.calls.Groups.disengage.Goals as goal
 
 pub invariant_of-self : goal.invariant_of-self
@@ -12,6 +13,7 @@ invariant_of-self g c =
     let kept = filter_same _ (λ e. not (e.0 == c.args.writer && e.1 == c.args.group)) _ (λ x b f h. search rules) _ _ c.retain.ensures.filtered in (
       c.self.invariant.0,
       subst AreApart (sym kept) (AllPairs-filter (λ d e. d ≡ e → ⊥) (λ e. not (e.0 == c.args.writer && e.1 == c.args.group)) c.self.inside.engaged.items c.self.invariant.1),
+      none_kept _ c.clear.new.self.items c.clear.ensures.items,
     )
 
 pub returns-clause-done : goal.returns-clause-done

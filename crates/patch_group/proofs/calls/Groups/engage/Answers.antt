@@ -3,6 +3,7 @@ use Rattle.patch_plans.specs.Groups.{Group, Groups, AreApart, engaged, is_engage
 use Rattle.patch_group.specs.Records.{group_of}
 use Rattle.patch_plans.specs.Ordering.{apart_more}
 use Rattle.patch_group.proofs.Keeping.{changed_at, within}
+use Rattle.patch_group.proofs.Befores.{none_kept}
 use Rattle.patch_group.proofs.calls.Groups.engage.Goals as goal
 
 pub invariant_of-self-2 : goal.invariant_of-self-2
@@ -16,6 +17,7 @@ invariant_of-self-2 g c =
     let items = c.push_reserved.ensures.items ∙ ap (λ xs. xs ++ (writer, group) ∷ []) c.reserve.ensures.items in (
       subst (λ n. n ≤ 1024) (sym (length-set c.self.inside.groups.items c.group.inside.0 _)) c.self.invariant.0,
       subst AreApart (sym items) (apart_more es writer group c.self.invariant.1 new),
+      none_kept _ c.clear.new.self.items c.clear.ensures.items,
     )
 
 pub returns-clause-done : goal.returns-clause-done

@@ -58,3 +58,45 @@ returns-in-Err-clause-groups g c = rw c.reserve.ensures.items c.loop-ask.invaria
 
 pub returns-in-Err-clause-trace : goal.returns-in-Err-clause-trace
 returns-in-Err-clause-trace g c = rw c.reserve.ensures.items c.loop-ask.invariant.trace
+
+pub returns-in-Err-clause-taking_back : goal.returns-in-Err-clause-taking_back
+returns-in-Err-clause-taking_back g c = c.promise.ensures.taking_back
+
+pub returns-in-Err-clause-moves : goal.returns-in-Err-clause-moves
+returns-in-Err-clause-moves g c = c.promise.ensures.moves
+
+pub returns-in-Err-clause-looks : goal.returns-in-Err-clause-looks
+returns-in-Err-clause-looks g c = c.promise.ensures.looks
+
+pub returns-in-Err-clause-images : goal.returns-in-Err-clause-images
+returns-in-Err-clause-images g c = c.promise.ensures.images
+
+pub returns-in-Err-clause-closed : goal.returns-in-Err-clause-closed
+returns-in-Err-clause-closed g c = c.promise.ensures.closed
+
+pub returns-in-Err-clause-order : goal.returns-in-Err-clause-order
+returns-in-Err-clause-order g c = c.promise.ensures.order
+
+pub returns-in-Err-clause-in_order : goal.returns-in-Err-clause-in_order
+returns-in-Err-clause-in_order g c = c.promise.ensures.in_order
+
+pub returns-clause-taking_back : goal.returns-clause-taking_back
+returns-clause-taking_back g c = c.promise.ensures.taking_back
+
+pub returns-clause-moves : goal.returns-clause-moves
+returns-clause-moves g c = c.promise.ensures.moves
+
+pub returns-clause-looks : goal.returns-clause-looks
+returns-clause-looks g c = c.promise.ensures.looks
+
+pub returns-clause-images : goal.returns-clause-images
+returns-clause-images g c = c.promise.ensures.images
+
+pub returns-clause-closed : goal.returns-clause-closed
+returns-clause-closed g c = c.promise.ensures.closed
+
+pub returns-clause-order : goal.returns-clause-order
+returns-clause-order g c = c.promise.ensures.order
+
+pub returns-clause-in_order : goal.returns-clause-in_order
+returns-clause-in_order g c = c.promise.ensures.in_order
