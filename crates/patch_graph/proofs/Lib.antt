@@ -22,3 +22,5 @@ pub mod Entered
 pub mod Tops
 pub mod Laying
 pub mod Opened
+pub mod Rooms
+pub mod Gathering

@@ -1,6 +1,7 @@
 -- Places in lists of numbers.
 use Rattle.std.proofs.Common.{◌≡◌, ℕ, zero, suc, ◌<◌, ◌∙◌, List, [], ◌∷◌, length, refl, arith}
 use Rattle.std.specs.Prelude.{slice_index_or, IfOk, OnOk, OnErr, Ok, Err}
+use Rattle.std.specs.Result.{IsErr}
 use Rattle.std.proofs.Common.{Result}
 use Rattle.std.specs.List.Sorted.{IsPermutation}
 use Rattle.std.proofs.lemmas.List.Sorted.{Contains-permutation}
@@ -37,3 +38,8 @@ either-way (Err x) P Q R h k f e = e k
 pub ok-on : {X E : Type 0} → (r : Result X E) (P Q : Type 0) → OnOk r P → (P → Q) → OnOk r Q
 ok-on (Ok x) P Q h f = f h
 ok-on (Err e) P Q h f = tt
+
+-- what failed holds no value
+pub ok-if : {X E : Type 0} → (r : Result X E) (P : X → Type 0) → IsErr r → IfOk r P
+ok-if (Ok x) P failed = absurd (cc)
+ok-if (Err e) P failed = tt

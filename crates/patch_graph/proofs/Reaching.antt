@@ -1,5 +1,5 @@
 -- What a search finds are the paths.
-use Rattle.std.proofs.Common.{◌≡◌, ℕ, ◌<◌, ◌⊎◌, ◌∙◌, inl, inr, Bool, true, false, not, List, length, refl, sym, ap, subst, Option, Some, None, IsTrue, Bor}
+use Rattle.std.proofs.Common.{◌≡◌, ℕ, ◌<◌, ◌≤◌, ◌⊎◌, ◌∙◌, inl, inr, Bool, true, false, not, List, length, refl, sym, ap, subst, arith, Option, Some, None, IsTrue, Bor}
 use Rattle.std.specs.Prelude.{◌==◌, ◌&&◌, ◌≢◌, ◌↔◌}
 use Rattle.std.specs.List.{list_any}
 use Rattle.std.proofs.lemmas.Bool.{cases_Bool, cases_eq, and_parts, and_from, both_ways, eqb-true, eq-eqb, ne_eqb}
@@ -235,3 +235,7 @@ pub is_low : (g : Graph) (all : List Entry) (n x k room : ℕ) → Represents g 
 is_low g all n x k room r fit l at =
     let q = placed g all r l.0 k l.1 (ap (find g.numbers) l.2 ∙ at) in
     fit k q.0 q.1
+
+-- a live class has a key for which there is room
+pub beyond : (g : Graph) (all : List Entry) (n x k room : ℕ) → Represents g all → KeysFit g.slots room → IsLiveClass all n x → find g.numbers n ≡ Some k → room ≤ k → ⊥
+beyond g all n x k room r fit l at far = let low = is_low g all n x k room r fit l at in omega arith

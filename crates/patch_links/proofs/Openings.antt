@@ -1,6 +1,6 @@
 -- Of which blocks a write can begin.
-use Rattle.std.proofs.Common.{◌≡◌, ℕ, ◌<◌, ◌∙◌, inl, inr, Bool, true, false, List, length, refl, sym, ap, arith, subst, Option, Some, None}
-use Rattle.std.specs.Prelude.{◌==◌, not, if◌then◌else◌, slice_set}
+use Rattle.std.proofs.Common.{◌≡◌, ℕ, ◌<◌, ◌∙◌, inl, inr, Bool, true, false, List, [], length, refl, sym, ap, arith, subst, Option, Some, None}
+use Rattle.std.specs.Prelude.{◌==◌, not, if◌then◌else◌, slice_set, IfSome, IfNone}
 use Rattle.std.specs.Option.{option_map, option_map_or}
 use Rattle.std.proofs.lemmas.Bool.{cases_Bool, cases_eq, and_parts, and_from, both_ways, eqb-true, eq-eqb, ne_eqb, false_from_ne_true}
 use Rattle.std.proofs.lemmas.List.{get_or-set_same, get_or-set_other}
@@ -8,10 +8,11 @@ use Rattle.patch_model.specs.declared.limits.TheConstants.{MAX_BLOCKS}
 use Rattle.patch_model.specs.Entry.{is_among, marks_flight}
 use Rattle.patch_numbers.specs.BlockSets.{holds, IsLeastFrom}
 use Rattle.patch_links.specs.State.{Class, Node, Nodes, Numbers, class_at, slots_of, node_at, is_at}
-use Rattle.patch_links.specs.Lists.{OfBlock, Blocks, nothing, of_at, flying_in, is_open, AreOpen, IsLeastOpen, ChangesOf}
+use Rattle.patch_links.specs.Lists.{OfBlock, Blocks, nothing, of_at, flying_in, is_open, AreOpen, IsLeastOpen, ChangesOf, LosesFlying}
 use Rattle.patch_links.specs.Standing.{Stands}
 use Rattle.patch_links.specs.Adding.{KeepsLists}
 use Rattle.patch_links.specs.Ready.{TellsReady, IsOpen, IsShut, IsNextOpen}
+use Rattle.patch_links.specs.MarkDurable.{HasPopped}
 use Rattle.patch_links.proofs.Keeping.{changes-of}
 use Rattle.patch_links.proofs.Places.{cases_option, is-at, at-is, slots-at}
 use Rattle.patch_links.proofs.Launching.{among-is}
@@ -40,6 +41,27 @@ open-noted words now lists block i of b was place low is noted n few = elim (cas
 -- room alone has changed
 pub open-kept : (words : List ℕ) (old new : Blocks) → KeepsLists old new → AreOpen words old → AreOpen words new
 open-kept words old new kept was n few = was n few ∙ sym (ap is_open (kept n).same)
+
+-- a class in flight was taken out of the block's list, if there is one
+module _ (seen lists : Blocks) (block i : ℕ) (was now : OfBlock) (same : lists ≡ seen) (place : i ≡ block) (low : i < length lists) (is : was ≡ of_at lists i) where
+  pub popped-none : (found : Option ℕ) → IfNone found ((now ≡ was) × (was.flying ≡ [])) → IfNone found ((of_at seen block).flying ≡ [])
+  popped-none None h = ap (λ (z : OfBlock). z.flying) (sym (list-at seen lists block i was same place is)) ∙ h.1
+  popped-none (Some key) h = h
+
+  pub popped-same : (found : Option ℕ) → IfNone found ((now ≡ was) × (was.flying ≡ [])) → IfNone found ((other : ℕ) → of_at (slice_set lists i now) other ≡ of_at seen other)
+  popped-same None h = λ other. elim (cases_eq other i) [
+    | inl e ↦ ap (of_at (slice_set lists i now)) e ∙ get_or-set_same lists i now nothing low ∙ h.0 ∙ is ∙ ap (of_at lists) (sym e) ∙ ap (λ (xs : Blocks). of_at xs other) same
+    | inr d ↦ get_or-set_other lists i other now nothing d ∙ ap (λ (xs : Blocks). of_at xs other) same
+  ]
+  popped-same (Some key) h = h
+
+  pub popped-some : (found : Option ℕ) → IfSome found (λ key. LosesFlying was now key) → IfSome found (λ key. HasPopped block seen (slice_set lists i now) key)
+  popped-some None h = h
+  popped-some (Some key) h = record {
+    left = now;
+    loses = subst (λ (of : OfBlock). LosesFlying of now key) (list-at seen lists block i was same place is) h;
+    changed = changes-in seen lists block i now same place low;
+  }
 
 -- the node of a class
 class-node : (nodes : Nodes) (key : ℕ) (c : Class) → class_at (slots_of nodes) key ≡ Some c → (x : Node) × (node_at nodes key ≡ Some x) × (x.class ≡ c)

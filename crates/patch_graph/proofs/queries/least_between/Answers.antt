@@ -1,4 +1,4 @@
-use Rattle.std.proofs.Common.{◌≡◌, ◌≤◌, ◌∙◌, ℕ, refl, sym, subst, arith, length}
+use Rattle.std.proofs.Common.{◌≤◌, ◌∙◌, ℕ, inl, inr, refl, sym, subst, arith, length}
 use Rattle.std.proofs.lemmas.Bool.{leb-true}
 use Rattle.patch_links.specs.State.{Slots}
 use Rattle.patch_graph.specs.State.{KeysFit}
@@ -6,11 +6,9 @@ use Rattle.patch_graph.specs.Search.{steps}
 use Rattle.patch_graph.specs.Between.{TellsBetweenKeys}
 use Rattle.patch_graph.specs.declared.searching.Way.TheVariants.{Up, Down}
 use Rattle.patch_graph.proofs.Searches.{course_held, tail-within}
+use Rattle.patch_graph.proofs.Reaching.{beyond}
+use Rattle.patch_graph.proofs.Rooms.{long_as, taken}
 use Rattle.patch_graph.proofs.queries.least_between.Goals as goal
-
--- rooms that are as long as others fit as these do
-long_as : (a b c d : ℕ) → a ≡ c → b ≡ d → c ≤ d → a ≤ b
-long_as a b c d first second fits = omega arith
 
 upto_both : (a b c : ℕ) → a ≤ b → b ≤ c → a ≤ c
 upto_both a b c first second = omega arith
@@ -121,3 +119,37 @@ returns-clause-cleared g c = c.least_below.ensures.cleared
 
 pub returns-clause-cleared_met : goal.returns-clause-cleared_met
 returns-clause-cleared_met g c = c.least_below.ensures.cleared_ends
+
+pub returns-then-from-marks-clause-answer : goal.returns-then-from-marks-clause-answer
+returns-then-from-marks-clause-answer g c a b fa fb all x y r no_ring la lb = absurd (elim c.then-from-marks.either [
+  | inl far ↦ beyond c.args.register.now all a x c.args.from _ r c.requires.fits la fa far
+  | inr far ↦ beyond c.args.register.now all b y c.args.to _ r c.requires.fits lb fb (upto_both _ _ _ c.requires.met_fit far.1)
+])
+
+pub returns-then-from-marks-clause-cleared : goal.returns-then-from-marks-clause-cleared
+returns-then-from-marks-clause-cleared g c = c.requires.clear
+
+pub returns-then-from-marks-clause-cleared_met : goal.returns-then-from-marks-clause-cleared_met
+returns-then-from-marks-clause-cleared_met g c = c.requires.clear_met
+
+pub begin-requires-clause-low : goal.begin-requires-clause-low
+begin-requires-clause-low g c = c.if-to-met.false
+
+pub begin-requires-clause-clear : goal.begin-requires-clause-clear
+begin-requires-clause-clear g c = c.requires.clear_met
+
+pub begin-requires-2-clause-low : goal.begin-requires-2-clause-low
+begin-requires-2-clause-low g c = c.if-from-marks.false
+
+pub begin-requires-2-clause-clear : goal.begin-requires-2-clause-clear
+begin-requires-2-clause-clear g c = c.requires.clear
+
+pub slice_bounds-clear-end-then-not-is_whole : goal.slice_bounds-clear-end-then-not-is_whole
+slice_bounds-clear-end-then-not-is_whole g c = taken _ _
+    (upto_both _ _ _ (tail-within _ _ _ _ _ _ _ c.take_turns.ensures.below)
+    (long_as _ _ _ _ (c.take_turns.ensures.length ∙ c.begin-2.ensures.length) (c.take_turns.ensures.length_queue ∙ c.begin-2.ensures.length_queue) c.requires.queue_fits))
+
+pub slice_bounds-clear-end-3 : goal.slice_bounds-clear-end-3
+slice_bounds-clear-end-3 g c = taken _ _
+    (upto_both _ _ _ (tail-within _ _ _ _ _ _ _ c.take_turns.ensures.above)
+    (long_as _ _ _ _ (c.take_turns.ensures.length_met ∙ c.begin.ensures.length) (c.take_turns.ensures.length_found ∙ c.begin.ensures.length_queue) c.requires.found_fit))

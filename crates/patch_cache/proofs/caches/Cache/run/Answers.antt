@@ -100,3 +100,33 @@ returns-clause-all g c =
 pub returns-in-Err-clause-answers : goal.returns-in-Err-clause-answers
 returns-in-Err-clause-answers g c run on =
     subst (λ xs. HasRun run (map ask_of c.args.asks.now) (map answer_of xs) c.loop-ask.self c.loop-ask.flights) (sym c.reserve.ensures.items) (c.loop-ask.invariant.so_far run on)
+
+pub returns-in-Err-clause-taking_back : goal.returns-in-Err-clause-taking_back
+returns-in-Err-clause-taking_back g c = c.promise.ensures.taking_back
+
+pub returns-in-Err-clause-moves : goal.returns-in-Err-clause-moves
+returns-in-Err-clause-moves g c = c.promise.ensures.moves
+
+pub returns-in-Err-clause-looks : goal.returns-in-Err-clause-looks
+returns-in-Err-clause-looks g c = c.promise.ensures.looks
+
+pub returns-in-Err-clause-images : goal.returns-in-Err-clause-images
+returns-in-Err-clause-images g c = c.promise.ensures.images
+
+pub returns-in-Err-clause-closed : goal.returns-in-Err-clause-closed
+returns-in-Err-clause-closed g c = c.promise.ensures.crashes
+
+pub returns-clause-taking_back : goal.returns-clause-taking_back
+returns-clause-taking_back g c = c.promise.ensures.taking_back
+
+pub returns-clause-moves : goal.returns-clause-moves
+returns-clause-moves g c = c.promise.ensures.moves
+
+pub returns-clause-looks : goal.returns-clause-looks
+returns-clause-looks g c = c.promise.ensures.looks
+
+pub returns-clause-images : goal.returns-clause-images
+returns-clause-images g c = c.promise.ensures.images
+
+pub returns-clause-closed : goal.returns-clause-closed
+returns-clause-closed g c = c.promise.ensures.crashes

@@ -1,4 +1,4 @@
-use Rattle.std.proofs.Common.{rules, ◌∙◌, List, subst, sym, ap, refl}
+use Rattle.std.proofs.Common.{arith, ◌∙◌, List, subst, sym, ap, refl}
 use Rattle.patch_cache.specs.Contents.{Contents}
 use Rattle.patch_history.specs.Commands.{command_of, reply_told}
 use Rattle.patch_store.specs.Meaning.{Answers}
@@ -13,7 +13,7 @@ pub overflow_add-self : goal.overflow_add-self
 overflow_add-self g c =
     let less = count_fits c.writer.inside.0 c.self.inside.calls.items _ c.self.inside.counts c.self.invariant.counted c.writer.invariant in
     let more = c.push_reserved.ensures.len in
-    search (rules, less, more)
+    omega (arith, less, more)
 
 pub invariant_of-self-2 : goal.invariant_of-self-2
 invariant_of-self-2 g c =

@@ -1,4 +1,4 @@
-use Rattle.std.proofs.Common.{rules, ◌∙◌, sym, ap, refl}
+use Rattle.std.proofs.Common.{arith, ◌∙◌, sym, ap, refl}
 use Rattle.patch_cache.specs.Contents.{Contents}
 use Rattle.patch_shared.specs.Kept.{is_completion}
 use Rattle.patch_shared.proofs.Keeping.{steps_fit}
@@ -14,7 +14,7 @@ overflow_add-self g c =
     let ended = c.in-Ok.ensures.done c.self.invariant.history c.self.invariant.is_history.represents in
     let less = steps_fit is_completion c.trace-steps.result.now _ _ _ (c.trace-steps.ensures ∙ ap (λ (k : Contents). k.trace) c.cache.ensures) ended.gained.trace_is in
     let is = c.self.invariant.counted.completer in
-    search (rules, less, is)
+    omega (arith, less, is)
 
 pub invariant_of-self : goal.invariant_of-self
 invariant_of-self g c =

@@ -1,4 +1,4 @@
-use Rattle.std.proofs.Common.{rules, ◌∙◌, sym, ap, refl}
+use Rattle.std.proofs.Common.{arith, ◌∙◌, sym, ap, refl}
 use Rattle.patch_cache.specs.Contents.{Contents}
 use Rattle.patch_cache.specs.Waves.{is_send}
 use Rattle.patch_shared.proofs.Keeping.{steps_fit}
@@ -14,7 +14,7 @@ overflow_add-self g c =
     let begun = rw c.in-Some.is at all in
     let less = steps_fit is_send c.trace-steps.result.now _ _ _ (c.trace-steps.ensures ∙ ap (λ (k : Contents). k.trace) c.cache.ensures) begun.gained.trace_is in
     let is = c.self.invariant.counted.flusher in
-    search (rules, less, is)
+    omega (arith, less, is)
 
 pub invariant_of-self-in-Some : goal.invariant_of-self-in-Some
 invariant_of-self-in-Some g c =
