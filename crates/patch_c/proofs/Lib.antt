@@ -2,6 +2,7 @@ pub mod AsBox
 pub mod Between
 pub mod Causes
 pub mod Codes
+pub mod Got
 pub mod Landing
 pub mod Made
 pub mod Refused

@@ -56,12 +56,15 @@ impl CachedDisk {
     /// Gives up the writes that are not completed.
     pub fn close(self) {
         let CachedDisk {
-            cache: _,
+            cache,
             flights,
-            groups: _,
-            device: _,
+            groups,
+            device,
         } = self;
         flights.abandon();
+        drop(device);
+        drop(cache);
+        drop(groups);
     }
 
     /// Answers an ask.

@@ -1,5 +1,6 @@
 //! A failing call, alone, nested, and under a load.
 use super::*;
+use patch_testing::StubbornDevice;
 
 // Writes a block that is not there, and then one after another until one was refused.
 fn write_until_refused<D: Device>(rt: &impl Abort, device: &mut D, k: u64) {
@@ -131,5 +132,27 @@ fn a_nested_device_counts_each_read_once(rt: HostRuntime) -> Result<(), Fail> {
     let mut outer = FaultyDevice::new(inner, 3, false);
     expect_eq(&rt, &refused_reads(&mut outer), &[false, true, false]);
     expect_eq(&rt, &refused_reads(&mut outer), &[true, false, false]);
+    Ok(())
+}
+
+// The second write and the third are refused twice each.
+#[test]
+fn a_stubborn_device_refuses_each_of_some_writes(rt: HostRuntime) -> Result<(), Fail> {
+    let mut device = StubbornDevice::new(MemDevice::new(rt.alloc(), 1)?, 1, 3, 2);
+    let refused = Err(DeviceRefusal::Fault);
+    for (byte, want, left) in [
+        (1, Ok(()), 1),
+        (2, refused, 1),
+        (2, refused, 1),
+        (2, Ok(()), 2),
+        (3, refused, 2),
+        (3, refused, 2),
+        (3, Ok(()), 3),
+        (4, Ok(()), 4),
+    ] {
+        expect_write(&rt, &mut device, 0, byte, want);
+        expect_filled(&rt, &mut device, 0, left);
+    }
+    expect_write(&rt, &mut device, 1, 5, Err(DeviceRefusal::NoSuchBlock));
     Ok(())
 }

@@ -1,5 +1,6 @@
 //! Writes in waves: flushes, flights that are landed, and writes one at a time.
 use super::*;
+use patch_testing::StubbornDevice;
 
 // How far the four patches of a chain have come.
 type Marks = [Option<Mark>; 4];
@@ -297,41 +298,25 @@ fn a_flush_writes_as_waves_over_all_blocks(rt: HostRuntime) {
     }
 }
 
-type Two<D> = FaultyDevice<FaultyDevice<D>>;
+// A cache over a device that refuses some writes, each so many times.
+type Refused = Bench<Global, StubbornDevice>;
 
-type Four<D> = Two<Two<D>>;
-
-type Seven<D> = Four<Two<FaultyDevice<D>>>;
-
-type Eight<D> = FaultyDevice<Seven<D>>;
-
-// A device that refuses a write once so many were done, and more of them one behind another.
-fn one_fault<D: Device>(inner: D, done: u64) -> FaultyDevice<D> {
-    FaultyDevice::new(inner, done, false)
+// A device that refuses so many writes, the first of them once so many were done, each so many times.
+fn refusing(rt: &impl Abort, alloc: Global, done: u64, writes: u64, times: u64) -> StubbornDevice {
+    StubbornDevice::new(
+        open_device(rt, alloc, 2),
+        done,
+        done.saturating_add(writes),
+        times,
+    )
 }
 
-fn two_faults<D: Device>(inner: D, done: u64) -> Two<D> {
-    one_fault(one_fault(inner, done), done)
-}
-
-fn four_faults<D: Device>(inner: D, done: u64) -> Four<D> {
-    two_faults(two_faults(inner, done), done)
-}
-
-fn seven_faults<D: Device>(inner: D, done: u64) -> Seven<D> {
-    four_faults(two_faults(one_fault(inner, done), done), done)
-}
-
-fn eight_faults(rt: &impl Abort, alloc: Global, done: u64) -> Eight<MemDevice> {
-    one_fault(seven_faults(open_device(rt, alloc, 2), done), done)
-}
-
-fn flush_after_faults<D: Device>(rt: &impl Abort, bench: &mut Bench<Global, D>) {
+fn flush_after_faults(rt: &impl Abort, bench: &mut Refused) {
     expect_equal(rt, "flush", flush(bench), Ok(()));
     expect_flushed(rt, bench);
 }
 
-fn overcome<D: Device + Drop>(rt: &impl Abort, alloc: Global, device: D) {
+fn overcome(rt: &impl Abort, alloc: Global, device: StubbornDevice) {
     let mut bench = open_chain(rt, alloc, device);
     flush_after_faults(rt, &mut bench);
     close(bench);
@@ -339,12 +324,12 @@ fn overcome<D: Device + Drop>(rt: &impl Abort, alloc: Global, device: D) {
 
 #[test]
 fn seven_faults_are_overcome(rt: HostRuntime) {
-    let device = open_device(&rt, rt.alloc(), 2);
-    overcome(&rt, rt.alloc(), seven_faults(device, 0));
+    let device = refusing(&rt, rt.alloc(), 0, 1, 7);
+    overcome(&rt, rt.alloc(), device);
 }
 
 // A patch of each of two blocks, whose flights land one behind the other.
-fn flush_pair<D: Device>(rt: &impl Abort, bench: &mut Bench<Global, D>) {
+fn flush_pair(rt: &impl Abort, bench: &mut Refused) {
     make(rt, &mut bench.cache, 0, 0, b"one", &[]);
     make(rt, &mut bench.cache, 1, 0, b"two", &[]);
     expect_equal(rt, "flush", flush(bench), Ok(()));
@@ -353,7 +338,7 @@ fn flush_pair<D: Device>(rt: &impl Abort, bench: &mut Bench<Global, D>) {
     expect_disk(rt, &mut bench.device, 1, b"two");
 }
 
-fn overcome_both<D: Device + Drop>(rt: &impl Abort, alloc: Global, device: D) {
+fn overcome_both(rt: &impl Abort, alloc: Global, device: StubbornDevice) {
     let mut bench = open_bench(rt, alloc, 2, device);
     flush_pair(rt, &mut bench);
     close(bench);
@@ -362,13 +347,12 @@ fn overcome_both<D: Device + Drop>(rt: &impl Abort, alloc: Global, device: D) {
 // Each flight has eight tries of its own.
 #[test]
 fn seven_faults_of_each_of_two_flights_are_overcome(rt: HostRuntime) {
-    let device = open_device(&rt, rt.alloc(), 2);
-    let second = seven_faults(device, 1);
-    overcome_both(&rt, rt.alloc(), seven_faults(second, 0));
+    let device = refusing(&rt, rt.alloc(), 0, 2, 7);
+    overcome_both(&rt, rt.alloc(), device);
 }
 
 // The first wave is done, and stays so; the flight of the second is given up, and held.
-fn flush_in_vain<D: Device>(rt: &impl Abort, bench: &mut Bench<Global, D>) {
+fn flush_in_vain(rt: &impl Abort, bench: &mut Refused) {
     let gave_up = Err(FlushRefusal::DeviceGaveUp(BlockNo(1)));
     expect_equal(rt, "flush", flush(bench), gave_up);
     expect_marks(rt, &bench.cache, SENT_AGAIN);
@@ -376,7 +360,7 @@ fn flush_in_vain<D: Device>(rt: &impl Abort, bench: &mut Bench<Global, D>) {
     flush_after_faults(rt, bench);
 }
 
-fn land_in_vain<D: Device>(rt: &impl Abort, bench: &mut Bench<Global, D>) {
+fn land_in_vain(rt: &impl Abort, bench: &mut Refused) {
     hold_first(rt, bench);
     let gave_up = Err(DeviceGaveUp(BlockNo(0)));
     expect_equal(rt, "landing", land(bench), gave_up);
@@ -385,7 +369,7 @@ fn land_in_vain<D: Device>(rt: &impl Abort, bench: &mut Bench<Global, D>) {
 }
 
 // While its flight is held, nothing can begin.
-fn write_in_vain<D: Device>(rt: &impl Abort, bench: &mut Bench<Global, D>) {
+fn write_in_vain(rt: &impl Abort, bench: &mut Refused) {
     let gave_up = Err(FlushRefusal::DeviceGaveUp(BlockNo(0)));
     expect_equal(rt, "first", write_next(bench), gave_up);
     expect_marks(rt, &bench.cache, SENT);
@@ -395,7 +379,7 @@ fn write_in_vain<D: Device>(rt: &impl Abort, bench: &mut Bench<Global, D>) {
 }
 
 // Writes a chain over a device that refuses a write eight times.
-fn write_over<D: Device + Drop>(rt: &impl Abort, alloc: Global, device: D, writes: Writes) {
+fn write_over(rt: &impl Abort, alloc: Global, device: StubbornDevice, writes: Writes) {
     let mut bench = open_chain(rt, alloc, device);
     match writes {
         Writes::Flush => flush_in_vain(rt, &mut bench),
@@ -407,7 +391,7 @@ fn write_over<D: Device + Drop>(rt: &impl Abort, alloc: Global, device: D, write
 
 // The device refuses the write that comes once so many were done.
 fn write_in_vain_as(rt: &impl Abort, alloc: Global, done: u64, writes: Writes) {
-    write_over(rt, alloc, eight_faults(rt, alloc, done), writes);
+    write_over(rt, alloc, refusing(rt, alloc, done, 1, 8), writes);
 }
 
 #[test]

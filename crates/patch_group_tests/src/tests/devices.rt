@@ -3,6 +3,7 @@ use super::lines::asks_in;
 use super::*;
 use patch_device::{Device, FaultyDevice, MemDevice, load};
 use patch_model::{BLOCK, Mark};
+use patch_testing::StubbornDevice;
 use std::alloc::Global;
 
 // A cache with a patch of each block, all of one group, and the flights that it waits for.
@@ -12,33 +13,26 @@ struct Bench {
     flights: Flights,
 }
 
-type Twice<D> = FaultyDevice<FaultyDevice<D>>;
-
-type FourTimes<D> = Twice<Twice<D>>;
-
-type EightTimes<D> = FourTimes<FourTimes<D>>;
-
-// A device that refuses one write, the first of them as number 0, which doesn't land.
-fn failing<D: Device>(inner: D, at: u64) -> FaultyDevice<D> {
-    FaultyDevice::new(inner, at, false)
+// What the first of two syncs answers, how far the patch has come then, and whether it is pending.
+#[derive(Clone, Copy)]
+struct Synced {
+    answer: Result<(), SyncRefusal>,
+    mark: Mark,
+    pending: u32,
 }
 
-// Where it is tried again, a device of these refuses it.
-fn failing_twice<D: Device>(inner: D, at: u64) -> Twice<D> {
-    failing(failing(inner, at), at)
-}
+const DONE: Synced = Synced {
+    answer: Ok(()),
+    mark: Mark::Durable,
+    pending: 0,
+};
 
-fn failing_four_times<D: Device>(inner: D, at: u64) -> FourTimes<D> {
-    failing_twice(failing_twice(inner, at), at)
-}
-
-fn failing_eight_times<D: Device>(inner: D, at: u64) -> EightTimes<D> {
-    failing_four_times(failing_four_times(inner, at), at)
-}
-
-fn failing_seven_times<D: Device>(inner: D, at: u64) -> FourTimes<Twice<FaultyDevice<D>>> {
-    failing_four_times(failing_twice(failing(inner, at), at), at)
-}
+// The flight of the first block is given up.
+const GIVEN_UP: Synced = Synced {
+    answer: Err(SyncRefusal::DeviceGaveUp(BlockNo(0))),
+    mark: Mark::Flight,
+    pending: 1,
+};
 
 // Makes a patch of each of the cache's blocks, all of one group.
 fn make_patches(bench: &mut Bench) -> Result<(), Fail> {
@@ -53,39 +47,29 @@ fn make_patches(bench: &mut Bench) -> Result<(), Fail> {
     Ok(())
 }
 
-// What a sync answers, how far the patch has come then, and whether it is pending.
-fn expect_synced<D: Device>(
-    rt: &impl Abort,
-    bench: &mut Bench,
-    device: &mut D,
-    want: Result<(), SyncRefusal>,
-    mark: Mark,
-    pending: u32,
-) {
+fn expect_synced<D: Device>(rt: &impl Abort, bench: &mut Bench, device: &mut D, want: Synced) {
     let Bench {
         groups,
         cache,
         flights,
     } = bench;
     let answer = sync(groups, cache, flights, device, GroupNo(0));
-    expect_equal(rt, "sync", answer, want);
-    expect_equal(rt, "mark", cache.mark_of(PatchNo(0)), Some(mark));
+    expect_equal(rt, "sync", answer, want.answer);
+    expect_equal(rt, "mark", cache.mark_of(PatchNo(0)), Some(want.mark));
     let pending_now = groups.pending(GroupNo(0), cache);
-    expect_equal(rt, "pending", pending_now, Ok(pending));
+    expect_equal(rt, "pending", pending_now, Ok(want.pending));
 }
 
-// Syncs the group twice: the first time with this answer, and then all is on the disk.
+// Syncs the group twice: the first time so, and then all is on the disk.
 fn sync_twice<D: Device>(
     rt: &impl Abort,
     bench: &mut Bench,
     device: &mut D,
-    first: Result<(), SyncRefusal>,
-    mark: Mark,
-    pending: u32,
+    first: Synced,
 ) -> Result<(), Fail> {
     make_patches(bench)?;
-    expect_synced(rt, bench, device, first, mark, pending);
-    expect_synced(rt, bench, device, Ok(()), Mark::Durable, 0);
+    expect_synced(rt, bench, device, first);
+    expect_synced(rt, bench, device, DONE);
     Ok(())
 }
 
@@ -100,47 +84,79 @@ fn open_bench(rt: &impl Abort, alloc: Global, count: usize) -> Result<Bench, Out
 
 fn close(bench: Bench) {
     let Bench {
-        groups: _,
-        cache: _,
+        groups,
+        cache,
         flights,
     } = bench;
     flights.abandon();
+    drop(cache);
+    drop(groups);
 }
 
 fn walk<D: Device>(
     rt: &impl Abort,
     alloc: Global,
     device: &mut D,
-    first: Result<(), SyncRefusal>,
-    mark: Mark,
-    pending: u32,
+    first: Synced,
 ) -> Result<(), Fail> {
     let mut bench = open_bench(rt, alloc, device.count() as usize)?;
-    let walked = sync_twice(rt, &mut bench, device, first, mark, pending);
+    let walked = sync_twice(rt, &mut bench, device, first);
     close(bench);
     walked
+}
+
+// Two devices, one in the other, each of which refuses the first write that it is given. It doesn't land.
+fn failing_twice<D: Device>(inner: D) -> FaultyDevice<FaultyDevice<D>> {
+    FaultyDevice::new(FaultyDevice::new(inner, 0, false), 0, false)
+}
+
+// Walks with the device in two more, in four and in six. Each is a function of its own, so that none sees a type of all.
+fn walk_in_two<D: Device + Drop>(
+    rt: &impl Abort,
+    alloc: Global,
+    device: D,
+    first: Synced,
+) -> Result<(), Fail> {
+    let mut outer = failing_twice(device);
+    walk(rt, alloc, &mut outer, first)
+}
+
+fn walk_in_four<D: Device + Drop>(
+    rt: &impl Abort,
+    alloc: Global,
+    device: D,
+    first: Synced,
+) -> Result<(), Fail> {
+    walk_in_two(rt, alloc, failing_twice(device), first)
+}
+
+fn walk_in_six<D: Device + Drop>(
+    rt: &impl Abort,
+    alloc: Global,
+    device: D,
+    first: Synced,
+) -> Result<(), Fail> {
+    walk_in_four(rt, alloc, failing_twice(device), first)
 }
 
 // The flight is held as before, so the next sync completes it.
 #[test]
 fn eight_faults_give_a_flight_up(rt: HostRuntime) -> Result<(), Fail> {
-    let mut device = failing_eight_times(MemDevice::new(rt.alloc(), 1)?, 0);
-    let gave_up = Err(SyncRefusal::DeviceGaveUp(BlockNo(0)));
-    walk(&rt, rt.alloc(), &mut device, gave_up, Mark::Flight, 1)
+    let two = failing_twice(MemDevice::new(rt.alloc(), 1)?);
+    walk_in_six(&rt, rt.alloc(), two, GIVEN_UP)
 }
 
 #[test]
 fn seven_faults_do_not(rt: HostRuntime) -> Result<(), Fail> {
-    let mut device = failing_seven_times(MemDevice::new(rt.alloc(), 1)?, 0);
-    walk(&rt, rt.alloc(), &mut device, Ok(()), Mark::Durable, 0)
+    let one = FaultyDevice::new(MemDevice::new(rt.alloc(), 1)?, 0, false);
+    walk_in_six(&rt, rt.alloc(), one, DONE)
 }
 
 // Each flight has eight tries of its own.
 #[test]
 fn seven_faults_of_each_of_two_flights_do_not(rt: HostRuntime) -> Result<(), Fail> {
-    let second = failing_seven_times(MemDevice::new(rt.alloc(), 2)?, 1);
-    let mut device = failing_seven_times(second, 0);
-    walk(&rt, rt.alloc(), &mut device, Ok(()), Mark::Durable, 0)
+    let mut device = StubbornDevice::new(MemDevice::new(rt.alloc(), 2)?, 0, 2, 7);
+    walk(&rt, rt.alloc(), &mut device, DONE)
 }
 
 // Two groups in order, with what is held, and what belongs to none before and behind them.
@@ -235,7 +251,7 @@ fn sync_in_vain(
     want: Result<(), SyncRefusal>,
     live: u32,
 ) -> Result<(), Fail> {
-    let mut device = failing_eight_times(MemDevice::new(alloc, 6)?, at);
+    let mut device = StubbornDevice::new(MemDevice::new(alloc, 6)?, at, at.saturating_add(1), 8);
     sync_second(rt, alloc, &mut device, want, live)
 }
 

@@ -247,12 +247,15 @@ fn close(bench: Bench) {
     let Bench {
         alloc: _,
         heap: _,
-        groups: _,
-        cache: _,
+        groups,
+        cache,
         flights,
-        device: _,
+        device,
     } = bench;
     flights.abandon();
+    drop(device);
+    drop(cache);
+    drop(groups);
 }
 
 fn open_bench<'a>(

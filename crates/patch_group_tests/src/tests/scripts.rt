@@ -456,12 +456,15 @@ fn close(bench: Bench) {
     let Bench {
         alloc: _,
         asking: _,
-        groups: _,
-        cache: _,
+        groups,
+        cache,
         flights,
-        device: _,
+        device,
     } = bench;
     flights.abandon();
+    drop(device);
+    drop(cache);
+    drop(groups);
 }
 
 fn open_bench(rt: &impl Abort, alloc: Global, asking: Asking) -> Result<Bench, OutOfMemory> {

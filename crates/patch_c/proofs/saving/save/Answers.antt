@@ -1,4 +1,5 @@
 use Rattle.std.proofs.Common.{refl}
+use Rattle.patch_device.specs.SameDevice.{same_both}
 use Rattle.patch_cache.specs.Waves.{steps_since}
 use Rattle.patch_disks.proofs.Saving.{saved_so}
 use Rattle.patch_disks.proofs.Stopping.{risen_behind}
@@ -62,3 +63,20 @@ returns-then-is_err-clause-safe g c honest h stands =
     (had c.args.device.now) (had c.flush.new.device) (had c.sync.new.self) (contents c.args.device.now) (contents c.flush.new.device) (contents c.sync.new.self)
     stands (c.flush.ensures.ran h stands.still.represents) (c.flush.ensures.disk honest h stands.still.represents)
     (c.sync.ensures.had now) (c.sync.ensures.same now) (λ h represents. represents)
+
+pub returns-clause-device : goal.returns-clause-device
+returns-clause-device g c = same_both g.D.Device c.args.device.now c.flush.new.device c.sync.new.self c.flush.ensures.device c.sync.ensures.device
+
+pub returns-in-Err-clause-device : goal.returns-in-Err-clause-device
+returns-in-Err-clause-device g c = c.flush.ensures.device
+
+pub returns-then-is_err-clause-device : goal.returns-then-is_err-clause-device
+returns-then-is_err-clause-device g c = same_both g.D.Device c.args.device.now c.flush.new.device c.sync.new.self c.flush.ensures.device c.sync.ensures.device
+
+pub returns-in-Err-clause-written : goal.returns-in-Err-clause-written
+returns-in-Err-clause-written g c h represents =
+    written_so h (steps_since c.args.store.now.cache c.flush.new.store.cache) c.flush.new.store c.flush.new.store (c.flush.ensures.ran h represents) (λ h represents. represents)
+
+pub returns-then-is_err-clause-written : goal.returns-then-is_err-clause-written
+returns-then-is_err-clause-written g c h represents =
+    written_so h (steps_since c.args.store.now.cache c.flush.new.store.cache) c.flush.new.store c.flush.new.store (c.flush.ensures.ran h represents) (λ h represents. represents)

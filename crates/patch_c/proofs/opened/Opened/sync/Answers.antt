@@ -21,3 +21,15 @@ returns-clause-saved c h stands done = c.save.ensures.saved tt h stands (c.on_ta
 pub returns-clause-lands : goal.returns-clause-lands
 returns-clause-lands c unspent none h stands =
     lands_so h c.args.self.now.store c.save.new.store c.args.self.now.device c.save.new.device none stands (c.save.ensures.safe tt h)
+
+pub returns-clause-synced : goal.returns-clause-synced
+returns-clause-synced c h still done = c.save.ensures.synced h still (c.on_tape-answer.ensures.done.0 done)
+
+pub returns-clause-written : goal.returns-clause-written
+returns-clause-written c unspent h represents = c.save.ensures.written h represents
+
+pub returns-clause-gave_up : goal.returns-clause-gave_up
+returns-clause-gave_up c = c.on_tape-answer.ensures.gave_up
+
+pub returns-clause-cause : goal.returns-clause-cause
+returns-clause-cause c unspent h represents counted = c.on_tape-answer.ensures.cause _ _ (c.save.ensures.cause h represents counted)
