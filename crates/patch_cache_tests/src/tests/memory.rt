@@ -4,7 +4,7 @@ use super::waves::{expect_flushed, flush, make_chain};
 use super::*;
 use linked_list_allocator::LocalHeap;
 use patch_cache::Move::{Back, Take};
-use patch_model::RefusalKind;
+use patch_model::{BlockBytes, RefusalKind};
 use patch_testing::{HEAP, fill, hole_of};
 
 // Asks of each kind.
@@ -267,13 +267,24 @@ fn is_none(rt: &impl Abort, opened: &mut Result<Cache<&LocalHeap>, OutOfMemory>)
     }
 }
 
-// Opens a cache where only a hole of this size is left. Whether that was refused.
-fn is_not_opened(rt: &impl Abort, room: Room, hole: usize) -> bool {
-    let blocks = zeros(room.heap, 2).expect(rt, "blocks");
+// Opens a cache of these blocks where only a hole of this size is left.
+fn open_in_hole<'a>(
+    rt: &impl Abort,
+    room: Room<'a>,
+    blocks: Vec<BlockBytes<&'a LocalHeap>, &'a LocalHeap>,
+    hole: usize,
+) -> Result<Cache<&'a LocalHeap>, OutOfMemory> {
     let ballast = fill(room.alloc, room.heap, hole).expect(rt, "ballast");
     assert!(rt; !blocks.is_empty() && blocks.len() <= MAX_BLOCKS);
-    let mut opened = Cache::open(room.heap, blocks);
+    let opened = Cache::open(room.heap, blocks);
     drop(ballast);
+    opened
+}
+
+// Opens a cache so. Whether that was refused.
+fn is_not_opened(rt: &impl Abort, room: Room, hole: usize) -> bool {
+    let blocks = zeros(room.heap, 2).expect(rt, "blocks");
+    let mut opened = open_in_hole(rt, room, blocks, hole);
     let none = is_none(rt, &mut opened);
     drop(opened);
     none
@@ -415,15 +426,26 @@ fn drain_twice<'a>(rt: &impl Abort, room: Room<'a>, cache: &mut Cache<&'a LocalH
     expect_equal(rt, "drained and left", got, (Ok(2), 0));
 }
 
+// Writes and completes a flight where no memory is left. Whether it was completed.
+fn is_completed_in_full<'a>(
+    rt: &impl Abort,
+    room: Room<'a>,
+    bench: &mut InHeap<'a>,
+    flight: Flight<&'a LocalHeap>,
+) -> bool {
+    let ballast = fill(room.alloc, room.heap, 0).expect(rt, "ballast");
+    let (landed, _) = written(rt, &mut bench.device, flight);
+    let done = completed(&mut bench.cache, landed).is_ok();
+    drop(ballast);
+    done
+}
+
 // Completes a write where no memory is left, after a drain that left the trace no more room than for that.
 fn complete_in_full<'a>(rt: &impl Abort, room: Room<'a>, bench: &mut InHeap<'a>) {
     make(rt, &mut bench.cache, 0, 0, &[0xaa], &[]);
     let flight = send(rt, &mut bench.cache, 0);
     let drained = drain(&mut bench.cache);
-    let ballast = fill(room.alloc, room.heap, 0).expect(rt, "ballast");
-    let (landed, _) = written(rt, &mut bench.device, flight);
-    let done = completed(&mut bench.cache, landed).is_ok();
-    drop(ballast);
+    let done = is_completed_in_full(rt, room, bench, flight);
     expect_equal(rt, "completed", (drained, done), (Ok(2), true));
     let want = (1, 0, [Some(Mark::Durable), None], None, 1);
     expect_shown(rt, &mut bench.cache, want);

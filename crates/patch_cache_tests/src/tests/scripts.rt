@@ -322,10 +322,18 @@ fn traced(step: &Step) -> Traced {
     }
 }
 
+fn expect_step(rt: &impl Abort, step: Option<&Step>, want: Traced) {
+    let told = match step {
+        Some(step) => Some(traced(step)),
+        None => None,
+    };
+    expect_equal(rt, "step", told, Some(want));
+}
+
 fn expect_traced(rt: &impl Abort, steps: &[Step], want: &[Traced]) {
     expect_equal(rt, "steps", steps.len(), want.len());
-    for (step, want) in steps.iter().zip(want) {
-        expect_equal(rt, "step", traced(step), *want);
+    for at in 0..want.len() {
+        expect_step(rt, steps.get(at), want[at]);
     }
 }
 
