@@ -267,3 +267,15 @@ cached_last run block f =
     (λ e i. durable_rests e.mark (f.none e (Contains-from_In (entries_of run) e (filter-In (λ x. x.patch.block == block) (entries_of run) e i).0))) in
     let all = all_pass (λ e. not (is_among [] e.class)) h.entries (λ e i. refl) in
     ap (λ es. pile h.first (map (λ e. e.patch) es)) (images ∙ sym all)
+
+-- one block, of which no write has begun
+pub sent_false : {A : Type 0} {others : Bool} (run : Execution) (block : ℕ) (b : Bool) (cache : Contents) (flights : Flights A) → b ≡ false → IsSentOr others run block b cache flights → (why_not_sent run block ≢ None) × RunsBeside others cache flights run
+sent_false run block true cache flights e h = absurd (cc)
+sent_false run block false cache flights e h = h
+
+pub none_begun : (old still now : Contents) (block : ℕ) (sent : Bool) → still ≡ old → sent ≡ false → now.trace ≡ still.trace ++ begun block sent → now.trace ≡ old.trace ++ []
+none_begun old still now block sent same is added = added ∙ ap (λ b. still.trace ++ begun block b) is ∙ ap (λ (x : Contents). x.trace ++ []) same
+
+pub unsent_still : {A : Type 0} {others : Bool} (run : Execution) (block : ℕ) (old still now : Contents) (sent : Bool) (flights held : Flights A) → still ≡ old → sent ≡ false → (RunsBeside others still flights run → IsSentOr others run block sent now held) → RunsBeside others old flights run
+    → (why_not_sent run block ≢ None) × RunsBeside others now held run
+unsent_still {others = others} run block old still now sent flights held same is one runs = sent_false run block sent now held is (one (subst (λ (x : Contents). RunsBeside others x flights run) (sym same) runs))

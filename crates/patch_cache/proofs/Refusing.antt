@@ -1,10 +1,12 @@
 -- The causes against a write of a block.
-use Rattle.std.proofs.Common.{◌≡◌, ◌<◌, ◌≤◌, ◌∙◌, inl, subst, ℕ, true, false, List, [], ◌∷◌, Option, Some, None, length, refl, sym}
+use Rattle.std.proofs.Common.{◌≡◌, ◌<◌, ◌≤◌, ◌∙◌, inl, subst, ℕ, true, false, List, [], ◌∷◌, Option, Some, None, Result, Ok, Err, length, refl, sym, ap}
 use Rattle.std.specs.Prelude.{◌≢◌, ◌==◌, is_some, Contains}
 use Rattle.std.specs.List.{list_all}
 use Rattle.std.specs.Option.{option_map}
+use Rattle.std.specs.Result.{IsErrAnd, IfErr}
 use Rattle.std.proofs.Math.Dec.{eqb-suc-zero}
 use Rattle.std.proofs.lemmas.Bool.{le-leb, lt-leb, eq-eqb, and_parts}
+use Rattle.patch_model.specs.declared.refusals.Refusal.{Refusal}
 use Rattle.patch_model.specs.declared.refusals.RefusalKind.TheVariants as kind
 use Rattle.patch_model.specs.declared.patches.Mark.{Mark}
 use Rattle.patch_model.specs.declared.patches.Mark.TheVariants.{Memory, Flight, Durable}
@@ -17,6 +19,9 @@ use Rattle.patch_model.specs.Refusing.{why_not_sent, bare}
 use Rattle.patch_model.specs.State.{entries_of, state_of, has_flight}
 use Rattle.patch_cache.specs.Contents.{Write}
 use Rattle.patch_cache.specs.Meaning.{IsWriteOf}
+use Rattle.patch_cache.specs.Refusals.{send_cause, IsCause}
+use Rattle.patch_cache.specs.declared.refusals.SendRefusal.{SendRefusal}
+use Rattle.patch_cache.specs.declared.refusals.SendRefusal.TheVariants.{OutOfMemory as NoMemory}
 
 -- a block with a write under way has one in flight
 pub has_one : (run : Execution) (block : ℕ) (w : Option Write) → IsWriteOf run block w → has_flight (state_of run) block ≡ is_some w
@@ -78,3 +83,8 @@ none_ready run block big clear some = by (ready (entries_of run) block) refl
         let parts = and_parts (is_memory e) (e.patch.block == block) m.1 in
         let there = In-filter (λ f. f.patch.block == block) (entries_of run) e (In-from_Contains (entries_of run) e m.0) parts.1 in
         apart e.mark parts.0 (list_all-at is_durable (of_block block (entries_of run)) e clear there)
+
+-- where there was no cause, there was no memory
+pub send_lacks_memory : {T : Type 0} (why : Option Refusal) (r : Result T SendRefusal) → None ≡ why → IsErrAnd r (λ e. e ≡ NoMemory) → IfErr r (λ refusal. IsCause why (send_cause refusal))
+send_lacks_memory why (Ok x) none is = absurd is
+send_lacks_memory why (Err e) none is = subst (λ w. IsCause w (send_cause e)) none (ap send_cause is)

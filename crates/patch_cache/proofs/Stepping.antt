@@ -1,10 +1,12 @@
 -- A step that changes one block and the graph, and no write under way.
-use Rattle.std.proofs.Common.{◌≡◌, ◌≢◌, ℕ, ◌+◌, ◌<◌, ◌≤◌, ◌∙◌, List, [], Option, Some, None, Result, Ok, Err, inl, inr, length, get_or, set, refl, sym, ap, subst, arith}
-use Rattle.std.specs.Prelude.{count_by, slice_set}
+use Rattle.std.proofs.Common.{◌≡◌, ◌≢◌, Fits, w32, w64, ℕ, ◌+◌, ◌-◌, ◌^◌, min, ◌<◌, ◌≤◌, ◌∙◌, List, [], Option, Some, None, Result, Ok, Err, inl, inr, length, get_or, set, refl, sym, ap, subst, arith}
+use Rattle.std.specs.Prelude.{count_by, is_some, slice_set}
 use Rattle.std.specs.Result.{OnErr}
 use Rattle.std.proofs.lemmas.Bool.{cases_eq}
 use Rattle.std.proofs.lemmas.List.{set-get_or, get_or_default, get_or-set_same, get_or-set_other}
+use Rattle.std.proofs.lemmas.List.Sums.{count_by-le-length}
 use Rattle.std.proofs.Math.ListN.{length-set}
+use Rattle.patch_model.specs.declared.limits.TheConstants.{MAX_PATCHES}
 use Rattle.patch_model.specs.Entry.{is_live}
 use Rattle.patch_model.specs.Step.{Step}
 use Rattle.patch_model.specs.Execution.{Execution, extended}
@@ -92,3 +94,52 @@ below_count c now block place found long there same known read below = let many 
 
 pub below_writes : (place found long wide blocks writes : ℕ) → found ≡ long → long ≡ blocks → wide ≡ writes → writes ≡ blocks → place < found → place < wide
 below_writes place found long wide blocks writes read known as_wide same below = omega arith
+
+-- a place that isn't below the count of blocks is that of none
+pub not_past : (c now : Contents) (block place found long : ℕ) → place ≡ block → c ≡ now → long ≡ length c.blocks → found ≡ long → found ≤ place → block < length now.blocks → ⊥
+not_past c now block place found long there same known read past inside = let many = ap (λ (v : Contents). length v.blocks) same in absurd (omega arith)
+
+-- the write of a block that there is has its place
+pub within_writes : (c now : Contents) (block place long : ℕ) → place ≡ block → c ≡ now → block < length now.blocks → length c.writes ≡ length c.blocks → long ≡ length c.writes → place < long
+within_writes c now block place long there same known as_many is = let many = ap (λ (v : Contents). length v.blocks) same in omega arith
+
+-- one patch more may live
+pub one_lives : (live now_live : ℕ) → live ≡ now_live → now_live < 65536 → Fits w32 (live + 1)
+one_lives live now_live same few = omega arith
+
+-- room that was reserved for a step and for each write under way
+pub room_left : (long under most : ℕ) → long + (under + 1) ≤ most → long < most
+room_left long under most room = omega arith
+
+pub more_room_left : (long under most : ℕ) → long + (under + 2) ≤ most → long < most
+more_room_left long under most room = omega arith
+
+-- a trace that has more room than before has enough
+pub still_fits : (had now under before after : ℕ) → now ≡ had → before ≤ after → had + under ≤ before → now + under ≤ after
+still_fits had now under before after same more room = omega arith
+
+-- a step that begins a write leaves the trace room for its end too
+pub begun_fits : (more had long under before after : ℕ) → long ≡ had → more ≡ had + 1 → long + (under + 2) ≤ before → after ≡ before → more + (under + 1) ≤ after
+begun_fits more had long under before after is one room same = omega arith
+
+-- one write more was begun: their count stays below its greatest
+pub next_sends : (counted sends before after : ℕ) → counted ≡ min (sends + 1) (2 ^ 32 - 1) → after ≡ before + 1 → sends ≡ before → before ≤ MAX_PATCHES → counted ≡ after
+next_sends counted sends before after is one same few = omega arith
+
+-- so it is of the blocks that an execution has
+pub past_all : (c now : Contents) (run : Execution) (block place found long : ℕ) → place ≡ block → c ≡ now → length now.blocks ≡ length run.first → long ≡ length c.blocks → found ≡ long → found ≤ place → length run.first ≤ block
+past_all c now run block place found long there same count known read past = let many = ap (λ (v : Contents). length v.blocks) same in omega arith
+
+-- no more writes are under way than there are blocks
+pub few_fit : {X : Type 0} (writes : List (Option X)) (under blocks : ℕ) → under ≡ count_by is_some writes → length writes ≡ blocks → blocks ≤ 4096 → Fits w64 (under + 1)
+few_fit writes under blocks count as_many few = let most = count_by-le-length is_some writes in omega (arith, most)
+
+pub few_more_fit : {X : Type 0} (writes : List (Option X)) (under blocks : ℕ) → under ≡ count_by is_some writes → length writes ≡ blocks → blocks ≤ 4096 → Fits w64 (under + 2)
+few_more_fit writes under blocks count as_many few = let most = count_by-le-length is_some writes in omega (arith, most)
+
+-- an empty trace has room for as many as it was made for
+pub empty_fits : (had under most : ℕ) → had ≡ 0 → under ≤ most → had + under ≤ most
+empty_fits had under most none room = omega arith
+
+pub one_left : (long most : ℕ) → long + 1 ≤ most → long < most
+one_left long most room = omega arith

@@ -1,9 +1,9 @@
 -- Writes under way, in the places of their blocks.
-use Rattle.std.proofs.Common.{◌≡◌, ℕ, zero, suc, ◌+◌, ◌<◌, ◌∙◌, false, List, [], ◌∷◌, length, get_or, set, refl, sym, ap, subst, arith, Option, Some, None, cond}
+use Rattle.std.proofs.Common.{◌≡◌, ℕ, zero, suc, ◌+◌, ◌<◌, ◌∙◌, true, false, List, [], ◌∷◌, length, get_or, set, refl, sym, ap, subst, arith, Option, Some, None, cond}
 use Rattle.std.specs.Prelude.{◌==◌, ◌&&◌, IsTrue, Contains, slice_get, count_by, is_some}
 use Rattle.std.specs.List.{list_any}
-use Rattle.std.proofs.lemmas.Bool.{both_ways, and_parts, eqb-true, eq-eqb}
-use Rattle.std.proofs.lemmas.Option.{slice_get-get_or}
+use Rattle.std.proofs.lemmas.Bool.{false≢true, both_ways, and_parts, eqb-true, eq-eqb}
+use Rattle.std.proofs.lemmas.Option.{slice_get-get_or, slice_get_within}
 use Rattle.patch_model.specs.Entry.{Entry, is_flight}
 use Rattle.patch_model.specs.Execution.{Execution}
 use Rattle.patch_model.specs.Member.{In-from_Contains, Contains-from_In, list_any-from, list_any-at}
@@ -75,3 +75,14 @@ placed run block number holds known flies =
     let some = holds (list_any-from (λ f. f.0 == block) (state_of run).flights (block, number) (In-from_Contains (state_of run).flights (block, number) flies) (eq-eqb block block refl)) in
     let r = list_any-at (λ e. is_flight e && e.patch.block == block) (entries_of run) some in
     subst (λ n. n < length run.first) (eqb-true r.0.patch.block block (and_parts (is_flight r.0) (r.0.patch.block == block) r.2).1) (known r.0 (Contains-from_In (entries_of run) r.0 r.1))
+
+-- the write that was begun is taken out
+pub of_begun : (ws : List (Option Write)) (i block number : ℕ) (begun : Write) (taken left : Option Write) → i ≡ block → slice_get ws i ≡ Some (Some begun) → begun.sequence ≡ number → taken ≡ Some begun → left ≡ None
+    → IsWithdrawn ws block number taken (set ws i left)
+of_begun ws i block number begun taken left place at same is_taken is_left =
+    rw (is_taken, is_left) (subst (λ k. slice_get ws k ≡ Some (Some begun)) place at, same, ap (λ k. set ws k None) place)
+
+-- nothing is taken out where there is no such place
+pub of_absent : (ws : List (Option Write)) (i block number long : ℕ) (taken : Option Write) → i ≡ block → long ≡ length ws → taken ≡ None → (i < long → false ≡ true) → IsWithdrawn ws block number taken ws
+of_absent ws i block number long taken place known none absent =
+    rw none (refl, λ write at is. let within = slice_get_within ws block (Some write) at in absurd (false≢true (absent (omega (arith, place, known, within)))))

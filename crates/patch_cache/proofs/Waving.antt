@@ -7,6 +7,7 @@ use Rattle.std.proofs.lemmas.List.{append-nil, nil_from_length, get_or-set_same,
 use Rattle.std.proofs.lemmas.List.Folds.{list_all-append, list_any-append}
 use Rattle.std.proofs.lemmas.Bool.{cases_Bool, cases_eq, and_parts, and_from}
 use Rattle.std.proofs.lemmas.Bool.Decides.{nat_tests}
+use Rattle.std.proofs.lemmas.Option.{slice_get-get_or}
 use Rattle.patch_model.specs.Step.{Step, Send, Complete}
 use Rattle.patch_model.specs.Execution.{Execution, extended, followed_by}
 use Rattle.patch_model.specs.Entry.{Entry, is_memory, is_flight}
@@ -441,3 +442,18 @@ completed join ends run block had had_now contents now legal known done left saf
       trail = longer run (Complete block);
       left = subst (MayLeave next) (sym done) (ends run contents block legal known left);
     })
+
+-- how often where none was tried
+pub tries_none : (had more : ℕ) → had ≤ had + more
+tries_none had more = omega arith
+
+-- a flight less is held
+pub fewer_held : (now had held held_now : ℕ) → now + 1 ≡ had → now ≡ held_now → had ≡ held → held_now + 1 ≡ held
+fewer_held now had held held_now fewer is was = omega arith
+
+pub one_less : (now had : ℕ) → now + 1 ≡ had → now < had
+one_less now had fewer = omega arith
+
+-- the flight that is held first
+pub held_at_first : {X : Type 0} (xs : List X) (a : X) → 0 < length xs → a ≡ get_or xs 0 a → slice_get xs 0 ≡ Some a
+held_at_first xs a some is = slice_get-get_or xs 0 a some ∙ ap (λ x. Some x) (sym is)

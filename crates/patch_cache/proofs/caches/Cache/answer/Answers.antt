@@ -1,9 +1,10 @@
 use Rattle.std.proofs.Common.{◌≡◌, refl, sym, ap, subst}
-use Rattle.patch_cache.specs.Asks.{Create, Merge, Send, View, ask_of, answer_of}
+use Rattle.patch_cache.specs.Asks.{Create, Merge, Send, View, ask_of, answer_of, is_complete}
 use Rattle.patch_cache.specs.Running.{Runs, IsServed}
 use Rattle.patch_cache.proofs.Faultless.{view_faultless}
 use Rattle.patch_cache.proofs.Plain.{create_held, merge_held, view_kept}
 use Rattle.patch_cache.proofs.Serving.{served_aside}
+use Rattle.patch_device.specs.SameDevice.{same_still}
 use Rattle.patch_cache.proofs.caches.Cache.answer.Goals as goal
 
 pub returns-in-Create-clause-served : goal.returns-in-Create-clause-served
@@ -70,3 +71,36 @@ pub returns-in-View-clause-of_completion : goal.returns-in-View-clause-of_comple
 returns-in-View-clause-of_completion g c run r fault =
     let i = c.in-View in
     absurd (view_faultless run i.block c.as_slice-in-View.result.now i.start i.len (answer_of c.look.result) (c.look.ensures.answer run r.cache_is) fault)
+
+pub returns-in-Create-clause-of_completion : goal.returns-in-Create-clause-of_completion
+returns-in-Create-clause-of_completion g c = λ run runs fault. absurd (c.answer_create.ensures.no_fault fault)
+
+pub returns-in-Create-clause-device : goal.returns-in-Create-clause-device
+returns-in-Create-clause-device g c = same_still g.D.Device c.args.device.now
+
+pub returns-in-Merge-clause-of_completion : goal.returns-in-Merge-clause-of_completion
+returns-in-Merge-clause-of_completion g c = λ run runs fault. absurd (c.answer_merge.ensures.no_fault fault)
+
+pub returns-in-Merge-clause-device : goal.returns-in-Merge-clause-device
+returns-in-Merge-clause-device g c = same_still g.D.Device c.args.device.now
+
+pub returns-in-Send-clause-of_completion : goal.returns-in-Send-clause-of_completion
+returns-in-Send-clause-of_completion g c = λ run runs fault. absurd (c.answer_send.ensures.no_fault fault)
+
+pub returns-in-Send-clause-device : goal.returns-in-Send-clause-device
+returns-in-Send-clause-device g c = same_still g.D.Device c.args.device.now
+
+pub returns-in-View-clause-device : goal.returns-in-View-clause-device
+returns-in-View-clause-device g c = same_still g.D.Device c.args.device.now
+
+pub returns-in-Complete-clause-device : goal.returns-in-Complete-clause-device
+returns-in-Complete-clause-device g c = c.answer_complete.ensures.device
+
+pub returns-in-Complete-clause-of_completion : goal.returns-in-Complete-clause-of_completion
+returns-in-Complete-clause-of_completion g c = λ run runs fault. ap (λ a. is_complete (ask_of a)) c.in-Complete.is
+
+pub returns-in-Complete-clause-served : goal.returns-in-Complete-clause-served
+returns-in-Complete-clause-served g c run on =
+    let answer = answer_of c.answer_complete.result in
+    subst (λ a. IsServed g.D.Device run a answer c.answer_complete.new.self c.answer_complete.new.flights c.args.device.now c.answer_complete.new.device) (sym (ap ask_of c.in-Complete.is))
+    (c.answer_complete.ensures.served run on)

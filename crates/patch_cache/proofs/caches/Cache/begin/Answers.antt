@@ -1,4 +1,4 @@
-use Rattle.std.proofs.Common.{◌≡◌, ◌<◌, ◌≤◌, ◌++◌, ◌∷◌, ◌+◌, ◌∙◌, ℕ, List, [], None, Some, ◌-◌, ◌^◌, min, length, get_or, map, refl, sym, ap, subst, arith}
+use Rattle.std.proofs.Common.{◌≡◌, ◌<◌, ◌≤◌, ◌++◌, ◌∷◌, ◌+◌, ◌∙◌, ℕ, List, [], None, Some, length, get_or, map, refl, sym, ap, subst}
 use Rattle.std.specs.Prelude.{◌==◌, ◌&&◌, not, count_by, slice_index_or}
 use Rattle.std.specs.List.Sorted.{IsNonDecreasing}
 use Rattle.std.proofs.lemmas.List.{get_or_read_under, length-append, length-set, map-append}
@@ -19,8 +19,9 @@ use Rattle.patch_cache.specs.Contents.{Contents, no_block}
 use Rattle.patch_cache.specs.Meaning.{Represents, IsWriteOf}
 use Rattle.patch_cache.proofs.Departing.{may_depart}
 use Rattle.patch_cache.proofs.Underway.{one_more}
-use Rattle.patch_cache.proofs.Stepping.{within}
+use Rattle.patch_cache.proofs.Stepping.{within, unchanged, on_err, within_writes, more_room_left, still_fits, begun_fits, next_sends, few_fit, few_more_fit}
 use Rattle.patch_cache.proofs.Writing.{IsStepOf, stepped, sent_here, sent_other}
+use Rattle.std.proofs.lemmas.Result.{IfOk-from_err}
 use Rattle.patch_cache.proofs.caches.Cache.begin.Goals as goal
 
 pub returns-clause-begun : goal.returns-clause-begun
@@ -62,10 +63,7 @@ returns-clause-begun g c = λ run at may.
     let graph : IsGraphOf c.mark_flight.new.self (entries_of next) = subst (IsGraphOf c.mark_flight.new.self) (sym entries)
     (c.mark_flight.ensures.answer all seen.graph ring (subst IsOrderly entries (c.executions_are_orderly.ensures.patches next legal))) in
     let sends : c.saturating_add-self-inside.result ≡ (state_of next).sends =
-    let sum : c.saturating_add-self-inside.result ≡ min (c.self.inside.sends + 1) (2 ^ 32 - 1) = c.saturating_add-self-inside.ensures in
-    let one : (state_of next).sends ≡ (state_of run).sends + 1 = ap (λ st. st.sends) state in
-    let before : c.self.inside.sends ≡ (state_of run).sends = seen.sends in
-    let limit = c.executions_are_limited.ensures.sends run at.legal in omega arith in
+    next_sends _ _ _ _ c.saturating_add-self-inside.ensures (ap (λ st. st.sends) state) seen.sends (c.executions_are_limited.ensures.sends run at.legal) in
     let counted : c.self.inside.live ≡ count_by is_live (entries_of next) = seen.live ∙ sym (c.live_are_counted.ensures.sent run block) in
     let noted : c.from_vec-noted.result ≡ numbers_of (flying_of (entries_of next) block) =
     c.from_vec-noted.ensures ∙ c.in_ok-from_slice.ensures.items ∙ c.as_slice.ensures.value ∙ numbers ∙ sym (c.flights_are_ready.ensures.sent run block at.legal lawful.1.0) in
@@ -91,19 +89,72 @@ pub invariant_of-self-2 : goal.invariant_of-self-2
 invariant_of-self-2 g c =
     let ws = c.self.inside.writes.items in
     let place : c.block.inside.0 ≡ c.args.block = c.block.view_is in
-    let many : length c.self.inside.blocks.items ≡ length c.args.self.now.blocks = ap (λ (v : Contents). length v.blocks) c.self.view_is in
     let same : length ws ≡ length c.self.inside.blocks.items = c.self.invariant.0 in
-    let within : c.block.inside.0 < length ws = omega (arith, place, many, same, c.requires.known) in
+    let inside : c.block.inside.0 < length ws = within_writes _ c.args.self.now c.args.block c.block.inside.0 _ place c.self.view_is c.requires.known same refl in
     let none = ap (λ n. slice_index_or ws n None) place ∙ ap (λ (v : Contents). slice_index_or v.writes c.args.block None) c.self.view_is ∙ c.requires.not_under_way in
     let blocks = length-set c.self.inside.blocks.items c.block.inside.0 c.depart_each.new.self in
-    let longer : length c.push_reserved.new.self.items ≡ length c.reserve.new.self.items + 1 = ap length c.push_reserved.ensures.items ∙ length-append c.reserve.new.self.items _ in
-    let room = c.push_reserved.ensures.capacity in
-    let made = c.in_ok-reserve.ensures.ok in (
+    let longer : length c.push_reserved.new.self.items ≡ length c.reserve.new.self.items + 1 = ap length c.push_reserved.ensures.items ∙ length-append c.reserve.new.self.items _ in (
       length-set ws c.block.inside.0 (Some _) ∙ same ∙ sym blocks,
       subst (λ (n : ℕ). n ≤ 4096) (sym blocks) c.self.invariant.1,
-      ap (λ n. n + 1) c.self.invariant.2 ∙ sym (one_more ws c.block.inside.0 _ within none),
-      omega arith,
+      ap (λ n. n + 1) c.self.invariant.2 ∙ sym (one_more ws c.block.inside.0 _ inside none),
+      begun_fits _ _ _ c.self.inside.under_way _ _ c.reserve.new.self.ok.0 longer c.in_ok-reserve.ensures.ok c.push_reserved.ensures.capacity,
     )
 
 pub index_mut-state-requires : goal.index_mut-state-requires
 index_mut-state-requires g c = within _ c.args.self.now c.args.block c.block.inside.0 _ c.block.view_is c.self.view_is c.requires.known c.self.inside.blocks.ok.0
+
+pub returns-in_err-from_slice-clause-begun : goal.returns-in_err-from_slice-clause-begun
+returns-in_err-from_slice-clause-begun g c = λ run at may. IfOk-from_err c.from_residual.result _ c.from_residual.ensures.0
+
+pub returns-in_err-from_slice-clause-trace : goal.returns-in_err-from_slice-clause-trace
+returns-in_err-from_slice-clause-trace g c = IfOk-from_err c.from_residual.result _ c.from_residual.ensures.0
+
+pub returns-in_err-from_slice-clause-refused : goal.returns-in_err-from_slice-clause-refused
+returns-in_err-from_slice-clause-refused g c = on_err _ refl
+
+pub returns-in_err-image-clause-begun : goal.returns-in_err-image-clause-begun
+returns-in_err-image-clause-begun g c = λ run at may. IfOk-from_err c.from_residual-in_err-image.result _ c.from_residual-in_err-image.ensures.0
+
+pub returns-in_err-image-clause-trace : goal.returns-in_err-image-clause-trace
+returns-in_err-image-clause-trace g c = IfOk-from_err c.from_residual-in_err-image.result _ c.from_residual-in_err-image.ensures.0
+
+pub returns-in_err-image-clause-refused : goal.returns-in_err-image-clause-refused
+returns-in_err-image-clause-refused g c = on_err _ refl
+
+pub returns-in_err-reserve-clause-begun : goal.returns-in_err-reserve-clause-begun
+returns-in_err-reserve-clause-begun g c = λ run at may. IfOk-from_err c.from_residual-in_err-reserve.result _ c.from_residual-in_err-reserve.ensures.0
+
+pub returns-in_err-reserve-clause-trace : goal.returns-in_err-reserve-clause-trace
+returns-in_err-reserve-clause-trace g c = IfOk-from_err c.from_residual-in_err-reserve.result _ c.from_residual-in_err-reserve.ensures.0
+
+pub returns-in_err-reserve-clause-refused : goal.returns-in_err-reserve-clause-refused
+returns-in_err-reserve-clause-refused g c = on_err _ (unchanged _ _ _ _ refl refl (ap (map step_of) c.reserve.ensures.items) ∙ c.self.view_is)
+
+pub returns-clause-refused : goal.returns-clause-refused
+returns-clause-refused g c = tt
+
+pub index_mut-requires : goal.index_mut-requires
+index_mut-requires g c = within_writes _ c.args.self.now c.args.block c.block.inside.0 _ c.block.view_is c.self.view_is c.requires.known c.self.invariant.0 c.self.inside.writes.ok.0
+
+pub push_reserved-requires : goal.push_reserved-requires
+push_reserved-requires g c = more_room_left _ _ _ c.in_ok-reserve.ensures.ok
+
+pub invariant_of-self : goal.invariant_of-self
+invariant_of-self g c = (
+  c.self.invariant.0,
+  c.self.invariant.1,
+  c.self.invariant.2,
+  still_fits _ _ _ _ _ (ap length c.reserve.ensures.items) c.reserve.ensures.capacity c.self.invariant.3,
+)
+
+pub copy_image-requires-clause-empty : goal.copy_image-requires-clause-empty
+copy_image-requires-clause-empty g c = c.in_ok-image.ensures.len
+
+pub copy_image-requires-clause-room : goal.copy_image-requires-clause-room
+copy_image-requires-clause-room g c = c.in_ok-image.ensures.capacity
+
+pub overflow_add-self-inside : goal.overflow_add-self-inside
+overflow_add-self-inside g c = few_more_fit c.self.inside.writes.items _ _ c.self.invariant.2 c.self.invariant.0 c.self.invariant.1
+
+pub overflow_add-self : goal.overflow_add-self
+overflow_add-self g c = few_fit c.self.inside.writes.items _ _ c.self.invariant.2 c.self.invariant.0 c.self.invariant.1

@@ -1,4 +1,4 @@
-use Rattle.std.proofs.Common.{◌≡◌, ◌<◌, ◌≤◌, ◌+◌, ◌-◌, ◌∙◌, ℕ, List, [], ◌∷◌, ◌++◌, Some, None, length, length-set, length-append, get_or, set, map, refl, sym, ap, subst, arith}
+use Rattle.std.proofs.Common.{◌≡◌, ◌<◌, ◌≤◌, ◌+◌, ◌-◌, ◌∙◌, ℕ, List, [], ◌∷◌, ◌++◌, Some, None, length, length-set, length-append, get_or, set, map, refl, sym, ap, subst, arith, Option}
 use Rattle.std.specs.Prelude.{Contains, IsTrue, count_by, is_some}
 use Rattle.std.proofs.lemmas.List.{get_or_read_under, map-append}
 use Rattle.std.proofs.lemmas.Option.{slice_get_within, get_or_from_slice_get}
@@ -12,7 +12,7 @@ use Rattle.patch_model.specs.Step.{Complete}
 use Rattle.patch_model.specs.StepOf.{step_of}
 use Rattle.patch_view.specs.Meaning.{Represents as IsBlockOf}
 use Rattle.patch_graph.specs.Meaning.{Represents as IsGraphOf}
-use Rattle.patch_cache.specs.Contents.{Contents, no_block}
+use Rattle.patch_cache.specs.Contents.{Contents, no_block, Write}
 use Rattle.patch_cache.specs.Meaning.{Represents, IsWriteOf}
 use Rattle.patch_cache.proofs.Refusing.{has_one}
 use Rattle.patch_cache.proofs.Writing.{IsStepOf, stepped, landed_here, landed_other}
@@ -120,3 +120,33 @@ pub returns-clause-trace : goal.returns-clause-trace
 returns-clause-trace g c =
     ap (map step_of) c.push_reserved.ensures.items ∙ map-append step_of c.self.inside.trace.items _
     ∙ ap (λ (v : Contents). v.trace ++ Complete c.args.landed.block ∷ []) c.self.view_is
+
+pub returns-in_default-clause-done : goal.returns-in_default-clause-done
+returns-in_default-clause-done g c = λ run at. tt
+
+pub returns-in_default-clause-back : goal.returns-in_default-clause-back
+returns-in_default-clause-back g c = refl
+
+pub returns-in_default-clause-trace : goal.returns-in_default-clause-trace
+returns-in_default-clause-trace g c = tt
+
+pub returns-in_default-clause-refused : goal.returns-in_default-clause-refused
+returns-in_default-clause-refused g c =
+    let with_writes = λ (ws : List (Option Write)). let v : Contents = record {
+      blocks = c.self.inside.blocks.items;
+      writes = ws;
+      graph = c.self.inside.graph;
+      sends = c.self.inside.sends;
+      live = c.self.inside.live;
+      trace = map step_of c.self.inside.trace.items;
+    } in v in
+    ap with_writes c.in_default.ensures.0 ∙ c.self.view_is
+
+pub returns-clause-stranger : goal.returns-clause-stranger
+returns-clause-stranger g c = λ run at. tt
+
+pub returns-clause-back : goal.returns-clause-back
+returns-clause-back g c = tt
+
+pub returns-clause-refused : goal.returns-clause-refused
+returns-clause-refused g c = tt

@@ -8,6 +8,7 @@ use Rattle.patch_cache.specs.Refused.{IfGivenUp, refused_later}
 use Rattle.patch_cache.proofs.Waving.{continues_both, since_both, went_both, keeps_both, sends_since, given_so}
 use Rattle.patch_cache.proofs.GivenUp.{rises_so, held_so, no_device_gave_up, risen_later}
 use Rattle.patch_cache.proofs.Passing.{passed_none, passed_some, flushed_after, few_classes}
+use Rattle.std.proofs.lemmas.Result.{IfOk-from_err}
 use Rattle.patch_cache.proofs.caches.Cache.flush.Goals as goal
 
 pub loop-init : goal.loop-init
@@ -235,3 +236,79 @@ returns-in_err-land-2-clause-trace g c =
 
 pub returns-in_err-land-2-clause-device : goal.returns-in_err-land-2-clause-device
 returns-in_err-land-2-clause-device g c = same_both g.D.Device c.args.device.now c.loop.device c.land-in-loop.new.device c.loop.invariant.same c.land-in-loop.ensures.device
+
+-- what is told where the held flights are given up
+pub returns-in_err-land-clause-ran : goal.returns-in_err-land-clause-ran
+returns-in_err-land-clause-ran g c = c.land.ensures.ran
+
+pub returns-in_err-land-clause-trace : goal.returns-in_err-land-clause-trace
+returns-in_err-land-clause-trace g c = c.land.ensures.trace
+
+pub returns-in_err-land-clause-disk : goal.returns-in_err-land-clause-disk
+returns-in_err-land-clause-disk g c = c.land.ensures.disk
+
+pub returns-in_err-land-clause-device : goal.returns-in_err-land-clause-device
+returns-in_err-land-clause-device g c = c.land.ensures.device
+
+pub returns-in_err-land-clause-flushed : goal.returns-in_err-land-clause-flushed
+returns-in_err-land-clause-flushed g c = λ run runs. IfOk-from_err c.from_residual.result _ c.from_residual.ensures.0
+
+pub returns-in_err-land-clause-landed : goal.returns-in_err-land-clause-landed
+returns-in_err-land-clause-landed g c = IfOk-from_err c.from_residual.result _ c.from_residual.ensures.0
+
+pub returns-in_err-send_all-clause-flushed : goal.returns-in_err-send_all-clause-flushed
+returns-in_err-send_all-clause-flushed g c = λ run runs. IfOk-from_err c.from_residual-in_err-send_all.result _ c.from_residual-in_err-send_all.ensures.0
+
+pub returns-in_err-send_all-clause-landed : goal.returns-in_err-send_all-clause-landed
+returns-in_err-send_all-clause-landed g c = IfOk-from_err c.from_residual-in_err-send_all.result _ c.from_residual-in_err-send_all.ensures.0
+
+pub returns-in_err-land-2-clause-flushed : goal.returns-in_err-land-2-clause-flushed
+returns-in_err-land-2-clause-flushed g c = λ run runs. IfOk-from_err c.from_residual-in_err-land-2.result _ c.from_residual-in_err-land-2.ensures.0
+
+pub returns-in_err-land-2-clause-landed : goal.returns-in_err-land-2-clause-landed
+returns-in_err-land-2-clause-landed g c = IfOk-from_err c.from_residual-in_err-land-2.result _ c.from_residual-in_err-land-2.ensures.0
+
+pub returns-in_err-send_all-clause-device : goal.returns-in_err-send_all-clause-device
+returns-in_err-send_all-clause-device g c = c.loop.invariant.same
+
+pub returns-then-not-branch-clause-gave_up : goal.returns-then-not-branch-clause-gave_up
+returns-then-not-branch-clause-gave_up g c = λ others run on. tt
+
+pub returns-then-not-branch-clause-refused : goal.returns-then-not-branch-clause-refused
+returns-then-not-branch-clause-refused g c = λ others run on. tt
+
+pub returns-then-not-branch-clause-held : goal.returns-then-not-branch-clause-held
+returns-then-not-branch-clause-held g c = tt
+
+pub returns-then-not-branch-clause-device : goal.returns-then-not-branch-clause-device
+returns-then-not-branch-clause-device g c = c.loop.invariant.same
+
+pub returns-clause-gave_up : goal.returns-clause-gave_up
+returns-clause-gave_up g c = λ others run on. tt
+
+pub returns-clause-refused : goal.returns-clause-refused
+returns-clause-refused g c = λ others run on. tt
+
+pub returns-clause-held : goal.returns-clause-held
+returns-clause-held g c = tt
+
+pub returns-clause-device : goal.returns-clause-device
+returns-clause-device g c = c.loop.invariant.same
+
+pub returns-then-not-branch-clause-landed : goal.returns-then-not-branch-clause-landed
+returns-then-not-branch-clause-landed g c = c.in_ok-send_all.ensures.kept c.if-not-branch.true ∙ c.loop.invariant.landed
+
+pub returns-clause-landed : goal.returns-clause-landed
+returns-clause-landed g c = c.loop.invariant.landed
+
+pub returns-clause-ran : goal.returns-clause-ran
+returns-clause-ran g c = c.loop.invariant.ran
+
+pub returns-clause-trace : goal.returns-clause-trace
+returns-clause-trace g c = c.loop.invariant.trace
+
+pub returns-clause-disk : goal.returns-clause-disk
+returns-clause-disk g c = c.loop.invariant.disk
+
+pub returns-clause-tries : goal.returns-clause-tries
+returns-clause-tries g c = c.loop.invariant.tries

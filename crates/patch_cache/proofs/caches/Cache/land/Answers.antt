@@ -1,9 +1,13 @@
-use Rattle.std.proofs.Common.{[], false, inl, refl, sym, ◌∙◌, arith}
+use Rattle.std.proofs.Common.{[], false, inl, refl, sym, ◌∙◌, arith, ◌<◌, ℕ, subst}
 use Rattle.std.proofs.lemmas.List.{nil_from_length}
 use Rattle.patch_device.specs.SameDevice.{same_still, same_both}
 use Rattle.patch_cache.specs.declared.refusals.DeviceGaveUp.{DeviceGaveUp}
 use Rattle.patch_cache.specs.Refused.{HasRefusedFirst, refused_later}
-use Rattle.patch_cache.proofs.Waving.{none_added, since_is, no_sends, continues, continues_both, gone_still, kept_unmoved, went_by, went_both, keeps_by, keeps_both, sends_since, one_ended, one_at_last, is_same, some_held, tries_landed, tries_refused, told_so}
+use Rattle.patch_cache.proofs.Waving.{none_added, since_is, no_sends, continues, continues_both, gone_still, kept_unmoved, went_by, went_both, keeps_by, keeps_both, sends_since, one_ended, one_at_last, is_same, some_held, tries_landed, tries_refused, told_so, one_less}
+use Rattle.std.proofs.lemmas.Result.{IfOk-from_err}
+use Rattle.patch_cache.specs.Waves.{IsHeldFirst}
+use Rattle.patch_cache.proofs.Stepping.{on_err}
+use Rattle.patch_cache.proofs.GivenUp.{risen_later}
 use Rattle.patch_cache.proofs.caches.Cache.land.Goals as goal
 
 pub loop-self-init : goal.loop-self-init
@@ -87,3 +91,51 @@ returns-clause-one g c run runs =
     let none = is_same _ 0 (sym c.is_empty.ensures ∙ c.loop-self-test.false) in
     let long = held.ok.0 in
     one_at_last c.args.flights.now c.loop-self.flights c.args.self.now c.loop-self.self (nil_from_length held.items (omega (arith, none, long))) (c.loop-self.invariant.one run runs)
+
+pub land_first-requires : goal.land_first-requires
+land_first-requires g c = record { some = subst (λ (n : ℕ). 0 < n) c.loop-self.flights.held.ok.0 (some_held _ (sym c.is_empty.ensures ∙ c.loop-self-test.true)) }
+
+pub loop-self-smaller : goal.loop-self-smaller
+loop-self-smaller g c = one_less _ _ c.in_ok-land_first.ensures.landed
+
+pub returns-clause-device : goal.returns-clause-device
+returns-clause-device g c = c.loop-self.invariant.same
+
+pub returns-clause-trace : goal.returns-clause-trace
+returns-clause-trace g c = c.loop-self.invariant.trace
+
+pub returns-clause-ends : goal.returns-clause-ends
+returns-clause-ends g c = c.loop-self.invariant.ends
+
+pub returns-clause-ran : goal.returns-clause-ran
+returns-clause-ran g c = c.loop-self.invariant.ran
+
+pub returns-clause-disk : goal.returns-clause-disk
+returns-clause-disk g c = c.loop-self.invariant.disk
+
+pub returns-clause-cause : goal.returns-clause-cause
+returns-clause-cause g c = λ others run on. tt
+
+pub returns-clause-gave_up : goal.returns-clause-gave_up
+returns-clause-gave_up g c = λ others run on. tt
+
+pub returns-clause-block : goal.returns-clause-block
+returns-clause-block g c = tt
+
+pub returns-in_err-land_first-clause-device : goal.returns-in_err-land_first-clause-device
+returns-in_err-land_first-clause-device g c = same_both g.D.Device c.args.device.now c.loop-self.device c.land_first.new.device c.loop-self.invariant.same c.land_first.ensures.device
+
+pub returns-in_err-land_first-clause-landed : goal.returns-in_err-land_first-clause-landed
+returns-in_err-land_first-clause-landed g c = IfOk-from_err c.from_residual.result _ c.from_residual.ensures.0
+
+pub returns-in_err-land_first-clause-one : goal.returns-in_err-land_first-clause-one
+returns-in_err-land_first-clause-one g c = λ run runs. IfOk-from_err c.from_residual.result _ c.from_residual.ensures.0
+
+pub returns-in_err-land_first-clause-cause : goal.returns-in_err-land_first-clause-cause
+returns-in_err-land_first-clause-cause g c others run on =
+    let before = c.loop-self.invariant in
+    let stands = before.ran others run on.runs in
+    on_err _ (risen_later _ _ _ _ before.same.faults (c.in_err-land_first.ensures.cause others _ (record { runs = stands.runs; blocks = before.same.count ∙ on.blocks })))
+
+pub returns-in_err-land_first-clause-block : goal.returns-in_err-land_first-clause-block
+returns-in_err-land_first-clause-block g c = told_so _ c.in_err-land_first.field-0.0 (λ (refusal : DeviceGaveUp). IsHeldFirst refusal.0 c.land_first.new.flights) c.from_residual.ensures.1 c.in_err-land_first.ensures.block

@@ -1,4 +1,4 @@
-use Rattle.std.proofs.Common.{◌≡◌, ◌<◌, ◌∷◌, ◌++◌, [], slice_set, refl, sym, ap, subst, ◌∙◌}
+use Rattle.std.proofs.Common.{◌≡◌, ◌<◌, ◌∷◌, ◌++◌, [], slice_set, refl, sym, ap, subst, ◌∙◌, ℕ}
 use Rattle.patch_model.specs.History.{history_of, image}
 use Rattle.patch_model.specs.Execution.{extended}
 use Rattle.patch_model.specs.Step as the
@@ -7,7 +7,7 @@ use Rattle.patch_cache.specs.Meaning.{Represents}
 use Rattle.patch_cache.specs.Flights.{AreFlightsBeside}
 use Rattle.patch_cache.proofs.Answering.{on_err, on_ok}
 use Rattle.patch_cache.proofs.Holding.{held_complete}
-use Rattle.patch_cache.proofs.Waving.{none_added, no_sends, continues, went_by, keeps_by, first_stands, first_same, first_held, its_flight, gone_still, gone_complete, kept_still, completed, fewer_landed, images_either, images_landed}
+use Rattle.patch_cache.proofs.Waving.{none_added, no_sends, continues, went_by, keeps_by, first_stands, first_same, first_held, its_flight, gone_still, gone_complete, kept_still, completed, fewer_landed, images_either, images_landed, fewer_held, held_at_first}
 use Rattle.patch_cache.proofs.caches.Cache.land_first.Goals as goal
 
 -- the device refused the write
@@ -115,3 +115,88 @@ returns-clause-disk g c honest others run runs =
     let flight = c.swap_remove.result in
     let s = first_stands c.flights_are_single.ensures.holds c.patches_are_placed.ensures.known run c.args.flights.now.held.items flight runs.cache_is.legal runs.flights_are c.requires.some c.swap_remove.ensures.value in
     absurd (c.in-Err.ensures.stranger run runs.cache_is (its_flight run flight c.landed-landed.result c.landed-landed.ensures.block c.landed-landed.ensures.sequence s.is.known))
+
+pub index-requires : goal.index-requires
+index-requires g c = subst (λ (n : ℕ). 0 < n) (sym c.args.flights.now.held.ok.0) c.requires.some
+
+pub index-requires-then-is_err : goal.index-requires-then-is_err
+index-requires-then-is_err g c = subst (λ (n : ℕ). 0 < n) (sym c.args.flights.now.held.ok.0) c.requires.some
+
+pub swap_remove-requires : goal.swap_remove-requires
+swap_remove-requires g c = subst (λ (n : ℕ). 0 < n) (sym c.args.flights.now.held.ok.0) c.requires.some
+
+pub returns-then-is_err-clause-device : goal.returns-then-is_err-clause-device
+returns-then-is_err-clause-device g c = c.write_tried.ensures.device
+
+pub returns-then-is_err-clause-tries : goal.returns-then-is_err-clause-tries
+returns-then-is_err-clause-tries g c = c.write_tried.ensures.tries
+
+pub returns-then-is_err-clause-first : goal.returns-then-is_err-clause-first
+returns-then-is_err-clause-first g c = λ run runs. tt
+
+pub returns-then-is_err-clause-landed : goal.returns-then-is_err-clause-landed
+returns-then-is_err-clause-landed g c = tt
+
+pub returns-then-is_err-clause-refused : goal.returns-then-is_err-clause-refused
+returns-then-is_err-clause-refused g c = refl
+
+pub returns-then-is_err-clause-held : goal.returns-then-is_err-clause-held
+returns-then-is_err-clause-held g c = refl
+
+pub returns-then-is_err-clause-block : goal.returns-then-is_err-clause-block
+returns-then-is_err-clause-block g c =
+    let flight = c.index-then-is_err.result.now in (flight, held_at_first c.args.flights.now.held.items flight c.requires.some c.index-then-is_err.ensures, refl)
+
+pub returns-in-Ok-clause-device : goal.returns-in-Ok-clause-device
+returns-in-Ok-clause-device g c = c.write_tried.ensures.device
+
+pub returns-in-Ok-clause-tries : goal.returns-in-Ok-clause-tries
+returns-in-Ok-clause-tries g c = c.write_tried.ensures.tries
+
+pub returns-in-Ok-clause-cause : goal.returns-in-Ok-clause-cause
+returns-in-Ok-clause-cause g c = λ others run on. tt
+
+pub returns-in-Ok-clause-gave_up : goal.returns-in-Ok-clause-gave_up
+returns-in-Ok-clause-gave_up g c = λ others run on. tt
+
+pub returns-in-Ok-clause-block : goal.returns-in-Ok-clause-block
+returns-in-Ok-clause-block g c = tt
+
+pub returns-in-Ok-clause-refused : goal.returns-in-Ok-clause-refused
+returns-in-Ok-clause-refused g c = tt
+
+pub returns-in-Ok-clause-held : goal.returns-in-Ok-clause-held
+returns-in-Ok-clause-held g c = tt
+
+pub returns-in-Ok-clause-landed : goal.returns-in-Ok-clause-landed
+returns-in-Ok-clause-landed g c = fewer_held _ _ _ _ c.swap_remove.ensures.len c.swap_remove.new.self.ok.0 c.args.flights.now.held.ok.0
+
+pub returns-clause-device : goal.returns-clause-device
+returns-clause-device g c = c.write_tried.ensures.device
+
+pub returns-clause-tries : goal.returns-clause-tries
+returns-clause-tries g c = c.write_tried.ensures.tries
+
+pub returns-clause-cause : goal.returns-clause-cause
+returns-clause-cause g c = λ others run on. tt
+
+pub returns-clause-gave_up : goal.returns-clause-gave_up
+returns-clause-gave_up g c = λ others run on. tt
+
+pub returns-clause-block : goal.returns-clause-block
+returns-clause-block g c = tt
+
+pub returns-clause-refused : goal.returns-clause-refused
+returns-clause-refused g c = tt
+
+pub returns-clause-held : goal.returns-clause-held
+returns-clause-held g c = tt
+
+pub returns-clause-landed : goal.returns-clause-landed
+returns-clause-landed g c = fewer_held _ _ _ _ c.swap_remove.ensures.len c.swap_remove.new.self.ok.0 c.args.flights.now.held.ok.0
+
+pub returns-clause-trace : goal.returns-clause-trace
+returns-clause-trace g c = continues c.args.self.now c.complete.new.self [] (none_added c.args.self.now c.complete.new.self c.in-Err.ensures.refused)
+
+pub returns-clause-ends : goal.returns-clause-ends
+returns-clause-ends g c = no_sends c.args.self.now c.complete.new.self [] (none_added c.args.self.now c.complete.new.self c.in-Err.ensures.refused) refl

@@ -1,4 +1,4 @@
-use Rattle.std.proofs.Common.{◌≡◌, ◌∙◌, ℕ, List, [], None, Ok, length, inl, sym, ap}
+use Rattle.std.proofs.Common.{◌≡◌, ◌∙◌, ℕ, List, [], None, Ok, length, inl, sym, ap, refl}
 use Rattle.patch_model.specs.Execution.{Execution}
 use Rattle.patch_model.specs.History.{history_of, without, cached}
 use Rattle.patch_model.specs.Refusing.{why_not_shown}
@@ -6,6 +6,7 @@ use Rattle.patch_cache.specs.Asks.{Seen, unless, seen}
 use Rattle.patch_cache.specs.Viewing.{with_moves, bytes_at}
 use Rattle.patch_cache.specs.declared.asks.Move.{Move}
 use Rattle.patch_cache.proofs.Showing.{none_yet, its_own_view}
+use Rattle.patch_cache.specs.Contents.{Contents}
 use Rattle.patch_cache.proofs.caches.Cache.look.Goals as goal
 
 shown : (run : Execution) (block : ℕ) (moves : List Move) (start len : ℕ) (names rest all : List ℕ) → why_not_shown (length run.first) block start len ≡ None
@@ -50,3 +51,21 @@ pub returns-in-Err-copied-clause-same : goal.returns-in-Err-copied-clause-same
 returns-in-Err-copied-clause-same g c = λ run at.
     let stands = c.without-without.ensures.stands run at in
     c.restore_of.ensures.as_before run stands.0 c.args.self.now stands.1 at (c.without-without.ensures.view c.args.self.now (its_own_view c.args.self.now c.args.block))
+
+pub returns-in-Some-clause-restored : goal.returns-in-Some-clause-restored
+returns-in-Some-clause-restored g c = λ run at. at
+
+pub returns-in-Some-clause-same : goal.returns-in-Some-clause-same
+returns-in-Some-clause-same g c = λ run at. refl
+
+pub returns-in-Some-clause-trace : goal.returns-in-Some-clause-trace
+returns-in-Some-clause-trace g c = refl
+
+pub returns-in-Err-clause-trace : goal.returns-in-Err-clause-trace
+returns-in-Err-clause-trace g c = ap (λ (v : Contents). v.trace) c.restore_of.ensures.others ∙ c.without-without.ensures.trace
+
+pub returns-in-Ok-copied-clause-trace : goal.returns-in-Ok-copied-clause-trace
+returns-in-Ok-copied-clause-trace g c = ap (λ (v : Contents). v.trace) c.restore_of.ensures.others ∙ c.without-without.ensures.trace
+
+pub returns-in-Err-copied-clause-trace : goal.returns-in-Err-copied-clause-trace
+returns-in-Err-copied-clause-trace g c = ap (λ (v : Contents). v.trace) c.restore_of.ensures.others ∙ c.without-without.ensures.trace

@@ -1,4 +1,4 @@
-use Rattle.std.proofs.Common.{◌≡◌, ◌∙◌, ◌+◌, ◌≤◌, ◌++◌, ◌∷◌, [], ℕ, List, map, length, length-set, length-append, refl, sym, ap, subst, arith}
+use Rattle.std.proofs.Common.{◌≡◌, ◌∙◌, ◌+◌, ◌≤◌, ◌++◌, ◌∷◌, [], ℕ, List, map, length, length-set, length-append, refl, sym, ap, subst, arith, ◌<◌}
 use Rattle.std.proofs.lemmas.List.{map-append}
 use Rattle.patch_model.specs.Step.{Step, Create}
 use Rattle.patch_model.specs.StepOf.{step_of}
@@ -8,7 +8,8 @@ use Rattle.patch_model.specs.Legal.{IsLegalCreate}
 use Rattle.patch_cache.specs.Contents.{Contents}
 use Rattle.patch_cache.specs.Creating.{MayLay, IsLaid}
 use Rattle.patch_cache.specs.Meaning.{Represents}
-use Rattle.patch_cache.proofs.Stepping.{StepsOn, stepped, lent, put_back, unchanged, on_err, noted_fits, within}
+use Rattle.patch_cache.proofs.Stepping.{StepsOn, stepped, lent, put_back, unchanged, on_err, noted_fits, within, one_lives, room_left, still_fits, few_fit}
+use Rattle.std.proofs.lemmas.Result.{IfOk-from_err}
 use Rattle.patch_cache.proofs.caches.Cache.make.Goals as goal
 
 pub returns-in_err-reserve-clause-refused : goal.returns-in_err-reserve-clause-refused
@@ -72,3 +73,44 @@ invariant_of-self-2 g c =
 
 pub index_mut-state-requires : goal.index_mut-state-requires
 index_mut-state-requires g c = within _ c.args.self.now c.args.block c.block.inside.0 _ c.block.view_is c.self.view_is c.requires.known c.self.inside.blocks.ok.0
+
+pub lay_on-requires-clause-some : goal.lay_on-requires-clause-some
+lay_on-requires-clause-some g c = subst (λ (bs : List ℕ). 0 < length bs) (sym c.as_slice.ensures) c.requires.some
+
+pub lay_on-requires-clause-fits : goal.lay_on-requires-clause-fits
+lay_on-requires-clause-fits g c = subst (λ (bs : List ℕ). c.args.start + length bs ≤ 4096) (sym c.as_slice.ensures) c.requires.fits
+
+pub lay_on-requires-clause-numbers_left : goal.lay_on-requires-clause-numbers_left
+lay_on-requires-clause-numbers_left g c = subst (λ (v : Contents). v.graph.made < 16777216) (sym c.self.view_is) c.requires.numbers_left
+
+pub returns-in_err-reserve-clause-made : goal.returns-in_err-reserve-clause-made
+returns-in_err-reserve-clause-made g c = λ run at why. IfOk-from_err c.from_residual.result _ c.from_residual.ensures.0
+
+pub returns-in_err-reserve-clause-trace : goal.returns-in_err-reserve-clause-trace
+returns-in_err-reserve-clause-trace g c = IfOk-from_err c.from_residual.result _ c.from_residual.ensures.0
+
+pub returns-in_err-no-clause-made : goal.returns-in_err-no-clause-made
+returns-in_err-no-clause-made g c = λ run at why. IfOk-from_err c.from_residual-in_err-no.result _ c.from_residual-in_err-no.ensures.0
+
+pub returns-in_err-no-clause-trace : goal.returns-in_err-no-clause-trace
+returns-in_err-no-clause-trace g c = IfOk-from_err c.from_residual-in_err-no.result _ c.from_residual-in_err-no.ensures.0
+
+pub returns-clause-refused : goal.returns-clause-refused
+returns-clause-refused g c = tt
+
+pub overflow_add-self : goal.overflow_add-self
+overflow_add-self g c = one_lives _ _ (ap (λ (v : Contents). v.live) c.self.view_is) c.requires.live_left
+
+pub push_reserved-requires : goal.push_reserved-requires
+push_reserved-requires g c = room_left _ _ _ c.in_ok-reserve.ensures.ok
+
+pub invariant_of-self : goal.invariant_of-self
+invariant_of-self g c = (
+  c.self.invariant.0,
+  c.self.invariant.1,
+  c.self.invariant.2,
+  still_fits _ _ _ _ _ (ap length c.reserve.ensures.items) c.reserve.ensures.capacity c.self.invariant.3,
+)
+
+pub overflow_add-self-inside : goal.overflow_add-self-inside
+overflow_add-self-inside g c = few_fit c.self.inside.writes.items _ _ c.self.invariant.2 c.self.invariant.0 c.self.invariant.1

@@ -1,4 +1,4 @@
-use Rattle.std.proofs.Common.{◌≡◌, ◌<◌, ◌∙◌, None, length, map, refl, sym, subst}
+use Rattle.std.proofs.Common.{◌≡◌, ◌<◌, ◌∙◌, None, length, map, refl, sym, subst, ◌++◌, ◌∷◌, [], ap}
 use Rattle.patch_model.specs.Ready.{ready}
 use Rattle.patch_model.specs.Refusing.{why_not_sent}
 use Rattle.patch_model.specs.State.{entries_of, numbers_of}
@@ -6,6 +6,10 @@ use Rattle.patch_model.specs.StepOf.{step_of}
 use Rattle.patch_graph.specs.Between.{HasNoRing}
 use Rattle.patch_cache.specs.Contents.{Contents, write_at}
 use Rattle.patch_cache.specs.Meaning.{Represents}
+use Rattle.std.proofs.lemmas.Result.{IfOk-from_err}
+use Rattle.patch_model.specs.Step.{Send}
+use Rattle.patch_cache.proofs.Stepping.{on_err}
+use Rattle.patch_cache.proofs.Refusing.{send_lacks_memory}
 use Rattle.patch_cache.proofs.caches.Cache.send.Goals as goal
 
 pub returns-in_ok-begin-in-None-clause-sent : goal.returns-in_ok-begin-in-None-clause-sent
@@ -31,3 +35,42 @@ begin-requires-clause-known g c = subst (λ (v : Contents). c.args.block < lengt
 
 pub begin-requires-clause-not_under_way : goal.begin-requires-clause-not_under_way
 begin-requires-clause-not_under_way g c = subst (λ (v : Contents). write_at v c.args.block ≡ None) (sym c.in-None.ensures.same) (c.in-None.ensures.not_under_way refl)
+
+pub returns-in-Some-clause-sent : goal.returns-in-Some-clause-sent
+returns-in-Some-clause-sent g c = λ run at. tt
+
+pub returns-in-Some-clause-trace : goal.returns-in-Some-clause-trace
+returns-in-Some-clause-trace g c = tt
+
+pub returns-in_err-numbers-in-None-clause-sent : goal.returns-in_err-numbers-in-None-clause-sent
+returns-in_err-numbers-in-None-clause-sent g c = λ run at. IfOk-from_err c.from_residual.result _ c.from_residual.ensures.0
+
+pub returns-in_err-numbers-in-None-clause-trace : goal.returns-in_err-numbers-in-None-clause-trace
+returns-in_err-numbers-in-None-clause-trace g c = IfOk-from_err c.from_residual.result _ c.from_residual.ensures.0
+
+pub returns-in_err-numbers-in-None-clause-refused : goal.returns-in_err-numbers-in-None-clause-refused
+returns-in_err-numbers-in-None-clause-refused g c = on_err _ c.in-None.ensures.same
+
+pub returns-in_err-numbers-in-None-clause-cause : goal.returns-in_err-numbers-in-None-clause-cause
+returns-in_err-numbers-in-None-clause-cause g c = λ run at. send_lacks_memory _ c.from_residual.result (c.in-None.ensures.cause run at) c.from_residual.ensures.1
+
+pub returns-in_err-begin-in-None-clause-sent : goal.returns-in_err-begin-in-None-clause-sent
+returns-in_err-begin-in-None-clause-sent g c = λ run at. IfOk-from_err c.from_residual-in_err-begin-in-None.result _ c.from_residual-in_err-begin-in-None.ensures.0
+
+pub returns-in_err-begin-in-None-clause-trace : goal.returns-in_err-begin-in-None-clause-trace
+returns-in_err-begin-in-None-clause-trace g c = IfOk-from_err c.from_residual-in_err-begin-in-None.result _ c.from_residual-in_err-begin-in-None.ensures.0
+
+pub returns-in_err-begin-in-None-clause-refused : goal.returns-in_err-begin-in-None-clause-refused
+returns-in_err-begin-in-None-clause-refused g c = on_err _ (c.in_err-begin-in-None.ensures.refused ∙ c.in-None.ensures.same)
+
+pub returns-in_err-begin-in-None-clause-cause : goal.returns-in_err-begin-in-None-clause-cause
+returns-in_err-begin-in-None-clause-cause g c = λ run at. send_lacks_memory _ c.from_residual-in_err-begin-in-None.result (c.in-None.ensures.cause run at) c.from_residual-in_err-begin-in-None.ensures.1
+
+pub returns-in_ok-begin-in-None-clause-cause : goal.returns-in_ok-begin-in-None-clause-cause
+returns-in_ok-begin-in-None-clause-cause g c = λ run at. tt
+
+pub returns-in_ok-begin-in-None-clause-trace : goal.returns-in_ok-begin-in-None-clause-trace
+returns-in_ok-begin-in-None-clause-trace g c = c.in_ok-begin-in-None.ensures.trace ∙ ap (λ (v : Contents). v.trace ++ Send c.args.block ∷ []) c.in-None.ensures.same
+
+pub returns-in_ok-begin-in-None-clause-refused : goal.returns-in_ok-begin-in-None-clause-refused
+returns-in_ok-begin-in-None-clause-refused g c = tt

@@ -8,6 +8,8 @@ use Rattle.patch_cache.specs.Refusals.{send_cause}
 use Rattle.patch_cache.proofs.Holding.{held_send}
 use Rattle.patch_cache.proofs.Refusing.{not_told}
 use Rattle.patch_cache.proofs.Waving.{none_added}
+use Rattle.std.proofs.lemmas.Result.{IfOk-from_err}
+use Rattle.patch_cache.proofs.Stepping.{on_err}
 use Rattle.patch_cache.proofs.caches.Cache.send_if_ready.Goals as goal
 
 pub returns-in-Ok-clause-sent : goal.returns-in-Ok-clause-sent
@@ -53,3 +55,48 @@ returns-then-is_some-clause-trace g c = none_added c.args.self.now c.why_not_sen
 
 pub returns-then-is_some-clause-more : goal.returns-then-is_some-clause-more
 returns-then-is_some-clause-more g c = λ run runs. refl
+
+pub returns-in_err-reserve-clause-sent : goal.returns-in_err-reserve-clause-sent
+returns-in_err-reserve-clause-sent g c = λ others run runs. IfOk-from_err c.from_residual.result _ c.from_residual.ensures.0
+
+pub returns-in_err-reserve-clause-more : goal.returns-in_err-reserve-clause-more
+returns-in_err-reserve-clause-more g c = λ run runs. IfOk-from_err c.from_residual.result _ c.from_residual.ensures.0
+
+pub returns-in_err-reserve-clause-trace : goal.returns-in_err-reserve-clause-trace
+returns-in_err-reserve-clause-trace g c = IfOk-from_err c.from_residual.result _ c.from_residual.ensures.0
+
+pub returns-in_err-reserve-clause-count : goal.returns-in_err-reserve-clause-count
+returns-in_err-reserve-clause-count g c = IfOk-from_err c.from_residual.result _ c.from_residual.ensures.0
+
+pub returns-in_err-reserve-clause-kept : goal.returns-in_err-reserve-clause-kept
+returns-in_err-reserve-clause-kept g c = IfOk-from_err c.from_residual.result _ c.from_residual.ensures.0
+
+pub returns-in_err-reserve-clause-refused : goal.returns-in_err-reserve-clause-refused
+returns-in_err-reserve-clause-refused g c = on_err _ c.why_not_sent.ensures.same
+
+pub returns-in_err-reserve-clause-held : goal.returns-in_err-reserve-clause-held
+returns-in_err-reserve-clause-held g c = on_err _ c.reserve.ensures.items
+
+pub returns-then-is_some-clause-cause : goal.returns-then-is_some-clause-cause
+returns-then-is_some-clause-cause g c = λ run runs. tt
+
+pub returns-then-is_some-clause-refused : goal.returns-then-is_some-clause-refused
+returns-then-is_some-clause-refused g c = tt
+
+pub returns-then-is_some-clause-held : goal.returns-then-is_some-clause-held
+returns-then-is_some-clause-held g c = tt
+
+pub returns-then-is_some-clause-kept : goal.returns-then-is_some-clause-kept
+returns-then-is_some-clause-kept g c = λ none. refl
+
+pub returns-in-Ok-clause-cause : goal.returns-in-Ok-clause-cause
+returns-in-Ok-clause-cause g c = λ run runs. tt
+
+pub returns-in-Ok-clause-refused : goal.returns-in-Ok-clause-refused
+returns-in-Ok-clause-refused g c = tt
+
+pub returns-in-Ok-clause-held : goal.returns-in-Ok-clause-held
+returns-in-Ok-clause-held g c = tt
+
+pub returns-in-Ok-clause-trace : goal.returns-in-Ok-clause-trace
+returns-in-Ok-clause-trace g c = c.in-Ok.ensures.trace ∙ ap (λ (v : Contents). v.trace ++ the.Send c.args.block ∷ []) c.why_not_sent.ensures.same

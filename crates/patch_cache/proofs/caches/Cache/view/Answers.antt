@@ -1,13 +1,13 @@
-use Rattle.std.proofs.Common.{◌≡◌, ◌<◌, length, ap, sym, refl, arith}
+use Rattle.std.proofs.Common.{ap, sym, refl}
 use Rattle.std.proofs.lemmas.List.{set-get_or}
 use Rattle.patch_cache.specs.Contents.{Contents, no_block}
+use Rattle.std.proofs.lemmas.Bool.{false≢true}
+use Rattle.patch_cache.proofs.Stepping.{below_count, not_past}
 use Rattle.patch_cache.proofs.caches.Cache.view.Goals as goal
 
 pub returns : goal.returns
 returns g c =
-    let within : c.args.block < length c.args.self.now.blocks =
-    let below = c.if-block-len.false in let len = c.len.ensures in let same : length c.self.inside.blocks.items ≡ length c.args.self.now.blocks = ap (λ (v : Contents). length v.blocks) c.self.view_is in
-    let long = c.self.inside.blocks.ok.0 in let place : c.block.inside.0 ≡ c.args.block = c.block.view_is in omega arith in (
+    let within = below_count _ c.args.self.now c.args.block c.block.inside.0 _ _ c.block.view_is c.self.view_is c.self.inside.blocks.ok.0 c.len.ensures c.if-block-len.false in (
       (refl, (λ w. refl), tt),
       record {
         refused = tt;
@@ -21,3 +21,24 @@ returns g c =
         block = refl;
       },
     )
+
+pub returns-then-block-len : goal.returns-then-block-len
+returns-then-block-len g c = (
+  (refl, (λ w. tt), refl),
+  record {
+    refused = tt;
+    same_reference = tt;
+    exists = (
+      (λ t. absurd (false≢true t)),
+      (λ within. absurd (not_past _ c.args.self.now c.args.block c.block.inside.0 _ _ c.block.view_is c.self.view_is c.self.inside.blocks.ok.0 c.len.ensures c.if-block-len.true within)),
+    );
+    same = tt;
+    view = tt;
+    block = tt;
+  },
+)
+
+pub invariant_of-result : goal.invariant_of-result
+invariant_of-result g c = record {
+  in_range = below_count _ c.args.self.now c.args.block c.block.inside.0 _ _ c.block.view_is c.self.view_is c.self.inside.blocks.ok.0 c.len.ensures c.if-block-len.false;
+}

@@ -1,6 +1,6 @@
-use Rattle.std.proofs.Common.{◌≡◌, [], ◌<◌, ◌≤◌, ◌∙◌, ℕ, true, false, None, length, get_or, sym, ap, arith, subst}
+use Rattle.std.proofs.Common.{◌≡◌, [], ◌<◌, ◌≤◌, ◌∙◌, ℕ, true, false, None, length, get_or, sym, ap, arith, subst, refl}
 use Rattle.std.specs.Prelude.{is_some}
-use Rattle.std.proofs.lemmas.Bool.{both_ways}
+use Rattle.std.proofs.lemmas.Bool.{both_ways, false≢true}
 use Rattle.std.proofs.lemmas.List.{get_or_read_under}
 use Rattle.patch_model.specs.State.{state_of, entries_of, has_flight}
 use Rattle.patch_graph.specs.Meaning.{Represents as IsGraphOf}
@@ -92,3 +92,42 @@ index-requires-2 g c = subst (λ n. c.block.inside.0 < n) c.len.ensures c.if-at-
 
 pub returns-clause-known : goal.returns-clause-known
 returns-clause-known g c = λ none. below_count _ c.args.self.now c.args.block c.block.inside.0 _ _ c.block.view_is c.self.view_is c.self.inside.blocks.ok.0 c.len.ensures c.if-at-len.false
+
+pub returns-then-at-len-clause-known : goal.returns-then-at-len-clause-known
+returns-then-at-len-clause-known g c = λ none. absurd (false≢true (sym none))
+
+pub returns-then-at-len-clause-not_under_way : goal.returns-then-at-len-clause-not_under_way
+returns-then-at-len-clause-not_under_way g c = λ none. absurd (false≢true (sym none))
+
+pub returns-then-is_some-clause-known : goal.returns-then-is_some-clause-known
+returns-then-is_some-clause-known g c = λ none. absurd (false≢true (sym none))
+
+pub returns-then-is_some-clause-not_under_way : goal.returns-then-is_some-clause-not_under_way
+returns-then-is_some-clause-not_under_way g c = λ none. absurd (false≢true (sym none))
+
+pub returns-then-is_clear-clause-known : goal.returns-then-is_clear-clause-known
+returns-then-is_clear-clause-known g c = λ none. absurd (false≢true (sym none))
+
+pub returns-then-is_clear-clause-not_under_way : goal.returns-then-is_clear-clause-not_under_way
+returns-then-is_clear-clause-not_under_way g c = λ none. absurd (false≢true (sym none))
+
+pub returns-then-not-any_ready-clause-known : goal.returns-then-not-any_ready-clause-known
+returns-then-not-any_ready-clause-known g c = λ none. absurd (false≢true (sym none))
+
+pub returns-then-not-any_ready-clause-not_under_way : goal.returns-then-not-any_ready-clause-not_under_way
+returns-then-not-any_ready-clause-not_under_way g c = λ none. absurd (false≢true (sym none))
+
+pub returns-then-at-len-clause-same : goal.returns-then-at-len-clause-same
+returns-then-at-len-clause-same g c = refl
+
+pub returns-then-is_some-clause-same : goal.returns-then-is_some-clause-same
+returns-then-is_some-clause-same g c = refl
+
+pub returns-then-is_clear-clause-same : goal.returns-then-is_clear-clause-same
+returns-then-is_clear-clause-same g c = refl
+
+pub returns-then-not-any_ready-clause-same : goal.returns-then-not-any_ready-clause-same
+returns-then-not-any_ready-clause-same g c = refl
+
+pub returns-clause-same : goal.returns-clause-same
+returns-clause-same g c = refl

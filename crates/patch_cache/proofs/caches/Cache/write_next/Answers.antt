@@ -4,9 +4,13 @@ use Rattle.patch_model.specs.Execution.{followed_by}
 use Rattle.patch_model.specs.Step.{Send}
 use Rattle.patch_cache.specs.Contents.{Contents}
 use Rattle.patch_cache.specs.Running.{Runs}
-use Rattle.patch_cache.specs.Waves.{IsFlushed}
-use Rattle.patch_cache.proofs.Waving.{none_added, no_sends, since_is, continues, runs_same, gone_still, kept_unmoved, went_by, went_both, keeps_by, keeps_both, tries_begun}
-use Rattle.patch_cache.proofs.Passing.{sent_still, one_written, begun_by, begun_few, begun_sends, begun_gone, begun_kept, flushed, flushed_still}
+use Rattle.patch_cache.specs.Waves.{IsFlushed, RisesIfGivenUp, IsHeldIfGivenUp}
+use Rattle.patch_cache.proofs.Waving.{none_added, no_sends, since_is, continues, runs_same, gone_still, kept_unmoved, went_by, went_both, keeps_by, keeps_both, tries_begun, continues_both, given_so, tries_none}
+use Rattle.patch_cache.proofs.Passing.{sent_still, one_written, begun_by, begun_few, begun_sends, begun_gone, begun_kept, flushed, flushed_still, none_begun, unsent_still}
+use Rattle.std.proofs.lemmas.Result.{IfOk-from_err}
+use Rattle.patch_device.specs.SameDevice.{same_still}
+use Rattle.patch_cache.specs.Refused.{IfGivenUp}
+use Rattle.patch_cache.proofs.GivenUp.{rises_so, held_so, no_device_gave_up}
 use Rattle.patch_cache.proofs.caches.Cache.write_next.Goals as goal
 
 -- no write can begin
@@ -125,14 +129,14 @@ returns-in_default-clause-one g c =
     let none = no_sends c.args.self.now c.next_ready.new.self [] (none_added c.args.self.now c.next_ready.new.self c.next_ready.ensures.same) refl in omega (arith, none)
 
 pub returns-in_default-clause-tries : goal.returns-in_default-clause-tries
-returns-in_default-clause-tries g c honest = omega arith
+returns-in_default-clause-tries g c honest = tries_none _ _
 
 pub returns-in_err-send_if_ready-clause-one : goal.returns-in_err-send_if_ready-clause-one
 returns-in_err-send_if_ready-clause-one g c =
     let none = no_sends c.args.self.now c.send_if_ready.new.self [] (none_added c.args.self.now c.send_if_ready.new.self (c.in_err-send_if_ready.ensures.refused ∙ c.next_ready.ensures.same)) refl in omega (arith, none)
 
 pub returns-in_err-send_if_ready-clause-tries : goal.returns-in_err-send_if_ready-clause-tries
-returns-in_err-send_if_ready-clause-tries g c honest = omega arith
+returns-in_err-send_if_ready-clause-tries g c honest = tries_none _ _
 
 pub returns-then-not-branch-clause-one : goal.returns-then-not-branch-clause-one
 returns-then-not-branch-clause-one g c =
@@ -168,3 +172,143 @@ returns-clause-tries g c honest =
     let sent = c.in_ok-send_if_ready in
     tries_begun _ _ _ _ _ _ _ (c.land.ensures.tries honest) sent.ensures.count
     (begun_sends c.args.self.now c.next_ready.new.self c.send_if_ready.new.self c.land.new.self c.in-Some.block sent.field-0 c.next_ready.ensures.same sent.ensures.trace c.land.ensures.trace)
+
+-- what is told where no write can begin
+pub returns-in_default-clause-ran : goal.returns-in_default-clause-ran
+returns-in_default-clause-ran g c run runs =
+    let old = c.args.self.now in
+    let now = c.next_ready.new.self in
+    went_by run old now [] _ (none_added old now c.next_ready.ensures.same) (gone_still run now _ (subst (λ (x : Contents). Runs x c.args.flights.now run) (sym c.next_ready.ensures.same) runs))
+
+pub returns-in_default-clause-trace : goal.returns-in_default-clause-trace
+returns-in_default-clause-trace g c = continues c.args.self.now c.next_ready.new.self [] (none_added c.args.self.now c.next_ready.new.self c.next_ready.ensures.same)
+
+pub returns-in_default-clause-device : goal.returns-in_default-clause-device
+returns-in_default-clause-device g c = same_still g.D.Device c.args.device.now
+
+pub returns-in_default-clause-gave_up : goal.returns-in_default-clause-gave_up
+returns-in_default-clause-gave_up g c = λ run on. tt
+
+pub returns-in_default-clause-refused : goal.returns-in_default-clause-refused
+returns-in_default-clause-refused g c = λ run on. tt
+
+pub returns-in_default-clause-held : goal.returns-in_default-clause-held
+returns-in_default-clause-held g c = tt
+
+pub returns-in_default-clause-landed : goal.returns-in_default-clause-landed
+returns-in_default-clause-landed g c = λ empty. empty
+
+-- what is told where it was given up
+pub returns-in_err-send_if_ready-clause-trace : goal.returns-in_err-send_if_ready-clause-trace
+returns-in_err-send_if_ready-clause-trace g c = continues c.args.self.now c.send_if_ready.new.self [] (none_added c.args.self.now c.send_if_ready.new.self (c.in_err-send_if_ready.ensures.refused ∙ c.next_ready.ensures.same))
+
+pub returns-in_err-send_if_ready-clause-device : goal.returns-in_err-send_if_ready-clause-device
+returns-in_err-send_if_ready-clause-device g c = same_still g.D.Device c.args.device.now
+
+pub returns-in_err-send_if_ready-clause-wrote : goal.returns-in_err-send_if_ready-clause-wrote
+returns-in_err-send_if_ready-clause-wrote g c = λ run runs empty. IfOk-from_err c.from_residual.result _ c.from_residual.ensures.0
+
+pub returns-in_err-send_if_ready-clause-landed : goal.returns-in_err-send_if_ready-clause-landed
+returns-in_err-send_if_ready-clause-landed g c = IfOk-from_err c.from_residual.result _ c.from_residual.ensures.0
+
+pub returns-in_err-send_if_ready-clause-gave_up : goal.returns-in_err-send_if_ready-clause-gave_up
+returns-in_err-send_if_ready-clause-gave_up g c run on =
+    let faults = g.D.Device.fault_count c.args.device.now in no_device_gave_up c.from_residual.result (λ r. RisesIfGivenUp r faults faults) c.from_residual.ensures.1 tt
+
+pub returns-in_err-send_if_ready-clause-refused : goal.returns-in_err-send_if_ready-clause-refused
+returns-in_err-send_if_ready-clause-refused g c run on =
+    let device = c.args.device.now in no_device_gave_up c.from_residual.result (λ r. IfGivenUp g.D.Device r c.send_if_ready.new.flights device device) c.from_residual.ensures.1 tt
+
+pub returns-in_err-send_if_ready-clause-held : goal.returns-in_err-send_if_ready-clause-held
+returns-in_err-send_if_ready-clause-held g c = no_device_gave_up c.from_residual.result (λ r. IsHeldIfGivenUp r c.send_if_ready.new.flights) c.from_residual.ensures.1 tt
+
+-- what is told where none was begun
+pub returns-then-not-branch-clause-ran : goal.returns-then-not-branch-clause-ran
+returns-then-not-branch-clause-ran g c run runs =
+    let old = c.args.self.now in
+    let now = c.send_if_ready.new.self in
+    let unsent = unsent_still run c.in-Some.block old c.next_ready.new.self now c.in_ok-send_if_ready.field-0 c.args.flights.now c.send_if_ready.new.flights c.next_ready.ensures.same c.if-not-branch.true (c.in_ok-send_if_ready.ensures.sent false run) runs in
+    went_by run old now [] _ (none_begun old c.next_ready.new.self now c.in-Some.block c.in_ok-send_if_ready.field-0 c.next_ready.ensures.same c.if-not-branch.true c.in_ok-send_if_ready.ensures.trace) (gone_still run now _ unsent.1)
+
+pub returns-then-not-branch-clause-trace : goal.returns-then-not-branch-clause-trace
+returns-then-not-branch-clause-trace g c = continues c.args.self.now c.send_if_ready.new.self [] (none_begun c.args.self.now c.next_ready.new.self c.send_if_ready.new.self c.in-Some.block c.in_ok-send_if_ready.field-0 c.next_ready.ensures.same c.if-not-branch.true c.in_ok-send_if_ready.ensures.trace)
+
+pub returns-then-not-branch-clause-disk : goal.returns-then-not-branch-clause-disk
+returns-then-not-branch-clause-disk g c honest run runs =
+    let old = c.args.self.now in
+    let now = c.send_if_ready.new.self in keeps_by run old now [] _ _ _ _ (none_begun old c.next_ready.new.self now c.in-Some.block c.in_ok-send_if_ready.field-0 c.next_ready.ensures.same c.if-not-branch.true c.in_ok-send_if_ready.ensures.trace) (kept_unmoved run _ _)
+
+pub returns-then-not-branch-clause-wrote : goal.returns-then-not-branch-clause-wrote
+returns-then-not-branch-clause-wrote g c run runs empty =
+    let unsent = unsent_still run c.in-Some.block c.args.self.now c.next_ready.new.self c.send_if_ready.new.self c.in_ok-send_if_ready.field-0 c.args.flights.now c.send_if_ready.new.flights c.next_ready.ensures.same c.if-not-branch.true (c.in_ok-send_if_ready.ensures.sent false run) runs in
+    absurd (unsent.0 (c.in-Some.ensures.answer run runs.cache_is).0)
+
+pub returns-then-not-branch-clause-tries : goal.returns-then-not-branch-clause-tries
+returns-then-not-branch-clause-tries g c honest = tries_none _ _
+
+pub returns-then-not-branch-clause-device : goal.returns-then-not-branch-clause-device
+returns-then-not-branch-clause-device g c = same_still g.D.Device c.args.device.now
+
+pub returns-then-not-branch-clause-gave_up : goal.returns-then-not-branch-clause-gave_up
+returns-then-not-branch-clause-gave_up g c = λ run on. tt
+
+pub returns-then-not-branch-clause-refused : goal.returns-then-not-branch-clause-refused
+returns-then-not-branch-clause-refused g c = λ run on. tt
+
+pub returns-then-not-branch-clause-held : goal.returns-then-not-branch-clause-held
+returns-then-not-branch-clause-held g c = tt
+
+pub returns-then-not-branch-clause-landed : goal.returns-then-not-branch-clause-landed
+returns-then-not-branch-clause-landed g c = λ empty. c.in_ok-send_if_ready.ensures.kept c.if-not-branch.true ∙ empty
+
+-- what is told where a flight was given up, and where all were written out
+pub returns-in_err-land-clause-trace : goal.returns-in_err-land-clause-trace
+returns-in_err-land-clause-trace g c =
+    let old = c.args.self.now in
+    let mid = c.send_if_ready.new.self in
+    let begun = begun_by old c.next_ready.new.self mid c.in-Some.block c.in_ok-send_if_ready.field-0 c.next_ready.ensures.same c.if-not-branch.false c.in_ok-send_if_ready.ensures.trace in
+    continues_both old mid c.land.new.self (continues old mid (Send c.in-Some.block ∷ []) begun) c.land.ensures.trace
+
+pub returns-in_err-land-clause-device : goal.returns-in_err-land-clause-device
+returns-in_err-land-clause-device g c = c.land.ensures.device
+
+pub returns-clause-trace : goal.returns-clause-trace
+returns-clause-trace g c =
+    let old = c.args.self.now in
+    let mid = c.send_if_ready.new.self in
+    let begun = begun_by old c.next_ready.new.self mid c.in-Some.block c.in_ok-send_if_ready.field-0 c.next_ready.ensures.same c.if-not-branch.false c.in_ok-send_if_ready.ensures.trace in
+    continues_both old mid c.land.new.self (continues old mid (Send c.in-Some.block ∷ []) begun) c.land.ensures.trace
+
+pub returns-clause-device : goal.returns-clause-device
+returns-clause-device g c = c.land.ensures.device
+
+pub returns-in_err-land-clause-wrote : goal.returns-in_err-land-clause-wrote
+returns-in_err-land-clause-wrote g c = λ run runs empty. IfOk-from_err c.from_residual-in_err-land.result _ c.from_residual-in_err-land.ensures.0
+
+pub returns-in_err-land-clause-landed : goal.returns-in_err-land-clause-landed
+returns-in_err-land-clause-landed g c = IfOk-from_err c.from_residual-in_err-land.result _ c.from_residual-in_err-land.ensures.0
+
+pub returns-in_err-land-clause-gave_up : goal.returns-in_err-land-clause-gave_up
+returns-in_err-land-clause-gave_up g c run on =
+    let sent = sent_still run c.in-Some.block c.args.self.now c.next_ready.new.self c.send_if_ready.new.self c.in_ok-send_if_ready.field-0 c.args.flights.now c.send_if_ready.new.flights c.next_ready.ensures.same c.if-not-branch.false (c.in_ok-send_if_ready.ensures.sent false run) on.runs in
+    rises_so c.from_residual-in_err-land.result c.in_err-land.field-0.0.0 _ _ c.from_residual-in_err-land.ensures.1 (c.in_err-land.ensures.cause false _ (record { runs = sent.1; blocks = on.blocks }))
+
+pub returns-in_err-land-clause-refused : goal.returns-in_err-land-clause-refused
+returns-in_err-land-clause-refused g c run on =
+    let sent = sent_still run c.in-Some.block c.args.self.now c.next_ready.new.self c.send_if_ready.new.self c.in_ok-send_if_ready.field-0 c.args.flights.now c.send_if_ready.new.flights c.next_ready.ensures.same c.if-not-branch.false (c.in_ok-send_if_ready.ensures.sent false run) on.runs in
+    given_so g.D.Device _ c.in_err-land.field-0.0.0 _ _ _ c.from_residual-in_err-land.ensures.1 (c.in_err-land.ensures.gave_up false _ (record { runs = sent.1; blocks = on.blocks }))
+
+pub returns-in_err-land-clause-held : goal.returns-in_err-land-clause-held
+returns-in_err-land-clause-held g c = held_so c.from_residual-in_err-land.result c.in_err-land.field-0.0.0 c.land.new.flights c.from_residual-in_err-land.ensures.1 c.in_err-land.ensures.block
+
+pub returns-clause-gave_up : goal.returns-clause-gave_up
+returns-clause-gave_up g c = λ run on. tt
+
+pub returns-clause-refused : goal.returns-clause-refused
+returns-clause-refused g c = λ run on. tt
+
+pub returns-clause-held : goal.returns-clause-held
+returns-clause-held g c = tt
+
+pub returns-clause-landed : goal.returns-clause-landed
+returns-clause-landed g c = λ empty. c.in_ok-land.ensures.landed
