@@ -26,6 +26,9 @@ pub entered-push : (gs : List Group) (names : List ℕ) (k n : ℕ) → entered 
 entered-push gs [] k n = refl
 entered-push gs (x ∷ names) k n = entered-push _ names k n
 
+pub room_none : {A : Type 0} → (records : List (Record A)) → HaveRoom records []
+room_none records k c = absurd (In-from_Contains [] k c)
+
 pub room_more : {A : Type 0} → (old new : List (Record A)) (names : List ℕ) (k : ℕ) → HaveRoom old names → ((j : ℕ) → HasRoomAt old j → HasRoomAt new j) → HasRoomAt new k → HaveRoom new (names ++ k ∷ [])
 room_more old new names k have others here j c = elim (append-In names (k ∷ []) j (In-from_Contains _ j c)) [
   | inl i ↦ others j (have j (Contains-from_In names j i))

@@ -1,9 +1,14 @@
 -- What calls do to the groups that are kept.
-use Rattle.std.proofs.Common.{◌≡◌, ℕ, zero, suc, ◌<◌, ◌≤◌, ◌∙◌, true, false, List, [], ◌∷◌, length, map, refl, sym, ap, subst, arith, get_or, set, None}
-use Rattle.std.proofs.lemmas.List.{map-set, length-map}
-use Rattle.patch_plans.specs.Groups.{Group, Groups, fresh, is_open, is_engaged, is_engaged_by, why_not_disengaged, why_not_closed}
+use Rattle.std.proofs.Common.{◌≡◌, ℕ, zero, suc, ◌+◌, ◌<◌, ◌≤◌, ◌∙◌, true, false, List, [], ◌∷◌, length, map, refl, sym, ap, subst, arith, get_or, set, Some, None, ◌++◌}
+use Rattle.std.specs.Prelude.{nat_le, if◌then◌else◌}
+use Rattle.std.proofs.lemmas.Bool.{le-leb, lt-leb}
+use Rattle.patch_model.specs.declared.refusals.RefusalKind.TheVariants as kind
+use Rattle.patch_model.specs.Refusing.{bare}
+use Rattle.patch_cache.specs.Refusals.{IsCause}
+use Rattle.std.proofs.lemmas.List.{map-set, map-append, length-map}
+use Rattle.patch_plans.specs.Groups.{Group, Groups, fresh, is_open, is_engaged, is_engaged_by, why_not_disengaged, why_not_closed, why_not_begun, begun}
 use Rattle.patch_group.specs.declared.records.Record.{Record}
-use Rattle.patch_group.specs.Records.{group_of}
+use Rattle.patch_group.specs.Records.{group_of, groups_of}
 
 pub get_or-map : {X Y : Type 0} → (f : X → Y) (xs : List X) (i : ℕ) (d : X) (e : Y) → i < length xs → get_or (map f xs) i e ≡ f (get_or xs i d)
 get_or-map f [] i d e l = absurd (omega (arith, l))
@@ -34,3 +39,28 @@ pub roomier : {A : Type 0} → (old new : List (Record A)) → map group_of new 
 roomier old new same few =
     let long : length new ≡ length old = sym (length-map new group_of) ∙ ap length same ∙ length-map old group_of in
     subst (λ n. n ≤ 1024) (sym long) few
+
+pub has_room : (long room : ℕ) → long + 1 ≤ room → long < room
+has_room long room fits = omega arith
+
+-- Groups that begin.
+
+pub made_all : {A : Type 0} → (records : List (Record A)) (now : Groups) (made long : ℕ) → made ≡ long → long ≡ length records → map group_of records ≡ now.groups → made ≡ length now.groups
+made_all records now made long is counted seen = is ∙ counted ∙ sym (length-map records group_of) ∙ ap length seen
+
+pub crowded : (gs : Groups) (made : ℕ) → made ≡ length gs.groups → 1024 ≤ made → IsCause (why_not_begun gs) (bare kind.TooManyGroups)
+crowded gs made all many =
+    let full : nat_le 1024 (length gs.groups) ≡ true = le-leb _ _ (subst (λ n. 1024 ≤ n) all many) in
+    subst (λ b. IsCause (if b then Some (bare kind.TooManyGroups) else None) (bare kind.TooManyGroups)) (sym full) refl
+
+pub may_begin : (gs : Groups) (made : ℕ) → made ≡ length gs.groups → made < 1024 → None ≡ why_not_begun gs
+may_begin gs made all few =
+    let free : nat_le 1024 (length gs.groups) ≡ false = lt-leb _ _ (subst (λ n. n < 1024) all few) in
+    ap (λ b. if b then Some (bare kind.TooManyGroups) else None) (sym free)
+
+pub one_begun : {A : Type 0} → (old mid new : List (Record A)) (es : List (ℕ × ℕ)) (gs : Groups) (r : Record A) → new ≡ mid ++ r ∷ [] → mid ≡ old → group_of r ≡ fresh → groups_of old es ≡ gs
+    → groups_of new es ≡ begun gs
+one_begun old mid new es gs r more same is seen =
+    ap (λ (xs : List Group). let s : Groups = record { groups = xs; engaged = es } in s)
+    (ap (map group_of) (more ∙ ap (λ rs. rs ++ r ∷ []) same) ∙ map-append group_of old (r ∷ []) ∙ ap (λ x. map group_of old ++ x ∷ []) is)
+    ∙ ap begun seen

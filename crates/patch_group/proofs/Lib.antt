@@ -14,3 +14,6 @@ pub mod Steps
 pub mod Uniting
 pub mod Stopping
 pub mod Befores
+pub mod Outcomes
+pub mod Reading
+pub mod Whys

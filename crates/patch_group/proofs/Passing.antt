@@ -1,5 +1,5 @@
 -- What the cache does, one part after another.
-use Rattle.std.proofs.Common.{◌≡◌, ℕ, ◌<◌, ◌⊎◌, ◌∙◌, inl, inr, Option, Some, None, List, [], ◌∷◌, ◌++◌, length, map, get_or, refl, sym, ap, subst, arith, append_assoc}
+use Rattle.std.proofs.Common.{◌≡◌, ℕ, ◌<◌, ◌≤◌, ◌⊎◌, ◌∙◌, inl, inr, Option, Some, None, List, [], ◌∷◌, ◌++◌, length, map, get_or, refl, sym, ap, subst, arith, append_assoc}
 use Rattle.std.proofs.lemmas.Bool.{cases_Bool}
 use Rattle.std.proofs.lemmas.List.{map-append, length-map, append-nil}
 use Rattle.patch_model.specs.Step.{Step}
@@ -191,3 +191,14 @@ stepped_run join g run gs asks answers ask answer contents next flights more mid
           (subst (λ s. IsRightAfter last s (group_ask_of ask) (group_answer_of answer)) are one.right));
       passed = subst (λ ps. HasPassed g run ps next more now device after) (sym is_parts) done;
     }
+
+-- as many asks are answered as were gone through
+pub fewer_answered : {X Y Z : Type 0} → (tell : X → Y) (was now : List X) (asks : List Z) (i : ℕ) → now ≡ was → length was ≡ i → i < length asks → length (map tell now) < length asks
+fewer_answered tell was now asks i same many low = subst (λ n. n < length asks) (sym (length-map now tell ∙ ap length same ∙ many)) low
+
+pub all_answered : {X Y Z : Type 0} → (tell : X → Y) (answers : List X) (asks : List Z) (i : ℕ) → length answers ≡ i → length asks ≤ i → i ≤ length asks → length (map tell answers) ≡ length asks
+all_answered tell answers asks i many low high = length-map answers tell ∙ many ∙ omega arith
+
+-- a call in which the cache has no part adds nothing to its trace
+pub nothing_added : (trace : List Step) (done : List Part) → done ≡ [] → trace ≡ trace ++ steps_of done
+nothing_added trace done none = sym (ap (λ ps. trace ++ steps_of ps) none ∙ append-nil trace)

@@ -1,13 +1,14 @@
-use Rattle.std.proofs.Common.{Err, false, arith, ◌≡◌, ◌∙◌, subst, sym, length}
+use Rattle.std.proofs.Common.{Err, false, arith, ◌≡◌, ◌∙◌, refl, subst, sym, length}
 use Rattle.std.specs.Prelude.{count_by}
 use Rattle.patch_model.specs.Execution.{followed_by}
 use Rattle.patch_model.specs.State.{entries_of}
-use Rattle.patch_device.specs.SameDevice.{same_both}
+use Rattle.patch_device.specs.SameDevice.{same_still, same_both}
 use Rattle.patch_cache.specs.Refused.{given_up_later}
 use Rattle.patch_cache.specs.Waves.{steps_since}
 use Rattle.patch_plans.specs.Groups.{is_pending, patches_of}
 use Rattle.patch_group.specs.Syncing.{IsSynced, RisesIfSyncStops, IfSyncStops, IsHeldIfSyncStops}
 use Rattle.patch_group.specs.declared.refusals.SyncRefusal.TheVariants as refusal
+use Rattle.patch_group.proofs.Outcomes.{refused-done}
 use Rattle.patch_group.proofs.Pending.{none_left}
 use Rattle.patch_group.proofs.Steps.{for_all, landed_first}
 use Rattle.patch_group.proofs.Writing.{continues_both, went_both, keeps_both, since_both, sends_both, sync_stops, stays_past, groups_stay}
@@ -177,3 +178,102 @@ returns-clause-trace g c = continues_both c.traces_join.ensures.joined c.args.ca
 
 pub returns-clause-device : goal.returns-clause-device
 returns-clause-device g c = same_both g.D.Device c.args.device.now c.land.new.device c.write_all_of.new.device c.land.ensures.device c.write_all_of.ensures.device
+
+pub returns-in_err-land-clause-ran : goal.returns-in_err-land-clause-ran
+returns-in_err-land-clause-ran g c run r = c.land.ensures.ran false run r
+
+pub returns-in_err-land-clause-trace : goal.returns-in_err-land-clause-trace
+returns-in_err-land-clause-trace g c = c.land.ensures.trace
+
+pub returns-in_err-land-clause-disk : goal.returns-in_err-land-clause-disk
+returns-in_err-land-clause-disk g c honest = c.land.ensures.disk honest false
+
+pub returns-in_err-land-clause-device : goal.returns-in_err-land-clause-device
+returns-in_err-land-clause-device g c = c.land.ensures.device
+
+pub returns-in_err-land-clause-steps : goal.returns-in_err-land-clause-steps
+returns-in_err-land-clause-steps g c run r = refused-done c.from_residual.result _ c.from_residual.ensures.0
+
+pub returns-in_err-land-clause-synced : goal.returns-in_err-land-clause-synced
+returns-in_err-land-clause-synced g c run r = refused-done c.from_residual.result _ c.from_residual.ensures.0
+
+pub returns-in_err-land-clause-known : goal.returns-in_err-land-clause-known
+returns-in_err-land-clause-known g c = refused-done c.from_residual.result _ c.from_residual.ensures.0
+
+pub returns-in_err-land-clause-landed : goal.returns-in_err-land-clause-landed
+returns-in_err-land-clause-landed g c = refused-done c.from_residual.result _ c.from_residual.ensures.0
+
+pub returns-in_err-waiting-clause-ran : goal.returns-in_err-waiting-clause-ran
+returns-in_err-waiting-clause-ran g c run r = c.land.ensures.ran false run r
+
+pub returns-in_err-waiting-clause-trace : goal.returns-in_err-waiting-clause-trace
+returns-in_err-waiting-clause-trace g c = c.land.ensures.trace
+
+pub returns-in_err-waiting-clause-disk : goal.returns-in_err-waiting-clause-disk
+returns-in_err-waiting-clause-disk g c honest = c.land.ensures.disk honest false
+
+pub returns-in_err-waiting-clause-device : goal.returns-in_err-waiting-clause-device
+returns-in_err-waiting-clause-device g c = c.land.ensures.device
+
+pub returns-in_err-waiting-clause-steps : goal.returns-in_err-waiting-clause-steps
+returns-in_err-waiting-clause-steps g c run r = refused-done c.from_residual-in_err-waiting.result _ c.from_residual-in_err-waiting.ensures.0
+
+pub returns-in_err-waiting-clause-synced : goal.returns-in_err-waiting-clause-synced
+returns-in_err-waiting-clause-synced g c run r = refused-done c.from_residual-in_err-waiting.result _ c.from_residual-in_err-waiting.ensures.0
+
+pub returns-in_err-waiting-clause-known : goal.returns-in_err-waiting-clause-known
+returns-in_err-waiting-clause-known g c = refused-done c.from_residual-in_err-waiting.result _ c.from_residual-in_err-waiting.ensures.0
+
+pub returns-in_err-waiting-clause-landed : goal.returns-in_err-waiting-clause-landed
+returns-in_err-waiting-clause-landed g c = refused-done c.from_residual-in_err-waiting.result _ c.from_residual-in_err-waiting.ensures.0
+
+pub returns-in_err-write_all_of-clause-steps : goal.returns-in_err-write_all_of-clause-steps
+returns-in_err-write_all_of-clause-steps g c run r = refused-done c.from_residual-in_err-write_all_of.result _ c.from_residual-in_err-write_all_of.ensures.0
+
+pub returns-in_err-write_all_of-clause-synced : goal.returns-in_err-write_all_of-clause-synced
+returns-in_err-write_all_of-clause-synced g c run r = refused-done c.from_residual-in_err-write_all_of.result _ c.from_residual-in_err-write_all_of.ensures.0
+
+pub returns-in_err-write_all_of-clause-known : goal.returns-in_err-write_all_of-clause-known
+returns-in_err-write_all_of-clause-known g c = refused-done c.from_residual-in_err-write_all_of.result _ c.from_residual-in_err-write_all_of.ensures.0
+
+pub returns-in_err-write_all_of-clause-landed : goal.returns-in_err-write_all_of-clause-landed
+returns-in_err-write_all_of-clause-landed g c = refused-done c.from_residual-in_err-write_all_of.result _ c.from_residual-in_err-write_all_of.ensures.0
+
+pub returns-clause-gave_up : goal.returns-clause-gave_up
+returns-clause-gave_up g c run on = tt
+
+pub returns-then-not-is_open-clause-gave_up : goal.returns-then-not-is_open-clause-gave_up
+returns-then-not-is_open-clause-gave_up g c run on = tt
+
+pub returns-clause-refused : goal.returns-clause-refused
+returns-clause-refused g c run on = tt
+
+pub returns-then-not-is_open-clause-refused : goal.returns-then-not-is_open-clause-refused
+returns-then-not-is_open-clause-refused g c run on = tt
+
+pub returns-clause-held : goal.returns-clause-held
+returns-clause-held g c = tt
+
+pub returns-then-not-is_open-clause-held : goal.returns-then-not-is_open-clause-held
+returns-then-not-is_open-clause-held g c = tt
+
+pub returns-then-not-is_open-clause-landed : goal.returns-then-not-is_open-clause-landed
+returns-then-not-is_open-clause-landed g c = tt
+
+pub returns-then-not-is_open-clause-known : goal.returns-then-not-is_open-clause-known
+returns-then-not-is_open-clause-known g c = tt
+
+pub returns-clause-landed : goal.returns-clause-landed
+returns-clause-landed g c = c.in_ok-write_all_of.ensures.landed c.in_ok-land.ensures.landed
+
+pub returns-then-not-is_open-clause-steps : goal.returns-then-not-is_open-clause-steps
+returns-then-not-is_open-clause-steps g c run r = tt
+
+pub returns-then-not-is_open-clause-synced : goal.returns-then-not-is_open-clause-synced
+returns-then-not-is_open-clause-synced g c run r = tt
+
+pub returns-then-not-is_open-clause-unchanged : goal.returns-then-not-is_open-clause-unchanged
+returns-then-not-is_open-clause-unchanged g c is = (refl, refl, refl)
+
+pub returns-then-not-is_open-clause-device : goal.returns-then-not-is_open-clause-device
+returns-then-not-is_open-clause-device g c = same_still g.D.Device _

@@ -1,7 +1,9 @@
-use Rattle.std.proofs.Common.{inl, sym, subst}
+use Rattle.std.proofs.Common.{◌≡◌, ◌++◌, inl, sym, subst}
+use Rattle.patch_device.specs.SameDevice.{same_still}
 use Rattle.patch_cache.specs.Asks.{ask_of, answer_of}
-use Rattle.patch_group.specs.Asks.{Plain, Patch}
+use Rattle.patch_group.specs.Asks.{Plain, Patch, groups_after, part_of, steps_of}
 use Rattle.patch_group.specs.Runs.{group_ask_of, group_answer_of, IsGroupAnswered}
+use Rattle.patch_group.proofs.Passing.{nothing_added}
 use Rattle.patch_group.proofs.Patching.{plain, patched, called}
 use Rattle.patch_group.proofs.calls.Groups.answer_lent.Goals as goal
 
@@ -67,3 +69,75 @@ returns-in-Pending-clause-answer g c run r =
     let gs = c.args.self.now in
     subst (λ a. IsGroupAnswered g.D.Device run gs (group_ask_of a) (group_answer_of told.result) c.args.cache.now c.args.flights.now gs c.args.device.now c.args.device.now) (sym c.in-Pending.is)
     (called c.steps_extend.ensures.state c.executions_are_orderly.ensures.numbered g.D.Device run _ _ _ _ _ _ _ r (inl (told.ensures.answer run r.on.runs.cache_is r.groups_are)) told.ensures.groups told.ensures.no_part)
+
+pub returns-in-Group-clause-groups : goal.returns-in-Group-clause-groups
+returns-in-Group-clause-groups g c =
+    subst (λ a. c.answer_group.new.self ≡ groups_after c.args.self.now (group_ask_of a) (group_answer_of c.answer_group.result)) (sym c.in-Group.is) c.answer_group.ensures.groups_are
+
+pub returns-in-Group-clause-trace : goal.returns-in-Group-clause-trace
+returns-in-Group-clause-trace g c =
+    subst (λ a. c.args.cache.now.trace ≡ c.args.cache.now.trace ++ steps_of (part_of c.args.self.now (group_ask_of a) (group_answer_of c.answer_group.result))) (sym c.in-Group.is)
+    (nothing_added c.args.cache.now.trace _ c.answer_group.ensures.no_part)
+
+pub returns-in-Group-clause-device : goal.returns-in-Group-clause-device
+returns-in-Group-clause-device g c = same_still g.D.Device _
+
+pub returns-in-Engage-clause-groups : goal.returns-in-Engage-clause-groups
+returns-in-Engage-clause-groups g c =
+    subst (λ a. c.answer_engage.new.self ≡ groups_after c.args.self.now (group_ask_of a) (group_answer_of c.answer_engage.result)) (sym c.in-Engage.is) c.answer_engage.ensures.groups_are
+
+pub returns-in-Engage-clause-trace : goal.returns-in-Engage-clause-trace
+returns-in-Engage-clause-trace g c =
+    subst (λ a. c.args.cache.now.trace ≡ c.args.cache.now.trace ++ steps_of (part_of c.args.self.now (group_ask_of a) (group_answer_of c.answer_engage.result))) (sym c.in-Engage.is)
+    (nothing_added c.args.cache.now.trace _ c.answer_engage.ensures.no_part)
+
+pub returns-in-Engage-clause-device : goal.returns-in-Engage-clause-device
+returns-in-Engage-clause-device g c = same_still g.D.Device _
+
+pub returns-in-Disengage-clause-groups : goal.returns-in-Disengage-clause-groups
+returns-in-Disengage-clause-groups g c =
+    subst (λ a. c.answer_disengage.new.self ≡ groups_after c.args.self.now (group_ask_of a) (group_answer_of c.answer_disengage.result)) (sym c.in-Disengage.is) c.answer_disengage.ensures.groups_are
+
+pub returns-in-Disengage-clause-trace : goal.returns-in-Disengage-clause-trace
+returns-in-Disengage-clause-trace g c =
+    subst (λ a. c.args.cache.now.trace ≡ c.args.cache.now.trace ++ steps_of (part_of c.args.self.now (group_ask_of a) (group_answer_of c.answer_disengage.result))) (sym c.in-Disengage.is)
+    (nothing_added c.args.cache.now.trace _ c.answer_disengage.ensures.no_part)
+
+pub returns-in-Disengage-clause-device : goal.returns-in-Disengage-clause-device
+returns-in-Disengage-clause-device g c = same_still g.D.Device _
+
+pub returns-in-Depend-clause-groups : goal.returns-in-Depend-clause-groups
+returns-in-Depend-clause-groups g c =
+    subst (λ a. c.answer_depend.new.self ≡ groups_after c.args.self.now (group_ask_of a) (group_answer_of c.answer_depend.result)) (sym c.in-Depend.is) c.answer_depend.ensures.groups_are
+
+pub returns-in-Depend-clause-trace : goal.returns-in-Depend-clause-trace
+returns-in-Depend-clause-trace g c =
+    subst (λ a. c.args.cache.now.trace ≡ c.args.cache.now.trace ++ steps_of (part_of c.args.self.now (group_ask_of a) (group_answer_of c.answer_depend.result))) (sym c.in-Depend.is)
+    (nothing_added c.args.cache.now.trace _ c.answer_depend.ensures.no_part)
+
+pub returns-in-Depend-clause-device : goal.returns-in-Depend-clause-device
+returns-in-Depend-clause-device g c = same_still g.D.Device _
+
+pub returns-in-Close-clause-groups : goal.returns-in-Close-clause-groups
+returns-in-Close-clause-groups g c =
+    subst (λ a. c.answer_close.new.self ≡ groups_after c.args.self.now (group_ask_of a) (group_answer_of c.answer_close.result)) (sym c.in-Close.is) c.answer_close.ensures.groups_are
+
+pub returns-in-Close-clause-trace : goal.returns-in-Close-clause-trace
+returns-in-Close-clause-trace g c =
+    subst (λ a. c.args.cache.now.trace ≡ c.args.cache.now.trace ++ steps_of (part_of c.args.self.now (group_ask_of a) (group_answer_of c.answer_close.result))) (sym c.in-Close.is)
+    (nothing_added c.args.cache.now.trace _ c.answer_close.ensures.no_part)
+
+pub returns-in-Close-clause-device : goal.returns-in-Close-clause-device
+returns-in-Close-clause-device g c = same_still g.D.Device _
+
+pub returns-in-Pending-clause-groups : goal.returns-in-Pending-clause-groups
+returns-in-Pending-clause-groups g c =
+    subst (λ a. c.args.self.now ≡ groups_after c.args.self.now (group_ask_of a) (group_answer_of c.answer_pending.result)) (sym c.in-Pending.is) c.answer_pending.ensures.groups
+
+pub returns-in-Pending-clause-trace : goal.returns-in-Pending-clause-trace
+returns-in-Pending-clause-trace g c =
+    subst (λ a. c.args.cache.now.trace ≡ c.args.cache.now.trace ++ steps_of (part_of c.args.self.now (group_ask_of a) (group_answer_of c.answer_pending.result))) (sym c.in-Pending.is)
+    (nothing_added c.args.cache.now.trace _ c.answer_pending.ensures.no_part)
+
+pub returns-in-Pending-clause-device : goal.returns-in-Pending-clause-device
+returns-in-Pending-clause-device g c = same_still g.D.Device _

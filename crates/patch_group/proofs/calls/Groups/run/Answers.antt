@@ -3,7 +3,8 @@ use Rattle.std.proofs.lemmas.List.{length-append, map-append}
 use Rattle.patch_device.specs.SameDevice.{same_still, same_both}
 use Rattle.patch_group.specs.Asks.{parts, part_of, steps_of, groups_after, groups_after_all}
 use Rattle.patch_group.specs.Runs.{asks_of, group_ask_of, group_answer_of}
-use Rattle.patch_group.proofs.Passing.{parts_none, groups_none, steps_append, next_code, begun_run, stepped_run}
+use Rattle.patch_group.proofs.Keeping.{has_room}
+use Rattle.patch_group.proofs.Passing.{parts_none, groups_none, steps_append, next_code, begun_run, stepped_run, fewer_answered, all_answered}
 use Rattle.patch_group.proofs.calls.Groups.run.Goals as goal
 
 pub loop-ask-init : goal.loop-ask-init
@@ -100,3 +101,33 @@ returns-clause-order g c = c.promise.ensures.order
 
 pub returns-clause-in_order : goal.returns-clause-in_order
 returns-clause-in_order g c = c.promise.ensures.in_order
+
+pub returns-in-Err-clause-all : goal.returns-in-Err-clause-all
+returns-in-Err-clause-all g c = tt
+
+pub returns-in-Err-clause-stopped : goal.returns-in-Err-clause-stopped
+returns-in-Err-clause-stopped g c = fewer_answered group_answer_of _ _ c.args.asks.now c.loop-ask.ask-index c.reserve.ensures.items c.loop-ask.invariant.many c.loop-ask-test.true
+
+pub returns-in-Err-clause-device : goal.returns-in-Err-clause-device
+returns-in-Err-clause-device g c = c.loop-ask.invariant.device
+
+pub push_reserved-requires : goal.push_reserved-requires
+push_reserved-requires g c = has_room _ _ c.in_default.ensures.ok
+
+pub returns-clause-ran : goal.returns-clause-ran
+returns-clause-ran g c = c.loop-ask.invariant.ran
+
+pub returns-clause-groups : goal.returns-clause-groups
+returns-clause-groups g c = c.loop-ask.invariant.groups
+
+pub returns-clause-trace : goal.returns-clause-trace
+returns-clause-trace g c = c.loop-ask.invariant.trace
+
+pub returns-clause-all : goal.returns-clause-all
+returns-clause-all g c = all_answered group_answer_of c.loop-ask.answers.items c.args.asks.now c.loop-ask.ask-index c.loop-ask.invariant.many c.loop-ask-test.false c.loop-ask.auto.ask-index-end
+
+pub returns-clause-stopped : goal.returns-clause-stopped
+returns-clause-stopped g c = tt
+
+pub returns-clause-device : goal.returns-clause-device
+returns-clause-device g c = c.loop-ask.invariant.device
