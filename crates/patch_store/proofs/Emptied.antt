@@ -104,3 +104,11 @@ pub shelf_reset : (s : Shelf) (extent : ℕ) (e : Extents) (current : Option ℕ
 shelf_reset s extent e current left a b =
     ap (λ o. record s { extents = e; current = o; left = left }) a
     ∙ ap (λ l. record s { extents = e; current = not_current extent s.current; left = l }) b
+
+-- nothing was reset
+pub reset_alike : (old now : Store) (e : Extents) (cache : Contents) (left : List (List ℕ)) → old ≡ now → e ≡ old.shelf.extents → cache ≡ old.cache → left ≡ old.shelf.left
+    → record old { cache = cache; shelf = record old.shelf { extents = e; left = left } } ≡ now
+reset_alike old now e cache left is same same_cache same_left =
+    ap (λ x. record old { cache = cache; shelf = record old.shelf { extents = x; left = left } }) same
+    ∙ ap (λ k. record old { cache = k; shelf = record old.shelf { left = left } }) same_cache
+    ∙ ap (λ l. record old { shelf = record old.shelf { left = l } }) same_left ∙ is

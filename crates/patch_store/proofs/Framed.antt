@@ -14,7 +14,7 @@ use Rattle.patch_frame.specs.Geometry.{slot_block, slot_start}
 use Rattle.patch_frame.specs.Slot.{SlotFields}
 use Rattle.patch_frame.specs.Slot as slots
 use Rattle.patch_recovery.specs.Change.{Fill, Made}
-use Rattle.patch_extent.specs.Answers.{setting, asked, IsSettingOf, Append, IsAppended}
+use Rattle.patch_extent.specs.Answers.{setting, asked, IsSettingOf, Append, IsAppended, IsBegun, plan_of}
 use Rattle.patch_extent.specs.declared.places.Appended.{Appended}
 use Rattle.patch_extent.specs.Appending.{IsPatched}
 use Rattle.patch_plans.specs.Extents.{offset_at}
@@ -78,6 +78,12 @@ pub appended_view : (a : Append) (old now new : Store) (told : Appended) → old
     → IsFrameAppended a now new told.pointer_patch
 appended_view a old now new told is answer shelf left_out =
     subst (λ s. IsFrameAppended a s new told.pointer_patch) is (record { appended = told; appended_is = answer; point_is = refl; shelf_is = shelf; left_out_is = left_out })
+
+pub begun_view : (a : Append) (old now new : Store) → old ≡ now
+    → ((run : Execution) → IsSettingOf (setting_of old) run → IsBegun run a.writer (plan_of run old.shelf.extents a) (setting_of old) (setting_of new))
+    → new.shelf ≡ old.shelf → new.left_out ≡ old.left_out → IsFrameBegun a now new
+begun_view a old now new is begun shelf left_out =
+    subst (λ s. IsFrameBegun a s new) is (record { begun = begun; shelf_is = shelf; left_out_is = left_out })
 
 -- Nothing was made yet.
 

@@ -7,6 +7,7 @@ pub mod Values
 pub mod Disks
 pub mod Finding
 pub mod Removing
+pub mod Wholes
 pub mod Widening
 pub mod Waving
 pub mod Merged

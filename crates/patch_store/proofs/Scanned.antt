@@ -1,6 +1,6 @@
 -- A slot that is read, and the frame that it names.
 use Rattle.std.proofs.Common.{◌≡◌, ℕ, ◌+◌, ◌-◌, ◌<◌, ◌≤◌, ◌∙◌, inl, inr, Bool, true, false, List, [], ◌∷◌, ◌++◌, length, map, get_or, slice_range, Ok, Err, refl, sym, ap, subst, arith}
-use Rattle.std.specs.Prelude.{◌==◌, not, nat_lt, nat_le, is_err, is_some, position, Option, Some, None, All, if◌then◌else◌}
+use Rattle.std.specs.Prelude.{◌==◌, not, nat_lt, nat_le, is_err, is_some, position, Option, Some, None, Result, All, if◌then◌else◌}
 use Rattle.std.specs.List.{list_any, range_with_len}
 use Rattle.std.proofs.lemmas.Bool.{cases_lt}
 use Rattle.std.proofs.lemmas.Bool.Decides.{nat_tests}
@@ -241,14 +241,35 @@ past_place s blocks f slot extents cause =
 pub slot_there : (g : Geometry) (slot : ℕ) → slot < slot_count g → slot_block slot < block_count g
 slot_there g slot within = omega (arith, within)
 
-pub slot_says : (g : Geometry) (blocks : List (List ℕ)) (slot block start longest : ℕ) (bytes : List ℕ) (says : Option SlotFields)
+slot_gives : (g : Geometry) (blocks : List (List ℕ)) (slot block start longest : ℕ) (bytes : List ℕ) (told : Result (Option SlotFields) FrameFault)
     → block ≡ slot_block slot → start ≡ slot_start slot → longest ≡ longest_frame g.format → IsSpan blocks block start 64 bytes
-    → slot_at longest bytes ≡ Ok says → slot_at (longest_frame g.format) (slot_bytes blocks slot) ≡ Ok says
-slot_says g blocks slot block start longest bytes says at from limit is said =
+    → slot_at longest bytes ≡ told → slot_at (longest_frame g.format) (slot_bytes blocks slot) ≡ told
+slot_gives g blocks slot block start longest bytes told at from limit is said =
     let there : bytes ≡ slot_bytes blocks slot =
     is ∙ ap (λ n. slice_range (block_on blocks n) start (start + 64)) at
     ∙ ap (λ n. slice_range (block_on blocks (slot_block slot)) n (n + 64)) from in
     sym (ap (λ n. slot_at n bytes) limit ∙ ap (slot_at (longest_frame g.format)) there) ∙ said
+
+pub slot_says : (g : Geometry) (blocks : List (List ℕ)) (slot block start longest : ℕ) (bytes : List ℕ) (says : Option SlotFields)
+    → block ≡ slot_block slot → start ≡ slot_start slot → longest ≡ longest_frame g.format → IsSpan blocks block start 64 bytes
+    → slot_at longest bytes ≡ Ok says → slot_at (longest_frame g.format) (slot_bytes blocks slot) ≡ Ok says
+slot_says g blocks slot block start longest bytes says at from limit is said =
+    slot_gives g blocks slot block start longest bytes (Ok says) at from limit is said
+
+-- it is spelled wrongly
+pub slot_misspelled : (g : Geometry) (blocks : List (List ℕ)) (slot block start longest : ℕ) (bytes : List ℕ) (fault : FrameFault)
+    → block ≡ slot_block slot → start ≡ slot_start slot → longest ≡ longest_frame g.format → IsSpan blocks block start 64 bytes
+    → slot_at longest bytes ≡ Err fault → outcome (slot_tests (ledger_in g blocks) blocks slot) nothing ≡ Err (BadSlot slot)
+slot_misspelled g blocks slot block start longest bytes fault at from limit is said =
+    slot_bad (ledger_in g blocks) blocks slot fault (slot_gives g blocks slot block start longest bytes (Err fault) at from limit is said)
+
+-- it is empty
+pub slot_empty : (g : Geometry) (blocks : List (List ℕ)) (slot : ℕ) → slot < slot_count g
+    → slot_at (longest_frame g.format) (slot_bytes blocks slot) ≡ Ok None → IsScanned (ledger_in g blocks) blocks slot None
+slot_empty g blocks slot within is = record {
+  passes = ap (λ tests. outcome tests nothing) (slot_read g blocks slot None within is);
+  says_is = slot_is g blocks slot None within is;
+}
 
 -- its frame is refused
 pub slot_refuses : (g : Geometry) (blocks : List (List ℕ)) (slot : ℕ) (f : SlotFields) (fault : OpenFault) → slot < slot_count g

@@ -16,7 +16,10 @@ use Rattle.patch_history.specs.Choosing.{has_room, current_for, first_of_any, em
 use Rattle.patch_history.specs.Planning.{frame_plan, fill_plan}
 use Rattle.patch_history.specs.Shelf.{Shelf, after_plan}
 use Rattle.patch_history.specs.Shelf.{after_point as shelf_after_point}
-use Rattle.patch_history.specs.Kept.{IsShelfOf}
+use Rattle.patch_history.specs.Kept.{IsShelfOf, ShelvesAreKept}
+use Rattle.patch_history.specs.Laws.{StandingsAgree}
+use Rattle.patch_history.specs.History.{History, standing_of, ledger_of}
+use Rattle.patch_store.specs.Meaning.{Store, Represents}
 use Rattle.patch_recovery.specs.Ledger.{Ledger}
 use Rattle.patch_frame.specs.declared.geometries.Geometry.{Geometry}
 use Rattle.patch_store.specs.declared.trials.Filled.{Filled}
@@ -289,3 +292,24 @@ store_tried s l t kept geometry largest current filled empty = record {
   empty = empty;
   each = kept.extents ∙ sym (ap (λ (g : Geometry). g.extents) geometry);
 }
+
+-- it has the current extent of the shelf, filled as far
+abbrev pub IsCurrentOf : Shelf → Option Filled → Type 0
+IsCurrentOf s t = (option_map extent_of t ≡ s.current) × IfSome t (λ f. (f.extent < s.extents.geometry.extents) × (f.offset ≡ offset_at s.extents f.extent))
+
+filled_in : (s : Shelf) (t : Option Filled) → ((e : ℕ) → s.current ≡ Some e → 1 ≤ offset_at s.extents e) → IsCurrentOf s t → IfSome t (IsFilled s)
+filled_in s None begun is = tt
+filled_in s (Some f) begun is = record {
+  known = is.1.0;
+  offset = is.1.1;
+  some = (let far = begun f.extent (sym is.0) in let at = is.1.1 in omega (arith, far, at));
+}
+
+pub trial_of : ShelvesAreKept → StandingsAgree → (h : History) (store now : Store) (t : Trial) → store ≡ now → t.largest ≡ largest_pointer store.shelf.extents.geometry.format
+    → IsCurrentOf store.shelf t.current → t.empty.now ≡ empty_extents store.shelf → Represents now h → Alike now.shelf t
+trial_of kept agree h store now t is largest current empty was =
+    let stands = subst (λ s. Represents s h) (sym is) was in
+    let shelf = subst (λ s. IsShelfOf s (ledger_of h)) (sym stands.shelf_is) (kept h) in
+    subst (λ (s : Store). Alike s.shelf t) is (store_tried store.shelf (ledger_of h) t shelf shelf.geometry largest current.0
+    (filled_in store.shelf t.current
+    (subst (λ (s : Shelf). (e : ℕ) → s.current ≡ Some e → 1 ≤ offset_at s.extents e) (sym stands.shelf_is) (agree h stands.legal).begun) current) empty)

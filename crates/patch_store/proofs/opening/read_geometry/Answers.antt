@@ -29,3 +29,18 @@ returns-clause-read g c blocks cache =
       super = ap superblock_at (sym whole) ∙ sym c.in-Ok.ensures.exact;
       count = sym (c.blocks-2.ensures.answer (unchanged blocks) cache) ∙ sym c.if-block_count-blocks.false ∙ c.block_count.ensures;
     }
+
+pub returns-in_default-clause-read : goal.returns-in_default-clause-read
+returns-in_default-clause-read g c blocks cache = absurd (c.in_default.ensures.bytes blocks cache cache.legal.some (omega arith))
+
+pub read_superblock-requires : goal.read_superblock-requires
+read_superblock-requires g c = c.in-Some.ensures.long
+
+pub block_count-requires : goal.block_count-requires
+block_count-requires g c = let fits = c.in-Ok.ensures.found.0.blocks in omega (arith, fits)
+
+pub returns-clause-valid : goal.returns-clause-valid
+returns-clause-valid g c = c.in-Ok.ensures.found.0
+
+pub returns-clause-count : goal.returns-clause-count
+returns-clause-count g c = sym c.block_count.ensures ∙ c.if-block_count-blocks.false ∙ c.blocks-2.ensures.value

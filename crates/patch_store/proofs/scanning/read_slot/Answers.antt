@@ -1,14 +1,14 @@
-use Rattle.std.proofs.Common.{◌≡◌, ℕ, ◌<◌, ◌∙◌, List, length, Some, Ok, sym, ap, subst, arith}
+use Rattle.std.proofs.Common.{◌≡◌, ℕ, ◌<◌, ◌∙◌, List, length, Some, None, Ok, sym, ap, subst, arith}
 use Rattle.std.proofs.lemmas.Result.{err_from_is_err_and}
 use Rattle.patch_frame.specs.declared.geometries.Geometry.{Geometry}
 use Rattle.patch_frame.specs.Geometry.{slot_count, slot_block, block_count}
-use Rattle.patch_frame.specs.Slot.{fields, used_fields}
+use Rattle.patch_frame.specs.Slot.{Fits, fields, used_fields}
 use Rattle.patch_recovery.specs.Reading.{ledger_in, slot_tests}
 use Rattle.patch_plans.specs.Extents.{Extents}
 use Rattle.patch_plans.specs.Meaning.{Represents as AreExtentsOf}
 use Rattle.patch_store.specs.Opening.{unchanged, IsFirstOf, IsScanned, NoneHolds, frame_tests}
 use Rattle.patch_store.proofs.Tested.{passed_on}
-use Rattle.patch_store.proofs.Scanned.{slot_there, slot_says, slot_refuses, slot_repeats, slot_passes, key_found}
+use Rattle.patch_store.proofs.Scanned.{slot_there, slot_says, slot_misspelled, slot_empty, slot_refuses, slot_repeats, slot_passes, key_found}
 use Rattle.patch_store.proofs.scanning.read_slot.Goals as goal
 
 -- the slot lies on the disk
@@ -18,6 +18,41 @@ there extents g blocks slot is represents within =
     let low = slot_there g slot within in
     let count : length blocks ≡ block_count g = represents.blocks ∙ ap block_count is in
     omega (arith, low, count)
+
+pub returns-in_default : goal.returns-in_default
+returns-in_default g c blocks cache extents lower =
+    let on = there c.args.extents.now c.args.geometry blocks c.args.slot c.requires.extents extents c.requires.within in
+    let at : c.slot_block.result < length blocks = subst (λ n. n < length blocks) (sym c.slot_block.ensures) on in
+    absurd (c.in_default.ensures.bytes blocks cache at c.slot_start-start.ensures.within)
+
+pub read_slot_within-requires : goal.read_slot_within-requires
+read_slot_within-requires g c = c.in-Some.ensures.long
+
+pub returns-in_default-read_slot_within : goal.returns-in_default-read_slot_within
+returns-in_default-read_slot_within g c blocks cache extents lower =
+    let on = there c.args.extents.now c.args.geometry blocks c.args.slot c.requires.extents extents c.requires.within in
+    let at : c.slot_block.result < length blocks = subst (λ n. n < length blocks) (sym c.slot_block.ensures) on in
+    slot_misspelled c.args.geometry blocks c.args.slot c.slot_block.result c.slot_start-start.result c.longest_frame.result c.in-Some.bytes.now
+    c.in_default-read_slot_within.field-0 c.slot_block.ensures c.slot_start-start.ensures.value c.longest_frame.ensures
+    (c.in-Some.ensures.bytes blocks cache at c.slot_start-start.ensures.within) c.in_default-read_slot_within.ensures.exact
+
+pub returns-in_default-state : goal.returns-in_default-state
+returns-in_default-state g c blocks cache extents lower =
+    let on = there c.args.extents.now c.args.geometry blocks c.args.slot c.requires.extents extents c.requires.within in
+    let at : c.slot_block.result < length blocks = subst (λ n. n < length blocks) (sym c.slot_block.ensures) on in
+    slot_empty c.args.geometry blocks c.args.slot c.requires.within
+    (slot_says c.args.geometry blocks c.args.slot c.slot_block.result c.slot_start-start.result c.longest_frame.result c.in-Some.bytes.now None
+    c.slot_block.ensures c.slot_start-start.ensures.value c.longest_frame.ensures
+    (c.in-Some.ensures.bytes blocks cache at c.slot_start-start.ensures.within) (c.in-Ok.ensures.exact ∙ ap (λ s. Ok (fields s)) c.in_default-state.is))
+
+pub read_entry-requires-clause-format : goal.read_entry-requires-clause-format
+read_entry-requires-clause-format g c = c.requires.geometry.format
+
+pub read_entry-requires-clause-extents : goal.read_entry-requires-clause-extents
+read_entry-requires-clause-extents g c = ap (λ (x : Geometry). x.format) c.requires.extents
+
+pub read_entry-requires-clause-key : goal.read_entry-requires-clause-key
+read_entry-requires-clause-key g c = (subst (λ s. Fits c.longest_frame.result (fields s)) c.in-Used.is c.in-Ok.ensures.found.0).short_key
 
 pub returns-in_err-entry : goal.returns-in_err-entry
 returns-in_err-entry g c blocks cache extents lower =

@@ -1,8 +1,68 @@
-use Rattle.std.proofs.Common.{◌<◌, ◌∙◌, ◌++◌, ◌∷◌, [], refl, length, map, sym, ap, arith}
+use Rattle.std.proofs.Common.{◌<◌, ◌∙◌, ◌++◌, ◌∷◌, [], refl, length, map, sym, ap, subst, arith}
+use Rattle.std.specs.Prelude.{Some, None}
+use Rattle.std.proofs.lemmas.List.{length-set}
 use Rattle.patch_history.specs.Shelf.{Shelf}
 use Rattle.patch_index.specs.Index.{fields_of, told}
+use Rattle.patch_store.specs.Meaning.{Store}
+use Rattle.patch_store.proofs.Wholes.{long_left, whole_with}
 use Rattle.patch_store.proofs.Removing.{shelf_cleared, cleared_view, same_left, more_left, left_alike, all_alike}
 use Rattle.patch_store.proofs.stores.Store.clear_slot.Goals as goal
+
+pub returns-in_default : goal.returns-in_default
+returns-in_default g c = refl
+
+pub returns-in_default-numbers_of : goal.returns-in_default-numbers_of
+returns-in_default-numbers_of g c = refl
+
+pub invariant_of-self : goal.invariant_of-self
+invariant_of-self g c = c.self.invariant
+
+pub returns-in_default-get_mut : goal.returns-in_default-get_mut
+returns-in_default-get_mut g c = c.self.view_is
+
+pub invariant_of-self-in_default-reserve : goal.invariant_of-self-in_default-reserve
+invariant_of-self-in_default-reserve g c =
+    let s : Shelf = record {
+      extents = c.self.inside.extents;
+      slots = c.self.inside.index;
+      current = c.self.inside.current;
+      last_delete = c.self.inside.last_delete;
+      upgrade = c.self.inside.upgrade;
+      left = map (λ v. v.items) c.self.inside.left.items;
+    } in
+    whole_with c.self.inside.geometry s s.slots s.last_delete _ c.self.invariant refl (long_left (λ v. v.items) c.self.inside.left.items c.in-Some.entry.extent c.reserve.new.self)
+
+pub invariant_of-self-in_default-lay_slot : goal.invariant_of-self-in_default-lay_slot
+invariant_of-self-in_default-lay_slot g c =
+    let s : Shelf = record {
+      extents = c.self.inside.extents;
+      slots = c.self.inside.index;
+      current = c.self.inside.current;
+      last_delete = c.self.inside.last_delete;
+      upgrade = c.self.inside.upgrade;
+      left = map (λ v. v.items) c.self.inside.left.items;
+    } in
+    whole_with c.self.inside.geometry s s.slots s.last_delete _ c.self.invariant refl (long_left (λ v. v.items) c.self.inside.left.items c.in-Some.entry.extent c.reserve.new.self)
+
+pub push_reserved-requires : goal.push_reserved-requires
+push_reserved-requires g c = let room = c.in-Ok-reserve.ensures.ok in omega (arith, room)
+
+pub clear-requires : goal.clear-requires
+clear-requires g c = subst (λ (x : Store). c.args.slot < length x.shelf.slots) (sym c.self.view_is) c.requires
+
+pub invariant_of-self-2 : goal.invariant_of-self-2
+invariant_of-self-2 g c =
+    let s : Shelf = record {
+      extents = c.self.inside.extents;
+      slots = c.self.inside.index;
+      current = c.self.inside.current;
+      last_delete = c.self.inside.last_delete;
+      upgrade = c.self.inside.upgrade;
+      left = map (λ v. v.items) c.self.inside.left.items;
+    } in
+    whole_with c.self.inside.geometry s c.clear.new.self (Some c.in-Ok-lay_slot.no) _ c.self.invariant
+    (ap length c.clear.ensures ∙ length-set c.self.inside.index c.args.slot None)
+    (long_left (λ v. v.items) c.self.inside.left.items c.in-Some.entry.extent c.push_reserved.new.self)
 
 pub returns-in_default-reserve : goal.returns-in_default-reserve
 returns-in_default-reserve g c =
