@@ -11,6 +11,7 @@ use crate::gates::Gate;
 use crate::parcels::Parcel;
 use crate::trying::write_tried;
 use crossbeam_channel::{Receiver, Sender};
+use patch_cache::Flight;
 use patch_device::Device;
 use patch_history::{Command, Reply};
 use patch_model::{BlockNo, OutOfMemory, WriterNo};
@@ -170,7 +171,7 @@ pub fn flush_all<C: Ledger, S: Ledger, T: Ledger, G: Gate, R: Wait>(
     Flushed { tally, whole }
 }
 
-/// Does the writes that come, and ends them. No lock is held while the device writes.
+/// Does the writes that come, and ends them.
 pub fn complete_all<D: Device, C: Ledger, S: Ledger, T: Ledger, G: Gate, R: Wait>(
     rt: &R,
     desk: &Mutex<Desk<C, S, T>>,
@@ -189,34 +190,55 @@ pub fn complete_all<D: Device, C: Ledger, S: Ledger, T: Ledger, G: Gate, R: Wait
         let Ok(parcel) = from.recv(rt) else {
             break;
         };
+        call = call.wrapping_add(1);
         let flight = parcel.into_flight();
-        let block = flight.block();
-        if block.0 >= device.count() {
-            flight.abandon();
-            end = End::Strange;
-            break;
-        }
-        let landed = match write_tried(&mut device, flight) {
-            Ok(landed) => landed,
-            Err(flight) => {
-                flight.abandon();
-                end = End::GaveUp(block);
+        match complete_one(rt, desk, gate, call, flight, &mut device, &mut tally) {
+            End::Done => bell.land(rt),
+            fault => {
+                end = fault;
                 break;
             }
-        };
-        call = call.wrapping_add(1);
-        gate.before(Actor::Completer, call);
-        let done = desk.lock(rt).complete(landed, &mut tally);
-        gate.after(Actor::Completer, call);
-        if let Err(landed) = done {
-            landed.abandon();
-            end = End::Strange;
-            break;
         }
-        bell.land(rt);
     }
     if end != End::Done {
         bell.stop(rt);
     }
     Completed { device, tally, end }
+}
+
+/// Does one write, and ends it: the end is that of the completer, unless the write is done. No lock is held while the device writes.
+fn complete_one<D: Device, C: Ledger, S: Ledger, T: Ledger, G: Gate, R: Wait>(
+    rt: &R,
+    desk: &Mutex<Desk<C, S, T>>,
+    gate: &G,
+    call: u64,
+    flight: Flight,
+    device: &mut D,
+    tally: &mut Tally<T>,
+) -> End
+    ensures device { IsSameDevice D.Device device.old device.new }
+    ensures gave_up { RisesAtEnd result (D.fault_count device.old) (D.fault_count device.new) }
+{
+    let block = flight.block();
+    if block.0 >= device.count() {
+        flight.abandon();
+        return End::Strange;
+    }
+    let landed = match write_tried(device, flight) {
+        Ok(landed) => landed,
+        Err(flight) => {
+            flight.abandon();
+            return End::GaveUp(block);
+        }
+    };
+    gate.before(Actor::Completer, call);
+    let done = desk.lock(rt).complete(landed, tally);
+    gate.after(Actor::Completer, call);
+    match done {
+        Ok(_) => End::Done,
+        Err(landed) => {
+            landed.abandon();
+            End::Strange
+        }
+    }
 }
