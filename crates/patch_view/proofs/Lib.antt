@@ -35,3 +35,4 @@ pub mod Baring
 pub mod Gapping
 pub mod Departing
 pub mod Landing
+pub mod Outcomes

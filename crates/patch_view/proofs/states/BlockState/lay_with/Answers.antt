@@ -1,4 +1,4 @@
-use Rattle.std.proofs.Common.{◌≡◌, ◌∷◌, [], ◌++◌, false, inr, rules, ◌+◌, ap, ◌∙◌, length, sym, subst, refl, ◌≤◌, List, ℕ, Bool, not, arith}
+use Rattle.std.proofs.Common.{◌≡◌, ◌∷◌, [], ◌++◌, false, inl, inr, rules, ◌+◌, ap, ◌∙◌, length, sym, subst, refl, ◌≤◌, List, ℕ, Bool, not, arith}
 use Rattle.std.specs.Prelude.{◌==◌, if◌then◌else◌}
 use Rattle.std.proofs.lemmas.List.{with_items_is}
 use Rattle.std.proofs.lemmas.Result.{MatchResult-from_err}
@@ -8,6 +8,7 @@ use Rattle.patch_view.proofs.Apart.{laid_apart}
 use Rattle.patch_view.proofs.Covering.{laid_rests}
 use Rattle.patch_view.proofs.Baring.{put_over_image, stays_too}
 use Rattle.patch_view.proofs.Gapping.{laid_gap}
+use Rattle.patch_view.proofs.Outcomes.{refused-done, refused-still, same-block, fits-word, takeable-soft}
 use Rattle.std.specs.Prelude.{slice_range}
 use Rattle.std.specs.Vec.{with_items}
 use Rattle.patch_view.proofs.states.BlockState.lay_with.Goals as goal
@@ -17,13 +18,14 @@ invariant_of-self-2 g c =
     let hard : Bool = c.args.hard in
     let bytes = ap length (with_items_is c.self.inside.bytes c.put_over.new.buffer (c.put_over.auto.buffer ∙ c.as_mut_slice-block.ensures.len))
     ∙ c.put_over.auto.buffer ∙ ap length c.as_mut_slice-block.ensures.value ∙ c.self.invariant.0 in
-    let items : c.push_reserved.new.self.items ≡ c.self.inside.classes.items ++ c.new-class.result ∷ [] = search rules in
+    let items : c.push_reserved.new.self.items ≡ c.self.inside.classes.items ++ c.new-class.result ∷ [] =
+    c.push_reserved.ensures.items ∙ ap (λ (ks : List Class). ks ++ c.new-class.result ∷ []) c.in_ok-make_record_room.ensures.same in
     let off : c.new-class.result.taken ≡ false = ap (λ (k : Class). k.taken) c.new-class.ensures in
     let grounded : c.new-class.result.flying ≡ false = ap (λ (k : Class). k.flying) c.new-class.ensures in
     let one : c.new-class.result.members ≡ c.args.no ∷ [] = ap (λ (k : Class). k.members) c.new-class.ensures in
     let first : c.is_empty-is_only.result ≡ (length c.self.inside.classes.items == 0) = search rules in
     let buffer : c.as_mut_slice-block.result.now ≡ c.self.inside.bytes.items = c.as_mut_slice-block.ensures.value in
-    let fits : c.args.start + length c.args.bytes.now ≤ length c.self.inside.bytes.items = omega (arith, c.requires.fits, c.self.invariant.0) in
+    let fits = subst (λ (n : ℕ). c.args.start + length c.args.bytes.now ≤ n) (sym c.self.invariant.0) c.requires.fits in
     let laid : (with_items c.self.inside.bytes c.put_over.new.buffer).items ≡ laid_over c.args.start c.args.bytes.now c.self.inside.bytes.items =
     with_items_is c.self.inside.bytes c.put_over.new.buffer (c.put_over.auto.buffer ∙ c.as_mut_slice-block.ensures.len) ∙ c.put_over.ensures.laid
     ∙ ap (laid_over c.args.start c.args.bytes.now) buffer in
@@ -31,7 +33,7 @@ invariant_of-self-2 g c =
     ap (λ (k : Class). k.saved) c.new-class.ensures
     ∙ with_items_is c.in_ok-saved.saved c.put_over.new.saved (c.put_over.auto.saved ∙ c.as_mut_slice.ensures.len) ∙ c.put_over.ensures.kept
     ∙ ap (λ (z : List ℕ). if hard then [] else slice_range z c.args.start (c.args.start + length c.args.bytes.now)) buffer in
-    let soft : is_takeable c.new-class.result ≡ not hard = ap is_takeable c.new-class.ensures ∙ search rules in
+    let soft = takeable-soft c.new-class.result hard grounded off (ap (λ (k : Class). k.hard) c.new-class.ensures) in
     let w = c.with-self-inside.ensures in (
       bytes,
       rw items (pushed_within (λ (k : Class). k.taken) refl c.self.inside.classes.items c.new-class.result c.self.inside.taken off c.self.invariant.1),
@@ -106,3 +108,55 @@ returns-clause-done g c =
     ∙ ap (λ (ks : List Class). let b : Block = record { bytes = laid_over start bytes before; classes = ks } in b) (items ∙ ap (λ (k : Class). classes ++ k ∷ []) c.new-class.ensures)
     ∙ ap with_class saves
     ∙ ap (λ (b : Block). with_laid b c.args.no start bytes c.args.all.items hard) c.self.view_is
+
+pub returns-in_err-make_record_room-clause-done : goal.returns-in_err-make_record_room-clause-done
+returns-in_err-make_record_room-clause-done g c = refused-done _ _ c.from_residual.ensures.0
+
+pub returns-in_err-make_record_room-clause-refused : goal.returns-in_err-make_record_room-clause-refused
+returns-in_err-make_record_room-clause-refused g c =
+    refused-still _ _ (same-block c.self.inside.bytes.items c.self.inside.classes.items c.make_record_room.new.classes.items c.args.self.now c.in_err-make_record_room.ensures.same c.self.view_is)
+
+pub returns-in_err-make_record_room-clause-entered : goal.returns-in_err-make_record_room-clause-entered
+returns-in_err-make_record_room-clause-entered g c = MatchResult-from_err _ _ _ c.from_residual.ensures.0 (λ _. inl refl)
+
+pub invariant_of-self-in_err-clone : goal.invariant_of-self-in_err-clone
+invariant_of-self-in_err-clone g c = let same = c.in_ok-make_record_room.ensures.same in rw same c.self.invariant
+
+pub returns-in_err-clone-clause-done : goal.returns-in_err-clone-clause-done
+returns-in_err-clone-clause-done g c = refused-done _ _ c.from_residual-in_err-clone.ensures.0
+
+pub returns-in_err-clone-clause-refused : goal.returns-in_err-clone-clause-refused
+returns-in_err-clone-clause-refused g c =
+    refused-still _ _ (same-block c.self.inside.bytes.items c.self.inside.classes.items c.make_record_room.new.classes.items c.args.self.now c.in_ok-make_record_room.ensures.same c.self.view_is)
+
+pub returns-in_err-clone-clause-entered : goal.returns-in_err-clone-clause-entered
+returns-in_err-clone-clause-entered g c = MatchResult-from_err _ _ _ c.from_residual-in_err-clone.ensures.0 (λ _. inl refl)
+
+pub invariant_of-self-in_err-saved : goal.invariant_of-self-in_err-saved
+invariant_of-self-in_err-saved g c = let same = c.in_ok-make_record_room.ensures.same in rw same c.self.invariant
+
+pub returns-in_err-saved-clause-done : goal.returns-in_err-saved-clause-done
+returns-in_err-saved-clause-done g c = refused-done _ _ c.from_residual-in_err-saved.ensures.0
+
+pub returns-in_err-saved-clause-refused : goal.returns-in_err-saved-clause-refused
+returns-in_err-saved-clause-refused g c =
+    refused-still _ _ (same-block c.self.inside.bytes.items c.self.inside.classes.items c.make_record_room.new.classes.items c.args.self.now c.in_ok-make_record_room.ensures.same c.self.view_is)
+
+pub returns-in_err-saved-clause-entered : goal.returns-in_err-saved-clause-entered
+returns-in_err-saved-clause-entered g c = MatchResult-from_err _ _ _ c.from_residual-in_err-saved.ensures.0 (λ _. inl refl)
+
+pub invariant_of-self-in_err-enter : goal.invariant_of-self-in_err-enter
+invariant_of-self-in_err-enter g c = let same = c.in_ok-make_record_room.ensures.same in rw same c.self.invariant
+
+pub returns-in_err-enter-clause-done : goal.returns-in_err-enter-clause-done
+returns-in_err-enter-clause-done g c = refused-done _ _ c.from_residual-in_err-enter.ensures.0
+
+pub returns-in_err-enter-clause-refused : goal.returns-in_err-enter-clause-refused
+returns-in_err-enter-clause-refused g c =
+    refused-still _ _ (same-block c.self.inside.bytes.items c.self.inside.classes.items c.make_record_room.new.classes.items c.args.self.now c.in_ok-make_record_room.ensures.same c.self.view_is)
+
+pub overflow_add-stop : goal.overflow_add-stop
+overflow_add-stop g c = fits-word c.args.start (length c.args.bytes.now) c.requires.fits
+
+pub new-class-requires-clause-after : goal.new-class-requires-clause-after
+new-class-requires-clause-after g c = c.requires.rising
