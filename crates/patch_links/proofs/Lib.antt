@@ -1,3 +1,4 @@
+pub mod Outcomes
 pub mod Counts
 pub mod Places
 pub mod Waits
@@ -23,3 +24,5 @@ pub mod Pairs
 pub mod Following
 pub mod Leads
 pub mod Openings
+pub mod Gathering
+pub mod Tallies

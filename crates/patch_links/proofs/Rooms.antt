@@ -21,6 +21,12 @@ use Rattle.patch_links.proofs.Listings.{listed-alike}
 pub roomier-same : (nodes : Nodes) → IsRoomier nodes nodes
 roomier-same nodes = record { slots = refl; same = λ k. refl; grows = λ k x y at at2. let e = ap (λ z. z.room) (same_some x y (sym at ∙ at2)) in omega arith }
 
+-- room that was made stays room where nothing changes
+pub room-alike : (numbers later : Numbers) (after same : List ℕ) (old new : Nodes) → later ≡ numbers → after ≡ same → new ≡ old → HasRoomForAll numbers (length after) after old → HasRoomForAll later (length same) same new
+room-alike numbers later after same old new p q r room =
+    subst (λ (ns : Nodes). HasRoomForAll later (length same) same ns) (sym r)
+    (subst (λ (found : Numbers). HasRoomForAll found (length same) same old) (sym p) (subst (λ (xs : List ℕ). HasRoomForAll numbers (length xs) xs old) q room))
+
 pub roomier-set : (nodes : Nodes) (key : ℕ) (x y : Node) → node_at nodes key ≡ Some x → y ≡ record x { room = y.room } → x.room ≤ y.room → IsRoomier nodes (slice_set nodes key (Some y))
 roomier-set nodes key x y at same grows =
     let low = below-nodes nodes key x at in

@@ -1,7 +1,6 @@
-use Rattle.std.proofs.Common.{ap, sym, subst}
-use Rattle.patch_links.specs.Lists.{IsListed, nothing}
+use Rattle.std.proofs.Common.{ap}
 use Rattle.patch_links.proofs.Newcomers.{listed-newcomer}
-use Rattle.patch_links.proofs.Openings.{changes-in, list-at, open-noted}
+use Rattle.patch_links.proofs.Openings.{changes-in, open-noted}
 use Rattle.patch_links.proofs.adding.enlist.Goals as goal
 
 pub invariant_of-blocks : goal.invariant_of-blocks
