@@ -1,5 +1,6 @@
 -- Places in lists of numbers.
 use Rattle.std.proofs.Common.{◌≡◌, ℕ, zero, suc, ◌<◌, ◌∙◌, List, [], ◌∷◌, length, refl, arith}
+use Rattle.std.proofs.lemmas.Bool.{false≢true}
 use Rattle.std.specs.Prelude.{slice_index_or, IfOk, OnOk, OnErr, Ok, Err}
 use Rattle.std.specs.Result.{IsErr}
 use Rattle.std.proofs.Common.{Result}
@@ -43,3 +44,12 @@ ok-on (Err e) P Q h f = tt
 pub ok-if : {X E : Type 0} → (r : Result X E) (P : X → Type 0) → IsErr r → IfOk r P
 ok-if (Ok x) P failed = absurd (cc)
 ok-if (Err e) P failed = tt
+
+pub done-if : {X E : Type 0} → (r : Result X E) (P : Type 0) → IsErr r → OnOk r P
+done-if (Ok x) P failed = absurd (false≢true failed)
+done-if (Err e) P failed = tt
+
+-- what holds in any case holds of what failed
+pub err-still : {X E : Type 0} → (r : Result X E) (P : Type 0) → P → OnErr r P
+err-still (Ok x) P h = tt
+err-still (Err e) P h = h

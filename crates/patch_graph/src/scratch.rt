@@ -67,8 +67,7 @@ impl<A: Allocator> Scratch<A> {
         lengthen_queue(&mut self.queue, count)?;
         lengthen_queue(&mut self.found, count)?;
         lengthen(&mut self.met, count)?;
-        lengthen(&mut self.marks, count)?;
-        Ok(())
+        lengthen(&mut self.marks, count)
     }
 }
 
@@ -80,9 +79,10 @@ fn lengthen<A: Allocator>(marks: &mut Vec<bool, A>, count: usize) -> Result<(), 
     ensures clear { AreClear marks.old.items → AreClear marks.new.items }
 {
     if marks.len() < count {
-        marks.resize(count, false)?;
+        marks.resize(count, false)
+    } else {
+        Ok(())
     }
-    Ok(())
 }
 
 /// Makes a queue this long, if it is shorter.
@@ -91,7 +91,8 @@ fn lengthen_queue<A: Allocator>(queue: &mut Vec<usize, A>, count: usize) -> Resu
     ensures kept { length queue.old.items ≤ length queue.new.items }
 {
     if queue.len() < count {
-        queue.resize(count, 0)?;
+        queue.resize(count, 0)
+    } else {
+        Ok(())
     }
-    Ok(())
 }

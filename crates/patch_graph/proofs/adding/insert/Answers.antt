@@ -1,10 +1,11 @@
-use Rattle.std.proofs.Common.{◌≡◌, ◌+◌, ◌<◌, ◌≤◌, ℕ, Some, Ok, Err, Result, OnErr, subst, sym, ap, refl, ◌∙◌, arith}
+use Rattle.std.proofs.Common.{◌≡◌, ◌+◌, ◌<◌, ◌≤◌, ℕ, Some, subst, sym, ap, refl, ◌∙◌, arith}
 use Rattle.patch_links.specs.State.{Class, Links, class_at}
 use Rattle.patch_links.specs.Adding.{IsNew}
 use Rattle.patch_graph.specs.State.{Graph, KeysFit}
 use Rattle.patch_graph.specs.Skyline.{Skylines, trimmed}
 use Rattle.patch_graph.specs.Adding.{IsAdded}
 use Rattle.patch_graph.proofs.Entered.{put-in, added-fit}
+use Rattle.patch_graph.proofs.Places.{ok-if, err-still}
 use Rattle.patch_graph.proofs.adding.insert.Goals as goal
 
 new_for : (low made : ℕ) (class : Class) → low ≤ made → IsNew made class → IsNew low class
@@ -20,10 +21,6 @@ in_wider key room wider within more = omega arith
 
 at_most : (a b : ℕ) → a ≡ b → a ≤ b
 at_most a b is = omega arith
-
-on_err : {X E : Type 0} (r : Result X E) (P : Type 0) → P → OnErr r P
-on_err (Ok x) P p = tt
-on_err (Err e) P p = p
 
 pub lay-requires-clause-some : goal.lay-requires-clause-some
 lay-requires-clause-some g c = subst (λ (k : Class). k.start < k.stop) (sym c.class.view_is) c.requires.some
@@ -45,12 +42,12 @@ pub returns-in_err-reserve-clause-fit : goal.returns-in_err-reserve-clause-fit
 returns-in_err-reserve-clause-fit g c fit key d at = in_wider key _ _ (fit key d at) c.reserve.ensures.kept
 
 pub returns-in_err-reserve-clause-refused : goal.returns-in_err-reserve-clause-refused
-returns-in_err-reserve-clause-refused g c = on_err _ _ refl
+returns-in_err-reserve-clause-refused g c = err-still _ _ refl
 
 pub returns-in_err-key-clause-refused : goal.returns-in_err-key-clause-refused
 returns-in_err-key-clause-refused g c =
     let made : ℕ = c.register.inside.made in
-    on_err _ _ (ap (λ (l : Links). let v : Graph = record { made = made; slots = l.slots; numbers = l.numbers; tops = trimmed c.lay.new.skylines.items } in v) c.in_err-key.ensures.refused_class
+    err-still _ _ (ap (λ (l : Links). let v : Graph = record { made = made; slots = l.slots; numbers = l.numbers; tops = trimmed c.lay.new.skylines.items } in v) c.in_err-key.ensures.refused_class
     ∙ ap (λ (tops : Skylines). let v : Graph = record { made = made; slots = c.register.inside.links.slots; numbers = c.register.inside.links.numbers; tops = tops } in v) c.in_err-key.ensures.refused
     ∙ c.register.view_is)
 
@@ -74,3 +71,9 @@ returns-clause-fit g c fit =
     let enough = c.in_ok-reserve.ensures.enough in
     added-fit c.register.inside.links c.lay.new.links _ _ c.args.scratch.now c.reserve.new.self c.in_ok-key.ensures.added
     (subst (λ (v : Graph). KeysFit v.slots c.args.scratch.now) (sym c.register.view_is) fit) c.reserve.ensures.kept (omega arith)
+
+pub returns-in_err-reserve-clause-inserted : goal.returns-in_err-reserve-clause-inserted
+returns-in_err-reserve-clause-inserted g c = ok-if _ _ c.from_residual.ensures.0
+
+pub returns-in_err-key-clause-inserted : goal.returns-in_err-key-clause-inserted
+returns-in_err-key-clause-inserted g c = ok-if _ _ c.from_residual-in_err-key.ensures.0

@@ -7,11 +7,8 @@ use Rattle.patch_graph.specs.Between.{TellsBetweenKeys}
 use Rattle.patch_graph.specs.declared.searching.Way.TheVariants.{Up, Down}
 use Rattle.patch_graph.proofs.Searches.{course_held, tail-within}
 use Rattle.patch_graph.proofs.Reaching.{beyond}
-use Rattle.patch_graph.proofs.Rooms.{long_as, taken}
+use Rattle.patch_graph.proofs.Rooms.{long_as, taken, upto_both}
 use Rattle.patch_graph.proofs.queries.least_between.Goals as goal
-
-upto_both : (a b c : ℕ) → a ≤ b → b ≤ c → a ≤ c
-upto_both a b c first second = omega arith
 
 fit_within : (slots : Slots) (room wider : ℕ) → room ≤ wider → KeysFit slots room → KeysFit slots wider
 fit_within slots room wider more fit key class at = let low = fit key class at in omega arith

@@ -5,6 +5,7 @@ use Rattle.patch_model.specs.declared.limits.TheConstants.{MAX_PATCHES}
 use Rattle.patch_graph.specs.State.{Graph}
 use Rattle.patch_graph.specs.Adding.{IsAdded}
 use Rattle.patch_graph.proofs.OneMore.{puts-in}
+use Rattle.patch_graph.proofs.Places.{done-if, err-still}
 use Rattle.patch_graph.proofs.graphs.Graph.put_in.Goals as goal
 
 pub returns-clause-answer : goal.returns-clause-answer
@@ -31,3 +32,15 @@ returns-clause-made g c = c.in_ok-insert.ensures.inserted.made ∙ ap (λ (x : G
 
 pub invariant_of-self : goal.invariant_of-self
 invariant_of-self g c = c.insert.ensures.fit c.self.invariant
+
+pub returns-in_err-insert-clause-answer : goal.returns-in_err-insert-clause-answer
+returns-in_err-insert-clause-answer g c = done-if _ _ c.from_residual.ensures.0
+
+pub returns-in_err-insert-clause-made : goal.returns-in_err-insert-clause-made
+returns-in_err-insert-clause-made g c = done-if _ _ c.from_residual.ensures.0
+
+pub returns-in_err-insert-clause-refused : goal.returns-in_err-insert-clause-refused
+returns-in_err-insert-clause-refused g c = err-still _ _ (c.in_err-insert.ensures.refused ∙ c.self.view_is)
+
+pub invariant_of-self-2 : goal.invariant_of-self-2
+invariant_of-self-2 g c = c.insert.ensures.fit c.self.invariant
