@@ -1,6 +1,7 @@
 -- What is left of writers that were served, and faults with a device.
 use Rattle.std.proofs.Common.{◌≡◌, ◌≤◌, ◌∙◌, ℕ, inl, inr, refl, sym, ap, subst, length, arith}
-use Rattle.std.specs.Prelude.{List, Option, None, Result, Ok, Err, IfOk, IfErr, Vec, vec_len, sum_by}
+use Rattle.std.specs.Prelude.{List, Option, Some, None, IfSome, Result, Ok, Err, IfOk, IfErr, Vec, vec_len, sum_by}
+use Rattle.std.specs.Result.{result_ok}
 use Rattle.std.specs.declared.alloc.Global.{Global}
 use Rattle.patch_device.specs.declared.devices.Device.{Ghosts}
 use Rattle.patch_device.specs.SameDevice.{IsSameDevice, same_both}
@@ -24,6 +25,11 @@ also P Q (Err e) f h = tt
 also_err : {T E : Type 0} → (P Q : E → Type 0) (r : Result T E) → ((x : E) → P x → Q x) → IfErr r P → IfErr r Q
 also_err P Q (Ok x) f h = tt
 also_err P Q (Err e) f h = f e h
+
+-- and what holds of what is done, told of that
+pub done_is : {T E : Type 0} (r : Result T E) (P : T → Type 0) (x : T) → Some x ≡ result_ok r → IfOk r P → P x
+done_is (Ok y) P x is h = subst (λ o. IfSome o P) (sym is) h
+done_is (Err e) P x is h = subst (λ o. IfSome o P) (sym is) tt
 
 -- Faults.
 
@@ -56,6 +62,11 @@ pub fault_without : {D : Type 0} (g : Ghosts D) (first : D) (why : Cause) (fault
     → fault.cause ≡ why → fault.device ≡ None → IsGivenBack g first fault.cause fault.device
 fault_without g first why fault other is none =
     subst (λ w. IsGivenBack g first w fault.device) (sym is) (subst (IsGivenBack g first why) (sym none) (none_back g first why other))
+
+-- with want of memory none does
+pub fault_of_memory : {D : Type 0} (g : Ghosts D) (first : D) (fault : ServeFault D) → fault.cause ≡ cause.OutOfMemory → fault.device ≡ None
+    → IsGivenBack g first fault.cause fault.device
+fault_of_memory g first fault is none = subst (λ w. IsGivenBack g first w fault.device) (sym is) none
 
 -- What is left.
 
