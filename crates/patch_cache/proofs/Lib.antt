@@ -27,3 +27,4 @@ pub mod Counting
 pub mod Waving
 pub mod GivenUp
 pub mod Passing
+pub mod Unmade

@@ -2,6 +2,7 @@
 ghost use Rattle.std.specs.Prelude.{◌≡◌, ◌+◌, ◌<◌, ◌≤◌, ◌++◌, ◌∷◌, [], Some, None, length, nat_le, option_map, IfOk, IfErr, IsNone, OnOk, OnErr};
 ghost use Rattle.std.specs.List.{list_any};
 ghost use Rattle.patch_model.specs.Execution.{Execution};
+ghost use Rattle.patch_model.specs.Names.{numbers_named};
 ghost use Rattle.patch_model.specs.Step.{Create};
 ghost use Rattle.patch_graph.specs.Adding.{MayBePutIn, PutsIn};
 ghost use Rattle.patch_cache.specs.Creating.{why_not_created, MayBeMade, IsMade, MayLay, IsLaid};
@@ -12,8 +13,8 @@ use crate::caches::Cache;
 use crate::refusals::CreateRefusal;
 use patch_graph::Graph;
 use patch_model::{
-    BLOCK, BlockNo, Bytes, Items, MAX_LIVE, MAX_PATCHES, Numbers, OutOfMemory, PatchNo, Step, Undo,
-    laws as model_laws,
+    BLOCK, BlockNo, Bytes, Items, MAX_LIVE, MAX_PATCHES, Named, Names, OutOfMemory, PatchNo, Run,
+    Step, Undo, laws as model_laws,
 };
 use patch_view::{BlockState, laws as view_laws};
 use std::alloc::Allocator;
@@ -38,12 +39,12 @@ impl<A: Allocator + Copy> Cache<A> {
         ensures trace { OnOk result (self.new.trace ≡ self.old.trace ++ Create block start bytes.now after.now undo ∷ []) }
         ensures refused { OnErr result (self.new ≡ self.old) }
     {
-        match self.why_not_made(block, start, bytes, after) {
+        match self.why_not_made(block, start, bytes, Named::Listed(after)) {
             Some(refusal) => Err(refusal),
             None => {
                 let bytes = copied(self.alloc, bytes)?;
                 let after = copied(self.alloc, after)?;
-                self.create_owned(block, start, bytes, after, undo)
+                self.create_owned(block, start, bytes, Names::listed(after), undo)
             }
         }
     }
@@ -55,7 +56,7 @@ impl<A: Allocator + Copy> Cache<A> {
         block: BlockNo,
         start: usize,
         bytes: Bytes<A>,
-        after: Numbers<A>,
+        after: Names<A>,
         undo: Undo,
     ) -> Result<PatchNo, CreateRefusal>
         ensures made { (run : Execution) → Represents self.old run → IfOk result (λ no.
@@ -65,7 +66,7 @@ impl<A: Allocator + Copy> Cache<A> {
         ensures trace { OnOk result (self.new.trace ≡ self.old.trace ++ Create block start bytes after undo ∷ []) }
         ensures refused { OnErr result (self.new ≡ self.old) }
     {
-        match self.why_not_made(block, start, bytes.as_slice(), after.as_slice()) {
+        match self.why_not_made(block, start, bytes.as_slice(), after.lend()) {
             Some(refusal) => Err(refusal),
             None => Ok(self.make(block, start, bytes, after, undo)?),
         }
@@ -77,10 +78,10 @@ impl<A: Allocator + Copy> Cache<A> {
         block: BlockNo,
         start: usize,
         bytes: &[u8],
-        after: &[PatchNo],
+        after: Named<'_>,
     ) -> Option<CreateRefusal>
         ensures cause { (run : Execution) → Represents self.now run
-            → option_map create_cause result ≡ why_not_created run block start bytes.now after.now }
+            → option_map create_cause result ≡ why_not_created run block start bytes.now (numbers_named after.entry) }
         ensures known { IsNone result → block < length self.now.blocks }
         ensures some { IsNone result → 0 < length bytes.now }
         ensures fits { IsNone result → start + length bytes.now ≤ BLOCK }
@@ -111,7 +112,7 @@ impl<A: Allocator + Copy> Cache<A> {
         block: BlockNo,
         start: usize,
         bytes: Bytes<A>,
-        after: Numbers<A>,
+        after: Names<A>,
         undo: Undo,
     ) -> Result<PatchNo, OutOfMemory>
         requires known { block < length self.old.blocks }
@@ -138,7 +139,7 @@ impl<A: Allocator + Copy> Cache<A> {
             block,
             start,
             bytes.as_slice(),
-            after.as_slice(),
+            after.lend(),
             undo,
         )?;
         self.live += 1;
@@ -161,14 +162,14 @@ fn lay_on<A: Allocator + Copy>(
     block: BlockNo,
     start: usize,
     bytes: &[u8],
-    after: &[PatchNo],
+    after: Named<'_>,
     undo: Undo,
 ) -> Result<PatchNo, OutOfMemory>
     requires some { 0 < length bytes.now }
     requires fits { start + length bytes.now ≤ BLOCK }
     requires numbers_left { graph.old.made < MAX_PATCHES }
-    ensures laid { (run : Execution) → MayLay run block start bytes.now after.now state.old graph.old
-        → IfOk result (λ no. IsLaid run block start bytes.now after.now undo no state.new graph.new) }
+    ensures laid { (run : Execution) → MayLay run block start bytes.now (numbers_named after.entry) state.old graph.old
+        → IfOk result (λ no. IsLaid run block start bytes.now (numbers_named after.entry) undo no state.new graph.new) }
     ensures refused { OnErr result ((state.new ≡ state.old) × (graph.new ≡ graph.old)) }
 {
     model_laws::steps_extend();
@@ -190,10 +191,20 @@ fn lay_on<A: Allocator + Copy>(
 }
 
 /// Whether one of the numbers isn't that of a patch, where so many were made.
-fn names_unmade(made: u32, numbers: &[PatchNo]) -> bool
-    ensures { result ≡ list_any (λ n. nat_le made n) numbers.now }
+fn names_unmade(made: u32, numbers: Named<'_>) -> bool
+    ensures { result ≡ list_any (λ n. nat_le made n) (numbers_named numbers.entry) }
 {
-    numbers.iter().any(|no| no.0 >= made)
+    match numbers {
+        Named::Listed(numbers) => numbers.iter().any(|no| no.0 >= made),
+        Named::InRuns(runs) => end_unmade(made, runs),
+    }
+}
+
+/// Whether one of the runs ends with such a number: then it has one, and else it has none.
+fn end_unmade(made: u32, runs: &[Run]) -> bool
+    ensures { result ≡ list_any (λ run. nat_le made run.last) runs.now }
+{
+    runs.iter().any(|run| run.last >= made)
 }
 
 /// The same items again.

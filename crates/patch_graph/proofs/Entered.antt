@@ -4,7 +4,10 @@ use Rattle.std.specs.Prelude.{◌&&◌, nat_lt}
 use Rattle.std.specs.List.{filter, list_all}
 use Rattle.std.proofs.lemmas.Bool.{both_ways, cases_Bool, cases_eq, lt-ltb, ltb-true}
 use Rattle.patch_model.specs.declared.patches.Undo.{Undo}
-use Rattle.patch_links.specs.State.{Class, Links, find}
+use Rattle.patch_links.specs.State.{Class, Links, IsInReach, find}
+use Rattle.patch_links.specs.declared.nodes.Reach.{Reach}
+use Rattle.patch_graph.specs.Naming.{IsNamedBelow, HasTaken}
+use Rattle.patch_graph.proofs.Naming.{covered-more}
 use Rattle.patch_links.specs.Adding.{IsAdded as IsLinked}
 use Rattle.patch_graph.specs.State.{Graph, KeysFit}
 use Rattle.patch_model.specs.Member.{In, In-map, map-In, In-filter, filter-In}
@@ -22,30 +25,32 @@ all-stay p (x ∷ xs) all = elim (cases_Bool (p x)) [
   | inr off ↦ absurd (both_ways _ (ap (λ b. b && list_all p xs) off) all)
 ]
 
--- the numbers that are named, and then those of the spans, where they are below that of the patch
-pub depends-on : (made : ℕ) (ss those : List Span) (start stop : ℕ) (after all : List ℕ) → AreTops ss start stop those
-    → all ≡ filter (λ n. nat_lt n made) after ++ filter (λ n. nat_lt n made) (map (λ s. s.no) those) → AreDependencies made ss start stop after all
-depends-on made ss those start stop after all tops is =
-    let low : ℕ → Bool = λ n. nat_lt n made in
+-- enough of the numbers that are named, and then those of the spans, where they are below that of the patch
+pub depends-on : (g : Graph) (block start stop : ℕ) (those : List Span) (after named all : List ℕ) → AreTops (spans_of g.tops block) start stop those
+    → HasTaken g.slots g.numbers (IsNamedBelow g.made after) [] named → all ≡ named ++ filter (λ n. nat_lt n g.made) (map (λ s. s.no) those) → AreDependencies g block start stop after all
+depends-on g block start stop those after named all tops taken is =
+    let low : ℕ → Bool = λ n. nat_lt n g.made in
     let tails = map (λ s. s.no) those in
+    let more : (n : ℕ) → In named n → In all n = λ n i. subst (λ l. In l n) (sym is) (In-left named (filter low tails) n i) in
     record {
-      are_made = λ n i. elim (In-parts (filter low after) (filter low tails) n (subst (λ l. In l n) is i)) [
-        | inl j ↦ ltb-true n made (filter-In low after n j).1
-        | inr j ↦ ltb-true n made (filter-In low tails n j).1
+      are_made = λ n i. elim (In-parts named (filter low tails) n (subst (λ l. In l n) is i)) [
+        | inl j ↦ elim (taken.only n j) [ inl none ↦ absurd none | inr k ↦ k.1 ]
+        | inr j ↦ ltb-true n g.made (filter-In low tails n j).1
       ];
-      named = λ n i h. subst (λ l. In l n) (sym is) (In-left (filter low after) (filter low tails) n (In-filter low after n i (lt-ltb n made h)));
+      named = λ n k. covered-more g.slots g.numbers named all n more (taken.all n k);
       last = λ n w h. let s = tops.each n w in
-          subst (λ l. In l n) (sym is) (In-right (filter low after) (filter low tails) n
-          (In-filter low tails n (subst (λ m. In tails m) s.2 (In-map (λ s. s.no) those s.0 s.1)) (lt-ltb n made h)));
-      only = λ n i. elim (In-parts (filter low after) (filter low tails) n (subst (λ l. In l n) is i)) [
-        | inl j ↦ inl (filter-In low after n j).0
-        | inr j ↦ let s = map-In (λ s. s.no) those n (filter-In low tails n j).0 in inr (subst (λ m. IsTopWithin ss start stop m) s.2 (tops.only s.0 s.1))
+          subst (λ l. In l n) (sym is) (In-right named (filter low tails) n
+          (In-filter low tails n (subst (λ m. In tails m) s.2 (In-map (λ s. s.no) those s.0 s.1)) (lt-ltb n g.made h)));
+      only = λ n i. elim (In-parts named (filter low tails) n (subst (λ l. In l n) is i)) [
+        | inl j ↦ elim (taken.only n j) [ inl none ↦ absurd none | inr k ↦ inl k.0 ]
+        | inr j ↦ let s = map-In (λ s. s.no) those n (filter-In low tails n j).0 in inr (subst (λ m. IsTopWithin (spans_of g.tops block) start stop m) s.2 (tops.only s.0 s.1))
       ];
     }
 
-pub drawn-up : (g : Graph) (block start stop : ℕ) (after deps : List ℕ) (undo : Undo) (hard : Bool) (c : Class) → AreDependencies g.made (spans_of g.tops block) start stop after deps
-    → hard ≡ is_hard g.slots g.numbers block undo deps → c ≡ new_class g.made block start stop deps hard → IsDrawnUp g block start stop undo after c
-drawn-up g block start stop after deps undo hard c are hard_is is = record { deps = deps; are = are; is = is ∙ ap (new_class g.made block start stop deps) hard_is }
+pub drawn-up : (g : Graph) (block start stop : ℕ) (after deps : List ℕ) (reach : Reach) (undo : Undo) (hard : Bool) (c : Class) → AreDependencies g block start stop after deps
+    → ((n : ℕ) → IsInReach reach n → IsNamedBelow g.made after n) → hard ≡ is_hard g.slots g.numbers block undo deps → c ≡ new_class g.made block start stop deps reach hard
+    → IsDrawnUp g block start stop undo after c
+drawn-up g block start stop after deps reach undo hard c are reached hard_is is = record { deps = deps; reach = reach; are = are; reached = reached; is = is ∙ ap (new_class g.made block start stop deps reach) hard_is }
 
 -- what is drawn up may be put in
 pub may-be-put-in : (g : Graph) (block start stop : ℕ) (after : List ℕ) (undo : Undo) (c : Class) → start < stop → IsDrawnUp g block start stop undo after c → MayBePutIn g c

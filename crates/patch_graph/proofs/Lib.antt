@@ -24,3 +24,5 @@ pub mod Laying
 pub mod Opened
 pub mod Rooms
 pub mod Gathering
+pub mod Hardness
+pub mod Naming

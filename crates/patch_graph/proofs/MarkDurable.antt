@@ -220,6 +220,10 @@ module _ (made : ℕ) (tops : Skylines) (block : ℕ) (old new : Slots) (numbers
             let way = w.complete x y0.0 j (own x ix s).0 y0.1 s (λ e. other (ap (λ z. z.class) (sym y0.2) ∙ class-landed block y0.0 ∙ e))
             (ap (λ p. depends_directly x.patch p) (sym py) ∙ depends) (ap (λ p. find numbers p.no) (sym py) ∙ was.1) in
             (chain-stays key j c was.0 way at was.2 was.3).1;
+        within = λ n i. let b = w.within n i in let m = length-map f all in omega arith;
+        reaches = λ n j i there.
+            let was = find-was n j there in
+            elim (w.reaches n j i was.1) [ inl e ↦ inl e | inr way ↦ inr (chain-stays key j c was.0 way at was.2 was.3).1 ];
       }
 
   -- a patch that is live now was live, and of a class that stays

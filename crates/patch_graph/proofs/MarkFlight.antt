@@ -14,7 +14,7 @@ use Rattle.patch_model.specs.Orderly.{IsOrderly}
 use Rattle.patch_model.specs.Member.{In, In-filter, filter-In}
 use Rattle.patch_model.specs.Entries.{has-In, In-has}
 use Rattle.patch_graph.proofs.Steps.{patch-sent, In-map, map-In, length-map, numbered-map}
-use Rattle.patch_links.specs.State.{Class, Slots, Numbers, find, class_at, leads}
+use Rattle.patch_links.specs.State.{Class, Slots, Numbers, IsInReach, find, class_at, leads}
 use Rattle.patch_graph.specs.State.{Graph, spans, KeysFit}
 use Rattle.patch_graph.proofs.Facts.{known}
 use Rattle.patch_graph.specs.Skyline.{Skylines, spans_of}
@@ -129,6 +129,9 @@ module _ (made : ℕ) (tops : Skylines) (old new : Slots) (numbers : Numbers) (a
   turned-after : (key : ℕ) (c : Class) (n : ℕ) → is_among (turned key c).after n ≡ true → is_among c.after n ≡ true
   turned-after key c n t = subst (λ z. is_among z n ≡ true) (after-turned key c) t
 
+  turned-reach : (key : ℕ) (c : Class) (n : ℕ) → IsInReach (turned key c).reach n → IsInReach c.reach n
+  turned-reach key c n i = elim (cases_Bool (taken key)) [ inl u ↦ rw u at i | inr u ↦ rw u at i ]
+
   span-turned : (key : ℕ) (c : Class) (x : ℕ) → spans (turned key c) x ≡ spans c x
   span-turned key c x = elim (cases_Bool (taken key)) [ inl u ↦ rw u refl | inr u ↦ rw u refl ]
 
@@ -180,6 +183,8 @@ module _ (made : ℕ) (tops : Skylines) (old new : Slots) (numbers : Numbers) (a
             Leads-now key j (w.complete x0.0 y0.0 j x0.1 y0.1 (own x x0.0 x0.2 s) (λ e. other (cy ∙ e ∙ sym name))
             (ap (λ p. depends_directly p y0.0.patch) (sym px) ∙ ap (λ p. depends_directly x.patch p) (sym py) ∙ depends)
             (ap (λ p. find numbers p.no) (sym py) ∙ there));
+        within = λ n i. let b = w.within n (turned-reach key c n i) in let m = length-map f all in omega arith;
+        reaches = λ n j i there. elim (w.reaches n j (turned-reach key c n i) there) [ inl e ↦ inl e | inr way ↦ inr (Leads-now key j way) ];
       }
 
   represents : IsOrderly (map f all) → Represents (record { made = made; slots = new; numbers = numbers; tops = tops }) (map f all)

@@ -9,7 +9,7 @@ use Rattle.patch_model.specs.Dependency.{depends_directly}
 use Rattle.patch_model.specs.Pile.{covers, end}
 use Rattle.patch_model.specs.Orderly.{IsOrderly}
 use Rattle.patch_model.specs.Member.{In, list_any-at, list_any-from}
-use Rattle.patch_links.specs.State.{Class, Slots, Numbers, find, class_at, leads, leads_at}
+use Rattle.patch_links.specs.State.{Class, Slots, Numbers, IsInReach, find, class_at, leads, leads_at}
 use Rattle.patch_graph.specs.State.{Graph, spans}
 use Rattle.patch_graph.specs.Skyline.{Skylines, spans_of}
 use Rattle.patch_skyline.specs.Skyline.{top_at}
@@ -244,6 +244,15 @@ module _ (made : ℕ) (tops : Skylines) (keep gone : ℕ) (c d : Class) (old new
       (ap (λ p. find numbers p.no) (sym h0.3) ∙ was.2) in
       subst (λ q. Leads new rest (key_now k) q) was.4 (Leads-now k was.0 way)
 
+  -- what a class reaches it reaches still
+  reaches-now : (k : ℕ) (z : Class) (n j : ℕ) → class_at old k ≡ Some z → IsInReach z.reach n → find rest n ≡ Some j → (j ≡ key_now k) ⊎ Leads new rest (key_now k) j
+  reaches-now k z n j at i there =
+      let was = find-was n j there in
+      elim ((r.classes k z at).reaches n was.0 i was.2) [
+        | inl e ↦ inl (sym was.4 ∙ ap key_now e)
+        | inr way ↦ inr (subst (λ q. Leads new rest (key_now k) q) was.4 (Leads-now k was.0 way))
+      ]
+
   -- a class that is neither of the two
   other-class : (k : ℕ) (z : Class) → class_at old k ≡ Some z → k ≢ keep → k ≢ gone → IsClassOf (map f all) new rest k z
   other-class k z at ok og =
@@ -280,6 +289,8 @@ module _ (made : ℕ) (tops : Skylines) (keep gone : ℕ) (c d : Class) (old new
         complete = λ e h j ie ih s other depends there.
             let b = own e ie s in
             subst (λ q. Leads new rest q j) (key-other k og) (complete-now k z b.0 e h j at b.1 b.4 b.3 ih (λ q. other (q ∙ same)) depends there);
+        within = λ n i. let b = w.within n i in let m = length-map f all in omega arith;
+        reaches = λ n j i there. subst (λ q. (j ≡ q) ⊎ Leads new rest q j) (key-other k og) (reaches-now k z n j at i there);
       }
 
   -- the two spans overlap or touch
@@ -418,6 +429,8 @@ module _ (made : ℕ) (tops : Skylines) (keep gone : ℕ) (c d : Class) (old new
         complete = λ e h j ie ih s other depends there.
             let b = of-both e ie s in let o = b.4 in
             subst (λ q. Leads new rest q j) o.2.2 (complete-now o.0 o.1 b.0 e h j o.2.0 b.1 o.3 b.3 ih (λ q. other (q ∙ named-both x y o.1.name o.2.1)) depends there);
+        within = λ n i. let b = w.within n i in let m = length-map f all in omega arith;
+        reaches = λ n j i there. subst (λ q. (j ≡ q) ⊎ Leads new rest q j) (key-other keep differ) (reaches-now keep c n j at_c i there);
       }
     where
       which : (k : ℕ) (z : Class) → IsOneOf k z → (p : ℕ) → spans z p ≡ true → (spans c p ≡ true) ⊎ (spans d p ≡ true)

@@ -14,7 +14,10 @@ use Rattle.patch_model.specs.Orderly.{IsOrderly, IsNumbered}
 use Rattle.patch_model.specs.Member.{In, In-from_Contains, Contains-from_In, list_all-at, list_all-from, list_any-at, list_any-from}
 use Rattle.patch_model.specs.declared.patches.Undo.{Undo}
 use Rattle.patch_model.specs.declared.patches.Undo.TheVariants.{Keep, MayDrop}
-use Rattle.patch_links.specs.State.{Class, find, class_at, leads, leads_at}
+use Rattle.patch_links.specs.State.{Class, no_reach, IsInReach, find, class_at, leads, leads_at}
+use Rattle.patch_links.specs.declared.nodes.Reach.{Reach}
+use Rattle.patch_graph.specs.Naming.{IsNamedBelow}
+use Rattle.patch_graph.proofs.Hardness.{IsHardOf, hard-through}
 use Rattle.patch_graph.specs.State.{Graph, spans}
 use Rattle.patch_graph.proofs.Facts.{IsOrdered, ordered, known}
 use Rattle.patch_skyline.specs.declared.skylines.Span.{Span}
@@ -96,10 +99,10 @@ module _ (g : Graph) (all : List Entry) (p : Patch) (r : Represents g all) (no :
   below-other : (n : ℕ) → n < g.made → n ≢ g.made
   below-other n l same = omega arith
 
-  module _ (block start stop : ℕ) (deps : List ℕ) (after : List ℕ) (undo : Undo) (hard : Bool) (is : IsPatch p g.made block start stop after undo)
-      (are : AreDependencies g.made (spans_of g.tops block) start stop after deps) where
+  module _ (block start stop : ℕ) (deps : List ℕ) (after : List ℕ) (undo : Undo) (reach : Reach) (hard : Bool) (is : IsPatch p g.made block start stop after undo)
+      (are : AreDependencies g block start stop after deps) where
     abbrev added : Class
-    added = new_class g.made block start stop deps hard
+    added = new_class g.made block start stop deps reach hard
 
     abbrev top : Span
     top = record { start = start; stop = stop; no = g.made }
@@ -139,16 +142,13 @@ module _ (g : Graph) (all : List Entry) (p : Patch) (r : Represents g all) (no :
       pub alive : is_durable e ≡ false
       pub above : (e ≡ f) ⊎ (depends_directly e.patch f.patch ≡ true)
 
-    -- each live patch on which the new one depends directly has such a number in the list
-    deps-above : (f : Entry) → In all f → is_durable f ≡ false → depends_directly p f.patch ≡ true → (n : ℕ) × In deps n × IsAbove f n
-    deps-above f i alive t = elim (or_cases (is_among p.after f.patch.no) (nat_lt f.patch.no p.no && shares_byte p f.patch) t) [
-      | inl named ↦ (f.patch.no, are.named f.patch.no (is_among-In after f.patch.no (subst (λ l. is_among l f.patch.no ≡ true) is.after_is named)) (let b = below f i in omega arith), record { e = f; inside = i; number = refl; alive = alive; above = inl refl })
-      | inr shared ↦
-          let both = and_parts (p.block == f.patch.block) (nat_lt (max p.start f.patch.start) (min (end p) (end f.patch))) (and_parts (nat_lt f.patch.no p.no) (shares_byte p f.patch) shared).1 in
-          let common_bytes : max p.start f.patch.start < min (end p) (end f.patch) = ltb-true (max p.start f.patch.start) (min (end p) (end f.patch)) both.1 in
-          by-byte (max p.start f.patch.start) (omega arith) (omega arith) (covers-from f.patch (max p.start f.patch.start) (omega arith) (omega arith))
-          (sym (eqb-true p.block f.patch.block both.0) ∙ is.block_is)
-    ]
+    -- each live patch over which the new one writes has such a number in the list
+    deps-above : (f : Entry) → In all f → is_durable f ≡ false → (nat_lt f.patch.no p.no && shares_byte p f.patch) ≡ true → (n : ℕ) × In deps n × IsAbove f n
+    deps-above f i alive shared =
+        let both = and_parts (p.block == f.patch.block) (nat_lt (max p.start f.patch.start) (min (end p) (end f.patch))) (and_parts (nat_lt f.patch.no p.no) (shares_byte p f.patch) shared).1 in
+        let common_bytes : max p.start f.patch.start < min (end p) (end f.patch) = ltb-true (max p.start f.patch.start) (min (end p) (end f.patch)) both.1 in
+        by-byte (max p.start f.patch.start) (omega arith) (omega arith) (covers-from f.patch (max p.start f.patch.start) (omega arith) (omega arith))
+        (sym (eqb-true p.block f.patch.block both.0) ∙ is.block_is)
       where
         by-byte : (x : ℕ) → p.start ≤ x → x < end p → covers f.patch x ≡ true → f.patch.block ≡ block → (n : ℕ) × In deps n × IsAbove f n
         by-byte x low high on of = elim (cases_top (top_at (spans_of g.tops block) x)) [
@@ -185,26 +185,45 @@ module _ (g : Graph) (all : List Entry) (p : Patch) (r : Represents g all) (no :
                   }
             ]
 
-    -- so a number of the list has its class, or one from which a chain leads there
+    -- the class of a live number that is named is that of one in the list, or a chain leads there from one
+    named-leads : (n j : ℕ) → IsNamedBelow g.made after n → find g.numbers n ≡ Some j
+        → (m : ℕ) × In deps m × (k : ℕ) × (find g.numbers m ≡ Some k) × ((k ≡ j) ⊎ Leads g.slots g.numbers k j)
+    named-leads n j named there = elim (are.named n named) [
+      | inl none ↦ absurd (cc)
+      | inr covered ↦ elim covered [
+        | inl i ↦ (n, i, j, there, inl refl)
+        | inr w ↦
+            let b = w.2 in
+            let l = r.live w.0 b.key b.leads in
+            let q = placed g all r l.0 b.key l.1 (ap (find g.numbers) l.2 ∙ b.leads) in
+            let inside : IsInReach q.0.reach n = subst (λ z. IsInReach z n) (ap (λ o. option_map_or (λ c. c.reach) o no_reach) q.1) b.inside in
+            (w.0, w.1, b.key, b.leads, elim ((r.classes b.key q.0 q.1).reaches n j inside there) [ inl e ↦ inl (sym e) | inr way ↦ inr way ])
+      ]
+    ]
+
+    -- and so is that of each live patch on which the new one depends directly
     deps-complete : (f : Entry) (j : ℕ) → In all f → depends_directly p f.patch ≡ true → find g.numbers f.patch.no ≡ Some j
         → (n : ℕ) × In deps n × (k : ℕ) × (find g.numbers n ≡ Some k) × ((k ≡ j) ⊎ Leads g.slots g.numbers k j)
-    deps-complete f j i t there =
-        let alive = (placed g all r f j i there).3 in
-        let a = deps-above f i alive t in
-        let u = a.2 in
-        let b = r.found u.e u.inside u.alive in (
-          a.0,
-          a.1,
-          b.0,
-          ap (find g.numbers) (sym u.number) ∙ b.2,
-          elim u.above [
-            | inl same ↦ inl (some_same b.0 j (sym b.2 ∙ ap (λ z. find g.numbers z.patch.no) same ∙ there))
-            | inr depends ↦ elim (cases_eq f.class b.1.name) [
-              | inl s ↦ inl (some_same b.0 j (sym ((r.classes b.0 b.1 b.3).found f i s) ∙ there))
-              | inr other ↦ inr ((r.classes b.0 b.1 b.3).complete u.e f j u.inside i (sym b.4) other depends there)
-            ]
-          ],
-        )
+    deps-complete f j i t there = elim (or_cases (is_among p.after f.patch.no) (nat_lt f.patch.no p.no && shares_byte p f.patch) t) [
+      | inl named ↦ named-leads f.patch.no j (is_among-In after f.patch.no (subst (λ l. is_among l f.patch.no ≡ true) is.after_is named), below f i) there
+      | inr shared ↦
+          let alive = (placed g all r f j i there).3 in
+          let a = deps-above f i alive shared in
+          let u = a.2 in
+          let b = r.found u.e u.inside u.alive in (
+            a.0,
+            a.1,
+            b.0,
+            ap (find g.numbers) (sym u.number) ∙ b.2,
+            elim u.above [
+              | inl same ↦ inl (some_same b.0 j (sym b.2 ∙ ap (λ z. find g.numbers z.patch.no) same ∙ there))
+              | inr depends ↦ elim (cases_eq f.class b.1.name) [
+                | inl s ↦ inl (some_same b.0 j (sym ((r.classes b.0 b.1 b.3).found f i s) ∙ there))
+                | inr other ↦ inr ((r.classes b.0 b.1 b.3).complete u.e f j u.inside i (sym b.4) other depends there)
+              ]
+            ],
+          )
+    ]
 
     drop-at : (n : ℕ) → lets_drop g.slots g.numbers block n ≡ true → (j : ℕ) (d : Class) → find g.numbers n ≡ Some j → class_at g.slots j ≡ Some d → (d.hard && d.block == block) ≡ true
     drop-at n t j d there at =
@@ -228,21 +247,18 @@ module _ (g : Graph) (all : List Entry) (p : Patch) (r : Represents g all) (no :
       | inl u ↦ elim (cases_Bool (is_durable f)) [
         | inl v ↦ rw (u, v) refl
         | inr v ↦
-            let n = deps-above f i v u in
-            let up = n.2 in
-            let b = r.found up.e up.inside up.alive in
-            let z = drop-at n.0 (list_all-at (lets_drop g.slots g.numbers block) deps n.0 t n.1) b.0 b.1 (ap (find g.numbers) (sym up.number) ∙ b.2) b.3 in
-            let z2 = and_parts b.1.hard (b.1.block == block) z in
-            let looks = (r.classes b.0 b.1 b.3).looks up.e up.inside (sym b.4) in
-            let of_block : up.e.patch.block ≡ p.block = looks.1 ∙ eqb-true b.1.block block z2.1 ∙ sym is.block_is in
-            let good : (f.hard && f.patch.block == p.block) ≡ true = elim up.above [
-              | inl same ↦ and_from _ _ (ap (λ q. q.hard) (sym same) ∙ looks.2 ∙ z2.0) (eq-eqb f.patch.block p.block (ap (λ q. q.patch.block) (sym same) ∙ of_block))
-              | inr depends ↦ elim ((r.orderly.under up.e f (Contains-from_In all up.e up.inside) (Contains-from_In all f i) depends).hard (looks.2 ∙ z2.0)) [
-                | inl d ↦ absurd (both_ways _ v d)
-                | inr h ↦ and_from _ _ h.0 (eq-eqb f.patch.block p.block (h.1 ∙ of_block))
-              ]
+            let b = r.found f i v in
+            let n = deps-complete f b.0 i u b.2 in
+            let l = r.live n.0 n.2 n.3 in
+            let q = placed g all r l.0 n.2 l.1 (ap (find g.numbers) l.2 ∙ n.3) in
+            let z = and_parts q.0.hard (q.0.block == block) (drop-at n.0 (list_all-at (lets_drop g.slots g.numbers block) deps n.0 t n.1) n.2 q.0 n.3 q.1) in
+            let first : IsHardOf block q.0 = (z.0, eqb-true q.0.block block z.1) in
+            let hard_one : IsHardOf block b.1 = elim n.4 [
+              | inl same ↦ subst (λ c. IsHardOf block c) (class_same q.0 b.1 (sym q.1 ∙ ap (class_at g.slots) same ∙ b.3)) first
+              | inr way ↦ hard-through g all r block n.2 b.0 q.0 b.1 q.1 b.3 way first
             ] in
-            or_right (not (depends_directly p f.patch) || is_durable f) _ good
+            let looks = (r.classes b.0 b.1 b.3).looks f i (sym b.4) in
+            or_right (not (depends_directly p f.patch) || is_durable f) _ (and_from _ _ (looks.2 ∙ hard_one.0) (eq-eqb f.patch.block p.block (looks.1 ∙ hard_one.1 ∙ sym is.block_is)))
       ]
     ])
 
@@ -347,6 +363,12 @@ module _ (g : Graph) (all : List Entry) (p : Patch) (r : Represents g all) (no :
                 let q = placed g all r l.0 j l.1 (ap (find g.numbers) l.2 ∙ there2) in
                 let back = class-back j d2 (other-key j q.0 q.1) at2 in
                 elim (w.sound n j d2 t there2 back) [ inl s ↦ inl s | inr x ↦ inr (DependsOn-more d.name d2.name x) ];
+            within = λ n i. let b = w.within n i in let l = longer in omega arith;
+            reaches = λ n j i there.
+                let b = w.within n i in
+                let m = r.made in
+                let there2 : find g.numbers n ≡ Some j = sym (find-same n (omega arith)) ∙ there in
+                elim (w.reaches n j i there2) [ inl s ↦ inl s | inr way ↦ inr (Leads-more k j way) ];
             complete = λ x y j ix iy s other depends there. elim (split x ix) [
               | inl jx ↦ elim (split y iy) [
                 | inl jy ↦ Leads-more k j (w.complete x y j jx jy s other depends (sym (find-same y.patch.no (below y jy)) ∙ there))
@@ -356,7 +378,16 @@ module _ (g : Graph) (all : List Entry) (p : Patch) (r : Represents g all) (no :
             ];
           }
 
-      module _ (hard_is : hard ≡ is_hard g.slots g.numbers block undo deps) (c_is : c ≡ added) where
+      module _ (hard_is : hard ≡ is_hard g.slots g.numbers block undo deps) (c_is : c ≡ added) (reached : (n : ℕ) → IsInReach reach n → IsNamedBelow g.made after n) where
+        -- a chain leads from the new class to what one of its list leads to
+        added-leads : (n j k : ℕ) → In deps n → find g.numbers n ≡ Some k → (k ≡ j) ⊎ Leads g.slots g.numbers k j → Leads h.slots h.numbers key j
+        added-leads n j k i there way =
+            let first : leads h.numbers added k ≡ true = list_any-from (leads_at h.numbers k) deps n i (ap (λ q. option_map_or (λ m. m == k) q false) (find-more n k there) ∙ eq-eqb k k refl) in
+            elim way [
+              | inl e ↦ subst (Leads h.slots h.numbers key) e (one added (a.here ∙ ap (λ z. Some z) c_is) first)
+              | inr l ↦ onward added (a.here ∙ ap (λ z. Some z) c_is) first (Leads-more k j l)
+            ]
+
         only-new : (x : Entry) → In more x → x.class ≡ g.made → x ≡ e
         only-new x i s = elim (split x i) [ inl j ↦ let b = class_below x j in absurd (omega arith) | inr n ↦ n ]
 
@@ -393,13 +424,13 @@ module _ (g : Graph) (all : List Entry) (p : Patch) (r : Represents g all) (no :
                 | inl jy ↦
                     let t : depends_directly p y.patch ≡ true = subst (λ z. depends_directly z.patch y.patch ≡ true) n depends in
                     let v = deps-complete y j jy t (sym (find-same y.patch.no (below y jy)) ∙ there) in
-                    let k = v.2 in
-                    let first : leads h.numbers added k ≡ true = list_any-from (leads_at h.numbers k) deps v.0 v.1 (ap (λ q. option_map_or (λ m. m == k) q false) (find-more v.0 k v.3) ∙ eq-eqb k k refl) in
-                    elim v.4 [
-                      | inl e ↦ subst (Leads h.slots h.numbers key) e (one added (a.here ∙ ap (λ z. Some z) c_is) first)
-                      | inr l ↦ onward added (a.here ∙ ap (λ z. Some z) c_is) first (Leads-more k j l)
-                    ]
+                    added-leads v.0 j v.2 v.1 v.3 v.4
               ];
+          within = λ n i. let b = (reached n i).1 in let l = longer in let m = r.made in omega arith;
+          reaches = λ n j i there.
+              let u = reached n i in
+              let v = named-leads n j u (sym (find-same n u.1) ∙ there) in
+              inr (added-leads v.0 j v.2 v.1 v.3 v.4);
         }
 
         laid : IsLaidOn g.tops h.tops block top
@@ -464,7 +495,7 @@ pub tells : (g : Graph) (all : List Entry) (p : Patch) (block start stop : ℕ) 
     → (c.name ≡ p.no) × (c.hard ≡ is_made_hard all p)
 tells g all p block start stop after undo c r is o d = (
   ap (λ (z : Class). z.name) d.is ∙ sym is.no,
-  ap (λ (z : Class). z.hard) d.is ∙ hard-same g all p r is.no o block start stop d.deps after undo c.hard is d.are,
+  ap (λ (z : Class). z.hard) d.is ∙ hard-same g all p r is.no o block start stop d.deps after undo d.reach c.hard is d.are,
 )
 
 -- the graph with that patch put in
@@ -473,4 +504,4 @@ pub puts-in : (g h : Graph) (all : List Entry) (p : Patch) (block start stop : �
     → Represents h (all ++ fresh all p ∷ [])
 puts-in g h all p block start stop after undo key c r is o d a =
     let hard : Bool = is_hard g.slots g.numbers block undo d.deps in
-    represents g all p r is.no o block start stop d.deps after undo hard is d.are h key c a refl d.is
+    represents g all p r is.no o block start stop d.deps after undo d.reach hard is d.are h key c a refl d.is d.reached

@@ -13,19 +13,21 @@ use Rattle.patch_model.specs.declared.patches.Undo.TheVariants.{Keep, MayDrop}
 use Rattle.patch_model.specs.Member.{In}
 use Rattle.patch_graph.specs.Skyline.{IsLaidOn, spans_of}
 use Rattle.patch_skyline.specs.Skyline.{IsTopWithin}
-use Rattle.patch_skyline.specs.declared.skylines.Span.{Span}
 use Rattle.patch_graph.specs.declared.graphs.Added.{Added}
 use Rattle.patch_graph.specs.Meaning.{Represents}
-use Rattle.patch_links.specs.State.{Class, Slots, Numbers, find, class_at}
+use Rattle.patch_graph.specs.Naming.{IsCovered, IsNamedBelow}
+use Rattle.patch_links.specs.declared.nodes.Reach.{Reach}
+use Rattle.patch_links.specs.State.{Class, Slots, Numbers, IsInReach, find, class_at}
 use Rattle.patch_links.specs.Adding.{IsNew}
 use Rattle.patch_graph.specs.State.{Graph}
 
--- of the patches that were made, those that a patch of this span names, and those that wrote a byte of it last
-pub record AreDependencies (made : ℕ) (tops : List Span) (start stop : ℕ) (after deps : List ℕ) : Type 0 where
-  pub are_made : (n : ℕ) → In deps n → n < made
-  pub named : (n : ℕ) → In after n → n < made → In deps n
-  pub last : (n : ℕ) → IsTopWithin tops start stop n → n < made → In deps n
-  pub only : (n : ℕ) → In deps n → In after n ⊎ IsTopWithin tops start stop n
+-- of the patches that were made, enough of those that a patch of this span names to cover them all, and those that wrote a
+-- byte of it last
+pub record AreDependencies (g : Graph) (block start stop : ℕ) (after deps : List ℕ) : Type 0 where
+  pub are_made : (n : ℕ) → In deps n → n < g.made
+  pub named : (n : ℕ) → IsNamedBelow g.made after n → IsCovered g.slots g.numbers deps n
+  pub last : (n : ℕ) → IsTopWithin (spans_of g.tops block) start stop n → n < g.made → In deps n
+  pub only : (n : ℕ) → In deps n → In after n ⊎ IsTopWithin (spans_of g.tops block) start stop n
 
 -- the number isn't live, or that of a hard class of the block
 abbrev pub lets_drop : Slots → Numbers → ℕ → ℕ → Bool
@@ -35,9 +37,9 @@ abbrev pub is_hard : Slots → Numbers → ℕ → Undo → List ℕ → Bool
 is_hard slots numbers block Keep deps = false
 is_hard slots numbers block MayDrop deps = list_all (lets_drop slots numbers block) deps
 
-abbrev pub new_class : ℕ → ℕ → ℕ → ℕ → List ℕ → Bool → Class
-new_class number block start stop deps hard =
-    record { name = number; members = number ∷ []; block = block; mark = Memory; hard = hard; start = start; stop = stop; after = deps }
+abbrev pub new_class : ℕ → ℕ → ℕ → ℕ → List ℕ → Reach → Bool → Class
+new_class number block start stop deps reach hard =
+    record { name = number; members = number ∷ []; block = block; mark = Memory; hard = hard; start = start; stop = stop; after = deps; reach = reach }
 
 -- the graph with one more class
 pub record IsAdded (old new : Graph) (key : ℕ) (c : Class) : Type 0 where
@@ -49,11 +51,13 @@ pub record IsAdded (old new : Graph) (key : ℕ) (c : Class) : Type 0 where
   pub number : find new.numbers old.made ≡ Some key
   pub rest : (n : ℕ) → n ≢ old.made → find new.numbers n ≡ find old.numbers n
 
--- the class of one more patch
+-- the class of one more patch, which reaches some numbers in a row that it names
 pub record IsDrawnUp (g : Graph) (block start stop : ℕ) (undo : Undo) (after : List ℕ) (c : Class) : Type 0 where
   pub deps : List ℕ
-  pub are : AreDependencies g.made (spans_of g.tops block) start stop after deps
-  pub is : c ≡ new_class g.made block start stop deps (is_hard g.slots g.numbers block undo deps)
+  pub reach : Reach
+  pub are : AreDependencies g block start stop after deps
+  pub reached : (n : ℕ) → IsInReach reach n → IsNamedBelow g.made after n
+  pub is : c ≡ new_class g.made block start stop deps reach (is_hard g.slots g.numbers block undo deps)
 
 -- the class may be put in: it has the next number and a byte, is in memory and alone, and depends on earlier patches
 pub record MayBePutIn (g : Graph) (c : Class) : Type 0 where

@@ -3,6 +3,7 @@ pub mod Skyline
 pub mod Marks
 pub mod Ready
 pub mod Meaning
+pub mod Naming
 pub mod Adding
 pub mod Search
 pub mod MarkFlight

@@ -7,7 +7,7 @@ use Rattle.patch_model.specs.Entry.{Entry, is_durable, is_among}
 use Rattle.patch_model.specs.Dependency.{depends_directly}
 use Rattle.patch_model.specs.Pile.{covers}
 use Rattle.patch_model.specs.Orderly.{IsOrderly, IsNumbered}
-use Rattle.patch_links.specs.State.{Class, Slots, Numbers, find, class_at, leads}
+use Rattle.patch_links.specs.State.{Class, Slots, Numbers, IsInReach, find, class_at, leads}
 use Rattle.patch_graph.specs.State.{Graph, spans}
 use Rattle.patch_graph.specs.Skyline.{spans_of}
 use Rattle.patch_skyline.specs.Skyline.{top_at}
@@ -40,6 +40,8 @@ pub record IsClassOf (all : List Entry) (slots : Slots) (numbers : Numbers) (key
   pub sound : (n j : ℕ) (d : Class) → is_among c.after n ≡ true → find numbers n ≡ Some j → class_at slots j ≡ Some d → (d.name ≡ c.name) ⊎ DependsOn all c.name d.name
   pub complete : (e f : Entry) (j : ℕ) → In all e → In all f → e.class ≡ c.name → f.class ≢ c.name → depends_directly e.patch f.patch ≡ true
       → find numbers f.patch.no ≡ Some j → Leads slots numbers key j
+  pub within : (n : ℕ) → IsInReach c.reach n → n < length all
+  pub reaches : (n j : ℕ) → IsInReach c.reach n → find numbers n ≡ Some j → (j ≡ key) ⊎ Leads slots numbers key j
 
 -- the patch wrote the byte of the block
 abbrev pub wrote : ℕ → ℕ → Entry → Bool

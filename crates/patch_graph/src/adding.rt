@@ -6,13 +6,15 @@ ghost use Rattle.patch_links.specs.State.{class_at};
 ghost use Rattle.patch_links.specs.Adding.{IsNew};
 ghost use Rattle.patch_graph.specs.State.{KeysFit};
 ghost use Rattle.patch_graph.specs.Adding.{AreDependencies, lets_drop, is_hard, IsAdded};
-ghost use Rattle.patch_graph.specs.Skyline.{spans_of};
+ghost use Rattle.patch_model.specs.Names.{numbers_named};
+ghost use Rattle.patch_graph.specs.Naming.{IsNamedBelow, HasTaken};
 
 use crate::register::Register;
+use crate::runs::push_runs;
 use crate::scratch::Scratch;
 use crate::skylines::{lay, tops};
 use patch_links::Class;
-use patch_model::{BlockNo, MAX_PATCHES, PatchNo, Undo};
+use patch_model::{BlockNo, MAX_PATCHES, Named, PatchNo, Undo};
 use patch_numbers::NumberList;
 use patch_skyline::Span;
 use std::alloc::{AllocError, Allocator};
@@ -69,22 +71,37 @@ fn push_tops<A: Allocator>(
     Ok(())
 }
 
+/// Puts the numbers that a patch names behind the others, or of runs those through which the others are reached.
+fn push_named<A: Allocator>(
+    register: &Register<A>,
+    after: Named<'_>,
+    all: &mut NumberList<A>,
+) -> Result<(), AllocError>
+    ensures { OnOk result (HasTaken register.now.slots register.now.numbers (IsNamedBelow register.now.made (numbers_named after.entry)) all.old.items all.new.items) }
+{
+    match after {
+        Named::Listed(numbers) => push_numbers(register.made(), numbers, all),
+        Named::InRuns(runs) => push_runs(register, runs, all),
+    }
+}
+
 /// The numbers that a patch of this span names, and of each of its bytes the patch that wrote it last. Each earlier one that
-/// wrote it is one on which that depends, directly or through others. A number that wasn't made is none on which it depends.
+/// wrote it is one on which that depends, directly or through others. A number that wasn't made is none on which it depends. Of
+/// numbers in runs those are left out that aren't live, or are reached through others of them.
 pub fn dependencies<A: Allocator>(
     alloc: A,
     register: &Register<A>,
     block: BlockNo,
     start: usize,
     stop: usize,
-    after: &[PatchNo],
+    after: Named<'_>,
 ) -> Result<NumberList<A>, AllocError>
     requires { start < stop }
-    ensures { IfOk result (λ all. AreDependencies register.now.made (spans_of register.now.tops block) start stop after.now all.items) }
+    ensures { IfOk result (λ all. AreDependencies register.now block start stop (numbers_named after.entry) all.items) }
 {
     let made = register.made();
     let mut all = NumberList::new(alloc);
-    push_numbers(made, after, &mut all)?;
+    push_named(register, after, &mut all)?;
     push_tops(made, tops(&register.skylines, block, start, stop), &mut all)?;
     Ok(all)
 }

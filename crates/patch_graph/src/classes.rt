@@ -4,9 +4,10 @@ ghost use Rattle.patch_graph.specs.Showing.{shown};
 ghost use Rattle.patch_graph.specs.Adding.{new_class};
 ghost use Rattle.patch_links.specs.Ready.{is_candidate};
 
-use patch_links::Class;
+use patch_links::{Class, Reach};
 use patch_model::{BlockNo, Mark, PatchNo};
 use patch_numbers::NumberList;
+use patch_skyline::Span;
 use std::alloc::Allocator;
 
 /// A live class, as it is shown: its members and what they depend on stay inside.
@@ -22,27 +23,27 @@ pub struct LiveClass {
     pub stop: usize,
 }
 
-/// The class of a new patch, in memory and alone.
+/// The class of a new patch of this span, in memory and alone.
 pub fn alone<A: Allocator>(
     alloc: A,
-    no: PatchNo,
     block: BlockNo,
-    start: usize,
-    stop: usize,
+    span: Span,
     after: NumberList<A>,
+    reach: Reach,
     hard: bool,
 ) -> Class<A>
-    ensures { result ≡ new_class no block start stop after.items hard }
+    ensures { result ≡ new_class span.no block span.start span.stop after.items reach hard }
 {
     Class {
-        name: no,
-        members: NumberList::of(alloc, no),
+        name: span.no,
+        members: NumberList::of(alloc, span.no),
         block,
         mark: Mark::Memory,
         hard,
-        start,
-        stop,
+        start: span.start,
+        stop: span.stop,
         after,
+        reach,
     }
 }
 

@@ -1,6 +1,7 @@
 //! The graph of the classes that are live.
 ghost use Rattle.std.specs.Prelude.{◌≡◌, ◌<◌, ◌≤◌, ◌+◌, ℕ, List, [], false, None, MatchOption, length, IfOk, IfSome, OnOk, OnErr};
 ghost use Rattle.patch_model.specs.declared.limits.TheConstants.{MAX_BLOCKS};
+ghost use Rattle.patch_model.specs.Names.{numbers_named};
 ghost use Rattle.patch_model.specs.Entry.{Entry};
 ghost use Rattle.patch_model.specs.declared.patches.Mark.TheVariants.{Durable};
 ghost use Rattle.patch_graph.specs.Meaning.{Represents, IsNotLive, IsLiveClass, HasMark};
@@ -20,8 +21,10 @@ use crate::merging;
 use crate::newcomers::Newcomer;
 use crate::queries::{between, is_any_ready, next_open, numbers_ready, numbers_searched, reaches};
 use crate::register::Register;
+use crate::runs::reach_of;
 use crate::scratch::Scratch;
-use patch_model::{BlockNo, MAX_PATCHES, Mark, OutOfMemory, PatchNo, Undo};
+use patch_model::{BlockNo, MAX_PATCHES, Mark, Named, OutOfMemory, PatchNo, Undo};
+use patch_skyline::Span;
 use std::alloc::{Allocator, Global};
 use std::marker::Model;
 
@@ -116,31 +119,30 @@ impl<A: Allocator + Copy> Graph<A> {
     /// Draws up a patch of the bytes from `start` to `stop`, which [`put_in`](Graph::put_in) adds. It depends on the patches that
     /// it names and on those that wrote a byte of its span before. It is hard if it may drop its undo bytes and each patch that it depends
     /// on is durable or a hard one of its block. That is Featherstitch's hard patches, by a rule of our own that a send never
-    /// has to revert one: in a block without a flight all hard patches are ready.
+    /// has to revert one: in a block without a flight all hard patches are ready. Names in runs cost what of them is live and isn't
+    /// reached through others of them, and not as much as they are many.
     pub fn draw_up(
         &self,
         block: BlockNo,
         start: usize,
         stop: usize,
-        after: &[PatchNo],
+        after: Named<'_>,
         undo: Undo,
     ) -> Result<Newcomer<A>, OutOfMemory>
         requires { start < stop }
-        ensures answer { IfOk result (Tells self.now block start stop after.now undo) }
-        ensures drawn { IfOk result (IsDrawnUp self.now block start stop undo after.now) }
+        ensures answer { IfOk result (Tells self.now block start stop (numbers_named after.entry) undo) }
+        ensures drawn { IfOk result (IsDrawnUp self.now block start stop undo (numbers_named after.entry)) }
         ensures next { IfOk result (MayBePutIn self.now) }
     {
         let deps = dependencies(self.alloc, &self.register, block, start, stop, after)?;
         let hard = is_hard(&self.register, block, undo, deps.as_slice());
-        let class = alone(
-            self.alloc,
-            PatchNo(self.register.made()),
-            block,
+        let reach = reach_of(&self.register, after);
+        let span = Span {
             start,
             stop,
-            deps,
-            hard,
-        );
+            no: PatchNo(self.register.made()),
+        };
+        let class = alone(self.alloc, block, span, deps, reach, hard);
         Ok(Newcomer::of(class))
     }
 
@@ -172,7 +174,7 @@ impl<A: Allocator + Copy> Graph<A> {
         ensures made { OnOk result (self.new.made ≡ self.old.made + 1) }
         ensures refused { OnErr result (self.new ≡ self.old) }
     {
-        let newcomer = self.draw_up(block, start, stop, after, undo)?;
+        let newcomer = self.draw_up(block, start, stop, Named::Listed(after), undo)?;
         let no = newcomer.no();
         let hard = newcomer.is_hard();
         self.put_in(newcomer)?;

@@ -14,6 +14,7 @@ mod newcomers;
 mod queries;
 mod ready;
 mod register;
+mod runs;
 mod scratch;
 mod searching;
 mod skylines;

@@ -10,6 +10,7 @@ use std::test::Fail;
 mod between;
 mod chance;
 mod plain;
+mod runs;
 
 // Ends the test, telling both, unless what came is what is wanted. A call takes the prover less than `assert_eq!` where it stands.
 fn expect_eq<T: PartialEq + Debug>(rt: &impl Abort, got: &T, want: &T) {

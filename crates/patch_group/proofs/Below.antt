@@ -3,8 +3,8 @@ use Rattle.std.proofs.Common.{◌≡◌, ℕ, ◌+◌, ◌-◌, ◌<◌, ◌≤�
 use Rattle.std.specs.Prelude.{max, min, count_by}
 use Rattle.std.specs.List.{range_with_len}
 use Rattle.patch_model.specs.Member.{In}
-use Rattle.patch_group.specs.declared.records.Run.{Run}
-use Rattle.patch_group.specs.Records.{numbers_of}
+use Rattle.patch_model.specs.declared.runs.Run.{Run}
+use Rattle.patch_model.specs.Runs.{numbers_of}
 use Rattle.patch_group.proofs.Pending.{none_more}
 use Rattle.patch_group.proofs.Uniting.{range-In, numbers-In}
 

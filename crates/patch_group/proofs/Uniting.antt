@@ -8,11 +8,12 @@ use Rattle.std.proofs.lemmas.List.{take_more, take_all}
 use Rattle.std.proofs.lemmas.List.Sorted.{Contains-permutation, IsPermutation-sym}
 use Rattle.patch_model.specs.Member.{In, In-from_Contains, Contains-from_In}
 use Rattle.patch_plans.specs.Rising.{rising}
-use Rattle.patch_group.specs.Records.{first_of, numbers_of, numbers_from, patches_in}
-use Rattle.patch_group.specs.declared.records.Run.{Run}
+use Rattle.patch_model.specs.Runs.{numbers_of, numbers_in}
+use Rattle.patch_group.specs.Records.{first_of, numbers_from}
+use Rattle.patch_model.specs.declared.runs.Run.{Run}
 use Rattle.patch_group.proofs.Arranging.{AreRising, rising_same, rising-rises}
 use Rattle.patch_plans.specs.Members.{In-append_left, In-append_right, append-In, In-rising, rising-In, In-flat_map, flat_map-In}
-use Rattle.patch_group.proofs.Ranges.{patches_in-push}
+use Rattle.patch_group.proofs.Ranges.{numbers_in-push}
 
 pub range-In : (a n x : ℕ) → In (range_with_len a n) x → (a ≤ x) × (x < a + n)
 range-In a zero x i = absurd i
@@ -55,8 +56,8 @@ In-from next r x first above last = let a : ℕ = max (first_of r) next in In-ra
 pub record AreListed (runs : List Run) (at : ℕ) (listed : List ℕ) (next : ℕ) : Type 0 where
   pub rises : AreRising listed
   pub below : (x : ℕ) → In listed x → x < next
-  pub from : (x : ℕ) → In listed x → In (patches_in (take at runs)) x
-  pub all : (x : ℕ) → In (patches_in (take at runs)) x → In listed x
+  pub from : (x : ℕ) → In listed x → In (numbers_in (take at runs)) x
+  pub all : (x : ℕ) → In (numbers_in (take at runs)) x → In listed x
   pub over : (j : ℕ) (d : Run) (x : ℕ) → at ≤ j → j < length runs → first_of (slice_index_or runs j d) ≤ x → x < next → In listed x
 
 pub none_listed : (runs : List Run) → AreListed runs 0 [] 0
@@ -84,8 +85,8 @@ module _ (runs : List Run) (at : ℕ) (r : Run) (listed : List ℕ) (next : ℕ)
   more : take (at + 1) runs ≡ take at runs ++ r ∷ []
   more = take_more runs at r inside ∙ ap (λ x. take at runs ++ x ∷ []) is
 
-  whole : patches_in (take (at + 1) runs) ≡ patches_in (take at runs) ++ numbers_of r
-  whole = ap patches_in more ∙ patches_in-push (take at runs) r
+  whole : numbers_in (take (at + 1) runs) ≡ numbers_in (take at runs) ++ numbers_of r
+  whole = ap numbers_in more ∙ numbers_in-push (take at runs) r
 
   -- a number of this run is listed now
   here : (x : ℕ) → first_of r ≤ x → x ≤ r.last → In (listed ++ numbers_from next r) x
@@ -103,10 +104,10 @@ module _ (runs : List Run) (at : ℕ) (r : Run) (listed : List ℕ) (next : ℕ)
       | inr j ↦ let high = from-In next r x j in omega (arith, high.2)
     ];
     from = λ x i. subst (λ ns. In ns x) (sym whole) (elim (append-In listed (numbers_from next r) x i) [
-      | inl j ↦ In-append_left (patches_in (take at runs)) (numbers_of r) x (so_far.from x j)
-      | inr j ↦ let h = from-In next r x j in In-append_right (patches_in (take at runs)) (numbers_of r) x (In-numbers r x h.0 h.2)
+      | inl j ↦ In-append_left (numbers_in (take at runs)) (numbers_of r) x (so_far.from x j)
+      | inr j ↦ let h = from-In next r x j in In-append_right (numbers_in (take at runs)) (numbers_of r) x (In-numbers r x h.0 h.2)
     ]);
-    all = λ x i. elim (append-In (patches_in (take at runs)) (numbers_of r) x (subst (λ ns. In ns x) whole i)) [
+    all = λ x i. elim (append-In (numbers_in (take at runs)) (numbers_of r) x (subst (λ ns. In ns x) whole i)) [
       | inl j ↦ In-append_left listed (numbers_from next r) x (so_far.all x j)
       | inr j ↦ let h = numbers-In r x j in here x h.0 h.1
     ];
@@ -123,12 +124,12 @@ module _ (runs : List Run) (at : ℕ) (r : Run) (listed : List ℕ) (next : ℕ)
       get_there d = same_there runs at d r inside ∙ is
 
 -- All are listed: they are those of the runs in any order.
-pub all_listed : (old runs : List Run) (at : ℕ) (listed : List ℕ) (next : ℕ) → IsPermutation old runs → length runs ≤ at → AreListed runs at listed next → listed ≡ rising (patches_in old)
+pub all_listed : (old runs : List Run) (at : ℕ) (listed : List ℕ) (next : ℕ) → IsPermutation old runs → length runs ≤ at → AreListed runs at listed next → listed ≡ rising (numbers_in old)
 all_listed old runs at listed next moved past so_far =
     let whole = take_all at runs past in
-    rising_same listed (rising (patches_in old)) so_far.rises (rising-rises (patches_in old))
-    (λ x i. In-rising (patches_in old) x (moved_in runs old (IsPermutation-sym old runs moved) x (subst (λ rs. In (patches_in rs) x) whole (so_far.from x i))))
-    (λ x i. so_far.all x (subst (λ rs. In (patches_in rs) x) (sym whole) (moved_in old runs moved x (rising-In (patches_in old) x i))))
+    rising_same listed (rising (numbers_in old)) so_far.rises (rising-rises (numbers_in old))
+    (λ x i. In-rising (numbers_in old) x (moved_in runs old (IsPermutation-sym old runs moved) x (subst (λ rs. In (numbers_in rs) x) whole (so_far.from x i))))
+    (λ x i. so_far.all x (subst (λ rs. In (numbers_in rs) x) (sym whole) (moved_in old runs moved x (rising-In (numbers_in old) x i))))
   where
-    moved_in : (a b : List Run) → IsPermutation a b → (x : ℕ) → In (patches_in a) x → In (patches_in b) x
+    moved_in : (a b : List Run) → IsPermutation a b → (x : ℕ) → In (numbers_in a) x → In (numbers_in b) x
     moved_in a b p x i = let r = flat_map-In numbers_of a x i in In-flat_map numbers_of b r.0 x (In-from_Contains b r.0 (Contains-permutation a b r.0 p (Contains-from_In a r.0 r.1))) r.2

@@ -1,17 +1,14 @@
 -- Groups as the code keeps them.
 use Rattle.std.specs.Prelude.{ℕ, ◌+◌, ◌-◌, ◌++◌, ◌<◌, ◌==◌, min, max, List, [], ◌∷◌, map, filter, length, slice_index_or, vec_len, vec_capacity, All, Contains, ◌≡◌}
 use Rattle.std.specs.List.{flat_map, range_with_len}
+use Rattle.patch_model.specs.Runs.{numbers_in}
 use Rattle.patch_plans.specs.Rising.{rising}
 use Rattle.patch_plans.specs.Groups.{Group, Groups, before, engaged_by}
-use Rattle.patch_group.specs.declared.records.Run.{Run}
+use Rattle.patch_model.specs.declared.runs.Run.{Run}
 use Rattle.patch_group.specs.declared.records.Record.{Record}
 use Rattle.patch_group.specs.declared.records.Before.{Before}
 
--- the numbers of a run
-abbrev pub numbers_of : Run → List ℕ
-numbers_of r = range_with_len r.first (r.last - r.first) ++ r.last ∷ []
-
--- the least of them
+-- the least number of a run
 abbrev pub first_of : Run → ℕ
 first_of r = min r.first r.last
 
@@ -19,11 +16,8 @@ first_of r = min r.first r.last
 abbrev pub numbers_from : ℕ → Run → List ℕ
 numbers_from next r = range_with_len (max (first_of r) next) (r.last + 1 - max (first_of r) next)
 
-abbrev pub patches_in : List Run → List ℕ
-patches_in runs = flat_map numbers_of runs
-
 abbrev pub group_of : {A : Type 0} → Record A → Group
-group_of g = record { started = g.started; sealed = g.sealed; closed = g.closed; before = g.before.items; patches = patches_in g.runs.items }
+group_of g = record { started = g.started; sealed = g.sealed; closed = g.closed; before = g.before.items; patches = numbers_in g.runs.items }
 
 abbrev pub groups_of : {A : Type 0} → List (Record A) → List (ℕ × ℕ) → Groups
 groups_of records engagements = record { groups = map group_of records; engaged = engagements }

@@ -7,16 +7,15 @@ ghost use Rattle.patch_cache.specs.Meaning.{Represents};
 ghost use Rattle.patch_plans.specs.Groups.{why_not_counted, pending};
 ghost use Rattle.patch_plans.specs.Groups as groups;
 ghost use Rattle.patch_plans.specs.Order.{AreGroupsOf};
-ghost use Rattle.patch_group.specs.Records.{numbers_of, patches_in};
+ghost use Rattle.patch_model.specs.Runs.{numbers_of, numbers_in};
 ghost use Rattle.patch_group.specs.Pending.{NonePendingBelow};
 ghost use Rattle.patch_group.specs.Refusals.{group_cause};
 
 use crate::calls::Groups;
 use crate::laws;
-use crate::records::Run;
 use crate::refusals::GroupRefusal;
 use patch_cache::Cache;
-use patch_model::{GroupNo, Mark, PatchNo, laws as model_laws};
+use patch_model::{GroupNo, Mark, PatchNo, Run, laws as model_laws};
 use std::alloc::Allocator;
 
 impl<A: Allocator + Copy> Groups<A> {
@@ -40,7 +39,7 @@ impl<A: Allocator + Copy> Groups<A> {
 /// How many patches of these runs are pending, up to the greatest count.
 fn count_pending<A: Allocator + Copy>(cache: &Cache<A>, runs: &[Run]) -> u32
     ensures { (run : Execution) → Represents cache.now run
-        → result ≡ min (count_by (groups.is_pending (entries_of run)) (patches_in runs.now)) 4294967295 }
+        → result ≡ min (count_by (groups.is_pending (entries_of run)) (numbers_in runs.now)) 4294967295 }
 {
     let from = none_pending_below(cache);
     let mut count = 0;

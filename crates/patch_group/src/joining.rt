@@ -2,6 +2,7 @@
 ghost use Rattle.std.specs.Prelude.{◌≡◌, ◌≢◌, ◌<◌, ◌++◌, ◌∷◌, ℕ, [], Some, None, length, map, IfOk, IfErr, OnOk, OnErr, IsTrue};
 ghost use Rattle.patch_model.specs.Execution.{Execution, extended};
 ghost use Rattle.patch_model.specs.Refusing.{why_not_made};
+ghost use Rattle.patch_model.specs.Runs.{numbers_in};
 ghost use Rattle.patch_model.specs.State.{entries_of};
 ghost use Rattle.patch_model.specs.Step.{Create};
 ghost use Rattle.patch_cache.specs.Meaning.{Represents};
@@ -12,9 +13,11 @@ ghost use Rattle.patch_group.specs.Records.{group_of, HasRoomAt, HaveRoom, names
 
 use crate::calls::Groups;
 use crate::records::Record;
-use crate::runs::add;
+use crate::runs::{add, add_each};
 use patch_cache::{Cache, CreateRefusal};
-use patch_model::{BlockNo, Bytes, GroupNo, Items, Numbers, OutOfMemory, PatchNo, Undo, WriterNo};
+use patch_model::{
+    BlockNo, Bytes, GroupNo, Items, Names, Numbers, OutOfMemory, PatchNo, Run, Undo, WriterNo,
+};
 use std::alloc::Allocator;
 
 impl<A: Allocator + Copy> Groups<A> {
@@ -79,7 +82,7 @@ impl<A: Allocator + Copy> Groups<A> {
     {
         match writer {
             Some(writer) => self.create_owned(cache, writer, block, start, bytes, after, undo),
-            None => cache.create_owned(block, start, bytes, after, undo),
+            None => cache.create_owned(block, start, bytes, Names::listed(after), undo),
         }
     }
 
@@ -112,23 +115,19 @@ impl<A: Allocator + Copy> Groups<A> {
     }
 
     /// What a patch of this writer names: the numbers that it is given, and behind them all patches of the groups before.
-    fn names_behind(
-        &mut self,
-        writer: WriterNo,
-        after: Numbers<A>,
-    ) -> Result<Numbers<A>, OutOfMemory>
+    fn names_behind(&mut self, writer: WriterNo, after: Numbers<A>) -> Result<Names<A>, OutOfMemory>
         ensures names { IfOk result (λ names. names ≡ after ++ after_of self.old writer) }
         ensures same { self.new ≡ self.old }
     {
         if self.engages_none() {
-            return Ok(after);
+            return Ok(Names::listed(after));
         }
-        let before = self.after_of_next(writer)?;
+        let before = self.runs_before_next(writer)?;
         if before.is_empty() {
-            return Ok(after);
+            return Ok(Names::listed(after));
         }
-        let names = self.both(after.as_slice(), before.as_slice())?;
-        Ok(Numbers::from_vec(names))
+        let runs = self.both(after.as_slice(), before)?;
+        Ok(Names::in_runs(runs))
     }
 
     /// Makes a patch of this writer that names just these.
@@ -139,7 +138,7 @@ impl<A: Allocator + Copy> Groups<A> {
         block: BlockNo,
         start: usize,
         bytes: Bytes<A>,
-        names: Numbers<A>,
+        names: Names<A>,
         undo: Undo,
     ) -> Result<PatchNo, CreateRefusal>
         ensures made { (run : Execution) → Represents cache.old run → OnOk result
@@ -168,13 +167,16 @@ impl<A: Allocator + Copy> Groups<A> {
         engaged.is_empty()
     }
 
-    /// The one numbers and the others behind them.
-    fn both(&self, these: &[PatchNo], those: &[PatchNo]) -> Result<Vec<PatchNo, A>, OutOfMemory>
-        ensures { IfOk result (λ all. all.items ≡ these.now ++ those.now) }
+    /// The numbers, in runs, and the runs behind them.
+    fn both(&self, these: &[PatchNo], those: Vec<Run, A>) -> Result<Vec<Run, A>, OutOfMemory>
+        ensures { IfOk result (λ all. numbers_in all.items ≡ these.now ++ numbers_in those.items) }
     {
-        let mut all = Vec::with_capacity(self.alloc, these.len())?;
-        all.extend_from_slice(these)?;
-        all.extend_from_slice(those)?;
+        if these.is_empty() {
+            return Ok(those);
+        }
+        let mut all = Vec::with_capacity(self.alloc, these.len().saturating_add(those.len()))?;
+        add_each(&mut all, these)?;
+        all.extend_from_slice(those.as_slice())?;
         Ok(all)
     }
 }

@@ -1,71 +1,101 @@
 //! Runs of patch numbers.
-ghost use Rattle.std.specs.Prelude.{◌≡◌, ◌<◌, ◌++◌, ◌∷◌, [], true, false, vec_len, vec_capacity, IfOk, OnOk};
+ghost use Rattle.std.specs.Prelude.{◌≡◌, ◌<◌, ◌≤◌, ◌++◌, ◌∷◌, [], true, false, vec_len, vec_capacity, IfOk, OnOk};
+ghost use Rattle.patch_model.specs.Runs.{numbers_of, numbers_in};
 ghost use Rattle.patch_plans.specs.Rising.{rising};
-ghost use Rattle.patch_group.specs.Records.{numbers_of, numbers_from, patches_in};
+ghost use Rattle.patch_group.specs.Records.{numbers_from};
 
-use crate::records::Run;
-use patch_model::{OutOfMemory, PatchNo};
+use patch_model::{OutOfMemory, PatchNo, Run};
 use std::alloc::Allocator;
 
 /// Adds a number behind the others.
 pub(crate) fn add<A: Allocator>(runs: &mut Vec<Run, A>, no: PatchNo)
     requires room { vec_len runs.old < vec_capacity runs.old }
-    ensures { patches_in runs.new.items ≡ patches_in runs.old.items ++ no ∷ [] }
+    ensures { numbers_in runs.new.items ≡ numbers_in runs.old.items ++ no ∷ [] }
+{
+    put_behind(
+        runs,
+        Run {
+            first: no.0,
+            last: no.0,
+        },
+    );
+}
+
+/// Puts a run behind the others: where it goes on from the last of them, that one grows.
+fn put_behind<A: Allocator>(runs: &mut Vec<Run, A>, run: Run)
+    requires room { vec_len runs.old < vec_capacity runs.old }
+    requires up { run.first ≤ run.last }
+    ensures { numbers_in runs.new.items ≡ numbers_in runs.old.items ++ numbers_of run }
 {
     let grown = match runs.last_mut() {
-        Some(run) => grow(run, no),
+        Some(last) => grow(last, run),
         None => false,
     };
     if !grown {
-        runs.push_reserved(Run {
-            first: no.0,
-            last: no.0,
-        });
+        runs.push_reserved(run);
     }
 }
 
-/// Adds a number to a run, if it is the one behind its last.
-fn grow(run: &mut Run, no: PatchNo) -> bool
-    ensures grown { result ≡ true → numbers_of run.new ≡ numbers_of run.old ++ no ∷ [] }
+/// Adds the numbers of the next run to a run, if they go on behind its last.
+fn grow(run: &mut Run, next: Run) -> bool
+    requires { next.first ≤ next.last }
+    ensures grown { result ≡ true → numbers_of run.new ≡ numbers_of run.old ++ numbers_of next }
     ensures kept { result ≡ false → run.new ≡ run.old }
 {
-    if run.last < run.first || no.0 <= run.last || run.last + 1 < no.0 {
+    if run.last < run.first || next.first <= run.last || run.last + 1 < next.first {
         return false;
     }
-    run.last = no.0;
+    run.last = next.last;
     true
 }
 
-/// The numbers of these runs, rising, each once. The runs are put in order, and each adds what those before it left out.
-pub(crate) fn rising_numbers<A: Allocator>(
-    alloc: A,
+/// Puts numbers behind those of the runs.
+pub(crate) fn add_each<A: Allocator>(
     runs: &mut Vec<Run, A>,
-) -> Result<Vec<PatchNo, A>, OutOfMemory>
-    ensures { IfOk result (λ numbers. numbers.items ≡ rising (patches_in runs.old.items)) }
+    numbers: &[PatchNo],
+) -> Result<(), OutOfMemory>
+    ensures { OnOk result (numbers_in runs.new.items ≡ numbers_in runs.old.items ++ numbers.now) }
 {
-    runs.sort_unstable_by_key(|run| run.first.min(run.last));
-    let mut numbers = Vec::new(alloc);
-    let mut next = 0;
-    for run in runs.as_slice() {
-        list_from(run, next, &mut numbers)?;
-        next = next.max(u64::from(run.last) + 1);
+    for no in numbers {
+        runs.reserve(1)?;
+        add(runs, *no);
     }
-    Ok(numbers)
+    Ok(())
 }
 
-/// Puts the numbers of the run, from this one on, behind those that are listed.
-fn list_from<A: Allocator>(
-    run: &Run,
-    next: u64,
-    listed: &mut Vec<PatchNo, A>,
-) -> Result<(), OutOfMemory>
-    ensures { OnOk result (listed.new.items ≡ listed.old.items ++ numbers_from next run.now) }
+/// The numbers of these runs, rising, each once, in as few runs. These are put in order, and each adds what those before it left out.
+pub(crate) fn rising_runs<A: Allocator>(
+    alloc: A,
+    runs: &mut Vec<Run, A>,
+) -> Result<Vec<Run, A>, OutOfMemory>
+    ensures { IfOk result (λ all. numbers_in all.items ≡ rising (numbers_in runs.old.items)) }
+{
+    runs.sort_unstable_by_key(|run| run.first.min(run.last));
+    let mut all = Vec::new(alloc);
+    let mut next = 0;
+    for run in runs.as_slice() {
+        add_from(run, next, &mut all)?;
+        next = next.max(u64::from(run.last) + 1);
+    }
+    Ok(all)
+}
+
+/// Puts the numbers of the run, from this one on, behind those of the others.
+fn add_from<A: Allocator>(run: &Run, next: u64, all: &mut Vec<Run, A>) -> Result<(), OutOfMemory>
+    ensures { OnOk result (numbers_in all.new.items ≡ numbers_in all.old.items ++ numbers_from next run.now) }
 {
     let first = u64::from(run.first.min(run.last)).max(next);
-    let end = u64::from(run.last) + 1;
-    listed.reserve(end.saturating_sub(first) as usize)?;
-    for no in first..end {
-        listed.push_reserved(PatchNo(no as u32));
+    if u64::from(run.last) < first {
+        return Ok(());
     }
+    all.reserve(1)?;
+    let first = first as u32;
+    put_behind(
+        all,
+        Run {
+            first,
+            last: run.last,
+        },
+    );
     Ok(())
 }

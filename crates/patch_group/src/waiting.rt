@@ -5,14 +5,13 @@ ghost use Rattle.patch_model.specs.State.{entries_of};
 ghost use Rattle.patch_cache.specs.Meaning.{Represents};
 ghost use Rattle.patch_plans.specs.Groups.{patches_of};
 ghost use Rattle.patch_plans.specs.Groups as groups;
-ghost use Rattle.patch_group.specs.Records.{numbers_of, patches_in};
+ghost use Rattle.patch_model.specs.Runs.{numbers_of, numbers_in};
 ghost use Rattle.patch_group.specs.Pending.{NonePendingBelow};
 
 use crate::calls::Groups;
 use crate::counting::{is_pending, none_pending_below};
-use crate::records::Run;
 use patch_cache::Cache;
-use patch_model::{GroupNo, OutOfMemory, PatchNo};
+use patch_model::{GroupNo, OutOfMemory, PatchNo, Run};
 use std::alloc::Allocator;
 
 impl<A: Allocator + Copy> Groups<A> {
@@ -40,7 +39,7 @@ fn wait_for_each<A: Allocator + Copy>(
     waiting: &mut Vec<PatchNo, A>,
 ) -> Result<(), OutOfMemory>
     ensures { (run : Execution) → Represents cache.now run
-        → OnOk result (waiting.new.items ≡ waiting.old.items ++ filter (groups.is_pending (entries_of run)) (patches_in runs.now)) }
+        → OnOk result (waiting.new.items ≡ waiting.old.items ++ filter (groups.is_pending (entries_of run)) (numbers_in runs.now)) }
 {
     let from = none_pending_below(cache);
     for run in runs {

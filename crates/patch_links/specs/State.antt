@@ -1,12 +1,21 @@
 -- What links hold.
-use Rattle.std.specs.Prelude.{ℕ, Bool, false, ◌==◌, nat_eq, List, Option, None, Some, map, slice_index_or, slice_set}
+use Rattle.std.specs.Prelude.{ℕ, Bool, false, ◌<◌, ◌≤◌, ◌==◌, nat_eq, List, Option, None, Some, map, slice_index_or, slice_set}
 use Rattle.std.specs.List.{list_any}
 use Rattle.std.specs.Map.{lookup}
 use Rattle.std.specs.Option.{option_map, option_map_or}
 use Rattle.patch_model.specs.declared.patches.Mark.{Mark}
+use Rattle.patch_links.specs.declared.nodes.Reach.{Reach}
 
--- a live class: its name, its patches' numbers, its block, its mark, whether it is hard, its span, and the numbers
--- that its patches depend on
+-- no number
+abbrev pub no_reach : Reach
+no_reach = record { from = 0; to = 0 }
+
+-- the number is of the reach
+abbrev pub IsInReach : Reach → ℕ → Type 0
+IsInReach r n = (r.from ≤ n) × (n < r.to)
+
+-- a live class: its name, its patches' numbers, its block, its mark, whether it is hard, its span, the numbers that its
+-- patches depend on, and what it reaches
 pub record Class : Type 0 where
   pub name : ℕ
   pub members : List ℕ
@@ -16,6 +25,7 @@ pub record Class : Type 0 where
   pub start : ℕ
   pub stop : ℕ
   pub after : List ℕ
+  pub reach : Reach
 
 abbrev pub Slots : Type 0
 Slots = List (Option Class)

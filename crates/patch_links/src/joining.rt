@@ -14,7 +14,7 @@ use crate::blocks::{Blocks, note};
 use crate::keys::Keys;
 use crate::leaving::withdraw;
 use crate::lists::OfBlock;
-use crate::nodes::{Class, Node, Nodes, block_at, find, is_due, is_ready, note_place};
+use crate::nodes::{Class, Node, Nodes, Reach, block_at, find, is_due, is_ready, note_place};
 use patch_model::{BlockNo, Mark, PatchNo};
 use patch_numbers::NumberList;
 use std::alloc::{AllocError, Allocator};
@@ -127,6 +127,7 @@ fn nobody<A: Allocator + Copy>(alloc: A) -> Class<A>
         start: 0,
         stop: 0,
         after: NumberList::new(alloc),
+        reach: Reach::none(),
     }
 }
 

@@ -17,4 +17,4 @@ mod lists;
 mod nodes;
 
 pub use links::Links;
-pub use nodes::Class;
+pub use nodes::{Class, Reach};

@@ -1,7 +1,7 @@
 //! Live classes by their keys, and what is kept beside each.
 ghost use Rattle.std.specs.Prelude.{◌≡◌, ◌&&◌, ◌==◌, None, slice_get, length, nat_lt};
 ghost use Rattle.std.specs.Option.{option_map, option_map_or, option_copied};
-ghost use Rattle.patch_links.specs.State.{find, node_at, is_at, changed_at};
+ghost use Rattle.patch_links.specs.State.{no_reach, find, node_at, is_at, changed_at};
 ghost use Rattle.patch_links.specs.Waiting.{of_block, ready_in, is_due, lowered, raised, readied, unreadied, followers_at};
 
 use crate::keys::Keys;
@@ -10,6 +10,24 @@ use patch_numbers::NumberList;
 use slab::Slab;
 use std::alloc::{Allocator, Global};
 use std::marker::Model;
+
+/// Numbers in a row, from the first up to before the last, and none where these are the same: each live patch of them is of the
+/// class that has it, or of one on which that depends, directly or through others. The links carry it, and a merge leaves that of
+/// the class that is kept.
+#[derive(Clone, Copy, Debug, PartialEq, Eq)]
+pub struct Reach {
+    pub from: u32,
+    pub to: u32,
+}
+
+impl Reach {
+    /// No number.
+    pub fn none() -> Reach
+        ensures { result ≡ no_reach }
+    {
+        Reach { from: 0, to: 0 }
+    }
+}
 
 /// A live class: its members are of one block, alike in mark and hardness, and its span has no gap.
 #[derive(Drop)]
@@ -25,6 +43,7 @@ pub struct Class<A: Allocator = Global> {
     pub stop: usize,
     /// Patches of the classes that it depends on directly, live or not; some of them may be its own by now.
     pub after: NumberList<A>,
+    pub reach: Reach,
 }
 
 impl<A: Allocator> Model for Class<A> {
@@ -41,6 +60,7 @@ impl<A: Allocator> Model for Class<A> {
       start = c.start;
       stop = c.stop;
       after = c.after.items;
+      reach = c.reach;
     } };
 }
 

@@ -1,7 +1,7 @@
 //! Walks through the calls against a slow model.
 use crate::model::Slow;
 use linked_list_allocator::LocalHeap;
-use patch_links::{Class, Links};
+use patch_links::{Class, Links, Reach};
 use patch_model::{BlockNo, Mark, PatchNo};
 use patch_numbers::NumberList;
 use std::alloc::{AllocError, Global};
@@ -36,6 +36,7 @@ fn new_class(
         start: 0,
         stop: 1,
         after: depends,
+        reach: Reach::none(),
     })
 }
 
@@ -333,6 +334,7 @@ fn class_in(heap: &LocalHeap, no: u32) -> Class<&LocalHeap> {
         start: 0,
         stop: 1,
         after: NumberList::new(heap),
+        reach: Reach::none(),
     }
 }
 

@@ -25,3 +25,4 @@ pub mod Counting
 pub mod Sending
 pub mod Flying
 pub mod Naming
+pub mod Ranging

@@ -8,7 +8,7 @@ use Rattle.patch_model.specs.Entry.{Entry, in_memory_of, is_durable}
 use Rattle.patch_model.specs.Entries.{AreApart, has-In, In-has}
 use Rattle.patch_model.specs.Dependency.{depends_directly}
 use Rattle.patch_model.specs.Ready.{struck, has, may_stay, ready, IsWritable, IsLargestWritable}
-use Rattle.patch_model.specs.Member.{In, In-filter, filter-In, filter_cases, list_all-at, list_all-from, list_any-at, list_any-from, In-from_Contains, Contains-from_In}
+use Rattle.patch_model.specs.Member.{In, In-filter, filter-In, filter_cases, list_all-at, list_all-from, In-from_Contains, Contains-from_In}
 
 struck-In : (n : ℕ) (stays : List Entry → Entry → Bool) (set : List Entry) (e : Entry) → In (struck n stays set) e → In set e
 struck-In zero stays set e h = h

@@ -23,3 +23,5 @@ pub mod Marked
 pub mod Link
 pub mod Entries
 pub mod Rows
+pub mod Runs
+pub mod Names

@@ -1,7 +1,8 @@
 //! What a cache accepted.
 ghost use Rattle.std.specs.Prelude.{◌≡◌, map};
 
-use crate::lists::{Bytes, Numbers};
+use crate::lists::Bytes;
+use crate::names::Names;
 use crate::numbers::{BlockNo, PatchNo};
 use crate::patches::Undo;
 use std::alloc::{Allocator, Global};
@@ -15,7 +16,7 @@ pub enum Step<A: Allocator = Global> {
         block: BlockNo,
         start: usize,
         bytes: Bytes<A>,
-        after: Numbers<A>,
+        after: Names<A>,
         undo: Undo,
     },
     Merge {

@@ -3,6 +3,7 @@ pub mod Reading
 pub mod Numbers
 pub mod Interleaving
 pub mod Naming
+pub mod Ranges
 pub mod Chain
 pub mod Steps
 pub mod Exchange
@@ -36,3 +37,4 @@ pub mod Gapping
 pub mod Departing
 pub mod Landing
 pub mod Outcomes
+pub mod Keeping

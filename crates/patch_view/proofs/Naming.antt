@@ -29,16 +29,16 @@ like_named old new h now like same named i j n h_i h_j on goes =
 among_push : (xs : List ℕ) (x n : ℕ) → is_among (xs ++ x ∷ []) n ≡ (is_among xs n || (x == n || false))
 among_push xs x n = list_any-append (λ m. m == n) xs (x ∷ [])
 
-pushed-cases : (xs : List ℕ) (x n : ℕ) → is_among (xs ++ x ∷ []) n ≡ true → (is_among xs n ≡ true) ⊎ (x ≡ n)
+pub pushed-cases : (xs : List ℕ) (x n : ℕ) → is_among (xs ++ x ∷ []) n ≡ true → (is_among xs n ≡ true) ⊎ (x ≡ n)
 pushed-cases xs x n t = elim (or_cases (is_among xs n) (x == n || false) (sym (among_push xs x n) ∙ t)) [
   | inl old ↦ inl old
   | inr new ↦ elim (or_cases (x == n) false new) [ inl e ↦ inr (eqb-true _ _ e) | inr e ↦ absurd (cc) ]
 ]
 
-pushed-old : (xs : List ℕ) (x n : ℕ) → is_among xs n ≡ true → is_among (xs ++ x ∷ []) n ≡ true
+pub pushed-old : (xs : List ℕ) (x n : ℕ) → is_among xs n ≡ true → is_among (xs ++ x ∷ []) n ≡ true
 pushed-old xs x n t = among_push xs x n ∙ or_left _ (x == n || false) t
 
-pushed-new : (xs : List ℕ) (x n : ℕ) → x ≡ n → is_among (xs ++ x ∷ []) n ≡ true
+pub pushed-new : (xs : List ℕ) (x n : ℕ) → x ≡ n → is_among (xs ++ x ∷ []) n ≡ true
 pushed-new xs x n e = among_push xs x n ∙ or_right (is_among xs n) _ (or_left _ false (eq-eqb _ _ e))
 
 pub keeps_none : (b : Block) → KeepsNames b [] []

@@ -15,6 +15,11 @@ module _ {T E : Type 0} where
   refused-still (Ok x) P h = tt
   refused-still (Err e) P h = h
 
+  -- what is told of a call that is done, told further
+  pub done-then : (r : Result T E) (P Q : Type 0) → (P → Q) → OnOk r P → OnOk r Q
+  done-then (Ok x) P Q then h = then h
+  done-then (Err e) P Q then h = tt
+
 -- a block with the records that it had
 pub same-block : (bytes : List ℕ) (old new : List Class) (was : Block) → new ≡ old → (let b : Block = record { bytes = bytes; classes = old } in b) ≡ was
     → (let b : Block = record { bytes = bytes; classes = new } in b) ≡ was

@@ -4,6 +4,7 @@ pub mod Images
 pub mod Places
 pub mod Members
 pub mod State
+pub mod Names
 pub mod Meaning
 pub mod Refusal
 pub mod Answers

@@ -5,10 +5,11 @@ ghost use Rattle.std.specs.List.Sorted.{IsNonDecreasing};
 ghost use Rattle.patch_model.specs.declared.patches.Mark.TheVariants.{Flight, Durable};
 ghost use Rattle.patch_model.specs.Entry.{Entry, is_memory};
 ghost use Rattle.patch_model.specs.History.{History};
+ghost use Rattle.patch_model.specs.Names.{numbers_named};
 ghost use Rattle.patch_model.specs.Orderly.{IsOrderlyBlock};
 ghost use Rattle.patch_model.specs.State.{landed};
 ghost use Rattle.patch_view.specs.State.{follows, with_laid, IsLaid, departed_at, landed_at, with_departed, HasDeparted, AreDeparting};
-ghost use Rattle.patch_view.specs.State.{with_one_departed, with_one_landed, with_landed, FlyingWithin, AllFlyAt, moved_down, IsJoint, IsJointAt, has_places, KeepsNames};
+ghost use Rattle.patch_view.specs.State.{with_one_departed, with_one_landed, with_landed, FlyingWithin, AllFlyAt, moved_down, IsJoint, IsJointAt, has_places};
 ghost use Rattle.patch_view.specs.Places.{IsRange};
 ghost use Rattle.patch_view.specs.History.{unpatched, MayLand, with_mark};
 ghost use Rattle.patch_view.specs.Meaning.{Represents, IsGathered};
@@ -25,7 +26,7 @@ use crate::places::Places;
 use crate::rests::lay_over;
 use crate::spans::put_over;
 use crate::states::{BlockState, FEW};
-use patch_model::{BLOCK, BlockBytes, OutOfMemory, PatchNo};
+use patch_model::{BLOCK, BlockBytes, Named, OutOfMemory, PatchNo};
 use patch_skyline::Span;
 use std::alloc::{Allocator, Global};
 use std::marker::Model;
@@ -87,6 +88,7 @@ impl<A: Allocator> BlockState<A> {
         ensures laid { OnOk result (IsLaid self.old no start bytes.now after.now hard self.new) }
         ensures refused { OnErr result (self.new ≡ self.old) }
     {
+        let after = Named::Listed(after);
         self.lay_if(no, start, bytes, after, hard, &mut (), |_| Ok(()))
     }
 
@@ -97,7 +99,7 @@ impl<A: Allocator> BlockState<A> {
         no: PatchNo,
         start: usize,
         bytes: &[u8],
-        after: &[PatchNo],
+        after: Named<'_>,
         hard: bool,
         other: &mut V,
         enter: F,
@@ -107,44 +109,14 @@ impl<A: Allocator> BlockState<A> {
         F: FnOnce(&mut V) -> Result<(), OutOfMemory> + Drop,
         requires fits { start + length bytes.now ≤ BLOCK }
         requires callable { FnOnceTakesAtMut F.FnOnce enter other.old }
-        ensures answer { Lays self.old no start bytes.now after.now hard result self.new }
-        ensures laid { OnOk result (IsLaid self.old no start bytes.now after.now hard self.new) }
+        ensures answer { Lays self.old no start bytes.now (numbers_named after.entry) hard result self.new }
+        ensures laid { OnOk result (IsLaid self.old no start bytes.now (numbers_named after.entry) hard self.new) }
         ensures refused { OnErr result (self.new ≡ self.old) }
         ensures entered { Enters F.FnOnce enter other.old result other.new }
     {
         let named = self.names_of(after)?;
         self.lay_with(no, start, bytes, named, hard, other, enter)?;
         Ok(())
-    }
-
-    /// Those of these numbers that may be members of the block's classes, rising. No more than two take no memory.
-    fn names_of(&self, after: &[PatchNo]) -> Result<NumberList<A>, OutOfMemory>
-    where
-        A: Clone,
-        ensures kept { IfOk result (λ kept. KeepsNames self.now after.now kept.items) }
-        ensures rising { IfOk result (λ kept. IsNonDecreasing kept.items) }
-    {
-        if after.is_empty() {
-            return Ok(NumberList::none());
-        }
-        let mut kept = self.kept_of(after)?;
-        kept.sort();
-        Ok(kept)
-    }
-
-    fn kept_of(&self, after: &[PatchNo]) -> Result<NumberList<A>, OutOfMemory>
-    where
-        A: Clone,
-        ensures { IfOk result (λ kept. KeepsNames self.now after.now kept.items) }
-    {
-        let lowest = self.lowest_for(after);
-        let mut kept = NumberList::none();
-        for no in after {
-            if self.may_have_from(lowest, *no) {
-                kept.push(self.bytes.allocator(), *no)?;
-            }
-        }
-        Ok(kept)
     }
 
     /// Lays a patch that names these, once it is entered elsewhere.

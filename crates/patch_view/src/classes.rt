@@ -9,7 +9,7 @@ ghost use Rattle.patch_view.specs.Gaps.{saved_end, saves_any};
 ghost use Rattle.patch_view.specs.Rests.{IsFree, IsUnion, HasListsOf};
 
 use crate::number_lists::{
-    NumberList, interleave, is_interleaved, is_listed, least_of, place_in, put_in_turn,
+    NumberList, greatest_of, interleave, is_interleaved, is_listed, least_of, place_in, put_in_turn,
 };
 use crate::rests::Rests;
 use crate::spans::swap_span;
@@ -107,6 +107,20 @@ impl<A: Allocator> Class<A> {
         ensures { (n : ℕ) → is_among self.now.members n ≡ true → result ≤ n }
     {
         least_of(self.members.as_slice())
+    }
+
+    /// The greatest of its members, or zero where it has none.
+    pub(crate) fn highest(&self) -> u32
+        ensures { (n : ℕ) → is_among self.now.members n ≡ true → n ≤ result }
+    {
+        greatest_of(self.members.as_slice())
+    }
+
+    /// The numbers of its patches, rising.
+    pub(crate) fn members(&self) -> &[PatchNo]
+        ensures { result.now ≡ self.now.members }
+    {
+        self.members.as_slice()
     }
 
     pub(crate) fn is_flying(&self) -> bool

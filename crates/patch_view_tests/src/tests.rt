@@ -1,5 +1,5 @@
 //! Walks through the calls, memory taken and given back, and the names of refusals.
-use patch_model::{BlockBytes, OutOfMemory, PatchNo};
+use patch_model::{BlockBytes, Named, OutOfMemory, PatchNo};
 use patch_view::{BlockState, TakeRefusal};
 use std::alloc::Allocator;
 use std::fmt::Debug;
@@ -9,6 +9,7 @@ mod images;
 mod memory;
 mod names;
 mod rests;
+mod runs;
 mod walks;
 
 // Ends the test, telling both, unless what came is what is wanted. A call takes the prover less than `assert_eq!` where it stands.
@@ -51,7 +52,15 @@ fn is_unentered<A: Allocator + Clone>(
 ) -> bool {
     assert!(rt; start <= 100 && bytes.len() <= 500);
     let mut asked = false;
-    let laid = block.lay_if(PatchNo(no), start, bytes, &[], false, &mut asked, refuse);
+    let laid = block.lay_if(
+        PatchNo(no),
+        start,
+        bytes,
+        Named::Listed(&[]),
+        false,
+        &mut asked,
+        refuse,
+    );
     assert!(rt; asked);
     laid.is_err()
 }

@@ -201,7 +201,7 @@ fn few(bytes: &[u8]) -> Option<&[u8]> {
     if bytes.len() <= 8 { Some(bytes) } else { None }
 }
 
-fn tell_step(told: &mut String, step: &Step) -> Result<(), AllocError> {
+fn tell_step(told: &mut String, alloc: Global, step: &Step) -> Result<(), AllocError> {
     match step {
         Step::Create {
             block,
@@ -210,7 +210,10 @@ fn tell_step(told: &mut String, step: &Step) -> Result<(), AllocError> {
             after,
             ..
         } => {
-            let (bytes, after) = (bytes.as_slice(), after.as_slice());
+            let bytes = bytes.as_slice();
+            let Ok(after) = after.lend().to_vec(alloc) else {
+                return Err(AllocError);
+            };
             let (len, few) = (bytes.len(), few(bytes));
             writeln!(told, "  {block}.{start}+{len} {few:?} behind {after:?}")
         }
@@ -219,17 +222,17 @@ fn tell_step(told: &mut String, step: &Step) -> Result<(), AllocError> {
     }
 }
 
-fn tell_steps(told: &mut String, steps: &[Step]) -> Result<(), AllocError> {
+fn tell_steps(told: &mut String, alloc: Global, steps: &[Step]) -> Result<(), AllocError> {
     for step in steps {
-        tell_step(told, step)?;
+        tell_step(told, alloc, step)?;
     }
     Ok(())
 }
 
-fn tell_trace(told: &mut String, cache: &mut Cache) -> Result<(), AllocError> {
+fn tell_trace(told: &mut String, alloc: Global, cache: &mut Cache) -> Result<(), AllocError> {
     match cache.drain_trace() {
         Ok(steps) => {
-            let ended = tell_steps(told, &steps);
+            let ended = tell_steps(told, alloc, &steps);
             drop(steps);
             ended
         }
@@ -313,7 +316,7 @@ fn tell_move(
         }
         Reset { extent } => tell(told, "reset", reset(&mut walker.bench, extent)),
         Read(place) => tell_read(told, &walker.bench, place),
-        Trace => tell_trace(told, &mut walker.bench.cache),
+        Trace => tell_trace(told, alloc, &mut walker.bench.cache),
         Group => tell(told, "group", walker.bench.groups.create()),
         Engage { writer, group } => {
             let groups = &mut walker.bench.groups;

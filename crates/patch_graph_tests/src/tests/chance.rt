@@ -77,7 +77,7 @@ fn is_undoable(class: &LiveClass) -> bool {
 }
 
 // Whether the classes of two patches may become one.
-fn may_merge(graph: &mut Graph, a: PatchNo, b: PatchNo) -> bool {
+pub(super) fn may_merge(graph: &mut Graph, a: PatchNo, b: PatchNo) -> bool {
     let Some(first) = graph.live_class(a) else {
         return false;
     };

@@ -2,13 +2,14 @@
 use super::lines::{asks_in, group_in, number, writer_in};
 use super::*;
 use patch_device::{Device, MemDevice};
-use patch_model::BLOCK;
+use patch_model::{BLOCK, Names, Step};
 use std::alloc::{AllocError, Global};
 
 // A line is an ask, and behind the sign what is answered. `by WRITER BLOCK LETTERS` makes a patch of a writer at the block's
 // first byte, `patch BLOCK LETTERS` one of none; it names those that the line names further.
 //
-// `after WRITER`, `sync GROUP` and `disk BLOCK` are no asks. The asks between them are a list, or answered one by one.
+// `after WRITER`, `named BLOCK`, `sync GROUP` and `disk BLOCK` are no asks. The asks between them are a list, or answered one by one.
+// What the last patch of a block names is told of those that were made since this was last asked.
 const SCRIPTS: [&str; 11] = [
     // The second group depends on the first: what waits, and what is sealed.
     "\
@@ -129,6 +130,7 @@ after 0 =
 pending 0 = count 1
 pending 1 = count 2
 by 2 3 e 3 = patch 4
+named 3 = 3 0 1
 patch 4 f = patch 5
 send 3 = sent 3
 send 4 = sent 4
@@ -159,9 +161,12 @@ after 1 =
 depend 3 1 = ok
 engage 0 3 = ok
 by 0 3 e = patch 5
+named 3 = 0 1
 after 0 = 0 1
 engage 1 3 = ok
 by 1 4 f = patch 6
+named 4 = 1
+named 3 =
 after 1 = 1
 after 0 = 0 1
 disengage 0 2 = ok
@@ -179,6 +184,8 @@ send 6 = sent 6
 send 4 = sent 4
 send 3 = refused NothingReady
 send 2 = refused NothingReady
+by 1 7 q 2 3 0 = patch 9
+named 7 = 2 3 0 1
 ",
     // What the cache refuses is in no group.
     "\
@@ -354,6 +361,28 @@ fn tell_after(told: &mut String, bench: &mut Bench, word: &str) -> Result<(), Fa
     Ok(())
 }
 
+// What the last of these patches names that is of the block.
+fn last_names(steps: &[Step], of: u32) -> Option<&Names> {
+    let mut last = None;
+    for step in steps {
+        if let Step::Create { block, after, .. } = step {
+            if block.0 == of {
+                last = Some(after);
+            }
+        }
+    }
+    last
+}
+
+fn tell_named(told: &mut String, bench: &mut Bench, word: &str) -> Result<(), Fail> {
+    let steps = bench.cache.drain_trace()?;
+    if let Some(names) = last_names(steps.as_slice(), number(word)) {
+        let numbers = names.lend().to_vec(bench.alloc)?;
+        tell_numbers(told, &numbers)?;
+    }
+    Ok(())
+}
+
 fn tell_synced(told: &mut String, bench: &mut Bench, word: &str) -> Result<(), Fail> {
     let Bench {
         groups,
@@ -384,6 +413,7 @@ fn look_aside(told: &mut String, bench: &mut Bench, kind: &str, word: &str) -> R
     write!(told, "{kind} {word} =")?;
     match kind {
         "after" => tell_after(told, bench, word)?,
+        "named" => tell_named(told, bench, word)?,
         "sync" => tell_synced(told, bench, word)?,
         _ => tell_disk(told, bench, word)?,
     }
@@ -394,7 +424,7 @@ fn look_aside(told: &mut String, bench: &mut Bench, kind: &str, word: &str) -> R
 // What a line is that is no ask.
 fn aside_in(line: &str) -> Option<(&str, &str)> {
     match line.split_once(' ') {
-        Some((kind, word)) if kind == "after" || kind == "sync" || kind == "disk" => {
+        Some((kind, word)) if matches!(kind, "after" | "named" | "sync" | "disk") => {
             Some((kind, word))
         }
         _ => None,

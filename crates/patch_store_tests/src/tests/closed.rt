@@ -1,6 +1,6 @@
 //! What the patches of a store name, which sets of them are closed, and the disks that hold these.
 use super::*;
-use patch_model::{BlockNo, PatchNo};
+use patch_model::{BlockNo, Named, Names, PatchNo};
 
 // A patch that was made.
 #[derive(Clone, Copy)]
@@ -9,6 +9,14 @@ struct Made<'a> {
     start: usize,
     bytes: &'a [u8],
     after: &'a [PatchNo],
+}
+
+// What a patch names that comes after no group: each number by itself.
+fn listed(names: &Names) -> Option<&[PatchNo]> {
+    match names.lend() {
+        Named::Listed(numbers) => Some(numbers),
+        Named::InRuns(_) => None,
+    }
 }
 
 fn made_by(step: &Step) -> Option<Made<'_>> {
@@ -23,7 +31,7 @@ fn made_by(step: &Step) -> Option<Made<'_>> {
             block: *block,
             start: *start,
             bytes: bytes.as_slice(),
-            after: after.as_slice(),
+            after: listed(after)?,
         }),
         _ => None,
     }

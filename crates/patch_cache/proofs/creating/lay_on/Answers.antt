@@ -1,4 +1,5 @@
 use Rattle.std.proofs.Common.{◌≡◌, ◌∙◌, ◌+◌, List, [], ◌∷◌, ◌++◌, length, refl, sym, ap, subst}
+use Rattle.patch_model.specs.Names.{numbers_named}
 use Rattle.patch_model.specs.Patch.{Patch}
 use Rattle.patch_model.specs.Step.{Step, Create}
 use Rattle.patch_model.specs.Execution.{extended}
@@ -23,23 +24,23 @@ returns-clause-laid g c = λ run may.
     let lawful = may.legal in
     let a = c.args in
     let all : List Entry = entries_of run in
-    let step : Step = Create a.block a.start a.bytes.now a.after.now a.undo in
-    let p : Patch = next_patch run a.block a.start a.bytes.now a.after.now a.undo in
+    let step : Step = Create a.block a.start a.bytes.now (numbers_named a.after) a.undo in
+    let p : Patch = next_patch run a.block a.start a.bytes.now (numbers_named a.after) a.undo in
     let e : Entry = fresh all p in
     let legal : IsLegal (extended run step) = c.steps_extend.ensures.legal run step before lawful in
     let entries : entries_of (extended run step) ≡ all ++ e ∷ [] = ap (λ st. st.entries) (c.steps_extend.ensures.state run step) in
     let orderly : IsOrderly (all ++ e ∷ []) = subst IsOrderly entries (c.executions_are_orderly.ensures.patches (extended run step) legal) in
-    let is : IsPatch p a.graph.now.made a.block a.start (a.start + length a.bytes.now) a.after.now a.undo =
+    let is : IsPatch p a.graph.now.made a.block a.start (a.start + length a.bytes.now) (numbers_named a.after) a.undo =
     record { no = sym holds.made; block_is = refl; start_is = refl; end_is = refl; after_is = refl; undo_is = refl } in
     let told = c.in_ok-newcomer.ensures.answer all p holds is orderly in
     let h : History = history_of run a.block in
     let here : history_of (extended run step) a.block ≡ laid h e =
-    laid_here run a.block a.start a.bytes.now a.after.now a.undo (c.steps_change_blocks.ensures.made_here run a.block a.start a.bytes.now a.after.now a.undo) in
+    laid_here run a.block a.start a.bytes.now (numbers_named a.after) a.undo (c.steps_change_blocks.ensures.made_here run a.block a.start a.bytes.now (numbers_named a.after) a.undo) in
     let block : IsOrderlyBlock (laid h e) a.block =
     subst (λ x. IsOrderlyBlock x a.block) here (c.executions_are_orderly.ensures.blocks (extended run step) a.block legal lawful.known) in
     let next : IsNext h e = c.blocks_are_coherent.ensures.next h e a.block block in
     let no : c.no-no.result ≡ p.no = c.no-no.ensures ∙ told.0 in
-    let alike : e ≡ made c.no-no.result a.block a.start a.bytes.now a.after.now a.undo c.is_hard-hard.result =
+    let alike : e ≡ made c.no-no.result a.block a.start a.bytes.now (numbers_named a.after) a.undo c.is_hard-hard.result =
     made_alike all p c.no-no.result c.is_hard-hard.result no (c.is_hard-hard.ensures ∙ told.1) in
     let on_block : IsBlockOf c.lay_if.new.self [] (laid h e) =
     subst (λ x. IsBlockOf c.lay_if.new.self [] (laid h x)) (sym alike) (c.in_ok-lay_if.ensures.answer h a.block a.undo at (subst (IsNext h) alike next)) in
@@ -48,7 +49,7 @@ returns-clause-laid g c = λ run may.
     subst (λ (x : Graph). PutsIn x c.lay_if.new.other c.in_ok-newcomer.newcomer) entered.shows
     (subst (λ (x : Graph). PutsIn entered.shown.now x c.in_ok-newcomer.newcomer) entered.leaves entered.met.0) in
     let in_graph : IsGraphOf c.lay_if.new.other (all ++ e ∷ []) =
-    put all p a.block a.start (a.start + length a.bytes.now) a.after.now a.undo c.in_ok-newcomer.ensures.drawn holds is orderly in
+    put all p a.block a.start (a.start + length a.bytes.now) (numbers_named a.after) a.undo c.in_ok-newcomer.ensures.drawn holds is orderly in
     record {
       number_is = no;
       on_block = subst (λ x. IsBlockOf c.lay_if.new.self [] x) (sym here) on_block;

@@ -21,7 +21,7 @@ pub returns-in_err-make-in-None-clause-cause : goal.returns-in_err-make-in-None-
 returns-in_err-make-in-None-clause-cause g c = λ run at.
     let a = c.args in
     let May : List ℕ → List ℕ → Type 0 = λ bytes after. None ≡ why_not_created run a.block a.start bytes after in
-    let may = subst (λ bytes. May bytes a.after) c.as_slice.ensures (subst (May c.as_slice.result.now) c.as_slice-2.ensures (c.in-None.ensures.cause run at)) in
+    let may = subst (λ bytes. May bytes a.after) c.as_slice.ensures (subst (May c.as_slice.result.now) c.lend.ensures (c.in-None.ensures.cause run at)) in
     lacks_memory _ c.from_residual.result may c.from_residual.ensures.1
 
 pub returns-in_err-make-in-None-clause-trace : goal.returns-in_err-make-in-None-clause-trace
@@ -34,7 +34,7 @@ pub returns-in_ok-make-in-None-clause-made : goal.returns-in_ok-make-in-None-cla
 returns-in_ok-make-in-None-clause-made g c = λ run at.
     let a = c.args in
     let May : List ℕ → List ℕ → Type 0 = λ bytes after. None ≡ why_not_created run a.block a.start bytes after in
-    let may = subst (λ bytes. May bytes a.after) c.as_slice.ensures (subst (May c.as_slice.result.now) c.as_slice-2.ensures (c.in-None.ensures.cause run at)) in
+    let may = subst (λ bytes. May bytes a.after) c.as_slice.ensures (subst (May c.as_slice.result.now) c.lend.ensures (c.in-None.ensures.cause run at)) in
     c.in_ok-make-in-None.ensures.made run at (sym may)
 
 pub returns-in_ok-make-in-None-clause-cause : goal.returns-in_ok-make-in-None-clause-cause

@@ -38,7 +38,7 @@ returns-clause-made g c = λ run at why.
     let here = lent _ a.block c.block.inside.0 _ run c.block.view_is c.index_mut-state.ensures.value seen lawful.known in
     let Lays : List ℕ → List ℕ → Type 0 = λ bs ns. MayLay run a.block a.start bs ns c.index_mut-state.result.now c.self.inside.graph
     → IsLaid run a.block a.start bs ns a.undo c.in_ok-no.no c.lay_on.new.state c.lay_on.new.graph in
-    let lays = subst (λ bs. Lays bs a.after) c.as_slice.ensures (subst (Lays c.as_slice.result.now) c.as_slice-2.ensures (c.in_ok-no.ensures.laid run)) in
+    let lays = subst (λ bs. Lays bs a.after) c.as_slice.ensures (subst (Lays c.as_slice.result.now) c.lend.ensures (c.in_ok-no.ensures.laid run)) in
     let made = lays (record { run_legal = at.legal; on_block = here; in_graph = seen.graph; legal = lawful }) in
     let one = c.live_are_counted.ensures.made run a.block a.start a.bytes a.after a.undo in
     let live = seen.live in

@@ -1,6 +1,7 @@
 use Rattle.std.proofs.Common.{◌≡◌, ◌∙◌, ◌+◌, ◌<◌, ◌≤◌, ℕ, List, length, false, sym, ap, subst, true}
 use Rattle.std.specs.Prelude.{nat_le, count_by}
 use Rattle.std.specs.List.{list_any}
+use Rattle.patch_model.specs.Names.{numbers_named}
 use Rattle.patch_model.specs.Entry.{Entry, is_live}
 use Rattle.patch_model.specs.State.{entries_of}
 use Rattle.patch_model.specs.declared.blocks.TheConstants.{BLOCK}
@@ -22,7 +23,7 @@ returns-then-start-bytes-clause-cause g c = λ run at.
       | then-bytes-gt-BLOCK w ↦ past_alone a.start (length bytes) w.if-bytes-gt-BLOCK.true
       | else-bytes-gt-BLOCK w ↦ past_end a.start (length bytes) c.if-bytes-gt-BLOCK.value w.if-bytes-gt-BLOCK.false w.value-is c.if-start-bytes.true
     ] in
-    out_of_block (length run.first) (entries_of run) a.block a.start bytes a.after.now known (sym c.is_empty.ensures ∙ c.if-is_empty.false) past
+    out_of_block (length run.first) (entries_of run) a.block a.start bytes (numbers_named a.after) known (sym c.is_empty.ensures ∙ c.if-is_empty.false) past
 
 pub returns-else-self-ge-MAX_LIVE-clause-cause : goal.returns-else-self-ge-MAX_LIVE-clause-cause
 returns-else-self-ge-MAX_LIVE-clause-cause g c = λ run at.
@@ -35,11 +36,11 @@ returns-else-self-ge-MAX_LIVE-clause-cause g c = λ run at.
       | else-bytes-gt-BLOCK w ↦ upto_end a.start (length bytes) c.if-bytes-gt-BLOCK.value w.if-bytes-gt-BLOCK.false w.value-is c.if-start-bytes.false
     ] in
     let made : c.self.inside.graph.made ≡ length all = ap (λ (v : Contents). v.graph.made) c.self.view_is ∙ at.graph.made in
-    let named : list_any (λ n. nat_le (length all) n) a.after.now ≡ false =
-    subst (λ (k : ℕ). list_any (λ n. nat_le k n) a.after.now ≡ false) (c.made.ensures ∙ made) (sym c.names_unmade.ensures ∙ c.if-names_unmade.false) in
+    let named : list_any (λ n. nat_le (length all) n) (numbers_named a.after) ≡ false =
+    subst (λ (k : ℕ). list_any (λ n. nat_le k n) (numbers_named a.after) ≡ false) (c.made.ensures ∙ made) (sym c.names_unmade.ensures ∙ c.if-names_unmade.false) in
     let few : length all < MAX_PATCHES = subst (λ (k : ℕ). k < MAX_PATCHES) (c.made-else-names_unmade.ensures ∙ made) c.if-made-ge-MAX_PATCHES.false in
     let few_live : count_by is_live all < MAX_LIVE = subst (λ (k : ℕ). k < MAX_LIVE) (ap (λ (v : Contents). v.live) c.self.view_is ∙ at.live) c.if-self-ge-MAX_LIVE.false in
-    none_against (length run.first) all a.block a.start bytes a.after.now known (sym c.is_empty.ensures ∙ c.if-is_empty.false) fits named few few_live
+    none_against (length run.first) all a.block a.start bytes (numbers_named a.after) known (sym c.is_empty.ensures ∙ c.if-is_empty.false) fits named few few_live
 
 pub overflow_sub-bytes : goal.overflow_sub-bytes
 overflow_sub-bytes g c = c.if-bytes-gt-BLOCK.false
@@ -47,13 +48,13 @@ overflow_sub-bytes g c = c.if-bytes-gt-BLOCK.false
 pub returns-then-block-len-clause-cause : goal.returns-then-block-len-clause-cause
 returns-then-block-len-clause-cause g c = λ run at.
     let a = c.args in
-    beyond_blocks (length run.first) (entries_of run) a.block a.start a.bytes.now a.after.now
+    beyond_blocks (length run.first) (entries_of run) a.block a.start a.bytes.now (numbers_named a.after)
     (past_all _ a.self.now run a.block c.block.inside.0 _ _ c.block.view_is c.self.view_is at.count c.self.inside.blocks.ok.0 c.len.ensures c.if-block-len.true)
 
 pub returns-then-is_empty-clause-cause : goal.returns-then-is_empty-clause-cause
 returns-then-is_empty-clause-cause g c = λ run at.
     let a = c.args in
-    no_bytes (length run.first) (entries_of run) a.block a.start a.bytes.now a.after.now
+    no_bytes (length run.first) (entries_of run) a.block a.start a.bytes.now (numbers_named a.after)
     (subst (λ (n : ℕ). a.block < n) at.count (below_count _ a.self.now a.block c.block.inside.0 _ _ c.block.view_is c.self.view_is c.self.inside.blocks.ok.0 c.len.ensures c.if-block-len.false)) (sym c.is_empty.ensures ∙ c.if-is_empty.true)
 
 pub returns-then-names_unmade-clause-cause : goal.returns-then-names_unmade-clause-cause
@@ -67,9 +68,9 @@ returns-then-names_unmade-clause-cause g c = λ run at.
       | else-bytes-gt-BLOCK w ↦ upto_end a.start (length bytes) c.if-bytes-gt-BLOCK.value w.if-bytes-gt-BLOCK.false w.value-is c.if-start-bytes.false
     ] in
     let made : c.self.inside.graph.made ≡ length all = ap (λ (v : Contents). v.graph.made) c.self.view_is ∙ at.graph.made in
-    let named : list_any (λ n. nat_le (length all) n) a.after.now ≡ true =
-    subst (λ (k : ℕ). list_any (λ n. nat_le k n) a.after.now ≡ true) (c.made.ensures ∙ made) (sym c.names_unmade.ensures ∙ c.if-names_unmade.true) in
-    unknown_name (length run.first) all a.block a.start bytes a.after.now known (sym c.is_empty.ensures ∙ c.if-is_empty.false) fits named
+    let named : list_any (λ n. nat_le (length all) n) (numbers_named a.after) ≡ true =
+    subst (λ (k : ℕ). list_any (λ n. nat_le k n) (numbers_named a.after) ≡ true) (c.made.ensures ∙ made) (sym c.names_unmade.ensures ∙ c.if-names_unmade.true) in
+    unknown_name (length run.first) all a.block a.start bytes (numbers_named a.after) known (sym c.is_empty.ensures ∙ c.if-is_empty.false) fits named
 
 pub returns-then-made-ge-MAX_PATCHES-clause-cause : goal.returns-then-made-ge-MAX_PATCHES-clause-cause
 returns-then-made-ge-MAX_PATCHES-clause-cause g c = λ run at.
@@ -82,10 +83,10 @@ returns-then-made-ge-MAX_PATCHES-clause-cause g c = λ run at.
       | else-bytes-gt-BLOCK w ↦ upto_end a.start (length bytes) c.if-bytes-gt-BLOCK.value w.if-bytes-gt-BLOCK.false w.value-is c.if-start-bytes.false
     ] in
     let made : c.self.inside.graph.made ≡ length all = ap (λ (v : Contents). v.graph.made) c.self.view_is ∙ at.graph.made in
-    let named : list_any (λ n. nat_le (length all) n) a.after.now ≡ false =
-    subst (λ (k : ℕ). list_any (λ n. nat_le k n) a.after.now ≡ false) (c.made.ensures ∙ made) (sym c.names_unmade.ensures ∙ c.if-names_unmade.false) in
+    let named : list_any (λ n. nat_le (length all) n) (numbers_named a.after) ≡ false =
+    subst (λ (k : ℕ). list_any (λ n. nat_le k n) (numbers_named a.after) ≡ false) (c.made.ensures ∙ made) (sym c.names_unmade.ensures ∙ c.if-names_unmade.false) in
     let many : MAX_PATCHES ≤ length all = subst (λ (k : ℕ). MAX_PATCHES ≤ k) (c.made-else-names_unmade.ensures ∙ made) c.if-made-ge-MAX_PATCHES.true in
-    numbers_spent (length run.first) all a.block a.start bytes a.after.now known (sym c.is_empty.ensures ∙ c.if-is_empty.false) fits named many
+    numbers_spent (length run.first) all a.block a.start bytes (numbers_named a.after) known (sym c.is_empty.ensures ∙ c.if-is_empty.false) fits named many
 
 pub returns-then-self-ge-MAX_LIVE-clause-cause : goal.returns-then-self-ge-MAX_LIVE-clause-cause
 returns-then-self-ge-MAX_LIVE-clause-cause g c = λ run at.
@@ -98,11 +99,11 @@ returns-then-self-ge-MAX_LIVE-clause-cause g c = λ run at.
       | else-bytes-gt-BLOCK w ↦ upto_end a.start (length bytes) c.if-bytes-gt-BLOCK.value w.if-bytes-gt-BLOCK.false w.value-is c.if-start-bytes.false
     ] in
     let made : c.self.inside.graph.made ≡ length all = ap (λ (v : Contents). v.graph.made) c.self.view_is ∙ at.graph.made in
-    let named : list_any (λ n. nat_le (length all) n) a.after.now ≡ false =
-    subst (λ (k : ℕ). list_any (λ n. nat_le k n) a.after.now ≡ false) (c.made.ensures ∙ made) (sym c.names_unmade.ensures ∙ c.if-names_unmade.false) in
+    let named : list_any (λ n. nat_le (length all) n) (numbers_named a.after) ≡ false =
+    subst (λ (k : ℕ). list_any (λ n. nat_le k n) (numbers_named a.after) ≡ false) (c.made.ensures ∙ made) (sym c.names_unmade.ensures ∙ c.if-names_unmade.false) in
     let few : length all < MAX_PATCHES = subst (λ (k : ℕ). k < MAX_PATCHES) (c.made-else-names_unmade.ensures ∙ made) c.if-made-ge-MAX_PATCHES.false in
     let many : MAX_LIVE ≤ count_by is_live all = subst (λ (k : ℕ). MAX_LIVE ≤ k) (ap (λ (v : Contents). v.live) c.self.view_is ∙ at.live) c.if-self-ge-MAX_LIVE.true in
-    too_many_live (length run.first) all a.block a.start bytes a.after.now known (sym c.is_empty.ensures ∙ c.if-is_empty.false) fits named few many
+    too_many_live (length run.first) all a.block a.start bytes (numbers_named a.after) known (sym c.is_empty.ensures ∙ c.if-is_empty.false) fits named few many
 
 -- what is known where it isn't refused
 pub returns-else-self-ge-MAX_LIVE-clause-known : goal.returns-else-self-ge-MAX_LIVE-clause-known

@@ -2,9 +2,10 @@ use Rattle.std.proofs.Common.{◌≡◌, ℕ, false, List, [], refl, ◌≤◌, 
 use Rattle.std.proofs.lemmas.List.{length_push}
 use Rattle.std.proofs.lemmas.Result.{IfOk-from_err}
 use Rattle.patch_plans.specs.Groups.{Group, fresh}
-use Rattle.patch_group.specs.declared.records.Run.{Run}
+use Rattle.patch_model.specs.declared.runs.Run.{Run}
 use Rattle.patch_group.specs.declared.refusals.GroupRefusal.TheVariants.{OutOfMemory as NoMemory}
-use Rattle.patch_group.specs.Records.{group_of, groups_of, patches_in}
+use Rattle.patch_model.specs.Runs.{numbers_in}
+use Rattle.patch_group.specs.Records.{group_of, groups_of}
 use Rattle.patch_group.proofs.Keeping.{has_room, made_all, crowded, may_begin, one_begun}
 use Rattle.patch_group.proofs.Outcomes.{refused-still, refused-told, lacking}
 use Rattle.patch_group.proofs.Befores.{kept_same, none_kept}
@@ -49,7 +50,7 @@ pub returns-clause-made : goal.returns-clause-made
 returns-clause-made g c =
     let es = c.self.inside.engaged.items in
     let many = made_all c.self.inside.groups.items c.args.self.now _ _ c.len-made.ensures c.self.inside.groups.ok.0 (ap (λ s. s.groups) c.self.view_is) in
-    let with : List ℕ → List Run → Group = λ ns rs. record { started = false; sealed = false; closed = false; before = ns; patches = patches_in rs } in
+    let with : List ℕ → List Run → Group = λ ns rs. record { started = false; sealed = false; closed = false; before = ns; patches = numbers_in rs } in
     let is_fresh : with c.new.result.items c.new-2.result.items ≡ fresh = ap (λ ns. with ns c.new-2.result.items) c.new.ensures.items ∙ ap (with []) c.new-2.ensures.items in (
       sym (may_begin c.args.self.now _ many c.if-made-ge-MAX_GROUPS.false),
       many,
