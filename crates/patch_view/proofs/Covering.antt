@@ -1,7 +1,7 @@
 -- What tells that no class rests on another, as the classes change.
 use Rattle.std.proofs.Common.{◌≡◌, ◌≢◌, ℕ, zero, suc, ◌+◌, ◌<◌, ◌≤◌, ◌⊎◌, ◌∙◌, true, false, not, inl, inr, List, [], ◌∷◌, ◌++◌, length, filter, get_or, set, max, get_or-set_same, get_or-set_other, refl, sym, ap, subst, arith, Bool, Option, Some, None}
 use Rattle.std.specs.Prelude.{◌==◌, ◌&&◌, ◌||◌, nat_lt, nat_le, IfSome, is_some}
-use Rattle.std.specs.List.{insert, remove}
+use Rattle.std.specs.List.{insert, remove, list_any}
 use Rattle.std.proofs.lemmas.Bool.{cases_Bool, cases_eq, cases_lt, both_ways, and_parts, and_from, or_cases, or_left, or_right, eq-eqb, eqb-true, ltb-true, lt-ltb, false_from_ne_true}
 use Rattle.std.proofs.lemmas.List.{length-set, get_or_past, get_or_default, get_or_append_left, get_or_push, length_push}
 use Rattle.std.proofs.lemmas.List.Edits.{length-remove, get_or-remove_below}
@@ -13,7 +13,7 @@ use Rattle.patch_skyline.specs.Skyline.{top_at, has_byte}
 use Rattle.patch_view.specs.declared.members.Members.{Members}
 use Rattle.patch_view.specs.Members.{with_member, unless_other}
 use Rattle.patch_view.specs.State.{Class, Block, class_at, no_class, spans, meets, names, follows, has_room_for, with_lists, with_lists_of, KnownApart, IsOnlyNamed}
-use Rattle.patch_view.specs.Rests.{Rests, no_rests, begun, IsLaidOver, IsLaidOn, IsFree, Covers, KnownRests, IsUnion}
+use Rattle.patch_view.specs.Rests.{Rests, no_rests, begun, IsLaidOver, IsLaidOn, IsFree, IsLoose, Covers, KnownRests, IsUnion}
 use Rattle.patch_view.proofs.Exchange.{spans-from, spans-at}
 use Rattle.patch_view.proofs.Marking.{stood, stood_is, at_stood}
 use Rattle.patch_view.proofs.Moving.{came, came_facts, came_within, at_came, length-moved}
@@ -64,6 +64,12 @@ kept-covers newest r old new f within like order k = record {
       (a.0, a.1, ap (λ ms. is_among ms a.0) e.members ∙ a.2);
   names = λ i n on. let e = like i (name_inside new i n on) in k.names (f i) n (ap (λ us. is_among us n) (sym e.after) ∙ on);
   called = λ i w. called-like (get_or new i no_class) (get_or old (f i) no_class) (like i w) (k.called (f i) (within i w));
+  topped = λ i x w on. k.topped (f i) x (within i w) (sym (spans-like (get_or new i no_class) (get_or old (f i) no_class) x (like i w)) ∙ on);
+  shared = λ i j x less w p q.
+      let s = sym (spans-like (get_or new i no_class) (get_or old (f i) no_class) x (like i (omega arith))) ∙ p in
+      let t = sym (spans-like (get_or new j no_class) (get_or old (f j) no_class) x (like j w)) ∙ q in
+      k.shared (f i) (f j) x (order i j x less w s t) (within j w) s t;
+  upward = λ i n on. let e = like i (member_inside new i n on) in k.upward (f i) n (ap (λ ms. is_among ms n) (sym e.members) ∙ on);
 }
 
 -- at each place a class like the one that was there
@@ -230,6 +236,28 @@ laid-covers newest q r cs c top names called one starts stops after some laid lo
     | inl p ↦ subst (λ (z : Class). is_among z.members z.name ≡ true) (sym p.1) (k.called i p.0)
     | inr p ↦ subst (λ (z : Class). is_among z.members z.name ≡ true) (sym p.1) called
   ];
+  topped = λ i x w on. elim (cases_Bool (has_byte top x)) [
+    | inl t ↦ (top.no, laid.tops.here x t)
+    | inr t ↦ elim (new-place cs c i w) [
+      | inl p ↦ let a = k.topped i x p.0 (ap (λ (z : Class). spans z x) (sym p.1) ∙ on) in (a.0, laid.tops.beside x t ∙ a.1)
+      | inr p ↦ absurd (both_ways _ t (sym (c-spans x) ∙ ap (λ (z : Class). spans z x) (sym p.1) ∙ on))
+    ]
+  ];
+  shared = λ i j x less w p s.
+      let l = length_push cs c in
+      let w_i : i < length cs = omega arith in
+      let p_i = ap (λ (z : Class). spans z x) (sym (get_or_append_left cs (c ∷ []) no_class i w_i)) ∙ p in
+      elim (new-place cs c j w) [
+        | inl u ↦ laid.shared.kept x (k.shared i j x less u.0 p_i (ap (λ (z : Class). spans z x) (sym u.1) ∙ s))
+        | inr u ↦
+            let a = k.topped i x w_i p_i in
+            let b = spans-at c x (ap (λ (z : Class). spans z x) (sym u.1) ∙ s) in
+            laid.shared.added x a.0 (omega (arith, starts, b.0)) (omega (arith, stops, b.1)) a.1
+      ];
+  upward = λ i n on. let o = laid.oldest in elim (new-place cs c i (member_inside (cs ++ c ∷ []) i n on)) [
+    | inl p ↦ let l = k.upward i n (ap (λ (z : Class). is_among z.members n) (sym p.1) ∙ on) in omega arith
+    | inr p ↦ let e = the-one top.no n (ap (λ ms. is_among ms n) (sym (ap (λ (z : Class). z.members) p.1 ∙ one)) ∙ on) in omega arith
+  ];
 }
   where
     c-spans : (x : ℕ) → spans c x ≡ has_byte top x
@@ -243,6 +271,9 @@ first-covers cs none = record {
   above = λ i j x less w p q. absurd (omega arith);
   names = λ i n on. let w = name_inside cs i n on in absurd (omega arith);
   called = λ i w. absurd (omega arith);
+  topped = λ i x w on. absurd (omega arith);
+  shared = λ i j x less w p q. absurd (omega arith);
+  upward = λ i n on. let w = member_inside cs i n on in absurd (omega arith);
 }
 
 pub laid_rests : (cs : List Class) (c : Class) (m : Members) (only : Bool) (rests now : Option Rests) (top : Span) (names : List ℕ)
@@ -360,6 +391,45 @@ settled-covers newest r cs low high both a u c = record {
     | inl e ↦ subst (λ (z : Class). is_among z.members z.name ≡ true) (sym (here i e)) u.called
     | inr ne ↦ subst (λ (z : Class). is_among z.members z.name ≡ true) (sym (there i ne)) (c.called (stood high i) (inside i w))
   ];
+  topped = λ i x w on. elim (cases_eq i low) [
+    | inl e ↦ elim (or_cases _ _ (sym (u.spans x) ∙ ap (λ (z : Class). spans z x) (sym (here i e)) ∙ on)) [
+      | inl t ↦ c.topped low x (omega (arith, a.less, a.within)) t
+      | inr t ↦ c.topped high x a.within t
+    ]
+    | inr ne ↦ c.topped (stood high i) x (inside i w) (ap (λ (z : Class). spans z x) (sym (there i ne)) ∙ on)
+  ];
+  shared = λ i j x less w p q. elim (cases_eq i low) [
+    | inl e ↦
+        let ne : j ≢ low = (λ z. absurd (omega arith)) in
+        let past : low < stood high j = elim (stood_is high j) [ inl s ↦ omega arith | inr s ↦ omega arith ] in
+        let q_j = ap (λ (z : Class). spans z x) (sym (there j ne)) ∙ q in
+        elim (or_cases _ _ (sym (u.spans x) ∙ ap (λ (z : Class). spans z x) (sym (here i e)) ∙ p)) [
+          | inl t ↦ c.shared low (stood high j) x past (inside j w) t q_j
+          | inr t ↦ elim (stood_is high j) [
+            | inl s ↦ c.shared (stood high j) high x (omega (arith, s.0, s.1)) a.within q_j t
+            | inr s ↦ c.shared high (stood high j) x (omega (arith, s.0, s.1)) (inside j w) t q_j
+          ]
+        ]
+    | inr ne ↦
+        let p_i = ap (λ (z : Class). spans z x) (sym (there i ne)) ∙ p in
+        elim (cases_eq j low) [
+          | inl e ↦
+              let same : stood high i ≡ i = elim (stood_is high i) [ inl s ↦ s.1 | inr s ↦ let l = a.less in absurd (omega arith) ] in
+              elim (or_cases _ _ (sym (u.spans x) ∙ ap (λ (z : Class). spans z x) (sym (here j e)) ∙ q)) [
+                | inl t ↦ c.shared (stood high i) low x (omega arith) (omega (arith, a.less, a.within)) p_i t
+                | inr t ↦ c.shared (stood high i) high x (omega (arith, a.less)) a.within p_i t
+              ]
+          | inr nf ↦
+              c.shared (stood high i) (stood high j) x (stood_less high i j less) (inside j w) p_i (ap (λ (z : Class). spans z x) (sym (there j nf)) ∙ q)
+        ]
+  ];
+  upward = λ i n on. elim (cases_eq i low) [
+    | inl e ↦ elim (or_cases _ _ (u.lists.members n (ap (λ (z : Class). is_among z.members n) (sym (here i e)) ∙ on))) [
+      | inl t ↦ c.upward low n t
+      | inr t ↦ c.upward high n t
+    ]
+    | inr ne ↦ c.upward (stood high i) n (ap (λ (z : Class). is_among z.members n) (sym (there i ne)) ∙ on)
+  ];
 }
   where
     long : length (remove cs high) + 1 ≡ length cs
@@ -424,6 +494,34 @@ free-follows newest r b at c f k = false_from_ne_true _ (λ t.
           let q = list_any-at (λ m. is_among (class_at b at).members m) (class_at b k).after n in
           both_ways _ (f.unnamed q.0 q.2) (c.names k q.0 (In-among (class_at b k).after q.0 q.1))
     ])
+
+none-any : (p : ℕ → Bool) (ns : List ℕ) → length ns ≡ 0 → list_any p ns ≡ false
+none-any p [] e = refl
+none-any p (n ∷ ns) e = absurd (omega arith)
+
+-- a class rests on nothing of which that is told
+pub loose-follows : (newest : ℕ) (r : Rests) (b : Block) (at : ℕ) → at < length b.classes → Covers newest r b.classes
+    → IsLoose r (class_at b at).after (class_at b at).start (class_at b at).stop → (m : ℕ) → follows b at m ≡ false
+loose-follows newest r b at within c f m = false_from_ne_true _ (λ t.
+    let p = and_parts (nat_lt m at) _ t in
+    let less : m < at = ltb-true _ _ p.0 in
+    elim (or_cases (meets (class_at b at) (class_at b m)) (names (class_at b at) (class_at b m)) p.1) [
+      | inl meet ↦
+          let q = and_parts _ _ meet in
+          let q0 : (class_at b at).start < (class_at b m).stop = ltb-true _ _ q.0 in
+          let q1 : (class_at b m).start < (class_at b at).stop = ltb-true _ _ q.1 in
+          let s = c.some at within in
+          let s_m = c.some m (omega arith) in
+          let x = max (class_at b at).start (class_at b m).start in
+          f.unshared x (omega arith) (omega arith)
+          (c.shared m at x less within (spans-from (class_at b m) x (omega arith) (omega arith)) (spans-from (class_at b at) x (omega arith) (omega arith)))
+      | inr n ↦ both_ways _ (none-any (λ k. is_among (class_at b m).members k) (class_at b at).after f.none) n
+    ])
+
+-- no class has a member below the oldest
+pub older-apart : (newest : ℕ) (r : Rests) (cs : List Class) (number : ℕ) → Covers newest r cs → number < r.oldest
+    → (i : ℕ) → is_among (get_or cs i no_class).members number ≡ false
+older-apart newest r cs number c below i = false_from_ne_true _ (λ on. let o = c.upward i number on in absurd (omega arith))
 
 pub not-false : (b : Bool) → not b ≡ false → b ≡ true
 not-false true e = refl

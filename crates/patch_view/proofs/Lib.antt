@@ -32,6 +32,7 @@ pub mod Standing
 pub mod Taken
 pub mod Apart
 pub mod Covering
+pub mod Sharing
 pub mod Baring
 pub mod Gapping
 pub mod Departing

@@ -1,16 +1,15 @@
 -- What the calls that change a block's records make of the history that these represent, where nothing is taken.
-use Rattle.std.specs.Prelude.{ℕ, Bool, true, false, ◌≡◌, ◌+◌, ◌≤◌, ◌⊎◌, List, [], length, map, Option, Result, Ok, Err, OnOk, MatchResult}
+use Rattle.std.specs.Prelude.{ℕ, Bool, ◌≡◌, ◌⊎◌, List, [], map, Option, Result, Ok, Err, OnOk, MatchResult}
 use Rattle.std.specs.Fn.{Once, FnOnceReturnsAtMut}
 use Rattle.std.specs.Borrow.{MutBor}
 use Rattle.std.specs.List.Sorted.{IsNonDecreasing}
-use Rattle.patch_model.specs.declared.blocks.TheConstants.{BLOCK}
 use Rattle.patch_model.specs.declared.patches.Undo.{Undo}
 use Rattle.patch_model.specs.Entry.{Entry}
 use Rattle.patch_model.specs.History.{History}
 use Rattle.patch_model.specs.Orderly.{MayJoin}
 use Rattle.patch_model.specs.State.{sent}
 use Rattle.patch_view.specs.History.{IsNext, MayDepart, laid, made, with_joined}
-use Rattle.patch_view.specs.State.{Block, Drawn, Joint, IsLaid, IsDrawn, IsJoint, class_at, in_its_place, settled_at}
+use Rattle.patch_view.specs.State.{Block, Drawn, Joint, IsDrawn, IsJoint, class_at, in_its_place, settled_at}
 use Rattle.patch_view.specs.Meaning.{Represents}
 use Rattle.patch_view.specs.Answers.{IsPatch}
 

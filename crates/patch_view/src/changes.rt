@@ -185,13 +185,17 @@ impl<A: Allocator> BlockState<A> {
         forget(&mut self.image);
     }
 
-    /// Whether the class at `k` depends directly on one from `front` up to it.
+    /// Whether the class at `k` depends directly on one from `front` up to it. Where it is known to depend on none, no record is
+    /// looked at but its own.
     fn follows_any(&self, front: usize, k: usize) -> bool
         requires down { front ≤ k }
         requires within { k < length self.now.classes }
         ensures no { IsFalse result → (m : ℕ) → front ≤ m → m < k → follows self.now k m ≡ false }
         ensures yes { IsTrue result → (m : ℕ) × (front ≤ m) × (m < k) × (follows self.now k m ≡ true) }
     {
+        if self.is_loose_at(k) {
+            return false;
+        }
         for m in front..k {
             if self.follows_at(k, m) {
                 return true;

@@ -6,7 +6,7 @@ ghost use Rattle.patch_model.specs.Entry.{is_among};
 ghost use Rattle.patch_view.specs.State.{is_takeable, uncovered, laid_on, exchanged_with, leaves_taken, meets, names, departed, departed_among, MayHaveDeparted, merged, IsMerged, IsDrawn};
 ghost use Rattle.patch_view.specs.State.{spans, follow_on, has_room_for, is_around, with_lists_of, with_all_of, in_its_place, with_lists};
 ghost use Rattle.patch_view.specs.Gaps.{saved_end, saves_any};
-ghost use Rattle.patch_view.specs.Rests.{IsFree, IsUnion, HasListsOf};
+ghost use Rattle.patch_view.specs.Rests.{IsFree, IsLoose, IsUnion, HasListsOf};
 
 use crate::number_lists::{
     NumberList, greatest_of, interleave, is_interleaved, is_listed, least_of, place_in, put_in_turn,
@@ -43,14 +43,14 @@ impl Turn {
 #[derive(Drop)]
 pub(crate) struct Class<A: Allocator = Global> {
     name: PatchNo,
-    members: NumberList<A>,
-    start: usize,
-    stop: usize,
-    saved: Vec<u8, A>,
-    after: NumberList<A>,
     flying: bool,
     hard: bool,
     taken: bool,
+    start: usize,
+    stop: usize,
+    saved: Vec<u8, A>,
+    members: NumberList<A>,
+    after: NumberList<A>,
     room: usize,
 }
 
@@ -184,6 +184,13 @@ impl<A: Allocator> Class<A> {
         ensures { IsTrue result → IsFree rests.now self.now.members self.now.start self.now.stop }
     {
         rests.tell_free(self.members.as_slice(), self.start, self.stop)
+    }
+
+    /// Whether it is known that it rests on nothing in the block.
+    pub(crate) fn is_told_loose(&self, rests: &Rests<A>) -> bool
+        ensures { IsTrue result → IsLoose rests.now self.now.after self.now.start self.now.stop }
+    {
+        rests.tell_loose(self.after.as_slice(), self.start, self.stop)
     }
 
     fn meets(&self, other: &Class<A>) -> bool

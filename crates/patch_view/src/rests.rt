@@ -1,12 +1,13 @@
 //! What tells at once that no class of a block rests on another.
-ghost use Rattle.std.specs.Prelude.{ℕ, ◌≡◌, ◌<◌, ◌∷◌, [], length, slice_index_or, true, Some, IfSome, IfOk, OnOk, IsTrue};
+ghost use Rattle.std.specs.Prelude.{ℕ, ◌≡◌, ◌<◌, ◌∷◌, [], length, nat_lt, slice_index_or, true, Some, IfSome, IfOk, OnOk, IsTrue};
 ghost use Rattle.std.specs.List.{list_any};
 ghost use Rattle.std.specs.List.Sorted.{IsNonDecreasing};
 ghost use Rattle.patch_model.specs.Entry.{is_among};
 ghost use Rattle.patch_skyline.specs.declared.skylines.Span.{Span as Top};
-ghost use Rattle.patch_view.specs.Rests.{IsLaidOver, IsLaidOn, IsFree, HasTopsOf, begun, no_rests, Gains};
+ghost use Rattle.patch_view.specs.Rests.{IsLaidOver, IsLaidOn, IsFree, IsLoose, HasTopsOf, Shares, begun, no_rests, Gains};
 
 use crate::number_lists::is_listed;
+use crate::places::Places;
 use patch_model::{OutOfMemory, PatchNo};
 use patch_skyline::{Skyline, Span};
 use std::alloc::{Allocator, Global};
@@ -18,6 +19,10 @@ use std::marker::Model;
 pub(crate) struct Rests<A: Allocator = Global> {
     skyline: Skyline<A>,
     named: Vec<PatchNo, A>,
+    /// No patch with a lower number was laid.
+    oldest: u32,
+    /// From where to where those bytes lie that two patches wrote.
+    shared: Places,
 }
 
 impl<A: Allocator> Model for Rests<A> {
@@ -26,7 +31,7 @@ impl<A: Allocator> Model for Rests<A> {
 
     ghost Value = { Seen };
 
-    ghost view = { λ r. record { tops = r.skyline.spans; named = r.named.items } };
+    ghost view = { λ r. record { tops = r.skyline.spans; named = r.named.items; oldest = r.oldest; shared = r.shared } };
 
     ghost invariant = { λ r. IsNonDecreasing r.named.items };
 }
@@ -40,6 +45,8 @@ impl<A: Allocator> Rests<A> {
         Ok(Rests {
             skyline: Skyline::new(alloc.clone()?),
             named: Vec::new(alloc.clone()?),
+            oldest: u32::MAX,
+            shared: Places::none(),
         })
     }
 
@@ -48,6 +55,8 @@ impl<A: Allocator> Rests<A> {
     {
         self.skyline.clear();
         self.named.clear();
+        self.oldest = u32::MAX;
+        self.shared = Places::none();
     }
 
     fn lay(&mut self, top: Span, names: &[PatchNo]) -> Result<(), OutOfMemory>
@@ -55,8 +64,38 @@ impl<A: Allocator> Rests<A> {
         ensures { OnOk result (IsLaidOver self.old self.new top names.now) }
     {
         add_all(&mut self.named, names)?;
+        self.shared = self.shared_with(top.start, top.stop);
+        self.oldest = self.oldest.min(top.no.0);
         self.skyline.lay(top)?;
         Ok(())
+    }
+
+    /// From where to where the shared bytes lie once a patch is laid: with its own, if any patch wrote one of them.
+    fn shared_with(&self, start: usize, stop: usize) -> Places
+        requires { start < stop }
+        ensures { Shares self.now.tops start stop self.now.shared result }
+    {
+        let tops = self.skyline.tops(start, stop);
+        if tops.is_empty() {
+            self.shared
+        } else {
+            self.shared.with(start, stop)
+        }
+    }
+
+    /// Whether a number is below those of all patches that were laid.
+    pub(crate) fn are_above(&self, no: PatchNo) -> bool
+        ensures { result ≡ nat_lt no self.now.oldest }
+    {
+        no.0 < self.oldest
+    }
+
+    /// Whether a class of these bytes, which names these, rests on nothing in the block.
+    pub(crate) fn tell_loose(&self, names: &[PatchNo], start: usize, stop: usize) -> bool
+        ensures { IsTrue result → IsLoose self.now names.now start stop }
+    {
+        let shared = self.shared;
+        names.is_empty() && (stop <= shared.from || shared.to <= start)
     }
 
     /// Whether nothing rests on a class of these members and these bytes, where the block's records have no others of them:

@@ -130,6 +130,9 @@ impl<A: Allocator> BlockState<A> {
         if self.members.are_below(no) {
             return false;
         }
+        if self.are_above(no) {
+            return false;
+        }
         if self.place_by_name(no).is_some() {
             return true;
         }
@@ -240,6 +243,34 @@ impl<A: Allocator> BlockState<A> {
                 },
             },
             Turn::PutBack => self.taken.below(at),
+        }
+    }
+
+    /// Whether the number is known to be below those of the records' members.
+    fn are_above(&self, no: PatchNo) -> bool
+        ensures { IsTrue result → (i : ℕ) → is_among (class_at self.now i).members no ≡ false }
+    {
+        if !self.members.are_apart {
+            return false;
+        }
+        match &self.rests {
+            Some(rests) => rests.are_above(no),
+            None => false,
+        }
+    }
+
+    /// Whether it is known that the class at this place depends directly on none. No record is looked at but its own.
+    pub(crate) fn is_loose_at(&self, at: usize) -> bool
+        requires { at < length self.now.classes }
+        ensures { IsTrue result → (m : ℕ) → follows self.now at m ≡ false }
+    {
+        if !self.members.are_apart {
+            return false;
+        }
+        let class = &self.classes[at];
+        match &self.rests {
+            Some(rests) => class.is_told_loose(rests),
+            None => false,
         }
     }
 

@@ -12,6 +12,7 @@ use std::test::Fail;
 enum Course {
     SaveWhatMayGoBack,
     KeepFewNumbers,
+    KeepNoOlderNumber,
     TakeMemoryOnce,
     TakeOneIn,
 }
@@ -25,6 +26,7 @@ fn follow(
     match course {
         Course::SaveWhatMayGoBack => save_what_may_go_back(rt, heap, block),
         Course::KeepFewNumbers => keep_few_numbers(rt, heap, block),
+        Course::KeepNoOlderNumber => keep_no_older_number(rt, heap, block),
         Course::TakeMemoryOnce => take_memory_once(rt, heap, block),
         Course::TakeOneIn => take_one_in(rt, heap, block),
     }
@@ -100,6 +102,26 @@ fn keep_few_numbers(
 #[test]
 fn few_numbers_take_no_memory(rt: HostRuntime) -> Result<(), Fail> {
     follow_in_heap(&rt, rt.alloc(), Course::KeepFewNumbers)
+}
+
+// Of numbers below that of the block's first patch none is kept, so they take no memory, however many patches the block has.
+fn keep_no_older_number(
+    rt: &impl Abort,
+    heap: &LocalHeap,
+    block: &mut BlockState<&LocalHeap>,
+) -> Result<(), Fail> {
+    for no in 10..30u32 {
+        lay_hard(block, no, &[])?;
+    }
+    let before = heap.used();
+    lay_hard(block, 30, &[PatchNo(9), PatchNo(2), PatchNo(1), PatchNo(0)])?;
+    expect_eq(rt, &heap.used(), &before);
+    Ok(())
+}
+
+#[test]
+fn older_numbers_take_no_memory(rt: HostRuntime) -> Result<(), Fail> {
+    follow_in_heap(&rt, rt.alloc(), Course::KeepNoOlderNumber)
 }
 
 fn lay_two_that_touch(block: &mut BlockState<&LocalHeap>) -> Result<(), OutOfMemory> {

@@ -80,6 +80,68 @@ fn what_rests_goes_on_resting(rt: HostRuntime) -> Result<(), Fail> {
     change_others(&rt, &mut block)
 }
 
+// Merges the two patches of a pair that is taken back and put back as one. The pair has the bytes from this one on.
+fn merge_pair(
+    rt: &impl Abort,
+    block: &mut BlockState,
+    lower: u32,
+    upper: u32,
+    start: usize,
+) -> Result<(), OutOfMemory> {
+    assert!(rt; start <= 100);
+    join_by(block, lower, upper)?;
+    expect_taken(rt, block.take(PatchNo(upper)), Ok(()));
+    assert!(rt; block.bytes().get(start..start + 2) == Some(&[0, 0]));
+    block.put_all_back();
+    assert!(rt; block.bytes().get(start..start + 2) == Some(&[7, 7]));
+    Ok(())
+}
+
+// Pairs of patches side by side: first all lower ones, then all upper ones, which name a patch of another block. Each pair is merged.
+fn merge_pairs(rt: &impl Abort, block: &mut BlockState) -> Result<(), OutOfMemory> {
+    for at in 0..40u32 {
+        lay_byte(rt, block, at + 1, at as usize * 2)?;
+    }
+    for at in 0..40u32 {
+        let start = at as usize * 2 + 1;
+        block.lay(PatchNo(at + 41), start, &[7], &[PatchNo(0)], false)?;
+    }
+    for at in 0..40u32 {
+        merge_pair(rt, block, at + 1, at + 41, at as usize * 2)?;
+    }
+    Ok(())
+}
+
+#[test]
+fn pairs_far_apart_are_merged(rt: HostRuntime) -> Result<(), Fail> {
+    let mut block = bare(rt.alloc())?;
+    merge_pairs(&rt, &mut block)?;
+    Ok(())
+}
+
+// A patch that lies over one between the two that are merged, and another one that names such a one, go on resting on it.
+fn merge_past_others(rt: &impl Abort, block: &mut BlockState) -> Result<(), OutOfMemory> {
+    lay_byte(rt, block, 0, 0)?;
+    lay_byte(rt, block, 1, 1)?;
+    lay_byte(rt, block, 2, 1)?;
+    join_by(block, 0, 2)?;
+    expect_rested_on(rt, block, 1, 0);
+    lay_byte(rt, block, 3, 9)?;
+    block.lay(PatchNo(4), 2, &[7], &[PatchNo(3)], false)?;
+    join_by(block, 0, 4)?;
+    expect_rested_on(rt, block, 1, 0);
+    expect_rested_on(rt, block, 3, 0);
+    expect_free(rt, block, 4);
+    Ok(())
+}
+
+#[test]
+fn what_lies_between_two_that_merge_stays_below(rt: HostRuntime) -> Result<(), Fail> {
+    let mut block = bare(rt.alloc())?;
+    merge_past_others(&rt, &mut block)?;
+    Ok(())
+}
+
 // A patch as the plain walk knows it.
 #[derive(Clone, Copy)]
 struct Plain {

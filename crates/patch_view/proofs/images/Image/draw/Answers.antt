@@ -1,4 +1,4 @@
-use Rattle.std.proofs.Common.{◌≡◌, ◌∙◌, true, length, ap, sym, List, ℕ}
+use Rattle.std.proofs.Common.{◌∙◌, true, length, ap, sym, List, ℕ}
 use Rattle.std.proofs.lemmas.List.{with_items_is}
 use Rattle.patch_view.specs.declared.gaps.Gap.{Gap}
 use Rattle.patch_view.specs.Images.{Image, bared}

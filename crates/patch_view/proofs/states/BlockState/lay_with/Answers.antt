@@ -1,8 +1,8 @@
-use Rattle.std.proofs.Common.{◌≡◌, ◌∷◌, [], ◌++◌, false, inl, inr, rules, ◌+◌, ap, ◌∙◌, length, sym, subst, refl, ◌≤◌, List, ℕ, Bool, not, arith}
+use Rattle.std.proofs.Common.{◌≡◌, ◌∷◌, [], ◌++◌, false, inl, inr, rules, ◌+◌, ap, ◌∙◌, length, sym, subst, refl, ◌≤◌, List, ℕ, Bool, not}
 use Rattle.std.specs.Prelude.{◌==◌, if◌then◌else◌}
 use Rattle.std.proofs.lemmas.List.{with_items_is}
 use Rattle.std.proofs.lemmas.Result.{MatchResult-from_err}
-use Rattle.patch_view.specs.State.{Class, Block, is_takeable, laid_over, with_laid}
+use Rattle.patch_view.specs.State.{Class, Block, laid_over, with_laid}
 use Rattle.patch_view.proofs.Standing.{pushed_within}
 use Rattle.patch_view.proofs.Apart.{laid_apart}
 use Rattle.patch_view.proofs.Covering.{laid_rests}
