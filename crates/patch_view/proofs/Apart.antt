@@ -1,16 +1,16 @@
 -- Classes of which no two have a common member.
 use Rattle.std.proofs.Common.{◌≡◌, ◌≢◌, ℕ, zero, suc, ◌+◌, min, ◌<◌, ◌≤◌, ◌⊎◌, ◌∙◌, true, false, not, inl, inr, List, [], ◌∷◌, ◌++◌, length, filter, get_or, set, get_or-set_same, get_or-set_other, refl, sym, ap, arith, subst, Bool, Option, Some, None}
-use Rattle.std.specs.Prelude.{is_some, ◌==◌, ◌&&◌, nat_lt, if◌then◌else◌}
+use Rattle.std.specs.Prelude.{is_some, ◌==◌, ◌&&◌, ◌||◌, nat_lt, if◌then◌else◌}
 use Rattle.std.specs.List.{insert, remove, list_all}
-use Rattle.std.proofs.lemmas.Bool.{cases_Bool, cases_eq, cases_lt, cases_order, both_ways, and_parts, or_cases, eqb-true, ltb-true}
+use Rattle.std.proofs.lemmas.Bool.{cases_Bool, cases_eq, cases_lt, cases_order, both_ways, and_parts, or_cases, or_left, eqb-true, eq-eqb, ltb-true, false_from_ne_true}
 use Rattle.std.proofs.lemmas.List.{length-set, get_or_past, get_or_default, get_or_append_left, get_or_push, length_push}
 use Rattle.std.proofs.lemmas.List.Edits.{length-remove, get_or-remove_below}
 use Rattle.std.proofs.lemmas.List.Quantifiers.{position-Some}
 use Rattle.patch_model.specs.Entry.{is_among}
 use Rattle.patch_model.specs.Member.{list_any-at, list_all-at}
 use Rattle.patch_view.specs.declared.members.Members.{Members}
-use Rattle.patch_view.specs.Members.{with_member, unless_other, are_below}
-use Rattle.patch_view.specs.State.{Class, Block, class_at, no_class, place_of, AreApart, KnownApart, MembersOf}
+use Rattle.patch_view.specs.Members.{with_member, in_disorder, unless_other, are_below, is_next}
+use Rattle.patch_view.specs.State.{Class, Block, class_at, no_class, place_of, AreApart, AreSingle, KnownApart, MembersOf}
 use Rattle.patch_view.proofs.Answering.{position-None}
 use Rattle.patch_view.proofs.Marking.{stood, stood_is, at_stood}
 use Rattle.patch_view.proofs.Moving.{came, came_is, at_came}
@@ -29,6 +29,9 @@ kept_apart old new newest From came_from one a = record {
       one i j m.0 (subst (λ (z : ℕ). From i z) (a.once k.0 m.0 n k.2 m.2) k.1) m.1;
 }
 
+pub the_one : (number n : ℕ) → is_among (number ∷ []) n ≡ true → number ≡ n
+the_one number n t = elim (or_cases (number == n) false t) [ inl e ↦ eqb-true _ _ e | inr e ↦ absurd (cc) ]
+
 none_among : (cs : List Class) (i n : ℕ) → length cs ≤ i → is_among (get_or cs i no_class).members n ≡ false
 none_among cs i n past = ap (λ c. is_among c.members n) (get_or_past cs i no_class past)
 
@@ -39,9 +42,29 @@ member_inside cs i n on = elim (cases_lt i (length cs)) [
 ]
 
 pub none_apart : (cs : List Class) (m : Members) → cs ≡ [] → KnownApart m cs
-none_apart cs m empty known = record {
-  upto = λ i n on. let w = member_inside cs i n on in let l = ap length empty in absurd (omega (arith, w, l));
-  once = λ i j n on also. let w = member_inside cs i n on in let l = ap length empty in absurd (omega (arith, w, l));
+none_apart cs m empty = let l = ap length empty in (
+  (λ known. record {
+    upto = λ i n on. let w = member_inside cs i n on in absurd (omega (arith, w, l));
+    once = λ i j n on also. let w = member_inside cs i n on in absurd (omega (arith, w, l));
+  }),
+  (λ known. record {
+    one = λ i w. absurd (omega (arith, w, l));
+    rising = λ i j less w. absurd (omega (arith, w, l));
+  }),
+)
+
+-- each class has the members and the name of one that there was, in the same order
+kept_single : (old new : List Class) (f : ℕ → ℕ) → ((i : ℕ) → i < length new → f i < length old)
+    → ((i : ℕ) → i < length new → (get_or new i no_class).members ≡ (get_or old (f i) no_class).members)
+    → ((i : ℕ) → i < length new → (get_or new i no_class).name ≡ (get_or old (f i) no_class).name)
+    → ((i j : ℕ) → i < j → j < length new → f i < f j) → AreSingle old → AreSingle new
+kept_single old new f within same called order s = record {
+  one = λ i w. same i w ∙ s.one (f i) (within i w) ∙ ap (λ n. n ∷ []) (sym (called i w));
+  rising = λ i j less w.
+      let c_i = called i (omega arith) in
+      let c_j = called j w in
+      let up = s.rising (f i) (f j) (order i j less w) (within j w) in
+      omega (arith, c_i, c_j, up);
 }
 
 -- each class came from a place of its own, or has the members of the one there
@@ -52,23 +75,34 @@ places_apart old new newest f same one a = kept_apart old new newest (λ i k. k 
     (λ i n on. (f i, refl, ap (λ ms. is_among ms n) (sym (same i (member_inside new i n on))) ∙ on))
     (λ i j k e d. one i j (sym e ∙ d)) a
 
--- the same members at each place
-pub same_apart : (old new : List Class) (m : Members) → ((i : ℕ) → i < length new → (get_or new i no_class).members ≡ (get_or old i no_class).members)
-    → KnownApart m old → KnownApart m new
-same_apart old new m same a known = places_apart old new m.newest (λ i. i) same (λ i j e. e) (a known)
+-- the same members and the same name at each place
+pub same_apart : (old new : List Class) (m : Members) → length new ≤ length old
+    → ((i : ℕ) → i < length new → (get_or new i no_class).members ≡ (get_or old i no_class).members)
+    → ((i : ℕ) → i < length new → (get_or new i no_class).name ≡ (get_or old i no_class).name) → KnownApart m old → KnownApart m new
+same_apart old new m long same called a = (
+  (λ known. places_apart old new m.newest (λ i. i) same (λ i j e. e) (a.0 known)),
+  (λ known. kept_single old new (λ i. i) (λ i w. omega arith) same called (λ i j less w. less) (a.1 known)),
+)
 
-pub set_apart : (cs : List Class) (c : Class) (at : ℕ) (m : Members) → c.members ≡ (get_or cs at no_class).members → KnownApart m cs → KnownApart m (set cs at c)
-set_apart cs c at m is a =
-    same_apart cs (set cs at c) m (λ i w. elim (cases_eq i at) [
-      | inl e ↦ let l = length-set cs at c in
-          rw e (ap (λ d. d.members) (get_or-set_same cs at c no_class (omega arith)) ∙ is)
+pub set_apart : (cs : List Class) (c : Class) (at : ℕ) (m : Members) → c.members ≡ (get_or cs at no_class).members → c.name ≡ (get_or cs at no_class).name
+    → KnownApart m cs → KnownApart m (set cs at c)
+set_apart cs c at m is called a =
+    let l = length-set cs at c in
+    same_apart cs (set cs at c) m (omega arith) (λ i w. elim (cases_eq i at) [
+      | inl e ↦ rw e (ap (λ d. d.members) (get_or-set_same cs at c no_class (omega arith)) ∙ is)
       | inr ne ↦ ap (λ d. d.members) (get_or-set_other cs at i c no_class ne)
+    ]) (λ i w. elim (cases_eq i at) [
+      | inl e ↦ rw e (ap (λ d. d.name) (get_or-set_same cs at c no_class (omega arith)) ∙ called)
+      | inr ne ↦ ap (λ d. d.name) (get_or-set_other cs at i c no_class ne)
     ]) a
 
 pub departed_apart : (numbers : List ℕ) (first now : List Class) (k : ℕ) (m : Members) → HaveDeparted numbers first now k → KnownApart m first → KnownApart m now
-departed_apart numbers first now k m d a = same_apart first now m (λ i w. elim (d.each i) [
+departed_apart numbers first now k m d a = let l = d.long in same_apart first now m (omega arith) (λ i w. elim (d.each i) [
   | inl e ↦ ap (λ c. c.members) e
   | inr e ↦ ap (λ c. c.members) e.1
+]) (λ i w. elim (d.each i) [
+  | inl e ↦ ap (λ c. c.name) e
+  | inr e ↦ ap (λ c. c.name) e.1
 ]) a
 
 stood_once : (at i j : ℕ) → stood at i ≡ stood at j → i ≡ j
@@ -78,7 +112,15 @@ stood_once at i j e = elim (stood_is at i) [
 ]
 
 pub removed_apart : (cs : List Class) (at : ℕ) (m : Members) → at < length cs → KnownApart m cs → KnownApart m (remove cs at)
-removed_apart cs at m within a known = places_apart cs (remove cs at) m.newest (stood at) (λ i w. ap (λ c. c.members) (at_stood cs at i within)) (stood_once at) (a known)
+removed_apart cs at m within a = let l = length-remove cs at within in (
+  (λ known. places_apart cs (remove cs at) m.newest (stood at) (λ i w. ap (λ c. c.members) (at_stood cs at i within)) (stood_once at) (a.0 known)),
+  (λ known. kept_single cs (remove cs at) (stood at) (λ i w. elim (stood_is at i) [ inl s ↦ omega arith | inr s ↦ omega arith ])
+      (λ i w. ap (λ c. c.members) (at_stood cs at i within)) (λ i w. ap (λ c. c.name) (at_stood cs at i within))
+      (λ i j less w. elim (stood_is at i) [
+        | inl s ↦ elim (stood_is at j) [ inl t ↦ omega arith | inr t ↦ omega arith ]
+        | inr s ↦ elim (stood_is at j) [ inl t ↦ omega arith | inr t ↦ omega arith ]
+      ]) (a.1 known)),
+)
 
 came_once : (front k i j : ℕ) → front ≤ k → came front k i ≡ came front k j → i ≡ j
 came_once front k i j down e = elim (came_is front k i) [
@@ -93,11 +135,13 @@ came_once front k i j down e = elim (came_is front k i) [
 ]
 
 pub moved_apart : (cs : List Class) (front k : ℕ) (m : Members) → front ≤ k → k < length cs → KnownApart m cs
-    → KnownApart m (insert (remove cs k) front (get_or cs k no_class))
-moved_apart cs front k m down within a known =
-    let b : Block = record { bytes = []; classes = cs } in
-    places_apart cs (insert (remove cs k) front (get_or cs k no_class)) m.newest (came front k) (λ i w. ap (λ c. c.members) (at_came b front k i down within))
-    (λ i j. came_once front k i j down) (a known)
+    → KnownApart (in_disorder m) (insert (remove cs k) front (get_or cs k no_class))
+moved_apart cs front k m down within a =
+    let b : Block = record { bytes = []; classes = cs } in (
+      (λ known. places_apart cs (insert (remove cs k) front (get_or cs k no_class)) m.newest (came front k) (λ i w. ap (λ c. c.members) (at_came b front k i down within))
+          (λ i j. came_once front k i j down) (a.0 known)),
+      (λ known. absurd (cc)),
+    )
 
 -- where the element at a place of a filtered list stood
 abbrev pub stayed : (Class → Bool) → List Class → ℕ → ℕ
@@ -122,6 +166,17 @@ stayed_less q (c ∷ cs) (suc i) (suc j) less = elim (cases_Bool (q c)) [
   | inr f ↦ let l = stayed_less q cs (suc i) (suc j) less in rw f (omega arith)
 ]
 
+pub stayed_within : (q : Class → Bool) (cs : List Class) (i : ℕ) → i < length (filter q cs) → stayed q cs i < length cs
+stayed_within q [] i w = absurd (omega arith)
+stayed_within q (c ∷ cs) zero w = elim (cases_Bool (q c)) [
+  | inl t ↦ rw t (omega arith)
+  | inr f ↦ let v = rw f at w in let l = stayed_within q cs zero v in rw f (omega arith)
+]
+stayed_within q (c ∷ cs) (suc i) w = elim (cases_Bool (q c)) [
+  | inl t ↦ let v = rw t at w in let l = stayed_within q cs i (omega arith) in rw t (omega arith)
+  | inr f ↦ let v = rw f at w in let l = stayed_within q cs (suc i) v in rw f (omega arith)
+]
+
 stayed_once : (q : Class → Bool) (cs : List Class) (i j : ℕ) → stayed q cs i ≡ stayed q cs j → i ≡ j
 stayed_once q cs i j e = elim (cases_order i j) [
   | inl same ↦ same
@@ -132,7 +187,11 @@ stayed_once q cs i j e = elim (cases_order i j) [
 ]
 
 pub filtered_apart : (q : Class → Bool) (cs : List Class) (m : Members) → KnownApart m cs → KnownApart m (filter q cs)
-filtered_apart q cs m a known = places_apart cs (filter q cs) m.newest (stayed q cs) (λ i w. ap (λ c. c.members) (stayed_at q cs i)) (stayed_once q cs) (a known)
+filtered_apart q cs m a = (
+  (λ known. places_apart cs (filter q cs) m.newest (stayed q cs) (λ i w. ap (λ c. c.members) (stayed_at q cs i)) (stayed_once q cs) (a.0 known)),
+  (λ known. kept_single cs (filter q cs) (stayed q cs) (λ i w. stayed_within q cs i w) (λ i w. ap (λ c. c.members) (stayed_at q cs i))
+      (λ i w. ap (λ c. c.name) (stayed_at q cs i)) (λ i j less w. stayed_less q cs i j less) (a.1 known)),
+)
 
 pushed_member : (cs : List Class) (c : Class) (number i n : ℕ) → c.members ≡ number ∷ [] → is_among (get_or (cs ++ c ∷ []) i no_class).members n ≡ true
     → (is_among (get_or cs i no_class).members n ≡ true) ⊎ ((i ≡ length cs) × (n ≡ number))
@@ -168,19 +227,71 @@ pushed_apart cs c number is low one = record {
   ];
 }
 
--- a class more
-pub laid_apart : (cs : List Class) (c : Class) (m : Members) (number : ℕ) (only : Bool) → c.members ≡ number ∷ [] → only ≡ (length cs == 0) → KnownApart m cs
-    → KnownApart (with_member m number only) (cs ++ c ∷ [])
-laid_apart cs c m number only is first a known = elim (or_cases only (m.are_apart && nat_lt m.newest number) known) [
+one_apart : (cs : List Class) (c : Class) (m : Members) (number : ℕ) (only : Bool) → c.members ≡ number ∷ [] → only ≡ (length cs == 0) → KnownApart m cs
+    → is_next m number only ≡ true → AreApart number (cs ++ c ∷ [])
+one_apart cs c m number only is first a known = elim (or_cases only (m.are_apart && nat_lt m.newest number) known) [
   | inl t ↦
       let none : length cs ≡ 0 = eqb-true _ _ (sym first ∙ t) in
       pushed_apart cs c number is (λ i n on. let w = member_inside cs i n on in absurd (omega arith)) (λ i j n on also. let w = member_inside cs i n on in absurd (omega arith))
   | inr t ↦
       let p = and_parts m.are_apart (nat_lt m.newest number) t in
-      let r = a p.0 in
+      let r = a.0 p.0 in
       let up : m.newest < number = ltb-true _ _ p.1 in
       pushed_apart cs c number is (λ i n on. let l = r.upto i n on in omega arith) r.once
 ]
+
+pushed_single : (cs : List Class) (c : Class) (number : ℕ) → c.members ≡ number ∷ [] → c.name ≡ number → ((i : ℕ) → i < length cs → (get_or cs i no_class).name < number)
+    → AreSingle cs → AreSingle (cs ++ c ∷ [])
+pushed_single cs c number is called low s = let l = length_push cs c in record {
+  one = λ i w. elim (cases_lt i (length cs)) [
+    | inl before ↦ let e = get_or_append_left cs (c ∷ []) no_class i before in ap (λ d. d.members) e ∙ s.one i before ∙ ap (λ d. d.name ∷ []) (sym e)
+    | inr behind ↦ let e = get_or_push cs c no_class i (omega arith) in ap (λ d. d.members) e ∙ is ∙ ap (λ n. n ∷ []) (sym called) ∙ ap (λ d. d.name ∷ []) (sym e)
+  ];
+  rising = λ i j less w.
+      let w_i : i < length cs = omega arith in
+      let e = ap (λ d. d.name) (get_or_append_left cs (c ∷ []) no_class i w_i) in
+      elim (cases_lt j (length cs)) [
+        | inl before ↦
+            let f = ap (λ d. d.name) (get_or_append_left cs (c ∷ []) no_class j before) in
+            let up = s.rising i j less before in
+            omega (arith, e, f, up)
+        | inr behind ↦
+            let f = ap (λ d. d.name) (get_or_push cs c no_class j (omega arith)) in
+            let up = low i w_i in
+            omega (arith, e, f, called, up)
+      ];
+}
+
+none_single : (cs : List Class) → length cs ≡ 0 → AreSingle cs
+none_single cs none = record { one = λ i w. absurd (omega arith); rising = λ i j less w. absurd (omega arith) }
+
+called_single : (cs : List Class) (i : ℕ) → i < length cs → AreSingle cs → is_among (get_or cs i no_class).members (get_or cs i no_class).name ≡ true
+called_single cs i w s =
+    let n = (get_or cs i no_class).name in
+    ap (λ ms. is_among ms n) (s.one i w) ∙ or_left (n == n) false (eq-eqb n n refl)
+
+one_single : (cs : List Class) (c : Class) (m : Members) (number : ℕ) (only : Bool) → c.members ≡ number ∷ [] → c.name ≡ number → only ≡ (length cs == 0) → KnownApart m cs
+    → (is_next m number only && (only || m.are_single)) ≡ true → AreSingle (cs ++ c ∷ [])
+one_single cs c m number only is called first a known =
+    let k = and_parts (is_next m number only) (only || m.are_single) known in
+    elim (cases_Bool only) [
+      | inl t ↦
+          let none : length cs ≡ 0 = eqb-true _ _ (sym first ∙ t) in
+          pushed_single cs c number is called (λ i w. absurd (omega arith)) (none_single cs none)
+      | inr f ↦
+          let s = a.1 (ap (λ z. z || m.are_single) (sym f) ∙ k.1) in
+          let p = and_parts m.are_apart (nat_lt m.newest number) (ap (λ z. z || (m.are_apart && nat_lt m.newest number)) (sym f) ∙ k.0) in
+          let up : m.newest < number = ltb-true _ _ p.1 in
+          pushed_single cs c number is called (λ i w. let l = (a.0 p.0).upto i (get_or cs i no_class).name (called_single cs i w s) in omega arith) s
+    ]
+
+-- a class more
+pub laid_apart : (cs : List Class) (c : Class) (m : Members) (number : ℕ) (only : Bool) → c.members ≡ number ∷ [] → c.name ≡ number → only ≡ (length cs == 0) → KnownApart m cs
+    → KnownApart (with_member m number only) (cs ++ c ∷ [])
+laid_apart cs c m number only is called first a = (
+  (λ known. one_apart cs c m number only is first a known),
+  (λ known. one_single cs c m number only is called first a known),
+)
 
 pub double_not : (b : Bool) → not (not b) ≡ true → b ≡ true
 double_not true e = refl
@@ -204,10 +315,10 @@ from_once low high i j k less (inr f) (inl g) = absurd (neither low high i k les
 from_once low high i j k less (inr f) (inr g) = stood_once high i j (sym f.1 ∙ g.1)
 
 -- two classes as one
-pub settled_apart : (cs rest : List Class) (low high : ℕ) (lower upper both : Class) (m : Members) (of : Bool) → low < high → high < length cs
+both_apart : (cs rest : List Class) (low high : ℕ) (lower upper both : Class) (m : Members) (of : Bool) → low < high → high < length cs
     → upper ≡ get_or cs high upper → rest ≡ remove cs high → lower ≡ get_or rest low lower
-    → (of ≡ true → MembersOf both lower upper) → KnownApart m cs → KnownApart (unless_other m (not of)) (set rest low both)
-settled_apart cs rest low high lower upper both m of less within upper_is rest_is lower_is members a known =
+    → (of ≡ true → MembersOf both lower upper) → KnownApart m cs → (m.are_apart && not (not of)) ≡ true → AreApart m.newest (set rest low both)
+both_apart cs rest low high lower upper both m of less within upper_is rest_is lower_is members a known =
     let p = and_parts m.are_apart (not (not of)) known in
     let is_of = members (double_not of p.1) in
     let w_low : low < length cs = omega arith in
@@ -228,7 +339,15 @@ settled_apart cs rest low high lower upper both m of less within upper_is rest_i
         inr (ne, refl),
         ap (λ c. is_among c.members n) (sym (at_stood cs high i within) ∙ ap (λ ds. get_or ds i no_class) (sym rest_is) ∙ sym (get_or-set_other rest low i both no_class ne)) ∙ on,
       )
-    ]) (λ i j k f g. from_once low high i j k less f g) (a p.0)
+    ]) (λ i j k f g. from_once low high i j k less f g) (a.0 p.0)
+
+pub settled_apart : (cs rest : List Class) (low high : ℕ) (lower upper both : Class) (m : Members) (of : Bool) → low < high → high < length cs
+    → upper ≡ get_or cs high upper → rest ≡ remove cs high → lower ≡ get_or rest low lower
+    → (of ≡ true → MembersOf both lower upper) → KnownApart m cs → KnownApart (unless_other m (not of)) (set rest low both)
+settled_apart cs rest low high lower upper both m of less within upper_is rest_is lower_is members a = (
+  (λ known. both_apart cs rest low high lower upper both m of less within upper_is rest_is lower_is members a known),
+  (λ known. absurd (cc)),
+)
 
 some_or_none : (o : Option ℕ) → ((i : ℕ) × (o ≡ Some i)) ⊎ (o ≡ None)
 some_or_none None = inr refl
@@ -240,7 +359,7 @@ pub found_apart : (b : Block) (m : Members) (at number : ℕ) → KnownApart m b
 found_apart b m at number a known on = elim (some_or_none (place_of b number)) [
   | inl o ↦
       let p = position-Some (λ c. is_among c.members number) b.classes o.0 no_class o.1 in
-      o.1 ∙ ap Some ((a known).once o.0 at number p.1 on)
+      o.1 ∙ ap Some ((a.0 known).once o.0 at number p.1 on)
   | inr o ↦ absurd (both_ways _ (position-None (λ c. is_among c.members number) b.classes at no_class o (member_inside b.classes at number on)) on)
 ]
 
@@ -260,7 +379,7 @@ none_has b number none i = elim (cases_lt i (length b.classes)) [
 pub none_above : (b : Block) (m : Members) (number : ℕ) → KnownApart m b.classes → are_below m number ≡ true → (i : ℕ) → is_among (class_at b i).members number ≡ false
 none_above b m number known holds i =
     let parts = and_parts m.are_apart (nat_lt m.newest number) holds in elim (cases_Bool (is_among (class_at b i).members number)) [
-      | inl on ↦ let upto = (known parts.0).upto i number on in let above : m.newest < number = ltb-true _ _ parts.1 in absurd (omega (arith, upto, above))
+      | inl on ↦ let upto = (known.0 parts.0).upto i number on in let above : m.newest < number = ltb-true _ _ parts.1 in absurd (omega (arith, upto, above))
       | inr off ↦ off
     ]
 
@@ -270,7 +389,40 @@ not_some (Some i) e = absurd (cc)
 
 -- where less is known
 pub less_apart : (m : Members) (others : Bool) (cs : List Class) → KnownApart m cs → KnownApart (unless_other m others) cs
-less_apart m others cs a known = a (and_parts m.are_apart (not others) known).0
+less_apart m others cs a = ((λ known. a.0 (and_parts m.are_apart (not others) known).0), (λ known. absurd (cc)))
+
+-- a number that lies between two names, one right above the other, is no member
+pub single_between : (b : Block) (m : Members) (at number : ℕ) → KnownApart m b.classes → m.are_single ≡ true → at < length b.classes → (class_at b at).name < number
+    → (at + 1 < length b.classes → number < (class_at b (at + 1)).name) → (i : ℕ) → is_among (class_at b i).members number ≡ false
+single_between b m at number a known within below above i = false_from_ne_true _ (λ on.
+    let s = a.1 known in
+    let w = member_inside b.classes i number on in
+    let e : (class_at b i).name ≡ number = the_one _ _ (ap (λ ms. is_among ms number) (sym (s.one i w)) ∙ on) in
+    elim (cases_order i at) [
+      | inl same ↦ let f = ap (λ (z : ℕ). (class_at b z).name) same in absurd (omega (arith, e, f, below))
+      | inr o ↦ elim o [
+        | inl less ↦ let up = s.rising i at less within in absurd (omega (arith, e, up, below))
+        | inr more ↦
+            let next = above (omega arith) in
+            elim (cases_eq (at + 1) i) [
+              | inl same ↦ let f = ap (λ (z : ℕ). (class_at b z).name) same in absurd (omega (arith, e, f, next))
+              | inr ne ↦ let up = s.rising (at + 1) i (omega (arith, more, ne)) w in absurd (omega (arith, e, up, next))
+            ]
+      ]
+    ])
+
+-- nor is one below them all
+pub single_below : (b : Block) (m : Members) (number : ℕ) → KnownApart m b.classes → m.are_single ≡ true
+    → (0 < length b.classes → number < (class_at b 0).name) → (i : ℕ) → is_among (class_at b i).members number ≡ false
+single_below b m number a known above i = false_from_ne_true _ (λ on.
+    let s = a.1 known in
+    let w = member_inside b.classes i number on in
+    let e : (class_at b i).name ≡ number = the_one _ _ (ap (λ ms. is_among ms number) (sym (s.one i w)) ∙ on) in
+    let first = above (omega arith) in
+    elim (cases_eq 0 i) [
+      | inl same ↦ let f = ap (λ (z : ℕ). (class_at b z).name) same in absurd (omega (arith, e, f, first))
+      | inr ne ↦ let up = s.rising 0 i (omega (arith, ne)) w in absurd (omega (arith, e, up, first))
+    ])
 
 -- A number below which none of the first classes has a member.
 

@@ -1,5 +1,5 @@
 -- What tells that no class rests on another, as the classes change.
-use Rattle.std.proofs.Common.{◌≡◌, ◌≢◌, ℕ, zero, suc, ◌+◌, ◌<◌, ◌≤◌, ◌⊎◌, ◌∙◌, true, false, not, inl, inr, List, [], ◌∷◌, ◌++◌, length, filter, get_or, set, max, get_or-set_same, get_or-set_other, refl, sym, ap, subst, arith, Bool, Option, Some, None}
+use Rattle.std.proofs.Common.{◌≡◌, ◌≢◌, ℕ, ◌+◌, ◌<◌, ◌≤◌, ◌⊎◌, ◌∙◌, true, false, not, inl, inr, List, [], ◌∷◌, ◌++◌, length, filter, get_or, set, max, get_or-set_same, get_or-set_other, refl, sym, ap, subst, arith, Bool, Option, Some, None}
 use Rattle.std.specs.Prelude.{◌==◌, ◌&&◌, ◌||◌, nat_lt, nat_le, IfSome, is_some}
 use Rattle.std.specs.List.{insert, remove, list_any}
 use Rattle.std.proofs.lemmas.Bool.{cases_Bool, cases_eq, cases_lt, both_ways, and_parts, and_from, or_cases, or_left, or_right, eq-eqb, eqb-true, ltb-true, lt-ltb, false_from_ne_true}
@@ -18,7 +18,7 @@ use Rattle.patch_view.proofs.Exchange.{spans-from, spans-at}
 use Rattle.patch_view.proofs.Marking.{stood, stood_is, at_stood}
 use Rattle.patch_view.proofs.Moving.{came, came_facts, came_within, at_came, length-moved}
 use Rattle.patch_view.proofs.Together.{HaveDeparted}
-use Rattle.patch_view.proofs.Apart.{member_inside, stayed, stayed_at, stayed_less, double_not}
+use Rattle.patch_view.proofs.Apart.{member_inside, stayed, stayed_at, stayed_less, stayed_within, double_not, the_one}
 
 -- the class has the members, the names and the bytes of another
 pub record IsLike (c d : Class) : Type 0 where
@@ -119,17 +119,6 @@ removed_rests cs at m rests within k r is apart =
     kept-covers m.newest r cs (remove cs at) (stood at) (λ i w. elim (stood_is at i) [ inl s ↦ omega arith | inr s ↦ omega arith ])
     (λ i w. like-same _ _ (at_stood cs at i within)) (λ i j x less w p q. stood_less at i j less) (k r is apart)
 
-stayed_within : (q : Class → Bool) (cs : List Class) (i : ℕ) → i < length (filter q cs) → stayed q cs i < length cs
-stayed_within q [] i w = absurd (omega arith)
-stayed_within q (c ∷ cs) zero w = elim (cases_Bool (q c)) [
-  | inl t ↦ rw t (omega arith)
-  | inr f ↦ let v = rw f at w in let l = stayed_within q cs zero v in rw f (omega arith)
-]
-stayed_within q (c ∷ cs) (suc i) w = elim (cases_Bool (q c)) [
-  | inl t ↦ let v = rw t at w in let l = stayed_within q cs i (omega arith) in rw t (omega arith)
-  | inr f ↦ let v = rw f at w in let l = stayed_within q cs (suc i) v in rw f (omega arith)
-]
-
 pub filtered_rests : (q : Class → Bool) (cs : List Class) (m : Members) (rests : Option Rests) → KnownRests m rests cs → KnownRests m rests (filter q cs)
 filtered_rests q cs m rests k r is apart =
     kept-covers m.newest r cs (filter q cs) (stayed q cs) (λ i w. stayed_within q cs i w)
@@ -174,9 +163,6 @@ new-place cs c i w = let l = length_push cs c in elim (cases_lt i (length cs)) [
   | inr behind ↦ let e : length cs ≡ i = omega arith in inr (e, get_or_push cs c no_class i e)
 ]
 
-the-one : (number n : ℕ) → is_among (number ∷ []) n ≡ true → number ≡ n
-the-one number n t = elim (or_cases (number == n) false t) [ inl e ↦ eqb-true _ _ e | inr e ↦ absurd (cc) ]
-
 same-some : (a b : ℕ) (o : Option ℕ) → o ≡ Some a → o ≡ Some b → a ≡ b
 same-some a b o p q = cc
 
@@ -204,7 +190,7 @@ laid-covers newest q r cs c top names called one starts stops after some laid lo
           | inr t ↦ ap (λ (z : Class). spans z x) p.1 ∙ k.own i x n (sym (laid.tops.beside x t) ∙ is) there
         ]
     | inr p ↦
-        let e = the-one top.no n (ap (λ ms. is_among ms n) (sym (ap (λ (z : Class). z.members) p.1 ∙ one)) ∙ on) in
+        let e = the_one top.no n (ap (λ ms. is_among ms n) (sym (ap (λ (z : Class). z.members) p.1 ∙ one)) ∙ on) in
         elim (cases_Bool (has_byte top x)) [
           | inl t ↦ ap (λ (z : Class). spans z x) p.1 ∙ c-spans x ∙ t
           | inr t ↦ let l = low_tops x n (sym (laid.tops.beside x t) ∙ is) in absurd (omega arith)
@@ -256,7 +242,7 @@ laid-covers newest q r cs c top names called one starts stops after some laid lo
       ];
   upward = λ i n on. let o = laid.oldest in elim (new-place cs c i (member_inside (cs ++ c ∷ []) i n on)) [
     | inl p ↦ let l = k.upward i n (ap (λ (z : Class). is_among z.members n) (sym p.1) ∙ on) in omega arith
-    | inr p ↦ let e = the-one top.no n (ap (λ ms. is_among ms n) (sym (ap (λ (z : Class). z.members) p.1 ∙ one)) ∙ on) in omega arith
+    | inr p ↦ let e = the_one top.no n (ap (λ ms. is_among ms n) (sym (ap (λ (z : Class). z.members) p.1 ∙ one)) ∙ on) in omega arith
   ];
 }
   where
@@ -295,7 +281,7 @@ laid_rests cs c m only rests now top names name one starts stops after first lai
           let p = and_parts m.are_apart (nat_lt m.newest top.no) (ap (λ (z : Bool). z || (m.are_apart && nat_lt m.newest top.no)) (sym f) ∙ is_apart) in
           let up : m.newest < top.no = ltb-true _ _ p.1 in
           let k = known on.before (ap (λ (z : Bool). begun z rests) (sym f) ∙ on.known) p.0 in
-          let a = apart p.0 in
+          let a = apart.0 p.0 in
           laid-covers m.newest on.before r cs c top names called one starts stops after on.some on.over (λ x n it. let l = k.upto x n it in omega arith)
           (λ i n in_. let l = a.upto i n in_ in omega arith) k
     ]
@@ -536,7 +522,7 @@ pub only_named : (b : Block) (m : Members) (r : Rests) (name at : ℕ) → Known
     → at < length b.classes → (class_at b at).name ≡ name → IsOnlyNamed b name at
 only_named b m r name at apart rests known within is =
     let k = rests r refl known in
-    let a = apart known in
+    let a = apart.0 known in
     let has : (i : ℕ) → i < length b.classes → (class_at b i).name ≡ name → is_among (class_at b i).members name ≡ true =
     (λ i w e. ap (is_among (class_at b i).members) (sym e) ∙ k.called i w) in
     record { within = within; named = is; only = λ i w e. a.once i at name (has i w e) (has at within is) }

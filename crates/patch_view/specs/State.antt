@@ -50,9 +50,14 @@ pub record AreApart (newest : ℕ) (cs : List Class) : Type 0 where
   pub upto : (i n : ℕ) → is_among (slice_index_or cs i no_class).members n ≡ true → n ≤ newest
   pub once : (i j n : ℕ) → is_among (slice_index_or cs i no_class).members n ≡ true → is_among (slice_index_or cs j no_class).members n ≡ true → i ≡ j
 
--- that is so, where it is known
+-- each class has one member, by which it is called, and these rise with the places
+pub record AreSingle (cs : List Class) : Type 0 where
+  pub one : (i : ℕ) → i < length cs → (slice_index_or cs i no_class).members ≡ (slice_index_or cs i no_class).name ∷ []
+  pub rising : (i j : ℕ) → i < j → j < length cs → (slice_index_or cs i no_class).name < (slice_index_or cs j no_class).name
+
+-- either is so, where it is known
 abbrev pub KnownApart : Members → List Class → Type 0
-KnownApart m cs = m.are_apart ≡ true → AreApart m.newest cs
+KnownApart m cs = (m.are_apart ≡ true → AreApart m.newest cs) × (m.are_single ≡ true → AreSingle cs)
 
 abbrev pub class_at : Block → ℕ → Class
 class_at b at = slice_index_or b.classes at no_class

@@ -180,6 +180,7 @@ impl<A: Allocator> BlockState<A> {
     {
         let passed = &mut self.classes[front..k + 1];
         passed.rotate_right(1);
+        self.members = self.members.in_disorder();
         self.taken = self.taken.spread(self.classes.len());
         self.flying = self.flying.spread(self.classes.len());
         forget(&mut self.image);

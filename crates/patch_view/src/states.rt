@@ -136,6 +136,9 @@ impl<A: Allocator> BlockState<A> {
         if self.place_by_name(no).is_some() {
             return true;
         }
+        if self.is_missed(no) {
+            return false;
+        }
         self.len() > FEW || self.place_by_asking(no).is_some()
     }
 
@@ -244,6 +247,34 @@ impl<A: Allocator> BlockState<A> {
             },
             Turn::PutBack => self.taken.below(at),
         }
+    }
+
+    /// Whether the number is known to lie between the members of two records, one right above the other, or below them all or above.
+    fn is_missed(&self, no: PatchNo) -> bool
+        ensures { IsTrue result → (i : ℕ) → is_among (class_at self.now i).members no ≡ false }
+    {
+        if !self.members.are_single {
+            return false;
+        }
+        match self.place_upto(no) {
+            Some(at) => self.is_below(at, no) && self.is_above(at + 1, no),
+            None => self.is_above(0, no),
+        }
+    }
+
+    /// Whether the record at a place has a name below the number.
+    fn is_below(&self, at: usize, no: PatchNo) -> bool
+        requires { at < length self.now.classes }
+        ensures { IsTrue result → (class_at self.now at).name < no }
+    {
+        self.name_at(at) < no
+    }
+
+    /// Whether the record at a place has a name above the number, or there is none.
+    fn is_above(&self, at: usize, no: PatchNo) -> bool
+        ensures { IsTrue result → at < length self.now.classes → no < (class_at self.now at).name }
+    {
+        at >= self.len() || no < self.name_at(at)
     }
 
     /// Whether the number is known to be below those of the records' members.

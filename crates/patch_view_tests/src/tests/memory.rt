@@ -12,7 +12,7 @@ use std::test::Fail;
 enum Course {
     SaveWhatMayGoBack,
     KeepFewNumbers,
-    KeepNoOlderNumber,
+    KeepNoMissedNumber,
     TakeMemoryOnce,
     TakeOneIn,
 }
@@ -26,7 +26,7 @@ fn follow(
     match course {
         Course::SaveWhatMayGoBack => save_what_may_go_back(rt, heap, block),
         Course::KeepFewNumbers => keep_few_numbers(rt, heap, block),
-        Course::KeepNoOlderNumber => keep_no_older_number(rt, heap, block),
+        Course::KeepNoMissedNumber => keep_no_missed_number(rt, heap, block),
         Course::TakeMemoryOnce => take_memory_once(rt, heap, block),
         Course::TakeOneIn => take_one_in(rt, heap, block),
     }
@@ -104,24 +104,29 @@ fn few_numbers_take_no_memory(rt: HostRuntime) -> Result<(), Fail> {
     follow_in_heap(&rt, rt.alloc(), Course::KeepFewNumbers)
 }
 
-// Of numbers below that of the block's first patch none is kept, so they take no memory, however many patches the block has.
-fn keep_no_older_number(
+// Of numbers below that of the block's first patch, or between those of two of its patches, none is kept, so they take no memory,
+// however many patches the block has.
+fn keep_no_missed_number(
     rt: &impl Abort,
     heap: &LocalHeap,
     block: &mut BlockState<&LocalHeap>,
 ) -> Result<(), Fail> {
-    for no in 10..30u32 {
-        lay_hard(block, no, &[])?;
+    for half in 10..30u32 {
+        lay_hard(block, half * 2, &[])?;
     }
     let before = heap.used();
-    lay_hard(block, 30, &[PatchNo(9), PatchNo(2), PatchNo(1), PatchNo(0)])?;
+    lay_hard(
+        block,
+        60,
+        &[PatchNo(5), PatchNo(21), PatchNo(33), PatchNo(57)],
+    )?;
     expect_eq(rt, &heap.used(), &before);
     Ok(())
 }
 
 #[test]
-fn older_numbers_take_no_memory(rt: HostRuntime) -> Result<(), Fail> {
-    follow_in_heap(&rt, rt.alloc(), Course::KeepNoOlderNumber)
+fn missed_numbers_take_no_memory(rt: HostRuntime) -> Result<(), Fail> {
+    follow_in_heap(&rt, rt.alloc(), Course::KeepNoMissedNumber)
 }
 
 fn lay_two_that_touch(block: &mut BlockState<&LocalHeap>) -> Result<(), OutOfMemory> {

@@ -34,7 +34,7 @@ invariant_of-self g c =
     subst (λ bs. KeepsSpan c.gap_of_departing-gap.result bs c.start-start.result c.saved_end-stop.result c.self.inside.image c.keep_span.new.image) c.as_slice-2.ensures.value c.keep_span.ensures in (
       c.self.invariant.0,
       kept_within (λ (k : Class). k.taken) refl c.self.inside.classes.items c.depart.new.self c.args.at c.self.inside.taken (ap (λ (k : Class). k.taken) is ∙ ap (λ (k : Class). k.taken) was) c.self.invariant.1,
-      set_apart c.self.inside.classes.items c.depart.new.self c.args.at c.self.inside.members there.members c.self.invariant.2,
+      set_apart c.self.inside.classes.items c.depart.new.self c.args.at c.self.inside.members there.members there.name c.self.invariant.2,
       set_rests c.self.inside.classes.items c.depart.new.self c.args.at c.self.inside.members c.self.inside.rests there c.self.invariant.3,
       rw c.with-self-inside.ensures (set_within (λ (k : Class). k.flying) refl c.self.inside.classes.items c.depart.new.self c.args.at c.self.inside.flying c.self.invariant.4),
       departed_image c.self.inside.image c.keep_span.new.image c.self.inside.classes.items c.depart.new.self c.args.at c.start-start.result c.saved_end-stop.result c.self.inside.bytes.items

@@ -26,7 +26,7 @@ invariant_of-self g c =
     let e = c.with-self-inside.ensures in (
       bytes,
       rw e (set_within (λ (k : Class). k.taken) refl c.self.inside.classes.items c.exchange.new.self c.args.at c.self.inside.taken c.self.invariant.1),
-      set_apart c.self.inside.classes.items c.exchange.new.self c.args.at c.self.inside.members there.members c.self.invariant.2,
+      set_apart c.self.inside.classes.items c.exchange.new.self c.args.at c.self.inside.members there.members there.name c.self.invariant.2,
       set_rests c.self.inside.classes.items c.exchange.new.self c.args.at c.self.inside.members c.self.inside.rests there c.self.invariant.3,
       kept_within (λ (k : Class). k.flying) refl c.self.inside.classes.items c.exchange.new.self c.args.at c.self.inside.flying (ap (λ (k : Class). k.flying) is ∙ ap (λ (k : Class). k.flying) was) c.self.invariant.4,
       (λ m is on. no_image c.forget.new.image m c.forget.ensures is on),

@@ -37,7 +37,7 @@ invariant_of-self-2 g c =
     let w = c.with-self-inside.ensures in (
       bytes,
       rw items (pushed_within (λ (k : Class). k.taken) refl c.self.inside.classes.items c.new-class.result c.self.inside.taken off c.self.invariant.1),
-      rw (w, items) (laid_apart c.self.inside.classes.items c.new-class.result c.self.inside.members c.args.no c.is_empty-is_only.result one first c.self.invariant.2),
+      rw (w, items) (laid_apart c.self.inside.classes.items c.new-class.result c.self.inside.members c.args.no c.is_empty-is_only.result one (ap (λ (k : Class). k.name) c.new-class.ensures) first c.self.invariant.2),
       rw (w, items) (laid_rests c.self.inside.classes.items c.new-class.result c.self.inside.members c.is_empty-is_only.result c.self.inside.rests c.lay_over.new.rests
           (record { start = c.args.start; stop = c.args.start + length c.args.bytes.now; no = c.args.no }) c.as_slice.result.now
           (ap (λ (k : Class). k.name) c.new-class.ensures) one

@@ -32,13 +32,14 @@ invariant_of-self g c =
     let now = with_items_is c.self.inside.classes _ long ∙ turn in
     let t : TakenWithin c.self.inside.taken c.deref_mut.result.now = subst (TakenWithin c.self.inside.taken) (sym e) c.self.invariant.1 in
     let s = c.spread-self-inside.ensures in
+    let d = c.in_disorder-self-inside.ensures in
     let l = c.len.ensures in
     let fits : length c.deref_mut.result.now ≤ c.self.inside.classes.len = omega (arith, c.deref_mut.ensures.len) in (
       c.self.invariant.0,
       rw (s, l, now) (moved_within (λ (k : Class). k.taken) refl c.deref_mut.result.now c.args.front c.args.k c.self.inside.taken c.self.inside.classes.len fits c.requires.down within t),
-      rw now (moved_apart c.deref_mut.result.now c.args.front c.args.k c.self.inside.members c.requires.down within
+      rw (d, now) (moved_apart c.deref_mut.result.now c.args.front c.args.k c.self.inside.members c.requires.down within
           (subst (KnownApart c.self.inside.members) (sym e) c.self.invariant.2)),
-      rw now (moved_rests c.deref_mut.result.now c.args.front c.args.k c.self.inside.members c.self.inside.rests c.requires.down within
+      rw (d, now) (moved_rests c.deref_mut.result.now c.args.front c.args.k c.self.inside.members c.self.inside.rests c.requires.down within
           (λ j from to. subst (λ cs. follows (record { bytes = []; classes = cs }) c.args.k j ≡ false) (sym (e ∙ ap (λ b. b.classes) c.self.view_is)) (c.requires.free j from to))
           (subst (KnownRests c.self.inside.members c.self.inside.rests) (sym e) c.self.invariant.3)),
       rw (c.spread-self-inside-2.ensures, c.len-2.ensures, now) (moved_within (λ (k : Class). k.flying) refl c.deref_mut.result.now c.args.front c.args.k c.self.inside.flying c.self.inside.classes.len fits c.requires.down within
