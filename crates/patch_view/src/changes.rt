@@ -1,6 +1,7 @@
 //! What becomes of a block's records as patches are made, merged, sent and completed.
-ghost use Rattle.std.specs.Prelude.{◌≡◌, ◌+◌, ◌<◌, ◌≤◌, length, map, vec_len, vec_capacity, [], IfOk, OnOk, OnErr, ℕ, None, true, false, IsTrue, IsFalse, if◌then◌else◌};
+ghost use Rattle.std.specs.Prelude.{◌≡◌, ◌+◌, ◌<◌, ◌≤◌, length, map, vec_len, vec_capacity, [], slice_index_or, IfOk, OnOk, OnErr, ℕ, None, true, false, IsTrue, IsFalse, if◌then◌else◌};
 ghost use Rattle.std.specs.Fn.{FnOnceTakesAtMut};
+ghost use Rattle.std.specs.List.{insert, remove};
 ghost use Rattle.std.specs.List.Sorted.{IsNonDecreasing};
 ghost use Rattle.patch_model.specs.declared.patches.Mark.TheVariants.{Flight, Durable};
 ghost use Rattle.patch_model.specs.Entry.{Entry, is_memory};
@@ -178,8 +179,7 @@ impl<A: Allocator> BlockState<A> {
         requires free { (m : ℕ) → front ≤ m → m < k → follows self.old k m ≡ false }
         ensures { self.new ≡ moved_down self.old front k }
     {
-        let passed = &mut self.classes[front..k + 1];
-        passed.rotate_right(1);
+        turn_down(self.classes.as_mut_slice(), front, k);
         self.members = self.members.in_disorder();
         self.taken = self.taken.spread(self.classes.len());
         self.flying = self.flying.spread(self.classes.len());
@@ -508,6 +508,16 @@ fn make_record_room<A: Allocator>(classes: &mut Vec<Class<A>, A>) -> Result<(), 
     }
     classes.reserve(FIRST_ROOM)?;
     Ok(())
+}
+
+/// Moves what stands at `k` down to the place `front`.
+fn turn_down<T>(list: &mut [T], front: usize, k: usize)
+    requires down { front ≤ k }
+    requires within { k < length list.old }
+    ensures { (d : T) → list.new ≡ insert (remove list.old k) front (slice_index_or list.old k d) }
+{
+    let passed = &mut list[front..k + 1];
+    passed.rotate_right(1);
 }
 
 /// What is to be exchanged with the bytes that a patch covers: its own. Of a hard patch nothing is saved.
