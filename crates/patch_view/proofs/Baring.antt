@@ -71,17 +71,13 @@ laid_image old new cs c bytes over start fits starts saves soft stay known m is 
     ∙ put_back bytes over start fits)) ∙ sym (bared-append cs c (laid_over start over bytes))
 
 -- a class more that may be hard: then nothing is known
-pub put_over_image : (old mid new : Option Image) (cs : List Class) (c : Class) (bytes over : List ℕ) (start : ℕ) (hard : Bool) → start + length over ≤ length bytes
+pub put_over_image : (old new : Option Image) (cs : List Class) (c : Class) (bytes over : List ℕ) (start : ℕ) (hard : Bool) → start + length over ≤ length bytes
     → c.start ≡ start → c.saved ≡ (if hard then [] else slice_range bytes start (start + length over)) → is_takeable c ≡ not hard
-    → StaysIf true old mid → StaysIf (not hard) mid new → KnownImage old cs bytes → KnownImage new (cs ++ c ∷ []) (laid_over start over bytes)
-put_over_image old mid new cs c bytes over start hard fits starts saves soft stay next known m is on =
+    → StaysIf (not hard) old new → KnownImage old cs bytes → KnownImage new (cs ++ c ∷ []) (laid_over start over bytes)
+put_over_image old new cs c bytes over start hard fits starts saves soft next known m is on =
     let s = next m is on in
     let off : hard ≡ false = not-true hard s.0 in
-    laid_image old mid cs c bytes over start fits starts (saves ∙ ap (λ (b : Bool). if b then [] else slice_range bytes start (start + length over)) off) (soft ∙ s.0) stay known m s.1 on
-
--- what stays twice stays
-pub stays_too : (stays : Bool) (old mid new : Option Image) → StaysIf true old mid → StaysIf stays mid new → StaysIf true old new
-stays_too stays old mid new stay next m is on = stay m (next m is on).1 on
+    laid_image old old cs c bytes over start fits starts (saves ∙ ap (λ (b : Bool). if b then [] else slice_range bytes start (start + length over)) off) (soft ∙ s.0) (λ _ was _. (refl, was)) known m s.1 on
 
 -- nothing is known of what is forgotten
 pub no_image : {X : Type 0} (image : Option Image) (m : Image) → IsForgotten image → image ≡ Some m → m.known ≡ true → X

@@ -38,4 +38,5 @@ pub mod Gapping
 pub mod Departing
 pub mod Landing
 pub mod Outcomes
+pub mod Laying
 pub mod Keeping

@@ -1,5 +1,5 @@
 -- What is told of a call by how it ends.
-use Rattle.std.proofs.Common.{◌≡◌, ◌≤◌, ◌+◌, ◌∙◌, ℕ, List, Bool, true, false, not, ap, refl, w64, Fits, Result, Ok, Err, arith}
+use Rattle.std.proofs.Common.{◌≡◌, ◌∙◌, ℕ, List, Bool, true, false, not, ap, refl, Result, Ok, Err}
 use Rattle.std.proofs.lemmas.Bool.{false≢true}
 use Rattle.std.specs.Prelude.{IsErr, OnOk, OnErr}
 use Rattle.patch_view.specs.State.{Block, Class, is_takeable}
@@ -24,10 +24,6 @@ module _ {T E : Type 0} where
 pub same-block : (bytes : List ℕ) (old new : List Class) (was : Block) → new ≡ old → (let b : Block = record { bytes = bytes; classes = old } in b) ≡ was
     → (let b : Block = record { bytes = bytes; classes = new } in b) ≡ was
 same-block bytes old new was same is = ap (λ cs. let b : Block = record { bytes = bytes; classes = cs } in b) same ∙ is
-
--- the end of a span within a block is a word
-pub fits-word : (start count : ℕ) → start + count ≤ 4096 → Fits w64 (start + count)
-fits-word start count within = omega arith
 
 -- a class in memory that isn't taken can be, where it isn't hard
 pub takeable-soft : (c : Class) (hard : Bool) → c.flying ≡ false → c.taken ≡ false → c.hard ≡ hard → is_takeable c ≡ not hard

@@ -44,6 +44,10 @@ pub record IsLaidOver (old new : Rests) (top : Span) (names : List ℕ) : Type 0
 abbrev pub begun : Bool → Option Rests → Option Rests
 begun only rests = if only then Some no_rests else rests
 
+-- the bytes of a class, as those of one patch that has its name
+abbrev pub top_of : Class → Span
+top_of c = record { start = c.start; stop = c.stop; no = c.name }
+
 -- a patch that has a byte was laid over what was known
 pub record IsLaidOn (old : Option Rests) (new : Rests) (top : Span) (names : List ℕ) : Type 0 where
   pub some : top.start < top.stop

@@ -115,6 +115,10 @@ leaves_taken PutBack = false
 abbrev pub exchanged_with : Class → List ℕ → Turn → Class
 exchanged_with c bytes turn = record c { saved = slice_range bytes c.start (c.start + length c.saved); taken = leaves_taken turn }
 
+-- a class that has the patch's own bytes, with those in place of them on which the patch is laid; a hard one has none
+abbrev pub covering : Class → List ℕ → List ℕ → Class
+covering c block bytes = record c { saved = if c.hard then [] else slice_range block c.start (c.start + length bytes) }
+
 -- the block with one class exchanged
 abbrev pub exchanged_at : Block → ℕ → Turn → Block
 exchanged_at b at turn = record { bytes = laid_on (class_at b at) b.bytes; classes = slice_set b.classes at (exchanged_with (class_at b at) b.bytes turn) }
@@ -146,6 +150,21 @@ outline_of c = record c { saved = []; taken = false }
 
 abbrev pub outline : Block → List Class
 outline b = map outline_of b.classes
+
+-- a new class that names these, with the patch's own bytes in place of those that it saves
+abbrev pub unlaid_class : ℕ → ℕ → List ℕ → List ℕ → Bool → Class
+unlaid_class number start bytes after hard = record {
+  name = number;
+  members = number ∷ [];
+  start = start;
+  stop = start + length bytes;
+  saved = if hard then [] else bytes;
+  after = after;
+  flying = false;
+  hard = hard;
+  taken = false;
+  room = 0;
+}
 
 -- a new class that names these
 abbrev pub new_class : Block → ℕ → ℕ → List ℕ → List ℕ → Bool → Class

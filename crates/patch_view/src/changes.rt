@@ -1,5 +1,5 @@
 //! What becomes of a block's records as patches are made, merged, sent and completed.
-ghost use Rattle.std.specs.Prelude.{◌≡◌, ◌+◌, ◌<◌, ◌≤◌, length, map, vec_len, vec_capacity, [], slice_index_or, IfOk, OnOk, OnErr, ℕ, None, true, false, IsTrue, IsFalse, if◌then◌else◌};
+ghost use Rattle.std.specs.Prelude.{◌≡◌, ◌+◌, ◌<◌, ◌≤◌, length, map, vec_len, vec_capacity, [], slice_index_or, IfOk, IfSome, OnOk, OnErr, ℕ, None, true, false, IsTrue, IsFalse, if◌then◌else◌, ◌==◌, ◌++◌, ◌∷◌, not};
 ghost use Rattle.std.specs.Fn.{FnOnceTakesAtMut};
 ghost use Rattle.std.specs.List.{insert, remove};
 ghost use Rattle.std.specs.List.Sorted.{IsNonDecreasing};
@@ -9,8 +9,11 @@ ghost use Rattle.patch_model.specs.History.{History};
 ghost use Rattle.patch_model.specs.Names.{numbers_named};
 ghost use Rattle.patch_model.specs.Orderly.{IsOrderlyBlock};
 ghost use Rattle.patch_model.specs.State.{landed};
-ghost use Rattle.patch_view.specs.State.{follows, with_laid, IsLaid, departed_at, landed_at, with_departed, HasDeparted, AreDeparting};
+ghost use Rattle.patch_view.specs.State.{follows, with_laid, unlaid_class, laid_over, covering, IsLaid, departed_at, landed_at, with_departed, HasDeparted, AreDeparting};
 ghost use Rattle.patch_view.specs.State.{with_one_departed, with_one_landed, with_landed, FlyingWithin, AllFlyAt, moved_down, IsJoint, IsJointAt, has_places};
+ghost use Rattle.patch_view.specs.Members.{with_member};
+ghost use Rattle.patch_view.specs.Rests.{IsLaidOn, begun, top_of};
+ghost use Rattle.patch_view.specs.Images.{StaysIf};
 ghost use Rattle.patch_view.specs.Places.{IsRange};
 ghost use Rattle.patch_view.specs.History.{unpatched, MayLand, with_mark};
 ghost use Rattle.patch_view.specs.Meaning.{Represents, IsGathered};
@@ -19,16 +22,15 @@ ghost use Rattle.patch_view.specs.Changes.{Lays, Enters, Settles, JoinsPlaces, J
 
 use crate::classes::{Class, Drawn};
 use crate::images::{
-    draw_unless_known, forget, forget_unless, gap_of_departing, keep_span, make_room, trim_gap,
+    Image, draw_unless_known, forget, forget_unless, gap_of_departing, keep_span, make_room,
+    trim_gap,
 };
 use crate::members::Members;
 use crate::number_lists::NumberList;
 use crate::places::Places;
-use crate::rests::lay_over;
-use crate::spans::put_over;
+use crate::rests::{Rests, lay_over};
 use crate::states::{BlockState, FEW};
 use patch_model::{BLOCK, BlockBytes, Named, OutOfMemory, PatchNo};
-use patch_skyline::Span;
 use std::alloc::{Allocator, Global};
 use std::marker::Model;
 
@@ -116,47 +118,61 @@ impl<A: Allocator> BlockState<A> {
         ensures entered { Enters F.FnOnce enter other.old result other.new }
     {
         let named = self.names_of(after)?;
-        self.lay_with(no, start, bytes, named, hard, other, enter)?;
+        let class = self.new_class(no, start, bytes, named, hard)?;
+        self.lay_with(class, bytes, other, enter)?;
         Ok(())
     }
 
-    /// Lays a patch that names these, once it is entered elsewhere.
-    fn lay_with<V, F>(
-        &mut self,
+    /// A new class, which isn't laid yet.
+    fn new_class(
+        &self,
         no: PatchNo,
         start: usize,
         bytes: &[u8],
-        all: NumberList<A>,
+        names: NumberList<A>,
         hard: bool,
+    ) -> Result<Class<A>, OutOfMemory>
+    where
+        A: Clone,
+        requires fits { start + length bytes.now ≤ BLOCK }
+        requires rising { IsNonDecreasing names.items }
+        ensures { IfOk result (λ c. c ≡ unlaid_class no start bytes.now names.items hard) }
+    {
+        let alloc = self.bytes.allocator();
+        let saved = to_be_saved(alloc.clone()?, bytes, hard)?;
+        let stop = start + bytes.len();
+        Class::new(alloc, no, start, stop, saved, names, hard)
+    }
+
+    /// Lays a new class, once it is entered elsewhere.
+    fn lay_with<V, F>(
+        &mut self,
+        class: Class<A>,
+        bytes: &[u8],
         other: &mut V,
         enter: F,
     ) -> Result<(), OutOfMemory>
     where
         A: Clone,
         F: FnOnce(&mut V) -> Result<(), OutOfMemory> + Drop,
-        requires fits { start + length bytes.now ≤ BLOCK }
-        requires rising { IsNonDecreasing all.items }
+        requires fits { class.start + length bytes.now ≤ BLOCK }
+        requires unlaid { class ≡ unlaid_class class.name class.start bytes.now class.after class.hard }
         requires callable { FnOnceTakesAtMut F.FnOnce enter other.old }
-        ensures done { OnOk result (self.new ≡ with_laid self.old no start bytes.now all.items hard) }
+        ensures done { OnOk result (self.new ≡ with_laid self.old class.name class.start bytes.now class.after class.hard) }
         ensures refused { OnErr result (self.new ≡ self.old) }
         ensures entered { Enters F.FnOnce enter other.old result other.new }
     {
         make_record_room(&mut self.classes)?;
-        let mut saved = to_be_saved(self.bytes.allocator().clone()?, bytes, hard)?;
         enter(other)?;
-        let block = self.bytes.as_mut_slice();
-        put_over(block, start, bytes, saved.as_mut_slice(), hard);
-        let is_only = self.classes.is_empty();
-        let stop = start + bytes.len();
-        let top = Span { start, stop, no };
-        let alloc = self.bytes.allocator();
-        lay_over(&mut self.rests, alloc, is_only, top, all.as_slice());
-        self.members = self.members.with(no, is_only);
-        let are_many = self.classes.len() >= FEW;
-        make_room(&mut self.image, self.bytes.allocator(), are_many);
-        forget_unless(&mut self.image, !hard); // It has no byte of a hard patch, which stays.
-        let class = Class::new(no, start, stop, saved, all, hard);
-        self.classes.push_reserved(class);
+        know_laid(
+            self.bytes.allocator(),
+            self.classes.as_slice(),
+            &class,
+            &mut self.members,
+            &mut self.rests,
+            &mut self.image,
+        );
+        lay_class(&mut self.bytes, &mut self.classes, class, bytes);
         Ok(())
     }
 
@@ -496,6 +512,44 @@ impl<A: Allocator> BlockState<A> {
         self.taken = self.taken.spread(self.classes.len());
         self.flying = self.flying.spread(self.classes.len());
     }
+}
+
+/// What is known of these classes, once another one is laid over them. Where memory lacks, less is known.
+fn know_laid<A: Allocator + Clone>(
+    alloc: &A,
+    classes: &[Class<A>],
+    class: &Class<A>,
+    members: &mut Members,
+    rests: &mut Option<Rests<A>>,
+    image: &mut Option<Image<A>>,
+)
+    ensures members { members.new ≡ with_member members.old class.now.name (length classes.now == 0) }
+    ensures rests { IfSome rests.new (λ r. IsLaidOn (begun (length classes.now == 0) rests.old) r (top_of class.now) class.now.after) }
+    ensures image { StaysIf (not class.now.hard) image.old image.new }
+{
+    let is_only = classes.is_empty();
+    *members = members.with(class.name(), is_only);
+    lay_over(rests, alloc, is_only, class.top(), class.named());
+    make_room(image, alloc, classes.len() >= FEW);
+    forget_unless(image, !class.is_hard()); // It has no byte of a hard patch, which stays.
+}
+
+/// Lays a new class on the block's bytes, over its classes, among which there is room for it.
+fn lay_class<A: Allocator>(
+    block: &mut Vec<u8, A>,
+    classes: &mut Vec<Class<A>, A>,
+    class: Class<A>,
+    bytes: &[u8],
+)
+    requires fits { class.start + length bytes.now ≤ length block.old.items }
+    requires saved { class.saved ≡ (if class.hard then [] else bytes.now) }
+    requires room { vec_len classes.old < vec_capacity classes.old }
+    ensures block { block.new.items ≡ laid_over class.start bytes.now block.old.items }
+    ensures classes { classes.new.items ≡ classes.old.items ++ covering class block.old.items bytes.now ∷ [] }
+{
+    let mut laid = class;
+    laid.lay_on(block.as_mut_slice(), bytes);
+    classes.push_reserved(laid);
 }
 
 /// Makes room for one more record; where there is none, for some.

@@ -1,19 +1,20 @@
 //! What a block keeps of a live class.
-ghost use Rattle.std.specs.Prelude.{ℕ, ◌≡◌, ◌||◌, ◌+◌, ◌≤◌, ◌++◌, ◌∷◌, length, IfOk, OnOk, IsTrue, IsPermutation, true, false, [], min, max, replicate, ◌-◌};
+ghost use Rattle.std.specs.Prelude.{ℕ, ◌≡◌, ◌||◌, ◌+◌, ◌≤◌, ◌++◌, ◌∷◌, length, IfOk, OnOk, IsTrue, IsPermutation, true, false, [], min, max, replicate, ◌-◌, if◌then◌else◌};
 ghost use Rattle.std.specs.List.{list_any, list_all};
 ghost use Rattle.std.specs.List.Sorted.{IsNonDecreasing};
 ghost use Rattle.patch_model.specs.Entry.{is_among};
-ghost use Rattle.patch_view.specs.State.{is_takeable, uncovered, laid_on, exchanged_with, leaves_taken, meets, names, departed, departed_among, MayHaveDeparted, merged, IsMerged, IsDrawn};
+ghost use Rattle.patch_view.specs.State.{is_takeable, uncovered, laid_on, laid_over, covering, exchanged_with, leaves_taken, meets, names, departed, departed_among, MayHaveDeparted, merged, IsMerged, IsDrawn};
 ghost use Rattle.patch_view.specs.State.{spans, follow_on, has_room_for, is_around, with_lists_of, with_all_of, in_its_place, with_lists};
 ghost use Rattle.patch_view.specs.Gaps.{saved_end, saves_any};
-ghost use Rattle.patch_view.specs.Rests.{IsFree, IsLoose, IsUnion, HasListsOf};
+ghost use Rattle.patch_view.specs.Rests.{IsFree, IsLoose, IsUnion, HasListsOf, top_of};
 
 use crate::number_lists::{
     NumberList, greatest_of, interleave, is_interleaved, is_listed, least_of, place_in, put_in_turn,
 };
 use crate::rests::Rests;
-use crate::spans::swap_span;
+use crate::spans::{put_over, swap_span};
 use patch_model::{BLOCK, OutOfMemory, PatchNo};
+use patch_skyline::Span;
 use std::alloc::{Allocator, Global};
 use std::marker::Model;
 use std::mem::replace;
@@ -42,6 +43,13 @@ impl Turn {
 /// numbers as `room` says without memory.
 #[derive(Drop)]
 pub(crate) struct Class<A: Allocator = Global> {
+    kept: Box<Record<A>, A>,
+}
+
+/// What is kept of a class, in memory of its own: a block's list holds one pointer for each, so that a class which goes moves no
+/// more than these.
+#[derive(Drop)]
+struct Record<A: Allocator> {
     name: PatchNo,
     flying: bool,
     hard: bool,
@@ -62,28 +70,28 @@ impl<A: Allocator> Model for Class<A> {
     ghost Value = { Seen };
 
     ghost view = { λ c. record {
-      name = c.name;
-      members = c.members.items;
-      start = c.start;
-      stop = c.stop;
-      saved = c.saved.items;
-      after = c.after.items;
-      flying = c.flying;
-      hard = c.hard;
-      taken = c.taken;
-      room = c.room;
+      name = c.kept.value.name;
+      members = c.kept.value.members.items;
+      start = c.kept.value.start;
+      stop = c.kept.value.stop;
+      saved = c.kept.value.saved.items;
+      after = c.kept.value.after.items;
+      flying = c.kept.value.flying;
+      hard = c.kept.value.hard;
+      taken = c.kept.value.taken;
+      room = c.kept.value.room;
     } };
 
-    ghost invariant = { λ c. (c.start + length c.saved.items ≤ c.stop) × (c.stop ≤ 4096)
-        × IsNonDecreasing c.members.items × IsNonDecreasing c.after.items
-        × (c.room ≤ c.members.spare) × (c.room ≤ c.after.spare) };
+    ghost invariant = { λ c. (c.kept.value.start + length c.kept.value.saved.items ≤ c.kept.value.stop) × (c.kept.value.stop ≤ 4096)
+        × IsNonDecreasing c.kept.value.members.items × IsNonDecreasing c.kept.value.after.items
+        × (c.kept.value.room ≤ c.kept.value.members.spare) × (c.kept.value.room ≤ c.kept.value.after.spare) };
 }
 
 /// Two classes as one, where that takes memory. A growing one has no lists of its own: in the block, the lower class's have room for
 /// the higher one's.
 #[derive(Drop)]
 pub(crate) struct Drawn<A: Allocator = Global> {
-    class: Box<Class<A>, A>,
+    class: Class<A>,
     growing: bool,
 }
 
@@ -92,66 +100,84 @@ impl<A: Allocator> Model for Drawn<A> {
 
     ghost Value = { Seen };
 
-    ghost view = { λ d. record { class = d.class.value; growing = d.growing } };
+    ghost view = { λ d. record { class = d.class; growing = d.growing } };
 }
 
 impl<A: Allocator> Class<A> {
     pub(crate) fn name(&self) -> PatchNo
         ensures { result ≡ self.now.name }
     {
-        self.name
+        self.kept.name
     }
 
     /// The least of its members, or the greatest number where it has none.
     pub(crate) fn lowest(&self) -> u32
         ensures { (n : ℕ) → is_among self.now.members n ≡ true → result ≤ n }
     {
-        least_of(self.members.as_slice())
+        least_of(self.kept.members.as_slice())
     }
 
     /// The greatest of its members, or zero where it has none.
     pub(crate) fn highest(&self) -> u32
         ensures { (n : ℕ) → is_among self.now.members n ≡ true → n ≤ result }
     {
-        greatest_of(self.members.as_slice())
+        greatest_of(self.kept.members.as_slice())
+    }
+
+    /// Its bytes, as those of one patch that has its name.
+    pub(crate) fn top(&self) -> Span
+        ensures { result ≡ top_of self.now }
+    {
+        Span {
+            start: self.kept.start,
+            stop: self.kept.stop,
+            no: self.kept.name,
+        }
+    }
+
+    /// The numbers that its patches name, rising.
+    pub(crate) fn named(&self) -> &[PatchNo]
+        ensures { result.now ≡ self.now.after }
+    {
+        self.kept.after.as_slice()
     }
 
     /// The numbers of its patches, rising.
     pub(crate) fn members(&self) -> &[PatchNo]
         ensures { result.now ≡ self.now.members }
     {
-        self.members.as_slice()
+        self.kept.members.as_slice()
     }
 
     pub(crate) fn is_flying(&self) -> bool
         ensures { result ≡ self.now.flying }
     {
-        self.flying
+        self.kept.flying
     }
 
     pub(crate) fn is_hard(&self) -> bool
         ensures { result ≡ self.now.hard }
     {
-        self.hard
+        self.kept.hard
     }
 
     pub(crate) fn is_taken(&self) -> bool
         ensures { result ≡ self.now.taken }
     {
-        self.taken
+        self.kept.taken
     }
 
     /// It may be taken and isn't.
     pub(crate) fn is_takeable(&self) -> bool
         ensures { result ≡ is_takeable self.now }
     {
-        !self.flying && !self.hard && !self.taken
+        !self.kept.flying && !self.kept.hard && !self.kept.taken
     }
 
     pub(crate) fn includes(&self, no: PatchNo) -> bool
         ensures { result ≡ is_among self.now.members no }
     {
-        is_listed(self.members.as_slice(), no)
+        is_listed(self.kept.members.as_slice(), no)
     }
 
     fn includes_any(&self, numbers: &[PatchNo]) -> bool
@@ -163,7 +189,7 @@ impl<A: Allocator> Class<A> {
     fn names(&self, no: PatchNo) -> bool
         ensures { result ≡ is_among self.now.after no }
     {
-        is_listed(self.after.as_slice(), no)
+        is_listed(self.kept.after.as_slice(), no)
     }
 
     fn names_any(&self, numbers: &[PatchNo]) -> bool
@@ -183,46 +209,53 @@ impl<A: Allocator> Class<A> {
     pub(crate) fn is_told_free(&self, rests: &Rests<A>) -> bool
         ensures { IsTrue result → IsFree rests.now self.now.members self.now.start self.now.stop }
     {
-        rests.tell_free(self.members.as_slice(), self.start, self.stop)
+        rests.tell_free(
+            self.kept.members.as_slice(),
+            self.kept.start,
+            self.kept.stop,
+        )
     }
 
     /// Whether it is known that it rests on nothing in the block.
     pub(crate) fn is_told_loose(&self, rests: &Rests<A>) -> bool
         ensures { IsTrue result → IsLoose rests.now self.now.after self.now.start self.now.stop }
     {
-        rests.tell_loose(self.after.as_slice(), self.start, self.stop)
+        rests.tell_loose(self.kept.after.as_slice(), self.kept.start, self.kept.stop)
     }
 
     fn meets(&self, other: &Class<A>) -> bool
         ensures { result ≡ meets self.now other.now }
     {
-        self.start < other.stop && other.start < self.stop
+        self.kept.start < other.kept.stop && other.kept.start < self.kept.stop
     }
 
     /// The shorter list is gone through, and the longer one is searched for each of its numbers.
     fn names_some_of(&self, other: &Class<A>) -> bool
         ensures { result ≡ names self.now other.now }
     {
-        if self.after.len() <= other.members.len() {
-            other.includes_any(self.after.as_slice())
+        if self.kept.after.len() <= other.kept.members.len() {
+            other.includes_any(self.kept.after.as_slice())
         } else {
-            self.names_any(other.members.as_slice())
+            self.names_any(other.kept.members.as_slice())
         }
     }
 
-    /// The record of a class of one patch, in memory and applied.
+    /// A class of one patch, in memory and applied.
     pub(crate) fn new(
+        alloc: &A,
         no: PatchNo,
         start: usize,
         stop: usize,
         saved: Vec<u8, A>,
         after: NumberList<A>,
         hard: bool,
-    ) -> Class<A>
+    ) -> Result<Class<A>, OutOfMemory>
+    where
+        A: Clone,
         requires long { start + length saved.items ≤ stop }
         requires fits { stop ≤ BLOCK }
         requires after { IsNonDecreasing after.items }
-        ensures { result ≡ record {
+        ensures { IfOk result (λ c. c ≡ record {
           name = no;
           members = no ∷ [];
           start = start;
@@ -233,9 +266,9 @@ impl<A: Allocator> Class<A> {
           hard = hard;
           taken = false;
           room = 0;
-        } }
+        }) }
     {
-        Class {
+        let kept = Record {
             name: no,
             members: NumberList::one(no),
             start,
@@ -246,7 +279,9 @@ impl<A: Allocator> Class<A> {
             hard,
             taken: false,
             room: 0,
-        }
+        };
+        let kept = boxed(alloc, kept)?;
+        Ok(Class { kept })
     }
 
     /// Whether the lists of a higher class can stand behind this one's without memory, in rising order.
@@ -255,10 +290,10 @@ impl<A: Allocator> Class<A> {
         ensures members { IsTrue result → IsNonDecreasing (self.now.members ++ high.now.members) }
         ensures after { IsTrue result → IsNonDecreasing (self.now.after ++ high.now.after) }
     {
-        high.members.len() <= self.room
-            && high.after.len() <= self.room
-            && follow_on(self.members.as_slice(), high.members.as_slice())
-            && follow_on(self.after.as_slice(), high.after.as_slice())
+        high.kept.members.len() <= self.kept.room
+            && high.kept.after.len() <= self.kept.room
+            && follow_on(self.kept.members.as_slice(), high.kept.members.as_slice())
+            && follow_on(self.kept.after.as_slice(), high.kept.after.as_slice())
     }
 
     /// Whether the bytes of a higher class are all among those that this one saved.
@@ -266,9 +301,9 @@ impl<A: Allocator> Class<A> {
         ensures exact { result ≡ is_around self.now high.now }
         ensures held { saved_end high.now ≤ high.now.stop }
     {
-        self.start <= high.start
-            && high.stop <= self.stop
-            && self.start + self.saved.len() == self.stop
+        self.kept.start <= high.kept.start
+            && high.kept.stop <= self.kept.stop
+            && self.kept.start + self.kept.saved.len() == self.kept.stop
     }
 
     /// Draws this class and a higher one up as one. None where this one takes the higher one in without memory.
@@ -300,8 +335,8 @@ impl<A: Allocator> Class<A> {
         ensures { IfOk result (λ drawn. IsDrawn self.now high.now drawn) }
     {
         let zeros = self.zeros_for(alloc, high)?;
-        let both = self.merged_with(high, NumberList::none(), NumberList::none(), zeros);
-        let class = boxed(alloc, both)?;
+        let (members, after) = (NumberList::none(), NumberList::none());
+        let class = self.merged_with(alloc, high, members, after, zeros)?;
         Ok(Some(Drawn {
             class,
             growing: true,
@@ -315,8 +350,7 @@ impl<A: Allocator> Class<A> {
         ensures { IfOk result (λ drawn. IsDrawn self.now high.now drawn) }
     {
         let zeros = self.zeros_for(alloc, high)?;
-        let both = self.merged(alloc, high, zeros)?;
-        let class = boxed(alloc, both)?;
+        let class = self.merged(alloc, high, zeros)?;
         Ok(Some(Drawn {
             class,
             growing: false,
@@ -329,7 +363,7 @@ impl<A: Allocator> Class<A> {
         A: Clone,
         ensures { IfOk result (λ zeros. zeros.items ≡ replicate (max self.now.stop high.now.stop - min self.now.start high.now.start) 0) }
     {
-        let width = self.stop.max(high.stop) - self.start.min(high.start);
+        let width = self.kept.stop.max(high.kept.stop) - self.kept.start.min(high.kept.start);
         Ok(vec![in alloc.clone()?; 0u8; width]?)
     }
 
@@ -341,43 +375,50 @@ impl<A: Allocator> Class<A> {
         requires { zeros.items ≡ replicate (max self.now.stop high.now.stop - min self.now.start high.now.start) 0 }
         ensures { IfOk result (λ c. IsMerged self.now high.now c) }
     {
-        let most_members = self.members.len().saturating_add(high.members.len());
-        let most_names = self.after.len().saturating_add(high.after.len());
+        let most_members = self
+            .kept
+            .members
+            .len()
+            .saturating_add(high.kept.members.len());
+        let most_names = self.kept.after.len().saturating_add(high.kept.after.len());
         let room = most_members.max(most_names);
-        let members = both_lists(alloc, &self.members, &high.members, room)?;
-        let after = match both_lists(alloc, &self.after, &high.after, room) {
+        let members = both_lists(alloc, &self.kept.members, &high.kept.members, room)?;
+        let after = match both_lists(alloc, &self.kept.after, &high.kept.after, room) {
             Ok(after) => after,
             Err(refusal) => {
                 drop(members);
                 return Err(refusal);
             }
         };
-        Ok(self.merged_with(high, members, after, zeros))
+        self.merged_with(alloc, high, members, after, zeros)
     }
 
-    /// The record of both, with these members, which name these, and whose saved bytes are written over the zeros.
+    /// Both as one class, with these members, which name these, and whose saved bytes are written over the zeros.
     fn merged_with(
         &self,
+        alloc: &A,
         high: &Class<A>,
         members: NumberList<A>,
         after: NumberList<A>,
         zeros: Vec<u8, A>,
-    ) -> Class<A>
+    ) -> Result<Class<A>, OutOfMemory>
+    where
+        A: Clone,
         requires members { IsNonDecreasing members.items }
         requires after { IsNonDecreasing after.items }
         requires zeros { zeros.items ≡ replicate (max self.now.stop high.now.stop - min self.now.start high.now.start) 0 }
-        ensures { result ≡ merged self.now high.now members.items after.items result.room }
+        ensures { IfOk result (λ c. c ≡ merged self.now high.now members.items after.items c.room) }
     {
-        let start = self.start.min(high.start);
-        let stop = self.stop.max(high.stop);
-        let upper = high.start - start;
-        let lower = self.start - start;
+        let start = self.kept.start.min(high.kept.start);
+        let stop = self.kept.stop.max(high.kept.stop);
+        let upper = high.kept.start - start;
+        let lower = self.kept.start - start;
         let mut saved = zeros;
-        saved[upper..upper + high.saved.len()].copy_from_slice(&high.saved);
-        saved[lower..lower + self.saved.len()].copy_from_slice(&self.saved);
+        saved[upper..upper + high.kept.saved.len()].copy_from_slice(&high.kept.saved);
+        saved[lower..lower + self.kept.saved.len()].copy_from_slice(&self.kept.saved);
         let room = members.spare().min(after.spare());
-        Class {
-            name: lesser(self.name, high.name),
+        let kept = Record {
+            name: lesser(self.kept.name, high.kept.name),
             members,
             start,
             stop,
@@ -387,7 +428,9 @@ impl<A: Allocator> Class<A> {
             hard: false,
             taken: false,
             room,
-        }
+        };
+        let kept = boxed(alloc, kept)?;
+        Ok(Class { kept })
     }
 
     /// Becomes what was drawn up of it and a higher class. Answers whether it then has the bytes of both, none but their
@@ -400,7 +443,6 @@ impl<A: Allocator> Class<A> {
             return self.take_in(high);
         };
         let Drawn { class, growing } = drawn;
-        let class = Box::into_inner(class);
         if growing {
             let has_their_span = class.has_span_of(self, high);
             self.take_lists(high);
@@ -421,10 +463,11 @@ impl<A: Allocator> Class<A> {
     {
         let is_around = self.is_around(high);
         self.take_lists(high);
-        self.name = lesser(self.name, high.name);
-        self.flying = false;
-        self.hard = false;
-        self.taken = false;
+        let kept = &mut *self.kept;
+        kept.name = lesser(kept.name, high.kept.name);
+        kept.flying = false;
+        kept.hard = false;
+        kept.taken = false;
         is_around && self.is_called_by_a_member()
     }
 
@@ -432,7 +475,7 @@ impl<A: Allocator> Class<A> {
     fn is_called_by_a_member(&self) -> bool
         ensures { result ≡ is_among self.now.members self.now.name }
     {
-        self.includes(self.name)
+        self.includes(self.kept.name)
     }
 
     fn is_union_of(&self, low: &Class<A>, high: &Class<A>) -> bool
@@ -448,10 +491,11 @@ impl<A: Allocator> Class<A> {
     fn has_span_of(&self, low: &Class<A>, high: &Class<A>) -> bool
         ensures { IsTrue result → (x : ℕ) → spans self.now x ≡ (spans low.now x || spans high.now x) }
     {
-        if low.start > high.stop || high.start > low.stop {
+        if low.kept.start > high.kept.stop || high.kept.start > low.kept.stop {
             return false;
         }
-        self.start == low.start.min(high.start) && self.stop == low.stop.max(high.stop)
+        self.kept.start == low.kept.start.min(high.kept.start)
+            && self.kept.stop == low.kept.stop.max(high.kept.stop)
     }
 
     /// Whether each member is one of two other classes, and each name one of theirs. In a record that was drawn up of the two
@@ -466,8 +510,8 @@ impl<A: Allocator> Class<A> {
         ensures { result
             ≡ list_all (λ n. is_among low.now.members n || is_among high.now.members n) self.now.members }
     {
-        let members = self.members.as_slice();
-        let (these, those) = (low.members.as_slice(), high.members.as_slice());
+        let members = self.kept.members.as_slice();
+        let (these, those) = (low.kept.members.as_slice(), high.kept.members.as_slice());
         is_interleaved(members, these, those)
             || members
                 .iter()
@@ -478,8 +522,8 @@ impl<A: Allocator> Class<A> {
         ensures { result
             ≡ list_all (λ n. is_among low.now.after n || is_among high.now.after n) self.now.after }
     {
-        let names = self.after.as_slice();
-        let (these, those) = (low.after.as_slice(), high.after.as_slice());
+        let names = self.kept.after.as_slice();
+        let (these, those) = (low.kept.after.as_slice(), high.kept.after.as_slice());
         is_interleaved(names, these, those) || names.iter().all(|n| low.names(*n) || high.names(*n))
     }
 
@@ -489,10 +533,12 @@ impl<A: Allocator> Class<A> {
         ensures no_room { has_room_for self.old high.now ≡ false → self.new ≡ self.old }
     {
         if self.has_room_for(high) {
-            let most = high.members.len().max(high.after.len());
-            self.members.put_behind(high.members.as_slice());
-            self.after.put_behind(high.after.as_slice());
-            self.room -= most;
+            let other = &*high.kept;
+            let most = other.members.len().max(other.after.len());
+            let kept = &mut *self.kept;
+            kept.members.put_behind(other.members.as_slice());
+            kept.after.put_behind(other.after.as_slice());
+            kept.room -= most;
         }
     }
 
@@ -500,20 +546,22 @@ impl<A: Allocator> Class<A> {
     fn take_the_rest(&mut self, class: Class<A>)
         ensures { self.new ≡ with_lists class self.old }
     {
-        self.name = class.name;
-        self.start = class.start;
-        self.stop = class.stop;
-        self.flying = class.flying;
-        self.hard = class.hard;
-        self.taken = class.taken;
-        self.saved = class.saved;
+        let rest = Box::into_inner(class.kept);
+        let kept = &mut *self.kept;
+        kept.name = rest.name;
+        kept.start = rest.start;
+        kept.stop = rest.stop;
+        kept.flying = rest.flying;
+        kept.hard = rest.hard;
+        kept.taken = rest.taken;
+        kept.saved = rest.saved;
     }
 
     pub(crate) fn depart(&mut self)
         ensures { self.new ≡ departed self.old }
     {
-        self.flying = true;
-        self.saved.clear();
+        self.kept.flying = true;
+        self.kept.saved.clear();
     }
 
     /// Departs if one of the numbers, which rise, is its name, which is looked for at a place first. Answers where the next
@@ -522,7 +570,7 @@ impl<A: Allocator> Class<A> {
         ensures named { MayHaveDeparted numbers.now self.old self.new }
         ensures exact { IsNonDecreasing numbers.now → self.new ≡ departed_among numbers.now self.old }
     {
-        match place_in(numbers, first, self.name) {
+        match place_in(numbers, first, self.kept.name) {
             Some(at) => {
                 self.depart();
                 at.saturating_add(1)
@@ -534,7 +582,7 @@ impl<A: Allocator> Class<A> {
     pub(crate) fn start(&self) -> usize
         ensures { result ≡ self.now.start }
     {
-        self.start
+        self.kept.start
     }
 
     /// Where the saved bytes end.
@@ -543,7 +591,7 @@ impl<A: Allocator> Class<A> {
         ensures range { self.now.start ≤ result }
         ensures fits { result ≤ BLOCK }
     {
-        self.start + self.saved.len()
+        self.kept.start + self.kept.saved.len()
     }
 
     /// Whether it saved a byte from one place up to another.
@@ -551,7 +599,7 @@ impl<A: Allocator> Class<A> {
         ensures exact { result ≡ saves_any self.now start stop }
         ensures fits { saved_end self.now ≤ BLOCK }
     {
-        self.start < stop && start < self.start + self.saved.len()
+        self.kept.start < stop && start < self.kept.start + self.kept.saved.len()
     }
 
     /// Lays the saved bytes on a copy of the block's, where the class may be taken and isn't.
@@ -560,9 +608,22 @@ impl<A: Allocator> Class<A> {
         ensures { copy.new ≡ uncovered self.now copy.old }
     {
         if self.is_takeable() {
-            let stop = self.start + self.saved.len();
-            copy[self.start..stop].copy_from_slice(&self.saved);
+            let stop = self.kept.start + self.kept.saved.len();
+            copy[self.kept.start..stop].copy_from_slice(&self.kept.saved);
         }
+    }
+
+    /// Lays a patch's bytes on the block's. The class keeps those that were there, in place of the patch's own, which it has till
+    /// then; a hard one has neither.
+    pub(crate) fn lay_on(&mut self, block: &mut [u8], bytes: &[u8])
+        requires fits { self.old.start + length bytes.now ≤ length block.old }
+        requires same { self.old.saved ≡ (if self.old.hard then [] else bytes.now) }
+        ensures laid { block.new ≡ laid_over self.old.start bytes.now block.old }
+        ensures class { self.new ≡ covering self.old block.old bytes.now }
+    {
+        let kept = &mut *self.kept;
+        let saved = kept.saved.as_mut_slice();
+        put_over(block, kept.start, bytes, saved, kept.hard);
     }
 
     /// Exchanges the saved bytes with the block's, and marks the class.
@@ -571,21 +632,21 @@ impl<A: Allocator> Class<A> {
         ensures laid { bytes.new ≡ laid_on self.old bytes.old }
         ensures class { self.new ≡ exchanged_with self.old bytes.old turn }
     {
-        let start = self.start;
-        let saved = self.saved.as_mut_slice();
+        let start = self.kept.start;
+        let saved = self.kept.saved.as_mut_slice();
         swap_span(bytes, start, saved);
-        self.taken = turn.leaves_taken();
+        self.kept.taken = turn.leaves_taken();
     }
 }
 
 /// The record in memory of its own.
-fn boxed<A: Allocator + Clone>(alloc: &A, class: Class<A>) -> Result<Box<Class<A>, A>, OutOfMemory>
-    ensures { IfOk result (λ boxed. boxed.value ≡ class) }
+fn boxed<A: Allocator + Clone>(alloc: &A, kept: Record<A>) -> Result<Box<Record<A>, A>, OutOfMemory>
+    ensures { IfOk result (λ boxed. boxed.value ≡ kept) }
 {
     match alloc.clone() {
-        Ok(alloc) => Ok(Box::new(alloc, class)?),
+        Ok(alloc) => Ok(Box::new(alloc, kept)?),
         Err(refusal) => {
-            drop(class);
+            drop(kept);
             Err(refusal.into())
         }
     }

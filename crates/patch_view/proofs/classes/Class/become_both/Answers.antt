@@ -8,8 +8,8 @@ use Rattle.patch_view.proofs.classes.Class.become_both.Goals as goal
 pub returns-then-has_their_span-clause-of_both : goal.returns-then-has_their_span-clause-of_both
 returns-then-has_their_span-clause-of_both g c t =
     let is = c.take_the_rest.ensures in
-    let called : is_among c.take_lists.new.self.members c.into_inner-class.result.name ≡ true =
+    let called : is_among c.take_lists.new.self.members c.drawn.inside.class.name ≡ true =
     ap (λ (z : Class). is_among z.members z.name) (sym is) ∙ sym c.is_called_by_a_member.ensures ∙ t in
     subst (λ (z : Class). IsUnion z c.args.self.now c.args.high.now) (sym is)
-    (growing-union c.into_inner-class.result c.take_lists.new.self c.args.self.now c.args.high.now called (c.has_span_of-has_their_span.ensures c.if-has_their_span.true)
+    (growing-union c.drawn.inside.class c.take_lists.new.self c.args.self.now c.args.high.now called (c.has_span_of-has_their_span.ensures c.if-has_their_span.true)
     c.take_lists.ensures.room c.take_lists.ensures.no_room)

@@ -1,6 +1,6 @@
-use Rattle.std.proofs.Common.{◌≡◌, ◌∙◌, true, [], sym, subst, ap, Some}
+use Rattle.std.proofs.Common.{◌≡◌, ◌∙◌, [], ap}
 use Rattle.patch_view.specs.NumberLists.{NumberList}
-use Rattle.patch_view.specs.State.{Class, IsDrawn, merged}
+use Rattle.patch_view.specs.State.{Class, merged}
 use Rattle.patch_view.proofs.Settling.{drawn-growing}
 use Rattle.patch_view.proofs.classes.Class.drawn_growing.Goals as goal
 
@@ -8,9 +8,8 @@ pub returns : goal.returns
 returns g c =
     let low : Class = c.args.self.now in
     let high : Class = c.args.high.now in
-    let class : Class = c.merged_with-both.result in
+    let class : Class = c.in_ok-class.class in
     let is : class ≡ merged low high [] [] class.room =
-    c.merged_with-both.ensures ∙ ap (λ (l : NumberList). merged low high l.items c.none-2.result.items class.room) c.none.ensures
-    ∙ ap (λ (l : NumberList). merged low high [] l.items class.room) c.none-2.ensures in
-    subst (λ (k : Class). IsDrawn low high (Some (record { class = k; growing = true }))) (sym c.in_ok-class.ensures)
-    (drawn-growing low high class c.requires is)
+    c.in_ok-class.ensures ∙ ap (λ (l : NumberList). merged low high l.items c.none-after.result.items class.room) c.none-members.ensures
+    ∙ ap (λ (l : NumberList). merged low high [] l.items class.room) c.none-after.ensures in
+    drawn-growing low high class c.requires is
