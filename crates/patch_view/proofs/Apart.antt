@@ -1,16 +1,16 @@
 -- Classes of which no two have a common member.
-use Rattle.std.proofs.Common.{◌≡◌, ◌≢◌, ℕ, zero, suc, ◌+◌, min, ◌<◌, ◌≤◌, ◌⊎◌, ◌∙◌, true, false, not, inl, inr, List, [], ◌∷◌, ◌++◌, length, filter, get_or, set, get_or-set_same, get_or-set_other, refl, sym, ap, arith, subst, Bool, Option, Some, None}
+use Rattle.std.proofs.Common.{◌≡◌, ◌≢◌, ℕ, zero, suc, ◌+◌, min, max, ◌<◌, ◌≤◌, ◌⊎◌, ◌∙◌, true, false, inl, inr, List, [], ◌∷◌, ◌++◌, length, filter, get_or, set, get_or-set_same, get_or-set_other, refl, sym, ap, arith, subst, Bool, Option, Some, None}
 use Rattle.std.specs.Prelude.{is_some, ◌==◌, ◌&&◌, ◌||◌, nat_lt, if◌then◌else◌}
 use Rattle.std.specs.List.{insert, remove, list_all}
-use Rattle.std.proofs.lemmas.Bool.{cases_Bool, cases_eq, cases_lt, cases_order, both_ways, and_parts, or_cases, or_left, eqb-true, eq-eqb, ltb-true, false_from_ne_true}
+use Rattle.std.proofs.lemmas.Bool.{cases_Bool, cases_eq, cases_lt, cases_order, both_ways, and_parts, or_cases, eqb-true, ltb-true, false_from_ne_true}
 use Rattle.std.proofs.lemmas.List.{length-set, get_or_past, get_or_default, get_or_append_left, get_or_push, length_push}
 use Rattle.std.proofs.lemmas.List.Edits.{length-remove, get_or-remove_below}
 use Rattle.std.proofs.lemmas.List.Quantifiers.{position-Some}
 use Rattle.patch_model.specs.Entry.{is_among}
 use Rattle.patch_model.specs.Member.{list_any-at, list_all-at}
 use Rattle.patch_view.specs.declared.members.Members.{Members}
-use Rattle.patch_view.specs.Members.{with_member, in_disorder, unless_other, are_below, is_next}
-use Rattle.patch_view.specs.State.{Class, Block, class_at, no_class, place_of, AreApart, AreSingle, KnownApart, MembersOf}
+use Rattle.patch_view.specs.Members.{with_member, in_disorder, joined, are_below, is_next}
+use Rattle.patch_view.specs.State.{Class, Block, class_at, no_class, place_of, AreApart, AreNamesBelow, AreRising, KnownApart, MembersOf}
 use Rattle.patch_view.proofs.Answering.{position-None}
 use Rattle.patch_view.proofs.Marking.{stood, stood_is, at_stood}
 use Rattle.patch_view.proofs.Moving.{came, came_is, at_came}
@@ -47,19 +47,27 @@ none_apart cs m empty = let l = ap length empty in (
     upto = λ i n on. let w = member_inside cs i n on in absurd (omega (arith, w, l));
     once = λ i j n on also. let w = member_inside cs i n on in absurd (omega (arith, w, l));
   }),
+  (λ i n on less. let w = member_inside cs i n on in absurd (omega (arith, w, l))),
   (λ known. record {
-    one = λ i w. absurd (omega (arith, w, l));
+    upto = λ i w. absurd (omega (arith, w, l));
     rising = λ i j less w. absurd (omega (arith, w, l));
   }),
 )
 
--- each class has the members and the name of one that there was, in the same order
-kept_single : (old new : List Class) (f : ℕ → ℕ) → ((i : ℕ) → i < length new → f i < length old)
+-- each class has the members and the name of one that there was
+kept_names : (limit : ℕ) (old new : List Class) (f : ℕ → ℕ)
     → ((i : ℕ) → i < length new → (get_or new i no_class).members ≡ (get_or old (f i) no_class).members)
+    → ((i : ℕ) → i < length new → (get_or new i no_class).name ≡ (get_or old (f i) no_class).name) → AreNamesBelow limit old → AreNamesBelow limit new
+kept_names limit old new f same called s i n on less =
+    let w = member_inside new i n on in
+    called i w ∙ s (f i) n (ap (λ ms. is_among ms n) (sym (same i w)) ∙ on) less
+
+-- each class has the name of one that there was, in the same order
+kept_rising : (newest : ℕ) (old new : List Class) (f : ℕ → ℕ) → ((i : ℕ) → i < length new → f i < length old)
     → ((i : ℕ) → i < length new → (get_or new i no_class).name ≡ (get_or old (f i) no_class).name)
-    → ((i j : ℕ) → i < j → j < length new → f i < f j) → AreSingle old → AreSingle new
-kept_single old new f within same called order s = record {
-  one = λ i w. same i w ∙ s.one (f i) (within i w) ∙ ap (λ n. n ∷ []) (sym (called i w));
+    → ((i j : ℕ) → i < j → j < length new → f i < f j) → AreRising newest old → AreRising newest new
+kept_rising newest old new f within called order s = record {
+  upto = λ i w. let e = called i w in let l = s.upto (f i) (within i w) in omega (arith, e, l);
   rising = λ i j less w.
       let c_i = called i (omega arith) in
       let c_j = called j w in
@@ -81,7 +89,8 @@ pub same_apart : (old new : List Class) (m : Members) → length new ≤ length 
     → ((i : ℕ) → i < length new → (get_or new i no_class).name ≡ (get_or old i no_class).name) → KnownApart m old → KnownApart m new
 same_apart old new m long same called a = (
   (λ known. places_apart old new m.newest (λ i. i) same (λ i j e. e) (a.0 known)),
-  (λ known. kept_single old new (λ i. i) (λ i w. omega arith) same called (λ i j less w. less) (a.1 known)),
+  kept_names m.others_from old new (λ i. i) same called a.1,
+  (λ known. kept_rising m.newest old new (λ i. i) (λ i w. omega arith) called (λ i j less w. less) (a.2 known)),
 )
 
 pub set_apart : (cs : List Class) (c : Class) (at : ℕ) (m : Members) → c.members ≡ (get_or cs at no_class).members → c.name ≡ (get_or cs at no_class).name
@@ -105,6 +114,12 @@ departed_apart numbers first now k m d a = let l = d.long in same_apart first no
   | inr e ↦ ap (λ c. c.name) e.1
 ]) a
 
+pub stood_less : (at i j : ℕ) → i < j → stood at i < stood at j
+stood_less at i j less = elim (stood_is at i) [
+  | inl s ↦ elim (stood_is at j) [ inl t ↦ omega arith | inr t ↦ omega arith ]
+  | inr s ↦ elim (stood_is at j) [ inl t ↦ omega arith | inr t ↦ omega arith ]
+]
+
 stood_once : (at i j : ℕ) → stood at i ≡ stood at j → i ≡ j
 stood_once at i j e = elim (stood_is at i) [
   | inl s ↦ elim (stood_is at j) [ inl t ↦ omega arith | inr t ↦ omega arith ]
@@ -114,12 +129,9 @@ stood_once at i j e = elim (stood_is at i) [
 pub removed_apart : (cs : List Class) (at : ℕ) (m : Members) → at < length cs → KnownApart m cs → KnownApart m (remove cs at)
 removed_apart cs at m within a = let l = length-remove cs at within in (
   (λ known. places_apart cs (remove cs at) m.newest (stood at) (λ i w. ap (λ c. c.members) (at_stood cs at i within)) (stood_once at) (a.0 known)),
-  (λ known. kept_single cs (remove cs at) (stood at) (λ i w. elim (stood_is at i) [ inl s ↦ omega arith | inr s ↦ omega arith ])
-      (λ i w. ap (λ c. c.members) (at_stood cs at i within)) (λ i w. ap (λ c. c.name) (at_stood cs at i within))
-      (λ i j less w. elim (stood_is at i) [
-        | inl s ↦ elim (stood_is at j) [ inl t ↦ omega arith | inr t ↦ omega arith ]
-        | inr s ↦ elim (stood_is at j) [ inl t ↦ omega arith | inr t ↦ omega arith ]
-      ]) (a.1 known)),
+  kept_names m.others_from cs (remove cs at) (stood at) (λ i w. ap (λ c. c.members) (at_stood cs at i within)) (λ i w. ap (λ c. c.name) (at_stood cs at i within)) a.1,
+  (λ known. kept_rising m.newest cs (remove cs at) (stood at) (λ i w. elim (stood_is at i) [ inl s ↦ omega arith | inr s ↦ omega arith ])
+      (λ i w. ap (λ c. c.name) (at_stood cs at i within)) (λ i j less w. stood_less at i j less) (a.2 known)),
 )
 
 came_once : (front k i j : ℕ) → front ≤ k → came front k i ≡ came front k j → i ≡ j
@@ -140,6 +152,8 @@ moved_apart cs front k m down within a =
     let b : Block = record { bytes = []; classes = cs } in (
       (λ known. places_apart cs (insert (remove cs k) front (get_or cs k no_class)) m.newest (came front k) (λ i w. ap (λ c. c.members) (at_came b front k i down within))
           (λ i j. came_once front k i j down) (a.0 known)),
+      kept_names m.others_from cs (insert (remove cs k) front (get_or cs k no_class)) (came front k)
+          (λ i w. ap (λ c. c.members) (at_came b front k i down within)) (λ i w. ap (λ c. c.name) (at_came b front k i down within)) a.1,
       (λ known. absurd (cc)),
     )
 
@@ -189,8 +203,9 @@ stayed_once q cs i j e = elim (cases_order i j) [
 pub filtered_apart : (q : Class → Bool) (cs : List Class) (m : Members) → KnownApart m cs → KnownApart m (filter q cs)
 filtered_apart q cs m a = (
   (λ known. places_apart cs (filter q cs) m.newest (stayed q cs) (λ i w. ap (λ c. c.members) (stayed_at q cs i)) (stayed_once q cs) (a.0 known)),
-  (λ known. kept_single cs (filter q cs) (stayed q cs) (λ i w. stayed_within q cs i w) (λ i w. ap (λ c. c.members) (stayed_at q cs i))
-      (λ i w. ap (λ c. c.name) (stayed_at q cs i)) (λ i j less w. stayed_less q cs i j less) (a.1 known)),
+  kept_names m.others_from cs (filter q cs) (stayed q cs) (λ i w. ap (λ c. c.members) (stayed_at q cs i)) (λ i w. ap (λ c. c.name) (stayed_at q cs i)) a.1,
+  (λ known. kept_rising m.newest cs (filter q cs) (stayed q cs) (λ i w. stayed_within q cs i w) (λ i w. ap (λ c. c.name) (stayed_at q cs i))
+      (λ i j less w. stayed_less q cs i j less) (a.2 known)),
 )
 
 pushed_member : (cs : List Class) (c : Class) (number i n : ℕ) → c.members ≡ number ∷ [] → is_among (get_or (cs ++ c ∷ []) i no_class).members n ≡ true
@@ -240,12 +255,23 @@ one_apart cs c m number only is first a known = elim (or_cases only (m.are_apart
       pushed_apart cs c number is (λ i n on. let l = r.upto i n on in omega arith) r.once
 ]
 
-pushed_single : (cs : List Class) (c : Class) (number : ℕ) → c.members ≡ number ∷ [] → c.name ≡ number → ((i : ℕ) → i < length cs → (get_or cs i no_class).name < number)
-    → AreSingle cs → AreSingle (cs ++ c ∷ [])
-pushed_single cs c number is called low s = let l = length_push cs c in record {
-  one = λ i w. elim (cases_lt i (length cs)) [
-    | inl before ↦ let e = get_or_append_left cs (c ∷ []) no_class i before in ap (λ d. d.members) e ∙ s.one i before ∙ ap (λ d. d.name ∷ []) (sym e)
-    | inr behind ↦ let e = get_or_push cs c no_class i (omega arith) in ap (λ d. d.members) e ∙ is ∙ ap (λ n. n ∷ []) (sym called) ∙ ap (λ d. d.name ∷ []) (sym e)
+pushed_names : (limit : ℕ) (cs : List Class) (c : Class) (number : ℕ) → c.members ≡ number ∷ [] → c.name ≡ number
+    → ((i n : ℕ) → is_among (get_or cs i no_class).members n ≡ true → n < limit → (get_or cs i no_class).name ≡ n) → AreNamesBelow limit (cs ++ c ∷ [])
+pushed_names limit cs c number is called s i n on less = let l = length_push cs c in let w = member_inside (cs ++ c ∷ []) i n on in elim (cases_lt i (length cs)) [
+  | inl before ↦
+      let e = get_or_append_left cs (c ∷ []) no_class i before in
+      ap (λ d. d.name) e ∙ s i n (ap (λ d. is_among d.members n) (sym e) ∙ on) less
+  | inr behind ↦
+      let e = get_or_push cs c no_class i (omega arith) in
+      ap (λ d. d.name) e ∙ called ∙ the_one number n (ap (λ ms. is_among ms n) (sym (ap (λ d. d.members) e ∙ is)) ∙ on)
+]
+
+pushed_rising : (cs : List Class) (c : Class) (number : ℕ) → c.name ≡ number → ((i : ℕ) → i < length cs → (get_or cs i no_class).name < number)
+    → ((i j : ℕ) → i < j → j < length cs → (get_or cs i no_class).name < (get_or cs j no_class).name) → AreRising number (cs ++ c ∷ [])
+pushed_rising cs c number called low up_to = let l = length_push cs c in record {
+  upto = λ i w. elim (cases_lt i (length cs)) [
+    | inl before ↦ let e = ap (λ d. d.name) (get_or_append_left cs (c ∷ []) no_class i before) in let less = low i before in omega (arith, e, less)
+    | inr behind ↦ let e = ap (λ d. d.name) (get_or_push cs c no_class i (omega arith)) in omega (arith, e, called)
   ];
   rising = λ i j less w.
       let w_i : i < length cs = omega arith in
@@ -253,7 +279,7 @@ pushed_single cs c number is called low s = let l = length_push cs c in record {
       elim (cases_lt j (length cs)) [
         | inl before ↦
             let f = ap (λ d. d.name) (get_or_append_left cs (c ∷ []) no_class j before) in
-            let up = s.rising i j less before in
+            let up = up_to i j less before in
             omega (arith, e, f, up)
         | inr behind ↦
             let f = ap (λ d. d.name) (get_or_push cs c no_class j (omega arith)) in
@@ -262,27 +288,28 @@ pushed_single cs c number is called low s = let l = length_push cs c in record {
       ];
 }
 
-none_single : (cs : List Class) → length cs ≡ 0 → AreSingle cs
-none_single cs none = record { one = λ i w. absurd (omega arith); rising = λ i j less w. absurd (omega arith) }
+one_more_name : (cs : List Class) (c : Class) (m : Members) (number : ℕ) (only : Bool) → c.members ≡ number ∷ [] → c.name ≡ number → only ≡ (length cs == 0) → KnownApart m cs
+    → AreNamesBelow (if only then 4294967295 else m.others_from) (cs ++ c ∷ [])
+one_more_name cs c m number only is called first a = elim (cases_Bool only) [
+  | inl t ↦
+      let none : length cs ≡ 0 = eqb-true _ _ (sym first ∙ t) in
+      rw t (pushed_names 4294967295 cs c number is called (λ i n on less. let w = member_inside cs i n on in absurd (omega (arith, w, none))))
+  | inr f ↦ rw f (pushed_names m.others_from cs c number is called a.1)
+]
 
-called_single : (cs : List Class) (i : ℕ) → i < length cs → AreSingle cs → is_among (get_or cs i no_class).members (get_or cs i no_class).name ≡ true
-called_single cs i w s =
-    let n = (get_or cs i no_class).name in
-    ap (λ ms. is_among ms n) (s.one i w) ∙ or_left (n == n) false (eq-eqb n n refl)
-
-one_single : (cs : List Class) (c : Class) (m : Members) (number : ℕ) (only : Bool) → c.members ≡ number ∷ [] → c.name ≡ number → only ≡ (length cs == 0) → KnownApart m cs
-    → (is_next m number only && (only || m.are_single)) ≡ true → AreSingle (cs ++ c ∷ [])
-one_single cs c m number only is called first a known =
-    let k = and_parts (is_next m number only) (only || m.are_single) known in
+one_rising : (cs : List Class) (c : Class) (m : Members) (number : ℕ) (only : Bool) → c.name ≡ number → only ≡ (length cs == 0) → KnownApart m cs
+    → (is_next m number only && (only || m.are_rising)) ≡ true → AreRising number (cs ++ c ∷ [])
+one_rising cs c m number only called first a known =
+    let k = and_parts (is_next m number only) (only || m.are_rising) known in
     elim (cases_Bool only) [
       | inl t ↦
           let none : length cs ≡ 0 = eqb-true _ _ (sym first ∙ t) in
-          pushed_single cs c number is called (λ i w. absurd (omega arith)) (none_single cs none)
+          pushed_rising cs c number called (λ i w. absurd (omega arith)) (λ i j less w. absurd (omega arith))
       | inr f ↦
-          let s = a.1 (ap (λ z. z || m.are_single) (sym f) ∙ k.1) in
+          let s = a.2 (ap (λ z. z || m.are_rising) (sym f) ∙ k.1) in
           let p = and_parts m.are_apart (nat_lt m.newest number) (ap (λ z. z || (m.are_apart && nat_lt m.newest number)) (sym f) ∙ k.0) in
           let up : m.newest < number = ltb-true _ _ p.1 in
-          pushed_single cs c number is called (λ i w. let l = (a.0 p.0).upto i (get_or cs i no_class).name (called_single cs i w s) in omega arith) s
+          pushed_rising cs c number called (λ i w. let l = s.upto i w in omega arith) s.rising
     ]
 
 -- a class more
@@ -290,12 +317,9 @@ pub laid_apart : (cs : List Class) (c : Class) (m : Members) (number : ℕ) (onl
     → KnownApart (with_member m number only) (cs ++ c ∷ [])
 laid_apart cs c m number only is called first a = (
   (λ known. one_apart cs c m number only is first a known),
-  (λ known. one_single cs c m number only is called first a known),
+  one_more_name cs c m number only is called first a,
+  (λ known. one_rising cs c m number only called first a known),
 )
-
-pub double_not : (b : Bool) → not (not b) ≡ true → b ≡ true
-double_not true e = refl
-double_not false e = absurd (cc)
 
 -- what came from neither of the two places
 neither : (low high j k : ℕ) → low < high → j ≢ low → k ≡ stood high j → (k ≡ low) ⊎ (k ≡ high) → ⊥
@@ -314,39 +338,140 @@ from_once low high i j k less (inl f) (inr g) = absurd (neither low high j k les
 from_once low high i j k less (inr f) (inl g) = absurd (neither low high i k less f.0 f.1 g.1)
 from_once low high i j k less (inr f) (inr g) = stood_once high i j (sym f.1 ∙ g.1)
 
--- two classes as one
-both_apart : (cs rest : List Class) (low high : ℕ) (lower upper both : Class) (m : Members) (of : Bool) → low < high → high < length cs
-    → upper ≡ get_or cs high upper → rest ≡ remove cs high → lower ≡ get_or rest low lower
-    → (of ≡ true → MembersOf both lower upper) → KnownApart m cs → (m.are_apart && not (not of)) ≡ true → AreApart m.newest (set rest low both)
-both_apart cs rest low high lower upper both m of less within upper_is rest_is lower_is members a known =
-    let p = and_parts m.are_apart (not (not of)) known in
-    let is_of = members (double_not of p.1) in
-    let w_low : low < length cs = omega arith in
-    let u : upper ≡ get_or cs high no_class = upper_is ∙ get_or_default cs high upper no_class within in
-    let l : lower ≡ get_or cs low no_class = lower_is ∙ ap (λ ds. get_or ds low lower) rest_is
-    ∙ get_or-remove_below cs high lower low less within ∙ get_or_default cs low lower no_class w_low in
-    let long : length rest + 1 ≡ length cs = ap (λ ds. length ds + 1) rest_is ∙ length-remove cs high within in
-    kept_apart cs (set rest low both) m.newest (FromBoth low high) (λ i n on. elim (cases_eq i low) [
-      | inl e ↦
-          let here : is_among both.members n ≡ true =
-          ap (λ c. is_among c.members n) (sym (get_or-set_same rest low both no_class (omega arith)) ∙ ap (λ (z : ℕ). get_or (set rest low both) z no_class) (sym e)) ∙ on in
-          elim (or_cases (is_among lower.members n) (is_among upper.members n) (is_of n here)) [
-            | inl t ↦ (low, inl (e, inl refl), ap (λ c. is_among c.members n) (sym l) ∙ t)
-            | inr t ↦ (high, inl (e, inr refl), ap (λ c. is_among c.members n) (sym u) ∙ t)
-          ]
-      | inr ne ↦ (
-        stood high i,
-        inr (ne, refl),
-        ap (λ c. is_among c.members n) (sym (at_stood cs high i within) ∙ ap (λ ds. get_or ds i no_class) (sym rest_is) ∙ sym (get_or-set_other rest low i both no_class ne)) ∙ on,
-      )
-    ]) (λ i j k f g. from_once low high i j k less f g) (a.0 p.0)
+-- the two places of classes that become one, of which the higher one's was taken out of the list
+pub record AreTaken (cs rest : List Class) (low high : ℕ) (lower upper : Class) : Type 0 where
+  pub less : low < high
+  pub within : high < length cs
+  pub upper_is : upper ≡ get_or cs high no_class
+  pub lower_is : lower ≡ get_or cs low no_class
+  pub rest_is : rest ≡ remove cs high
 
-pub settled_apart : (cs rest : List Class) (low high : ℕ) (lower upper both : Class) (m : Members) (of : Bool) → low < high → high < length cs
-    → upper ≡ get_or cs high upper → rest ≡ remove cs high → lower ≡ get_or rest low lower
-    → (of ≡ true → MembersOf both lower upper) → KnownApart m cs → KnownApart (unless_other m (not of)) (set rest low both)
-settled_apart cs rest low high lower upper both m of less within upper_is rest_is lower_is members a = (
-  (λ known. both_apart cs rest low high lower upper both m of less within upper_is rest_is lower_is members a known),
-  (λ known. absurd (cc)),
+pub are_taken : (cs rest : List Class) (low high : ℕ) (lower upper : Class) → low < high → high < length cs
+    → upper ≡ get_or cs high upper → rest ≡ remove cs high → lower ≡ get_or rest low lower → AreTaken cs rest low high lower upper
+are_taken cs rest low high lower upper less within upper_is rest_is lower_is = record {
+  less = less;
+  within = within;
+  upper_is = upper_is ∙ get_or_default cs high upper no_class within;
+  lower_is = let w_low : low < length cs = omega arith in lower_is ∙ ap (λ ds. get_or ds low lower) rest_is
+      ∙ get_or-remove_below cs high lower low less within ∙ get_or_default cs low lower no_class w_low;
+  rest_is = rest_is;
+}
+
+both-here : (cs rest : List Class) (low high i : ℕ) (lower upper both : Class) → AreTaken cs rest low high lower upper → i ≡ low
+    → get_or (set rest low both) i no_class ≡ both
+both-here cs rest low high i lower upper both t e =
+    let long : length rest + 1 ≡ length cs = ap (λ ds. length ds + 1) t.rest_is ∙ length-remove cs high t.within in
+    ap (λ (z : ℕ). get_or (set rest low both) z no_class) e ∙ get_or-set_same rest low both no_class (omega (arith, long, t.less, t.within))
+
+both-there : (cs rest : List Class) (low high i : ℕ) (lower upper both : Class) → AreTaken cs rest low high lower upper → i ≢ low
+    → get_or (set rest low both) i no_class ≡ get_or cs (stood high i) no_class
+both-there cs rest low high i lower upper both t ne =
+    get_or-set_other rest low i both no_class ne ∙ ap (λ ds. get_or ds i no_class) t.rest_is ∙ at_stood cs high i t.within
+
+both-inside : (cs rest : List Class) (low high i : ℕ) (lower upper both : Class) → AreTaken cs rest low high lower upper
+    → i < length (set rest low both) → stood high i < length cs
+both-inside cs rest low high i lower upper both t w =
+    let long : length rest + 1 ≡ length cs = ap (λ ds. length ds + 1) t.rest_is ∙ length-remove cs high t.within in
+    let s = length-set rest low both in
+    elim (stood_is high i) [ inl o ↦ omega (arith, t.within) | inr o ↦ omega arith ]
+
+-- two classes as one
+both_apart : (newest : ℕ) (cs rest : List Class) (low high : ℕ) (lower upper both : Class) → AreTaken cs rest low high lower upper
+    → MembersOf both lower upper → AreApart newest cs → AreApart newest (set rest low both)
+both_apart newest cs rest low high lower upper both t is_of a =
+    kept_apart cs (set rest low both) newest (FromBoth low high) (λ i n on. elim (cases_eq i low) [
+      | inl e ↦
+          let here : is_among both.members n ≡ true = ap (λ c. is_among c.members n) (sym (both-here cs rest low high i lower upper both t e)) ∙ on in
+          elim (or_cases (is_among lower.members n) (is_among upper.members n) (is_of n here)) [
+            | inl o ↦ (low, inl (e, inl refl), ap (λ c. is_among c.members n) (sym t.lower_is) ∙ o)
+            | inr o ↦ (high, inl (e, inr refl), ap (λ c. is_among c.members n) (sym t.upper_is) ∙ o)
+          ]
+      | inr ne ↦ (stood high i, inr (ne, refl), ap (λ c. is_among c.members n) (sym (both-there cs rest low high i lower upper both t ne)) ∙ on)
+    ]) (λ i j k f g. from_once low high i j k t.less f g) a
+
+-- the names, where that of both is the lesser of the two
+both_rising : (newest : ℕ) (cs rest : List Class) (low high : ℕ) (lower upper both : Class) → AreTaken cs rest low high lower upper
+    → both.name ≡ min lower.name upper.name → AreRising newest cs → AreRising newest (set rest low both)
+both_rising newest cs rest low high lower upper both t named s = record {
+  upto = λ i w. elim (cases_eq i low) [
+    | inl e ↦ let h = here i e in let l = s.upto low (omega (arith, t.less, t.within)) in omega (arith, h, l, named, low_is)
+    | inr ne ↦ let o = there i ne in let l = s.upto (stood high i) (inside i w) in omega (arith, o, l)
+  ];
+  rising = λ i j first w. elim (cases_eq i low) [
+    | inl e ↦
+        let ne : j ≢ low = (λ z. absurd (omega arith)) in
+        let past : low < stood high j = elim (stood_is high j) [ inl o ↦ omega arith | inr o ↦ omega arith ] in
+        let h = here i e in
+        let o = there j ne in
+        let up = s.rising low (stood high j) past (inside j w) in
+        omega (arith, h, o, up, named, low_is)
+    | inr ne ↦
+        let o = there i ne in
+        elim (cases_eq j low) [
+          | inl e ↦
+              let same : stood high i ≡ i = elim (stood_is high i) [ inl z ↦ z.1 | inr z ↦ omega (arith, t.less) ] in
+              let h = here j e in
+              let up = s.rising (stood high i) low (omega (arith, same, first, e)) (omega (arith, t.less, t.within)) in
+              let also = s.rising (stood high i) high (omega (arith, same, first, e, t.less)) t.within in
+              omega (arith, h, o, up, also, named, low_is, high_is)
+          | inr nf ↦
+              let p = there j nf in
+              let up = s.rising (stood high i) (stood high j) (stood_less high i j first) (inside j w) in
+              omega (arith, o, p, up)
+        ]
+  ];
+}
+  where
+    low_is : lower.name ≡ (get_or cs low no_class).name
+    low_is = ap (λ (c : Class). c.name) t.lower_is
+
+    high_is : upper.name ≡ (get_or cs high no_class).name
+    high_is = ap (λ (c : Class). c.name) t.upper_is
+
+    here : (i : ℕ) → i ≡ low → (get_or (set rest low both) i no_class).name ≡ both.name
+    here i e = ap (λ (c : Class). c.name) (both-here cs rest low high i lower upper both t e)
+
+    there : (i : ℕ) → i ≢ low → (get_or (set rest low both) i no_class).name ≡ (get_or cs (stood high i) no_class).name
+    there i ne = ap (λ (c : Class). c.name) (both-there cs rest low high i lower upper both t ne)
+
+    inside : (i : ℕ) → i < length (set rest low both) → stood high i < length cs
+    inside i w = both-inside cs rest low high i lower upper both t w
+
+-- the members below the greater of the two names
+both_named : (limit : ℕ) (cs rest : List Class) (low high : ℕ) (lower upper both : Class) → AreTaken cs rest low high lower upper
+    → MembersOf both lower upper → both.name ≡ min lower.name upper.name → AreNamesBelow limit cs → AreNamesBelow (min limit (max lower.name upper.name)) (set rest low both)
+both_named limit cs rest low high lower upper both t is_of named s i n on less = elim (cases_eq i low) [
+  | inl e ↦
+      let h = both-here cs rest low high i lower upper both t e in
+      let here : is_among both.members n ≡ true = ap (λ c. is_among c.members n) (sym h) ∙ on in
+      let called = ap (λ (c : Class). c.name) h in
+      elim (or_cases (is_among lower.members n) (is_among upper.members n) (is_of n here)) [
+        | inl o ↦
+            let own = ap (λ (c : Class). c.name) t.lower_is ∙ s low n (ap (λ c. is_among c.members n) (sym t.lower_is) ∙ o) (omega arith) in
+            omega (arith, called, named, own, less)
+        | inr o ↦
+            let own = ap (λ (c : Class). c.name) t.upper_is ∙ s high n (ap (λ c. is_among c.members n) (sym t.upper_is) ∙ o) (omega arith) in
+            omega (arith, called, named, own, less)
+      ]
+  | inr ne ↦
+      let o = both-there cs rest low high i lower upper both t ne in
+      ap (λ (c : Class). c.name) o ∙ s (stood high i) n (ap (λ c. is_among c.members n) (sym o) ∙ on) (omega arith)
+]
+
+pub settled_apart : (cs rest : List Class) (low high : ℕ) (lower upper both : Class) (m : Members) (of free : Bool) → AreTaken cs rest low high lower upper
+    → (of ≡ true → MembersOf both lower upper) → (of ≡ true → both.name ≡ min lower.name upper.name)
+    → KnownApart m cs → KnownApart (joined m of free (max lower.name upper.name)) (set rest low both)
+settled_apart cs rest low high lower upper both m of free t members named a = (
+  (λ known.
+      let p = and_parts m.are_apart of (and_parts (m.are_apart && of) free known).0 in
+      both_apart m.newest cs rest low high lower upper both t (members p.1) (a.0 p.0)),
+  elim (cases_Bool of) [
+    | inl o ↦ rw o (both_named m.others_from cs rest low high lower upper both t (members o) (named o) a.1)
+    | inr f ↦ rw f (λ i n on less. absurd (omega arith))
+  ],
+  (λ known.
+      let p = and_parts m.are_rising of (and_parts (m.are_rising && of) free known).0 in
+      both_rising m.newest cs rest low high lower upper both t (named p.1) (a.2 p.0)),
 )
 
 some_or_none : (o : Option ℕ) → ((i : ℕ) × (o ≡ Some i)) ⊎ (o ≡ None)
@@ -387,17 +512,14 @@ pub not_some : (o : Option ℕ) → is_some o ≡ false → o ≡ None
 not_some None e = refl
 not_some (Some i) e = absurd (cc)
 
--- where less is known
-pub less_apart : (m : Members) (others : Bool) (cs : List Class) → KnownApart m cs → KnownApart (unless_other m others) cs
-less_apart m others cs a = ((λ known. a.0 (and_parts m.are_apart (not others) known).0), (λ known. absurd (cc)))
-
--- a number that lies between two names, one right above the other, is no member
-pub single_between : (b : Block) (m : Members) (at number : ℕ) → KnownApart m b.classes → m.are_single ≡ true → at < length b.classes → (class_at b at).name < number
+-- a number that would be a name, and lies between two, one right above the other, is no member
+pub missed_between : (b : Block) (m : Members) (at number : ℕ) → KnownApart m b.classes → m.are_rising ≡ true → number < m.others_from
+    → at < length b.classes → (class_at b at).name < number
     → (at + 1 < length b.classes → number < (class_at b (at + 1)).name) → (i : ℕ) → is_among (class_at b i).members number ≡ false
-single_between b m at number a known within below above i = false_from_ne_true _ (λ on.
-    let s = a.1 known in
+missed_between b m at number a known limit within below above i = false_from_ne_true _ (λ on.
+    let s = a.2 known in
     let w = member_inside b.classes i number on in
-    let e : (class_at b i).name ≡ number = the_one _ _ (ap (λ ms. is_among ms number) (sym (s.one i w)) ∙ on) in
+    let e : (class_at b i).name ≡ number = a.1 i number on limit in
     elim (cases_order i at) [
       | inl same ↦ let f = ap (λ (z : ℕ). (class_at b z).name) same in absurd (omega (arith, e, f, below))
       | inr o ↦ elim o [
@@ -412,12 +534,12 @@ single_between b m at number a known within below above i = false_from_ne_true _
     ])
 
 -- nor is one below them all
-pub single_below : (b : Block) (m : Members) (number : ℕ) → KnownApart m b.classes → m.are_single ≡ true
+pub missed_below : (b : Block) (m : Members) (number : ℕ) → KnownApart m b.classes → m.are_rising ≡ true → number < m.others_from
     → (0 < length b.classes → number < (class_at b 0).name) → (i : ℕ) → is_among (class_at b i).members number ≡ false
-single_below b m number a known above i = false_from_ne_true _ (λ on.
-    let s = a.1 known in
+missed_below b m number a known limit above i = false_from_ne_true _ (λ on.
+    let s = a.2 known in
     let w = member_inside b.classes i number on in
-    let e : (class_at b i).name ≡ number = the_one _ _ (ap (λ ms. is_among ms number) (sym (s.one i w)) ∙ on) in
+    let e : (class_at b i).name ≡ number = a.1 i number on limit in
     let first = above (omega arith) in
     elim (cases_eq 0 i) [
       | inl same ↦ let f = ap (λ (z : ℕ). (class_at b z).name) same in absurd (omega (arith, e, f, first))

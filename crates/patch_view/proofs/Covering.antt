@@ -1,24 +1,25 @@
 -- What tells that no class rests on another, as the classes change.
-use Rattle.std.proofs.Common.{◌≡◌, ◌≢◌, ℕ, ◌+◌, ◌<◌, ◌≤◌, ◌⊎◌, ◌∙◌, true, false, not, inl, inr, List, [], ◌∷◌, ◌++◌, length, filter, get_or, set, max, get_or-set_same, get_or-set_other, refl, sym, ap, subst, arith, Bool, Option, Some, None}
+use Rattle.std.proofs.Common.{◌≡◌, ◌≢◌, ℕ, ◌+◌, ◌<◌, ◌≤◌, ◌⊎◌, ◌∙◌, true, false, not, inl, inr, List, [], ◌∷◌, ◌++◌, length, filter, get_or, set, min, max, get_or-set_same, get_or-set_other, refl, sym, ap, subst, arith, Bool, Option, Some, None}
 use Rattle.std.specs.Prelude.{◌==◌, ◌&&◌, ◌||◌, nat_lt, nat_le, IfSome, is_some}
-use Rattle.std.specs.List.{insert, remove, list_any}
+use Rattle.std.specs.List.{insert, remove}
 use Rattle.std.proofs.lemmas.Bool.{cases_Bool, cases_eq, cases_lt, both_ways, and_parts, and_from, or_cases, or_left, or_right, eq-eqb, eqb-true, ltb-true, lt-ltb, false_from_ne_true}
 use Rattle.std.proofs.lemmas.List.{length-set, get_or_past, get_or_default, get_or_append_left, get_or_push, length_push}
-use Rattle.std.proofs.lemmas.List.Edits.{length-remove, get_or-remove_below}
+use Rattle.std.proofs.lemmas.List.Edits.{length-remove}
 use Rattle.std.proofs.lemmas.List.Folds.{list_any-append}
 use Rattle.patch_model.specs.Entry.{is_among}
 use Rattle.patch_model.specs.Member.{list_any-at, In-among}
 use Rattle.patch_skyline.specs.declared.skylines.Span.{Span}
 use Rattle.patch_skyline.specs.Skyline.{top_at, has_byte}
 use Rattle.patch_view.specs.declared.members.Members.{Members}
-use Rattle.patch_view.specs.Members.{with_member, unless_other}
-use Rattle.patch_view.specs.State.{Class, Block, class_at, no_class, spans, meets, names, follows, has_room_for, with_lists, with_lists_of, KnownApart, IsOnlyNamed}
+use Rattle.patch_view.specs.Members.{with_member, joined}
+use Rattle.patch_view.specs.State.{AreRising, Class, Block, class_at, no_class, spans, meets, names, follows, has_room_for, with_lists, with_lists_of, KnownApart, IsOnlyNamed}
 use Rattle.patch_view.specs.Rests.{Rests, no_rests, begun, IsLaidOver, IsLaidOn, IsFree, IsLoose, Covers, KnownRests, IsUnion}
 use Rattle.patch_view.proofs.Exchange.{spans-from, spans-at}
 use Rattle.patch_view.proofs.Marking.{stood, stood_is, at_stood}
 use Rattle.patch_view.proofs.Moving.{came, came_facts, came_within, at_came, length-moved}
 use Rattle.patch_view.proofs.Together.{HaveDeparted}
-use Rattle.patch_view.proofs.Apart.{member_inside, stayed, stayed_at, stayed_less, stayed_within, double_not, the_one}
+use Rattle.patch_view.proofs.Under.{byte-at, beside-of}
+use Rattle.patch_view.proofs.Apart.{member_inside, stayed, stayed_at, stayed_less, stayed_within, stood_less, the_one, AreTaken}
 
 -- the class has the members, the names and the bytes of another
 pub record IsLike (c d : Class) : Type 0 where
@@ -65,10 +66,23 @@ kept-covers newest r old new f within like order k = record {
   names = λ i n on. let e = like i (name_inside new i n on) in k.names (f i) n (ap (λ us. is_among us n) (sym e.after) ∙ on);
   called = λ i w. called-like (get_or new i no_class) (get_or old (f i) no_class) (like i w) (k.called (f i) (within i w));
   topped = λ i x w on. k.topped (f i) x (within i w) (sym (spans-like (get_or new i no_class) (get_or old (f i) no_class) x (like i w)) ∙ on);
-  shared = λ i j x less w p q.
-      let s = sym (spans-like (get_or new i no_class) (get_or old (f i) no_class) x (like i (omega arith))) ∙ p in
+  least = λ i n on.
+      let e = like i (member_inside new i n on) in
+      let name = e.name in
+      let l = k.least (f i) n (ap (λ ms. is_among ms n) (sym e.members) ∙ on) in
+      omega arith;
+  beneath = λ i x n w on top.
+      let e = like i w in
+      let name = e.name in
+      let l = k.beneath (f i) x n (within i w) (sym (spans-like (get_or new i no_class) (get_or old (f i) no_class) x e) ∙ on) top in
+      omega arith;
+  under = λ i j x less w p q.
+      let e = like i (omega arith) in
+      let name = e.name in
+      let s = sym (spans-like (get_or new i no_class) (get_or old (f i) no_class) x e) ∙ p in
       let t = sym (spans-like (get_or new j no_class) (get_or old (f j) no_class) x (like j w)) ∙ q in
-      k.shared (f i) (f j) x (order i j x less w s t) (within j w) s t;
+      let u = k.under (f i) (f j) x (order i j x less w s t) (within j w) s t in
+      (u.0, u.1, omega (arith, name, u.2));
   upward = λ i n on. let e = like i (member_inside new i n on) in k.upward (f i) n (ap (λ ms. is_among ms n) (sym e.members) ∙ on);
 }
 
@@ -106,12 +120,6 @@ departed_rests numbers first now k m rests d =
         stop = ap (λ (z : Class). z.stop) e.1;
       }
     ])
-
-stood_less : (at i j : ℕ) → i < j → stood at i < stood at j
-stood_less at i j less = elim (stood_is at i) [
-  | inl s ↦ elim (stood_is at j) [ inl t ↦ omega arith | inr t ↦ omega arith ]
-  | inr s ↦ elim (stood_is at j) [ inl t ↦ omega arith | inr t ↦ omega arith ]
-]
 
 pub removed_rests : (cs : List Class) (at : ℕ) (m : Members) (rests : Option Rests) → at < length cs → KnownRests m rests cs → KnownRests m rests (remove cs at)
 removed_rests cs at m rests within k r is apart =
@@ -229,16 +237,54 @@ laid-covers newest q r cs c top names called one starts stops after some laid lo
       | inr p ↦ absurd (both_ways _ t (sym (c-spans x) ∙ ap (λ (z : Class). spans z x) (sym p.1) ∙ on))
     ]
   ];
-  shared = λ i j x less w p s.
+  least = λ i n on. elim (new-place cs c i (member_inside (cs ++ c ∷ []) i n on)) [
+    | inl p ↦
+        let name = ap (λ (z : Class). z.name) p.1 in
+        let l = k.least i n (ap (λ (z : Class). is_among z.members n) (sym p.1) ∙ on) in
+        omega arith
+    | inr p ↦
+        let name = ap (λ (z : Class). z.name) p.1 in
+        let e = the_one top.no n (ap (λ ms. is_among ms n) (sym (ap (λ (z : Class). z.members) p.1 ∙ one)) ∙ on) in
+        let own = c-called in
+        omega arith
+  ];
+  beneath = λ i x n w on is. elim (cases_Bool (has_byte top x)) [
+    | inl t ↦
+        let e = same-some n top.no (top_at r.tops x) is (laid.tops.here x t) in
+        elim (new-place cs c i w) [
+          | inl p ↦
+              let name = ap (λ (z : Class). z.name) p.1 in
+              let l = low i (get_or cs i no_class).name (k.called i p.0) in
+              omega arith
+          | inr p ↦ let name = ap (λ (z : Class). z.name) p.1 in let own = c-called in omega arith
+        ]
+    | inr t ↦ elim (new-place cs c i w) [
+      | inl p ↦
+          let name = ap (λ (z : Class). z.name) p.1 in
+          let l = k.beneath i x n p.0 (ap (λ (z : Class). spans z x) (sym p.1) ∙ on) (sym (laid.tops.beside x t) ∙ is) in
+          omega arith
+      | inr p ↦ absurd (both_ways _ t (sym (c-spans x) ∙ ap (λ (z : Class). spans z x) (sym p.1) ∙ on))
+    ]
+  ];
+  under = λ i j x less w p s.
       let l = length_push cs c in
       let w_i : i < length cs = omega arith in
-      let p_i = ap (λ (z : Class). spans z x) (sym (get_or_append_left cs (c ∷ []) no_class i w_i)) ∙ p in
-      elim (new-place cs c j w) [
-        | inl u ↦ laid.shared.kept x (k.shared i j x less u.0 p_i (ap (λ (z : Class). spans z x) (sym u.1) ∙ s))
-        | inr u ↦
+      let at_i = get_or_append_left cs (c ∷ []) no_class i w_i in
+      let name = ap (λ (z : Class). z.name) at_i in
+      let p_i = ap (λ (z : Class). spans z x) (sym at_i) ∙ p in
+      elim (cases_Bool (has_byte top x)) [
+        | inl t ↦
             let a = k.topped i x w_i p_i in
-            let b = spans-at c x (ap (λ (z : Class). spans z x) (sym u.1) ∙ s) in
-            laid.shared.added x a.0 (omega (arith, starts, b.0)) (omega (arith, stops, b.1)) a.1
+            let b = k.beneath i x a.0 w_i p_i a.1 in
+            let in_ = byte-at top x t in
+            let u = laid.under.here x a.0 in_.0 in_.1 a.1 in
+            (u.0, u.1, omega (arith, name, b, u.2))
+        | inr t ↦ elim (new-place cs c j w) [
+          | inl o ↦
+              let u = k.under i j x less o.0 p_i (ap (λ (z : Class). spans z x) (sym o.1) ∙ s) in
+              (u.0, laid.under.beside x (beside-of top x t) ∙ u.1, omega (arith, name, u.2))
+          | inr o ↦ absurd (both_ways _ t (sym (c-spans x) ∙ ap (λ (z : Class). spans z x) (sym o.1) ∙ s))
+        ]
       ];
   upward = λ i n on. let o = laid.oldest in elim (new-place cs c i (member_inside (cs ++ c ∷ []) i n on)) [
     | inl p ↦ let l = k.upward i n (ap (λ (z : Class). is_among z.members n) (sym p.1) ∙ on) in omega arith
@@ -246,6 +292,9 @@ laid-covers newest q r cs c top names called one starts stops after some laid lo
   ];
 }
   where
+    c-called : top.no ≡ c.name
+    c-called = the_one top.no c.name (ap (λ ms. is_among ms c.name) (sym one) ∙ called)
+
     c-spans : (x : ℕ) → spans c x ≡ has_byte top x
     c-spans x = ap (λ (z : ℕ). nat_le z x && nat_lt x c.stop) starts ∙ ap (λ (z : ℕ). nat_le top.start x && nat_lt x z) stops
 
@@ -258,7 +307,9 @@ first-covers cs none = record {
   names = λ i n on. let w = name_inside cs i n on in absurd (omega arith);
   called = λ i w. absurd (omega arith);
   topped = λ i x w on. absurd (omega arith);
-  shared = λ i j x less w p q. absurd (omega arith);
+  least = λ i n on. let w = member_inside cs i n on in absurd (omega arith);
+  beneath = λ i x n w on is. absurd (omega arith);
+  under = λ i j x less w p q. absurd (omega arith);
   upward = λ i n on. let w = member_inside cs i n on in absurd (omega arith);
 }
 
@@ -384,29 +435,60 @@ settled-covers newest r cs low high both a u c = record {
     ]
     | inr ne ↦ c.topped (stood high i) x (inside i w) (ap (λ (z : Class). spans z x) (sym (there i ne)) ∙ on)
   ];
-  shared = λ i j x less w p q. elim (cases_eq i low) [
+  least = λ i n on. elim (cases_eq i low) [
     | inl e ↦
+        let name = ap (λ (z : Class). z.name) (here i e) in
+        let is = u.named in
+        elim (or_cases _ _ (u.lists.members n (ap (λ (z : Class). is_among z.members n) (sym (here i e)) ∙ on))) [
+          | inl t ↦ let l = c.least low n t in omega arith
+          | inr t ↦ let l = c.least high n t in omega arith
+        ]
+    | inr ne ↦
+        let name = ap (λ (z : Class). z.name) (there i ne) in
+        let l = c.least (stood high i) n (ap (λ (z : Class). is_among z.members n) (sym (there i ne)) ∙ on) in
+        omega arith
+  ];
+  beneath = λ i x n w on top. elim (cases_eq i low) [
+    | inl e ↦
+        let name = ap (λ (z : Class). z.name) (here i e) in
+        let is = u.named in
+        elim (or_cases _ _ (sym (u.spans x) ∙ ap (λ (z : Class). spans z x) (sym (here i e)) ∙ on)) [
+          | inl t ↦ let l = c.beneath low x n (omega (arith, a.less, a.within)) t top in omega arith
+          | inr t ↦ let l = c.beneath high x n a.within t top in omega arith
+        ]
+    | inr ne ↦
+        let name = ap (λ (z : Class). z.name) (there i ne) in
+        let l = c.beneath (stood high i) x n (inside i w) (ap (λ (z : Class). spans z x) (sym (there i ne)) ∙ on) top in
+        omega arith
+  ];
+  under = λ i j x less w p q. elim (cases_eq i low) [
+    | inl e ↦
+        let name = ap (λ (z : Class). z.name) (here i e) in
+        let is = u.named in
         let ne : j ≢ low = (λ z. absurd (omega arith)) in
         let past : low < stood high j = elim (stood_is high j) [ inl s ↦ omega arith | inr s ↦ omega arith ] in
         let q_j = ap (λ (z : Class). spans z x) (sym (there j ne)) ∙ q in
         elim (or_cases _ _ (sym (u.spans x) ∙ ap (λ (z : Class). spans z x) (sym (here i e)) ∙ p)) [
-          | inl t ↦ c.shared low (stood high j) x past (inside j w) t q_j
+          | inl t ↦ let o = c.under low (stood high j) x past (inside j w) t q_j in (o.0, o.1, omega (arith, name, is, o.2))
           | inr t ↦ elim (stood_is high j) [
-            | inl s ↦ c.shared (stood high j) high x (omega (arith, s.0, s.1)) a.within q_j t
-            | inr s ↦ c.shared high (stood high j) x (omega (arith, s.0, s.1)) (inside j w) t q_j
+            | inl s ↦ absurd (a.free (stood high j) x past (omega (arith, s.0, s.1)) t q_j)
+            | inr s ↦ let o = c.under high (stood high j) x (omega (arith, s.0, s.1)) (inside j w) t q_j in (o.0, o.1, omega (arith, name, is, o.2))
           ]
         ]
     | inr ne ↦
+        let name = ap (λ (z : Class). z.name) (there i ne) in
         let p_i = ap (λ (z : Class). spans z x) (sym (there i ne)) ∙ p in
         elim (cases_eq j low) [
           | inl e ↦
               let same : stood high i ≡ i = elim (stood_is high i) [ inl s ↦ s.1 | inr s ↦ let l = a.less in absurd (omega arith) ] in
               elim (or_cases _ _ (sym (u.spans x) ∙ ap (λ (z : Class). spans z x) (sym (here j e)) ∙ q)) [
-                | inl t ↦ c.shared (stood high i) low x (omega arith) (omega (arith, a.less, a.within)) p_i t
-                | inr t ↦ c.shared (stood high i) high x (omega (arith, a.less)) a.within p_i t
+                | inl t ↦ let o = c.under (stood high i) low x (omega arith) (omega (arith, a.less, a.within)) p_i t in (o.0, o.1, omega (arith, name, o.2))
+                | inr t ↦ let o = c.under (stood high i) high x (omega (arith, a.less)) a.within p_i t in (o.0, o.1, omega (arith, name, o.2))
               ]
           | inr nf ↦
-              c.shared (stood high i) (stood high j) x (stood_less high i j less) (inside j w) p_i (ap (λ (z : Class). spans z x) (sym (there j nf)) ∙ q)
+              let q_j = ap (λ (z : Class). spans z x) (sym (there j nf)) ∙ q in
+              let o = c.under (stood high i) (stood high j) x (stood_less high i j less) (inside j w) p_i q_j in
+              (o.0, o.1, omega (arith, name, o.2))
         ]
   ];
   upward = λ i n on. elim (cases_eq i low) [
@@ -437,24 +519,20 @@ settled-covers newest r cs low high both a u c = record {
         let t = spans-at both (get_or cs low no_class).start (u.spans (get_or cs low no_class).start ∙ or_left _ _ on) in
         omega (arith, t.0, t.1)
 
-pub settled_rests : (cs rest : List Class) (low high : ℕ) (lower upper both : Class) (m : Members) (of free : Bool) (rests : Option Rests) → low < high → high < length cs
-    → upper ≡ get_or cs high upper → rest ≡ remove cs high → lower ≡ get_or rest low lower → (of ≡ true → IsUnion both lower upper)
+pub settled_rests : (cs rest : List Class) (low high : ℕ) (lower upper both : Class) (m : Members) (of free : Bool) (greater : ℕ) (rests : Option Rests)
+    → AreTaken cs rest low high lower upper → (of ≡ true → IsUnion both lower upper)
     → (free ≡ true → (k : ℕ) → low < k → k < high → follows (record { bytes = []; classes = cs }) high k ≡ false)
-    → KnownRests m rests cs → KnownRests (unless_other (unless_other m (not of)) (not free)) rests (set rest low both)
-settled_rests cs rest low high lower upper both m of free rests less within upper_is rest_is lower_is union none known r is apart =
+    → KnownRests m rests cs → KnownRests (joined m of free greater) rests (set rest low both)
+settled_rests cs rest low high lower upper both m of free greater rests t union none known r is apart =
     let b : Block = record { bytes = []; classes = cs } in
-    let f = and_parts (m.are_apart && not (not of)) (not (not free)) apart in
-    let p = and_parts m.are_apart (not (not of)) f.0 in
-    let u : upper ≡ get_or cs high no_class = upper_is ∙ get_or_default cs high upper no_class within in
-    let w_low : low < length cs = omega arith in
-    let l : lower ≡ get_or cs low no_class = lower_is ∙ ap (λ ds. get_or ds low lower) rest_is
-    ∙ get_or-remove_below cs high lower low less within ∙ get_or_default cs low lower no_class w_low in
-    subst (λ z. Covers m.newest r (set z low both)) (sym rest_is)
+    let f = and_parts (m.are_apart && of) free apart in
+    let p = and_parts m.are_apart of f.0 in
+    subst (λ z. Covers m.newest r (set z low both)) (sym t.rest_is)
     (settled-covers m.newest r cs low high both (record {
-      less = less;
-      within = within;
-      free = λ k x from to on also. both_ways _ (none (double_not free f.1) k from to) (shared-follows b high k x to on also);
-    }) (subst (λ (z : Class). IsUnion both z (get_or cs high no_class)) l (subst (λ (z : Class). IsUnion both lower z) u (union (double_not of p.1)))) (known r is p.0))
+      less = t.less;
+      within = t.within;
+      free = λ k x from to on also. both_ways _ (none f.1 k from to) (shared-follows b high k x to on also);
+    }) (subst (λ (z : Class). IsUnion both z (get_or cs high no_class)) t.lower_is (subst (λ (z : Class). IsUnion both lower z) t.upper_is (union p.1))) (known r is p.0))
 
 -- nothing rests on a class of which that is told
 pub free-follows : (newest : ℕ) (r : Rests) (b : Block) (at : ℕ) → Covers newest r b.classes
@@ -481,28 +559,42 @@ free-follows newest r b at c f k = false_from_ne_true _ (λ t.
           both_ways _ (f.unnamed q.0 q.2) (c.names k q.0 (In-among (class_at b k).after q.0 q.1))
     ])
 
-none-any : (p : ℕ → Bool) (ns : List ℕ) → length ns ≡ 0 → list_any p ns ≡ false
-none-any p [] e = refl
-none-any p (n ∷ ns) e = absurd (omega arith)
+before-within : (m at n : ℕ) → m < at → at < n → m < n
+before-within m at n less within = omega arith
 
--- a class rests on nothing of which that is told
-pub loose-follows : (newest : ℕ) (r : Rests) (b : Block) (at : ℕ) → at < length b.classes → Covers newest r b.classes
-    → IsLoose r (class_at b at).after (class_at b at).start (class_at b at).stop → (m : ℕ) → follows b at m ≡ false
-loose-follows newest r b at within c f m = false_from_ne_true _ (λ t.
+-- a class rests on none from a place on whose name isn't below a number, where nothing from that number on is told to lie under it or to be named
+pub loose-follows : (newest : ℕ) (r : Rests) (b : Block) (front at first : ℕ) → at < length b.classes → Covers newest r b.classes
+    → IsLoose r (class_at b at).after (class_at b at).start (class_at b at).stop first
+    → ((m : ℕ) → front ≤ m → m < length b.classes → first ≤ (class_at b m).name) → (m : ℕ) → front ≤ m → m < at → follows b at m ≡ false
+loose-follows newest r b front at first within c f from_first m from less = false_from_ne_true _ (λ t.
     let p = and_parts (nat_lt m at) _ t in
-    let less : m < at = ltb-true _ _ p.0 in
+    let w = before-within m at (length b.classes) less within in
+    let name : first ≤ (class_at b m).name = from_first m from w in
     elim (or_cases (meets (class_at b at) (class_at b m)) (names (class_at b at) (class_at b m)) p.1) [
       | inl meet ↦
           let q = and_parts _ _ meet in
           let q0 : (class_at b at).start < (class_at b m).stop = ltb-true _ _ q.0 in
           let q1 : (class_at b m).start < (class_at b at).stop = ltb-true _ _ q.1 in
           let s = c.some at within in
-          let s_m = c.some m (omega arith) in
+          let s_m = c.some m w in
           let x = max (class_at b at).start (class_at b m).start in
-          f.unshared x (omega arith) (omega arith)
-          (c.shared m at x less within (spans-from (class_at b m) x (omega arith) (omega arith)) (spans-from (class_at b at) x (omega arith) (omega arith)))
-      | inr n ↦ both_ways _ (none-any (λ k. is_among (class_at b m).members k) (class_at b at).after f.none) n
+          let u = c.under m at x less within (spans-from (class_at b m) x (omega arith) (omega arith)) (spans-from (class_at b at) x (omega arith) (omega arith)) in
+          let l = f.under x u.0 (omega arith) (omega arith) u.1 in
+          omega (arith, name, l, u.2)
+      | inr n ↦
+          let q = list_any-at (λ k. is_among (class_at b m).members k) (class_at b at).after n in
+          let l = f.named q.0 (In-among (class_at b at).after q.0 q.1) in
+          let o = c.least m q.0 q.2 in
+          omega (arith, name, l, o)
     ])
+
+-- the name of a class, where names rise with the places, isn't above those behind it
+pub rising-from : (newest : ℕ) (cs : List Class) (front m : ℕ) → AreRising newest cs → front ≤ m → m < length cs
+    → (get_or cs front no_class).name ≤ (get_or cs m no_class).name
+rising-from newest cs front m s from w = elim (cases_eq front m) [
+  | inl e ↦ let same = ap (λ (z : ℕ). (get_or cs z no_class).name) e in omega arith
+  | inr ne ↦ let up = s.rising front m (omega (arith, from, ne)) w in omega arith
+]
 
 -- no class has a member below the oldest
 pub older-apart : (newest : ℕ) (r : Rests) (cs : List Class) (number : ℕ) → Covers newest r cs → number < r.oldest
@@ -528,12 +620,13 @@ only_named b m r name at apart rests known within is =
     record { within = within; named = is; only = λ i w e. a.once i at name (has i w e) (has at within is) }
 
 -- a class that took in the lists of a higher one, where it had room for them, and has the bytes of both
-pub growing-union : (c lists low high : Class) → is_among lists.members c.name ≡ true → ((x : ℕ) → spans c x ≡ (spans low x || spans high x))
+pub growing-union : (c lists low high : Class) → c.name ≡ min low.name high.name → is_among lists.members c.name ≡ true → ((x : ℕ) → spans c x ≡ (spans low x || spans high x))
     → (has_room_for low high ≡ true → lists ≡ with_lists_of low high) → (has_room_for low high ≡ false → lists ≡ low) → IsUnion (with_lists c lists) low high
-growing-union c lists low high called over room none = elim (cases_Bool (has_room_for low high)) [
+growing-union c lists low high named called over room none = elim (cases_Bool (has_room_for low high)) [
   | inl t ↦
       let e = room t in
       record {
+        named = named;
         called = called;
         lists = record {
           members = λ n on. sym (list_any-append (λ m. m == n) low.members high.members) ∙ ap (λ (z : Class). is_among z.members n) (sym e) ∙ on;
@@ -544,6 +637,7 @@ growing-union c lists low high called over room none = elim (cases_Bool (has_roo
   | inr f ↦
       let e = none f in
       record {
+        named = named;
         called = called;
         lists = record {
           members = λ n on. or_left _ (is_among high.members n) (ap (λ (z : Class). is_among z.members n) (sym e) ∙ on);

@@ -31,8 +31,8 @@ pub mod Clear
 pub mod Standing
 pub mod Taken
 pub mod Apart
+pub mod Under
 pub mod Covering
-pub mod Sharing
 pub mod Baring
 pub mod Gapping
 pub mod Departing

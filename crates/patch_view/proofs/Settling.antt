@@ -79,11 +79,11 @@ around-spans low high x around = elim (cases_Bool (spans low x)) [
 ]
 
 -- it is both, once it has the lists of both
-pub around-union : (name : ℕ) (lists low high : Class) → is_among lists.members name ≡ true → is_around low high ≡ true
+pub around-union : (name : ℕ) (lists low high : Class) → name ≡ min low.name high.name → is_among lists.members name ≡ true → is_around low high ≡ true
     → (has_room_for low high ≡ true → lists ≡ with_lists_of low high) → (has_room_for low high ≡ false → lists ≡ low)
     → IsUnion (record lists { name = name; flying = false; hard = false; taken = false }) low high
-around-union name lists low high called around room none =
-    growing-union (record lists { name = name; flying = false; hard = false; taken = false }) lists low high called
+around-union name lists low high named called around room none =
+    growing-union (record lists { name = name; flying = false; hard = false; taken = false }) lists low high named called
     (λ x. elim (cases_Bool (has_room_for low high)) [
       | inl t ↦ ap (λ z. spans z x) (room t) ∙ around-spans low high x around
       | inr f ↦ ap (λ z. spans z x) (none f) ∙ around-spans low high x around

@@ -50,14 +50,18 @@ pub record AreApart (newest : ℕ) (cs : List Class) : Type 0 where
   pub upto : (i n : ℕ) → is_among (slice_index_or cs i no_class).members n ≡ true → n ≤ newest
   pub once : (i j n : ℕ) → is_among (slice_index_or cs i no_class).members n ≡ true → is_among (slice_index_or cs j no_class).members n ≡ true → i ≡ j
 
--- each class has one member, by which it is called, and these rise with the places
-pub record AreSingle (cs : List Class) : Type 0 where
-  pub one : (i : ℕ) → i < length cs → (slice_index_or cs i no_class).members ≡ (slice_index_or cs i no_class).name ∷ []
+-- a member below the number is the name of its class
+abbrev pub AreNamesBelow : ℕ → List Class → Type 0
+AreNamesBelow limit cs = (i n : ℕ) → is_among (slice_index_or cs i no_class).members n ≡ true → n < limit → (slice_index_or cs i no_class).name ≡ n
+
+-- the names rise with the places, and none is above the newest
+pub record AreRising (newest : ℕ) (cs : List Class) : Type 0 where
+  pub upto : (i : ℕ) → i < length cs → (slice_index_or cs i no_class).name ≤ newest
   pub rising : (i j : ℕ) → i < j → j < length cs → (slice_index_or cs i no_class).name < (slice_index_or cs j no_class).name
 
--- either is so, where it is known
+-- the first and the last of these are so, where that is known, and of the members that is known which are below a number
 abbrev pub KnownApart : Members → List Class → Type 0
-KnownApart m cs = (m.are_apart ≡ true → AreApart m.newest cs) × (m.are_single ≡ true → AreSingle cs)
+KnownApart m cs = (m.are_apart ≡ true → AreApart m.newest cs) × AreNamesBelow m.others_from cs × (m.are_rising ≡ true → AreRising m.newest cs)
 
 abbrev pub class_at : Block → ℕ → Class
 class_at b at = slice_index_or b.classes at no_class

@@ -202,15 +202,15 @@ impl<A: Allocator> BlockState<A> {
         forget(&mut self.image);
     }
 
-    /// Whether the class at `k` depends directly on one from `front` up to it. Where it is known to depend on none, no record is
-    /// looked at but its own.
+    /// Whether the class at `k` depends directly on one from `front` up to it. Where it is known to depend on none of them, none is looked
+    /// at but the first.
     fn follows_any(&self, front: usize, k: usize) -> bool
         requires down { front ≤ k }
         requires within { k < length self.now.classes }
         ensures no { IsFalse result → (m : ℕ) → front ≤ m → m < k → follows self.now k m ≡ false }
         ensures yes { IsTrue result → (m : ℕ) × (front ≤ m) × (m < k) × (follows self.now k m ≡ true) }
     {
-        if self.is_loose_at(k) {
+        if self.is_loose_from(front, k) {
             return false;
         }
         for m in front..k {
@@ -262,11 +262,11 @@ impl<A: Allocator> BlockState<A> {
     {
         let upper = self.classes.remove(high);
         let lower = &mut self.classes[low];
+        let greater = lower.greater_name(&upper);
         let is_of_both = lower.become_both(drawn, &upper);
         let is_taken = lower.is_taken();
         let is_flying = lower.is_flying();
-        let known = self.members.unless_other(!is_of_both);
-        self.members = known.unless_other(!is_free);
+        self.members = self.members.joined(is_of_both, is_free, greater);
         self.taken = self.taken.spread_over(self.classes.len(), is_taken);
         self.flying = self.flying.spread_over(self.classes.len(), is_flying);
         forget(&mut self.image);

@@ -110,6 +110,20 @@ impl<A: Allocator> Class<A> {
         self.kept.name
     }
 
+    /// The greater of its name and another's.
+    pub(crate) fn greater_name(&self, other: &Class<A>) -> PatchNo
+        ensures { result ≡ max self.now.name other.now.name }
+    {
+        self.kept.name.max(other.kept.name)
+    }
+
+    /// The lesser of its name and another's.
+    fn lesser_name(&self, other: &Class<A>) -> PatchNo
+        ensures { result ≡ min self.now.name other.now.name }
+    {
+        self.kept.name.min(other.kept.name)
+    }
+
     /// The least of its members, or the greatest number where it has none.
     pub(crate) fn lowest(&self) -> u32
         ensures { (n : ℕ) → is_among self.now.members n ≡ true → result ≤ n }
@@ -216,11 +230,16 @@ impl<A: Allocator> Class<A> {
         )
     }
 
-    /// Whether it is known that it rests on nothing in the block.
-    pub(crate) fn is_told_loose(&self, rests: &Rests<A>) -> bool
-        ensures { IsTrue result → IsLoose rests.now self.now.after self.now.start self.now.stop }
+    /// Whether it is known that it rests on none in the block of which no member is below a number.
+    pub(crate) fn is_told_loose(&self, rests: &Rests<A>, first: u32) -> bool
+        ensures { IsTrue result → IsLoose rests.now self.now.after self.now.start self.now.stop first }
     {
-        rests.tell_loose(self.kept.after.as_slice(), self.kept.start, self.kept.stop)
+        rests.tell_loose(
+            self.kept.after.as_slice(),
+            self.kept.start,
+            self.kept.stop,
+            first,
+        )
     }
 
     fn meets(&self, other: &Class<A>) -> bool
@@ -418,7 +437,7 @@ impl<A: Allocator> Class<A> {
         saved[lower..lower + self.kept.saved.len()].copy_from_slice(&self.kept.saved);
         let room = members.spare().min(after.spare());
         let kept = Record {
-            name: lesser(self.kept.name, high.kept.name),
+            name: self.lesser_name(high),
             members,
             start,
             stop,
@@ -444,10 +463,10 @@ impl<A: Allocator> Class<A> {
         };
         let Drawn { class, growing } = drawn;
         if growing {
-            let has_their_span = class.has_span_of(self, high);
+            let is_like_both = class.has_name_and_span_of(self, high);
             self.take_lists(high);
             self.take_the_rest(class);
-            has_their_span && self.is_called_by_a_member()
+            is_like_both && self.is_called_by_a_member()
         } else {
             let is_of_both = class.is_union_of(self, high);
             drop(replace(self, class));
@@ -462,9 +481,10 @@ impl<A: Allocator> Class<A> {
         ensures of_both { IsTrue result → IsUnion self.new self.old high.now }
     {
         let is_around = self.is_around(high);
+        let name = self.lesser_name(high);
         self.take_lists(high);
         let kept = &mut *self.kept;
-        kept.name = lesser(kept.name, high.kept.name);
+        kept.name = name;
         kept.flying = false;
         kept.hard = false;
         kept.taken = false;
@@ -484,13 +504,17 @@ impl<A: Allocator> Class<A> {
         if !self.is_called_by_a_member() {
             return false;
         }
-        self.has_span_of(low, high) && self.has_lists_of(low, high)
+        self.has_name_and_span_of(low, high) && self.has_lists_of(low, high)
     }
 
-    /// Whether its bytes are those of two other classes.
-    fn has_span_of(&self, low: &Class<A>, high: &Class<A>) -> bool
-        ensures { IsTrue result → (x : ℕ) → spans self.now x ≡ (spans low.now x || spans high.now x) }
+    /// Whether its bytes are those of two other classes, and its name is the lesser of theirs.
+    fn has_name_and_span_of(&self, low: &Class<A>, high: &Class<A>) -> bool
+        ensures name { IsTrue result → self.now.name ≡ min low.now.name high.now.name }
+        ensures span { IsTrue result → (x : ℕ) → spans self.now x ≡ (spans low.now x || spans high.now x) }
     {
+        if self.kept.name != low.lesser_name(high) {
+            return false;
+        }
         if low.kept.start > high.kept.stop || high.kept.start > low.kept.stop {
             return false;
         }
@@ -700,10 +724,4 @@ fn follow_on(these: &[PatchNo], those: &[PatchNo]) -> bool
         return true;
     }
     these[these.len() - 1] <= those[0]
-}
-
-fn lesser(a: PatchNo, b: PatchNo) -> PatchNo
-    ensures { result ≡ min a b }
-{
-    a.min(b)
 }

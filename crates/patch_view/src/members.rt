@@ -1,15 +1,17 @@
 //! What is known of the members of a block's records.
 ghost use Rattle.std.specs.Prelude.{◌≡◌};
-ghost use Rattle.patch_view.specs.Members.{no_members, with_member, in_disorder, unless_other, are_below};
+ghost use Rattle.patch_view.specs.Members.{no_members, with_member, in_disorder, joined, are_below};
 
 use patch_model::PatchNo;
 
 /// Whether the members of the records are known to be apart: no number is a member of two records, and none is above the
-/// newest. And whether each record is known to have one member alone, by which it is called, and these to rise with the places.
+/// newest. Whether the names of the records are known to rise with their places. And a number below which each member is known to be
+/// the name of its record.
 #[derive(Clone, Copy)]
 pub(crate) struct Members {
     pub(crate) are_apart: bool,
-    pub(crate) are_single: bool,
+    pub(crate) are_rising: bool,
+    pub(crate) others_from: u32,
     pub(crate) newest: PatchNo,
 }
 
@@ -19,7 +21,8 @@ impl Members {
     {
         Members {
             are_apart: true,
-            are_single: true,
+            are_rising: true,
+            others_from: u32::MAX,
             newest: PatchNo(0),
         }
     }
@@ -31,7 +34,8 @@ impl Members {
         let is_next = is_only || (self.are_apart && self.newest < no);
         Members {
             are_apart: is_next,
-            are_single: is_next && (is_only || self.are_single),
+            are_rising: is_next && (is_only || self.are_rising),
+            others_from: if is_only { u32::MAX } else { self.others_from },
             newest: no,
         }
     }
@@ -49,18 +53,25 @@ impl Members {
     {
         Members {
             are_apart: self.are_apart,
-            are_single: false,
+            are_rising: false,
+            others_from: self.others_from,
             newest: self.newest,
         }
     }
 
-    /// With members of a record changed to some that were its own or another's that is gone, or to others.
-    pub(crate) fn unless_other(self, are_others: bool) -> Members
-        ensures { result ≡ unless_other self are_others }
+    /// With two records as one, of whose names this is the greater, if it has their members alone and the lesser name, and stands where
+    /// it may.
+    pub(crate) fn joined(self, is_of_both: bool, is_free: bool, greater: PatchNo) -> Members
+        ensures { result ≡ joined self is_of_both is_free greater }
     {
         Members {
-            are_apart: self.are_apart && !are_others,
-            are_single: false,
+            are_apart: self.are_apart && is_of_both && is_free,
+            are_rising: self.are_rising && is_of_both && is_free,
+            others_from: if is_of_both {
+                self.others_from.min(greater.0)
+            } else {
+                0
+            },
             newest: self.newest,
         }
     }

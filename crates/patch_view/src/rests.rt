@@ -1,28 +1,27 @@
 //! What tells at once that no class of a block rests on another.
-ghost use Rattle.std.specs.Prelude.{ℕ, ◌≡◌, ◌<◌, ◌∷◌, [], length, nat_lt, slice_index_or, true, Some, IfSome, IfOk, OnOk, IsTrue};
+ghost use Rattle.std.specs.Prelude.{ℕ, List, ◌≡◌, ◌<◌, ◌≤◌, ◌∷◌, [], length, nat_lt, slice_index_or, true, Some, IfSome, IfOk, OnOk, IsTrue};
 ghost use Rattle.std.specs.List.{list_any};
 ghost use Rattle.std.specs.List.Sorted.{IsNonDecreasing};
 ghost use Rattle.patch_model.specs.Entry.{is_among};
 ghost use Rattle.patch_skyline.specs.declared.skylines.Span.{Span as Top};
-ghost use Rattle.patch_view.specs.Rests.{IsLaidOver, IsLaidOn, IsFree, IsLoose, HasTopsOf, Shares, begun, no_rests, Gains};
+ghost use Rattle.patch_view.specs.Rests.{IsLaidOver, IsLaidOn, IsFree, IsLoose, HasTopsOf, NoneAbove, GoesOver, begun, no_rests, Gains};
 
-use crate::number_lists::is_listed;
-use crate::places::Places;
+use crate::number_lists::{greatest_of, is_listed};
 use patch_model::{OutOfMemory, PatchNo};
 use patch_skyline::{Skyline, Span};
 use std::alloc::{Allocator, Global};
 use std::marker::Model;
 
-/// Which patch wrote each byte of the block last, and the numbers that the block's classes name. Patches that are gone may
-/// be among them.
+/// Which patch wrote each byte of the block last, what lies under it, and the numbers that the block's classes name. Patches that are
+/// gone may be among them.
 #[derive(Drop)]
 pub(crate) struct Rests<A: Allocator = Global> {
     skyline: Skyline<A>,
+    /// Of the bytes of each patch that was laid over others, the greatest number that wrote one of them before it.
+    under: Skyline<A>,
     named: Vec<PatchNo, A>,
     /// No patch with a lower number was laid.
     oldest: u32,
-    /// From where to where those bytes lie that two patches wrote.
-    shared: Places,
 }
 
 impl<A: Allocator> Model for Rests<A> {
@@ -31,7 +30,7 @@ impl<A: Allocator> Model for Rests<A> {
 
     ghost Value = { Seen };
 
-    ghost view = { λ r. record { tops = r.skyline.spans; named = r.named.items; oldest = r.oldest; shared = r.shared } };
+    ghost view = { λ r. record { tops = r.skyline.spans; under = r.under.spans; named = r.named.items; oldest = r.oldest } };
 
     ghost invariant = { λ r. IsNonDecreasing r.named.items };
 }
@@ -44,9 +43,9 @@ impl<A: Allocator> Rests<A> {
     {
         Ok(Rests {
             skyline: Skyline::new(alloc.clone()?),
+            under: Skyline::new(alloc.clone()?),
             named: Vec::new(alloc.clone()?),
             oldest: u32::MAX,
-            shared: Places::none(),
         })
     }
 
@@ -54,9 +53,9 @@ impl<A: Allocator> Rests<A> {
         ensures { self.new ≡ no_rests }
     {
         self.skyline.clear();
+        self.under.clear();
         self.named.clear();
         self.oldest = u32::MAX;
-        self.shared = Places::none();
     }
 
     fn lay(&mut self, top: Span, names: &[PatchNo]) -> Result<(), OutOfMemory>
@@ -64,23 +63,19 @@ impl<A: Allocator> Rests<A> {
         ensures { OnOk result (IsLaidOver self.old self.new top names.now) }
     {
         add_all(&mut self.named, names)?;
-        self.shared = self.shared_with(top.start, top.stop);
         self.oldest = self.oldest.min(top.no.0);
+        let greatest = self.greatest_top(top.start, top.stop);
+        lay_under(&mut self.under, greatest, top.start, top.stop)?;
         self.skyline.lay(top)?;
         Ok(())
     }
 
-    /// From where to where the shared bytes lie once a patch is laid: with its own, if any patch wrote one of them.
-    fn shared_with(&self, start: usize, stop: usize) -> Places
+    /// The greatest number of a patch that wrote one of these bytes last.
+    fn greatest_top(&self, start: usize, stop: usize) -> Option<u32>
         requires { start < stop }
-        ensures { Shares self.now.tops start stop self.now.shared result }
+        ensures { NoneAbove self.now.tops start stop result }
     {
-        let tops = self.skyline.tops(start, stop);
-        if tops.is_empty() {
-            self.shared
-        } else {
-            self.shared.with(start, stop)
-        }
+        greatest_within(&self.skyline, start, stop)
     }
 
     /// Whether a number is below those of all patches that were laid.
@@ -90,12 +85,24 @@ impl<A: Allocator> Rests<A> {
         no.0 < self.oldest
     }
 
-    /// Whether a class of these bytes, which names these, rests on nothing in the block.
-    pub(crate) fn tell_loose(&self, names: &[PatchNo], start: usize, stop: usize) -> bool
-        ensures { IsTrue result → IsLoose self.now names.now start stop }
+    /// Whether a class of these bytes, which names these, rests on none of which no member is below a number.
+    pub(crate) fn tell_loose(
+        &self,
+        names: &[PatchNo],
+        start: usize,
+        stop: usize,
+        first: u32,
+    ) -> bool
+        requires { IsNonDecreasing names.now }
+        ensures { IsTrue result → IsLoose self.now names.now start stop first }
     {
-        let shared = self.shared;
-        names.is_empty() && (stop <= shared.from || shared.to <= start)
+        if start >= stop {
+            return false;
+        }
+        if !are_below(names, first) {
+            return false;
+        }
+        is_below(greatest_within(&self.under, start, stop), first)
     }
 
     /// Whether nothing rests on a class of these members and these bytes, where the block's records have no others of them:
@@ -125,6 +132,67 @@ impl<A: Allocator> Rests<A> {
     {
         are_of(self.skyline.tops(start, stop), members)
     }
+}
+
+/// Lays under a new patch the greatest number of those that wrote its bytes last, if any did.
+fn lay_under<A: Allocator>(
+    under: &mut Skyline<A>,
+    greatest: Option<u32>,
+    start: usize,
+    stop: usize,
+) -> Result<(), OutOfMemory>
+    requires { start < stop }
+    ensures { OnOk result ((tops : List Top) → NoneAbove tops start stop greatest → GoesOver tops under.old.spans under.new.spans start stop) }
+{
+    match greatest {
+        Some(no) => {
+            let no = PatchNo(no);
+            under.lay(Span { start, stop, no })?;
+            Ok(())
+        }
+        None => Ok(()),
+    }
+}
+
+/// The greatest number among those of a line that lie between these bytes.
+fn greatest_within<A: Allocator>(line: &Skyline<A>, start: usize, stop: usize) -> Option<u32>
+    requires { start < stop }
+    ensures { NoneAbove line.now.spans start stop result }
+{
+    let spans = line.tops(start, stop);
+    if spans.is_empty() {
+        return None;
+    }
+    Some(greatest_in(spans))
+}
+
+/// The greatest number of these spans, or zero where there is none.
+fn greatest_in(spans: &[Span]) -> u32
+    ensures { (k : ℕ) (d : Top) → k < length spans.now → (slice_index_or spans.now k d).no ≤ result }
+{
+    let mut greatest = 0;
+    for span in spans {
+        greatest = greatest.max(span.no.0);
+    }
+    greatest
+}
+
+/// Whether a number, if there is one, is below another.
+fn is_below(number: Option<u32>, limit: u32) -> bool
+    ensures { IsTrue result → IfSome number (λ no. no < limit) }
+{
+    match number {
+        Some(no) => no < limit,
+        None => true,
+    }
+}
+
+/// Whether each of these numbers, which rise, is below another.
+fn are_below(numbers: &[PatchNo], limit: u32) -> bool
+    requires { IsNonDecreasing numbers.now }
+    ensures { IsTrue result → (n : ℕ) → is_among numbers.now n ≡ true → n < limit }
+{
+    numbers.is_empty() || greatest_of(numbers) < limit
 }
 
 /// Whether each of the spans is one of these patches'.

@@ -1,7 +1,7 @@
 //! One block's bytes and the records of its live classes.
 //!
 //! Where a call has two layers, `x_exactly` does the work on the records, and `x` says what it means for the block's history.
-ghost use Rattle.std.specs.Prelude.{◌≡◌, ◌<◌, length, [], Some, IfSome, IsFalse, IsTrue, OnErr, ℕ, false};
+ghost use Rattle.std.specs.Prelude.{◌≡◌, ◌<◌, ◌≤◌, length, [], Some, IfSome, IsFalse, IsTrue, OnErr, ℕ, false};
 ghost use Rattle.patch_model.specs.Entry.{is_among};
 ghost use Rattle.patch_model.specs.History.{History, cached as the_cached};
 ghost use Rattle.patch_view.specs.State.{Block, HasNoneBelow, is_takeable, swept_to, class_at, exchanged_at, follows, hinders, HinderWithin, place_of, IsOnlyNamed, restored_to, outline, IsLeast};
@@ -249,11 +249,15 @@ impl<A: Allocator> BlockState<A> {
         }
     }
 
-    /// Whether the number is known to lie between the members of two records, one right above the other, or below them all or above.
+    /// Whether the number is known to be no member: as a member it would be a name, but lies between those of two records, one right above
+    /// the other, or below them all or above.
     fn is_missed(&self, no: PatchNo) -> bool
         ensures { IsTrue result → (i : ℕ) → is_among (class_at self.now i).members no ≡ false }
     {
-        if !self.members.are_single {
+        if !self.members.are_rising {
+            return false;
+        }
+        if self.members.others_from <= no.0 {
             return false;
         }
         match self.place_upto(no) {
@@ -290,19 +294,35 @@ impl<A: Allocator> BlockState<A> {
         }
     }
 
-    /// Whether it is known that the class at this place depends directly on none. No record is looked at but its own.
-    pub(crate) fn is_loose_at(&self, at: usize) -> bool
-        requires { at < length self.now.classes }
-        ensures { IsTrue result → (m : ℕ) → follows self.now at m ≡ false }
+    /// Whether it is known that the class at a place depends directly on none from another place up to it. No records are looked at but
+    /// these two.
+    pub(crate) fn is_loose_from(&self, front: usize, at: usize) -> bool
+        requires down { front ≤ at }
+        requires within { at < length self.now.classes }
+        ensures { IsTrue result → (m : ℕ) → front ≤ m → m < at → follows self.now at m ≡ false }
     {
         if !self.members.are_apart {
             return false;
         }
+        let first = self.first_from(front);
         let class = &self.classes[at];
         match &self.rests {
-            Some(rests) => class.is_told_loose(rests),
+            Some(rests) => class.is_told_loose(rests, first),
             None => false,
         }
+    }
+
+    /// A number that isn't above the name of a class from this place on. Where names are known to rise with the places, it is the name
+    /// of the one there.
+    fn first_from(&self, front: usize) -> u32
+        requires { front < length self.now.classes }
+        ensures { (m : ℕ) → front ≤ m → m < length self.now.classes → result ≤ (class_at self.now m).name }
+    {
+        if !self.members.are_rising {
+            return 0;
+        }
+        let name = self.name_at(front);
+        name.0
     }
 
     /// Whether a class may depend directly on the one at this place. Where it is known that none does, no record is looked at.

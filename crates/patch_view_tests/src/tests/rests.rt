@@ -119,6 +119,57 @@ fn pairs_far_apart_are_merged(rt: HostRuntime) -> Result<(), Fail> {
     Ok(())
 }
 
+// Pairs of which the upper patch lies over the lower one's byte and names it.
+fn merge_covering_pairs(rt: &impl Abort, block: &mut BlockState) -> Result<(), OutOfMemory> {
+    for at in 0..40u32 {
+        lay_byte(rt, block, at + 1, at as usize * 2)?;
+    }
+    for at in 0..40u32 {
+        block.lay(
+            PatchNo(at + 41),
+            at as usize * 2,
+            &[7, 7],
+            &[PatchNo(at + 1)],
+            false,
+        )?;
+    }
+    for at in 0..40u32 {
+        expect_rested_on(rt, block, at + 1, at + 41);
+        merge_pair(rt, block, at + 1, at + 41, at as usize * 2)?;
+    }
+    Ok(())
+}
+
+#[test]
+fn pairs_that_share_a_byte_are_merged(rt: HostRuntime) -> Result<(), Fail> {
+    let mut block = bare(rt.alloc())?;
+    merge_covering_pairs(&rt, &mut block)?;
+    Ok(())
+}
+
+// Pairs of which the upper patch lies over the next pair's lower one: each, once merged, rests on the next.
+fn merge_linked_pairs(rt: &impl Abort, block: &mut BlockState) -> Result<(), OutOfMemory> {
+    for at in 0..40u32 {
+        lay_byte(rt, block, at + 1, at as usize * 2)?;
+    }
+    for at in 0..39u32 {
+        block.lay(PatchNo(at + 41), at as usize * 2 + 1, &[7, 7], &[], false)?;
+    }
+    for at in 0..39u32 {
+        join_by(block, at + 1, at + 41)?;
+        expect_rested_on(rt, block, at + 2, at + 1);
+    }
+    expect_free(rt, block, 1);
+    Ok(())
+}
+
+#[test]
+fn pairs_that_lie_over_the_next_rest_on_it(rt: HostRuntime) -> Result<(), Fail> {
+    let mut block = bare(rt.alloc())?;
+    merge_linked_pairs(&rt, &mut block)?;
+    Ok(())
+}
+
 // A patch that lies over one between the two that are merged, and another one that names such a one, go on resting on it.
 fn merge_past_others(rt: &impl Abort, block: &mut BlockState) -> Result<(), OutOfMemory> {
     lay_byte(rt, block, 0, 0)?;

@@ -7,7 +7,7 @@ use Rattle.patch_view.proofs.classes.Class.take_in.Goals as goal
 
 pub returns-then-is_around-clause-of_both : goal.returns-then-is_around-clause-of_both
 returns-then-is_around-clause-of_both g c t =
-    let name = c.lesser-kept.result in
+    let name = c.lesser_name-name.result in
     let low : Class = c.args.self.now in
     let high : Class = c.args.high.now in
     let is = c.self.view_is in
@@ -27,4 +27,4 @@ returns-then-is_around-clause-of_both g c t =
       room = k.room;
     } in IsUnion both low high) (sym kept)
     (subst (λ (z : Class). IsUnion (record z { name = name; flying = false; hard = false; taken = false }) low high) (sym is)
-    (around-union name c.take_lists.new.self low high called (sym c.is_around-is_around.ensures.exact ∙ c.if-is_around.true) c.take_lists.ensures.room c.take_lists.ensures.no_room))
+    (around-union name c.take_lists.new.self low high c.lesser_name-name.ensures called (sym c.is_around-is_around.ensures.exact ∙ c.if-is_around.true) c.take_lists.ensures.room c.take_lists.ensures.no_room))

@@ -1,6 +1,6 @@
-use Rattle.std.proofs.Common.{◌≡◌, [], false, not, ap, subst, sym, ◌<◌, ◌≤◌, length, slice_set, arith, refl}
+use Rattle.std.proofs.Common.{◌≡◌, [], false, ap, subst, sym, ◌<◌, ◌≤◌, length, slice_set, arith, refl}
 use Rattle.patch_view.proofs.Standing.{settled_within}
-use Rattle.patch_view.proofs.Apart.{settled_apart, less_apart}
+use Rattle.patch_view.proofs.Apart.{are_taken, settled_apart}
 use Rattle.patch_view.proofs.Covering.{settled_rests}
 use Rattle.patch_view.specs.State.{Class, Block, follows}
 use Rattle.patch_view.specs.Changes.{Settles}
@@ -22,19 +22,21 @@ invariant_of-self g c =
     let e = c.spread_over-self-inside.ensures in
     let l = c.len.ensures in
     let k = c.is_taken-is_taken.ensures in
-    let u = c.unless_other-self-inside.ensures in
-    let v = c.unless_other-known.ensures in
+    let j = c.joined-self-inside.ensures in
+    let g = c.greater_name-greater.ensures in
     let within : c.args.high < length c.self.inside.classes.items = subst (λ z. c.args.high < length z.classes) (sym c.self.view_is) c.requires.within in
+    let taken = are_taken c.self.inside.classes.items c.remove-upper.new.self.items c.args.low c.args.high c.index_mut-lower.result.now c.remove-upper.result
+    c.requires.less within c.remove-upper.ensures.value c.remove-upper.ensures.items c.index_mut-lower.ensures.value in
     let fits : length c.remove-upper.new.self.items ≤ c.remove-upper.new.self.len = omega (arith, c.remove-upper.new.self.ok.0) in (
       c.self.invariant.0,
       rw (e, l, k) (settled_within (λ (k : Class). k.taken) refl c.self.inside.classes.items c.remove-upper.new.self.items c.args.low c.args.high c.become_both-is_of_both.new.self c.self.inside.taken
           c.remove-upper.new.self.len c.remove-upper.ensures.items within fits c.self.invariant.1),
-      rw u (less_apart c.unless_other-known.result (not c.args.is_free) _ (rw v (settled_apart c.self.inside.classes.items c.remove-upper.new.self.items c.args.low c.args.high
-          c.index_mut-lower.result.now c.remove-upper.result c.become_both-is_of_both.new.self c.self.inside.members c.become_both-is_of_both.result c.requires.less within
-          c.remove-upper.ensures.value c.remove-upper.ensures.items c.index_mut-lower.ensures.value (λ t. (c.become_both-is_of_both.ensures.of_both t).lists.members) c.self.invariant.2))),
-      rw (u, v) (settled_rests c.self.inside.classes.items c.remove-upper.new.self.items c.args.low c.args.high c.index_mut-lower.result.now c.remove-upper.result
-          c.become_both-is_of_both.new.self c.self.inside.members c.become_both-is_of_both.result c.args.is_free c.self.inside.rests c.requires.less within
-          c.remove-upper.ensures.value c.remove-upper.ensures.items c.index_mut-lower.ensures.value c.become_both-is_of_both.ensures.of_both
+      rw (j, g) (settled_apart c.self.inside.classes.items c.remove-upper.new.self.items c.args.low c.args.high
+          c.index_mut-lower.result.now c.remove-upper.result c.become_both-is_of_both.new.self c.self.inside.members c.become_both-is_of_both.result c.args.is_free taken
+          (λ t. (c.become_both-is_of_both.ensures.of_both t).lists.members) (λ t. (c.become_both-is_of_both.ensures.of_both t).named) c.self.invariant.2),
+      rw j (settled_rests c.self.inside.classes.items c.remove-upper.new.self.items c.args.low c.args.high c.index_mut-lower.result.now c.remove-upper.result
+          c.become_both-is_of_both.new.self c.self.inside.members c.become_both-is_of_both.result c.args.is_free c.greater_name-greater.result c.self.inside.rests taken
+          c.become_both-is_of_both.ensures.of_both
           (λ t m from to. subst (λ cs. follows (record { bytes = []; classes = cs }) c.args.high m ≡ false) (sym (ap (λ b. b.classes) c.self.view_is)) (c.requires.free t m from to))
           c.self.invariant.3),
       rw (c.spread_over-self-inside-2.ensures, c.len-2.ensures, c.is_flying-is_flying.ensures) (settled_within (λ (k : Class). k.flying) refl c.self.inside.classes.items c.remove-upper.new.self.items c.args.low c.args.high c.become_both-is_of_both.new.self c.self.inside.flying
