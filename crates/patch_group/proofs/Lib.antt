@@ -14,6 +14,7 @@ pub mod Steps
 pub mod Uniting
 pub mod Stopping
 pub mod Befores
+pub mod Sealing
 pub mod Outcomes
 pub mod Reading
 pub mod Whys

@@ -1,9 +1,9 @@
 -- Groups as the code keeps them.
-use Rattle.std.specs.Prelude.{ℕ, ◌+◌, ◌-◌, ◌++◌, ◌<◌, ◌==◌, min, max, List, [], ◌∷◌, map, filter, length, slice_index_or, vec_len, vec_capacity, All, Contains, ◌≡◌}
+use Rattle.std.specs.Prelude.{ℕ, true, false, ◌+◌, ◌-◌, ◌++◌, ◌<◌, ◌==◌, min, max, List, [], ◌∷◌, map, filter, length, slice_index_or, vec_len, vec_capacity, All, Contains, ◌≡◌}
 use Rattle.std.specs.List.{flat_map, range_with_len}
 use Rattle.patch_model.specs.Runs.{numbers_in}
 use Rattle.patch_plans.specs.Rising.{rising}
-use Rattle.patch_plans.specs.Groups.{Group, Groups, before, engaged_by}
+use Rattle.patch_plans.specs.Groups.{Group, Groups, group_at, before, engaged_by, is_engaged, after_of}
 use Rattle.patch_model.specs.declared.runs.Run.{Run}
 use Rattle.patch_group.specs.declared.records.Record.{Record}
 use Rattle.patch_group.specs.declared.records.Before.{Before}
@@ -26,9 +26,14 @@ groups_of records engagements = record { groups = map group_of records; engaged 
 abbrev pub groups_before : Groups → ℕ → List ℕ
 groups_before gs writer = rising (flat_map (before gs) (engaged_by gs writer))
 
--- what is kept of writers is what is before their groups
+-- what is kept of writers is what their patches come after
 abbrev pub AreBefore : {A : Type 0} → Groups → List (Before A) → Type 0
-AreBefore gs kept = All (λ k. k.groups.items ≡ groups_before gs k.writer) kept
+AreBefore gs kept = All (λ k. numbers_in k.runs.items ≡ after_of gs k.writer) kept
+
+-- a group that stands before another is sealed, and a sealed one isn't engaged: so no group before another takes a patch
+pub record AreSealed (gs : Groups) : Type 0 where
+  pub sealed : (q p : ℕ) → Contains (before gs q) p → (group_at gs p).sealed ≡ true
+  pub free : (g : ℕ) → (group_at gs g).sealed ≡ true → is_engaged gs g ≡ false
 
 -- the groups of the writer's engagements
 abbrev pub names_of : List (ℕ × ℕ) → ℕ → List ℕ

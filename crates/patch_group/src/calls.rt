@@ -18,7 +18,7 @@ use std::marker::Model;
 /// is sealed: it is never engaged again and depends on no further group. So what is before a group is all there when its first
 /// patch is made.
 ///
-/// Which groups are before those of a writer is found with its first patch and kept, while engagements and orders stay as they are.
+/// What a writer's patches come after is found with the first of them and kept, while engagements and orders stay as they are.
 #[derive(Drop)]
 pub struct Groups<A: Allocator + Copy = Global> {
     pub(crate) alloc: A,
@@ -30,7 +30,7 @@ pub struct Groups<A: Allocator + Copy = Global> {
 impl<A: Allocator + Copy> Model for Groups<A> {
     ghost use Rattle.std.specs.Prelude.{◌≤◌, length};
     ghost use Rattle.patch_plans.specs.Groups.{Groups as State, AreApart};
-    ghost use Rattle.patch_group.specs.Records.{groups_of, AreBefore};
+    ghost use Rattle.patch_group.specs.Records.{groups_of, AreBefore, AreSealed};
     ghost use Rattle.patch_plans.specs.declared.limits.TheConstants.{MAX_GROUPS};
 
     ghost Value = { State };
@@ -38,7 +38,8 @@ impl<A: Allocator + Copy> Model for Groups<A> {
     ghost view = { λ c. groups_of c.groups.items c.engaged.items };
 
     ghost invariant = { λ c. (length c.groups.items ≤ MAX_GROUPS) × AreApart c.engaged.items
-        × AreBefore (groups_of c.groups.items c.engaged.items) c.before.items };
+        × AreBefore (groups_of c.groups.items c.engaged.items) c.before.items
+        × AreSealed (groups_of c.groups.items c.engaged.items) };
 }
 
 impl<A: Allocator + Copy> Groups<A> {

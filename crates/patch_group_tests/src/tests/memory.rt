@@ -8,7 +8,7 @@ use patch_testing::{HEAP, fill, hole_of};
 use std::alloc::Global;
 
 // Calls of each kind, in the words of the scripts.
-const LINES: [&str; 10] = [
+const LINES: [&str; 11] = [
     "group",
     "group",
     "engage 0 0",
@@ -18,6 +18,7 @@ const LINES: [&str; 10] = [
     "engage 0 1",
     "after 0",
     "by 0 1 c",
+    "by 0 1 d",
     "sync 1",
 ];
 
@@ -239,7 +240,7 @@ fn call_each(
             *count = count.saturating_add(1);
         }
     }
-    expect_equal(rt, "shown", shown(bench), (Some(0), Some(0), 2, 0));
+    expect_equal(rt, "shown", shown(bench), (Some(0), Some(0), 3, 0));
     Ok(())
 }
 
@@ -292,7 +293,7 @@ fn call_anew(
 // Each hole is larger than the one before it, so that one allocation more succeeds now and then, until all do. How many of
 // the lines were refused.
 fn refuse_each(rt: &impl Abort, alloc: Global, heap: &LocalHeap, how: How) -> Result<usize, Fail> {
-    let mut refused = [0u32; 10];
+    let mut refused = [0u32; 11];
     for size in 0..400usize {
         let before = refused;
         call_anew(rt, alloc, heap, how, hole_of(size), &mut refused)?;
@@ -315,11 +316,11 @@ fn expect_refused(rt: &impl Abort, alloc: Global, how: How, lines: usize) -> Res
 // All but the second group, which has room beside the first, the end of an engagement, and the second engagement.
 #[test]
 fn of_calls(rt: HostRuntime) -> Result<(), Fail> {
-    expect_refused(&rt, rt.alloc(), How::Named, 7)
+    expect_refused(&rt, rt.alloc(), How::Named, 8)
 }
 
 // All of them, since an answer takes room.
 #[test]
 fn of_lists_of_one_ask(rt: HostRuntime) -> Result<(), Fail> {
-    expect_refused(&rt, rt.alloc(), How::Listed, 10)
+    expect_refused(&rt, rt.alloc(), How::Listed, 11)
 }

@@ -10,7 +10,7 @@ use std::alloc::{AllocError, Global};
 //
 // `after WRITER`, `named BLOCK`, `sync GROUP` and `disk BLOCK` are no asks. The asks between them are a list, or answered one by one.
 // What the last patch of a block names is told of those that were made since this was last asked.
-const SCRIPTS: [&str; 11] = [
+const SCRIPTS: [&str; 12] = [
     // The second group depends on the first: what waits, and what is sealed.
     "\
 group = group 0
@@ -186,6 +186,55 @@ send 3 = refused NothingReady
 send 2 = refused NothingReady
 by 1 7 q 2 3 0 = patch 9
 named 7 = 2 3 0 1
+",
+    // What two writers come after is kept while both make patches, and found anew when one engages a group behind the other's.
+    "\
+group = group 0
+group = group 1
+group = group 2
+group = group 3
+group = group 4
+engage 0 0 = ok
+engage 1 1 = ok
+by 0 0 a = patch 0
+by 0 1 b = patch 1
+by 1 2 c = patch 2
+by 0 3 d = patch 3
+disengage 0 0 = ok
+disengage 1 1 = ok
+depend 2 0 = ok
+depend 3 1 = ok
+engage 0 2 = ok
+engage 1 3 = ok
+by 0 4 e = patch 4
+by 1 5 f = patch 5
+by 2 7 z = patch 6
+after 0 = 0 1 3
+after 1 = 2
+after 2 =
+by 0 6 g = patch 7
+named 6 = 0 1 3
+by 1 7 h = patch 8
+named 7 = 2
+engage 2 0 = refused Sealed
+depend 4 2 = refused Engaged
+by 0 6 i 5 = patch 9
+named 6 = 5 0 1 3
+disengage 0 2 = ok
+depend 4 2 = ok
+engage 1 4 = ok
+by 1 0 j = patch 10
+named 0 = 0 1 2 3 4 7 9
+by 1 1 k 8 = patch 11
+named 1 = 8 0 1 2 3 4 7 9
+by 0 2 l = patch 12
+named 2 =
+after 1 = 0 1 2 3 4 7 9
+after 0 =
+disengage 1 3 = ok
+by 1 3 m = patch 13
+named 3 = 0 1 3 4 7 9
+after 1 = 0 1 3 4 7 9
 ",
     // What the cache refuses is in no group.
     "\

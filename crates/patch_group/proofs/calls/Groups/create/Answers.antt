@@ -5,10 +5,11 @@ use Rattle.patch_plans.specs.Groups.{Group, fresh}
 use Rattle.patch_model.specs.declared.runs.Run.{Run}
 use Rattle.patch_group.specs.declared.refusals.GroupRefusal.TheVariants.{OutOfMemory as NoMemory}
 use Rattle.patch_model.specs.Runs.{numbers_in}
-use Rattle.patch_group.specs.Records.{group_of, groups_of}
-use Rattle.patch_group.proofs.Keeping.{has_room, made_all, crowded, may_begin, one_begun}
+use Rattle.patch_group.specs.Records.{group_of, groups_of, AreBefore, AreSealed}
+use Rattle.patch_group.proofs.Keeping.{has_room, made_all, crowded, may_begin, is_fresh, one_begun}
 use Rattle.patch_group.proofs.Outcomes.{refused-still, refused-told, lacking}
-use Rattle.patch_group.proofs.Befores.{kept_same, none_kept}
+use Rattle.patch_group.proofs.Befores.{held_same, none_kept}
+use Rattle.patch_group.proofs.Sealing.{sealed_begun}
 use Rattle.patch_group.proofs.calls.Groups.create.Goals as goal
 
 pub invariant_of-self : goal.invariant_of-self
@@ -16,7 +17,8 @@ invariant_of-self g c =
     let same = c.reserve.ensures.items in (
       subst (λ rs. length rs ≤ 1024) (sym same) c.self.invariant.0,
       c.self.invariant.1,
-      kept_same c.self.inside.groups.items c.reserve.new.self.items c.self.inside.engaged.items c.self.inside.before.items (ap (map group_of) same) c.self.invariant.2,
+      held_same (λ gs. AreBefore gs c.self.inside.before.items) c.self.inside.groups.items c.reserve.new.self.items c.self.inside.engaged.items (ap (map group_of) same) c.self.invariant.2,
+      held_same AreSealed c.self.inside.groups.items c.reserve.new.self.items c.self.inside.engaged.items (ap (map group_of) same) c.self.invariant.3,
     )
 
 pub invariant_of-self-2 : goal.invariant_of-self-2
@@ -26,6 +28,9 @@ invariant_of-self-2 g c =
       omega (arith, long, made, c.if-made-ge-MAX_GROUPS.false),
       c.self.invariant.1,
       none_kept _ c.clear.new.self.items c.clear.ensures.items,
+      subst AreSealed (sym (one_begun c.self.inside.groups.items c.reserve.new.self.items c.push_reserved.new.self.items c.self.inside.engaged.items c.args.self.now _
+          c.push_reserved.ensures.items c.reserve.ensures.items (is_fresh _ _ c.new.ensures.items c.new-2.ensures.items) c.self.view_is))
+          (sealed_begun c.args.self.now (subst AreSealed c.self.view_is c.self.invariant.3)),
     )
 
 pub returns-then-made-ge-MAX_GROUPS-clause-made : goal.returns-then-made-ge-MAX_GROUPS-clause-made
@@ -49,12 +54,11 @@ returns-in_err-reserve-clause-refused g c = refused-still c.from_residual.result
 pub returns-clause-made : goal.returns-clause-made
 returns-clause-made g c =
     let es = c.self.inside.engaged.items in
-    let many = made_all c.self.inside.groups.items c.args.self.now _ _ c.len-made.ensures c.self.inside.groups.ok.0 (ap (λ s. s.groups) c.self.view_is) in
-    let with : List ℕ → List Run → Group = λ ns rs. record { started = false; sealed = false; closed = false; before = ns; patches = numbers_in rs } in
-    let is_fresh : with c.new.result.items c.new-2.result.items ≡ fresh = ap (λ ns. with ns c.new-2.result.items) c.new.ensures.items ∙ ap (with []) c.new-2.ensures.items in (
+    let many = made_all c.self.inside.groups.items c.args.self.now _ _ c.len-made.ensures c.self.inside.groups.ok.0 (ap (λ s. s.groups) c.self.view_is) in (
       sym (may_begin c.args.self.now _ many c.if-made-ge-MAX_GROUPS.false),
       many,
-      one_begun c.self.inside.groups.items c.reserve.new.self.items c.push_reserved.new.self.items es c.args.self.now _ c.push_reserved.ensures.items c.reserve.ensures.items is_fresh c.self.view_is,
+      one_begun c.self.inside.groups.items c.reserve.new.self.items c.push_reserved.new.self.items es c.args.self.now _ c.push_reserved.ensures.items c.reserve.ensures.items
+          (is_fresh _ _ c.new.ensures.items c.new-2.ensures.items) c.self.view_is,
     )
 
 pub push_reserved-requires : goal.push_reserved-requires

@@ -3,11 +3,11 @@ use Rattle.std.proofs.lemmas.List.{length-map}
 use Rattle.std.proofs.lemmas.Result.{IfOk-from_err}
 use Rattle.patch_cache.specs.declared.refusals.CreateRefusal.TheVariants.{OutOfMemory as NoMemory}
 use Rattle.patch_plans.specs.Groups.{Groups, AreApart}
-use Rattle.patch_group.specs.Records.{group_of, names_of, HaveRoom}
+use Rattle.patch_group.specs.Records.{group_of, names_of, HaveRoom, AreBefore, AreSealed}
 use Rattle.patch_group.proofs.Outcomes.{refused-done, refused-still, refused-told}
 use Rattle.patch_group.proofs.Entering.{length-entered}
 use Rattle.patch_group.proofs.Keeping.{roomier}
-use Rattle.patch_group.proofs.Befores.{kept_same, kept_entered}
+use Rattle.patch_group.proofs.Befores.{held_same, kept_entered, sealed_entered}
 use Rattle.patch_group.proofs.calls.Groups.create_naming.Goals as goal
 
 pub invariant_of-self-2 : goal.invariant_of-self-2
@@ -21,7 +21,8 @@ invariant_of-self-2 g c =
       subst (λ n. n ≤ 1024) (sym long) c.self.invariant.0,
       c.self.invariant.1,
       kept_entered old mid new c.self.inside.engaged.items c.as_slice-2.result.now c.args.writer c.in_ok-no.no c.self.inside.before.items
-          c.make_room.ensures.same c.as_slice-2.ensures.value c.enter.ensures c.self.invariant.2,
+          c.make_room.ensures.same c.as_slice-2.ensures.value c.enter.ensures c.self.invariant.3 c.self.invariant.2,
+      sealed_entered old mid new c.self.inside.engaged.items c.as_slice-2.result.now c.args.writer c.in_ok-no.no c.make_room.ensures.same c.as_slice-2.ensures.value c.enter.ensures c.self.invariant.3,
     )
 
 pub invariant_of-self : goal.invariant_of-self
@@ -30,7 +31,8 @@ invariant_of-self g c =
     let new = c.make_room.new.groups.items in (
       roomier old new c.make_room.ensures.same c.self.invariant.0,
       c.self.invariant.1,
-      kept_same old new c.self.inside.engaged.items c.self.inside.before.items c.make_room.ensures.same c.self.invariant.2,
+      held_same (λ gs. AreBefore gs c.self.inside.before.items) old new c.self.inside.engaged.items c.make_room.ensures.same c.self.invariant.2,
+      held_same AreSealed old new c.self.inside.engaged.items c.make_room.ensures.same c.self.invariant.3,
     )
 
 pub invariant_of-self-in_err-no : goal.invariant_of-self-in_err-no
@@ -39,7 +41,8 @@ invariant_of-self-in_err-no g c =
     let new = c.make_room.new.groups.items in (
       roomier old new c.make_room.ensures.same c.self.invariant.0,
       c.self.invariant.1,
-      kept_same old new c.self.inside.engaged.items c.self.inside.before.items c.make_room.ensures.same c.self.invariant.2,
+      held_same (λ gs. AreBefore gs c.self.inside.before.items) old new c.self.inside.engaged.items c.make_room.ensures.same c.self.invariant.2,
+      held_same AreSealed old new c.self.inside.engaged.items c.make_room.ensures.same c.self.invariant.3,
     )
 
 pub returns-in_err-make_room-clause-made : goal.returns-in_err-make_room-clause-made

@@ -3,9 +3,10 @@ use Rattle.std.specs.Prelude.{◌==◌, ◌&&◌}
 use Rattle.std.proofs.lemmas.Fn.{filter_same}
 use Rattle.std.proofs.lemmas.List.Kept.{AllPairs-filter}
 use Rattle.patch_plans.specs.Groups.{Groups, AreApart, disengaged, is_open, is_engaged_by}
-use Rattle.patch_group.specs.Records.{group_of}
+use Rattle.patch_group.specs.Records.{group_of, groups_of, AreSealed}
 use Rattle.patch_group.proofs.Keeping.{may_disengage}
 use Rattle.patch_group.proofs.Befores.{none_kept}
+use Rattle.patch_group.proofs.Sealing.{sealed_disengaged}
 use Rattle.patch_group.proofs.calls.Groups.disengage.Goals as goal
 
 pub invariant_of-self : goal.invariant_of-self
@@ -14,6 +15,7 @@ invariant_of-self g c =
       c.self.invariant.0,
       subst AreApart (sym kept) (AllPairs-filter (λ d e. d ≡ e → ⊥) (λ e. not (e.0 == c.args.writer && e.1 == c.args.group)) c.self.inside.engaged.items c.self.invariant.1),
       none_kept _ c.clear.new.self.items c.clear.ensures.items,
+      subst (λ es. AreSealed (groups_of c.self.inside.groups.items es)) (sym kept) (sealed_disengaged (groups_of c.self.inside.groups.items c.self.inside.engaged.items) c.args.writer c.args.group c.self.invariant.3),
     )
 
 pub returns-clause-done : goal.returns-clause-done

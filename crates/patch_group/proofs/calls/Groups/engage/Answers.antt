@@ -1,10 +1,11 @@
 use Rattle.std.proofs.Common.{◌≡◌, ◌∙◌, ◌<◌, ◌≤◌, ◌++◌, ◌∷◌, [], refl, sym, ap, subst, map, true, false, length-set}
-use Rattle.patch_plans.specs.Groups.{Group, Groups, AreApart, engaged, is_engaged_by}
-use Rattle.patch_group.specs.Records.{group_of, groups_of, AreBefore}
+use Rattle.patch_plans.specs.Groups.{AreApart, is_engaged_by}
+use Rattle.patch_group.specs.Records.{groups_of, AreBefore, AreSealed}
 use Rattle.patch_group.specs.declared.refusals.GroupRefusal.TheVariants.{OutOfMemory as NoMemory}
 use Rattle.patch_plans.specs.Ordering.{apart_more}
-use Rattle.patch_group.proofs.Keeping.{changed_at, within, has_room}
+use Rattle.patch_group.proofs.Keeping.{one_engaged, within, has_room}
 use Rattle.patch_group.proofs.Befores.{none_kept}
+use Rattle.patch_group.proofs.Sealing.{sealed_engaged}
 use Rattle.patch_group.proofs.Outcomes.{refused-done, refused-still, refused-told, caused, lacking}
 use Rattle.patch_group.proofs.calls.Groups.engage.Goals as goal
 
@@ -12,35 +13,32 @@ pub invariant_of-self-2 : goal.invariant_of-self-2
 invariant_of-self-2 g c =
     let writer = c.args.writer in
     let group = c.args.group in
+    let now = c.args.self.now in
+    let records = c.self.inside.groups.items in
     let es = c.self.inside.engaged.items in
-    let old : Groups = record { groups = map group_of c.self.inside.groups.items; engaged = es } in
-    let seen : old ≡ c.args.self.now = c.self.view_is in
-    let new : is_engaged_by old writer group ≡ false = ap (λ s. is_engaged_by s writer group) seen ∙ c.in_default.ensures.new refl in
-    let items = c.push_reserved.ensures.items ∙ ap (λ xs. xs ++ (writer, group) ∷ []) c.reserve.ensures.items in (
-      subst (λ n. n ≤ 1024) (sym (length-set c.self.inside.groups.items c.group.inside.0 _)) c.self.invariant.0,
+    let seen : groups_of records es ≡ now = c.self.view_is in
+    let new : is_engaged_by (groups_of records es) writer group ≡ false = ap (λ s. is_engaged_by s writer group) seen ∙ c.in_default.ensures.new refl in
+    let items = c.push_reserved.ensures.items ∙ ap (λ xs. xs ++ (writer, group) ∷ []) c.reserve.ensures.items in
+    let known = within records now group c.group.inside.0 (ap (λ s. s.groups) seen) c.group.view_is (c.in_default.ensures.known refl) in (
+      subst (λ n. n ≤ 1024) (sym (length-set records c.group.inside.0 _)) c.self.invariant.0,
       subst AreApart (sym items) (apart_more es writer group c.self.invariant.1 new),
       none_kept _ c.clear.new.self.items c.clear.ensures.items,
+      subst AreSealed (sym (one_engaged records es _ now writer group c.group.inside.0 _ c.index_mut-record.result.now seen c.group.view_is known c.index_mut-record.ensures.value refl items))
+          (sealed_engaged now writer group (sym c.in_default.ensures.cause) (subst AreSealed seen c.self.invariant.3)),
     )
 
 pub returns-clause-done : goal.returns-clause-done
 returns-clause-done g c =
     let writer = c.args.writer in
     let group = c.args.group in
+    let now = c.args.self.now in
     let records = c.self.inside.groups.items in
     let es = c.self.inside.engaged.items in
-    let old : Groups = record { groups = map group_of records; engaged = es } in
-    let seen : old ≡ c.args.self.now = c.self.view_is in
-    let at = c.group.inside.0 in
-    let named : at ≡ group = c.group.view_is in
-    let known = within records c.args.self.now group at (ap (λ s. s.groups) seen) named (c.in_default.ensures.known refl) in
-    let begun : Group → Group = λ x. record x { started = true } in
-    let written = changed_at records at _ c.index_mut-record.result.now begun known c.index_mut-record.ensures.value refl in
-    let items = c.push_reserved.ensures.items ∙ ap (λ xs. xs ++ (writer, group) ∷ []) c.reserve.ensures.items in (
+    let seen : groups_of records es ≡ now = c.self.view_is in
+    let items = c.push_reserved.ensures.items ∙ ap (λ xs. xs ++ (writer, group) ∷ []) c.reserve.ensures.items in
+    let known = within records now group c.group.inside.0 (ap (λ s. s.groups) seen) c.group.view_is (c.in_default.ensures.known refl) in (
       sym c.in_default.ensures.cause,
-      ap (λ rs. let s : Groups = record { groups = rs; engaged = c.push_reserved.new.self.items } in s) written
-          ∙ ap (λ xs. let s : Groups = record { groups = (engaged old writer at).groups; engaged = xs } in s) items
-          ∙ ap (λ k. let s : Groups = record { groups = (engaged old writer k).groups; engaged = es ++ (writer, group) ∷ [] } in s) named
-          ∙ ap (λ s. engaged s writer group) seen,
+      one_engaged records es _ now writer group c.group.inside.0 _ c.index_mut-record.result.now seen c.group.view_is known c.index_mut-record.ensures.value refl items,
     )
 
 pub returns-in-Some-clause-done : goal.returns-in-Some-clause-done
@@ -58,6 +56,7 @@ invariant_of-self g c =
       c.self.invariant.0,
       subst AreApart same c.self.invariant.1,
       subst (λ es. AreBefore (groups_of c.self.inside.groups.items es) c.self.inside.before.items) same c.self.invariant.2,
+      subst (λ es. AreSealed (groups_of c.self.inside.groups.items es)) same c.self.invariant.3,
     )
 
 pub returns-in_err-reserve-clause-done : goal.returns-in_err-reserve-clause-done

@@ -7,15 +7,9 @@ use Rattle.patch_plans.specs.Groups.{patches_of}
 use Rattle.patch_group.proofs.Befores.{after_before}
 use Rattle.patch_group.proofs.calls.Groups.runs_before.Goals as goal
 
-pub returns-in-Some : goal.returns-in-Some
-returns-in-Some g c =
-    let gs = c.args.self.now in
-    subst (λ ns. IfOk c.runs_of.result (λ runs. numbers_in runs.items ≡ ns)) (ap (λ names. rising (flat_map (patches_of gs) names)) c.in-Some.ensures ∙ after_before gs c.args.writer)
-    c.runs_of.ensures
-
 pub returns : goal.returns
 returns g c =
     let gs = c.args.self.now in
     let names = c.as_slice.ensures.value ∙ c.in_ok-groups.ensures in
-    subst (λ ns. IfOk c.runs_of-2.result (λ runs. numbers_in runs.items ≡ ns)) (ap (λ names. rising (flat_map (patches_of gs) names)) names ∙ after_before gs c.args.writer)
-    c.runs_of-2.ensures
+    subst (λ ns. IfOk c.runs_of.result (λ runs. numbers_in runs.items ≡ ns)) (ap (λ names. rising (flat_map (patches_of gs) names)) names ∙ after_before gs c.args.writer)
+    c.runs_of.ensures
