@@ -2,7 +2,7 @@
 use Rattle.std.proofs.Common.{◌≡◌, ℕ, ◌∙◌, inl, inr, Bool, true, false, [], ◌∷◌, ◌++◌, filter, refl, sym, ap, subst, Some, None}
 use Rattle.std.specs.Prelude.{◌==◌, ◌&&◌, not, Contains}
 use Rattle.std.proofs.lemmas.Bool.{eqb-true, both_ways, false_from_ne_true}
-use Rattle.patch_model.specs.Member.{In, In-from_Contains, Contains-from_In, filter-In, list_any-from, list_any-at}
+use Rattle.patch_model.specs.Member.{In-from_Contains, Contains-from_In, filter-In, list_any-from, list_any-at}
 use Rattle.patch_plans.specs.Groups.{Groups, fresh, group_at, before, is_engaged, begun, engaged, disengaged, ordered, closed, with_patch, why_not_engaged, why_not_ordered}
 use Rattle.patch_plans.specs.Members.{append-In, rising-In}
 use Rattle.patch_plans.specs.Ordering.{none_if, may_order, IsOrdered, ordered_at, on_sealed, get_or-push}

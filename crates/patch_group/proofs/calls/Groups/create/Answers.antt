@@ -1,10 +1,7 @@
-use Rattle.std.proofs.Common.{◌≡◌, ℕ, false, List, [], refl, ◌≤◌, ◌+◌, ◌∙◌, arith, sym, ap, subst, length, map}
+use Rattle.std.proofs.Common.{false, refl, ◌≤◌, ◌+◌, ◌∙◌, arith, sym, ap, subst, length, map}
 use Rattle.std.proofs.lemmas.List.{length_push}
 use Rattle.std.proofs.lemmas.Result.{IfOk-from_err}
-use Rattle.patch_plans.specs.Groups.{Group, fresh}
-use Rattle.patch_model.specs.declared.runs.Run.{Run}
 use Rattle.patch_group.specs.declared.refusals.GroupRefusal.TheVariants.{OutOfMemory as NoMemory}
-use Rattle.patch_model.specs.Runs.{numbers_in}
 use Rattle.patch_group.specs.Records.{group_of, groups_of, AreBefore, AreSealed}
 use Rattle.patch_group.proofs.Keeping.{has_room, made_all, crowded, may_begin, is_fresh, one_begun}
 use Rattle.patch_group.proofs.Outcomes.{refused-still, refused-told, lacking}
