@@ -1,6 +1,6 @@
 -- One class brought up to another.
-use Rattle.std.proofs.Common.{◌≡◌, ℕ, ◌+◌, ◌-◌, ◌<◌, ◌≤◌, ◌∙◌, true, false, not, inl, inr, List, Option, [], ◌∷◌, ◌⊎◌, length, map, min, refl, sym, ap, arith, subst}
-use Rattle.std.specs.Prelude.{◌≢◌, ◌==◌, ◌&&◌, ◌||◌, Some, None, nat_le}
+use Rattle.std.proofs.Common.{◌≡◌, ℕ, ◌+◌, ◌-◌, ◌<◌, ◌≤◌, ◌∙◌, Bool, true, false, not, inl, inr, List, Option, [], ◌∷◌, ◌⊎◌, length, map, min, max, refl, sym, ap, arith, subst}
+use Rattle.std.specs.Prelude.{◌≢◌, ◌==◌, ◌&&◌, ◌||◌, Some, None, nat_le, nat_lt}
 use Rattle.std.specs.List.{list_any}
 use Rattle.patch_model.specs.Member.{list_any-at, list_any-from, In, Contains-from_In}
 use Rattle.patch_model.specs.Dependency.{Path, one, onward, class_depends}
@@ -19,11 +19,12 @@ use Rattle.patch_view.proofs.Answering.{no_place}
 use Rattle.patch_view.proofs.Marking.{named_place}
 use Rattle.patch_view.specs.Answers.{IsPatch}
 use Rattle.std.proofs.lemmas.List.Quantifiers.{position-Some}
-use Rattle.std.proofs.lemmas.Bool.{cases_eq, cases_lt, both_ways, and_parts, and_from, or_left, or_right, eq-eqb, eqb-true, leb-true, false_from_ne_true}
+use Rattle.std.proofs.lemmas.Bool.{cases_eq, cases_lt, both_ways, and_parts, and_from, or_left, or_right, eq-eqb, eqb-true, lt-ltb, leb-true, false_from_ne_true}
 use Rattle.patch_view.specs.History.{IsCoherent, with_joined}
-use Rattle.patch_view.specs.State.{Class, Block, Joint, IsJoint, class_at, no_class, follows, moved_down, spans, may_be_taken, IsMerged, settled_at, place_of}
-use Rattle.patch_view.specs.Meaning.{IsClassOf, Represents, IsGatheredTo}
-use Rattle.patch_view.proofs.Moving.{came, moves, length-moved, at_came, came_is}
+use Rattle.patch_view.specs.State.{Class, Block, Joint, IsJoint, IsFirstUnder, IsLooseUnder, class_at, no_class, follows, moved_down, spans, may_be_taken, IsMerged, settled_at, place_of}
+use Rattle.patch_view.specs.Meaning.{IsClassOf, Represents, IsGatheredTo, IsClearedTo}
+use Rattle.patch_view.proofs.Preceding.{rests}
+use Rattle.patch_view.proofs.Moving.{came, came-past, came-behind, moves, length-moved, at_came}
 
 pub gathered_none : (b : Block) (low high : ℕ) → low < high → IsGatheredTo b b low high low (low + 1)
 gathered_none b low high less = record {
@@ -77,8 +78,8 @@ gathered_move old new low high front k within g free =
     let down : front ≤ k = omega arith in
     let w_k : k < length new.classes = omega arith in
     let at_ : (i : ℕ) → class_at (moved_down new front k) i ≡ class_at new (came front k i) = (λ i. at_came new front k i down w_k) in
-    let past : (i : ℕ) → front < i → i ≤ k → came front k i ≡ i - 1 = (λ i f t. elim (came_is front k i) [ inl s ↦ absurd (omega arith) | inr o ↦ elim o [ inl s ↦ absurd (omega arith) | inr o ↦ elim o [ inl s ↦ s.2 | inr s ↦ absurd (omega arith) ] ] ]) in
-    let behind : (i : ℕ) → k < i → came front k i ≡ i = (λ i t. elim (came_is front k i) [ inl s ↦ absurd (omega arith) | inr o ↦ elim o [ inl s ↦ absurd (omega arith) | inr o ↦ elim o [ inl s ↦ absurd (omega arith) | inr s ↦ s.2 ] ] ]) in
+    let past : (i : ℕ) → front < i → i ≤ k → came front k i ≡ i - 1 = came-past front k in
+    let behind : (i : ℕ) → k < i → came front k i ≡ i = (λ i t. came-behind front k i down t) in
     let first : class_at (moved_down new front k) (front + 1) ≡ class_at new front =
     at_ (front + 1) ∙ ap (class_at new) (let p : came front k (front + 1) ≡ front + 1 - 1 = past (front + 1) (omega arith) (omega arith) in let q : came front k (front + 1) ≡ front = omega arith in q) in
     record {
@@ -93,6 +94,100 @@ gathered_move old new low high front k within g free =
           let e : class_at (moved_down new front k) i ≡ class_at new (i - 1) = at_ i ∙ ap (class_at new) (past i (omega arith) (omega arith)) in
           subst (λ c. Path h.entries c.name (class_at (moved_down new front k) (front + 1)).name) (sym e)
           (subst (λ c. Path h.entries (class_at new (i - 1)).name c.name) (sym first) (g.carried h r (i - 1) (omega arith) (omega arith)));
+    }
+
+pub cleared_none : (b : Block) (low high : ℕ) → low < high → IsClearedTo b b low high low (low + 1)
+cleared_none b low high less = record {
+  from = omega arith;
+  to = omega arith;
+  upto = omega arith;
+  same_bytes = refl;
+  long = refl;
+  same_low = refl;
+  same_rest = λ i f. refl;
+  represents = λ h r. r;
+  free = λ m f t. absurd (omega arith);
+}
+
+-- where the class at high depends on none of those above, either
+pub cleared_all : (old new : Block) (low high front k : ℕ) → IsClearedTo old new low high front k
+    → ((m : ℕ) → k ≤ m → m < high → follows new high m ≡ false) → IsClearedTo old new low high front high
+cleared_all old new low high front k c none =
+    let to = c.to in
+    let upto = c.upto in
+    record {
+      from = c.from;
+      to = omega arith;
+      upto = omega arith;
+      same_bytes = c.same_bytes;
+      long = c.long;
+      same_low = c.same_low;
+      same_rest = λ i f. c.same_rest i (omega arith);
+      represents = c.represents;
+      free = λ m f t. elim (cases_lt m k) [ inl before ↦ c.free m f before | inr behind ↦ none m behind t ];
+    }
+
+follows-same : (old new : Block) (i j m : ℕ) → j < i → m < i → class_at new i ≡ class_at old i → class_at new j ≡ class_at old m → follows old i m ≡ false → follows new i j ≡ false
+follows-same old new i j m less less' same same' is =
+    let t : nat_lt j i ≡ true = lt-ltb _ _ less in
+    let u : nat_lt m i ≡ true = lt-ltb _ _ less' in
+    ap (λ (z : Bool). z && rests (class_at new i) (class_at new j)) t
+    ∙ ap (λ (c : Class). rests c (class_at new j)) same ∙ ap (rests (class_at old i)) same'
+    ∙ sym (ap (λ (z : Bool). z && rests (class_at old i) (class_at old m)) u) ∙ is
+
+-- the next one on which it depends goes below, or one below that one: then it is looked at again
+pub cleared_move : (old new : Block) (low high front from next k : ℕ) → high < length old.classes → IsClearedTo old new low high front from
+    → IsFirstUnder new from high next → IsLooseUnder new front next k → IsClearedTo old (moved_down new front k) low high (front + 1) (max next (k + 1))
+cleared_move old new low high front from next k within c first loose =
+    let to = c.to in
+    let long = c.long in
+    let low_from = c.from in
+    let first_from = first.least in
+    let first_to = first.below in
+    let above = loose.above in
+    let below = loose.upto in
+    let down : front ≤ k = omega arith in
+    let w_k : k < length new.classes = omega arith in
+    let at_ : (i : ℕ) → class_at (moved_down new front k) i ≡ class_at new (came front k i) = (λ i. at_came new front k i down w_k) in
+    let behind : (i : ℕ) → k < i → class_at (moved_down new front k) i ≡ class_at new i = (λ i t. at_ i ∙ ap (class_at new) (came-behind front k i down t)) in
+    let past : (i : ℕ) → front < i → i ≤ k → class_at (moved_down new front k) i ≡ class_at new (i - 1) = (λ i f t. at_ i ∙ ap (class_at new) (came-past front k i f t)) in
+    let known : (m : ℕ) → front < m → m < next → follows new high m ≡ false = (λ m f t. elim (cases_lt m from) [ inl before ↦ c.free m f before | inr there ↦ first.none m there t ]) in
+    record {
+      from = omega arith;
+      to = omega arith;
+      upto = omega arith;
+      same_bytes = c.same_bytes;
+      long = length-moved new.classes (class_at new k) front k down w_k ∙ c.long;
+      same_low = past (front + 1) (omega arith) (omega arith) ∙ ap (class_at new) (let e : front + 1 - 1 ≡ front = omega arith in e) ∙ c.same_low;
+      same_rest = λ i f. behind i (omega arith) ∙ c.same_rest i (omega arith);
+      represents = λ h r. moves new [] h front k (c.represents h r) down w_k loose.loose;
+      free = λ m f t. elim (cases_lt k m) [
+        | inl over ↦ follows-same new (moved_down new front k) high m m (omega arith) (omega arith) (behind high (omega arith)) (behind m over) (known m (omega arith) (omega arith))
+        | inr upto ↦ follows-same new (moved_down new front k) high m (m - 1) (omega arith) (omega arith) (behind high (omega arith)) (past m (omega arith) upto)
+            (known (m - 1) (omega arith) (omega arith))
+      ];
+    }
+
+pub cleared_through : (old mid new : Block) (low high front from next k : ℕ) → high < length old.classes → IsClearedTo old mid low high front from
+    → IsFirstUnder mid from high next → IsLooseUnder mid front next k → new ≡ moved_down mid front k → IsClearedTo old new low high (front + 1) (max next (k + 1))
+cleared_through old mid new low high front from next k within c first loose is =
+    subst (λ b. IsClearedTo old b low high (front + 1) (max next (k + 1))) (sym is) (cleared_move old mid low high front from next k within c first loose)
+
+-- what is cleared and then gathered is gathered
+pub cleared_gathered : (old mid new : Block) (low high front up k : ℕ) → IsClearedTo old mid low high front k → IsGatheredTo mid new front high up high → IsGatheredTo old new low high up high
+cleared_gathered old mid new low high front up k c g =
+    let from = c.from in
+    let upto = c.upto in
+    let g_from = g.from in
+    record {
+      from = omega arith;
+      to = g.to;
+      same_bytes = g.same_bytes ∙ c.same_bytes;
+      long = g.long ∙ c.long;
+      same_low = g.same_low ∙ c.same_low;
+      same_rest = λ i f. g.same_rest i f ∙ c.same_rest i (omega arith);
+      represents = λ h r. g.represents h (c.represents h r);
+      carried = λ h r i f t. g.carried h (c.represents h r) i f t;
     }
 
 -- a patch's bytes are in its class's span
@@ -152,6 +247,24 @@ free-joins b h low high c is_c less within r none may = placed-joins b h low hig
     let w_k : k < length b.classes = omega arith in
     let apart : (class_at b high).name ≢ (class_at b k).name = (λ z. let e : high ≡ k = r.distinct high k within w_k z in omega arith) in
     sym (linked_as r high k within w_k apart) ∙ none k (omega arith) t)
+
+-- on a clear way, the two may be made one
+pub cleared-joins : (old new : Block) (h : History) (low high front : ℕ) (c : Class) → IsMerged (class_at old low) (class_at old high) c → high < length old.classes → Represents old [] h → IsClearedTo old new low high front high
+    → MayJoin h.entries (class_at old low).name (class_at old high).name
+    → Represents (settled_at new front high c) [] (with_joined h (class_at old low).name (class_at old high).name)
+cleared-joins old new h low high front c is_c within r way may =
+    let long = way.long in
+    let to = way.to in
+    let w_h : high < length new.classes = omega arith in
+    let same_low : class_at old low ≡ class_at new front = sym way.same_low in
+    let same_high : class_at old high ≡ class_at new high = sym (way.same_rest high (omega arith)) in
+    let m : MayJoin h.entries (class_at new front).name (class_at new high).name =
+    subst (λ n. MayJoin h.entries n (class_at new high).name) (ap (λ c. c.name) same_low) (subst (λ n. MayJoin h.entries (class_at old low).name n) (ap (λ c. c.name) same_high) may) in
+    let is_new : IsMerged (class_at new front) (class_at new high) c =
+    subst (λ z. IsMerged z (class_at new high) c) same_low (subst (λ z. IsMerged (class_at old low) z c) same_high is_c) in
+    subst (λ z. Represents (settled_at new front high c) [] (with_joined h z.name (class_at old high).name)) (sym same_low)
+    (subst (λ z. Represents (settled_at new front high c) [] (with_joined h (class_at new front).name z.name)) (sym same_high)
+    (free-joins new h front high c is_new to w_h (way.represents h r) (λ k f t. way.free k (omega arith) t) m))
 
 -- gathered, the two may be made one
 pub gathered-joins : (old new : Block) (h : History) (low high front : ℕ) (c : Class) → IsMerged (class_at old low) (class_at old high) c → low < high → high < length old.classes → Represents old [] h → IsGatheredTo old new low high front high

@@ -20,6 +20,7 @@ pub mod Marking
 pub mod Joining
 pub mod Moving
 pub mod Rotating
+pub mod Preceding
 pub mod Gathering
 pub mod Settling
 pub mod Lawful

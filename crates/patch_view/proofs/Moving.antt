@@ -30,6 +30,12 @@ came_is front k i = elim (cases_order i front) [
   ]
 ]
 
+pub came-past : (front k i : ℕ) → front < i → i ≤ k → came front k i ≡ i - 1
+came-past front k i f t = elim (came_is front k i) [ inl s ↦ absurd (omega arith) | inr o ↦ elim o [ inl s ↦ absurd (omega arith) | inr o ↦ elim o [ inl s ↦ s.2 | inr s ↦ absurd (omega arith) ] ] ]
+
+pub came-behind : (front k i : ℕ) → front ≤ k → k < i → came front k i ≡ i
+came-behind front k i down t = elim (came_is front k i) [ inl s ↦ absurd (omega arith) | inr o ↦ elim o [ inl s ↦ absurd (omega arith) | inr o ↦ elim o [ inl s ↦ absurd (omega arith) | inr s ↦ s.2 ] ] ]
+
 pub length-moved : (cs : List Class) (c : Class) (front k : ℕ) → front ≤ k → k < length cs → length (insert (remove cs k) front c) ≡ length cs
 length-moved cs c front k down within = let l = length-remove cs k within in length-insert (remove cs k) front c (omega arith) ∙ l
 

@@ -1,9 +1,10 @@
 -- Part of a list turned by one place.
-use Rattle.std.proofs.Common.{◌≡◌, ℕ, ◌+◌, ◌-◌, ◌<◌, ◌≤◌, ◌∙◌, inl, inr, List, ◌++◌, length, take, drop, get_or, sym, ap, arith}
+use Rattle.std.proofs.Common.{◌≡◌, ℕ, ◌+◌, ◌-◌, ◌<◌, ◌≤◌, ◌∙◌, inl, inr, List, [], ◌∷◌, ◌++◌, length, take, drop, get_or, sym, ap, arith}
 use Rattle.std.specs.List.{insert, remove}
 use Rattle.std.proofs.lemmas.Bool.{cases_lt, cases_order}
-use Rattle.std.proofs.lemmas.List.{ext_get_or, places}
-use Rattle.std.proofs.lemmas.List.Edits.{length-remove, length-insert, get_or-remove_below, get_or-remove_above, get_or-insert_below, get_or-insert_at, get_or-insert_above}
+use Rattle.std.proofs.lemmas.List.{ext_get_or, places, append-nil, length-append}
+use Rattle.std.proofs.Math.Seq.{get_or-append_seam}
+use Rattle.std.proofs.lemmas.List.Edits.{length-remove, length-insert, remove-append_right, get_or-remove_below, get_or-remove_above, get_or-insert_below, get_or-insert_at, get_or-insert_above}
 
 unfoldable pub turned : {X : Type 0} → ℕ → ℕ → List X → List X
 turned front k cs =
@@ -51,6 +52,21 @@ turned-moves cs front k d down within =
             ]
       ]
     ])
+
+-- what was moved to the end is taken out
+pub turned_out : {X : Type 0} (cs turned : List X) (at last : ℕ) (x : X) → at < length cs → length cs ≡ last + 1 → turned ≡ remove cs at ++ x ∷ [] → remove turned last ≡ remove cs at
+turned_out cs turned at last x within long is =
+    let n : length (remove cs at) ≡ last = omega (arith, length-remove cs at within) in
+    let none : remove (x ∷ []) (last - last) ≡ [] = ap (remove (x ∷ [])) (let z : last - last ≡ 0 = omega arith in z) in
+    ap (λ ds. remove ds last) is ∙ remove-append_right (remove cs at) (x ∷ []) last last n (omega arith) ∙ ap (λ ds. remove cs at ++ ds) none ∙ append-nil (remove cs at)
+
+pub turned_last : {X : Type 0} (cs turned : List X) (at last : ℕ) (x d : X) → at < length cs → length cs ≡ last + 1 → turned ≡ remove cs at ++ x ∷ [] → get_or turned last d ≡ x
+turned_last cs turned at last x d within long is =
+    let n : length (remove cs at) ≡ last = omega (arith, length-remove cs at within) in
+    ap (λ ds. get_or ds last d) is ∙ ap (λ m. get_or (remove cs at ++ x ∷ []) m d) (sym n) ∙ get_or-append_seam (remove cs at) x [] d
+
+pub length-turned_up : {X : Type 0} (cs : List X) (at : ℕ) (x : X) → at < length cs → length (remove cs at ++ x ∷ []) ≡ length cs
+length-turned_up cs at x within = let l = length-remove cs at within in let m = length-append (remove cs at) (x ∷ []) in omega arith
 
 -- as a slice that was turned gives it
 pub moved_down-by_turn : {X : Type 0} (cs part : List X) (front k : ℕ) (d : X) → front ≤ k → k < length cs

@@ -8,9 +8,9 @@ use Rattle.std.proofs.lemmas.List.{append-nil, get_or_default, length-replicate}
 use Rattle.std.proofs.lemmas.List.Edits.{get_or-remove_below}
 use Rattle.std.proofs.lemmas.List.Sorted.{IsPermutation-refl}
 use Rattle.patch_model.specs.Entry.{is_among}
-use Rattle.patch_view.specs.State.{Class, Block, Drawn, class_at, no_class, spans, laid_over, merged, IsMerged, IsDrawn, has_room_for, is_around, with_lists, with_lists_of, with_all_of, in_its_place}
+use Rattle.patch_view.specs.State.{Class, Block, Drawn, class_at, no_class, spans, laid_over, merged, IsMerged, IsDrawn, has_room_for, is_around, with_lists, with_lists_of, with_all_of, in_its_place, settled_at}
 use Rattle.patch_view.specs.Rests.{IsUnion}
-use Rattle.patch_view.specs.Meaning.{IsGathered}
+use Rattle.patch_view.specs.Changes.{Settles}
 use Rattle.patch_view.proofs.Exchange.{spans-from, spans-at}
 use Rattle.patch_view.proofs.Joining.{length-laid_over}
 use Rattle.patch_view.proofs.Covering.{growing-union}
@@ -24,19 +24,14 @@ set-remove [] (suc low) (suc high) c less = refl
 set-remove (d ∷ cs) zero (suc high) c less = refl
 set-remove (d ∷ cs) (suc low) (suc high) c less = ap (λ ds. d ∷ ds) (set-remove cs low high c (omega arith))
 
--- what was drawn up of two classes is so of them where they were gathered
-pub drawn-gathered : (old new : Block) (low high front : ℕ) (drawn : Option Drawn) → IsGathered old new low high front
-    → IsDrawn (class_at old low) (class_at old high) drawn → IsDrawn (class_at new front) (class_at new high) drawn
-drawn-gathered old new low high front drawn g is =
-    let same_high : class_at new high ≡ class_at old high = g.same_rest high (omega arith) in
-    subst (λ z. IsDrawn z (class_at new high) drawn) (sym g.same_low)
-    (subst (λ z. IsDrawn (class_at old low) z drawn) (sym same_high) is)
-
-pub place-gathered : (old new : Block) (low high front : ℕ) (drawn : Option Drawn) → IsGathered old new low high front
-    → in_its_place (class_at new front) (class_at new high) drawn ≡ in_its_place (class_at old low) (class_at old high) drawn
-place-gathered old new low high front drawn g =
-    let same_high : class_at new high ≡ class_at old high = g.same_rest high (omega arith) in
-    ap (λ z. in_its_place z (class_at new high) drawn) g.same_low ∙ ap (λ z. in_its_place (class_at old low) z drawn) same_high
+-- of two classes that moved, what was drawn up of them stands in place of both
+pub settled-moved : (old new now : Block) (low high front : ℕ) (drawn : Option Drawn) → class_at new front ≡ class_at old low → class_at new high ≡ class_at old high
+    → Settles new front high drawn now → IsDrawn (class_at old low) (class_at old high) drawn
+    → now ≡ settled_at new front high (in_its_place (class_at old low) (class_at old high) drawn)
+settled-moved old new now low high front drawn same_low same_high settles is =
+    settles (subst (λ z. IsDrawn z (class_at new high) drawn) (sym same_low) (subst (λ z. IsDrawn (class_at old low) z drawn) (sym same_high) is))
+    ∙ ap (λ z. settled_at new front high (in_its_place z (class_at new high) drawn)) same_low
+    ∙ ap (λ z. settled_at new front high (in_its_place (class_at old low) z drawn)) same_high
 
 -- a record without lists is drawn up of two classes, where the lower one's have room for the higher one's
 pub drawn-growing : (low high c : Class) → has_room_for low high ≡ true → c ≡ merged low high [] [] c.room

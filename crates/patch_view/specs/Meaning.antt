@@ -7,7 +7,9 @@ use Rattle.patch_model.specs.Dependency.{Path, class_depends}
 use Rattle.patch_model.specs.Member.{In}
 use Rattle.patch_model.specs.History.{History, HoldsDependents, without}
 use Rattle.patch_view.specs.History.{IsCoherent, class_covers, class_names, top, below}
-use Rattle.patch_view.specs.State.{Class, Block, class_at, spans, may_be_taken}
+use Rattle.patch_view.specs.declared.changes.Way.{Way}
+use Rattle.patch_view.specs.declared.changes.Way.TheVariants.{Clear, Barred}
+use Rattle.patch_view.specs.State.{Class, Block, class_at, follows, spans, may_be_taken}
 
 -- the record is that of a live class of the history, where these classes are taken back
 pub record IsClassOf (h : History) (taken : List ℕ) (c : Class) : Type 0 where
@@ -54,6 +56,24 @@ pub record IsGatheredTo (old new : Block) (low high front k : ℕ) : Type 0 wher
   pub same_rest : (i : ℕ) → k ≤ i → class_at new i ≡ class_at old i
   pub represents : (h : History) → Represents old [] h → Represents new [] h
   pub carried : (h : History) → Represents old [] h → (i : ℕ) → front < i → i < k → Path h.entries (class_at new i).name (class_at new front).name
+
+-- The class from the place low now stands at front, and of those between it and high the higher one depends on none directly; up to the
+-- place k, so far.
+pub record IsClearedTo (old new : Block) (low high front k : ℕ) : Type 0 where
+  pub from : low ≤ front
+  pub to : front < k
+  pub upto : k ≤ high
+  pub same_bytes : new.bytes ≡ old.bytes
+  pub long : length new.classes ≡ length old.classes
+  pub same_low : class_at new front ≡ class_at old low
+  pub same_rest : (i : ℕ) → k ≤ i → class_at new i ≡ class_at old i
+  pub represents : (h : History) → Represents old [] h → Represents new [] h
+  pub free : (m : ℕ) → front < m → m < k → follows new high m ≡ false
+
+-- that is so of all of them, where the way is clear
+abbrev pub IsCleared : Block → Block → ℕ → ℕ → Way → Type 0
+IsCleared old new low high (Clear front) = IsClearedTo old new low high front high
+IsCleared old new low high (Barred front) = (k : ℕ) × IsClearedTo old new low high front k
 
 abbrev pub IsGathered : Block → Block → ℕ → ℕ → ℕ → Type 0
 IsGathered old new low high front = IsGatheredTo old new low high front high

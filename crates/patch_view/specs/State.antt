@@ -84,6 +84,19 @@ meets c d = nat_lt c.start d.stop && nat_lt d.start c.stop
 abbrev pub follows : Block → ℕ → ℕ → Bool
 follows b i j = nat_lt j i && (meets (class_at b i) (class_at b j) || names (class_at b i) (class_at b j))
 
+-- of the places from one up to that of a class, k is the first with a class on which this one depends directly
+pub record IsFirstUnder (b : Block) (from at k : ℕ) : Type 0 where
+  pub least : from ≤ k
+  pub below : k < at
+  pub is : follows b at k ≡ true
+  pub none : (m : ℕ) → from ≤ m → m < k → follows b at m ≡ false
+
+-- the class at this place above another one, up to k, depends directly on none between the two, nor on the other
+pub record IsLooseUnder (b : Block) (front k at : ℕ) : Type 0 where
+  pub above : front < at
+  pub upto : at ≤ k
+  pub loose : (m : ℕ) → front ≤ m → m < at → follows b at m ≡ false
+
 abbrev pub place_of : Block → ℕ → Option ℕ
 place_of b number = position (λ c. is_among c.members number) b.classes
 

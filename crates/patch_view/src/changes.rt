@@ -10,13 +10,13 @@ ghost use Rattle.patch_model.specs.Names.{numbers_named};
 ghost use Rattle.patch_model.specs.Orderly.{IsOrderlyBlock};
 ghost use Rattle.patch_model.specs.State.{landed};
 ghost use Rattle.patch_view.specs.State.{follows, with_laid, unlaid_class, laid_over, covering, IsLaid, departed_at, landed_at, with_departed, HasDeparted, AreDeparting};
-ghost use Rattle.patch_view.specs.State.{with_one_departed, with_one_landed, with_landed, FlyingWithin, AllFlyAt, moved_down, IsJoint, IsJointAt, has_places};
+ghost use Rattle.patch_view.specs.State.{IsFirstUnder, IsLooseUnder, with_one_departed, with_one_landed, with_landed, FlyingWithin, AllFlyAt, moved_down, IsJoint, IsJointAt, has_places};
 ghost use Rattle.patch_view.specs.Members.{with_member};
 ghost use Rattle.patch_view.specs.Rests.{IsLaidOn, begun, top_of};
 ghost use Rattle.patch_view.specs.Images.{StaysIf};
 ghost use Rattle.patch_view.specs.Places.{IsRange};
 ghost use Rattle.patch_view.specs.History.{unpatched, MayLand, with_mark};
-ghost use Rattle.patch_view.specs.Meaning.{Represents, IsGathered};
+ghost use Rattle.patch_view.specs.Meaning.{Represents, IsCleared, IsGathered};
 ghost use Rattle.patch_view.specs.Answers.{IsPatch};
 ghost use Rattle.patch_view.specs.Changes.{Lays, Enters, Settles, JoinsPlaces, JoinsBy, Joins, DepartsEach};
 
@@ -37,6 +37,12 @@ use std::marker::Model;
 /// So many classes that depart are searched for one after another.
 const MOST_SOUGHT: usize = 4;
 
+/// So many classes at most go down one by one to clear the way for one that is to be made one with a lower class.
+const MOST_CLEARED: usize = 8;
+
+/// From so many classes at most, each on one on which the last one depends, one is looked for that goes down.
+const MOST_PASSED: usize = 4;
+
 /// For so many records room is made where there is none.
 const FIRST_ROOM: usize = 8;
 
@@ -55,6 +61,14 @@ impl<A: Allocator> Model for Joint<A> {
     ghost Value = { Drawn };
 
     ghost view = { λ j. record { low = j.low; high = j.high; drawn = j.drawn } };
+}
+
+/// The way down for a class that is to be made one with a lower one, which stands at this place now.
+enum Way {
+    /// The higher one depends directly on none between.
+    Clear(usize),
+    /// It may depend on some.
+    Barred(usize),
 }
 
 impl<A: Allocator> BlockState<A> {
@@ -141,7 +155,7 @@ impl<A: Allocator> BlockState<A> {
         let alloc = self.bytes.allocator();
         let saved = to_be_saved(alloc.clone()?, bytes, hard)?;
         let stop = start + bytes.len();
-        Class::new(alloc, no, start, stop, saved, names, hard)
+        Ok(Class::new(no, start, stop, saved, names, hard))
     }
 
     /// Lays a new class, once it is entered elsewhere.
@@ -202,19 +216,86 @@ impl<A: Allocator> BlockState<A> {
         forget(&mut self.image);
     }
 
-    /// Whether the class at `k` depends directly on one from `front` up to it. Where it is known to depend on none of them, none is looked
-    /// at but the first.
+    /// The first place from one up to that of a class on whose class this one depends directly.
+    fn first_under(&self, from: usize, at: usize) -> Option<usize>
+        requires down { from ≤ at }
+        requires within { at < length self.now.classes }
+        ensures found { IfSome result (λ k. IsFirstUnder self.now from at k) }
+        ensures none { result ≡ None → (m : ℕ) → from ≤ m → m < at → follows self.now at m ≡ false }
+    {
+        let class = &self.classes[at];
+        let between = &self.classes[from..at];
+        match class.first_rested_on(between) {
+            Some(passed) => Some(from + passed),
+            None => None,
+        }
+    }
+
+    /// Whether the class at `k` depends directly on one from `front` up to it.
     fn follows_any(&self, front: usize, k: usize) -> bool
         requires down { front ≤ k }
         requires within { k < length self.now.classes }
         ensures no { IsFalse result → (m : ℕ) → front ≤ m → m < k → follows self.now k m ≡ false }
         ensures yes { IsTrue result → (m : ℕ) × (front ≤ m) × (m < k) × (follows self.now k m ≡ true) }
     {
-        if self.is_loose_from(front, k) {
-            return false;
+        self.first_under(front, k).is_some()
+    }
+
+    /// The class at `k`, or one from `front` up to it on which that depends, directly or through others: one that depends directly on none
+    /// from `front` up to itself. None where the class at `front` is met on the way down, or the way is long.
+    fn loose_under(&self, front: usize, k: usize) -> Option<usize>
+        requires down { front < k }
+        requires within { k < length self.now.classes }
+        ensures { IfSome result (λ at. IsLooseUnder self.now front k at) }
+    {
+        let mut at = k;
+        for _ in 0..MOST_PASSED {
+            match self.first_under(front, at) {
+                None => return Some(at),
+                Some(next) if next == front => return None,
+                Some(next) => at = next,
+            }
         }
-        for m in front..k {
-            if self.follows_at(k, m) {
+        None
+    }
+
+    /// Moves what the class at `high` depends on, of what lies above that at `low`, below this one. That ends where something depends on
+    /// the class at `low`, and after some. Where the class at `high` is known to depend directly on none of them, none is looked at but the
+    /// first.
+    fn clear_way(&mut self, low: usize, high: usize) -> Way
+        requires less { low < high }
+        requires within { high < length self.old.classes }
+        ensures { IsCleared self.old self.new low high result }
+    {
+        let mut front = low;
+        if self.is_loose_from(low + 1, high) {
+            return Way::Clear(front);
+        }
+        let mut from = low + 1;
+        for _ in 0..MOST_CLEARED {
+            let Some(k) = self.first_under(from, high) else {
+                return Way::Clear(front);
+            };
+            let Some(loose) = self.loose_under(front, k) else {
+                return Way::Barred(front);
+            };
+            self.move_down(front, loose);
+            front += 1;
+            from = k.max(loose + 1);
+        }
+        Way::Barred(front)
+    }
+
+    /// Whether the class at `k` depends directly on one from `front` up to it. The last ones are looked at first: where classes rest each on the
+    /// one before it, that is enough.
+    fn follows_gathered(&self, front: usize, k: usize) -> bool
+        requires down { front ≤ k }
+        requires within { k < length self.now.classes }
+        ensures no { IsFalse result → (m : ℕ) → front ≤ m → m < k → follows self.now k m ≡ false }
+        ensures yes { IsTrue result → (m : ℕ) × (front ≤ m) × (m < k) × (follows self.now k m ≡ true) }
+    {
+        for passed in 0..k - front {
+            if self.follows_at(k, k - 1 - passed) {
                 return true;
             }
         }
@@ -230,7 +311,7 @@ impl<A: Allocator> BlockState<A> {
     {
         let mut front = low;
         for k in low + 1..high {
-            if !self.follows_any(front, k) {
+            if !self.follows_gathered(front, k) {
                 self.move_down(front, k);
                 front += 1;
             }
@@ -260,7 +341,7 @@ impl<A: Allocator> BlockState<A> {
         ensures bytes { self.new.bytes ≡ self.old.bytes }
         ensures settled { Settles self.old low high drawn self.new }
     {
-        let upper = self.classes.remove(high);
+        let upper = take_out(&mut self.classes, high);
         let lower = &mut self.classes[low];
         let greater = lower.greater_name(&upper);
         let is_of_both = lower.become_both(drawn, &upper);
@@ -273,20 +354,21 @@ impl<A: Allocator> BlockState<A> {
         drop(upper);
     }
 
-    /// Puts the record of the classes at two places in place of both. Where the higher one depends on none between them, as the
-    /// newest class mostly does, it goes down to the lower one; else the lower one is brought up to it.
+    /// Puts the record of the classes at two places in place of both. The higher one goes down to the lower one, once what it depends on
+    /// between them lies below; where that can't be, the lower one is brought up to it.
     fn join_at(&mut self, low: usize, high: usize, drawn: Option<Drawn<A>>)
         requires less { low < high }
         requires within { high < length self.old.classes }
         ensures bytes { self.new.bytes ≡ self.old.bytes }
         ensures answer { JoinsPlaces self.old low high drawn self.new }
     {
-        if self.follows_any(low + 1, high) {
-            let front = self.gather(low, high);
-            let is_free = !self.follows_any(front + 1, high);
-            self.settle(front, high, drawn, is_free);
-        } else {
-            self.settle(low, high, drawn, true);
+        match self.clear_way(low, high) {
+            Way::Clear(front) => self.settle(front, high, drawn, true),
+            Way::Barred(from) => {
+                let front = self.gather(from, high);
+                let is_free = !self.follows_any(front + 1, high);
+                self.settle(front, high, drawn, is_free);
+            }
         }
     }
 
@@ -505,7 +587,7 @@ impl<A: Allocator> BlockState<A> {
         requires { at < length self.old.classes }
         ensures { self.new ≡ landed_at self.old at }
     {
-        let gone = self.classes.remove(at);
+        let gone = take_out(&mut self.classes, at);
         forget_unless(&mut self.image, !gone.is_takeable());
         drop(gone);
         trim_gap(&mut self.image, at, at + 1);
@@ -572,6 +654,26 @@ fn turn_down<T>(list: &mut [T], front: usize, k: usize)
 {
     let passed = &mut list[front..k + 1];
     passed.rotate_right(1);
+}
+
+/// Takes out what stands at a place. What stands behind it is moved in one pass.
+fn take_out<T, A: Allocator>(list: &mut Vec<T, A>, at: usize) -> T
+    requires { at < vec_len list.old }
+    ensures value { result ≡ slice_index_or list.old.items at result }
+    ensures items { list.new.items ≡ remove list.old.items at }
+{
+    turn_up(list.as_mut_slice(), at);
+    let last = list.len() - 1;
+    list.remove(last)
+}
+
+/// Moves what stands at a place up to the end.
+fn turn_up<T>(list: &mut [T], at: usize)
+    requires { at < length list.old }
+    ensures { (d : T) → list.new ≡ remove list.old at ++ slice_index_or list.old at d ∷ [] }
+{
+    let behind = &mut list[at..];
+    behind.rotate_left(1);
 }
 
 /// What is to be exchanged with the bytes that a patch covers: its own. Of a hard patch nothing is saved.

@@ -1,5 +1,5 @@
 //! What a block keeps of a live class.
-ghost use Rattle.std.specs.Prelude.{ℕ, ◌≡◌, ◌||◌, ◌+◌, ◌≤◌, ◌++◌, ◌∷◌, length, IfOk, OnOk, IsTrue, IsPermutation, true, false, [], min, max, replicate, ◌-◌, if◌then◌else◌};
+ghost use Rattle.std.specs.Prelude.{ℕ, ◌≡◌, ◌||◌, ◌+◌, ◌≤◌, ◌++◌, ◌∷◌, length, position, IfOk, OnOk, IsTrue, IsPermutation, true, false, [], min, max, replicate, ◌-◌, if◌then◌else◌};
 ghost use Rattle.std.specs.List.{list_any, list_all};
 ghost use Rattle.std.specs.List.Sorted.{IsNonDecreasing};
 ghost use Rattle.patch_model.specs.Entry.{is_among};
@@ -40,26 +40,20 @@ impl Turn {
 }
 
 /// A live class of the block. The numbers of its members, and those that they name, rise. Either list takes in as many more
-/// numbers as `room` says without memory.
+/// numbers as `room` says without memory. A record is small, since a class that goes moves those behind it: bytes of a block are counted
+/// in 16 bits.
 #[derive(Drop)]
 pub(crate) struct Class<A: Allocator = Global> {
-    kept: Box<Record<A>, A>,
-}
-
-/// What is kept of a class, in memory of its own: a block's list holds one pointer for each, so that a class which goes moves no
-/// more than these.
-#[derive(Drop)]
-struct Record<A: Allocator> {
     name: PatchNo,
+    start: u16,
+    stop: u16,
+    room: u32,
     flying: bool,
     hard: bool,
     taken: bool,
-    start: usize,
-    stop: usize,
     saved: Vec<u8, A>,
     members: NumberList<A>,
     after: NumberList<A>,
-    room: usize,
 }
 
 impl<A: Allocator> Model for Class<A> {
@@ -70,21 +64,21 @@ impl<A: Allocator> Model for Class<A> {
     ghost Value = { Seen };
 
     ghost view = { λ c. record {
-      name = c.kept.value.name;
-      members = c.kept.value.members.items;
-      start = c.kept.value.start;
-      stop = c.kept.value.stop;
-      saved = c.kept.value.saved.items;
-      after = c.kept.value.after.items;
-      flying = c.kept.value.flying;
-      hard = c.kept.value.hard;
-      taken = c.kept.value.taken;
-      room = c.kept.value.room;
+      name = c.name;
+      members = c.members.items;
+      start = c.start;
+      stop = c.stop;
+      saved = c.saved.items;
+      after = c.after.items;
+      flying = c.flying;
+      hard = c.hard;
+      taken = c.taken;
+      room = c.room;
     } };
 
-    ghost invariant = { λ c. (c.kept.value.start + length c.kept.value.saved.items ≤ c.kept.value.stop) × (c.kept.value.stop ≤ 4096)
-        × IsNonDecreasing c.kept.value.members.items × IsNonDecreasing c.kept.value.after.items
-        × (c.kept.value.room ≤ c.kept.value.members.spare) × (c.kept.value.room ≤ c.kept.value.after.spare) };
+    ghost invariant = { λ c. (c.start + length c.saved.items ≤ c.stop) × (c.stop ≤ 4096)
+        × IsNonDecreasing c.members.items × IsNonDecreasing c.after.items
+        × (c.room ≤ c.members.spare) × (c.room ≤ c.after.spare) };
 }
 
 /// Two classes as one, where that takes memory. A growing one has no lists of its own: in the block, the lower class's have room for
@@ -107,35 +101,35 @@ impl<A: Allocator> Class<A> {
     pub(crate) fn name(&self) -> PatchNo
         ensures { result ≡ self.now.name }
     {
-        self.kept.name
+        self.name
     }
 
     /// The greater of its name and another's.
     pub(crate) fn greater_name(&self, other: &Class<A>) -> PatchNo
         ensures { result ≡ max self.now.name other.now.name }
     {
-        self.kept.name.max(other.kept.name)
+        self.name.max(other.name)
     }
 
     /// The lesser of its name and another's.
     fn lesser_name(&self, other: &Class<A>) -> PatchNo
         ensures { result ≡ min self.now.name other.now.name }
     {
-        self.kept.name.min(other.kept.name)
+        self.name.min(other.name)
     }
 
     /// The least of its members, or the greatest number where it has none.
     pub(crate) fn lowest(&self) -> u32
         ensures { (n : ℕ) → is_among self.now.members n ≡ true → result ≤ n }
     {
-        least_of(self.kept.members.as_slice())
+        least_of(self.members.as_slice())
     }
 
     /// The greatest of its members, or zero where it has none.
     pub(crate) fn highest(&self) -> u32
         ensures { (n : ℕ) → is_among self.now.members n ≡ true → n ≤ result }
     {
-        greatest_of(self.kept.members.as_slice())
+        greatest_of(self.members.as_slice())
     }
 
     /// Its bytes, as those of one patch that has its name.
@@ -143,9 +137,9 @@ impl<A: Allocator> Class<A> {
         ensures { result ≡ top_of self.now }
     {
         Span {
-            start: self.kept.start,
-            stop: self.kept.stop,
-            no: self.kept.name,
+            start: self.start(),
+            stop: self.stop(),
+            no: self.name,
         }
     }
 
@@ -153,45 +147,45 @@ impl<A: Allocator> Class<A> {
     pub(crate) fn named(&self) -> &[PatchNo]
         ensures { result.now ≡ self.now.after }
     {
-        self.kept.after.as_slice()
+        self.after.as_slice()
     }
 
     /// The numbers of its patches, rising.
     pub(crate) fn members(&self) -> &[PatchNo]
         ensures { result.now ≡ self.now.members }
     {
-        self.kept.members.as_slice()
+        self.members.as_slice()
     }
 
     pub(crate) fn is_flying(&self) -> bool
         ensures { result ≡ self.now.flying }
     {
-        self.kept.flying
+        self.flying
     }
 
     pub(crate) fn is_hard(&self) -> bool
         ensures { result ≡ self.now.hard }
     {
-        self.kept.hard
+        self.hard
     }
 
     pub(crate) fn is_taken(&self) -> bool
         ensures { result ≡ self.now.taken }
     {
-        self.kept.taken
+        self.taken
     }
 
     /// It may be taken and isn't.
     pub(crate) fn is_takeable(&self) -> bool
         ensures { result ≡ is_takeable self.now }
     {
-        !self.kept.flying && !self.kept.hard && !self.kept.taken
+        !self.flying && !self.hard && !self.taken
     }
 
     pub(crate) fn includes(&self, no: PatchNo) -> bool
         ensures { result ≡ is_among self.now.members no }
     {
-        is_listed(self.kept.members.as_slice(), no)
+        is_listed(self.members.as_slice(), no)
     }
 
     fn includes_any(&self, numbers: &[PatchNo]) -> bool
@@ -203,7 +197,7 @@ impl<A: Allocator> Class<A> {
     fn names(&self, no: PatchNo) -> bool
         ensures { result ≡ is_among self.now.after no }
     {
-        is_listed(self.kept.after.as_slice(), no)
+        is_listed(self.after.as_slice(), no)
     }
 
     fn names_any(&self, numbers: &[PatchNo]) -> bool
@@ -219,62 +213,67 @@ impl<A: Allocator> Class<A> {
         self.meets(other) || self.names_some_of(other)
     }
 
+    /// The place of the first of these classes on which it rests.
+    pub(crate) fn first_rested_on(&self, others: &[Class<A>]) -> Option<usize>
+        ensures { result ≡ position (λ c. meets self.now c || names self.now c) others.now }
+    {
+        if self.after.is_empty() {
+            return self.first_met(others);
+        }
+        others.iter().position(|other| self.rests_on(other))
+    }
+
+    /// The place of the first of these classes with which it has a byte in common.
+    fn first_met(&self, others: &[Class<A>]) -> Option<usize>
+        ensures { result ≡ position (meets self.now) others.now }
+    {
+        others.iter().position(|other| self.meets(other))
+    }
+
     /// Whether it is known that nothing in the block rests on it.
     pub(crate) fn is_told_free(&self, rests: &Rests<A>) -> bool
         ensures { IsTrue result → IsFree rests.now self.now.members self.now.start self.now.stop }
     {
-        rests.tell_free(
-            self.kept.members.as_slice(),
-            self.kept.start,
-            self.kept.stop,
-        )
+        rests.tell_free(self.members.as_slice(), self.start(), self.stop())
     }
 
     /// Whether it is known that it rests on none in the block of which no member is below a number.
     pub(crate) fn is_told_loose(&self, rests: &Rests<A>, first: u32) -> bool
         ensures { IsTrue result → IsLoose rests.now self.now.after self.now.start self.now.stop first }
     {
-        rests.tell_loose(
-            self.kept.after.as_slice(),
-            self.kept.start,
-            self.kept.stop,
-            first,
-        )
+        rests.tell_loose(self.after.as_slice(), self.start(), self.stop(), first)
     }
 
     fn meets(&self, other: &Class<A>) -> bool
         ensures { result ≡ meets self.now other.now }
     {
-        self.kept.start < other.kept.stop && other.kept.start < self.kept.stop
+        self.start < other.stop && other.start < self.stop
     }
 
     /// The shorter list is gone through, and the longer one is searched for each of its numbers.
     fn names_some_of(&self, other: &Class<A>) -> bool
         ensures { result ≡ names self.now other.now }
     {
-        if self.kept.after.len() <= other.kept.members.len() {
-            other.includes_any(self.kept.after.as_slice())
+        if self.after.len() <= other.members.len() {
+            other.includes_any(self.after.as_slice())
         } else {
-            self.names_any(other.kept.members.as_slice())
+            self.names_any(other.members.as_slice())
         }
     }
 
     /// A class of one patch, in memory and applied.
     pub(crate) fn new(
-        alloc: &A,
         no: PatchNo,
         start: usize,
         stop: usize,
         saved: Vec<u8, A>,
         after: NumberList<A>,
         hard: bool,
-    ) -> Result<Class<A>, OutOfMemory>
-    where
-        A: Clone,
+    ) -> Class<A>
         requires long { start + length saved.items ≤ stop }
         requires fits { stop ≤ BLOCK }
         requires after { IsNonDecreasing after.items }
-        ensures { IfOk result (λ c. c ≡ record {
+        ensures { result ≡ record {
           name = no;
           members = no ∷ [];
           start = start;
@@ -285,22 +284,20 @@ impl<A: Allocator> Class<A> {
           hard = hard;
           taken = false;
           room = 0;
-        }) }
+        } }
     {
-        let kept = Record {
+        Class {
             name: no,
-            members: NumberList::one(no),
-            start,
-            stop,
-            saved,
-            after,
+            start: start as u16,
+            stop: stop as u16,
+            room: 0,
             flying: false,
             hard,
             taken: false,
-            room: 0,
-        };
-        let kept = boxed(alloc, kept)?;
-        Ok(Class { kept })
+            saved,
+            members: NumberList::one(no),
+            after,
+        }
     }
 
     /// Whether the lists of a higher class can stand behind this one's without memory, in rising order.
@@ -309,10 +306,10 @@ impl<A: Allocator> Class<A> {
         ensures members { IsTrue result → IsNonDecreasing (self.now.members ++ high.now.members) }
         ensures after { IsTrue result → IsNonDecreasing (self.now.after ++ high.now.after) }
     {
-        high.kept.members.len() <= self.kept.room
-            && high.kept.after.len() <= self.kept.room
-            && follow_on(self.kept.members.as_slice(), high.kept.members.as_slice())
-            && follow_on(self.kept.after.as_slice(), high.kept.after.as_slice())
+        high.members.len() <= self.room()
+            && high.after.len() <= self.room()
+            && follow_on(self.members.as_slice(), high.members.as_slice())
+            && follow_on(self.after.as_slice(), high.after.as_slice())
     }
 
     /// Whether the bytes of a higher class are all among those that this one saved.
@@ -320,9 +317,9 @@ impl<A: Allocator> Class<A> {
         ensures exact { result ≡ is_around self.now high.now }
         ensures held { saved_end high.now ≤ high.now.stop }
     {
-        self.kept.start <= high.kept.start
-            && high.kept.stop <= self.kept.stop
-            && self.kept.start + self.kept.saved.len() == self.kept.stop
+        self.start <= high.start
+            && high.stop <= self.stop
+            && self.start() + self.saved.len() == self.stop()
     }
 
     /// Draws this class and a higher one up as one. None where this one takes the higher one in without memory.
@@ -355,7 +352,7 @@ impl<A: Allocator> Class<A> {
     {
         let zeros = self.zeros_for(alloc, high)?;
         let (members, after) = (NumberList::none(), NumberList::none());
-        let class = self.merged_with(alloc, high, members, after, zeros)?;
+        let class = self.merged_with(high, members, after, zeros);
         Ok(Some(Drawn {
             class,
             growing: true,
@@ -382,8 +379,8 @@ impl<A: Allocator> Class<A> {
         A: Clone,
         ensures { IfOk result (λ zeros. zeros.items ≡ replicate (max self.now.stop high.now.stop - min self.now.start high.now.start) 0) }
     {
-        let width = self.kept.stop.max(high.kept.stop) - self.kept.start.min(high.kept.start);
-        Ok(vec![in alloc.clone()?; 0u8; width]?)
+        let width = self.stop.max(high.stop) - self.start.min(high.start);
+        Ok(vec![in alloc.clone()?; 0u8; usize::from(width)]?)
     }
 
     /// This class and a higher one as one class: on the bytes that they share it has what this one saved. It has room for as
@@ -394,62 +391,53 @@ impl<A: Allocator> Class<A> {
         requires { zeros.items ≡ replicate (max self.now.stop high.now.stop - min self.now.start high.now.start) 0 }
         ensures { IfOk result (λ c. IsMerged self.now high.now c) }
     {
-        let most_members = self
-            .kept
-            .members
-            .len()
-            .saturating_add(high.kept.members.len());
-        let most_names = self.kept.after.len().saturating_add(high.kept.after.len());
+        let most_members = self.members.len().saturating_add(high.members.len());
+        let most_names = self.after.len().saturating_add(high.after.len());
         let room = most_members.max(most_names);
-        let members = both_lists(alloc, &self.kept.members, &high.kept.members, room)?;
-        let after = match both_lists(alloc, &self.kept.after, &high.kept.after, room) {
+        let members = both_lists(alloc, &self.members, &high.members, room)?;
+        let after = match both_lists(alloc, &self.after, &high.after, room) {
             Ok(after) => after,
             Err(refusal) => {
                 drop(members);
                 return Err(refusal);
             }
         };
-        self.merged_with(alloc, high, members, after, zeros)
+        Ok(self.merged_with(high, members, after, zeros))
     }
 
     /// Both as one class, with these members, which name these, and whose saved bytes are written over the zeros.
     fn merged_with(
         &self,
-        alloc: &A,
         high: &Class<A>,
         members: NumberList<A>,
         after: NumberList<A>,
         zeros: Vec<u8, A>,
-    ) -> Result<Class<A>, OutOfMemory>
-    where
-        A: Clone,
+    ) -> Class<A>
         requires members { IsNonDecreasing members.items }
         requires after { IsNonDecreasing after.items }
         requires zeros { zeros.items ≡ replicate (max self.now.stop high.now.stop - min self.now.start high.now.start) 0 }
-        ensures { IfOk result (λ c. c ≡ merged self.now high.now members.items after.items c.room) }
+        ensures { result ≡ merged self.now high.now members.items after.items result.room }
     {
-        let start = self.kept.start.min(high.kept.start);
-        let stop = self.kept.stop.max(high.kept.stop);
-        let upper = high.kept.start - start;
-        let lower = self.kept.start - start;
+        let start = self.start().min(high.start());
+        let stop = self.stop().max(high.stop());
+        let upper = high.start() - start;
+        let lower = self.start() - start;
         let mut saved = zeros;
-        saved[upper..upper + high.kept.saved.len()].copy_from_slice(&high.kept.saved);
-        saved[lower..lower + self.kept.saved.len()].copy_from_slice(&self.kept.saved);
-        let room = members.spare().min(after.spare());
-        let kept = Record {
+        saved[upper..upper + high.saved.len()].copy_from_slice(&high.saved);
+        saved[lower..lower + self.saved.len()].copy_from_slice(&self.saved);
+        let spare = members.spare().min(after.spare());
+        Class {
             name: self.lesser_name(high),
-            members,
-            start,
-            stop,
-            saved,
-            after,
+            start: start as u16,
+            stop: stop as u16,
+            room: u32::try_from(spare).unwrap_or(u32::MAX),
             flying: false,
             hard: false,
             taken: false,
-            room,
-        };
-        let kept = boxed(alloc, kept)?;
-        Ok(Class { kept })
+            saved,
+            members,
+            after,
+        }
     }
 
     /// Becomes what was drawn up of it and a higher class. Answers whether it then has the bytes of both, none but their
@@ -483,11 +471,10 @@ impl<A: Allocator> Class<A> {
         let is_around = self.is_around(high);
         let name = self.lesser_name(high);
         self.take_lists(high);
-        let kept = &mut *self.kept;
-        kept.name = name;
-        kept.flying = false;
-        kept.hard = false;
-        kept.taken = false;
+        self.name = name;
+        self.flying = false;
+        self.hard = false;
+        self.taken = false;
         is_around && self.is_called_by_a_member()
     }
 
@@ -495,7 +482,7 @@ impl<A: Allocator> Class<A> {
     fn is_called_by_a_member(&self) -> bool
         ensures { result ≡ is_among self.now.members self.now.name }
     {
-        self.includes(self.kept.name)
+        self.includes(self.name)
     }
 
     fn is_union_of(&self, low: &Class<A>, high: &Class<A>) -> bool
@@ -512,14 +499,13 @@ impl<A: Allocator> Class<A> {
         ensures name { IsTrue result → self.now.name ≡ min low.now.name high.now.name }
         ensures span { IsTrue result → (x : ℕ) → spans self.now x ≡ (spans low.now x || spans high.now x) }
     {
-        if self.kept.name != low.lesser_name(high) {
+        if self.name != low.lesser_name(high) {
             return false;
         }
-        if low.kept.start > high.kept.stop || high.kept.start > low.kept.stop {
+        if low.start > high.stop || high.start > low.stop {
             return false;
         }
-        self.kept.start == low.kept.start.min(high.kept.start)
-            && self.kept.stop == low.kept.stop.max(high.kept.stop)
+        self.start == low.start.min(high.start) && self.stop == low.stop.max(high.stop)
     }
 
     /// Whether each member is one of two other classes, and each name one of theirs. In a record that was drawn up of the two
@@ -534,8 +520,8 @@ impl<A: Allocator> Class<A> {
         ensures { result
             ≡ list_all (λ n. is_among low.now.members n || is_among high.now.members n) self.now.members }
     {
-        let members = self.kept.members.as_slice();
-        let (these, those) = (low.kept.members.as_slice(), high.kept.members.as_slice());
+        let members = self.members.as_slice();
+        let (these, those) = (low.members.as_slice(), high.members.as_slice());
         is_interleaved(members, these, those)
             || members
                 .iter()
@@ -546,8 +532,8 @@ impl<A: Allocator> Class<A> {
         ensures { result
             ≡ list_all (λ n. is_among low.now.after n || is_among high.now.after n) self.now.after }
     {
-        let names = self.kept.after.as_slice();
-        let (these, those) = (low.kept.after.as_slice(), high.kept.after.as_slice());
+        let names = self.after.as_slice();
+        let (these, those) = (low.after.as_slice(), high.after.as_slice());
         is_interleaved(names, these, those) || names.iter().all(|n| low.names(*n) || high.names(*n))
     }
 
@@ -557,12 +543,10 @@ impl<A: Allocator> Class<A> {
         ensures no_room { has_room_for self.old high.now ≡ false → self.new ≡ self.old }
     {
         if self.has_room_for(high) {
-            let other = &*high.kept;
-            let most = other.members.len().max(other.after.len());
-            let kept = &mut *self.kept;
-            kept.members.put_behind(other.members.as_slice());
-            kept.after.put_behind(other.after.as_slice());
-            kept.room -= most;
+            let most = high.members.len().max(high.after.len());
+            self.members.put_behind(high.members.as_slice());
+            self.after.put_behind(high.after.as_slice());
+            self.room -= most as u32;
         }
     }
 
@@ -570,22 +554,20 @@ impl<A: Allocator> Class<A> {
     fn take_the_rest(&mut self, class: Class<A>)
         ensures { self.new ≡ with_lists class self.old }
     {
-        let rest = Box::into_inner(class.kept);
-        let kept = &mut *self.kept;
-        kept.name = rest.name;
-        kept.start = rest.start;
-        kept.stop = rest.stop;
-        kept.flying = rest.flying;
-        kept.hard = rest.hard;
-        kept.taken = rest.taken;
-        kept.saved = rest.saved;
+        self.name = class.name;
+        self.start = class.start;
+        self.stop = class.stop;
+        self.flying = class.flying;
+        self.hard = class.hard;
+        self.taken = class.taken;
+        self.saved = class.saved;
     }
 
     pub(crate) fn depart(&mut self)
         ensures { self.new ≡ departed self.old }
     {
-        self.kept.flying = true;
-        self.kept.saved.clear();
+        self.flying = true;
+        self.saved.clear();
     }
 
     /// Departs if one of the numbers, which rise, is its name, which is looked for at a place first. Answers where the next
@@ -594,7 +576,7 @@ impl<A: Allocator> Class<A> {
         ensures named { MayHaveDeparted numbers.now self.old self.new }
         ensures exact { IsNonDecreasing numbers.now → self.new ≡ departed_among numbers.now self.old }
     {
-        match place_in(numbers, first, self.kept.name) {
+        match place_in(numbers, first, self.name) {
             Some(at) => {
                 self.depart();
                 at.saturating_add(1)
@@ -606,7 +588,20 @@ impl<A: Allocator> Class<A> {
     pub(crate) fn start(&self) -> usize
         ensures { result ≡ self.now.start }
     {
-        self.kept.start
+        usize::from(self.start)
+    }
+
+    fn stop(&self) -> usize
+        ensures { result ≡ self.now.stop }
+    {
+        usize::from(self.stop)
+    }
+
+    /// How many more members and names it takes in without memory.
+    fn room(&self) -> usize
+        ensures { result ≡ self.now.room }
+    {
+        self.room as usize
     }
 
     /// Where the saved bytes end.
@@ -615,7 +610,7 @@ impl<A: Allocator> Class<A> {
         ensures range { self.now.start ≤ result }
         ensures fits { result ≤ BLOCK }
     {
-        self.kept.start + self.kept.saved.len()
+        self.start() + self.saved.len()
     }
 
     /// Whether it saved a byte from one place up to another.
@@ -623,7 +618,7 @@ impl<A: Allocator> Class<A> {
         ensures exact { result ≡ saves_any self.now start stop }
         ensures fits { saved_end self.now ≤ BLOCK }
     {
-        self.kept.start < stop && start < self.kept.start + self.kept.saved.len()
+        self.start() < stop && start < self.start() + self.saved.len()
     }
 
     /// Lays the saved bytes on a copy of the block's, where the class may be taken and isn't.
@@ -632,8 +627,8 @@ impl<A: Allocator> Class<A> {
         ensures { copy.new ≡ uncovered self.now copy.old }
     {
         if self.is_takeable() {
-            let stop = self.kept.start + self.kept.saved.len();
-            copy[self.kept.start..stop].copy_from_slice(&self.kept.saved);
+            let stop = self.start() + self.saved.len();
+            copy[self.start()..stop].copy_from_slice(&self.saved);
         }
     }
 
@@ -645,9 +640,9 @@ impl<A: Allocator> Class<A> {
         ensures laid { block.new ≡ laid_over self.old.start bytes.now block.old }
         ensures class { self.new ≡ covering self.old block.old bytes.now }
     {
-        let kept = &mut *self.kept;
-        let saved = kept.saved.as_mut_slice();
-        put_over(block, kept.start, bytes, saved, kept.hard);
+        let start = self.start();
+        let saved = self.saved.as_mut_slice();
+        put_over(block, start, bytes, saved, self.hard);
     }
 
     /// Exchanges the saved bytes with the block's, and marks the class.
@@ -656,23 +651,10 @@ impl<A: Allocator> Class<A> {
         ensures laid { bytes.new ≡ laid_on self.old bytes.old }
         ensures class { self.new ≡ exchanged_with self.old bytes.old turn }
     {
-        let start = self.kept.start;
-        let saved = self.kept.saved.as_mut_slice();
+        let start = self.start();
+        let saved = self.saved.as_mut_slice();
         swap_span(bytes, start, saved);
-        self.kept.taken = turn.leaves_taken();
-    }
-}
-
-/// The record in memory of its own.
-fn boxed<A: Allocator + Clone>(alloc: &A, kept: Record<A>) -> Result<Box<Record<A>, A>, OutOfMemory>
-    ensures { IfOk result (λ boxed. boxed.value ≡ kept) }
-{
-    match alloc.clone() {
-        Ok(alloc) => Ok(Box::new(alloc, kept)?),
-        Err(refusal) => {
-            drop(kept);
-            Err(refusal.into())
-        }
+        self.taken = turn.leaves_taken();
     }
 }
 

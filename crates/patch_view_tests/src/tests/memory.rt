@@ -63,7 +63,7 @@ fn save_what_may_go_back(
 ) -> Result<(), Fail> {
     lay_one_over_another(block)?;
     assert!(rt; lay_more(heap, block, 2, false)? >= 500);
-    assert!(rt; lay_more(heap, block, 3, true)? < 500);
+    expect_eq(rt, &lay_more(heap, block, 3, true)?, &0);
     let before = heap.used();
     assert!(rt; is_unentered(rt, block, 4, 0, &[3; 500]));
     expect_eq(rt, &heap.used(), &before);
@@ -83,19 +83,7 @@ fn lay_hard(
     block.lay(PatchNo(no), 0, &[1; 500], after, true)
 }
 
-// How much more memory is used once a hard patch with these names is laid.
-fn lay_named(
-    heap: &LocalHeap,
-    block: &mut BlockState<&LocalHeap>,
-    no: u32,
-    after: &[PatchNo],
-) -> Result<usize, OutOfMemory> {
-    let before = heap.used();
-    lay_hard(block, no, after)?;
-    Ok(heap.used().saturating_sub(before))
-}
-
-// A patch with no more than two names takes no more memory than one with none, and one with three does.
+// The lists of a patch with no more than two names take no memory, and those of one with three do.
 fn keep_few_numbers(
     rt: &impl Abort,
     heap: &LocalHeap,
@@ -103,11 +91,11 @@ fn keep_few_numbers(
 ) -> Result<(), Fail> {
     lay_hard(block, 0, &[])?;
     lay_hard(block, 1, &[PatchNo(0)])?;
-    let plain = lay_named(heap, block, 2, &[])?;
-    let two = lay_named(heap, block, 3, &[PatchNo(1), PatchNo(0)])?;
-    expect_eq(rt, &two, &plain);
-    let three = lay_named(heap, block, 4, &[PatchNo(2), PatchNo(1), PatchNo(0)])?;
-    assert!(rt; two < three);
+    let two = heap.used();
+    lay_hard(block, 2, &[PatchNo(1), PatchNo(0)])?;
+    expect_eq(rt, &heap.used(), &two);
+    lay_hard(block, 3, &[PatchNo(2), PatchNo(1), PatchNo(0)])?;
+    assert!(rt; two < heap.used());
     Ok(())
 }
 
@@ -126,10 +114,13 @@ fn keep_no_missed_number(
     for half in 10..30u32 {
         lay_hard(block, half * 2, &[])?;
     }
-    let plain = lay_named(heap, block, 60, &[])?;
-    let missed = [PatchNo(5), PatchNo(21), PatchNo(33), PatchNo(57)];
-    let more = lay_named(heap, block, 62, &missed)?;
-    expect_eq(rt, &more, &plain);
+    let before = heap.used();
+    lay_hard(
+        block,
+        60,
+        &[PatchNo(5), PatchNo(21), PatchNo(33), PatchNo(57)],
+    )?;
+    expect_eq(rt, &heap.used(), &before);
     Ok(())
 }
 

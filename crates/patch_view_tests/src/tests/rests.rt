@@ -193,6 +193,50 @@ fn what_lies_between_two_that_merge_stays_below(rt: HostRuntime) -> Result<(), F
     Ok(())
 }
 
+// The later one of two that are merged rests on one between, and that on another one there: these go on resting, one on the other.
+fn merge_over_a_chain(rt: &impl Abort, block: &mut BlockState) -> Result<(), OutOfMemory> {
+    lay_byte(rt, block, 0, 0)?;
+    lay_byte(rt, block, 1, 9)?;
+    block.lay(PatchNo(2), 1, &[7], &[PatchNo(1)], false)?;
+    lay_byte(rt, block, 3, 5)?;
+    lay_byte(rt, block, 4, 1)?;
+    join_by(block, 0, 4)?;
+    expect_rested_on(rt, block, 1, 2);
+    expect_rested_on(rt, block, 2, 0);
+    expect_free(rt, block, 3);
+    expect_free(rt, block, 4);
+    Ok(())
+}
+
+#[test]
+fn what_lies_between_may_rest_on_another(rt: HostRuntime) -> Result<(), Fail> {
+    let mut block = bare(rt.alloc())?;
+    merge_over_a_chain(&rt, &mut block)?;
+    Ok(())
+}
+
+// The later one of two that are merged rests on many between, more than go down one by one.
+fn merge_over_many(rt: &impl Abort, block: &mut BlockState) -> Result<(), OutOfMemory> {
+    lay_byte(rt, block, 0, 0)?;
+    for no in 1..13u32 {
+        lay_byte(rt, block, no, no as usize)?;
+    }
+    block.lay(PatchNo(13), 1, &[7; 12], &[], false)?;
+    join_by(block, 0, 13)?;
+    for no in 1..13u32 {
+        expect_rested_on(rt, block, no, 0);
+    }
+    expect_free(rt, block, 13);
+    Ok(())
+}
+
+#[test]
+fn many_may_lie_between(rt: HostRuntime) -> Result<(), Fail> {
+    let mut block = bare(rt.alloc())?;
+    merge_over_many(&rt, &mut block)?;
+    Ok(())
+}
+
 // A patch as the plain walk knows it.
 #[derive(Clone, Copy)]
 struct Plain {

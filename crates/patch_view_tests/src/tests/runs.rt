@@ -221,20 +221,7 @@ fn lay_hard(block: &mut BlockState<&LocalHeap>, no: u32, runs: &[Run]) -> Result
     block.lay_if(PatchNo(no), 0, &[1; 500], after, true, &mut (), |_| Ok(()))
 }
 
-// How much more memory is used once a hard patch with names in these runs is laid.
-fn lay_named(
-    heap: &LocalHeap,
-    block: &mut BlockState<&LocalHeap>,
-    no: u32,
-    runs: &[Run],
-) -> Result<usize, OutOfMemory> {
-    let before = heap.used();
-    lay_hard(block, no, runs)?;
-    Ok(heap.used().saturating_sub(before))
-}
-
-// However many numbers the runs have, a patch for which no more than two are kept takes no more memory than one that names none,
-// and one for which four are kept does.
+// However many numbers the runs have, no more than two that are kept take no memory, and three do.
 fn keep_few(
     rt: &impl Abort,
     heap: &LocalHeap,
@@ -242,11 +229,11 @@ fn keep_few(
 ) -> Result<(), Fail> {
     lay_hard(block, 0, &[])?;
     lay_hard(block, 1, &FIRST)?;
-    let two = lay_named(heap, block, 2, &FROM_FIRST)?;
-    let plain = lay_named(heap, block, 3, &[])?;
-    expect_eq(rt, &two, &plain);
-    let four = lay_named(heap, block, 4, &FROM_FIRST)?;
-    assert!(rt; two < four);
+    let two = heap.used();
+    lay_hard(block, 2, &FROM_FIRST)?;
+    expect_eq(rt, &heap.used(), &two);
+    lay_hard(block, 3, &FROM_FIRST)?;
+    assert!(rt; two < heap.used());
     Ok(())
 }
 

@@ -8,8 +8,8 @@ pub returns : goal.returns
 returns g c =
     let low : Class = c.args.self.now in
     let high : Class = c.args.high.now in
-    let class : Class = c.in_ok-class.class in
+    let class : Class = c.merged_with-class.result in
     let is : class ≡ merged low high [] [] class.room =
-    c.in_ok-class.ensures ∙ ap (λ (l : NumberList). merged low high l.items c.none-after.result.items class.room) c.none-members.ensures
+    c.merged_with-class.ensures ∙ ap (λ (l : NumberList). merged low high l.items c.none-after.result.items class.room) c.none-members.ensures
     ∙ ap (λ (l : NumberList). merged low high [] l.items class.room) c.none-after.ensures in
     drawn-growing low high class c.requires is

@@ -1,30 +1,37 @@
-use Rattle.std.proofs.Common.{◌∙◌, ap, sym, subst}
+use Rattle.std.proofs.Common.{◌∙◌, sym, subst, arith}
 use Rattle.std.specs.Prelude.{[]}
-use Rattle.patch_view.specs.State.{Block, class_at, settled_at, in_its_place}
+use Rattle.patch_view.specs.State.{Block, class_at, in_its_place}
 use Rattle.patch_view.specs.History.{with_joined}
-use Rattle.patch_view.specs.Meaning.{Represents}
-use Rattle.patch_view.proofs.Gathering.{gathered-joins, free-joins}
-use Rattle.patch_view.proofs.Settling.{drawn-gathered, place-gathered}
+use Rattle.patch_view.specs.Meaning.{Represents, IsClearedTo, IsGathered}
+use Rattle.patch_view.proofs.Gathering.{gathered-joins, cleared-joins, cleared_gathered}
+use Rattle.patch_view.proofs.Settling.{settled-moved}
 use Rattle.patch_view.proofs.states.BlockState.join_at.Goals as goal
 
-pub returns-then-follows_any-clause-answer : goal.returns-then-follows_any-clause-answer
-returns-then-follows_any-clause-answer g c h is r may =
+pub returns-in-Clear-clause-answer : goal.returns-in-Clear-clause-answer
+returns-in-Clear-clause-answer g c h is r may =
+    let old : Block = c.args.self.now in
+    let cleared : Block = c.clear_way.new.self in
+    let front = c.in-Clear.front in
+    let done : IsClearedTo old cleared c.args.low c.args.high front c.args.high = c.in-Clear.ensures in
+    let e = settled-moved old cleared c.settle.new.self c.args.low c.args.high front c.args.drawn done.same_low (done.same_rest c.args.high (omega arith)) c.settle.ensures.settled is in
+    subst (λ z. Represents z [] (with_joined h (class_at old c.args.low).name (class_at old c.args.high).name)) (sym e)
+    (cleared-joins old cleared h c.args.low c.args.high front (in_its_place (class_at old c.args.low) (class_at old c.args.high) c.args.drawn)
+    is.is c.requires.within r done may)
+
+pub returns-in-Clear-clause-bytes : goal.returns-in-Clear-clause-bytes
+returns-in-Clear-clause-bytes g c = c.settle.ensures.bytes ∙ c.in-Clear.ensures.same_bytes
+
+pub returns-in-Barred-clause-answer : goal.returns-in-Barred-clause-answer
+returns-in-Barred-clause-answer g c h is r may =
     let old : Block = c.args.self.now in
     let gathered : Block = c.gather-front.new.self in
     let front = c.gather-front.result in
-    let e = c.settle.ensures.settled (drawn-gathered old gathered c.args.low c.args.high front c.args.drawn c.gather-front.ensures is)
-    ∙ ap (settled_at gathered front c.args.high) (place-gathered old gathered c.args.low c.args.high front c.args.drawn c.gather-front.ensures) in
+    let all : IsGathered old gathered c.args.low c.args.high front =
+    cleared_gathered old c.clear_way.new.self gathered c.args.low c.args.high c.in-Barred.from front c.in-Barred.ensures.0 c.in-Barred.ensures.1 c.gather-front.ensures in
+    let e = settled-moved old gathered c.settle-in-Barred.new.self c.args.low c.args.high front c.args.drawn all.same_low (all.same_rest c.args.high (omega arith)) c.settle-in-Barred.ensures.settled is in
     subst (λ z. Represents z [] (with_joined h (class_at old c.args.low).name (class_at old c.args.high).name)) (sym e)
     (gathered-joins old gathered h c.args.low c.args.high front (in_its_place (class_at old c.args.low) (class_at old c.args.high) c.args.drawn)
-    is.is c.requires.less c.requires.within r c.gather-front.ensures may)
+    is.is c.requires.less c.requires.within r all may)
 
-pub returns-then-follows_any-clause-bytes : goal.returns-then-follows_any-clause-bytes
-returns-then-follows_any-clause-bytes g c = c.settle.ensures.bytes ∙ c.gather-front.ensures.same_bytes
-
-pub returns-else-follows_any-clause-answer : goal.returns-else-follows_any-clause-answer
-returns-else-follows_any-clause-answer g c h is r may =
-    let old : Block = c.args.self.now in
-    let e = c.settle-else-follows_any.ensures.settled is in
-    subst (λ z. Represents z [] (with_joined h (class_at old c.args.low).name (class_at old c.args.high).name)) (sym e)
-    (free-joins old h c.args.low c.args.high (in_its_place (class_at old c.args.low) (class_at old c.args.high) c.args.drawn)
-    is.is c.requires.less c.requires.within r (c.follows_any.ensures.no c.if-follows_any.false) may)
+pub returns-in-Barred-clause-bytes : goal.returns-in-Barred-clause-bytes
+returns-in-Barred-clause-bytes g c = c.settle-in-Barred.ensures.bytes ∙ c.gather-front.ensures.same_bytes ∙ c.in-Barred.ensures.1.same_bytes
