@@ -127,7 +127,7 @@ cleared_all old new low high front k c none =
       free = λ m f t. elim (cases_lt m k) [ inl before ↦ c.free m f before | inr behind ↦ none m behind t ];
     }
 
-follows-same : (old new : Block) (i j m : ℕ) → j < i → m < i → class_at new i ≡ class_at old i → class_at new j ≡ class_at old m → follows old i m ≡ false → follows new i j ≡ false
+pub follows-same : (old new : Block) (i j m : ℕ) → j < i → m < i → class_at new i ≡ class_at old i → class_at new j ≡ class_at old m → follows old i m ≡ false → follows new i j ≡ false
 follows-same old new i j m less less' same same' is =
     let t : nat_lt j i ≡ true = lt-ltb _ _ less in
     let u : nat_lt m i ≡ true = lt-ltb _ _ less' in

@@ -22,6 +22,7 @@ pub mod Moving
 pub mod Rotating
 pub mod Preceding
 pub mod Gathering
+pub mod Running
 pub mod Settling
 pub mod Lawful
 pub mod Sweeping

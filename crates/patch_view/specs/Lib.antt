@@ -13,4 +13,6 @@ pub mod View
 pub mod Laws
 pub mod NumberLists
 pub mod Held
+pub mod Lists
+pub mod Kept
 pub mod Rests

@@ -91,6 +91,20 @@ pub record IsFirstUnder (b : Block) (from at k : ℕ) : Type 0 where
   pub is : follows b at k ≡ true
   pub none : (m : ℕ) → from ≤ m → m < k → follows b at m ≡ false
 
+-- of the places from one up to another, k is the first with a class that has this number; where there is none, it is that other
+pub record IsFirstWith (b : Block) (from to number k : ℕ) : Type 0 where
+  pub least : from ≤ k
+  pub upto : k ≤ to
+  pub is : k < to → is_among (class_at b k).members number ≡ true
+  pub none : (m : ℕ) → from ≤ m → m < k → is_among (class_at b m).members number ≡ false
+
+-- the same of a class that has one of these numbers
+pub record IsFirstNamed (b : Block) (numbers : List ℕ) (from to k : ℕ) : Type 0 where
+  pub least : from ≤ k
+  pub upto : k ≤ to
+  pub is : k < to → list_any (λ n. is_among (class_at b k).members n) numbers ≡ true
+  pub none : (m : ℕ) → from ≤ m → m < k → list_any (λ n. is_among (class_at b m).members n) numbers ≡ false
+
 -- the class at this place above another one, up to k, depends directly on none between the two, nor on the other
 pub record IsLooseUnder (b : Block) (front k at : ℕ) : Type 0 where
   pub above : front < at
@@ -374,6 +388,22 @@ IsJoint b x y (Some joint) = (joint.low < joint.high)
 -- the class at k moved down to the place front
 abbrev pub moved_down : Block → ℕ → ℕ → Block
 moved_down b front k = record b { classes = insert (remove b.classes k) front (class_at b k) }
+
+-- up to this place, at most up to high, no class from k on depends directly on one from front up to k; the one there does if it is k
+pub record IsRunEnd (b : Block) (front k high stop : ℕ) : Type 0 where
+  pub least : k ≤ stop
+  pub upto : stop ≤ high
+  pub free : (j m : ℕ) → k ≤ j → j < stop → front ≤ m → m < k → follows b j m ≡ false
+  pub met : stop ≡ k → (m : ℕ) × (front ≤ m) × (m < k) × (follows b k m ≡ true)
+
+-- the elements from the place k on, so many, moved down to the place front one after the other
+unfoldable pub run_down : {X : Type 0} → X → List X → ℕ → ℕ → ℕ → List X
+run_down d xs front k zero = xs
+run_down d xs front k (suc m) = insert (remove (run_down d xs front k m) (k + m)) (front + m) (slice_index_or (run_down d xs front k m) (k + m) d)
+
+-- the classes from k on, so many, moved down so
+abbrev pub run_moved_down : Block → ℕ → ℕ → ℕ → Block
+run_moved_down b front k m = record b { classes = run_down no_class b.classes front k m }
 
 -- the class c in place of the two
 abbrev pub settled_at : Block → ℕ → ℕ → Class → Block

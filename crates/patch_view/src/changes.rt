@@ -1,7 +1,6 @@
 //! What becomes of a block's records as patches are made, merged, sent and completed.
-ghost use Rattle.std.specs.Prelude.{◌≡◌, ◌+◌, ◌<◌, ◌≤◌, length, map, vec_len, vec_capacity, [], slice_index_or, IfOk, IfSome, OnOk, OnErr, ℕ, None, true, false, IsTrue, IsFalse, if◌then◌else◌, ◌==◌, ◌++◌, ◌∷◌, not};
+ghost use Rattle.std.specs.Prelude.{◌≡◌, ◌+◌, ◌-◌, ◌<◌, ◌≤◌, length, map, vec_len, vec_capacity, [], IfOk, IfSome, OnOk, OnErr, ℕ, None, true, false, IsTrue, IsFalse, if◌then◌else◌, ◌==◌, ◌++◌, ◌∷◌, not};
 ghost use Rattle.std.specs.Fn.{FnOnceTakesAtMut};
-ghost use Rattle.std.specs.List.{insert, remove};
 ghost use Rattle.std.specs.List.Sorted.{IsNonDecreasing};
 ghost use Rattle.patch_model.specs.declared.patches.Mark.TheVariants.{Flight, Durable};
 ghost use Rattle.patch_model.specs.Entry.{Entry, is_memory};
@@ -10,7 +9,7 @@ ghost use Rattle.patch_model.specs.Names.{numbers_named};
 ghost use Rattle.patch_model.specs.Orderly.{IsOrderlyBlock};
 ghost use Rattle.patch_model.specs.State.{landed};
 ghost use Rattle.patch_view.specs.State.{follows, with_laid, unlaid_class, laid_over, covering, IsLaid, departed_at, landed_at, with_departed, HasDeparted, AreDeparting};
-ghost use Rattle.patch_view.specs.State.{IsFirstUnder, IsLooseUnder, with_one_departed, with_one_landed, with_landed, FlyingWithin, AllFlyAt, moved_down, IsJoint, IsJointAt, has_places};
+ghost use Rattle.patch_view.specs.State.{IsFirstUnder, IsFirstNamed, IsFirstWith, IsLooseUnder, IsRunEnd, with_one_departed, with_one_landed, with_landed, FlyingWithin, AllFlyAt, moved_down, run_moved_down, IsJoint, IsJointAt, has_places};
 ghost use Rattle.patch_view.specs.Members.{with_member};
 ghost use Rattle.patch_view.specs.Rests.{IsLaidOn, begun, top_of};
 ghost use Rattle.patch_view.specs.Images.{StaysIf};
@@ -25,11 +24,13 @@ use crate::images::{
     Image, draw_unless_known, forget, forget_unless, gap_of_departing, keep_span, make_room,
     trim_gap,
 };
+use crate::lists::Lists;
 use crate::members::Members;
 use crate::number_lists::NumberList;
 use crate::places::Places;
 use crate::rests::{Rests, lay_over};
 use crate::states::{BlockState, FEW};
+use crate::turning::{take_out, turn_down, turn_run_down};
 use patch_model::{BLOCK, BlockBytes, Named, OutOfMemory, PatchNo};
 use std::alloc::{Allocator, Global};
 use std::marker::Model;
@@ -40,7 +41,7 @@ const MOST_SOUGHT: usize = 4;
 /// So many classes at most go down one by one to clear the way for one that is to be made one with a lower class.
 const MOST_CLEARED: usize = 8;
 
-/// From so many classes at most, each on one on which the last one depends, one is looked for that goes down.
+/// So many steps at most are taken from a class to one on which it depends, to find one that depends on none there and goes down.
 const MOST_PASSED: usize = 4;
 
 /// For so many records room is made where there is none.
@@ -153,9 +154,10 @@ impl<A: Allocator> BlockState<A> {
         ensures { IfOk result (λ c. c ≡ unlaid_class no start bytes.now names.items hard) }
     {
         let alloc = self.bytes.allocator();
+        let lists = Lists::of_patch(alloc, no, names)?;
         let saved = to_be_saved(alloc.clone()?, bytes, hard)?;
         let stop = start + bytes.len();
-        Ok(Class::new(no, start, stop, saved, names, hard))
+        Ok(Class::new(no, start, stop, saved, lists, hard))
     }
 
     /// Lays a new class, once it is entered elsewhere.
@@ -216,8 +218,61 @@ impl<A: Allocator> BlockState<A> {
         forget(&mut self.image);
     }
 
-    /// The first place from one up to that of a class on whose class this one depends directly.
+    /// The first place from one up to that of a class on whose class this one depends directly. Where no number is a member of two records,
+    /// what it names is sought by its numbers, and the others are asked for their bytes alone.
     fn first_under(&self, from: usize, at: usize) -> Option<usize>
+        requires down { from ≤ at }
+        requires within { at < length self.now.classes }
+        ensures found { IfSome result (λ k. IsFirstUnder self.now from at k) }
+        ensures none { result ≡ None → (m : ℕ) → from ≤ m → m < at → follows self.now at m ≡ false }
+    {
+        let class = &self.classes[at];
+        let Some(named) = self.first_named(class.named(), from, at) else {
+            return self.first_asked(from, at);
+        };
+        match class.first_met(&self.classes[from..named]) {
+            Some(passed) => Some(from + passed),
+            None if named < at => Some(named),
+            None => None,
+        }
+    }
+
+    /// The first place from one up to another of a class that has one of these numbers; where there is none, that other. None where a number may
+    /// be a member of two records.
+    fn first_named(&self, numbers: &[PatchNo], from: usize, to: usize) -> Option<usize>
+        requires { from ≤ to }
+        ensures { IfSome result (λ k. IsFirstNamed self.now numbers.now from to k) }
+    {
+        let mut first = to;
+        for no in numbers {
+            first = self.first_with(*no, from, first)?;
+        }
+        Some(first)
+    }
+
+    /// The first place from one up to another of a class that has this number; where there is none, that other. None where it may be a
+    /// member of two records.
+    fn first_with(&self, no: PatchNo, from: usize, to: usize) -> Option<usize>
+        requires { from ≤ to }
+        ensures { IfSome result (λ k. IsFirstWith self.now from to no k) }
+    {
+        if !self.members.are_apart {
+            return None;
+        }
+        let Some(place) = self.place_of(no) else {
+            return Some(to);
+        };
+        if to <= place {
+            return Some(to);
+        }
+        if place < from {
+            return Some(to);
+        }
+        Some(place)
+    }
+
+    /// The first place from one up to that of a class on whose class this one depends directly, found by asking each.
+    fn first_asked(&self, from: usize, at: usize) -> Option<usize>
         requires down { from ≤ at }
         requires within { at < length self.now.classes }
         ensures found { IfSome result (λ k. IsFirstUnder self.now from at k) }
@@ -229,6 +284,20 @@ impl<A: Allocator> BlockState<A> {
             Some(passed) => Some(from + passed),
             None => None,
         }
+    }
+
+    /// A place from one up to that of a class on whose class this one depends directly: the one right below it, if that is such a one, as in a
+    /// chain; else the first.
+    fn some_under(&self, from: usize, at: usize) -> Option<usize>
+        requires down { from ≤ at }
+        requires within { at < length self.now.classes }
+        ensures found { IfSome result (λ k. (from ≤ k) × (k < at)) }
+        ensures none { result ≡ None → (m : ℕ) → from ≤ m → m < at → follows self.now at m ≡ false }
+    {
+        if from < at && self.follows_at(at, at - 1) {
+            return Some(at - 1);
+        }
+        self.first_under(from, at)
     }
 
     /// Whether the class at `k` depends directly on one from `front` up to it.
@@ -250,7 +319,7 @@ impl<A: Allocator> BlockState<A> {
     {
         let mut at = k;
         for _ in 0..MOST_PASSED {
-            match self.first_under(front, at) {
+            match self.some_under(front, at) {
                 None => return Some(at),
                 Some(next) if next == front => return None,
                 Some(next) => at = next,
@@ -286,34 +355,70 @@ impl<A: Allocator> BlockState<A> {
         Way::Barred(front)
     }
 
-    /// Whether the class at `k` depends directly on one from `front` up to it. The last ones are looked at first: where classes rest each on the
-    /// one before it, that is enough.
-    fn follows_gathered(&self, front: usize, k: usize) -> bool
-        requires down { front ≤ k }
+    /// Whether the class at `k` depends directly on one from `front` up to `to`. The last ones are looked at first: where classes rest each on
+    /// the one before it, that is enough.
+    fn follows_gathered(&self, front: usize, to: usize, k: usize) -> bool
+        requires down { front ≤ to }
+        requires upto { to ≤ k }
         requires within { k < length self.now.classes }
-        ensures no { IsFalse result → (m : ℕ) → front ≤ m → m < k → follows self.now k m ≡ false }
-        ensures yes { IsTrue result → (m : ℕ) × (front ≤ m) × (m < k) × (follows self.now k m ≡ true) }
+        ensures no { IsFalse result → (m : ℕ) → front ≤ m → m < to → follows self.now k m ≡ false }
+        ensures yes { IsTrue result → (m : ℕ) × (front ≤ m) × (m < to) × (follows self.now k m ≡ true) }
     {
-        for passed in 0..k - front {
-            if self.follows_at(k, k - 1 - passed) {
+        for passed in 0..to - front {
+            if self.follows_at(k, to - 1 - passed) {
                 return true;
             }
         }
         false
     }
 
+    /// The place from `k` on, at most `high`, up to which no class depends directly on one from `front` up to `k`.
+    fn run_end(&self, front: usize, k: usize, high: usize) -> usize
+        requires down { front ≤ k }
+        requires less { k < high }
+        requires within { high ≤ length self.now.classes }
+        ensures { IsRunEnd self.now front k high result }
+    {
+        for at in k..high {
+            if self.follows_gathered(front, k, at) {
+                return at;
+            }
+        }
+        high
+    }
+
+    /// Moves the classes from `k` up to `stop` down to the place `front`, past classes on which none of them depends.
+    fn move_run_down(&mut self, front: usize, k: usize, stop: usize)
+        requires down { front ≤ k }
+        requires up { k ≤ stop }
+        requires within { stop ≤ length self.old.classes }
+        requires free { (j m : ℕ) → k ≤ j → j < stop → front ≤ m → m < k → follows self.old j m ≡ false }
+        ensures { self.new ≡ run_moved_down self.old front k (stop - k) }
+    {
+        turn_run_down(self.classes.as_mut_slice(), front, k, stop);
+        self.members = self.members.in_disorder();
+        self.taken = self.taken.spread(self.classes.len());
+        self.flying = self.flying.spread(self.classes.len());
+        forget(&mut self.image);
+    }
+
     /// Brings the class at `low` up to the one at `high`: what lies between and doesn't depend on it, directly or through
-    /// others, is moved below it. Answers its new place.
+    /// others, is moved below it, run by run. Answers its new place.
     fn gather(&mut self, low: usize, high: usize) -> usize
         requires less { low < high }
         requires within { high < length self.old.classes }
         ensures { IsGathered self.old self.new low high result }
     {
         let mut front = low;
-        for k in low + 1..high {
-            if !self.follows_gathered(front, k) {
-                self.move_down(front, k);
-                front += 1;
+        let mut k = low + 1;
+        while k < high {
+            let stop = self.run_end(front, k, high);
+            if stop == k {
+                k += 1;
+            } else {
+                self.move_run_down(front, k, stop);
+                front += stop - k;
+                k = stop;
             }
         }
         front
@@ -644,36 +749,6 @@ fn make_record_room<A: Allocator>(classes: &mut Vec<Class<A>, A>) -> Result<(), 
     }
     classes.reserve(FIRST_ROOM)?;
     Ok(())
-}
-
-/// Moves what stands at `k` down to the place `front`.
-fn turn_down<T>(list: &mut [T], front: usize, k: usize)
-    requires down { front ≤ k }
-    requires within { k < length list.old }
-    ensures { (d : T) → list.new ≡ insert (remove list.old k) front (slice_index_or list.old k d) }
-{
-    let passed = &mut list[front..k + 1];
-    passed.rotate_right(1);
-}
-
-/// Takes out what stands at a place. What stands behind it is moved in one pass.
-fn take_out<T, A: Allocator>(list: &mut Vec<T, A>, at: usize) -> T
-    requires { at < vec_len list.old }
-    ensures value { result ≡ slice_index_or list.old.items at result }
-    ensures items { list.new.items ≡ remove list.old.items at }
-{
-    turn_up(list.as_mut_slice(), at);
-    let last = list.len() - 1;
-    list.remove(last)
-}
-
-/// Moves what stands at a place up to the end.
-fn turn_up<T>(list: &mut [T], at: usize)
-    requires { at < length list.old }
-    ensures { (d : T) → list.new ≡ remove list.old at ++ slice_index_or list.old at d ∷ [] }
-{
-    let behind = &mut list[at..];
-    behind.rotate_left(1);
 }
 
 /// What is to be exchanged with the bytes that a patch covers: its own. Of a hard patch nothing is saved.

@@ -8,8 +8,10 @@ ghost use Rattle.patch_view.specs.State.{spans, follow_on, has_room_for, is_arou
 ghost use Rattle.patch_view.specs.Gaps.{saved_end, saves_any};
 ghost use Rattle.patch_view.specs.Rests.{IsFree, IsLoose, IsUnion, HasListsOf, top_of};
 
+use crate::lists::Lists;
 use crate::number_lists::{
-    NumberList, greatest_of, interleave, is_interleaved, is_listed, least_of, place_in, put_in_turn,
+    NumberList, greatest_of, interleave, is_interleaved, is_listed, least_of, lie_apart, place_in,
+    put_in_turn,
 };
 use crate::rests::Rests;
 use crate::spans::{put_over, swap_span};
@@ -41,7 +43,7 @@ impl Turn {
 
 /// A live class of the block. The numbers of its members, and those that they name, rise. Either list takes in as many more
 /// numbers as `room` says without memory. A record is small, since a class that goes moves those behind it: bytes of a block are counted
-/// in 16 bits.
+/// in 16 bits, and long lists have memory of their own.
 #[derive(Drop)]
 pub(crate) struct Class<A: Allocator = Global> {
     name: PatchNo,
@@ -52,8 +54,7 @@ pub(crate) struct Class<A: Allocator = Global> {
     hard: bool,
     taken: bool,
     saved: Vec<u8, A>,
-    members: NumberList<A>,
-    after: NumberList<A>,
+    lists: Lists<A>,
 }
 
 impl<A: Allocator> Model for Class<A> {
@@ -65,11 +66,11 @@ impl<A: Allocator> Model for Class<A> {
 
     ghost view = { λ c. record {
       name = c.name;
-      members = c.members.items;
+      members = c.lists.members;
       start = c.start;
       stop = c.stop;
       saved = c.saved.items;
-      after = c.after.items;
+      after = c.lists.after;
       flying = c.flying;
       hard = c.hard;
       taken = c.taken;
@@ -77,8 +78,7 @@ impl<A: Allocator> Model for Class<A> {
     } };
 
     ghost invariant = { λ c. (c.start + length c.saved.items ≤ c.stop) × (c.stop ≤ 4096)
-        × IsNonDecreasing c.members.items × IsNonDecreasing c.after.items
-        × (c.room ≤ c.members.spare) × (c.room ≤ c.after.spare) };
+        × IsNonDecreasing c.lists.members × IsNonDecreasing c.lists.after × (c.room ≤ c.lists.spare) };
 }
 
 /// Two classes as one, where that takes memory. A growing one has no lists of its own: in the block, the lower class's have room for
@@ -122,14 +122,14 @@ impl<A: Allocator> Class<A> {
     pub(crate) fn lowest(&self) -> u32
         ensures { (n : ℕ) → is_among self.now.members n ≡ true → result ≤ n }
     {
-        least_of(self.members.as_slice())
+        least_of(self.lists.members())
     }
 
     /// The greatest of its members, or zero where it has none.
     pub(crate) fn highest(&self) -> u32
         ensures { (n : ℕ) → is_among self.now.members n ≡ true → n ≤ result }
     {
-        greatest_of(self.members.as_slice())
+        greatest_of(self.lists.members())
     }
 
     /// Its bytes, as those of one patch that has its name.
@@ -147,14 +147,14 @@ impl<A: Allocator> Class<A> {
     pub(crate) fn named(&self) -> &[PatchNo]
         ensures { result.now ≡ self.now.after }
     {
-        self.after.as_slice()
+        self.lists.after()
     }
 
     /// The numbers of its patches, rising.
     pub(crate) fn members(&self) -> &[PatchNo]
         ensures { result.now ≡ self.now.members }
     {
-        self.members.as_slice()
+        self.lists.members()
     }
 
     pub(crate) fn is_flying(&self) -> bool
@@ -185,7 +185,7 @@ impl<A: Allocator> Class<A> {
     pub(crate) fn includes(&self, no: PatchNo) -> bool
         ensures { result ≡ is_among self.now.members no }
     {
-        is_listed(self.members.as_slice(), no)
+        is_listed(self.lists.members(), no)
     }
 
     fn includes_any(&self, numbers: &[PatchNo]) -> bool
@@ -197,7 +197,7 @@ impl<A: Allocator> Class<A> {
     fn names(&self, no: PatchNo) -> bool
         ensures { result ≡ is_among self.now.after no }
     {
-        is_listed(self.after.as_slice(), no)
+        is_listed(self.lists.after(), no)
     }
 
     fn names_any(&self, numbers: &[PatchNo]) -> bool
@@ -217,14 +217,15 @@ impl<A: Allocator> Class<A> {
     pub(crate) fn first_rested_on(&self, others: &[Class<A>]) -> Option<usize>
         ensures { result ≡ position (λ c. meets self.now c || names self.now c) others.now }
     {
-        if self.after.is_empty() {
+        let names = self.named();
+        if names.is_empty() {
             return self.first_met(others);
         }
         others.iter().position(|other| self.rests_on(other))
     }
 
     /// The place of the first of these classes with which it has a byte in common.
-    fn first_met(&self, others: &[Class<A>]) -> Option<usize>
+    pub(crate) fn first_met(&self, others: &[Class<A>]) -> Option<usize>
         ensures { result ≡ position (meets self.now) others.now }
     {
         others.iter().position(|other| self.meets(other))
@@ -234,14 +235,14 @@ impl<A: Allocator> Class<A> {
     pub(crate) fn is_told_free(&self, rests: &Rests<A>) -> bool
         ensures { IsTrue result → IsFree rests.now self.now.members self.now.start self.now.stop }
     {
-        rests.tell_free(self.members.as_slice(), self.start(), self.stop())
+        rests.tell_free(self.lists.members(), self.start(), self.stop())
     }
 
     /// Whether it is known that it rests on none in the block of which no member is below a number.
     pub(crate) fn is_told_loose(&self, rests: &Rests<A>, first: u32) -> bool
         ensures { IsTrue result → IsLoose rests.now self.now.after self.now.start self.now.stop first }
     {
-        rests.tell_loose(self.after.as_slice(), self.start(), self.stop(), first)
+        rests.tell_loose(self.lists.after(), self.start(), self.stop(), first)
     }
 
     fn meets(&self, other: &Class<A>) -> bool
@@ -250,14 +251,23 @@ impl<A: Allocator> Class<A> {
         self.start < other.stop && other.start < self.stop
     }
 
-    /// The shorter list is gone through, and the longer one is searched for each of its numbers.
+    /// Mostly the one list lies all below the other. Else the shorter one is gone through, and the longer one is searched for each of its
+    /// numbers.
     fn names_some_of(&self, other: &Class<A>) -> bool
         ensures { result ≡ names self.now other.now }
     {
-        if self.after.len() <= other.members.len() {
-            other.includes_any(self.after.as_slice())
+        let names = self.lists.after();
+        if names.is_empty() {
+            return false;
+        }
+        let members = other.lists.members();
+        if lie_apart(names, members) {
+            return false;
+        }
+        if names.len() <= members.len() {
+            other.includes_any(names)
         } else {
-            self.names_any(other.members.as_slice())
+            self.names_any(members)
         }
     }
 
@@ -267,19 +277,20 @@ impl<A: Allocator> Class<A> {
         start: usize,
         stop: usize,
         saved: Vec<u8, A>,
-        after: NumberList<A>,
+        lists: Lists<A>,
         hard: bool,
     ) -> Class<A>
         requires long { start + length saved.items ≤ stop }
         requires fits { stop ≤ BLOCK }
-        requires after { IsNonDecreasing after.items }
+        requires members { lists.members ≡ no ∷ [] }
+        requires after { IsNonDecreasing lists.after }
         ensures { result ≡ record {
           name = no;
           members = no ∷ [];
           start = start;
           stop = stop;
           saved = saved.items;
-          after = after.items;
+          after = lists.after;
           flying = false;
           hard = hard;
           taken = false;
@@ -295,8 +306,7 @@ impl<A: Allocator> Class<A> {
             hard,
             taken: false,
             saved,
-            members: NumberList::one(no),
-            after,
+            lists,
         }
     }
 
@@ -306,10 +316,11 @@ impl<A: Allocator> Class<A> {
         ensures members { IsTrue result → IsNonDecreasing (self.now.members ++ high.now.members) }
         ensures after { IsTrue result → IsNonDecreasing (self.now.after ++ high.now.after) }
     {
-        high.members.len() <= self.room()
-            && high.after.len() <= self.room()
-            && follow_on(self.members.as_slice(), high.members.as_slice())
-            && follow_on(self.after.as_slice(), high.after.as_slice())
+        let (members, names) = (high.lists.members(), high.lists.after());
+        members.len() <= self.room()
+            && names.len() <= self.room()
+            && follow_on(self.lists.members(), members)
+            && follow_on(self.lists.after(), names)
     }
 
     /// Whether the bytes of a higher class are all among those that this one saved.
@@ -351,8 +362,7 @@ impl<A: Allocator> Class<A> {
         ensures { IfOk result (λ drawn. IsDrawn self.now high.now drawn) }
     {
         let zeros = self.zeros_for(alloc, high)?;
-        let (members, after) = (NumberList::none(), NumberList::none());
-        let class = self.merged_with(high, members, after, zeros);
+        let class = self.merged_with(high, Lists::none(), zeros);
         Ok(Some(Drawn {
             class,
             growing: true,
@@ -391,32 +401,41 @@ impl<A: Allocator> Class<A> {
         requires { zeros.items ≡ replicate (max self.now.stop high.now.stop - min self.now.start high.now.start) 0 }
         ensures { IfOk result (λ c. IsMerged self.now high.now c) }
     {
-        let most_members = self.members.len().saturating_add(high.members.len());
-        let most_names = self.after.len().saturating_add(high.after.len());
+        let lists = self.lists_with(alloc, high)?;
+        Ok(self.merged_with(high, lists, zeros))
+    }
+
+    /// Its lists with those of a higher class, and room for as many numbers again as either has then.
+    fn lists_with(&self, alloc: &A, high: &Class<A>) -> Result<Lists<A>, OutOfMemory>
+    where
+        A: Clone,
+        ensures members { IfOk result (λ l. IsPermutation (self.now.members ++ high.now.members) l.members) }
+        ensures after { IfOk result (λ l. IsPermutation (self.now.after ++ high.now.after) l.after) }
+        ensures rising_members { IfOk result (λ l. IsNonDecreasing l.members) }
+        ensures rising_after { IfOk result (λ l. IsNonDecreasing l.after) }
+    {
+        let (members, more_members) = (self.lists.members(), high.lists.members());
+        let (names, more_names) = (self.lists.after(), high.lists.after());
+        let most_members = members.len().saturating_add(more_members.len());
+        let most_names = names.len().saturating_add(more_names.len());
         let room = most_members.max(most_names);
-        let members = both_lists(alloc, &self.members, &high.members, room)?;
-        let after = match both_lists(alloc, &self.after, &high.after, room) {
+        let members = both_lists(alloc, members, more_members, room)?;
+        let after = match both_lists(alloc, names, more_names, room) {
             Ok(after) => after,
             Err(refusal) => {
                 drop(members);
                 return Err(refusal);
             }
         };
-        Ok(self.merged_with(high, members, after, zeros))
+        Lists::of_class(alloc, members, after)
     }
 
-    /// Both as one class, with these members, which name these, and whose saved bytes are written over the zeros.
-    fn merged_with(
-        &self,
-        high: &Class<A>,
-        members: NumberList<A>,
-        after: NumberList<A>,
-        zeros: Vec<u8, A>,
-    ) -> Class<A>
-        requires members { IsNonDecreasing members.items }
-        requires after { IsNonDecreasing after.items }
+    /// Both as one class, with these lists, whose saved bytes are written over the zeros.
+    fn merged_with(&self, high: &Class<A>, lists: Lists<A>, zeros: Vec<u8, A>) -> Class<A>
+        requires members { IsNonDecreasing lists.members }
+        requires after { IsNonDecreasing lists.after }
         requires zeros { zeros.items ≡ replicate (max self.now.stop high.now.stop - min self.now.start high.now.start) 0 }
-        ensures { result ≡ merged self.now high.now members.items after.items result.room }
+        ensures { result ≡ merged self.now high.now lists.members lists.after result.room }
     {
         let start = self.start().min(high.start());
         let stop = self.stop().max(high.stop());
@@ -425,18 +444,16 @@ impl<A: Allocator> Class<A> {
         let mut saved = zeros;
         saved[upper..upper + high.saved.len()].copy_from_slice(&high.saved);
         saved[lower..lower + self.saved.len()].copy_from_slice(&self.saved);
-        let spare = members.spare().min(after.spare());
         Class {
             name: self.lesser_name(high),
             start: start as u16,
             stop: stop as u16,
-            room: u32::try_from(spare).unwrap_or(u32::MAX),
+            room: u32::try_from(lists.spare()).unwrap_or(u32::MAX),
             flying: false,
             hard: false,
             taken: false,
             saved,
-            members,
-            after,
+            lists,
         }
     }
 
@@ -520,8 +537,8 @@ impl<A: Allocator> Class<A> {
         ensures { result
             ≡ list_all (λ n. is_among low.now.members n || is_among high.now.members n) self.now.members }
     {
-        let members = self.members.as_slice();
-        let (these, those) = (low.members.as_slice(), high.members.as_slice());
+        let members = self.lists.members();
+        let (these, those) = (low.lists.members(), high.lists.members());
         is_interleaved(members, these, those)
             || members
                 .iter()
@@ -532,8 +549,8 @@ impl<A: Allocator> Class<A> {
         ensures { result
             ≡ list_all (λ n. is_among low.now.after n || is_among high.now.after n) self.now.after }
     {
-        let names = self.after.as_slice();
-        let (these, those) = (low.after.as_slice(), high.after.as_slice());
+        let names = self.lists.after();
+        let (these, those) = (low.lists.after(), high.lists.after());
         is_interleaved(names, these, those) || names.iter().all(|n| low.names(*n) || high.names(*n))
     }
 
@@ -543,9 +560,9 @@ impl<A: Allocator> Class<A> {
         ensures no_room { has_room_for self.old high.now ≡ false → self.new ≡ self.old }
     {
         if self.has_room_for(high) {
-            let most = high.members.len().max(high.after.len());
-            self.members.put_behind(high.members.as_slice());
-            self.after.put_behind(high.after.as_slice());
+            let (members, names) = (high.lists.members(), high.lists.after());
+            let most = members.len().max(names.len());
+            self.lists.put_behind(members, names);
             self.room -= most as u32;
         }
     }
@@ -661,16 +678,15 @@ impl<A: Allocator> Class<A> {
 /// The numbers of two lists that rise, rising, with room for so many more.
 fn both_lists<A: Allocator + Clone>(
     alloc: &A,
-    these: &NumberList<A>,
-    those: &NumberList<A>,
+    these: &[PatchNo],
+    those: &[PatchNo],
     room: usize,
 ) -> Result<NumberList<A>, OutOfMemory>
-    requires these { IsNonDecreasing these.now.items }
-    requires those { IsNonDecreasing those.now.items }
-    ensures all { IfOk result (λ all. IsPermutation (these.now.items ++ those.now.items) all.items) }
+    requires these { IsNonDecreasing these.now }
+    requires those { IsNonDecreasing those.now }
+    ensures all { IfOk result (λ all. IsPermutation (these.now ++ those.now) all.items) }
     ensures rising { IfOk result (λ all. IsNonDecreasing all.items) }
 {
-    let (these, those) = (these.as_slice(), those.as_slice());
     let wanted = these.len().saturating_add(those.len()).saturating_add(room);
     let mut all = Vec::with_capacity(alloc.clone()?, wanted)?;
     put_both(&mut all, these, those)?;

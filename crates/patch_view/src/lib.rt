@@ -10,6 +10,7 @@ mod classes;
 mod gaps;
 mod images;
 pub mod laws;
+mod lists;
 mod members;
 mod names;
 mod number_lists;
@@ -19,6 +20,7 @@ mod rests;
 mod runs;
 mod spans;
 mod states;
+mod turning;
 mod views;
 
 pub use changes::Joint;

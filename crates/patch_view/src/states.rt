@@ -68,8 +68,40 @@ impl<A: Allocator> BlockState<A> {
     {
         match self.place_by_name(no) {
             Some(at) => Some(at),
+            None => self.place_by_looking(no),
+        }
+    }
+
+    /// The same by looking at each record: at its name first, since a number that is asked for mostly is one.
+    fn place_by_looking(&self, no: PatchNo) -> Option<usize>
+        ensures { result ≡ place_of self.now no }
+    {
+        match self.place_called(no) {
+            Some(at) => Some(at),
             None => self.place_by_asking(no),
         }
+    }
+
+    /// The place of the record whose name is this number, and whose member it is, where no other is known to have it.
+    fn place_called(&self, no: PatchNo) -> Option<usize>
+        ensures { IfSome result (λ at. place_of self.now no ≡ Some at) }
+    {
+        if !self.members.are_apart {
+            return None;
+        }
+        let Some(at) = self.classes.iter().position(|class| class.name() == no) else {
+            return None;
+        };
+        self.has_at(at, no).then_some(at)
+    }
+
+    /// Whether the record at a place has this number among its members.
+    fn has_at(&self, at: usize, no: PatchNo) -> bool
+        requires { at < length self.now.classes }
+        ensures { result ≡ is_among (class_at self.now at).members no }
+    {
+        let class = &self.classes[at];
+        class.includes(no)
     }
 
     /// The same by asking each record.

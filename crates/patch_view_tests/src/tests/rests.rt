@@ -147,17 +147,71 @@ fn pairs_that_share_a_byte_are_merged(rt: HostRuntime) -> Result<(), Fail> {
     Ok(())
 }
 
-// Pairs of which the upper patch lies over the next pair's lower one: each, once merged, rests on the next.
-fn merge_linked_pairs(rt: &impl Abort, block: &mut BlockState) -> Result<(), OutOfMemory> {
+// How the later patch of each pair rests on the earlier one of the next.
+#[derive(Clone, Copy)]
+enum Link {
+    Byte,
+    Name,
+}
+
+fn lay_linked(
+    rt: &impl Abort,
+    block: &mut BlockState,
+    at: u32,
+    link: Link,
+) -> Result<(), OutOfMemory> {
+    assert!(rt; at < 40);
+    let start = at as usize * 2 + 1;
+    match link {
+        Link::Byte => block.lay(PatchNo(at + 41), start, &[7, 7], &[], false),
+        Link::Name => block.lay(PatchNo(at + 41), start, &[7], &[PatchNo(at + 2)], false),
+    }
+}
+
+fn lay_linked_pairs(
+    rt: &impl Abort,
+    block: &mut BlockState,
+    link: Link,
+) -> Result<(), OutOfMemory> {
     for at in 0..40u32 {
         lay_byte(rt, block, at + 1, at as usize * 2)?;
     }
     for at in 0..39u32 {
-        block.lay(PatchNo(at + 41), at as usize * 2 + 1, &[7, 7], &[], false)?;
+        lay_linked(rt, block, at, link)?;
     }
+    Ok(())
+}
+
+// The class of each pair rests on the next one's, and the first is free.
+fn merge_linked_pair(rt: &impl Abort, block: &mut BlockState, at: u32) -> Result<(), OutOfMemory> {
+    assert!(rt; at < 40);
+    join_by(block, at + 1, at + 41)?;
+    expect_rested_on(rt, block, at + 2, at + 1);
+    Ok(())
+}
+
+fn merge_linked_pairs(
+    rt: &impl Abort,
+    block: &mut BlockState,
+    link: Link,
+) -> Result<(), OutOfMemory> {
+    lay_linked_pairs(rt, block, link)?;
     for at in 0..39u32 {
-        join_by(block, at + 1, at + 41)?;
-        expect_rested_on(rt, block, at + 2, at + 1);
+        merge_linked_pair(rt, block, at)?;
+    }
+    expect_free(rt, block, 1);
+    Ok(())
+}
+
+// The way down is long then: what lies between goes down together.
+fn merge_linked_pairs_from_the_last(
+    rt: &impl Abort,
+    block: &mut BlockState,
+    link: Link,
+) -> Result<(), OutOfMemory> {
+    lay_linked_pairs(rt, block, link)?;
+    for passed in 0..39u32 {
+        merge_linked_pair(rt, block, 38 - passed)?;
     }
     expect_free(rt, block, 1);
     Ok(())
@@ -166,7 +220,21 @@ fn merge_linked_pairs(rt: &impl Abort, block: &mut BlockState) -> Result<(), Out
 #[test]
 fn pairs_that_lie_over_the_next_rest_on_it(rt: HostRuntime) -> Result<(), Fail> {
     let mut block = bare(rt.alloc())?;
-    merge_linked_pairs(&rt, &mut block)?;
+    merge_linked_pairs(&rt, &mut block, Link::Byte)?;
+    Ok(())
+}
+
+#[test]
+fn pairs_that_name_the_next_rest_on_it(rt: HostRuntime) -> Result<(), Fail> {
+    let mut block = bare(rt.alloc())?;
+    merge_linked_pairs(&rt, &mut block, Link::Name)?;
+    Ok(())
+}
+
+#[test]
+fn a_chain_may_be_merged_from_its_end(rt: HostRuntime) -> Result<(), Fail> {
+    let mut block = bare(rt.alloc())?;
+    merge_linked_pairs_from_the_last(&rt, &mut block, Link::Byte)?;
     Ok(())
 }
 

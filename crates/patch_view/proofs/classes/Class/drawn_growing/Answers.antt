@@ -1,5 +1,5 @@
 use Rattle.std.proofs.Common.{◌≡◌, ◌∙◌, [], ap}
-use Rattle.patch_view.specs.NumberLists.{NumberList}
+use Rattle.patch_view.specs.Lists.{Lists}
 use Rattle.patch_view.specs.State.{Class, merged}
 use Rattle.patch_view.proofs.Settling.{drawn-growing}
 use Rattle.patch_view.proofs.classes.Class.drawn_growing.Goals as goal
@@ -10,6 +10,5 @@ returns g c =
     let high : Class = c.args.high.now in
     let class : Class = c.merged_with-class.result in
     let is : class ≡ merged low high [] [] class.room =
-    c.merged_with-class.ensures ∙ ap (λ (l : NumberList). merged low high l.items c.none-after.result.items class.room) c.none-members.ensures
-    ∙ ap (λ (l : NumberList). merged low high [] l.items class.room) c.none-after.ensures in
+    c.merged_with-class.ensures ∙ ap (λ (l : Lists). merged low high l.members l.after class.room) c.none.ensures in
     drawn-growing low high class c.requires is

@@ -5,11 +5,11 @@ use Rattle.patch_view.proofs.states.BlockState.loose_under.Goals as goal
 pub loop-init : goal.loop-init
 loop-init g c = (c.requires.down, omega arith)
 
-pub first_under-requires-clause-down : goal.first_under-requires-clause-down
-first_under-requires-clause-down g c = omega (arith, c.loop.invariant.0)
+pub some_under-requires-clause-down : goal.some_under-requires-clause-down
+some_under-requires-clause-down g c = omega (arith, c.loop.invariant.0)
 
-pub first_under-requires-clause-within : goal.first_under-requires-clause-within
-first_under-requires-clause-within g c = omega (arith, c.loop.invariant.1, c.requires.within)
+pub some_under-requires-clause-within : goal.some_under-requires-clause-within
+some_under-requires-clause-within g c = omega (arith, c.loop.invariant.1, c.requires.within)
 
 pub returns-in-None : goal.returns-in-None
 returns-in-None g c = record {
@@ -20,8 +20,8 @@ returns-in-None g c = record {
 
 pub loop-preserved : goal.loop-preserved
 loop-preserved g c =
-    let least : c.args.front ≤ c.in-Some.next = c.in-Some.ensures.found.least in
-    let below : c.in-Some.next < c.loop.at = c.in-Some.ensures.found.below in
+    let least : c.args.front ≤ c.in-Some.next = c.in-Some.ensures.found.0 in
+    let below : c.in-Some.next < c.loop.at = c.in-Some.ensures.found.1 in
     let upto : c.loop.at ≤ c.args.k = c.loop.invariant.1 in
     let other : c.in-Some.next ≢ c.args.front = c.if-next-front.false in
     (omega arith, omega arith)

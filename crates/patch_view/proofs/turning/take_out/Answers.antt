@@ -2,7 +2,7 @@ use Rattle.std.proofs.Common.{◌≡◌, ◌+◌, ◌-◌, ◌<◌, ◌∙◌, l
 use Rattle.std.specs.List.{remove}
 use Rattle.std.proofs.lemmas.List.{with_items_is}
 use Rattle.patch_view.proofs.Rotating.{turned_out, turned_last, length-turned_up}
-use Rattle.patch_view.proofs.changes.take_out.Goals as goal
+use Rattle.patch_view.proofs.turning.take_out.Goals as goal
 
 pub returns-clause-items : goal.returns-clause-items
 returns-clause-items g c =

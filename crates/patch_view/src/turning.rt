@@ -1,0 +1,47 @@
+//! Elements moved within a list, all in one pass.
+ghost use Rattle.std.specs.Prelude.{◌≡◌, ◌-◌, ◌<◌, ◌≤◌, ◌++◌, ◌∷◌, [], length, vec_len, slice_index_or};
+ghost use Rattle.std.specs.List.{insert, remove};
+ghost use Rattle.patch_view.specs.State.{run_down};
+
+use std::alloc::Allocator;
+
+/// Moves what stands at `k` down to the place `front`.
+pub(crate) fn turn_down<T>(list: &mut [T], front: usize, k: usize)
+    requires down { front ≤ k }
+    requires within { k < length list.old }
+    ensures { (d : T) → list.new ≡ insert (remove list.old k) front (slice_index_or list.old k d) }
+{
+    let passed = &mut list[front..k + 1];
+    passed.rotate_right(1);
+}
+
+/// Moves what stands from `k` up to `stop` down to the place `front`.
+pub(crate) fn turn_run_down<T>(list: &mut [T], front: usize, k: usize, stop: usize)
+    requires down { front ≤ k }
+    requires up { k ≤ stop }
+    requires within { stop ≤ length list.old }
+    ensures { (d : T) → list.new ≡ run_down d list.old front k (stop - k) }
+{
+    let passed = &mut list[front..stop];
+    passed.rotate_left(k - front);
+}
+
+/// Takes out what stands at a place. What stands behind it is moved in one pass.
+pub(crate) fn take_out<T, A: Allocator>(list: &mut Vec<T, A>, at: usize) -> T
+    requires { at < vec_len list.old }
+    ensures value { result ≡ slice_index_or list.old.items at result }
+    ensures items { list.new.items ≡ remove list.old.items at }
+{
+    turn_up(list.as_mut_slice(), at);
+    let last = list.len() - 1;
+    list.remove(last)
+}
+
+/// Moves what stands at a place up to the end.
+fn turn_up<T>(list: &mut [T], at: usize)
+    requires { at < length list.old }
+    ensures { (d : T) → list.new ≡ remove list.old at ++ slice_index_or list.old at d ∷ [] }
+{
+    let behind = &mut list[at..];
+    behind.rotate_left(1);
+}
