@@ -523,10 +523,6 @@ first-below b k from to number p a known down is below =
       none = λ m f t. false_from_ne_true _ (λ on. let e : m ≡ p = (a.0 known).once m p number on s.1 in absurd (omega arith));
     }
 
-pub first-nowhere : (b : Block) (from to number : ℕ) → from ≤ to → place_of b number ≡ None → IsFirstWith b from to number to
-first-nowhere b from to number down none =
-    record { least = down; upto = omega arith; is = λ w. absurd (omega arith); none = λ m f t. none_has b number none m }
-
 pub none_above : (b : Block) (m : Members) (number : ℕ) → KnownApart m b.classes → are_below m number ≡ true → (i : ℕ) → is_among (class_at b i).members number ≡ false
 none_above b m number known holds i =
     let parts = and_parts m.are_apart (nat_lt m.newest number) holds in elim (cases_Bool (is_among (class_at b i).members number)) [

@@ -44,6 +44,9 @@ const MOST_CLEARED: usize = 8;
 /// So many steps at most are taken from a class to one on which it depends, to find one that depends on none there and goes down.
 const MOST_PASSED: usize = 4;
 
+/// So many of the numbers that a class names are sought one by one.
+const MOST_NAMED: usize = 4;
+
 /// For so many records room is made where there is none.
 const FIRST_ROOM: usize = 8;
 
@@ -218,8 +221,8 @@ impl<A: Allocator> BlockState<A> {
         forget(&mut self.image);
     }
 
-    /// The first place from one up to that of a class on whose class this one depends directly. Where no number is a member of two records,
-    /// what it names is sought by its numbers, and the others are asked for their bytes alone.
+    /// The first place from one up to that of a class on whose class this one depends directly. Where it names few, and their records are found
+    /// at once, the others are asked for their bytes alone; else each is asked for both.
     fn first_under(&self, from: usize, at: usize) -> Option<usize>
         requires down { from ≤ at }
         requires within { at < length self.now.classes }
@@ -227,7 +230,11 @@ impl<A: Allocator> BlockState<A> {
         ensures none { result ≡ None → (m : ℕ) → from ≤ m → m < at → follows self.now at m ≡ false }
     {
         let class = &self.classes[at];
-        let Some(named) = self.first_named(class.named(), from, at) else {
+        let numbers = class.named();
+        if numbers.len() > MOST_NAMED {
+            return self.first_asked(from, at);
+        }
+        let Some(named) = self.first_named(numbers, from, at) else {
             return self.first_asked(from, at);
         };
         match class.first_met(&self.classes[from..named]) {
@@ -237,8 +244,8 @@ impl<A: Allocator> BlockState<A> {
         }
     }
 
-    /// The first place from one up to another of a class that has one of these numbers; where there is none, that other. None where a number may
-    /// be a member of two records.
+    /// The first place from one up to another of a class that has one of these numbers; where there is none, that other. None where the record of
+    /// one isn't found at once.
     fn first_named(&self, numbers: &[PatchNo], from: usize, to: usize) -> Option<usize>
         requires { from ≤ to }
         ensures { IfSome result (λ k. IsFirstNamed self.now numbers.now from to k) }
@@ -250,8 +257,8 @@ impl<A: Allocator> BlockState<A> {
         Some(first)
     }
 
-    /// The first place from one up to another of a class that has this number; where there is none, that other. None where it may be a
-    /// member of two records.
+    /// The first place from one up to another of a class that has this number; where there is none, that other. None where its record isn't
+    /// found at once, as where it may be a member of two.
     fn first_with(&self, no: PatchNo, from: usize, to: usize) -> Option<usize>
         requires { from ≤ to }
         ensures { IfSome result (λ k. IsFirstWith self.now from to no k) }
@@ -259,8 +266,8 @@ impl<A: Allocator> BlockState<A> {
         if !self.members.are_apart {
             return None;
         }
-        let Some(place) = self.place_of(no) else {
-            return Some(to);
+        let Some(place) = self.place_at_once(no) else {
+            return None;
         };
         if to <= place {
             return Some(to);

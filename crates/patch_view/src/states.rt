@@ -66,19 +66,19 @@ impl<A: Allocator> BlockState<A> {
     pub(crate) fn place_of(&self, no: PatchNo) -> Option<usize>
         ensures { result ≡ place_of self.now no }
     {
-        match self.place_by_name(no) {
+        match self.place_at_once(no) {
             Some(at) => Some(at),
-            None => self.place_by_looking(no),
+            None => self.place_by_asking(no),
         }
     }
 
-    /// The same by looking at each record: at its name first, since a number that is asked for mostly is one.
-    fn place_by_looking(&self, no: PatchNo) -> Option<usize>
-        ensures { result ≡ place_of self.now no }
+    /// The same where it takes a look at names alone, since a number that is asked for mostly is one.
+    pub(crate) fn place_at_once(&self, no: PatchNo) -> Option<usize>
+        ensures { IfSome result (λ at. place_of self.now no ≡ Some at) }
     {
-        match self.place_called(no) {
+        match self.place_by_name(no) {
             Some(at) => Some(at),
-            None => self.place_by_asking(no),
+            None => self.place_called(no),
         }
     }
 
