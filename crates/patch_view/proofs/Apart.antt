@@ -10,7 +10,8 @@ use Rattle.patch_model.specs.Entry.{is_among}
 use Rattle.patch_model.specs.Member.{list_any-at, list_all-at}
 use Rattle.patch_view.specs.declared.members.Members.{Members}
 use Rattle.patch_view.specs.Members.{with_member, in_disorder, joined, are_below, is_next}
-use Rattle.patch_view.specs.State.{IsFirstWith, Class, Block, class_at, no_class, place_of, AreApart, AreNamesBelow, AreRising, KnownApart, MembersOf}
+use Rattle.patch_view.specs.Unders.{IsEndWith}
+use Rattle.patch_view.specs.State.{Class, Block, class_at, no_class, place_of, AreApart, AreNamesBelow, AreRising, KnownApart, MembersOf}
 use Rattle.patch_view.proofs.Answering.{position-None}
 use Rattle.patch_view.proofs.Marking.{stood, stood_is, at_stood}
 use Rattle.patch_view.proofs.Moving.{came, came_is, at_came}
@@ -501,26 +502,25 @@ none_has b number none i = elim (cases_lt i (length b.classes)) [
   | inr past ↦ none_among b.classes i number past
 ]
 
--- the first of some places with a number: the one where it is found, if that is among them
-pub first-here : (b : Block) (from to number p : ℕ) → place_of b number ≡ Some p → from ≤ p → p < to → IsFirstWith b from to number p
-first-here b from to number p is least less =
-    let s = position-Some (λ c. is_among c.members number) b.classes p no_class is in
-    record { least = least; upto = omega arith; is = λ w. s.1; none = λ m f t. s.2 m t }
-
-pub first-above : (b : Block) (from to number p : ℕ) → from ≤ to → place_of b number ≡ Some p → to ≤ p → IsFirstWith b from to number to
-first-above b from to number p down is above =
-    let s = position-Some (λ c. is_among c.members number) b.classes p no_class is in
-    record { least = down; upto = omega arith; is = λ w. absurd (omega arith); none = λ m f t. s.2 m (omega arith) }
-
-pub first-below : (b : Block) (k : Members) (from to number p : ℕ) → KnownApart k b.classes → k.are_apart ≡ true → from ≤ to → place_of b number ≡ Some p → p < from
-    → IsFirstWith b from to number to
-first-below b k from to number p a known down is below =
+-- from which place on no class has a number that is found at one
+pub with-here : (b : Block) (k : Members) (from to number p : ℕ) → KnownApart k b.classes → k.are_apart ≡ true → place_of b number ≡ Some p → from ≤ p → p < to
+    → IsEndWith b number from to (p + 1)
+with-here b k from to number p a known is least less =
     let s = position-Some (λ c. is_among c.members number) b.classes p no_class is in
     record {
-      least = down;
+      least = omega arith;
       upto = omega arith;
-      is = λ w. absurd (omega arith);
       none = λ m f t. false_from_ne_true _ (λ on. let e : m ≡ p = (a.0 known).once m p number on s.1 in absurd (omega arith));
+    }
+
+pub with-none : (b : Block) (k : Members) (from to number p : ℕ) → KnownApart k b.classes → k.are_apart ≡ true → place_of b number ≡ Some p → from ≤ to → (from ≤ p → p < to → ⊥)
+    → IsEndWith b number from to from
+with-none b k from to number p a known is down away =
+    let s = position-Some (λ c. is_among c.members number) b.classes p no_class is in
+    record {
+      least = omega arith;
+      upto = down;
+      none = λ m f t. false_from_ne_true _ (λ on. let e : m ≡ p = (a.0 known).once m p number on s.1 in absurd (away (omega arith) (omega arith)));
     }
 
 pub none_above : (b : Block) (m : Members) (number : ℕ) → KnownApart m b.classes → are_below m number ≡ true → (i : ℕ) → is_among (class_at b i).members number ≡ false

@@ -13,7 +13,7 @@ use Rattle.patch_skyline.specs.Skyline.{top_at, has_byte}
 use Rattle.patch_view.specs.declared.members.Members.{Members}
 use Rattle.patch_view.specs.Members.{with_member, joined}
 use Rattle.patch_view.specs.State.{AreRising, Class, Block, class_at, no_class, spans, meets, names, follows, has_room_for, with_lists, with_lists_of, KnownApart, IsOnlyNamed}
-use Rattle.patch_view.specs.Rests.{Rests, no_rests, begun, IsLaidOver, IsLaidOn, IsFree, IsLoose, Covers, KnownRests, IsUnion}
+use Rattle.patch_view.specs.Rests.{Rests, no_rests, begun, IsLaidOver, IsLaidOn, IsFree, IsLoose, AreUnnamed, Covers, KnownRests, IsUnion}
 use Rattle.patch_view.proofs.Exchange.{spans-from, spans-at}
 use Rattle.patch_view.proofs.Marking.{stood, stood_is, at_stood}
 use Rattle.patch_view.proofs.Moving.{came, came_facts, came_within, at_came, length-moved}
@@ -533,6 +533,13 @@ settled_rests cs rest low high lower upper both m of free greater rests t union 
       within = t.within;
       free = λ k x from to on also. both_ways _ (none f.1 k from to) (shared-follows b high k x to on also);
     }) (subst (λ (z : Class). IsUnion both z (get_or cs high no_class)) t.lower_is (subst (λ (z : Class). IsUnion both lower z) t.upper_is (union p.1))) (known r is p.0))
+
+-- no class names a member of one of which that is told
+pub unnamed-names : (newest : ℕ) (r : Rests) (b : Block) (at : ℕ) → Covers newest r b.classes → AreUnnamed r (class_at b at).members
+    → (k : ℕ) → names (class_at b k) (class_at b at) ≡ false
+unnamed-names newest r b at c unnamed k = false_from_ne_true _ (λ n.
+    let q = list_any-at (λ m. is_among (class_at b at).members m) (class_at b k).after n in
+    both_ways _ (unnamed q.0 q.2) (c.names k q.0 (In-among (class_at b k).after q.0 q.1)))
 
 -- nothing rests on a class of which that is told
 pub free-follows : (newest : ℕ) (r : Rests) (b : Block) (at : ℕ) → Covers newest r b.classes

@@ -1,5 +1,5 @@
 -- One class brought up to another.
-use Rattle.std.proofs.Common.{◌≡◌, ℕ, ◌+◌, ◌-◌, ◌<◌, ◌≤◌, ◌∙◌, Bool, true, false, not, inl, inr, List, Option, [], ◌∷◌, ◌⊎◌, length, map, min, max, refl, sym, ap, arith, subst}
+use Rattle.std.proofs.Common.{◌≡◌, ℕ, ◌+◌, ◌-◌, ◌<◌, ◌≤◌, ◌∙◌, Bool, true, false, not, inl, inr, List, Option, [], ◌∷◌, ◌⊎◌, length, map, min, refl, sym, ap, arith, subst}
 use Rattle.std.specs.Prelude.{◌≢◌, ◌==◌, ◌&&◌, ◌||◌, Some, None, nat_le, nat_lt}
 use Rattle.std.specs.List.{list_any}
 use Rattle.patch_model.specs.Member.{list_any-at, list_any-from, In, Contains-from_In}
@@ -21,9 +21,10 @@ use Rattle.patch_view.specs.Answers.{IsPatch}
 use Rattle.std.proofs.lemmas.List.Quantifiers.{position-Some}
 use Rattle.std.proofs.lemmas.Bool.{cases_eq, cases_lt, both_ways, and_parts, and_from, or_left, or_right, eq-eqb, eqb-true, lt-ltb, leb-true, false_from_ne_true}
 use Rattle.patch_view.specs.History.{IsCoherent, with_joined}
-use Rattle.patch_view.specs.State.{Class, Block, Joint, IsJoint, IsFirstUnder, IsLooseUnder, class_at, no_class, follows, moved_down, spans, may_be_taken, IsMerged, settled_at, place_of}
-use Rattle.patch_view.specs.Meaning.{IsClassOf, Represents, IsGatheredTo, IsClearedTo}
-use Rattle.patch_view.proofs.Preceding.{rests}
+use Rattle.patch_view.specs.State.{Class, Block, Joint, IsJoint, class_at, no_class, follows, moved_down, spans, may_be_taken, IsMerged, settled_at, place_of}
+use Rattle.patch_view.specs.declared.places.Places.{Places}
+use Rattle.patch_view.specs.Meaning.{IsClassOf, Represents, IsGatheredTo, IsGathered, IsOnWay, IsClearedTo}
+use Rattle.patch_view.proofs.Ending.{rests}
 use Rattle.patch_view.proofs.Moving.{came, came-past, came-behind, moves, length-moved, at_came}
 
 pub gathered_none : (b : Block) (low high : ℕ) → low < high → IsGatheredTo b b low high low (low + 1)
@@ -96,37 +97,6 @@ gathered_move old new low high front k within g free =
           (subst (λ c. Path h.entries (class_at new (i - 1)).name c.name) (sym first) (g.carried h r (i - 1) (omega arith) (omega arith)));
     }
 
-pub cleared_none : (b : Block) (low high : ℕ) → low < high → IsClearedTo b b low high low (low + 1)
-cleared_none b low high less = record {
-  from = omega arith;
-  to = omega arith;
-  upto = omega arith;
-  same_bytes = refl;
-  long = refl;
-  same_low = refl;
-  same_rest = λ i f. refl;
-  represents = λ h r. r;
-  free = λ m f t. absurd (omega arith);
-}
-
--- where the class at high depends on none of those above, either
-pub cleared_all : (old new : Block) (low high front k : ℕ) → IsClearedTo old new low high front k
-    → ((m : ℕ) → k ≤ m → m < high → follows new high m ≡ false) → IsClearedTo old new low high front high
-cleared_all old new low high front k c none =
-    let to = c.to in
-    let upto = c.upto in
-    record {
-      from = c.from;
-      to = omega arith;
-      upto = omega arith;
-      same_bytes = c.same_bytes;
-      long = c.long;
-      same_low = c.same_low;
-      same_rest = λ i f. c.same_rest i (omega arith);
-      represents = c.represents;
-      free = λ m f t. elim (cases_lt m k) [ inl before ↦ c.free m f before | inr behind ↦ none m behind t ];
-    }
-
 pub follows-same : (old new : Block) (i j m : ℕ) → j < i → m < i → class_at new i ≡ class_at old i → class_at new j ≡ class_at old m → follows old i m ≡ false → follows new i j ≡ false
 follows-same old new i j m less less' same same' is =
     let t : nat_lt j i ≡ true = lt-ltb _ _ less in
@@ -134,61 +104,6 @@ follows-same old new i j m less less' same same' is =
     ap (λ (z : Bool). z && rests (class_at new i) (class_at new j)) t
     ∙ ap (λ (c : Class). rests c (class_at new j)) same ∙ ap (rests (class_at old i)) same'
     ∙ sym (ap (λ (z : Bool). z && rests (class_at old i) (class_at old m)) u) ∙ is
-
--- the next one on which it depends goes below, or one below that one: then it is looked at again
-pub cleared_move : (old new : Block) (low high front from next k : ℕ) → high < length old.classes → IsClearedTo old new low high front from
-    → IsFirstUnder new from high next → IsLooseUnder new front next k → IsClearedTo old (moved_down new front k) low high (front + 1) (max next (k + 1))
-cleared_move old new low high front from next k within c first loose =
-    let to = c.to in
-    let long = c.long in
-    let low_from = c.from in
-    let first_from = first.least in
-    let first_to = first.below in
-    let above = loose.above in
-    let below = loose.upto in
-    let down : front ≤ k = omega arith in
-    let w_k : k < length new.classes = omega arith in
-    let at_ : (i : ℕ) → class_at (moved_down new front k) i ≡ class_at new (came front k i) = (λ i. at_came new front k i down w_k) in
-    let behind : (i : ℕ) → k < i → class_at (moved_down new front k) i ≡ class_at new i = (λ i t. at_ i ∙ ap (class_at new) (came-behind front k i down t)) in
-    let past : (i : ℕ) → front < i → i ≤ k → class_at (moved_down new front k) i ≡ class_at new (i - 1) = (λ i f t. at_ i ∙ ap (class_at new) (came-past front k i f t)) in
-    let known : (m : ℕ) → front < m → m < next → follows new high m ≡ false = (λ m f t. elim (cases_lt m from) [ inl before ↦ c.free m f before | inr there ↦ first.none m there t ]) in
-    record {
-      from = omega arith;
-      to = omega arith;
-      upto = omega arith;
-      same_bytes = c.same_bytes;
-      long = length-moved new.classes (class_at new k) front k down w_k ∙ c.long;
-      same_low = past (front + 1) (omega arith) (omega arith) ∙ ap (class_at new) (let e : front + 1 - 1 ≡ front = omega arith in e) ∙ c.same_low;
-      same_rest = λ i f. behind i (omega arith) ∙ c.same_rest i (omega arith);
-      represents = λ h r. moves new [] h front k (c.represents h r) down w_k loose.loose;
-      free = λ m f t. elim (cases_lt k m) [
-        | inl over ↦ follows-same new (moved_down new front k) high m m (omega arith) (omega arith) (behind high (omega arith)) (behind m over) (known m (omega arith) (omega arith))
-        | inr upto ↦ follows-same new (moved_down new front k) high m (m - 1) (omega arith) (omega arith) (behind high (omega arith)) (past m (omega arith) upto)
-            (known (m - 1) (omega arith) (omega arith))
-      ];
-    }
-
-pub cleared_through : (old mid new : Block) (low high front from next k : ℕ) → high < length old.classes → IsClearedTo old mid low high front from
-    → IsFirstUnder mid from high next → IsLooseUnder mid front next k → new ≡ moved_down mid front k → IsClearedTo old new low high (front + 1) (max next (k + 1))
-cleared_through old mid new low high front from next k within c first loose is =
-    subst (λ b. IsClearedTo old b low high (front + 1) (max next (k + 1))) (sym is) (cleared_move old mid low high front from next k within c first loose)
-
--- what is cleared and then gathered is gathered
-pub cleared_gathered : (old mid new : Block) (low high front up k : ℕ) → IsClearedTo old mid low high front k → IsGatheredTo mid new front high up high → IsGatheredTo old new low high up high
-cleared_gathered old mid new low high front up k c g =
-    let from = c.from in
-    let upto = c.upto in
-    let g_from = g.from in
-    record {
-      from = omega arith;
-      to = g.to;
-      same_bytes = g.same_bytes ∙ c.same_bytes;
-      long = g.long ∙ c.long;
-      same_low = g.same_low ∙ c.same_low;
-      same_rest = λ i f. g.same_rest i f ∙ c.same_rest i (omega arith);
-      represents = λ h r. g.represents h (c.represents h r);
-      carried = λ h r i f t. g.carried h (c.represents h r) i f t;
-    }
 
 -- a patch's bytes are in its class's span
 member-span : (h : History) (k : Class) (e : Entry) → IsCoherent h → IsClassOf h [] k → In h.entries e → e.class ≡ k.name → (k.start ≤ e.patch.start) × (end e.patch ≤ k.stop)
@@ -249,7 +164,7 @@ free-joins b h low high c is_c less within r none may = placed-joins b h low hig
     sym (linked_as r high k within w_k apart) ∙ none k (omega arith) t)
 
 -- on a clear way, the two may be made one
-pub cleared-joins : (old new : Block) (h : History) (low high front : ℕ) (c : Class) → IsMerged (class_at old low) (class_at old high) c → high < length old.classes → Represents old [] h → IsClearedTo old new low high front high
+pub cleared-joins : (old new : Block) (h : History) (low high front : ℕ) (c : Class) → IsMerged (class_at old low) (class_at old high) c → high < length old.classes → Represents old [] h → IsClearedTo old new low high front
     → MayJoin h.entries (class_at old low).name (class_at old high).name
     → Represents (settled_at new front high c) [] (with_joined h (class_at old low).name (class_at old high).name)
 cleared-joins old new h low high front c is_c within r way may =
@@ -266,30 +181,41 @@ cleared-joins old new h low high front c is_c within r way may =
     (subst (λ z. Represents (settled_at new front high c) [] (with_joined h (class_at new front).name z.name)) (sym same_high)
     (free-joins new h front high c is_new to w_h (way.represents h r) (λ k f t. way.free k (omega arith) t) m))
 
--- gathered, the two may be made one
-pub gathered-joins : (old new : Block) (h : History) (low high front : ℕ) (c : Class) → IsMerged (class_at old low) (class_at old high) c → low < high → high < length old.classes → Represents old [] h → IsGatheredTo old new low high front high
-    → MayJoin h.entries (class_at old low).name (class_at old high).name
+-- what the higher one doesn't follow above a place up to which another is gathered, it doesn't follow then
+pub gathered-free : (mid new : Block) (low high front stop m : ℕ) → IsGathered mid new low stop front → stop ≤ high → stop ≤ m → m < high → follows mid high m ≡ false
+    → follows new high m ≡ false
+gathered-free mid new low high front stop m g upto above t is = follows-same mid new high m m t t (g.same_rest high upto) (g.same_rest m above) is
+
+-- where it is gathered up to a place, and the higher one follows none from there on, the two may be made one
+pub gathered-joins : (old mid new : Block) (h : History) (low high front : ℕ) (run : Places) (c : Class) → IsMerged (class_at old low) (class_at old high) c → high < length old.classes → Represents old [] h
+    → IsOnWay old mid low high run → IsGathered mid new low run.to front → MayJoin h.entries (class_at old low).name (class_at old high).name
     → Represents (settled_at new front high c) [] (with_joined h (class_at old low).name (class_at old high).name)
-gathered-joins old new h low high front c is_c less within r g may =
-    let s = g.represents h r in
-    let long = g.long in
+gathered-joins old mid new h low high front run c is_c within r way g may =
+    let s = g.represents h (way.represents h r) in
+    let long : length new.classes ≡ length old.classes = g.long ∙ way.long in
     let to = g.to in
+    let upto = way.upto in
     let w_f : front < length new.classes = omega arith in
     let w_h : high < length new.classes = omega arith in
-    let same_low : class_at old low ≡ class_at new front = sym g.same_low in
-    let same_high : class_at old high ≡ class_at new high = sym (g.same_rest high (omega arith)) in
+    let same_low : class_at old low ≡ class_at new front = sym (g.same_low ∙ way.same_low) in
+    let same_high : class_at old high ≡ class_at new high = sym (g.same_rest high upto ∙ way.same_rest high (omega arith)) in
     let m : MayJoin h.entries (class_at new front).name (class_at new high).name =
     subst (λ n. MayJoin h.entries n (class_at new high).name) (ap (λ c. c.name) same_low) (subst (λ n. MayJoin h.entries (class_at old low).name n) (ap (λ c. c.name) same_high) may) in
     let is_new : IsMerged (class_at new front) (class_at new high) c =
     subst (λ z. IsMerged z (class_at new high) c) same_low (subst (λ z. IsMerged (class_at old low) z c) same_high is_c) in
     subst (λ z. Represents (settled_at new front high c) [] (with_joined h z.name (class_at old high).name)) (sym same_low)
     (subst (λ z. Represents (settled_at new front high c) [] (with_joined h (class_at new front).name z.name)) (sym same_high)
-    (placed-joins new h front high c is_new to w_h s m (λ k f t. false_from_ne_true (class_depends h.entries (class_at new high).name (class_at new k).name) (λ on.
+    (placed-joins new h front high c is_new (omega arith) w_h s m (λ k f t.
     let w_k : k < length new.classes = omega arith in
     let not_high : (class_at new high).name ≢ (class_at new k).name = (λ z. let e : high ≡ k = s.distinct high k w_h w_k z in omega arith) in
-    let not_low : (class_at new k).name ≢ (class_at new front).name = (λ z. let e : k ≡ front = s.distinct k front w_k w_f z in omega arith) in
-    m.none_between (class_at new k).name not_low (λ z. not_high (sym z))
-    (inr (one on, g.carried h r k f t))))))
+    elim (cases_lt k run.to) [
+      | inl carried ↦ false_from_ne_true (class_depends h.entries (class_at new high).name (class_at new k).name) (λ on.
+          let not_low : (class_at new k).name ≢ (class_at new front).name = (λ z. let e : k ≡ front = s.distinct k front w_k w_f z in omega arith) in
+          m.none_between (class_at new k).name not_low (λ z. not_high (sym z))
+          (inr (one on, g.carried h (way.represents h r) k f carried)))
+      | inr above ↦ sym (linked_as s high k w_h w_k not_high)
+          ∙ gathered-free mid new low high front run.to k g upto above t (way.free k above t)
+    ])))
 
 pub joined-comm : (c d : ℕ) (e : Entry) → joined c d e ≡ joined d c e
 joined-comm c d e = elim (cases_in c d e) [

@@ -20,9 +20,10 @@ pub mod Marking
 pub mod Joining
 pub mod Moving
 pub mod Rotating
-pub mod Preceding
+pub mod Ending
 pub mod Gathering
 pub mod Running
+pub mod Clearing
 pub mod Settling
 pub mod Lawful
 pub mod Sweeping

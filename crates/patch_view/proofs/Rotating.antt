@@ -69,18 +69,6 @@ turned_last cs turned at last x d within long is =
 pub length-turned_up : {X : Type 0} (cs : List X) (at : ℕ) (x : X) → at < length cs → length (remove cs at ++ x ∷ []) ≡ length cs
 length-turned_up cs at x within = let l = length-remove cs at within in let m = length-append (remove cs at) (x ∷ []) in omega arith
 
--- as a slice that was turned gives it
-pub moved_down-by_turn : {X : Type 0} (cs part : List X) (front k : ℕ) (d : X) → front ≤ k → k < length cs
-    → part ≡ drop (length (take (k + 1 - front) (drop front cs)) - 1) (take (k + 1 - front) (drop front cs))
-    ++ take (length (take (k + 1 - front) (drop front cs)) - 1) (take (k + 1 - front) (drop front cs))
-    → take front cs ++ (part ++ drop (k + 1 - front) (drop front cs)) ≡ insert (remove cs k) front (get_or cs k d)
-unfolding turned
-moved_down-by_turn cs part front k d down within is =
-    let n : length (take (k + 1 - front) (drop front cs)) - 1 ≡ k - front = grind (arith, places) in
-    let same : part ≡ drop (k - front) (take (k + 1 - front) (drop front cs)) ++ take (k - front) (take (k + 1 - front) (drop front cs)) =
-    is ∙ ap (λ z. drop z (take (k + 1 - front) (drop front cs)) ++ take z (take (k + 1 - front) (drop front cs))) n in
-    ap (λ p. take front cs ++ (p ++ drop (k + 1 - front) (drop front cs))) same ∙ turned-moves cs front k d down within
-
 -- A run of elements moved down, one after the other.
 
 pub length-run_down : {X : Type 0} (d : X) (xs : List X) (front k m : ℕ) → front ≤ k → k + m ≤ length xs → length (run_down d xs front k m) ≡ length xs

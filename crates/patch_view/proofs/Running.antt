@@ -28,7 +28,7 @@ run-from cs front k m i down within = elim (cases_lt i front) [
 ]
 
 -- the next of the run depends on none of those that it is to pass
-run-free : (b : Block) (front k m : ℕ) → front ≤ k → k + suc m ≤ length b.classes → ((j p : ℕ) → k ≤ j → j < k + suc m → front ≤ p → p < k → follows b j p ≡ false)
+pub run-free : (b : Block) (front k m : ℕ) → front ≤ k → k + suc m ≤ length b.classes → ((j p : ℕ) → k ≤ j → j < k + suc m → front ≤ p → p < k → follows b j p ≡ false)
     → (p : ℕ) → front + m ≤ p → p < k + m → follows (run_moved_down b front k m) (k + m) p ≡ false
 run-free b front k m down within free p from to =
     follows-same b (run_moved_down b front k m) (k + m) p (p - m) to (omega arith)

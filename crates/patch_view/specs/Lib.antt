@@ -16,3 +16,4 @@ pub mod Held
 pub mod Lists
 pub mod Kept
 pub mod Rests
+pub mod Unders

@@ -58,6 +58,10 @@ pub record IsLaidOn (old : Option Rests) (new : Rests) (top : Span) (names : Lis
 abbrev pub HasTopsOf : Rests → List ℕ → ℕ → ℕ → Type 0
 HasTopsOf r members start stop = (n : ℕ) → IsTopWithin r.tops start stop n → is_among members n ≡ true
 
+-- none of these is named
+abbrev pub AreUnnamed : Rests → List ℕ → Type 0
+AreUnnamed r members = (n : ℕ) → is_among members n ≡ true → is_among r.named n ≡ false
+
 -- nothing that is known rests on a class of these members and these bytes
 pub record IsFree (r : Rests) (members : List ℕ) (start stop : ℕ) : Type 0 where
   pub some : start < stop

@@ -84,33 +84,6 @@ meets c d = nat_lt c.start d.stop && nat_lt d.start c.stop
 abbrev pub follows : Block → ℕ → ℕ → Bool
 follows b i j = nat_lt j i && (meets (class_at b i) (class_at b j) || names (class_at b i) (class_at b j))
 
--- of the places from one up to that of a class, k is the first with a class on which this one depends directly
-pub record IsFirstUnder (b : Block) (from at k : ℕ) : Type 0 where
-  pub least : from ≤ k
-  pub below : k < at
-  pub is : follows b at k ≡ true
-  pub none : (m : ℕ) → from ≤ m → m < k → follows b at m ≡ false
-
--- of the places from one up to another, k is the first with a class that has this number; where there is none, it is that other
-pub record IsFirstWith (b : Block) (from to number k : ℕ) : Type 0 where
-  pub least : from ≤ k
-  pub upto : k ≤ to
-  pub is : k < to → is_among (class_at b k).members number ≡ true
-  pub none : (m : ℕ) → from ≤ m → m < k → is_among (class_at b m).members number ≡ false
-
--- the same of a class that has one of these numbers
-pub record IsFirstNamed (b : Block) (numbers : List ℕ) (from to k : ℕ) : Type 0 where
-  pub least : from ≤ k
-  pub upto : k ≤ to
-  pub is : k < to → list_any (λ n. is_among (class_at b k).members n) numbers ≡ true
-  pub none : (m : ℕ) → from ≤ m → m < k → list_any (λ n. is_among (class_at b m).members n) numbers ≡ false
-
--- the class at this place above another one, up to k, depends directly on none between the two, nor on the other
-pub record IsLooseUnder (b : Block) (front k at : ℕ) : Type 0 where
-  pub above : front < at
-  pub upto : at ≤ k
-  pub loose : (m : ℕ) → front ≤ m → m < at → follows b at m ≡ false
-
 abbrev pub place_of : Block → ℕ → Option ℕ
 place_of b number = position (λ c. is_among c.members number) b.classes
 

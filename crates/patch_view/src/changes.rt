@@ -9,13 +9,13 @@ ghost use Rattle.patch_model.specs.Names.{numbers_named};
 ghost use Rattle.patch_model.specs.Orderly.{IsOrderlyBlock};
 ghost use Rattle.patch_model.specs.State.{landed};
 ghost use Rattle.patch_view.specs.State.{follows, with_laid, unlaid_class, laid_over, covering, IsLaid, departed_at, landed_at, with_departed, HasDeparted, AreDeparting};
-ghost use Rattle.patch_view.specs.State.{IsFirstUnder, IsFirstNamed, IsFirstWith, IsLooseUnder, IsRunEnd, with_one_departed, with_one_landed, with_landed, FlyingWithin, AllFlyAt, moved_down, run_moved_down, IsJoint, IsJointAt, has_places};
+ghost use Rattle.patch_view.specs.State.{class_at, names, IsRunEnd, with_one_departed, with_one_landed, with_landed, FlyingWithin, AllFlyAt, run_moved_down, IsJoint, IsJointAt, has_places};
 ghost use Rattle.patch_view.specs.Members.{with_member};
 ghost use Rattle.patch_view.specs.Rests.{IsLaidOn, begun, top_of};
 ghost use Rattle.patch_view.specs.Images.{StaysIf};
 ghost use Rattle.patch_view.specs.Places.{IsRange};
 ghost use Rattle.patch_view.specs.History.{unpatched, MayLand, with_mark};
-ghost use Rattle.patch_view.specs.Meaning.{Represents, IsCleared, IsGathered};
+ghost use Rattle.patch_view.specs.Meaning.{Represents, IsCleared, IsLowered, IsGathered};
 ghost use Rattle.patch_view.specs.Answers.{IsPatch};
 ghost use Rattle.patch_view.specs.Changes.{Lays, Enters, Settles, JoinsPlaces, JoinsBy, Joins, DepartsEach};
 
@@ -30,7 +30,7 @@ use crate::number_lists::NumberList;
 use crate::places::Places;
 use crate::rests::{Rests, lay_over};
 use crate::states::{BlockState, FEW};
-use crate::turning::{take_out, turn_down, turn_run_down};
+use crate::turning::{take_out, turn_run_down};
 use patch_model::{BLOCK, BlockBytes, Named, OutOfMemory, PatchNo};
 use std::alloc::{Allocator, Global};
 use std::marker::Model;
@@ -38,14 +38,8 @@ use std::marker::Model;
 /// So many classes that depart are searched for one after another.
 const MOST_SOUGHT: usize = 4;
 
-/// So many classes at most go down one by one to clear the way for one that is to be made one with a lower class.
-const MOST_CLEARED: usize = 8;
-
-/// So many steps at most are taken from a class to one on which it depends, to find one that depends on none there and goes down.
-const MOST_PASSED: usize = 4;
-
-/// So many of the numbers that a class names are sought one by one.
-const MOST_NAMED: usize = 4;
+/// So often at most a class is looked for that goes down to clear the way for one that is to be made one with a lower class.
+const MOST_LOOKS: usize = 9;
 
 /// For so many records room is made where there is none.
 const FIRST_ROOM: usize = 8;
@@ -67,11 +61,11 @@ impl<A: Allocator> Model for Joint<A> {
     ghost view = { λ j. record { low = j.low; high = j.high; drawn = j.drawn } };
 }
 
-/// The way down for a class that is to be made one with a lower one, which stands at this place now.
+/// The way down for a class that is to be made one with a lower one.
 enum Way {
-    /// The higher one depends directly on none between.
+    /// The lower one stands at this place now, and the higher one depends directly on none between.
     Clear(usize),
-    /// It may depend on some.
+    /// The lower one stands where it stood, and the higher one depends directly on none from this place on.
     Barred(usize),
 }
 
@@ -88,6 +82,7 @@ impl<A: Allocator> BlockState<A> {
             members: Members::none(),
             rests: None,
             image: None,
+            joined_at: 0,
         }
     }
 
@@ -207,159 +202,47 @@ impl<A: Allocator> BlockState<A> {
         }
     }
 
-    /// Moves the class at `k` down to the place `front`, past classes on which it doesn't depend.
-    fn move_down(&mut self, front: usize, k: usize)
-        requires down { front ≤ k }
-        requires within { k < length self.old.classes }
-        requires free { (m : ℕ) → front ≤ m → m < k → follows self.old k m ≡ false }
-        ensures { self.new ≡ moved_down self.old front k }
-    {
-        turn_down(self.classes.as_mut_slice(), front, k);
-        self.members = self.members.in_disorder();
-        self.taken = self.taken.spread(self.classes.len());
-        self.flying = self.flying.spread(self.classes.len());
-        forget(&mut self.image);
-    }
-
-    /// The first place from one up to that of a class on whose class this one depends directly. Where it names few, and their records are found
-    /// at once, the others are asked for their bytes alone; else each is asked for both.
-    fn first_under(&self, from: usize, at: usize) -> Option<usize>
-        requires down { from ≤ at }
-        requires within { at < length self.now.classes }
-        ensures found { IfSome result (λ k. IsFirstUnder self.now from at k) }
-        ensures none { result ≡ None → (m : ℕ) → from ≤ m → m < at → follows self.now at m ≡ false }
-    {
-        let class = &self.classes[at];
-        let numbers = class.named();
-        if numbers.len() > MOST_NAMED {
-            return self.first_asked(from, at);
-        }
-        let Some(named) = self.first_named(numbers, from, at) else {
-            return self.first_asked(from, at);
-        };
-        match class.first_met(&self.classes[from..named]) {
-            Some(passed) => Some(from + passed),
-            None if named < at => Some(named),
-            None => None,
-        }
-    }
-
-    /// The first place from one up to another of a class that has one of these numbers; where there is none, that other. None where the record of
-    /// one isn't found at once.
-    fn first_named(&self, numbers: &[PatchNo], from: usize, to: usize) -> Option<usize>
-        requires { from ≤ to }
-        ensures { IfSome result (λ k. IsFirstNamed self.now numbers.now from to k) }
-    {
-        let mut first = to;
-        for no in numbers {
-            first = self.first_with(*no, from, first)?;
-        }
-        Some(first)
-    }
-
-    /// The first place from one up to another of a class that has this number; where there is none, that other. None where its record isn't
-    /// found at once, as where it may be a member of two.
-    fn first_with(&self, no: PatchNo, from: usize, to: usize) -> Option<usize>
-        requires { from ≤ to }
-        ensures { IfSome result (λ k. IsFirstWith self.now from to no k) }
-    {
-        if !self.members.are_apart {
-            return None;
-        }
-        let Some(place) = self.place_at_once(no) else {
-            return None;
-        };
-        if to <= place {
-            return Some(to);
-        }
-        if place < from {
-            return Some(to);
-        }
-        Some(place)
-    }
-
-    /// The first place from one up to that of a class on whose class this one depends directly, found by asking each.
-    fn first_asked(&self, from: usize, at: usize) -> Option<usize>
-        requires down { from ≤ at }
-        requires within { at < length self.now.classes }
-        ensures found { IfSome result (λ k. IsFirstUnder self.now from at k) }
-        ensures none { result ≡ None → (m : ℕ) → from ≤ m → m < at → follows self.now at m ≡ false }
-    {
-        let class = &self.classes[at];
-        let between = &self.classes[from..at];
-        match class.first_rested_on(between) {
-            Some(passed) => Some(from + passed),
-            None => None,
-        }
-    }
-
-    /// A place from one up to that of a class on whose class this one depends directly: the one right below it, if that is such a one, as in a
-    /// chain; else the first.
-    fn some_under(&self, from: usize, at: usize) -> Option<usize>
-        requires down { from ≤ at }
-        requires within { at < length self.now.classes }
-        ensures found { IfSome result (λ k. (from ≤ k) × (k < at)) }
-        ensures none { result ≡ None → (m : ℕ) → from ≤ m → m < at → follows self.now at m ≡ false }
-    {
-        if from < at && self.follows_at(at, at - 1) {
-            return Some(at - 1);
-        }
-        self.first_under(from, at)
-    }
-
-    /// Whether the class at `k` depends directly on one from `front` up to it.
-    fn follows_any(&self, front: usize, k: usize) -> bool
-        requires down { front ≤ k }
-        requires within { k < length self.now.classes }
-        ensures no { IsFalse result → (m : ℕ) → front ≤ m → m < k → follows self.now k m ≡ false }
-        ensures yes { IsTrue result → (m : ℕ) × (front ≤ m) × (m < k) × (follows self.now k m ≡ true) }
-    {
-        self.first_under(front, k).is_some()
-    }
-
-    /// The class at `k`, or one from `front` up to it on which that depends, directly or through others: one that depends directly on none
-    /// from `front` up to itself. None where the class at `front` is met on the way down, or the way is long.
-    fn loose_under(&self, front: usize, k: usize) -> Option<usize>
-        requires down { front < k }
-        requires within { k < length self.now.classes }
-        ensures { IfSome result (λ at. IsLooseUnder self.now front k at) }
-    {
-        let mut at = k;
-        for _ in 0..MOST_PASSED {
-            match self.some_under(front, at) {
-                None => return Some(at),
-                Some(next) if next == front => return None,
-                Some(next) => at = next,
-            }
-        }
-        None
-    }
-
-    /// Moves what the class at `high` depends on, of what lies above that at `low`, below this one. That ends where something depends on
-    /// the class at `low`, and after some. Where the class at `high` is known to depend directly on none of them, none is looked at but the
-    /// first.
+    /// Moves what the class at `high` depends on, of what lies above that at `low`, below this one: it is sought from the top down, and what was
+    /// met goes down together. Barred where one of these depends on the class at `low`, or where they are many. Where the class at `high` is
+    /// known to depend directly on none of them, none is looked at but the first.
     fn clear_way(&mut self, low: usize, high: usize) -> Way
         requires less { low < high }
         requires within { high < length self.old.classes }
         ensures { IsCleared self.old self.new low high result }
     {
-        let mut front = low;
         if self.is_loose_from(low + 1, high) {
-            return Way::Clear(front);
+            return Way::Clear(low);
         }
-        let mut from = low + 1;
-        for _ in 0..MOST_CLEARED {
-            let Some(k) = self.first_under(from, high) else {
-                return Way::Clear(front);
+        let mut run = Places {
+            from: high,
+            to: high,
+        };
+        for _ in 0..MOST_LOOKS {
+            let end = self.end_under(low + 1, run, high);
+            if end == low + 1 {
+                return self.lower(low, run);
+            }
+            self.move_run_down(end, run.from, run.to);
+            run = Places {
+                from: end - 1,
+                to: end + (run.to - run.from),
             };
-            let Some(loose) = self.loose_under(front, k) else {
-                return Way::Barred(front);
-            };
-            self.move_down(front, loose);
-            front += 1;
-            from = k.max(loose + 1);
         }
-        Way::Barred(front)
+        Way::Barred(run.to)
+    }
+
+    /// Moves a run below the class at `low`, past classes on which none of it depends, unless one does on that at `low`.
+    fn lower(&mut self, low: usize, run: Places) -> Way
+        requires above { low < run.from }
+        requires range { IsRange run (length self.old.classes) }
+        requires free { (j m : ℕ) → run.from ≤ j → j < run.to → low < m → m < run.from → follows self.old j m ≡ false }
+        ensures { IsLowered self.old self.new low run result }
+    {
+        if self.run_follows(run, low) {
+            return Way::Barred(run.to);
+        }
+        self.move_run_down(low, run.from, run.to);
+        Way::Clear(low + (run.to - run.from))
     }
 
     /// Whether the class at `k` depends directly on one from `front` up to `to`. The last ones are looked at first: where classes rest each on
@@ -386,12 +269,55 @@ impl<A: Allocator> BlockState<A> {
         requires within { high ≤ length self.now.classes }
         ensures { IsRunEnd self.now front k high result }
     {
+        if front + 1 == k {
+            return self.run_end_behind(front, high);
+        }
         for at in k..high {
             if self.follows_gathered(front, k, at) {
                 return at;
             }
         }
         high
+    }
+
+    /// The same behind one class. Where none names it, each is asked for its bytes alone.
+    fn run_end_behind(&self, front: usize, high: usize) -> usize
+        requires less { front + 1 < high }
+        requires within { high ≤ length self.now.classes }
+        ensures { IsRunEnd self.now front (front + 1) high result }
+    {
+        if self.may_be_named(front) {
+            self.run_end_resting(front, high)
+        } else {
+            self.run_end_met(front, high)
+        }
+    }
+
+    fn run_end_resting(&self, front: usize, high: usize) -> usize
+        requires less { front + 1 < high }
+        requires within { high ≤ length self.now.classes }
+        ensures { IsRunEnd self.now front (front + 1) high result }
+    {
+        let class = &self.classes[front];
+        let behind = &self.classes[front + 1..high];
+        match class.first_on(behind) {
+            Some(passed) => front + 1 + passed,
+            None => high,
+        }
+    }
+
+    fn run_end_met(&self, front: usize, high: usize) -> usize
+        requires less { front + 1 < high }
+        requires within { high ≤ length self.now.classes }
+        requires unnamed { (k : ℕ) → names (class_at self.now k) (class_at self.now front) ≡ false }
+        ensures { IsRunEnd self.now front (front + 1) high result }
+    {
+        let class = &self.classes[front];
+        let behind = &self.classes[front + 1..high];
+        match class.first_met(behind) {
+            Some(passed) => front + 1 + passed,
+            None => high,
+        }
     }
 
     /// Moves the classes from `k` up to `stop` down to the place `front`, past classes on which none of them depends.
@@ -402,6 +328,9 @@ impl<A: Allocator> BlockState<A> {
         requires free { (j m : ℕ) → k ≤ j → j < stop → front ≤ m → m < k → follows self.old j m ≡ false }
         ensures { self.new ≡ run_moved_down self.old front k (stop - k) }
     {
+        if k == stop {
+            return;
+        }
         turn_run_down(self.classes.as_mut_slice(), front, k, stop);
         self.members = self.members.in_disorder();
         self.taken = self.taken.spread(self.classes.len());
@@ -462,6 +391,7 @@ impl<A: Allocator> BlockState<A> {
         self.members = self.members.joined(is_of_both, is_free, greater);
         self.taken = self.taken.spread_over(self.classes.len(), is_taken);
         self.flying = self.flying.spread_over(self.classes.len(), is_flying);
+        self.joined_at = low.saturating_sub(MOST_LOOKS);
         forget(&mut self.image);
         drop(upper);
     }
@@ -476,9 +406,9 @@ impl<A: Allocator> BlockState<A> {
     {
         match self.clear_way(low, high) {
             Way::Clear(front) => self.settle(front, high, drawn, true),
-            Way::Barred(from) => {
-                let front = self.gather(from, high);
-                let is_free = !self.follows_any(front + 1, high);
+            Way::Barred(stop) => {
+                let front = self.gather(low, stop);
+                let is_free = self.is_free_of(front + 1, stop, high);
                 self.settle(front, high, drawn, is_free);
             }
         }

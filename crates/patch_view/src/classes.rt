@@ -6,13 +6,15 @@ ghost use Rattle.patch_model.specs.Entry.{is_among};
 ghost use Rattle.patch_view.specs.State.{is_takeable, uncovered, laid_on, laid_over, covering, exchanged_with, leaves_taken, meets, names, departed, departed_among, MayHaveDeparted, merged, IsMerged, IsDrawn};
 ghost use Rattle.patch_view.specs.State.{spans, follow_on, has_room_for, is_around, with_lists_of, with_all_of, in_its_place, with_lists};
 ghost use Rattle.patch_view.specs.Gaps.{saved_end, saves_any};
-ghost use Rattle.patch_view.specs.Rests.{IsFree, IsLoose, IsUnion, HasListsOf, top_of};
+ghost use Rattle.patch_view.specs.Unders.{is_reached, IsEndOfNamed};
+ghost use Rattle.patch_view.specs.Rests.{IsFree, IsLoose, AreUnnamed, IsUnion, HasListsOf, top_of};
 
 use crate::lists::Lists;
 use crate::number_lists::{
     NumberList, greatest_of, interleave, is_interleaved, is_listed, least_of, lie_apart, place_in,
     put_in_turn,
 };
+use crate::reaches::Reach;
 use crate::rests::Rests;
 use crate::spans::{put_over, swap_span};
 use patch_model::{BLOCK, OutOfMemory, PatchNo};
@@ -213,15 +215,11 @@ impl<A: Allocator> Class<A> {
         self.meets(other) || self.names_some_of(other)
     }
 
-    /// The place of the first of these classes on which it rests.
-    pub(crate) fn first_rested_on(&self, others: &[Class<A>]) -> Option<usize>
-        ensures { result ≡ position (λ c. meets self.now c || names self.now c) others.now }
+    /// The place of the first of these classes that rests on it.
+    pub(crate) fn first_on(&self, others: &[Class<A>]) -> Option<usize>
+        ensures { result ≡ position (λ c. meets c self.now || names c self.now) others.now }
     {
-        let names = self.named();
-        if names.is_empty() {
-            return self.first_met(others);
-        }
-        others.iter().position(|other| self.rests_on(other))
+        others.iter().position(|other| other.rests_on(self))
     }
 
     /// The place of the first of these classes with which it has a byte in common.
@@ -238,6 +236,13 @@ impl<A: Allocator> Class<A> {
         rests.tell_free(self.lists.members(), self.start(), self.stop())
     }
 
+    /// Whether it is known that no class of the block names a member of it.
+    pub(crate) fn is_told_unnamed(&self, rests: &Rests<A>) -> bool
+        ensures { IsTrue result → AreUnnamed rests.now self.now.members }
+    {
+        rests.tell_unnamed(self.lists.members())
+    }
+
     /// Whether it is known that it rests on none in the block of which no member is below a number.
     pub(crate) fn is_told_loose(&self, rests: &Rests<A>, first: u32) -> bool
         ensures { IsTrue result → IsLoose rests.now self.now.after self.now.start self.now.stop first }
@@ -245,21 +250,57 @@ impl<A: Allocator> Class<A> {
         rests.tell_loose(self.lists.after(), self.start(), self.stop(), first)
     }
 
-    fn meets(&self, other: &Class<A>) -> bool
+    /// Its bytes.
+    pub(crate) fn reach(&self) -> Reach
+        ensures { result ≡ record { start = self.now.start; stop = self.now.stop } }
+    {
+        Reach {
+            start: self.start,
+            stop: self.stop,
+        }
+    }
+
+    /// Whether it has one of these bytes.
+    pub(crate) fn is_reached(&self, reach: Reach) -> bool
+        ensures { result ≡ is_reached reach self.now }
+    {
+        self.start < reach.stop && reach.start < self.stop
+    }
+
+    /// The place behind the last of these classes of which it names a member; zero where there is none.
+    pub(crate) fn end_of_named(&self, others: &[Class<A>]) -> usize
+        ensures { IsEndOfNamed self.now others.now result }
+    {
+        for passed in 0..others.len() {
+            let at = others.len() - 1 - passed;
+            if self.names_some_of(&others[at]) {
+                return at + 1;
+            }
+        }
+        0
+    }
+
+    pub(crate) fn meets(&self, other: &Class<A>) -> bool
         ensures { result ≡ meets self.now other.now }
     {
         self.start < other.stop && other.start < self.stop
     }
 
-    /// Mostly the one list lies all below the other. Else the shorter one is gone through, and the longer one is searched for each of its
-    /// numbers.
     fn names_some_of(&self, other: &Class<A>) -> bool
         ensures { result ≡ names self.now other.now }
     {
-        let names = self.lists.after();
-        if names.is_empty() {
+        if self.named().is_empty() {
             return false;
         }
+        self.names_one_of(other)
+    }
+
+    /// Mostly the one list lies all below the other. Else the shorter one is gone through, and the longer one is searched for each of its
+    /// numbers.
+    fn names_one_of(&self, other: &Class<A>) -> bool
+        ensures { result ≡ names self.now other.now }
+    {
+        let names = self.lists.after();
         let members = other.lists.members();
         if lie_apart(names, members) {
             return false;

@@ -15,12 +15,14 @@ mod members;
 mod names;
 mod number_lists;
 mod places;
+mod reaches;
 mod refusals;
 mod rests;
 mod runs;
 mod spans;
 mod states;
 mod turning;
+mod unders;
 mod views;
 
 pub use changes::Joint;

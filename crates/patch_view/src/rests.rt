@@ -4,7 +4,7 @@ ghost use Rattle.std.specs.List.{list_any};
 ghost use Rattle.std.specs.List.Sorted.{IsNonDecreasing};
 ghost use Rattle.patch_model.specs.Entry.{is_among};
 ghost use Rattle.patch_skyline.specs.declared.skylines.Span.{Span as Top};
-ghost use Rattle.patch_view.specs.Rests.{IsLaidOver, IsLaidOn, IsFree, IsLoose, HasTopsOf, NoneAbove, GoesOver, begun, no_rests, Gains};
+ghost use Rattle.patch_view.specs.Rests.{IsLaidOver, IsLaidOn, IsFree, IsLoose, AreUnnamed, HasTopsOf, NoneAbove, GoesOver, begun, no_rests, Gains};
 
 use crate::number_lists::{greatest_of, is_listed};
 use patch_model::{OutOfMemory, PatchNo};
@@ -117,6 +117,13 @@ impl<A: Allocator> Rests<A> {
             return false;
         }
         self.have_tops_of(members, start, stop)
+    }
+
+    /// Whether none of these is named.
+    pub(crate) fn tell_unnamed(&self, members: &[PatchNo]) -> bool
+        ensures { IsTrue result → AreUnnamed self.now members.now }
+    {
+        !self.name_any(members)
     }
 
     fn name_any(&self, members: &[PatchNo]) -> bool

@@ -4,7 +4,7 @@
 ghost use Rattle.std.specs.Prelude.{◌≡◌, ◌<◌, ◌≤◌, length, [], Some, IfSome, IsFalse, IsTrue, OnErr, ℕ, false};
 ghost use Rattle.patch_model.specs.Entry.{is_among};
 ghost use Rattle.patch_model.specs.History.{History, cached as the_cached};
-ghost use Rattle.patch_view.specs.State.{Block, HasNoneBelow, is_takeable, swept_to, class_at, exchanged_at, follows, hinders, HinderWithin, place_of, IsOnlyNamed, restored_to, outline, IsLeast};
+ghost use Rattle.patch_view.specs.State.{Block, HasNoneBelow, is_takeable, swept_to, class_at, exchanged_at, follows, names, hinders, HinderWithin, place_of, IsOnlyNamed, restored_to, outline, IsLeast};
 ghost use Rattle.patch_view.specs.Places.{IsRange};
 ghost use Rattle.patch_view.specs.Meaning.{Represents};
 ghost use Rattle.patch_view.specs.Answers.{AnswersTake, AcceptsTake, AnswersPutBack, AcceptsPutBack, TakesAll, ShowsTaken, PutsAllBack, IsAsBefore, Shows, TellsClear};
@@ -43,6 +43,8 @@ pub struct BlockState<A: Allocator = Global> {
     pub(crate) rests: Option<Rests<A>>,
     /// Where it is known, what a write sends of the block is found without a look at its records.
     pub(crate) image: Option<Image<A>>,
+    /// A little below where two classes were last made one: who merges many mostly goes on behind.
+    pub(crate) joined_at: usize,
 }
 
 impl<A: Allocator> Model for BlockState<A> {
@@ -89,10 +91,22 @@ impl<A: Allocator> BlockState<A> {
         if !self.members.are_apart {
             return None;
         }
-        let Some(at) = self.classes.iter().position(|class| class.name() == no) else {
+        let Some(at) = self.place_named(no) else {
             return None;
         };
         self.has_at(at, no).then_some(at)
+    }
+
+    /// The place of a record with this name, which is looked for from where two were last made one.
+    fn place_named(&self, name: PatchNo) -> Option<usize>
+        ensures { IfSome result (λ at. at < length self.now.classes) }
+    {
+        let from = self.joined_at.min(self.classes.len());
+        let behind = &self.classes[from..];
+        match behind.iter().position(|class| class.name() == name) {
+            Some(passed) => Some(from + passed),
+            None => self.classes.iter().position(|class| class.name() == name),
+        }
     }
 
     /// Whether the record at a place has this number among its members.
@@ -368,6 +382,21 @@ impl<A: Allocator> BlockState<A> {
         let class = &self.classes[at];
         match &self.rests {
             Some(rests) => !class.is_told_free(rests),
+            None => true,
+        }
+    }
+
+    /// Whether a class may name a member of the one at this place. Where it is known that none does, no record is looked at.
+    pub(crate) fn may_be_named(&self, at: usize) -> bool
+        requires { at < length self.now.classes }
+        ensures { IsFalse result → (k : ℕ) → names (class_at self.now k) (class_at self.now at) ≡ false }
+    {
+        if !self.members.are_apart {
+            return true;
+        }
+        let class = &self.classes[at];
+        match &self.rests {
+            Some(rests) => !class.is_told_unnamed(rests),
             None => true,
         }
     }

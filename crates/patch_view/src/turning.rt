@@ -1,19 +1,9 @@
 //! Elements moved within a list, all in one pass.
 ghost use Rattle.std.specs.Prelude.{◌≡◌, ◌-◌, ◌<◌, ◌≤◌, ◌++◌, ◌∷◌, [], length, vec_len, slice_index_or};
-ghost use Rattle.std.specs.List.{insert, remove};
+ghost use Rattle.std.specs.List.{remove};
 ghost use Rattle.patch_view.specs.State.{run_down};
 
 use std::alloc::Allocator;
-
-/// Moves what stands at `k` down to the place `front`.
-pub(crate) fn turn_down<T>(list: &mut [T], front: usize, k: usize)
-    requires down { front ≤ k }
-    requires within { k < length list.old }
-    ensures { (d : T) → list.new ≡ insert (remove list.old k) front (slice_index_or list.old k d) }
-{
-    let passed = &mut list[front..k + 1];
-    passed.rotate_right(1);
-}
 
 /// Moves what stands from `k` up to `stop` down to the place `front`.
 pub(crate) fn turn_run_down<T>(list: &mut [T], front: usize, k: usize, stop: usize)

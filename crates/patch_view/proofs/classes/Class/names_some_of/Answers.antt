@@ -3,14 +3,9 @@ use Rattle.std.specs.List.{list_any}
 use Rattle.std.proofs.lemmas.Bool.{eqb-true}
 use Rattle.std.proofs.lemmas.List.{nil_from_length}
 use Rattle.patch_model.specs.Entry.{is_among}
-use Rattle.patch_view.proofs.Numbers.{meet_comm}
 use Rattle.patch_view.proofs.classes.Class.names_some_of.Goals as goal
 
 pub returns-then-is_empty : goal.returns-then-is_empty
 returns-then-is_empty g c =
-    let none = nil_from_length c.after-names.result.now (eqb-true _ _ (sym c.is_empty.ensures ∙ c.if-is_empty.true)) in
-    ap (list_any (λ n. is_among c.args.other.now.members n)) (sym none ∙ c.after-names.ensures ∙ ap (λ k. k.after) c.self.view_is)
-
-pub returns-else-names-members : goal.returns-else-names-members
-returns-else-names-members g c = c.names_any.ensures ∙ meet_comm c.members-members.result.now c.args.self.now.after
-    ∙ ap (λ ms. list_any (λ n. is_among ms n) c.args.self.now.after) (c.members-members.ensures ∙ ap (λ k. k.members) c.other.view_is)
+    let none = nil_from_length c.named.result.now (eqb-true _ _ (sym c.is_empty.ensures ∙ c.if-is_empty.true)) in
+    ap (list_any (λ n. is_among c.args.other.now.members n)) (sym none ∙ c.named.ensures)

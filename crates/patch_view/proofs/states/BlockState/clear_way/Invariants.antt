@@ -1,5 +1,5 @@
-use Rattle.patch_view.specs.Meaning.{IsClearedTo}
+use Rattle.patch_view.specs.Meaning.{IsOnWay}
 use Rattle.patch_view.proofs.states.BlockState.clear_way.Given as goal
 
 abbrev pub invariant-loop : goal.invariant-loop
-invariant-loop g l = IsClearedTo l.initial.self l.self l.low l.high l.front l.from
+invariant-loop g l = IsOnWay l.initial.self l.self l.low l.high l.run

@@ -3,9 +3,13 @@ use Rattle.std.proofs.lemmas.List.{with_items_is}
 use Rattle.patch_view.specs.State.{Block, no_class, follows, run_down, run_moved_down, Class, TakenWithin, FlyingWithin, KnownApart}
 use Rattle.patch_view.specs.Rests.{KnownRests}
 use Rattle.patch_view.proofs.Rotating.{length-run_down}
+use Rattle.patch_view.proofs.Clearing.{run-none}
 use Rattle.patch_view.proofs.Running.{run-apart, run-rests, run-within}
 use Rattle.patch_view.proofs.Baring.{no_image}
 use Rattle.patch_view.proofs.states.BlockState.move_run_down.Goals as goal
+
+pub returns-then-k-stop : goal.returns-then-k-stop
+returns-then-k-stop g c = sym (run-none c.args.self.now c.args.front c.args.k c.args.stop c.if-k-stop.true)
 
 pub returns : goal.returns
 returns g c =
