@@ -11,7 +11,8 @@
  * What lasts. A put or a delete changes the store in memory; fstch_sync brings all changes to the file and lets them last there.
  * Whenever the program ends or the power is cut, the file opens again. It then has, of each key, what it had after the last sync or
  * after one of the later puts and deletes; where a write had reached the file, all that it depends on had too. What was answered
- * before a sync that answered FSTCH_DONE is there.
+ * before a sync that answered FSTCH_DONE is there. One premise is left to the system and its disk: what was written to the file before
+ * an fsync or fdatasync that succeeded is there, and of what was written since, each block of 4,096 bytes is old or new.
  *
  * Answers. Every call but fstch_is_open, fstch_error_text and fstch_version answers FSTCH_DONE or the number of why it was refused.
  * A refused call changes nothing, in the store or in what it was given, but where it says so. With FSTCH_OUT_OF_MEMORY each key has
@@ -129,7 +130,8 @@ enum fstch_answer {
     FSTCH_ABSENT = -5,
     /* Another store, of this program or another, has the file open. */
     FSTCH_IN_USE = -6,
-    /* All was written, but the system didn't let it last; or an earlier sync was refused. Close the store and open it again. */
+    /* The system didn't let last what was written, and nothing was written behind that; or an earlier sync was refused. What the system
+     * shows of the file then may be lost with the power. Close the store and open it again: the open reads what the disk has. */
     FSTCH_NO_SYNC = -7,
     /* The number of a writer is FSTCH_WRITERS or more. */
     FSTCH_BAD_WRITER = -8
@@ -138,7 +140,12 @@ enum fstch_answer {
 /* Files. */
 
 /* Makes a file that holds an empty store. What has the name already is left alone, and a file that can't be finished is removed.
- * The file is synced, and the directory that it stands in isn't.
+ * The file and the directory that it stands in are synced, so that the name lasts too; but where the system can't sync directories the
+ * name may get lost with the power.
+ *
+ * The file is given room for all its blocks, so that no later sync needs more. That is the file system's word: one that puts each write
+ * in a new place, or that can't set room aside but for zeros that are written, may still have none, and a sync then answers
+ * FSTCH_DEVICE_GAVE_UP or FSTCH_NO_SYNC.
  *
  * The store has index_blocks (1 to 16) times 64 keys at most, and 2 to 254 extents, to which values are appended. With extent_blocks
  * 0 an extent has 16 blocks of 4,096 bytes, and a value at most 32,768 bytes. With extent_blocks 16 to 64 it has so many, and a value
@@ -150,7 +157,7 @@ enum fstch_answer {
 int32_t fstch_make(const char *path, uint32_t index_blocks, uint32_t extents, uint32_t extent_blocks);
 
 /* Opens the store of a file into a closed fstch_store, and locks the file until it is closed or the program ends. The program fstch
- * takes the same lock. The file is read whole: an open store takes as much memory as the file has bytes, and more for what is not
+ * takes the same lock. The file is synced, so that what it shows lasts, and then read whole from the disk: an open store takes as much memory as the file has bytes, and more for what is not
  * synced; opening takes twice as much, and a sync as much again as it writes.
  *
  * `slot` is set with FSTCH_BAD_SLOT, FSTCH_BAD_FRAME and FSTCH_DUPLICATE_KEY alone: to the first slot of the index that is wrong.
@@ -160,6 +167,13 @@ int32_t fstch_make(const char *path, uint32_t index_blocks, uint32_t extents, ui
  */
 int32_t fstch_open(fstch_store *store, const char *path, uint32_t *slot);
 
+/* A flag of fstch_open_with: the syncs of the file inside fstch_sync are passed over, but for one behind all writes. Then the file opens
+ * again whenever the program ends and the system goes on; if the power is cut, or the system stops, during a fstch_sync, it may not. */
+#define FSTCH_NO_BARRIERS 1u
+
+/* As fstch_open, with flags: 0 or FSTCH_NO_BARRIERS. All other bits are 0. */
+int32_t fstch_open_with(fstch_store *store, const char *path, uint32_t flags, uint32_t *slot);
+
 /* Closes a store. It does not sync: what was not synced is lost. The store is FSTCH_CLOSED then, so that a second close is refused and
  * harms nothing. */
 int32_t fstch_close(fstch_store *store);
@@ -167,10 +181,12 @@ int32_t fstch_close(fstch_store *store);
 /* Whether the store is open. */
 bool fstch_is_open(const fstch_store *store);
 
-/* Brings all changes to the file, each behind those on which it depends, and waits until the system lets them last.
+/* Brings all changes to the file, and waits until the system lets them last. They are written in waves, and the file is
+ * synced behind each wave: nothing is written before what it rests on lasts.
  *
  * With FSTCH_DEVICE_GAVE_UP, FSTCH_OUT_OF_MEMORY and FSTCH_NO_SYNC some changes may have reached the file and others not, in their
- * order. From then on the store answers each sync with FSTCH_NO_SYNC: close it and open it again.
+ * order. From then on the store answers each sync with FSTCH_NO_SYNC: close it and open it again. The open reads what the disk has,
+ * and not what the system still shows of a sync that failed.
  *
  * FSTCH_OUT_OF_MEMORY, FSTCH_DEVICE_GAVE_UP, FSTCH_NO_SYNC.
  */
@@ -219,9 +235,9 @@ int32_t fstch_check(fstch_store *store, uint32_t *entries, uint32_t *extents);
  */
 int32_t fstch_entry(fstch_store *store, uint32_t number, void *key, size_t key_room, size_t *key_length, size_t *value_length);
 
-/* Groups: an order in which changes reach the file, at less than the cost of a sync between them. A group has all changes of the
- * writers that have engaged it. Whatever a crash leaves: where it has a change of a group, it has all changes of the groups that go
- * before it. */
+/* Groups: an order in which changes reach the file. It costs what its syncs of the file cost, which one fstch_sync makes for all groups
+ * together: one for each wave, and changes that don't wait for one another share a wave. A group has all changes of the writers that have
+ * engaged it. Whatever a crash leaves: where it has a change of a group, it has all changes of the groups that go before it. */
 
 /* Makes a group, and sets `group` to its number. Numbers are counted from 0 and aren't used again while the store is open.
  *

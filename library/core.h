@@ -13,31 +13,37 @@
 int32_t fstch_core_make(uint32_t index_blocks, uint32_t extents, uint32_t extent_blocks, uint8_t *into, size_t into_length,
                         uint32_t *blocks);
 
-/* Opens the store of these bytes, all that its file has. `file` is kept for fstch_core_file. The bytes are copied.
+/* Opens the store of these bytes, all that its file has and that lasts there. `file` is kept for fstch_core_file, and `has_barriers` for
+ * fstch_core_barriers. The bytes are copied.
  *
  * FSTCH_IS_OPEN, FSTCH_FILE_SIZE, FSTCH_OUT_OF_MEMORY, FSTCH_BAD_SUPER, FSTCH_BAD_POINTER, FSTCH_BAD_SLOT, FSTCH_BAD_FRAME,
  * FSTCH_DUPLICATE_KEY.
  */
-int32_t fstch_core_open(fstch_store *store, int32_t file, const uint8_t *bytes, size_t length, uint32_t *slot);
+int32_t fstch_core_open(fstch_store *store, int32_t file, bool has_barriers, const uint8_t *bytes, size_t length, uint32_t *slot);
 
 /* The number that the store was opened with, or -1 where it is closed. */
 int32_t fstch_core_file(fstch_store *store);
 
-/* Brings all changes to the store's tape, as writes in the order in which they have to reach the file. Where there is no memory for
- * them, each later sync is refused.
+/* Whether the store was opened with barriers: its file is synced at each. False where it is closed. */
+bool fstch_core_barriers(fstch_store *store);
+
+/* Brings all changes to the store's tape, as events in the order in which they have to be done to the file: writes, and behind those on
+ * which others rest a barrier, at which the file has to be synced before anything behind it is written. The last event, if there is one,
+ * is a barrier. Where there is no memory for them, each later sync is refused.
  *
  * FSTCH_NO_SYNC, FSTCH_OUT_OF_MEMORY.
  */
 int32_t fstch_core_sync(fstch_store *store);
 
-/* The write of this number on the tape, from 0 on: sets `block` to where it goes, and copies the block's bytes to the front of `into`.
+/* The event of this number on the tape, from 0 on: sets `is_barrier` to whether it is a barrier. Of a write it also sets `block` to where
+ * it goes, and copies the block's bytes to the front of `into`; also with FSTCH_BUFFER_TOO_SMALL, where nothing is copied.
  *
  * FSTCH_ABSENT behind the last one, FSTCH_BUFFER_TOO_SMALL.
  */
-int32_t fstch_core_write(fstch_store *store, uint32_t number, uint32_t *block, uint8_t *into, size_t into_length);
+int32_t fstch_core_write(fstch_store *store, uint32_t number, bool *is_barrier, uint32_t *block, uint8_t *into, size_t into_length);
 
-/* Empties the tape: all its writes are in the file, in their order, and the system lets them last. Where that isn't so, is_done is
- * false, and each later sync is refused with FSTCH_NO_SYNC. */
+/* Empties the tape: all its events are done to the file, in their order, and the system lets its writes last. Where that isn't so, is_done
+ * is false, and each later sync is refused with FSTCH_NO_SYNC. */
 int32_t fstch_core_synced(fstch_store *store, bool is_done);
 
 /* Closes a store, and leaves its file open. */

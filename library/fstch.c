@@ -1,11 +1,12 @@
 /* The calls of fstch.h that make, open, sync and close a file: what they ask of the system is here, all else in the proved calls of
  * core.h. There are no globals, and nothing is kept but in the store. */
-#define _DEFAULT_SOURCE /* for flock */
+#define _DEFAULT_SOURCE /* for flock and posix_fallocate */
 #include "core.h"
 
 #include <errno.h>
 #include <fcntl.h>
 #include <stdlib.h>
+#include <string.h>
 #include <sys/file.h>
 #include <unistd.h>
 
@@ -51,18 +52,20 @@ static int32_t lock_file(int file) {
     return errno == EWOULDBLOCK ? FSTCH_IN_USE : FSTCH_DISK;
 }
 
-static bool set_length(int file, uint32_t blocks) {
+/* Lets all last: a file with its length, or the names in a directory. */
+static bool sync_all(int file) {
     int answer;
     do {
-        answer = ftruncate(file, (off_t)blocks * BLOCK);
+        answer = fsync(file);
     } while (is_interrupted(answer));
     return answer == 0;
 }
 
-static bool sync_file(int file) {
+/* Lets what was written to a file of a fixed length last. */
+static bool sync_data(int file) {
     int answer;
     do {
-        answer = fsync(file);
+        answer = fdatasync(file);
     } while (is_interrupted(answer));
     return answer == 0;
 }
@@ -107,14 +110,76 @@ static bool write_block(int file, uint32_t block, const uint8_t *bytes) {
     return false;
 }
 
-/* Gives a new file its length and its first block, and closes it. */
+static bool write_zeros(int file, uint32_t blocks) {
+    static const uint8_t zeros[BLOCK];
+    for (uint32_t block = 0; block < blocks; block++) {
+        if (!write_block(file, block, zeros)) {
+            return false;
+        }
+    }
+    return true;
+}
+
+/* Gives a new file its length, and room for all its blocks. */
+static bool give_room(int file, uint32_t blocks) {
+    int error;
+    do {
+        error = posix_fallocate(file, 0, (off_t)blocks * BLOCK);
+    } while (error == EINTR);
+    if (error == EINVAL || error == EOPNOTSUPP || error == ENOSYS) {
+        return write_zeros(file, blocks); /* the system can't, so that writing takes the room */
+    }
+    return error == 0;
+}
+
+/* Gives a new file its room and its first block, and closes it. */
 static bool finish_file(int file, uint32_t blocks, const uint8_t *first) {
     if (file < 0) {
         return false;
     }
-    bool is_finished = set_length(file, blocks) && write_block(file, 0, first) && sync_file(file);
+    bool is_finished = give_room(file, blocks) && write_block(file, 0, first) && sync_all(file);
     close(file);
     return is_finished;
+}
+
+/* The directory of a path, to be freed. NULL where there is no memory. */
+static char *directory_of(const char *path) {
+    const char *slash = strrchr(path, '/');
+    const char *from = slash == NULL ? "." : path;
+    size_t length = slash == NULL || slash == path ? 1 : (size_t)(slash - path);
+    char *directory = malloc(length + 1);
+    if (directory != NULL) {
+        memcpy(directory, from, length);
+        directory[length] = 0;
+    }
+    return directory;
+}
+
+/* Lets the names in a directory last. A system that can't sync a directory says that the call is invalid. */
+static bool sync_directory(const char *directory) {
+    int file;
+    do {
+        file = open(directory, O_RDONLY | O_DIRECTORY | O_CLOEXEC | O_NOCTTY);
+    } while (is_interrupted(file));
+    file = above_streams(file);
+    if (file < 0) {
+        return false;
+    }
+    bool is_synced = sync_all(file) || errno == EINVAL;
+    close(file);
+    return is_synced;
+}
+
+static int32_t make_file(const char *path, const char *directory, uint32_t blocks, const uint8_t *first) {
+    int file = open_file(path, O_CREAT | O_EXCL);
+    if (file < 0) {
+        return FSTCH_DISK;
+    }
+    if (!finish_file(above_streams(file), blocks, first) || !sync_directory(directory)) {
+        unlink(path);
+        return FSTCH_DISK;
+    }
+    return FSTCH_DONE;
 }
 
 int32_t fstch_make(const char *path, uint32_t index_blocks, uint32_t extents, uint32_t extent_blocks) {
@@ -124,19 +189,26 @@ int32_t fstch_make(const char *path, uint32_t index_blocks, uint32_t extents, ui
     if (answer != FSTCH_DONE) {
         return answer;
     }
-    int file = open_file(path, O_CREAT | O_EXCL);
-    if (file < 0) {
-        return FSTCH_DISK;
+    char *directory = directory_of(path);
+    if (directory == NULL) {
+        return FSTCH_OUT_OF_MEMORY;
     }
-    if (!finish_file(above_streams(file), blocks, first)) {
-        unlink(path);
-        return FSTCH_DISK;
+    answer = make_file(path, directory, blocks, first);
+    free(directory);
+    return answer;
+}
+
+/* Lets all that the file shows last, and has it read from the disk: behind a sync that failed the system may show what isn't there. */
+static bool settle_file(int file) {
+    if (!sync_all(file)) {
+        return false;
     }
-    return FSTCH_DONE;
+    posix_fadvise(file, 0, 0, POSIX_FADV_DONTNEED); /* (a system that keeps no pages has none to let go) */
+    return true;
 }
 
 /* Opens the store of all that the file has. A length that no store has isn't read. */
-static int32_t open_store(fstch_store *store, int file, uint32_t *slot) {
+static int32_t open_store(fstch_store *store, int file, bool has_barriers, uint32_t *slot) {
     off_t length = lseek(file, 0, SEEK_END);
     if (length < 0) {
         return FSTCH_DISK;
@@ -149,14 +221,14 @@ static int32_t open_store(fstch_store *store, int file, uint32_t *slot) {
         return FSTCH_OUT_OF_MEMORY;
     }
     int32_t answer = FSTCH_DISK;
-    if (read_bytes(file, bytes, (size_t)length)) {
-        answer = fstch_core_open(store, file, bytes, (size_t)length, slot);
+    if (settle_file(file) && read_bytes(file, bytes, (size_t)length)) {
+        answer = fstch_core_open(store, file, has_barriers, bytes, (size_t)length, slot);
     }
     free(bytes);
     return answer;
 }
 
-int32_t fstch_open(fstch_store *store, const char *path, uint32_t *slot) {
+int32_t fstch_open_with(fstch_store *store, const char *path, uint32_t flags, uint32_t *slot) {
     if (fstch_is_open(store)) {
         return FSTCH_IS_OPEN;
     }
@@ -166,7 +238,7 @@ int32_t fstch_open(fstch_store *store, const char *path, uint32_t *slot) {
     }
     int32_t answer = lock_file(file);
     if (answer == FSTCH_DONE) {
-        answer = open_store(store, file, slot);
+        answer = open_store(store, file, (flags & FSTCH_NO_BARRIERS) == 0, slot);
     }
     if (answer != FSTCH_DONE) {
         close(file);
@@ -174,27 +246,41 @@ int32_t fstch_open(fstch_store *store, const char *path, uint32_t *slot) {
     return answer;
 }
 
-/* Brings the writes of the store's tape to the file, in their order, and lets them last there. */
-static int32_t write_tape(fstch_store *store, int file) {
+int32_t fstch_open(fstch_store *store, const char *path, uint32_t *slot) {
+    return fstch_open_with(store, path, 0, slot);
+}
+
+/* Brings the events of the store's tape to the file, in their order. With barriers nothing behind one is written before all in front of it
+ * lasts; without, all is synced in the end alone. */
+static int32_t write_tape(fstch_store *store, int file, bool has_barriers) {
     uint8_t bytes[BLOCK];
     uint32_t block = 0, number = 0;
+    bool is_barrier = false, is_loose = false;
     int32_t answer;
-    while ((answer = fstch_core_write(store, number, &block, bytes, sizeof bytes)) == FSTCH_DONE) {
-        if (!write_block(file, block, bytes)) {
-            return FSTCH_DEVICE_GAVE_UP;
+    while ((answer = fstch_core_write(store, number, &is_barrier, &block, bytes, sizeof bytes)) == FSTCH_DONE) {
+        if (!is_barrier) {
+            if (!write_block(file, block, bytes)) {
+                return FSTCH_DEVICE_GAVE_UP;
+            }
+            is_loose = true;
+        } else if (has_barriers) {
+            if (!sync_data(file)) {
+                return FSTCH_NO_SYNC;
+            }
+            is_loose = false;
         }
         number++;
     }
     if (answer != FSTCH_ABSENT) {
         return answer;
     }
-    return sync_file(file) ? FSTCH_DONE : FSTCH_NO_SYNC;
+    return !is_loose || sync_data(file) ? FSTCH_DONE : FSTCH_NO_SYNC;
 }
 
 int32_t fstch_sync(fstch_store *store) {
     int32_t answer = fstch_core_sync(store);
     if (answer == FSTCH_DONE) {
-        answer = write_tape(store, fstch_core_file(store));
+        answer = write_tape(store, fstch_core_file(store), fstch_core_barriers(store));
     }
     fstch_core_synced(store, answer == FSTCH_DONE);
     return answer;

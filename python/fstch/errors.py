@@ -264,7 +264,8 @@ class InUse(Error, OSError):
 
 
 class NoSync(Error, OSError):
-    """All was written, but the system didn't let it last; or an earlier sync was refused. Close the store and open it again."""
+    """The system didn't let last what was written, and nothing was written behind that; or an earlier sync was refused. What the system
+    shows of the file then may be lost with the power. Close the store and open it again: the open reads what the disk has."""
 
     number = -7
 

@@ -33,6 +33,7 @@ _ROOM = (c_void_p, c_size_t)
 _ANSWERING = {
     "make": (c_char_p, c_uint32, c_uint32, c_uint32),
     "open": (_STORE, c_char_p, _NUMBER),
+    "open_with": (_STORE, c_char_p, c_uint32, _NUMBER),
     "close": (_STORE,),
     "sync": (_STORE,),
     "put": (_STORE, c_uint32, *_BYTES, *_BYTES),

@@ -24,6 +24,8 @@ MAX_KEY = 32
 WRITER = 0
 # How much room a value is given at first.
 ROOM = 4096
+# The flag of a store whose syncs are one sync of the file each.
+NO_BARRIERS = 1
 # No slot of an index has this number.
 NO_SLOT = 2**32 - 1
 
@@ -32,7 +34,7 @@ _opened: weakref.WeakValueDictionary[int, Store] = weakref.WeakValueDictionary()
 
 
 def make(path: Path, *, index_blocks: int, extents: int, extent_blocks: int = 0) -> None:
-    """Makes a file that holds an empty store. What has the name already is left alone.
+    """Makes a file that holds an empty store, and lets it last. What has the name already is left alone.
 
     The store has 64 keys for each of 1 to 16 `index_blocks`, and 2 to 254 `extents`, to which values are appended. Without
     `extent_blocks` an extent has 16 blocks of 4,096 bytes, and a value at most 32,768 bytes; with 16 to 64 it has so many, and a value
@@ -44,12 +46,15 @@ def make(path: Path, *, index_blocks: int, extents: int, extent_blocks: int = 0)
     require_done(calls.fstch_make(_name(path), *numbers), path)
 
 
-def open(path: Path) -> Store:
+def open(path: Path, *, barriers: bool = True) -> Store:
     """Opens the store of a file, and locks the file until the store is closed.
+
+    Without `barriers` a sync of the store is one sync of the file, behind all writes. Then the file opens again whenever the program ends
+    and the system goes on; if the power is cut, or the system stops, during a sync, it may not.
 
     Raises `Disk`, `InUse`, `FileSize`, `OutOfMemory`, `BadSuper`, `BadPointer`, `BadSlot`, `BadFrame` and `DuplicateKey`.
     """
-    return Store(path)
+    return Store(path, barriers=barriers)
 
 
 class Counts(NamedTuple):
@@ -66,17 +71,20 @@ class Store(MutableMapping[bytes, bytes]):
     sync: what was not synced is lost. A `with` syncs and closes at its end; where an exception ends it, it only closes, and the file
     has what the last sync left.
 
+    Whenever the program ends or the power is cut, the file opens again. One premise is left to the system and its disk: what was
+    written to the file before an fsync that succeeded is there, and of what was written since, each block of 4,096 bytes is old or new.
+
     Keys have 1 to 32 bytes. A store is used by the thread that opened it alone: other threads are refused with `WrongThread`, and so
     is a child that is forked while it is open. Such a child holds the file's lock too, until it ends.
     """
 
-    def __init__(self, path: Path) -> None:
+    def __init__(self, path: Path, *, barriers: bool = True) -> None:
         self._handle = Handle()
         self._thread: Optional[int] = threading.get_ident()
         self._room = ctypes.create_string_buffer(ROOM)
         self._path = path
         slot = c_uint32(NO_SLOT)
-        answer = calls.fstch_open(self._handle, _name(path), byref(slot))
+        answer = calls.fstch_open_with(self._handle, _name(path), 0 if barriers else NO_BARRIERS, byref(slot))
         if answer:
             error = refusal(answer, path)
             error.slot = None if slot.value == NO_SLOT else slot.value
@@ -95,10 +103,10 @@ class Store(MutableMapping[bytes, bytes]):
             _opened.pop(id(self), None)
 
     def sync(self) -> None:
-        """Brings all changes to the file, each behind those on which it depends, and waits until the system lets them last.
+        """Brings all changes to the file, and waits until the system lets them last. Nothing is written before what it rests on lasts.
 
         Where it is refused, some changes may have reached the file, in their order, and each later sync is refused with `NoSync`:
-        close the store and open it again.
+        close the store and open it again. The open reads what the disk has, and not what the system still shows of a sync that failed.
 
         Raises `OutOfMemory`, `DeviceGaveUp` and `NoSync`.
         """
@@ -241,7 +249,7 @@ class Store(MutableMapping[bytes, bytes]):
 
 class Group:
     """Changes that go to the file in an order: whatever a crash leaves, where it has a change of a group, it has all changes of the
-    groups before it.
+    groups before it. The order costs what its syncs of the file cost, which one `sync` of the store makes for all groups together.
 
     Each change belongs to all groups that are entered as it is made; `with` enters a group and leaves it. A group may be entered
     again until another goes after it. Where an exception ends the `with`, the changes stay as they are.

@@ -78,6 +78,8 @@ static void files_are_opened_once(void) {
     WANT(true, store.is_open);
     WANT(FSTCH_IS_OPEN, open_path(&store, FILE_NAME));
     WANT(FSTCH_IS_OPEN, open_path(&store, "nothing"));
+    WANT(FSTCH_IS_OPEN, fstch_open_with(&store, FILE_NAME, FSTCH_NO_BARRIERS, &slot));
+    WANT(FSTCH_IN_USE, fstch_open_with(&other, FILE_NAME, FSTCH_NO_BARRIERS, &slot));
     WANT(FSTCH_IN_USE, fstch_open(&other, FILE_NAME, &slot));
     WANT(true, is_zeros(&other));
     WANT(FSTCH_DISK, fstch_open(&other, "nothing", &slot));
@@ -91,6 +93,15 @@ static void files_are_opened_once(void) {
     WANT(FSTCH_NOT_OPEN, fstch_close(&store));
     WANT(FSTCH_DONE, fstch_open(&other, FILE_NAME, &slot));
     WANT(777, slot);
+    WANT(FSTCH_DONE, fstch_close(&other));
+    WANT(FSTCH_DONE, fstch_open_with(&other, FILE_NAME, FSTCH_NO_BARRIERS, &slot));
+    WANT(true, has(&other, "key", NULL));
+    WANT(FSTCH_DONE, put(&other, "key", "value"));
+    WANT(FSTCH_DONE, fstch_sync(&other));
+    WANT(777, slot);
+    WANT(FSTCH_DONE, fstch_close(&other));
+    WANT(FSTCH_DONE, open_path(&other, FILE_NAME));
+    WANT(true, has(&other, "key", "value"));
     WANT(FSTCH_DONE, fstch_close(&other));
 }
 

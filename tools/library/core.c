@@ -29,7 +29,7 @@ static memory copy_of(memory other) {
 
 static int32_t open_bytes(fstch_store *store, const void *bytes, size_t length) {
     uint32_t slot = 777;
-    int32_t answer = fstch_core_open(store, FILE_NUMBER, (const uint8_t *)bytes, length, &slot);
+    int32_t answer = fstch_core_open(store, FILE_NUMBER, true, (const uint8_t *)bytes, length, &slot);
     WANT(777, slot);
     return answer;
 }
@@ -38,16 +38,41 @@ static int32_t open_memory(fstch_store *store, memory from) {
     return open_bytes(store, from.bytes, from.length);
 }
 
-/* Does the writes of the tape, at most so many of them, and answers how many there were. */
-static uint32_t write_some(fstch_store *store, memory to, uint32_t most) {
+/* What a cut of the power leaves of the writes behind the last sync: each of them has landed where the bit of its number is set. */
+typedef uint32_t landed;
+
+enum { MOST_LOOSE = 32 };
+
+static const landed ALL = UINT32_MAX;
+
+/* How many of the first events of the tape, at most so many, are behind the last barrier among them; and how many there are. */
+static uint32_t count_loose(fstch_store *store, uint32_t most, uint32_t *events) {
     uint8_t bytes[BLOCK];
-    uint32_t block = 777, number = 0;
-    while (number < most && fstch_core_write(store, number, &block, bytes, sizeof bytes) == FSTCH_DONE) {
-        MUST(((size_t)block + 1) * BLOCK <= to.length);
-        memcpy(to.bytes + (size_t)block * BLOCK, bytes, sizeof bytes);
-        number++;
+    uint32_t block = 777, loose = 0;
+    bool is_barrier = false;
+    for (*events = 0; *events < most && fstch_core_write(store, *events, &is_barrier, &block, bytes, sizeof bytes) == FSTCH_DONE; ++*events) {
+        loose = is_barrier ? 0 : loose + 1;
     }
-    return number;
+    return loose;
+}
+
+/* Does the first events of the tape, at most so many, of which a cut leaves these, and answers how many there were. */
+static uint32_t write_some(fstch_store *store, memory to, uint32_t most, landed lands) {
+    uint8_t bytes[BLOCK];
+    uint32_t block = 777, events = 0;
+    bool is_barrier = false;
+    uint32_t loose = count_loose(store, most, &events), writes_behind = 0;
+    MUST(loose <= MOST_LOOSE);
+    for (uint32_t number = 0; number < events; number++) {
+        WANT(FSTCH_DONE, fstch_core_write(store, number, &is_barrier, &block, bytes, sizeof bytes));
+        MUST(((size_t)block + 1) * BLOCK <= to.length);
+        bool is_loose = events - number <= loose;
+        if (!is_barrier && (!is_loose || (lands >> writes_behind & 1) != 0)) {
+            memcpy(to.bytes + (size_t)block * BLOCK, bytes, sizeof bytes);
+        }
+        writes_behind += is_loose;
+    }
+    return events;
 }
 
 static int32_t sync_to(fstch_store *store, memory to) {
@@ -55,7 +80,7 @@ static int32_t sync_to(fstch_store *store, memory to) {
     if (answer != FSTCH_DONE) {
         return answer;
     }
-    write_some(store, to, UINT32_MAX);
+    write_some(store, to, UINT32_MAX, ALL);
     return fstch_core_synced(store, true);
 }
 
@@ -63,13 +88,16 @@ static void closed_stores_are_refused(void) {
     fstch_store store = FSTCH_CLOSED;
     uint8_t into[4] = {1, 2, 3, 4};
     uint32_t block = 777;
+    bool is_barrier = true;
     WANT(FSTCH_NOT_OPEN, fstch_core_sync(&store));
-    WANT(FSTCH_NOT_OPEN, fstch_core_write(&store, 0, &block, into, sizeof into));
+    WANT(FSTCH_NOT_OPEN, fstch_core_write(&store, 0, &is_barrier, &block, into, sizeof into));
     WANT(FSTCH_NOT_OPEN, fstch_core_synced(&store, true));
     WANT(FSTCH_NOT_OPEN, fstch_core_synced(&store, false));
     WANT(-1, fstch_core_file(&store));
+    WANT(false, fstch_core_barriers(&store));
     WANT(FSTCH_NOT_OPEN, fstch_core_close(&store));
     WANT(777, block);
+    WANT(true, is_barrier);
     WANT(0, memcmp(into, "\1\2\3\4", 4));
     WANT(false, fstch_is_open(&store));
 }
@@ -94,8 +122,13 @@ static void bytes_are_opened(void) {
     WANT(FSTCH_DONE, open_memory(&store, file));
     WANT(FSTCH_IS_OPEN, open_memory(&store, file));
     WANT(FILE_NUMBER, fstch_core_file(&store));
+    WANT(true, fstch_core_barriers(&store));
     WANT(FSTCH_DONE, fstch_core_close(&store));
     WANT(FSTCH_NOT_OPEN, fstch_core_close(&store));
+    uint32_t slot = 777;
+    WANT(FSTCH_DONE, fstch_core_open(&store, FILE_NUMBER, false, file.bytes, file.length, &slot));
+    WANT(false, fstch_core_barriers(&store));
+    WANT(FSTCH_DONE, fstch_core_close(&store));
     free(file.bytes);
 }
 
@@ -124,32 +157,60 @@ static void a_tape_is_read_by_numbers(void) {
     fstch_store store = FSTCH_CLOSED;
     memory file = new_memory(1, 4, 0);
     uint8_t into[BLOCK];
-    uint32_t block = 777;
+    uint32_t block = 777, events = 0;
+    bool is_barrier = true;
     memset(into, 9, sizeof into);
     WANT(FSTCH_DONE, open_memory(&store, file));
-    WANT(FSTCH_ABSENT, fstch_core_write(&store, 0, &block, into, sizeof into));
+    WANT(FSTCH_ABSENT, fstch_core_write(&store, 0, &is_barrier, &block, into, sizeof into));
     WANT(777, block);
+    WANT(true, is_barrier);
     WANT(9, into[0]);
     WANT(FSTCH_DONE, put(&store, "a", "b"));
     WANT(FSTCH_DONE, fstch_core_sync(&store));
-    WANT(FSTCH_BUFFER_TOO_SMALL, fstch_core_write(&store, 0, &block, into, 9));
+    WANT(FSTCH_BUFFER_TOO_SMALL, fstch_core_write(&store, 0, &is_barrier, &block, into, 9));
+    WANT(false, is_barrier);
     WANT(9, into[0]);
-    WANT(FSTCH_DONE, fstch_core_write(&store, 0, &block, into, sizeof into));
+    WANT(FSTCH_DONE, fstch_core_write(&store, 0, &is_barrier, &block, into, sizeof into));
+    WANT(false, is_barrier);
     WANT(true, block < file.length / BLOCK);
-    WANT(FSTCH_ABSENT, fstch_core_write(&store, UINT32_MAX, &block, into, sizeof into));
+    WANT(FSTCH_ABSENT, fstch_core_write(&store, UINT32_MAX, &is_barrier, &block, into, sizeof into));
+    /* the last one is a barrier, of which nothing is copied */
+    WANT(0, count_loose(&store, UINT32_MAX, &events));
+    block = 777;
+    memset(into, 9, sizeof into);
+    WANT(FSTCH_DONE, fstch_core_write(&store, events - 1, &is_barrier, &block, into, 0));
+    WANT(true, is_barrier);
+    WANT(777, block);
+    WANT(9, into[0]);
     /* the file hasn't got it */
     WANT(FSTCH_DONE, fstch_core_synced(&store, false));
-    WANT(FSTCH_ABSENT, fstch_core_write(&store, 0, &block, into, sizeof into));
+    WANT(FSTCH_ABSENT, fstch_core_write(&store, 0, &is_barrier, &block, into, sizeof into));
     WANT(FSTCH_NO_SYNC, fstch_core_sync(&store));
     WANT(true, has(&store, "a", "b"));
     WANT(FSTCH_DONE, fstch_core_close(&store));
     free(file.bytes);
 }
 
-/* Whichever first writes of a sync have reached the file: it opens, and each key has what it had before or has now. */
-static void first_writes_leave_a_store(void) {
-    fstch_store store = FSTCH_CLOSED, left = FSTCH_CLOSED;
-    memory file = new_memory(1, 4, 0);
+/* What is left behind the first events of a sync opens, and each key has what it had before or has now. */
+static void leaves_a_store(fstch_store *store, memory file, uint32_t events, landed lands, bool all) {
+    fstch_store left = FSTCH_CLOSED;
+    memory copy = copy_of(file);
+    WANT(events, write_some(store, copy, events, lands));
+    WANT(FSTCH_DONE, open_memory(&left, copy));
+    WANT(true, has(&left, "key", "before") || has(&left, "key", "now"));
+    WANT(true, has(&left, "old", "value") || has(&left, "old", NULL));
+    WANT(true, has(&left, "new", NULL) || has(&left, "new", "value"));
+    if (all) {
+        WANT(true, has(&left, "key", "now") && has(&left, "old", NULL) && has(&left, "new", "value"));
+    }
+    WANT(FSTCH_DONE, fstch_core_close(&left));
+    free(copy.bytes);
+}
+
+/* Whenever the power is cut in a sync, and whichever writes behind the last barrier have landed: none, all, one, or all but one. */
+static void cuts_leave_a_store(void) {
+    fstch_store store = FSTCH_CLOSED;
+    memory file = new_memory(4, 4, 0);
     WANT(FSTCH_DONE, open_memory(&store, file));
     WANT(FSTCH_DONE, put(&store, "key", "before"));
     WANT(FSTCH_DONE, put(&store, "old", "value"));
@@ -158,22 +219,17 @@ static void first_writes_leave_a_store(void) {
     WANT(FSTCH_DONE, delete_key(&store, "old"));
     WANT(FSTCH_DONE, put(&store, "new", "value"));
     WANT(FSTCH_DONE, fstch_core_sync(&store));
-    memory all = copy_of(file);
-    uint32_t writes = write_some(&store, all, UINT32_MAX);
-    MUST(writes > 1);
-    free(all.bytes);
-    for (uint32_t count = 0; count <= writes; count++) {
-        memory copy = copy_of(file);
-        WANT(count, write_some(&store, copy, count));
-        WANT(FSTCH_DONE, open_memory(&left, copy));
-        WANT(true, has(&left, "key", count < writes ? "before" : "now") || has(&left, "key", "now"));
-        WANT(true, has(&left, "old", "value") || has(&left, "old", NULL));
-        WANT(true, has(&left, "new", NULL) || has(&left, "new", "value"));
-        if (count == writes) {
-            WANT(true, has(&left, "old", NULL) && has(&left, "new", "value"));
+    uint32_t all = 0, events = 0;
+    WANT(0, count_loose(&store, UINT32_MAX, &all));
+    MUST(all > 3);
+    for (uint32_t count = 0; count <= all; count++) {
+        uint32_t loose = count_loose(&store, count, &events);
+        leaves_a_store(&store, file, count, 0, count == all);
+        leaves_a_store(&store, file, count, ALL, count == all);
+        for (uint32_t one = 0; one < loose; one++) {
+            leaves_a_store(&store, file, count, (landed)1 << one, false);
+            leaves_a_store(&store, file, count, ~((landed)1 << one), false);
         }
-        WANT(FSTCH_DONE, fstch_core_close(&left));
-        free(copy.bytes);
     }
     WANT(FSTCH_DONE, fstch_core_close(&store));
     free(file.bytes);
@@ -185,6 +241,6 @@ int main(void) {
     bytes_are_opened();
     values_last();
     a_tape_is_read_by_numbers();
-    first_writes_leave_a_store();
+    cuts_leave_a_store();
     return ended();
 }

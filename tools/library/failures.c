@@ -4,6 +4,7 @@
 #include "wanting.h"
 
 #include <fcntl.h>
+#include <sys/stat.h>
 
 /* How often the library tries a write. */
 enum { TRIES = 8 };
@@ -17,6 +18,46 @@ static void wants_reopened(fstch_store *store, const char *key, const char *valu
     WANT(FSTCH_DONE, put(store, key, "again"));
     WANT(FSTCH_DONE, fstch_sync(store));
     WANT(FSTCH_DONE, fstch_close(store));
+}
+
+/* The file is synced behind the value, behind the pointer of its extent, and behind the slot that names it: each rests on the one before. */
+static void a_sync_has_barriers(void) {
+    fstch_store store = new_store(1, 4);
+    WANT(FSTCH_DONE, put(&store, "key", "value"));
+    writes_made = syncs_made = 0;
+    WANT(FSTCH_DONE, fstch_sync(&store));
+    WANT(3, writes_made);
+    WANT(3, syncs_made);
+    writes_made = syncs_made = 0;
+    WANT(FSTCH_DONE, fstch_sync(&store)); /* nothing is left to be written */
+    WANT(0, writes_made);
+    WANT(0, syncs_made);
+    WANT(FSTCH_DONE, fstch_close(&store));
+}
+
+static void barriers_are_passed_over(void) {
+    fstch_store store = new_store(1, 4);
+    uint32_t slot = 777;
+    WANT(FSTCH_DONE, fstch_close(&store));
+    WANT(FSTCH_DONE, fstch_open_with(&store, FILE_NAME, FSTCH_NO_BARRIERS, &slot));
+    WANT(777, slot);
+    WANT(FSTCH_DONE, put(&store, "key", "value"));
+    syncs_made = 0;
+    WANT(FSTCH_DONE, fstch_sync(&store));
+    WANT(1, syncs_made);
+    WANT(FSTCH_DONE, fstch_sync(&store));
+    WANT(1, syncs_made);
+    WANT(FSTCH_DONE, put(&store, "key", "other"));
+    syncs_till_refused = 0;
+    WANT(FSTCH_NO_SYNC, fstch_sync(&store));
+    syncs_till_refused = -1;
+    wants_reopened(&store, "key", "other"); /* it was written */
+    WANT(FSTCH_DONE, fstch_open_with(&store, FILE_NAME, 0, &slot));
+    WANT(FSTCH_DONE, put(&store, "key", "last"));
+    syncs_made = 0;
+    WANT(FSTCH_DONE, fstch_sync(&store));
+    WANT(3, syncs_made);
+    WANT(FSTCH_DONE, fstch_close(&store));
 }
 
 static void nothing_is_written_but_by_a_sync(void) {
@@ -37,7 +78,7 @@ static void nothing_is_written_but_by_a_sync(void) {
     WANT(0, syncs_made);
     WANT(FSTCH_DONE, fstch_sync(&store));
     WANT(true, writes_made > 0);
-    WANT(1, syncs_made);
+    WANT(true, syncs_made > 0);
     WANT(FSTCH_DONE, put(&store, "key", "lost"));
     writes_made = syncs_made = 0;
     WANT(FSTCH_DONE, fstch_close(&store));
@@ -95,14 +136,36 @@ static void a_file_that_is_too_long_is_not_read(void) {
     reads_till_refused = -1;
 }
 
-static void the_system_refuses_to_sync(void) {
+/* How many blocks a sync has written where this one of its syncs of the file is refused. */
+static long written_before(long sync) {
     fstch_store store = new_store(1, 4);
     WANT(FSTCH_DONE, put(&store, "key", "value"));
-    syncs_till_refused = 0;
+    writes_made = 0;
+    syncs_till_refused = sync;
     WANT(FSTCH_NO_SYNC, fstch_sync(&store));
     syncs_till_refused = -1;
     WANT(true, has(&store, "key", "value"));
-    wants_reopened(&store, "key", "value"); /* it was written */
+    long written = writes_made;
+    wants_reopened(&store, "key", sync < 2 ? NULL : "value"); /* the slot that names the value was written last */
+    return written;
+}
+
+/* Nothing is written behind a sync that failed. */
+static void the_system_refuses_to_sync(void) {
+    for (long sync = 0; sync < 3; sync++) {
+        WANT(sync + 1, written_before(sync));
+    }
+}
+
+static void a_file_is_not_settled(void) {
+    fstch_store store = new_store(1, 4);
+    WANT(FSTCH_DONE, fstch_close(&store));
+    syncs_till_refused = 0;
+    WANT(FSTCH_DISK, open_path(&store, FILE_NAME));
+    syncs_till_refused = -1;
+    WANT(false, fstch_is_open(&store));
+    WANT(FSTCH_DONE, open_path(&store, FILE_NAME)); /* the lock is let go */
+    WANT(FSTCH_DONE, fstch_close(&store));
 }
 
 static void a_file_is_not_finished(void) {
@@ -111,10 +174,52 @@ static void a_file_is_not_finished(void) {
     WANT(FSTCH_DISK, make(FILE_NAME, 1, 4));
     writes_till_refused = -1;
     MUST(access(FILE_NAME, F_OK) != 0);
-    syncs_till_refused = 0;
+    for (long sync = 0; sync < 2; sync++) { /* of the file, and of its directory */
+        syncs_till_refused = sync;
+        WANT(FSTCH_DISK, make(FILE_NAME, 1, 4));
+        syncs_till_refused = -1;
+        MUST(access(FILE_NAME, F_OK) != 0);
+    }
+    answer_to_room = ENOSPC;
     WANT(FSTCH_DISK, make(FILE_NAME, 1, 4));
-    syncs_till_refused = -1;
+    answer_to_room = 0;
     MUST(access(FILE_NAME, F_OK) != 0);
+}
+
+/* How long a file is and how much room it has, in blocks of 4,096 bytes. */
+static void wants_room(const char *name, long blocks) {
+    struct stat seen;
+    MUST(stat(name, &seen) == 0);
+    WANT(blocks * 4096, seen.st_size);
+    WANT(true, (long)seen.st_blocks * 512 >= blocks * 4096);
+}
+
+static void a_file_has_its_room(void) {
+    const long blocks = 2 + 1 + 4 * 16;
+    remove(FILE_NAME);
+    WANT(FSTCH_DONE, make(FILE_NAME, 1, 4));
+    wants_room(FILE_NAME, blocks);
+    remove(FILE_NAME);
+    answer_to_room = EOPNOTSUPP;
+    writes_made = 0;
+    WANT(FSTCH_DONE, make(FILE_NAME, 1, 4));
+    answer_to_room = 0;
+    WANT(blocks + 1, writes_made); /* zeros, and the first block */
+    wants_room(FILE_NAME, blocks);
+}
+
+/* In each directory that a path may name. */
+static void directories_are_synced(void) {
+    char here[4096], path[4200];
+    MUST(getcwd(here, sizeof here) != NULL);
+    snprintf(path, sizeof path, "%s/%s", here, FILE_NAME);
+    const char *const paths[] = {FILE_NAME, "./" FILE_NAME, path};
+    for (int number = 0; number < 3; number++) {
+        remove(FILE_NAME);
+        syncs_made = 0;
+        WANT(FSTCH_DONE, make(paths[number], 1, 4));
+        WANT(2, syncs_made);
+    }
 }
 
 static void calls_are_taken_up_again(void) {
@@ -277,8 +382,13 @@ int main(void) {
     a_write_is_tried_again();
     a_read_is_refused();
     a_file_that_is_too_long_is_not_read();
+    a_sync_has_barriers();
+    barriers_are_passed_over();
     the_system_refuses_to_sync();
+    a_file_is_not_settled();
     a_file_is_not_finished();
+    a_file_has_its_room();
+    directories_are_synced();
     calls_are_taken_up_again();
     standard_streams_are_left_alone();
     fstch_store store = new_store(1, 4);

@@ -20,6 +20,8 @@ static long writes_to_refuse = -1;
 static int is_without_memory;
 /* Whether of all calls that a signal may end each other one is ended. */
 static int is_interrupting;
+/* What is answered where room is asked for; with 0 the system answers. */
+static int answer_to_room;
 /* The most bytes that a read or a write moves. */
 static size_t most_moved = (size_t)-1;
 /* How many calls there were. */
@@ -29,7 +31,8 @@ static long syncs_made;
 ssize_t __real_pwrite(int file, const void *from, size_t length, off_t place);
 ssize_t __real_pread(int file, void *into, size_t length, off_t place);
 int __real_fsync(int file);
-int __real_ftruncate(int file, off_t length);
+int __real_fdatasync(int file);
+int __real_posix_fallocate(int file, off_t place, off_t length);
 int __real_flock(int file, int how);
 void *__real_malloc(size_t length);
 void *__real_realloc(void *at, size_t length);
@@ -37,7 +40,8 @@ void *__real_realloc(void *at, size_t length);
 ssize_t __wrap_pwrite(int file, const void *from, size_t length, off_t place);
 ssize_t __wrap_pread(int file, void *into, size_t length, off_t place);
 int __wrap_fsync(int file);
-int __wrap_ftruncate(int file, off_t length);
+int __wrap_fdatasync(int file);
+int __wrap_posix_fallocate(int file, off_t place, off_t length);
 int __wrap_flock(int file, int how);
 void *__wrap_malloc(size_t length);
 void *__wrap_realloc(void *at, size_t length);
@@ -94,25 +98,37 @@ ssize_t __wrap_pread(int file, void *into, size_t length, off_t place) {
     return __real_pread(file, into, moved(length), place);
 }
 
-int __wrap_ftruncate(int file, off_t length) {
-    return is_interrupted() ? -1 : __real_ftruncate(file, length);
+int __wrap_posix_fallocate(int file, off_t place, off_t length) {
+    if (is_interrupted()) {
+        return EINTR;
+    }
+    return answer_to_room != 0 ? answer_to_room : __real_posix_fallocate(file, place, length);
 }
 
 int __wrap_flock(int file, int how) {
     return is_interrupted() ? -1 : __real_flock(file, how);
 }
 
-int __wrap_fsync(int file) {
+/* Whether a sync goes well so far. */
+static int is_syncing(void) {
     if (is_interrupted()) {
-        return -1;
+        return 0;
     }
     if (is_over(&syncs_till_refused)) {
         errno = EIO;
-        return -1;
+        return 0;
     }
     count(&syncs_till_refused);
     syncs_made++;
-    return __real_fsync(file);
+    return 1;
+}
+
+int __wrap_fsync(int file) {
+    return is_syncing() ? __real_fsync(file) : -1;
+}
+
+int __wrap_fdatasync(int file) {
+    return is_syncing() ? __real_fdatasync(file) : -1;
 }
 
 static int refuses_allocation(void) {

@@ -180,6 +180,13 @@ class Files(unittest.TestCase):
         with fstch.open(FILE) as store:
             self.assertEqual(store, {b"key": b"kept"})
 
+    def test_syncs_without_barriers(self):
+        new_store().close()
+        with fstch.open(FILE, barriers=False) as store:
+            store[b"key"] = b"value"
+        with fstch.open(FILE, barriers=True) as store:
+            self.assertEqual(store, {b"key": b"value"})
+
     def test_closed(self):
         store = new_store()
         group = store.group()

@@ -1,4 +1,4 @@
-//! Devices in memory, with a failing call and over a file, and each refusal in its turn.
+//! Devices in memory, with a write cache, with a failing call and over a file, and each refusal in its turn.
 use crate::expecting::expect_eq;
 use linked_list_allocator::LocalHeap;
 use patch_device::*;
@@ -10,10 +10,12 @@ use std::fs::File;
 use std::process::Abort;
 use std::test::Fail;
 
+mod failing;
 mod faulty;
 mod files;
 mod full_disk;
 mod memory;
+mod volatile;
 
 // Whether the device's block holds this byte throughout.
 fn is_filled<D: Device>(device: &mut D, n: u32, byte: u8) -> bool {
@@ -140,6 +142,7 @@ fn refusals_have_their_numbers_names_and_texts(rt: HostRuntime) -> Result<(), Fa
     let of_files = [
         (FileRefusal::Disk, 4, "Disk"),
         (FileRefusal::FileSize, 5, "FileSize"),
+        (FileRefusal::OutOfMemory, 1, "OutOfMemory"),
     ];
     expect_each_named(&rt, rt.alloc(), &of_files)?;
     let of_loads = [

@@ -130,7 +130,7 @@ fn lists_give_their_vectors_back(rt: HostRuntime) -> Result<(), Fail> {
     Ok(())
 }
 
-const KINDS: [(RefusalKind, u8, &str); 9] = [
+const KINDS: [(RefusalKind, u8, &str); 10] = [
     (RefusalKind::OutOfMemory, 1, "OutOfMemory"),
     (RefusalKind::NoSuchBlock, 2, "NoSuchBlock"),
     (RefusalKind::DependentApplied, 11, "DependentApplied"),
@@ -140,6 +140,7 @@ const KINDS: [(RefusalKind, u8, &str); 9] = [
     (RefusalKind::DuplicateKey, 51, "DuplicateKey"),
     (RefusalKind::NoThread, 60, "NoThread"),
     (RefusalKind::AlreadyVersion2, 61, "AlreadyVersion2"),
+    (RefusalKind::SyncFailed, 64, "SyncFailed"),
 ];
 
 // The number of a kind, and its name, which is its text.

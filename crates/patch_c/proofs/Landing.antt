@@ -1,6 +1,6 @@
 -- What the file may hold while the writes of a sync reach it.
-use Rattle.std.proofs.Common.{◌≡◌, ℕ, zero, suc, ◌+◌, ◌-◌, ◌<◌, ◌≤◌, ◌∙◌, Bool, true, false, inl, inr, List, [], ◌∷◌, ◌++◌, length, map, refl, sym, ap, subst, arith}
-use Rattle.std.specs.Prelude.{◌==◌, ◌||◌, ◌&&◌, not, slice_set, take, IsFalse}
+use Rattle.std.proofs.Common.{◌≡◌, ℕ, zero, suc, ◌+◌, ◌-◌, ◌<◌, ◌≤◌, ◌∙◌, Bool, true, inl, inr, List, [], ◌∷◌, length, map, refl, sym, ap, subst, arith}
+use Rattle.std.specs.Prelude.{◌==◌, ◌||◌, ◌&&◌, not, take, IsFalse}
 use Rattle.std.specs.List.{range_with_len}
 use Rattle.std.proofs.Math.Seq.{take-append-add}
 use Rattle.std.proofs.lemmas.Bool.{cases_Bool}
@@ -18,7 +18,9 @@ use Rattle.patch_model.specs.Crash.{crash_set, disk_of, MayLeave, HasTrail}
 use Rattle.patch_model.specs.Member.{filter-same}
 use Rattle.patch_model.specs.Pile.{pile}
 use Rattle.patch_model.proofs.Images.{pile_of-history}
-use Rattle.patch_device.specs.Writes.{after_writes, under_writes}
+use Rattle.patch_device.specs.Device.{Elapses}
+use Rattle.patch_device.specs.SameDevice.{IsLasting}
+use Rattle.patch_device.specs.declared.devices.Device.{Ghosts}
 use Rattle.patch_cache.specs.Running.{IsCrashSafe}
 use Rattle.patch_cache.specs.Waves.{HoldImages, HasKept}
 use Rattle.patch_history.specs.History.{History, execution_of, steps_of}
@@ -26,9 +28,12 @@ use Rattle.patch_store.specs.Flushing.{HasWritten, with_writes}
 use Rattle.patch_store.specs.Meaning.{Store, Represents}
 use Rattle.patch_disks.specs.Running.{StandsOn}
 use Rattle.patch_c.specs.declared.tape.Tape.{Tape}
-use Rattle.patch_c.specs.Saving.{HasKeptSafe, MayBeLeft, LandsSafely}
-use Rattle.patch_c.specs.Tape.{file_of, contents_of, contents_had, writes_of}
+use Rattle.patch_device.specs.Cuts.{cached_behind}
+use Rattle.patch_c.specs.Saving.{HasKeptSafe, MayBeLeft, LandsSafely, LastsOnceDone}
+use Rattle.patch_c.specs.Tape.{file_of, contents_of, moment_of, left_at_of, events_of}
+use Rattle.patch_c.proofs.Staying.{empty_holds}
 use Rattle.patch_c.proofs.Synced.{writes_behind}
+use Rattle.patch_c.proofs.Writing.{lasts_still}
 
 -- Blocks that are the images of all may be left by a crash: by one where all writes that are under way had landed.
 
@@ -78,34 +83,20 @@ resting_left run blocks none holds =
           ∙ sym (get_or-map-range_with_len (λ k. pile_of (history_of run k) (crash_set all)) 0 (length run.first) k k d known (omega arith)));
     }
 
--- So what a flush keeps of them is kept of a store that stands on its blocks.
-pub kept_so : (h : History) (steps : List Step) (old flushed new : Store) (had had_then had_now : List (List (List ℕ))) (blocks blocks_then blocks_now : List (List ℕ))
-    → StandsOn old h blocks → HasWritten h steps flushed → HasKept (execution_of h) steps had had_then blocks blocks_then
-    → had_now ≡ had_then → blocks_now ≡ blocks_then → ((h : History) → Represents flushed h → Represents new h)
-    → HasKeptSafe h new had had_now blocks_now
-kept_so h steps old flushed new had had_then had_now blocks blocks_then blocks_now stands written kept same_had same drained =
-    let safe = kept.crash (resting_left (execution_of h) blocks stands.still.no_flight stands.images) in
-    let behind = subst (λ run. IsCrashSafe (execution_of h) run had had_then blocks_then) (writes_behind h steps) safe in
+-- So what a flush keeps of them is kept of a store that stands on its blocks, which last.
+pub kept_so : {D : Type 0} (g : Ghosts D) (h : History) (steps : List Step) (old flushed new : Store) (before now : D) → StandsOn old h (g.contents before) → IsLasting g before
+    → HasWritten h steps flushed → HasKept g (execution_of h) steps before now → ((h : History) → Represents flushed h → Represents new h) → HasKeptSafe g h new before now
+kept_so g h steps old flushed new before now stands lasting written kept drained =
+    let blocks = g.contents before in
+    let rests = resting_left (execution_of h) blocks stands.still.no_flight stands.images in
+    let safe = kept.crash (λ disk left. subst (MayLeave (execution_of h)) (sym (lasting disk left)) rests) in
     record {
       writes = steps;
       represents = drained _ written.represents;
-      safe = subst (λ all. IsCrashSafe (execution_of h) (execution_of (with_writes h steps)) had all blocks_now) (sym same_had)
-          (subst (λ all. IsCrashSafe (execution_of h) (execution_of (with_writes h steps)) had had_then all) (sym same) behind);
+      safe = subst (λ run. IsCrashSafe g (execution_of h) run before now) (writes_behind h steps) safe;
     }
 
--- The disks of the trail are those that the first writes leave.
-
-abbrev tail_of : {X : Type 0} → List X → List X
-tail_of [] = []
-tail_of (x ∷ xs) = xs
-
-abbrev head_of : {X : Type 0} → X → List X → X
-head_of other [] = other
-head_of other (x ∷ xs) = x
-
-first_is : (blocks : List (List ℕ)) (ws : List (ℕ × List ℕ)) → (rest : List (List (List ℕ))) × (under_writes blocks ws ≡ blocks ∷ rest)
-first_is blocks [] = ([], refl)
-first_is blocks (w ∷ ws) = (under_writes (slice_set blocks w.0 w.1) ws, refl)
+-- What a cut leaves at a moment of the trail is left behind some first steps.
 
 cut_behind : (h : History) (steps : List Step) (n : ℕ) → length (steps_of h) ≤ n
     → cut n (execution_of (with_writes h steps)) ≡ execution_of (with_writes h (take (n - length (steps_of h)) steps))
@@ -117,28 +108,24 @@ cut_behind h steps n low =
     ∙ ap (λ all. let v : Execution = record { first = h.opening; steps = all } in v) (take-append-add (steps_of h) steps more)
     ∙ writes_behind h (take more steps)
 
-left_behind : (h : History) (steps : List Step) (n : ℕ) (blocks : List (List ℕ)) → length (steps_of h) ≤ n
-    → MayLeave (cut n (execution_of (with_writes h steps))) blocks → MayBeLeft h steps blocks
-left_behind h steps n blocks low left = (n - length (steps_of h), subst (λ run. MayLeave run blocks) (cut_behind h steps n low) left)
+left_then : (h : History) (steps : List Step) (n : ℕ) (disk : List (List ℕ)) → length (steps_of h) ≤ n
+    → MayLeave (cut n (execution_of (with_writes h steps))) disk → MayBeLeft h steps disk
+left_then h steps n disk low left = (n - length (steps_of h), subst (λ run. MayLeave run disk) (cut_behind h steps n low) left)
 
-each_lands : (h : History) (steps : List Step) (from : ℕ) (blocks : List (List ℕ)) (ws : List (ℕ × List ℕ)) (disks : List (List (List ℕ))) (counts : List ℕ)
-    → length (steps_of h) ≤ from → under_writes blocks ws ≡ blocks ∷ disks → HasTrail (execution_of (with_writes h steps)) from disks counts
-    → MayBeLeft h steps blocks → (count : ℕ) → MayBeLeft h steps (after_writes blocks (take count ws))
-each_lands h steps from blocks ws disks counts low is trail left zero = left
-each_lands h steps from blocks [] disks counts low is trail left (suc count) = left
-each_lands h steps from blocks (w ∷ ws) [] counts low is trail left (suc count) =
-    let now = slice_set blocks w.0 w.1 in
-    let next = first_is now ws in
-    let none : now ∷ next.0 ≡ [] = sym next.1 ∙ ap tail_of is in
-    absurd (cc)
-each_lands h steps from blocks (w ∷ ws) (disk ∷ disks) [] low is trail left (suc count) = absurd trail
-each_lands h steps from blocks (w ∷ ws) (disk ∷ disks) (n ∷ counts) low is trail left (suc count) =
-    let now = slice_set blocks w.0 w.1 in
-    let next = first_is now ws in
-    let rest : under_writes now ws ≡ disk ∷ disks = ap tail_of is in
-    let same : disk ≡ now = ap (head_of now) (sym rest ∙ next.1) in
-    each_lands h steps n now ws disks counts (omega (arith, low, trail.0)) (rest ∙ ap (λ d. d ∷ disks) same) trail.2
-    (left_behind h steps n now (omega (arith, low, trail.0)) (subst (MayLeave (cut n (execution_of (with_writes h steps)))) same trail.1)) count
+each_lands : (h : History) (steps : List Step) (left_at : ℕ → List (List ℕ) → Type 0) (moment from : ℕ) (counts : List ℕ) → length (steps_of h) ≤ from
+    → HasTrail (execution_of (with_writes h steps)) left_at moment from counts
+    → (t : ℕ) (disk : List (List ℕ)) → moment ≤ t → t < moment + length counts → left_at t disk → MayBeLeft h steps disk
+each_lands h steps left_at moment from [] low trail t disk after within left = absurd (omega (arith, after, within))
+each_lands h steps left_at moment from (n ∷ counts) low trail t disk after within left =
+    let later : length (steps_of h) ≤ n = omega (arith, low, trail.0) in
+    elim (cases_Bool (moment == t)) [
+      | inl u ↦
+          let now : moment ≡ t = grind (arith, nat_tests) in
+          left_then h steps n disk later (trail.1 disk (subst (λ m. left_at m disk) (sym now) left))
+      | inr u ↦
+          let next : suc moment ≤ t = grind (arith, nat_tests) in
+          each_lands h steps left_at (suc moment) n counts later trail.2 t disk next (omega (arith, within)) left
+    ]
 
 at_rest : (h : History) (steps : List Step) (blocks : List (List ℕ)) → MayLeave (execution_of h) blocks → MayBeLeft h steps blocks
 at_rest h steps blocks left =
@@ -146,23 +133,32 @@ at_rest h steps blocks left =
     ap (λ all. let v : Execution = record { first = h.opening; steps = all } in v) (sym (append-nil (steps_of h))) ∙ writes_behind h [] in
     (0, subst (λ run. MayLeave run blocks) none left)
 
-pub lands_so : (h : History) (old new : Store) (before after : Tape) → writes_of before ≡ [] → StandsOn old h (file_of before)
-    → (StandsOn old h (contents_of before) → HasKeptSafe h new (contents_had before) (contents_had after) (contents_of after))
-    → LandsSafely h new before after
-lands_so h old new before after none stands safe =
+-- An empty tape lasts as its file does,
+pub empty_lasts : (tape : Tape) → events_of tape ≡ [] → LastsOnceDone tape
+empty_lasts tape none = lasts_still (file_of tape) (events_of tape) (ap (λ es. (cached_behind (file_of tape) es).loose) none)
+
+pub empty_stands : (h : History) (store : Store) (tape : Tape) → events_of tape ≡ [] → StandsOn store h (file_of tape) → StandsOn store h (contents_of tape)
+empty_stands h store tape none stands = subst (StandsOn store h) (sym (empty_holds tape (file_of tape) refl none)) stands
+
+-- and behind a sync the file may hold what a crash may leave.
+pub lands_so : (h : History) (old new : Store) (before after : Tape) (steps : List Step) (counts : List ℕ) → events_of before ≡ [] → StandsOn old h (file_of before)
+    → Represents new (with_writes h steps) → Elapses (moment_of before) (moment_of after) (left_at_of before) (left_at_of after)
+    → moment_of after ≡ moment_of before + length counts
+    → HasTrail (execution_of (with_writes h steps)) (left_at_of after) (suc (moment_of before)) (length (steps_of h)) counts → LandsSafely h new before after
+lands_so h old new before after steps counts none stands represents time moments trail =
     let file = file_of before in
-    let kept = safe (subst (λ ws. StandsOn old h (after_writes file ws)) (sym none) stands) in
-    let disks = kept.safe.disks in
-    let added : under_writes (file_of after) (writes_of after) ≡ file ∷ disks = kept.safe.added ∙ ap (λ ws. under_writes file ws ++ disks) none in
-    let first = first_is (file_of after) (writes_of after) in
-    let heads : file_of after ∷ first.0 ≡ file ∷ disks = sym first.1 ∙ added in
-    let same : file_of after ≡ file = ap (head_of file) heads in
-    let left = resting_left (execution_of h) file stands.still.no_flight stands.images in
+    let begin : moment_of before ≡ 0 = ap length none in
     record {
-      file = same;
-      steps = kept.writes;
-      represents = kept.represents;
-      lands = subst (λ (now : List (List ℕ)). under_writes now (writes_of after) ≡ now ∷ disks → (count : ℕ) → MayBeLeft h kept.writes (after_writes now (take count (writes_of after)))) (sym same)
-          (λ is. each_lands h kept.writes (length (steps_of h)) file (writes_of after) disks kept.safe.counts (omega arith) is kept.safe.trail (at_rest h kept.writes file left))
-          (added ∙ ap (λ f. f ∷ disks) (sym same));
+      file = sym ((time.past 0 file (omega arith)).0 refl);
+      steps = steps;
+      represents = represents;
+      lands = λ t disk within left. elim (cases_Bool (0 == t)) [
+        | inl u ↦
+            let now : 0 ≡ t = grind (arith, nat_tests) in
+            let first : disk ≡ file = (time.past 0 disk (omega arith)).1 (subst (λ m. left_at_of after m disk) (sym now) left) in
+            at_rest h steps disk (subst (MayLeave (execution_of h)) (sym first) (resting_left (execution_of h) file stands.still.no_flight stands.images))
+        | inr u ↦
+            let some : 1 ≤ t = grind (arith, nat_tests) in
+            each_lands h steps (left_at_of after) (suc (moment_of before)) (length (steps_of h)) counts (omega arith) trail t disk (omega (arith, begin, some)) (omega (arith, within, moments)) left
+      ];
     }

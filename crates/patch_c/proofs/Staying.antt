@@ -3,7 +3,6 @@ use mathlib.Core.Logic.{∥∥₁_map}
 use Rattle.std.proofs.Common.{◌≡◌, ◌∙◌, ℕ, Bool, true, false, List, [], refl, sym, ap, subst}
 use Rattle.std.specs.Prelude.{IsFalse}
 use Rattle.patch_device.specs.Blocks.{AreWhole}
-use Rattle.patch_device.specs.Writes.{after_writes}
 use Rattle.patch_history.specs.Command.{Command, Reply}
 use Rattle.patch_history.specs.History.{History, Call, with_event}
 use Rattle.patch_history.specs.Standing.{at_opening}
@@ -11,13 +10,14 @@ use Rattle.patch_store.specs.Flushing.{with_writes}
 use Rattle.patch_store.specs.Meaning.{Store, Represents, HasAnswered}
 use Rattle.patch_store.specs.Opening.{IsOpened, at_opening as at_first}
 use Rattle.patch_disks.proofs.Calling.{opened_so}
-use Rattle.patch_disks.specs.Running.{StandsOn, HasSaved}
+use Rattle.patch_disks.specs.Running.{StandsOn}
 use Rattle.patch_disks.proofs.Resting.{StatesExtend, ImagesStay, rests_behind}
 use Rattle.patch_c.specs.declared.answers.Answer.{Answer}
 use Rattle.patch_c.specs.declared.answers.Answer.TheVariants.{Done}
 use Rattle.patch_c.specs.declared.tape.Tape.{Tape}
-use Rattle.patch_c.specs.Saving.{HasWrittenOn}
-use Rattle.patch_c.specs.Tape.{file_of, contents_of, writes_of}
+use Rattle.patch_device.specs.Cuts.{written_behind}
+use Rattle.patch_c.specs.Saving.{HasSaved, HasWrittenOn}
+use Rattle.patch_c.specs.Tape.{file_of, contents_of, events_of}
 use Rattle.patch_c.specs.Standing.{StandsSomewhere, CallsStay}
 
 pub stays_on : StatesExtend → ImagesStay → (h : History) (writer : ℕ) (command : Command) (reply : Reply) (old new : Store) (blocks : List (List ℕ)) → StandsOn old h blocks
@@ -49,8 +49,8 @@ pub whole_so : (s : Store) (blocks held : List (List ℕ)) → held ≡ blocks �
 whole_so s blocks held same opened = subst AreWhole (sym same) opened.represents.legal.legal.blocks
 
 -- an empty tape is of what its file holds
-pub empty_holds : (tape : Tape) (blocks : List (List ℕ)) → file_of tape ≡ blocks → writes_of tape ≡ [] → contents_of tape ≡ blocks
-empty_holds tape blocks file none = ap (λ ws. after_writes (file_of tape) ws) none ∙ file
+pub empty_holds : (tape : Tape) (blocks : List (List ℕ)) → file_of tape ≡ blocks → events_of tape ≡ [] → contents_of tape ≡ blocks
+empty_holds tape blocks file none = ap (written_behind (file_of tape)) none ∙ file
 
 -- where no sync is done any more nothing is said of the blocks
 pub spent_so : (before : Bool) (s : Store) (blocks blocks_now : List (List ℕ)) → ∥ StandsSomewhere before s blocks ∥₁ → ∥ StandsSomewhere true s blocks_now ∥₁

@@ -10,10 +10,12 @@ pub record IsZeros (h : Handle) : Type 0 where
   pub null : h.sealed.at ≡ null_ptr
   pub nothing : h.sealed.opened ≡ None
 
--- but for its store what is open is as it was: the tape, with what the file holds, the file's number, and whether a sync was refused
+-- but for its store what is open is as it was: the tape, with what the file holds, the file's number, whether it is synced at barriers, and
+-- whether a sync was refused
 pub record KeepsRest (before after : Opened) : Type 0 where
   pub device : after.device ≡ before.device
   pub file : after.file ≡ before.file
+  pub barriers : after.barriers ≡ before.barriers
   pub spent : after.is_spent ≡ before.is_spent
 
 -- this is said of the store that the handle stood for before a call, and of the one that it stands for behind it

@@ -1,5 +1,5 @@
 -- A store that is opened, and the file of a new one.
-use Rattle.std.specs.Prelude.{ℕ, ℤ, ◌≡◌, ◌==◌, ◌+◌, ◌*◌, ◌/◌, ◌++◌, ◌⊎◌, false, if◌then◌else◌, IsTrue, List, [], length, map, drop, slice_range, slice_get, Some, None}
+use Rattle.std.specs.Prelude.{ℕ, ℤ, ◌≡◌, ◌==◌, ◌+◌, ◌*◌, ◌/◌, ◌++◌, ◌⊎◌, Bool, false, if◌then◌else◌, IsTrue, List, [], length, map, drop, slice_range, slice_get, Some, None}
 use Rattle.std.specs.List.{range_with_len}
 use Rattle.patch_model.specs.declared.blocks.TheConstants.{BLOCK}
 use Rattle.patch_model.specs.declared.refusals.Refusal.{Refusal}
@@ -18,7 +18,7 @@ use Rattle.patch_c.specs.declared.answers.Answer.TheVariants.{Refused}
 use Rattle.patch_c.specs.declared.opened.Opened.{Opened}
 use Rattle.patch_c.specs.declared.unopened.Unopened.{Unopened}
 use Rattle.patch_c.specs.Answering.{number_of}
-use Rattle.patch_c.specs.Tape.{file_of, block_count_of, writes_of}
+use Rattle.patch_c.specs.Tape.{file_of, block_count_of, events_of}
 
 -- a block of so many bytes
 abbrev pub block_in : (bytes : List ℕ) → ℕ → List ℕ
@@ -29,13 +29,14 @@ abbrev pub blocks_in : List ℕ → List (List ℕ)
 blocks_in bytes = map (block_in bytes) (range_with_len 0 (length bytes / BLOCK))
 
 -- the store of a file's bytes, which was opened and has done nothing since; the file has these blocks
-pub record IsFresh (file : ℤ) (bytes : List ℕ) (opened : Opened) : Type 0 where
+pub record IsFresh (file : ℤ) (barriers : Bool) (bytes : List ℕ) (opened : Opened) : Type 0 where
   pub opens : IsOpened (blocks_in bytes) opened.store
   pub no_steps : opened.store.cache.trace ≡ []
   pub whole : length bytes ≡ block_count_of opened.device * BLOCK
   pub holds : file_of opened.device ≡ blocks_in bytes
-  pub no_writes : writes_of opened.device ≡ []
+  pub no_events : events_of opened.device ≡ []
   pub file_is : opened.file ≡ file
+  pub barriers_are : opened.barriers ≡ barriers
   pub unspent : opened.is_spent ≡ false
 
 -- Why a store isn't opened.

@@ -25,7 +25,7 @@ pub enum Answer {
     BufferTooSmall,
     /// The key has no value, or there is no entry of this number.
     Absent,
-    /// All was written, but not synced; or an earlier sync was refused.
+    /// An earlier sync was refused. C also answers it where the system doesn't sync the file.
     NoSync,
     /// There is no writer of this number.
     BadWriter,

@@ -1,5 +1,5 @@
 //! Files: what a new one holds, and how the store of one is opened and closed. The program in C makes, opens and closes the files.
-ghost use Rattle.std.specs.Prelude.{◌≡◌, ◌≢◌, ◌↔◌, IsTrue, IsFalse, IfSome};
+ghost use Rattle.std.specs.Prelude.{◌≡◌, ◌≢◌, ◌↔◌, IsTrue, IsFalse, IfSome, false};
 ghost use Rattle.patch_c.specs.Handle.{IsZeros};
 ghost use Rattle.patch_c.specs.Opening.{IsFresh, TellsWhyNot, HasMade, geometry_for as geometry_of};
 
@@ -31,26 +31,28 @@ pub extern "C" fn fstch_core_make(
     make_first(alloc, geometry, into, blocks).number()
 }
 
-/// Opens the store of a file that holds these bytes and no others.
+/// Opens the store of a file that holds these bytes and no others. It is kept whether the file is to be synced at each barrier.
 #[unsafe(no_mangle)]
 pub extern "C" fn fstch_core_open(
     handle: &mut Handle,
     alloc: Global,
     file: i32,
+    barriers: bool,
     bytes: &[u8],
     slot: &mut u32,
 ) -> i32
     ensures is_open { (result ≡ IS_OPEN) ↔ IsTrue handle.old.is_open }
     ensures opened { result ≡ DONE → IsTrue handle.new.is_open }
-    ensures fresh { result ≡ DONE → IfSome handle.new.sealed.opened (IsFresh file bytes.now) }
+    ensures fresh { result ≡ DONE → IfSome handle.new.sealed.opened (IsFresh file barriers bytes.now) }
     ensures refused { result ≢ DONE → handle.new ≡ handle.old }
     ensures slot { result ≡ DONE → slot.new ≡ slot.old }
+    ensures slot_kept { IsTrue handle.old.is_open → slot.new ≡ slot.old }
     ensures why { IsFalse handle.old.is_open → result ≢ DONE → TellsWhyNot bytes.now result slot.old slot.new }
 {
     if handle.is_open {
         return IS_OPEN;
     }
-    match open_bytes(alloc, file, bytes) {
+    match open_bytes(alloc, file, barriers, bytes) {
         Ok(opened) => {
             handle.put_back(opened);
             DONE
@@ -76,6 +78,22 @@ pub extern "C" fn fstch_core_file(handle: &mut Handle, alloc: Global) -> i32
     let file = opened.file;
     handle.put_back(opened);
     file
+}
+
+/// Whether the file of the store is to be synced at each barrier. Where no store is open it is not.
+#[unsafe(no_mangle)]
+pub extern "C" fn fstch_core_barriers(handle: &mut Handle, alloc: Global) -> bool
+    ensures same { handle.new.sealed.opened ≡ handle.old.sealed.opened }
+    ensures open { handle.new.is_open ≡ handle.old.is_open }
+    ensures barriers { IfSome handle.old.sealed.opened (λ opened. result ≡ opened.barriers) }
+    ensures none { IsFalse handle.old.is_open → result ≡ false }
+{
+    let Some(opened) = handle.take(alloc) else {
+        return false;
+    };
+    let barriers = opened.barriers;
+    handle.put_back(opened);
+    barriers
 }
 
 /// Closes a store, and writes nothing.

@@ -100,6 +100,7 @@ pub extern "C" fn fstch_group(handle: &mut Handle, alloc: Global, group: &mut u3
         TellsOf writer Group result group.old group.new before.store after.store) }
     ensures kept { Between handle.old handle.new (λ before after. KeepsUnlessDone result before.store after.store) }
     ensures rest { Between handle.old handle.new KeepsRest }
+    ensures refused { IsFalse handle.old.is_open → group.new ≡ group.old }
 {
     let Some(mut opened) = handle.take(alloc) else {
         return NOT_OPEN;
@@ -210,6 +211,7 @@ pub extern "C" fn fstch_group_pending(
     ensures not_open { (result ≡ NOT_OPEN) ↔ IsFalse handle.old.is_open }
     ensures told { (writer : ℕ) → IfSome handle.old.sealed.opened (λ opened.
         TellsOf writer (Pending group) result changes.old changes.new opened.store opened.store) }
+    ensures refused { IsFalse handle.old.is_open → changes.new ≡ changes.old }
 {
     let Some(opened) = handle.take(alloc) else {
         return NOT_OPEN;

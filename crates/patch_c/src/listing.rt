@@ -67,6 +67,7 @@ pub extern "C" fn fstch_check(
     ensures not_open { (result ≡ NOT_OPEN) ↔ IsFalse handle.old.is_open }
     ensures counted { IfSome handle.old.sealed.opened (λ opened. (h : History) → Represents opened.store h →
         HasCounted h entries.old extents.old (result, entries.new, extents.new)) }
+    ensures refused { IsFalse handle.old.is_open → (entries.new ≡ entries.old) × (extents.new ≡ extents.old) }
 {
     let Some(opened) = handle.take(alloc) else {
         return NOT_OPEN;
@@ -90,6 +91,8 @@ pub extern "C" fn fstch_entry(
     ensures not_open { (result ≡ NOT_OPEN) ↔ IsFalse handle.old.is_open }
     ensures listed { IfSome handle.old.sealed.opened (λ opened. (h : History) → Represents opened.store h →
         HasListed h number key.old key_len.old value_len.old (result, key.new, key_len.new, value_len.new)) }
+    ensures refused { IsFalse handle.old.is_open
+        → (key.new ≡ key.old) × (key_len.new ≡ key_len.old) × (value_len.new ≡ value_len.old) }
 {
     let Some(opened) = handle.take(alloc) else {
         return NOT_OPEN;

@@ -34,8 +34,13 @@ fn open_store(alloc: Global, blocks: Vec<BlockBytes>) -> Result<Store, Unopened>
 
 /// The store of a file's bytes, on the heap.
 #[tactic(auto, using(crate::proofs::Refused::starved_why, crate::proofs::Refused::tested_why, crate::proofs::Refused::passed_why, crate::proofs::Staying::whole_so))]
-pub fn open_bytes(alloc: Global, file: i32, bytes: &[u8]) -> Result<Box<Opened, Global>, Unopened>
-    ensures fresh { IfOk result (λ opened. IsFresh file bytes.now opened.value) }
+pub fn open_bytes(
+    alloc: Global,
+    file: i32,
+    barriers: bool,
+    bytes: &[u8],
+) -> Result<Box<Opened, Global>, Unopened>
+    ensures fresh { IfOk result (λ opened. IsFresh file barriers bytes.now opened.value) }
     ensures why { IfErr result (λ why. IsWhyNot bytes.now why.refusal) }
 {
     let blocks = blocks_in(alloc, bytes)?;
@@ -51,6 +56,7 @@ pub fn open_bytes(alloc: Global, file: i32, bytes: &[u8]) -> Result<Box<Opened, 
             store,
             device,
             file,
+            barriers,
             is_spent: false,
         },
     )?)

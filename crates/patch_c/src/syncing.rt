@@ -4,11 +4,11 @@ ghost use Rattle.patch_model.specs.declared.refusals.RefusalKind.TheVariants as 
 ghost use Rattle.patch_history.specs.History.{History};
 ghost use Rattle.patch_store.specs.Flushing.{StandsStill};
 ghost use Rattle.patch_store.specs.Meaning.{Represents};
-ghost use Rattle.patch_disks.specs.Running.{StandsOn, HasSaved};
+ghost use Rattle.patch_disks.specs.Running.{StandsOn};
 ghost use Rattle.patch_c.specs.Answering.{number_of, IsOf};
 ghost use Rattle.patch_c.specs.Handle.{Between};
-ghost use Rattle.patch_c.specs.Saving.{IsSynced, HasWrittenOn, LandsSafely, HasCause, IsSettled};
-ghost use Rattle.patch_c.specs.Tape.{file_of, contents_of, block_count_of, fault_count_of, writes_of, write_told};
+ghost use Rattle.patch_c.specs.Saving.{IsSynced, HasSaved, HasWrittenOn, LandsSafely, HasCause, LastsOnceDone, IsSettled};
+ghost use Rattle.patch_c.specs.Tape.{file_of, contents_of, block_count_of, fault_count_of, events_of, event_told};
 
 use crate::answers::{Answer, DONE, NOT_OPEN};
 use crate::copying::copy_out;
@@ -18,14 +18,17 @@ use crate::saving::save;
 use patch_model::RefusalKind;
 use std::alloc::Global;
 
-/// What a flush to the tape comes to: the tape gives a write up for want of memory alone, since it has each block.
+/// What a flush to the tape comes to: the tape refuses a write or a barrier for want of memory alone, since it has each block.
 fn on_tape(answer: Answer) -> Answer
     ensures done { (result ≡ Answer.Done) ↔ (answer ≡ Answer.Done) }
     ensures gave_up { result ≢ Answer.Refused kind.DeviceGaveUp }
+    ensures sync_failed { result ≢ Answer.Refused kind.SyncFailed }
     ensures cause { (faults faults_now : ℕ) → HasCause answer faults faults_now → HasCause result faults faults_now }
 {
     match answer {
-        Answer::Refused(RefusalKind::DeviceGaveUp) => Answer::Refused(RefusalKind::OutOfMemory),
+        Answer::Refused(RefusalKind::DeviceGaveUp | RefusalKind::SyncFailed) => {
+            Answer::Refused(RefusalKind::OutOfMemory)
+        }
         _ => answer,
     }
 }
@@ -35,14 +38,17 @@ impl Opened {
     fn sync(&mut self) -> Answer
         ensures spent { IsTrue self.old.is_spent → (result ≡ Answer.NoSync) × (self.new.store ≡ self.old.store) × (self.new.device ≡ self.old.device) }
         ensures number { self.new.file ≡ self.old.file }
+        ensures barriers { self.new.barriers ≡ self.old.barriers }
         ensures saved { (h : History) → StandsOn self.old.store h (contents_of self.old.device)
             → result ≡ Answer.Done → HasSaved h self.new.store (contents_of self.new.device) }
-        ensures lands { IsFalse self.old.is_spent → writes_of self.old.device ≡ [] → (h : History)
+        ensures lands { IsFalse self.old.is_spent → events_of self.old.device ≡ [] → (h : History)
             → StandsOn self.old.store h (file_of self.old.device) → LandsSafely h self.new.store self.old.device self.new.device }
+        ensures lasts { events_of self.old.device ≡ [] → result ≡ Answer.Done → LastsOnceDone self.new.device }
         ensures synced { (h : History) → StandsStill self.old.store h → result ≡ Answer.Done → IsSynced h self.new.store }
         ensures written { IsFalse self.old.is_spent → (h : History) → Represents self.old.store h → HasWrittenOn h self.new.store }
         ensures fails { IsFalse self.new.is_spent ↔ (result ≡ Answer.Done) }
         ensures gave_up { result ≢ Answer.Refused kind.DeviceGaveUp }
+        ensures sync_failed { result ≢ Answer.Refused kind.SyncFailed }
         ensures cause { IsFalse self.old.is_spent → (h : History) → Represents self.old.store h
             → block_count_of self.old.device ≡ length h.opening
             → HasCause result (fault_count_of self.old.device) (fault_count_of self.new.device) }
@@ -55,12 +61,17 @@ impl Opened {
         answer
     }
 
-    /// Copies a write of the tape.
-    fn written(&self, number: u32, block: &mut u32, into: &mut [u8]) -> Answer
-        ensures { (number_of result, block.new, into.new) ≡ write_told (slice_get (writes_of self.now.device) number) block.old into.old }
+    /// Tells an event of the tape.
+    fn event(&self, number: u32, is_barrier: &mut bool, block: &mut u32, into: &mut [u8]) -> Answer
+        ensures { (number_of result, is_barrier.new, block.new, into.new)
+            ≡ event_told (slice_get (events_of self.now.device) number) is_barrier.old block.old into.old }
     {
-        let Some((place, bytes)) = self.device.writes().get(number as usize) else {
+        let Some(event) = self.device.events().get(number as usize) else {
             return Answer::Absent;
+        };
+        *is_barrier = event.is_none();
+        let Some((place, bytes)) = event else {
+            return Answer::Done;
         };
         *block = *place;
         let mut len = 0;
@@ -79,19 +90,22 @@ impl Opened {
     }
 }
 
-/// Puts all changes on the tape, each behind those on which it depends. The store takes them for durable from then on.
+/// Puts all changes on the tape, in waves with a barrier behind each. The store takes them for durable from then on.
 ///
-/// What the file holds as it is called is a premise: the blocks from which it was opened, with the writes of all tapes since. Then they
-/// are what `file_of` says. Once the file has all writes of the tape its blocks are the cached ones, and with some first ones of them it
-/// holds what a crash may leave.
+/// What the file holds as it is called, and that it lasts there, is a premise: the blocks from which it was opened, with the writes of all
+/// tapes since. Then they are what `file_of` says. The events of the tape are brought to the file in order, and nothing behind a barrier is
+/// written before a sync of the file has succeeded there. What a cut of the power leaves at any moment of that a crash may leave; once
+/// all is done, the blocks are the cached ones, and they last.
 #[unsafe(no_mangle)]
 pub extern "C" fn fstch_core_sync(handle: &mut Handle, alloc: Global) -> i32
     ensures open { handle.new.is_open ≡ handle.old.is_open }
     ensures not_open { (result ≡ NOT_OPEN) ↔ IsFalse handle.old.is_open }
     ensures saved { Between handle.old handle.new (λ before after. (h : History) → StandsOn before.store h (contents_of before.device)
         → result ≡ DONE → HasSaved h after.store (contents_of after.device)) }
-    ensures lands { Between handle.old handle.new (λ before after. IsFalse before.is_spent → writes_of before.device ≡ []
+    ensures lands { Between handle.old handle.new (λ before after. IsFalse before.is_spent → events_of before.device ≡ []
         → (h : History) → StandsOn before.store h (file_of before.device) → LandsSafely h after.store before.device after.device) }
+    ensures lasts { Between handle.old handle.new (λ before after. events_of before.device ≡ [] → result ≡ DONE
+        → LastsOnceDone after.device) }
     ensures synced { Between handle.old handle.new (λ before after. (h : History) → StandsStill before.store h
         → result ≡ DONE → IsSynced h after.store) }
     ensures written { Between handle.old handle.new (λ before after. IsFalse before.is_spent
@@ -99,8 +113,10 @@ pub extern "C" fn fstch_core_sync(handle: &mut Handle, alloc: Global) -> i32
     ensures spent { Between handle.old handle.new (λ before after. IsTrue before.is_spent
         → (result ≡ number_of Answer.NoSync) × (after.store ≡ before.store) × (after.device ≡ before.device)) }
     ensures number { Between handle.old handle.new (λ before after. after.file ≡ before.file) }
+    ensures barriers { Between handle.old handle.new (λ before after. after.barriers ≡ before.barriers) }
     ensures fails { Between handle.old handle.new (λ before after. IsFalse after.is_spent ↔ (result ≡ DONE)) }
     ensures gave_up { result ≢ number_of (Answer.Refused kind.DeviceGaveUp) }
+    ensures sync_failed { result ≢ number_of (Answer.Refused kind.SyncFailed) }
     ensures cause { Between handle.old handle.new (λ before after. IsFalse before.is_spent → (h : History) → Represents before.store h
         → block_count_of before.device ≡ length h.opening
         → IsOf result (λ answer. HasCause answer (fault_count_of before.device) (fault_count_of after.device))) }
@@ -113,29 +129,34 @@ pub extern "C" fn fstch_core_sync(handle: &mut Handle, alloc: Global) -> i32
     answer.number()
 }
 
-/// Copies the write of this number, from 0 on, and tells its block. The file has to be given all of them in this order.
+/// The event of this number, from 0 on: of a write its block is told and the bytes are copied, of a barrier that it is one. All of them
+/// have to be done to the file, in this order.
 #[unsafe(no_mangle)]
 pub extern "C" fn fstch_core_write(
     handle: &mut Handle,
     alloc: Global,
     number: u32,
+    is_barrier: &mut bool,
     block: &mut u32,
     into: &mut [u8],
 ) -> i32
     ensures same { handle.new.sealed.opened ≡ handle.old.sealed.opened }
     ensures not_open { (result ≡ NOT_OPEN) ↔ IsFalse handle.old.is_open }
     ensures told { IfSome handle.old.sealed.opened (λ opened.
-        (result, block.new, into.new) ≡ write_told (slice_get (writes_of opened.device) number) block.old into.old) }
+        (result, is_barrier.new, block.new, into.new)
+        ≡ event_told (slice_get (events_of opened.device) number) is_barrier.old block.old into.old) }
+    ensures refused { IsFalse handle.old.is_open
+        → (is_barrier.new ≡ is_barrier.old) × (block.new ≡ block.old) × (into.new ≡ into.old) }
 {
     let Some(opened) = handle.take(alloc) else {
         return NOT_OPEN;
     };
-    let answer = opened.written(number, block, into);
+    let answer = opened.event(number, is_barrier, block, into);
     handle.put_back(opened);
     answer.number()
 }
 
-/// Takes note that all writes of the tape last in the file now, or that some may not.
+/// Takes note that all events of the tape are done and its writes last in the file now, or that some may not.
 #[unsafe(no_mangle)]
 pub extern "C" fn fstch_core_synced(handle: &mut Handle, alloc: Global, is_done: bool) -> i32
     ensures open { handle.new.is_open ≡ handle.old.is_open }

@@ -4,8 +4,8 @@ ghost use Rattle.std.specs.Prelude.{IsFalse};
 use crate::answers::{DONE, IS_OPEN, NOT_OPEN};
 use crate::deleting::{fstch_delete, fstch_reclaim};
 use crate::files::{
-    fstch_core_close, fstch_core_file, fstch_core_make, fstch_core_open, fstch_is_open,
-    fstch_version,
+    fstch_core_barriers, fstch_core_close, fstch_core_file, fstch_core_make, fstch_core_open,
+    fstch_is_open, fstch_version,
 };
 use crate::groups::{
     fstch_group, fstch_group_close, fstch_group_depend, fstch_group_disengage, fstch_group_engage,
@@ -51,6 +51,7 @@ enum Call {
     OpenZeros,
     IsOpen,
     File,
+    Barriers,
     Put(u32, &'static [u8], &'static [u8]),
     Get(&'static [u8], usize),
     Delete(u32, &'static [u8]),
@@ -64,7 +65,7 @@ enum Call {
     CloseGroup(u32),
     Pending(u32),
     Sync,
-    Write(u32, usize),
+    Event(u32, usize),
     Synced(bool),
     // A sync with all its writes.
     Save,
@@ -109,7 +110,7 @@ fn make(alloc: Global, divided: (u32, u32, u32), into: &mut [u8]) -> Told {
 
 fn open(alloc: Global, handle: &mut Handle, bytes: &[u8]) -> Told {
     let mut slot = KEPT as u32;
-    let answer = fstch_core_open(handle, alloc, FILE, bytes, &mut slot);
+    let answer = fstch_core_open(handle, alloc, FILE, true, bytes, &mut slot);
     (answer, slot as usize, KEPT)
 }
 
@@ -145,10 +146,12 @@ fn pending(alloc: Global, handle: &mut Handle, group: u32) -> Told {
     (answer, changes as usize, KEPT)
 }
 
-fn write(alloc: Global, handle: &mut Handle, number: u32, into: &mut [u8]) -> Told {
+// The block of a write, and whether the event is a barrier.
+fn event(alloc: Global, handle: &mut Handle, number: u32, into: &mut [u8]) -> Told {
+    let mut is_barrier = false;
     let mut block = KEPT as u32;
-    let answer = fstch_core_write(handle, alloc, number, &mut block, into);
-    (answer, block as usize, KEPT)
+    let answer = fstch_core_write(handle, alloc, number, &mut is_barrier, &mut block, into);
+    (answer, block as usize, usize::from(is_barrier))
 }
 
 fn write_block(file: &mut [u8], block: usize, from: &[u8]) {
@@ -161,11 +164,13 @@ fn write_block(file: &mut [u8], block: usize, from: &[u8]) {
 // Does all writes of the tape.
 fn write_all(alloc: Global, handle: &mut Handle, file: &mut [u8], into: &mut [u8]) {
     for number in 0..10_000 {
-        let (answer, block, _) = write(alloc, handle, number, into);
+        let (answer, block, is_barrier) = event(alloc, handle, number, into);
         if answer != DONE {
             break;
         }
-        write_block(file, block, into);
+        if is_barrier == 0 {
+            write_block(file, block, into);
+        }
     }
 }
 
@@ -197,7 +202,7 @@ fn copying(alloc: Global, handle: &mut Handle, into: &mut [u8], call: &Call) -> 
         ),
         Call::Get(key, room) => get(alloc, handle, key, part(into, *room)),
         Call::Entry(number, room) => entry(alloc, handle, *number, part(into, *room)),
-        Call::Write(number, room) => write(alloc, handle, *number, part(into, *room)),
+        Call::Event(number, room) => event(alloc, handle, *number, part(into, *room)),
         _ => told(0),
     }
 }
@@ -235,10 +240,11 @@ fn step(alloc: Global, handle: &mut Handle, file: &mut [u8], into: &mut [u8], ca
         Call::OpenZeros => open(alloc, handle, &ZEROS),
         Call::IsOpen => is_open(handle),
         Call::File => told(fstch_core_file(handle, alloc)),
+        Call::Barriers => told(i32::from(fstch_core_barriers(handle, alloc))),
         Call::Check => check(alloc, handle),
         Call::Save => save(alloc, handle, file, into),
         Call::Shows(bytes) => shows(into, bytes),
-        Call::Make(_, _, _, _) | Call::Get(_, _) | Call::Entry(_, _) | Call::Write(_, _) => {
+        Call::Make(_, _, _, _) | Call::Get(_, _) | Call::Entry(_, _) | Call::Event(_, _) => {
             copying(alloc, handle, into, call)
         }
         Call::Group
@@ -375,13 +381,14 @@ fn groups_are_ordered(rt: HostRuntime) {
     walk_on(&rt, rt.alloc(), (1, 4, 0), &GROUPS);
 }
 
-const MISUSE: [Move; 27] = [
+const MISUSE: [Move; 29] = [
     (Call::Put(0, b"a", b"b"), (NOT_OPEN, KEPT, KEPT)),
     (Call::Get(b"a", 4), (NOT_OPEN, KEPT, KEPT)),
     (Call::Sync, (NOT_OPEN, KEPT, KEPT)),
-    (Call::Write(0, 4), (NOT_OPEN, KEPT, KEPT)),
+    (Call::Event(0, 4), (NOT_OPEN, KEPT, 0)),
     (Call::Synced(true), (NOT_OPEN, KEPT, KEPT)),
     (Call::File, (-1, KEPT, KEPT)),
+    (Call::Barriers, (0, KEPT, KEPT)),
     (Call::Close, (NOT_OPEN, KEPT, KEPT)),
     (Call::OpenShort, (5, KEPT, KEPT)),
     (Call::OpenZeros, (47, KEPT, KEPT)),
@@ -392,6 +399,7 @@ const MISUSE: [Move; 27] = [
     (Call::Open, (DONE, KEPT, KEPT)),
     (Call::Open, (IS_OPEN, KEPT, KEPT)),
     (Call::File, (FILE, KEPT, KEPT)),
+    (Call::Barriers, (1, KEPT, KEPT)),
     (Call::Put(7, b"a", b"b"), (-8, KEPT, KEPT)),
     (Call::Put(0, b"", b"b"), (39, KEPT, KEPT)),
     (Call::Put(0, LONG, b"b"), (39, KEPT, KEPT)),
@@ -410,16 +418,22 @@ fn misuse_is_answered(rt: HostRuntime) {
     walk_on(&rt, rt.alloc(), (1, 4, 0), &MISUSE);
 }
 
-const SPENT: [Move; 12] = [
+const SPENT: [Move; 17] = [
     (Call::Open, (DONE, KEPT, KEPT)),
-    (Call::Write(0, BLOCK), (-5, KEPT, KEPT)),
+    (Call::Event(0, BLOCK), (-5, KEPT, 0)),
     (Call::Put(0, b"a", b"b"), (DONE, KEPT, KEPT)),
     (Call::Sync, (DONE, KEPT, KEPT)),
-    // The value goes to the first block of the first extent, before the block of the index that names it.
-    (Call::Write(0, 9), (-4, 3, KEPT)),
-    (Call::Write(0, BLOCK), (DONE, 3, KEPT)),
+    // The value goes to the first block of the first extent, then its pointer is written, and then the block of the index that names it;
+    // each lasts before the next is written.
+    (Call::Event(0, 9), (-4, 3, 0)),
+    (Call::Event(0, BLOCK), (DONE, 3, 0)),
+    (Call::Event(1, 0), (DONE, KEPT, 1)),
+    (Call::Event(2, BLOCK), (DONE, 2, 0)),
+    (Call::Event(3, 0), (DONE, KEPT, 1)),
+    (Call::Event(4, BLOCK), (DONE, 1, 0)),
+    (Call::Event(5, 0), (DONE, KEPT, 1)),
     (Call::Synced(false), (DONE, KEPT, KEPT)),
-    (Call::Write(0, BLOCK), (-5, KEPT, KEPT)),
+    (Call::Event(0, BLOCK), (-5, KEPT, 0)),
     (Call::Sync, (-7, KEPT, KEPT)),
     (Call::Get(b"a", 8), (DONE, 1, KEPT)),
     (Call::Shows(b"b."), (1, KEPT, KEPT)),

@@ -81,6 +81,7 @@ pub extern "C" fn fstch_get(
     ensures not_open { (result ≡ NOT_OPEN) ↔ IsFalse handle.old.is_open }
     ensures got { IfSome handle.old.sealed.opened (λ opened. (h : History) → Represents opened.store h →
         HasGot h key.now into.old len.old (result, into.new, len.new)) }
+    ensures refused { IsFalse handle.old.is_open → (into.new ≡ into.old) × (len.new ≡ len.old) }
 {
     let Some(opened) = handle.take(alloc) else {
         return NOT_OPEN;

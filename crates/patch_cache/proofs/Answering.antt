@@ -17,7 +17,7 @@ use Rattle.patch_cache.specs.Meaning.{Represents}
 use Rattle.patch_model.specs.Member.{In}
 use Rattle.patch_cache.specs.Contents.{Contents}
 use Rattle.patch_cache.specs.Flights.{IsFlightOf, AreFlightsOf}
-use Rattle.patch_cache.specs.Asks.{Send, Complete, Sent, Landed, Refused, IsAnswer}
+use Rattle.patch_cache.specs.Asks.{Send, Complete, Sent, Landed, Refused, IsFault, IsAnswer}
 use Rattle.patch_device.specs.Device.{IsOldOrNew}
 use Rattle.patch_cache.specs.Running.{Runs, IsAnswered, HasWritten, held_by}
 use Rattle.patch_cache.specs.declared.flights.Flight.{Flight}
@@ -75,14 +75,14 @@ pub none_answered : {A : Type 0} (run : Execution) (block : ℕ) (cause : Refusa
 none_answered run block cause cache flights is runs none = record { right = inl (rw none (ap Refused is)); runs = runs }
 
 -- a completion that the device refused
-pub fault_answered : {A : Type 0} (run : Execution) (block : ℕ) (cause : Refusal) (cache : Contents) (flights : Flights A) → cause ≡ bare kind.Fault → Runs cache flights run
+pub fault_answered : {A : Type 0} (run : Execution) (block : ℕ) (cause : Refusal) (cache : Contents) (flights : Flights A) → IsFault (Refused cause) → Runs cache flights run
     → has_flight (state_of run) block ≡ true → IsAnswered run (Complete block) (Refused cause) cache flights
 fault_answered run block cause cache flights is runs flies = record {
   right = inr (record {
     done = Landed block (numbers_of (flying_of (entries_of run) block));
     right = landed_right run block (numbers_of (flying_of (entries_of run) block)) flies refl;
     not_refused = refl;
-    gives_up = inr (ap Refused is, refl);
+    gives_up = inr (is, refl);
   });
   runs = runs;
 }
@@ -99,10 +99,10 @@ pub written_for : {A : Type 0} (run : Execution) (block : ℕ) (flight : Flight 
 written_for run block flight old new at is same = same ∙ ap (slice_set old flight.block) is ∙ ap (λ b. slice_set old b (image (history_of run b))) at
 
 -- and one that the device refused
-pub written_or_not : {A : Type 0} (run : Execution) (block : ℕ) (flight : Flight A) (cause : Refusal) (old new : List (List ℕ)) → cause ≡ bare kind.Fault → flight.block ≡ block
+pub written_or_not : {A : Type 0} (run : Execution) (block : ℕ) (flight : Flight A) (cause : Refusal) (old new : List (List ℕ)) → IsFault (Refused cause) → flight.block ≡ block
     → flight.image ≡ image (history_of run flight.block) → IsOldOrNew old flight.block flight.image new → HasWritten run (Complete block) (Refused cause) old new
 written_or_not run block flight cause old new why at is (inl same) = inl same
-written_or_not run block flight cause old new why at is (inr done) = inr (ap Refused why, written_for run block flight old new at is done)
+written_or_not run block flight cause old new why at is (inr done) = inr (why, written_for run block flight old new at is done)
 
 -- a send that was done
 pub sent_answered : {A : Type 0} (run : Execution) (block : ℕ) (numbers bytes : List ℕ) (cache : Contents) (flights : Flights A) → why_not_sent run block ≡ None

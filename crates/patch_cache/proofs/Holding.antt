@@ -103,7 +103,7 @@ get_in [] y i e = absurd (none-some y e)
 get_in (z ∷ zs) y zero e = inl (same_Some z y e)
 get_in (z ∷ zs) y (suc i) e = inr (get_in zs y i e)
 
-in_get : {X : Type 0} (xs : List X) (y : X) → In xs y → (i : ℕ) × (slice_get xs i ≡ Some y)
+pub in_get : {X : Type 0} (xs : List X) (y : X) → In xs y → (i : ℕ) × (slice_get xs i ≡ Some y)
 in_get [] y h = absurd h
 in_get (z ∷ zs) y (inl e) = (0, ap Some e)
 in_get (z ∷ zs) y (inr h) = let r = in_get zs y h in (suc r.0, r.1)
@@ -136,6 +136,21 @@ taken_from xs i d k y h e =
             inr (other, slice_get-get_or xs k y (omega arith) ∙ ap Some here)
       ],
     )
+
+at_place : {X : Type 0} (xs : List X) (y : X) (k : ℕ) → slice_get xs k ≡ Some y → In xs y
+at_place xs y k e = In-from_Contains xs y (k, slice_get_within xs k y e, get_or_from_slice_get xs k y y e)
+
+pub inside_at : {X : Type 0} (xs : List X) (y : X) (k : ℕ) → k < length xs → y ≡ get_or xs k y → In xs y
+inside_at xs y k within is = In-from_Contains xs y (k, within, sym is)
+
+-- so it was in the list
+pub removed_inside : {X : Type 0} (xs : List X) (i : ℕ) (d y : X) → i < length xs → In (swap_remove xs i d) y → In xs y
+removed_inside xs i d y h inside =
+    let at = in_get (swap_remove xs i d) y inside in
+    elim (taken_from xs i d at.0 y h at.1).1 [
+      | inl last ↦ at_place xs y (length xs - 1) last.1
+      | inr same ↦ at_place xs y at.0 same.1
+    ]
 
 -- and all but that one are in it still
 still_in : {X : Type 0} (xs : List X) (i : ℕ) (d : X) (k : ℕ) (y : X) → i < length xs → slice_get xs k ≡ Some y → k ≢ i → In (swap_remove xs i d) y

@@ -1,5 +1,5 @@
 -- Blocks, as a cache takes them one by one.
-use Rattle.std.proofs.Common.{ℕ, List, [], ◌∷◌, ◌++◌, Option, None, inr, length, replicate, get_or, ◌≡◌, refl, ap, ◌<◌, ◌≤◌, zero, suc, arith}
+use Rattle.std.proofs.Common.{ℕ, List, [], ◌∷◌, ◌++◌, Option, None, length, replicate, get_or, ◌≡◌, refl, ap, ◌<◌, ◌≤◌, zero, suc, arith}
 use Rattle.std.specs.Prelude.{slice_index_or, count_by, is_some}
 use Rattle.std.specs.List.{AllByRecursion}
 use Rattle.std.proofs.lemmas.List.{get_or-replicate, length-replicate}

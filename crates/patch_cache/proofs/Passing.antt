@@ -10,7 +10,7 @@ use Rattle.patch_model.specs.declared.patches.Mark.TheVariants.{Memory, Flight, 
 use Rattle.patch_model.specs.Step.{Step, Send, Complete}
 use Rattle.patch_model.specs.Execution.{Execution, extended, followed_by}
 use Rattle.patch_model.specs.Entry.{Entry, is_memory, is_live, is_flight, is_among, marks_memory, marks_flight, marks_durable}
-use Rattle.patch_model.specs.State.{state_of, entries_of, has_flight}
+use Rattle.patch_model.specs.State.{state_of, entries_of, has_flight, at_first}
 use Rattle.patch_model.specs.Ready.{ready, IsLargestWritable}
 use Rattle.patch_model.specs.Orderly.{IsOrderly}
 use Rattle.patch_model.specs.Legal.{IsLegal, IsLegalStep}
@@ -18,20 +18,21 @@ use Rattle.patch_model.specs.Refusing.{why_not_sent}
 use Rattle.patch_model.specs.Member.{In, Contains-from_In, filter-In}
 use Rattle.patch_model.specs.Pile.{pile}
 use Rattle.patch_model.specs.History.{history_of, image, cached}
+use Rattle.patch_device.specs.declared.devices.Device.{Ghosts}
 use Rattle.patch_graph.specs.Between.{HasNoRing}
 use Rattle.patch_graph.specs.Meaning.{Represents as IsGraphOf}
 use Rattle.patch_graph.specs.Ready.{IsShut}
 use Rattle.patch_cache.specs.Contents.{Contents}
 use Rattle.patch_cache.specs.Running.{Runs, RunsBeside, held_by}
 use Rattle.patch_cache.specs.Flights.{AreFlightsOf}
-use Rattle.patch_cache.specs.Waves.{is_send, steps_since, classes_in_memory, live_classes, HasGoneOnBeside, HasKept, Continues, EndsOne, HoldsBegun, begun, IsPass, IsFlushed, IsSentOr}
+use Rattle.patch_cache.specs.Waves.{is_send, steps_since, classes_in_memory, live_classes, HasGoneOnBeside, HasKept, HasStayed, Continues, EndsOne, HoldsBegun, begun, IsPass, IsFlushed, IsSentOr}
 use Rattle.patch_cache.specs.declared.flights.Flights.{Flights}
 use Rattle.patch_cache.specs.declared.flights.Flight.{Flight as Held}
-use Rattle.patch_cache.proofs.Crashing.{DisksStay, TrailsJoin, unwritten_step}
+use Rattle.patch_cache.proofs.Crashing.{DisksStay, legal_last}
 use Rattle.patch_cache.proofs.Holding.{StatesExtend, ImagesStay}
 use Rattle.patch_cache.proofs.Counting.{count_le, count-append}
 use Rattle.patch_cache.proofs.Shut.{FlyingLaw, RingLaw, none_between}
-use Rattle.patch_cache.proofs.Waving.{since_is, since_both, sends_since, continues, gone_still, gone_send, gone_both, kept_unmoved, kept_both, went_by, keeps_by, fewer_sent, images_sent}
+use Rattle.patch_cache.proofs.Waving.{since_is, since_both, sends_since, continues, gone_still, gone_send, gone_both, kept_aside, stayed_still, stayed_both, went_by, keeps_by, fewer_sent, images_sent}
 
 -- the law of what a write of a block needs
 abbrev pub SentLaw : Type 0
@@ -52,7 +53,7 @@ IsPassTo run at false steps = (steps ≡ []) × ((b : ℕ) → b < at → why_no
 
 pub record Passed {A : Type 0} (others : Bool) (run : Execution) (at : ℕ) (sent : Bool) (steps : List Step) (cache : Contents) (flights : Flights A) : Type 0 where
   pub gone : HasGoneOnBeside others run steps cache flights
-  pub kept : (had : List (List (List ℕ))) (contents : List (List ℕ)) → HasKept run steps had had contents contents
+  pub stayed : (contents : List (List ℕ)) → HasStayed run steps contents
   pub pass : IsPassTo run at sent steps
 
 pub no_end : (block b : ℕ) → Send block ≢ Complete b
@@ -64,10 +65,13 @@ pub one_sent : {A : Type 0} {others : Bool} → StatesExtend → OrderlyLaw → 
 one_sent extend orderly largest law run block cache flights legal why runs =
     let may = (law run block).0 why in gone_send run block cache flights (fewer_sent extend run block (orderly run legal) (largest run block) may.1.1) runs
 
-pub one_kept : StatesExtend → ImagesStay → DisksStay → (run : Execution) (block : ℕ) (had : List (List (List ℕ))) (contents : List (List ℕ)) → IsLegal run → IsLegal (extended run (Send block))
-    → HasKept run (Send block ∷ []) had had contents contents
-one_kept extend stay disks run block had contents legal longer =
-    record { crash = λ left. unwritten_step disks run (Send block) had contents (no_end block) legal longer left; images = λ held. images_sent extend stay run block contents held }
+pub one_stayed : StatesExtend → ImagesStay → DisksStay → (run : Execution) (block : ℕ) (contents : List (List ℕ)) → IsLegal run → IsLegal (extended run (Send block))
+    → HasStayed run (Send block ∷ []) contents
+one_stayed extend stay disks run block contents legal longer =
+    record {
+      crash = λ left. disks run (Send block) contents legal (legal_last (length run.first) at_first run.steps (Send block) longer.steps) (no_end block) left;
+      images = λ held. images_sent extend stay run block contents held;
+    }
 
 same_run : (run : Execution) (steps : List Step) → steps ≡ [] → followed_by run steps ≡ run
 same_run run steps none = ap (λ s. let v : Execution = record { first = run.first; steps = run.steps ++ s } in v) none ∙ ap (λ s. let v : Execution = record { first = run.first; steps = s } in v) (append-nil run.steps)
@@ -78,10 +82,10 @@ pub one_gone : {A : Type 0} {others : Bool} → StatesExtend → OrderlyLaw → 
 one_gone extend orderly largest law run block true cache flights legal one = one_sent extend orderly largest law run block cache flights legal one.0 one.1
 one_gone extend orderly largest law run block false cache flights legal one = gone_still run cache flights one.1
 
-pub maybe_kept : {A : Type 0} → StatesExtend → ImagesStay → DisksStay → (others : Bool) (run : Execution) (block : ℕ) (sent : Bool) (cache : Contents) (flights : Flights A) (had : List (List (List ℕ))) (contents : List (List ℕ)) → IsLegal run
-    → IsSentOr others run block sent cache flights → HasKept run (begun block sent) had had contents contents
-maybe_kept extend stay disks others run block true cache flights had contents legal one = one_kept extend stay disks run block had contents legal one.1.cache_is.legal
-maybe_kept extend stay disks others run block false cache flights had contents legal one = kept_unmoved run had contents
+pub maybe_stayed : {A : Type 0} → StatesExtend → ImagesStay → DisksStay → (others : Bool) (run : Execution) (block : ℕ) (sent : Bool) (cache : Contents) (flights : Flights A) (contents : List (List ℕ)) → IsLegal run
+    → IsSentOr others run block sent cache flights → HasStayed run (begun block sent) contents
+maybe_stayed extend stay disks others run block true cache flights contents legal one = one_stayed extend stay disks run block contents legal one.1.cache_is.legal
+maybe_stayed extend stay disks others run block false cache flights contents legal one = stayed_still run contents
 
 pub sent_true : {A : Type 0} {others : Bool} (run : Execution) (block : ℕ) (b : Bool) (cache : Contents) (flights : Flights A) → b ≡ true → IsSentOr others run block b cache flights → (why_not_sent run block ≡ None) × RunsBeside others cache flights (extended run (Send block))
 sent_true run block true cache flights e h = h
@@ -101,11 +105,12 @@ begun_gone extend orderly largest law run block old still now sent flights held 
     let told = sent_still run block old still now sent flights held same is one runs in
     went_by run old now (Send block ∷ []) held (begun_by old still now block sent same is added) (one_sent extend orderly largest law run block now held runs.cache_is.legal told.0 told.1)
 
-pub begun_kept : {A : Type 0} {others : Bool} → StatesExtend → ImagesStay → DisksStay → (run : Execution) (block : ℕ) (old still now : Contents) (sent : Bool) (flights held : Flights A) (had : List (List (List ℕ))) (contents : List (List ℕ))
-    → still ≡ old → sent ≡ true → now.trace ≡ still.trace ++ begun block sent → (RunsBeside others still flights run → IsSentOr others run block sent now held) → RunsBeside others old flights run → HasKept run (steps_since old now) had had contents contents
-begun_kept extend stay disks run block old still now sent flights held had contents same is added one runs =
+pub begun_kept : {A D : Type 0} {others : Bool} → StatesExtend → ImagesStay → DisksStay → (g : Ghosts D) (run : Execution) (block : ℕ) (old still now : Contents) (sent : Bool) (flights held : Flights A) (device : D)
+    → still ≡ old → sent ≡ true → now.trace ≡ still.trace ++ begun block sent → (RunsBeside others still flights run → IsSentOr others run block sent now held) → RunsBeside others old flights run → HasKept g run (steps_since old now) device device
+begun_kept extend stay disks g run block old still now sent flights held device same is added one runs =
     let told = sent_still run block old still now sent flights held same is one runs in
-    keeps_by run old now (Send block ∷ []) had had contents contents (begun_by old still now block sent same is added) (one_kept extend stay disks run block had contents runs.cache_is.legal told.1.cache_is.legal)
+    keeps_by g run old now (Send block ∷ []) device device (begun_by old still now block sent same is added)
+    (kept_aside g run (Send block ∷ []) device (λ contents. one_stayed extend stay disks run block contents runs.cache_is.legal told.1.cache_is.legal))
 
 pub begun_few : (block : ℕ) (sent : Bool) → count_by is_send (begun block sent) ≤ 1
 begun_few block true = omega arith
@@ -143,31 +148,30 @@ one_passed others run at false false steps now held pass one = (
   ],
 )
 
-pub pass_more : TrailsJoin → {A : Type 0} {others : Bool} → StatesExtend → ImagesStay → DisksStay → OrderlyLaw → LargestLaw → SentLaw → (run : Execution) (at : ℕ) (before more : Bool) (steps : List Step) (mid now : Contents) (held held_now : Flights A)
+pub pass_more : {A : Type 0} {others : Bool} → StatesExtend → ImagesStay → DisksStay → OrderlyLaw → LargestLaw → SentLaw → (run : Execution) (at : ℕ) (before more : Bool) (steps : List Step) (mid now : Contents) (held held_now : Flights A)
     → Passed others run at before steps mid held → IsSentOr others (followed_by run steps) at more now held_now
     → Passed others run (at + 1) (before || more) (steps ++ begun at more) now held_now
-pass_more join {others = others} extend stay disks orderly largest law run at before more steps mid now held held_now first one =
+pass_more {others = others} extend stay disks orderly largest law run at before more steps mid now held held_now first one =
     let legal = first.gone.runs.cache_is.legal in record {
       gone = gone_both run steps (begun at more) mid now held held_now first.gone (one_gone extend orderly largest law (followed_by run steps) at more now held_now legal one);
-      kept = λ had contents.
-          kept_both join run steps (begun at more) had had had contents contents contents (first.kept had contents) (maybe_kept extend stay disks others (followed_by run steps) at more now held_now had contents legal one);
+      stayed = λ contents. stayed_both run steps (begun at more) contents (first.stayed contents) (maybe_stayed extend stay disks others (followed_by run steps) at more now held_now contents legal one);
       pass = one_passed others run at before more steps now held_now first.pass one;
     }
 
 pub pass_begun : {A : Type 0} {others : Bool} (run : Execution) (cache : Contents) (flights : Flights A) → RunsBeside others cache flights run → Passed others run 0 false [] cache flights
-pass_begun run cache flights runs = record { gone = gone_still run cache flights runs; kept = λ had contents. kept_unmoved run had contents; pass = (refl, λ b within why. omega (arith, within)) }
+pass_begun run cache flights runs = record { gone = gone_still run cache flights runs; stayed = λ contents. stayed_still run contents; pass = (refl, λ b within why. omega (arith, within)) }
 
 -- a pass up to one block is one up to another, if the blocks between are shut
 pub pass_skipped : RingLaw → FlyingLaw → SentLaw → {A : Type 0} {others : Bool} → (run : Execution) (from at : ℕ) (sent : Bool) (steps : List Step) (cache : Contents) (flights : Flights A)
     → ((all : List Entry) → IsGraphOf cache.graph all → HasNoRing all → (b : ℕ) → from ≤ b → b < at → IsShut all b) → Passed others run from sent steps cache flights → Passed others run at sent steps cache flights
-pass_skipped ring flying law run from at true steps cache flights none first = record { gone = first.gone; kept = first.kept; pass = first.pass }
+pass_skipped ring flying law run from at true steps cache flights none first = record { gone = first.gone; stayed = first.stayed; pass = first.pass }
 pass_skipped ring flying law run from at false steps cache flights none first =
     let same = same_run run steps first.pass.0 in
     let is = first.gone.runs.cache_is in
     let legal : IsLegal run = subst IsLegal same is.legal in
     let shut = none (entries_of run) (subst (λ r. IsGraphOf cache.graph (entries_of r)) same is.graph) (λ x y apart to back. ring run x y legal to back) in record {
       gone = first.gone;
-      kept = first.kept;
+      stayed = first.stayed;
       pass = (first.pass.0, λ b within why. none_between flying run from b legal (λ n this. ((law run n).0 this).0) first.pass.1 (λ over. shut b over within) why);
     }
 

@@ -1,10 +1,11 @@
 -- Stretches of writes, one after another.
-use Rattle.std.proofs.Common.{◌≡◌, ◌≢◌, ℕ, zero, suc, Bool, true, false, ◌+◌, ◌*◌, ◌<◌, ◌≤◌, inl, inr, Result, Ok, Err, OnOk, OnErr, ◌∙◌, Some, List, [], ◌∷◌, ◌++◌, length, map, filter, drop, refl, sym, ap, subst, arith, append_assoc, length-append, get_or, set, slice_set}
+use Rattle.std.proofs.Common.{◌≡◌, ◌≢◌, ℕ, zero, suc, Bool, true, false, ◌+◌, ◌*◌, ◌<◌, ◌≤◌, inl, inr, Result, Ok, Err, OnOk, OnErr, ◌∙◌, Some, List, [], ◌∷◌, ◌++◌, length, map, filter, take, drop, refl, sym, ap, subst, arith, append_assoc, get_or, set, slice_set}
 use Rattle.std.specs.Prelude.{◌==◌, ◌&&◌, ◌||◌, ◌⊎◌, not, IfErr, IsErrAnd, is_ok, count_by, slice_index_or, slice_get, IsTrue, Contains}
 use Rattle.std.specs.List.{list_any}
 use Rattle.std.proofs.Math.Seq.{drop-append_seam}
-use Rattle.std.proofs.lemmas.List.{append-nil, nil_from_length, get_or-set_same, get_or-set_other, length-set}
+use Rattle.std.proofs.lemmas.List.{append-nil, nil_from_length, take_more, get_or-set_same, get_or-set_other, set-get_or, length-set}
 use Rattle.std.proofs.lemmas.List.Folds.{list_all-append, list_any-append}
+use Rattle.std.proofs.lemmas.List.FromFn.{length-map-range_with_len}
 use Rattle.std.proofs.lemmas.Bool.{cases_Bool, cases_eq, and_parts, and_from}
 use Rattle.std.proofs.lemmas.Bool.Decides.{nat_tests}
 use Rattle.std.proofs.lemmas.Option.{slice_get-get_or}
@@ -14,22 +15,23 @@ use Rattle.patch_model.specs.Entry.{Entry, is_memory, is_flight}
 use Rattle.patch_model.specs.State.{state_of, entries_of, has_flight, sent, landed}
 use Rattle.patch_model.specs.Ready.{ready, has, IsLargestWritable}
 use Rattle.patch_model.specs.Orderly.{IsOrderly}
-use Rattle.patch_model.specs.History.{history_of, image}
-use Rattle.patch_model.specs.Crash.{MayLeave}
+use Rattle.patch_model.specs.History.{history_of, image, pile_of}
+use Rattle.patch_model.specs.Crash.{MayLeave, crash_set}
 use Rattle.patch_model.specs.Member.{In, In-from_Contains, Contains-from_In, In-filter, list_any-from, list_any-at}
-use Rattle.patch_device.specs.Device.{HasRisen, IsOldOrNew, AddsOutcome, most_faults}
+use Rattle.patch_device.specs.Device.{HasRisen, IsOldOrNew, Elapses, LeavesNoMore, most_faults}
+use Rattle.patch_device.specs.SameDevice.{LeavesOnly, IsLasting, may_leave}
 use Rattle.patch_device.specs.declared.devices.Device.{Ghosts}
 use Rattle.patch_cache.specs.Contents.{Contents}
 use Rattle.patch_cache.specs.Meaning.{Represents}
 use Rattle.patch_cache.specs.Running.{RunsBeside, IsCrashSafe, held_by}
-use Rattle.patch_cache.specs.Waves.{is_send, is_write, steps_since, Continues, classes_in_memory, HasRisenBy, HoldImages, HasGoneOnBeside, HasKept, KeepsDiskBeside, EndsFirst, EndsOne}
-use Rattle.patch_cache.specs.Refused.{IsRefused, AreRefused, HasRefusedFirst, IfGivenUp}
+use Rattle.patch_cache.specs.Waves.{is_send, is_write, steps_since, Continues, classes_in_memory, HasRisenBy, HoldImages, HasGoneOnBeside, HasKept, HasStayed, KeepsDiskBeside, StaysBeside, HoldFlights, AreImages, AreOnDevice, with_flights, EndsFirst, EndsOne}
+use Rattle.patch_cache.specs.Refused.{IsRefused, AreRefused, HasRefusedHeld, IfGivenUp}
 use Rattle.patch_cache.specs.declared.landing.TheConstants.{TRIES}
 use Rattle.patch_cache.specs.declared.flights.Flights.{Flights}
 use Rattle.patch_cache.specs.declared.refusals.FlushRefusal.{FlushRefusal}
 use Rattle.patch_cache.specs.declared.refusals.FlushRefusal.TheVariants as flush
-use Rattle.patch_cache.proofs.Crashing.{TrailsJoin, ImagesLand, WritesEnd, joined, longer, unmoved, write_refused}
-use Rattle.patch_cache.proofs.Holding.{StatesExtend, ImagesStay, held_flies, flying_known}
+use Rattle.patch_cache.proofs.Crashing.{WritesEnd, joined, unmoved, unmoved_steps, synced}
+use Rattle.patch_cache.proofs.Holding.{StatesExtend, ImagesStay, in_get, held_flies, flying_known}
 use Rattle.patch_cache.proofs.Answering.{Stands}
 use Rattle.patch_cache.specs.Flights.{AreFlightsBeside}
 use Rattle.patch_cache.specs.declared.flights.Flight.{Flight}
@@ -63,34 +65,22 @@ refused_again {D = D} g block n bytes before mid now so_far one =
     let next : suc n ≡ n + 1 = omega arith in
     let all : AreRefused g block bytes (suc n) before now = (mid, so_far, one) in subst (λ m. AreRefused g block bytes m before now) next all
 
--- a write adds at most one contents
-pub outcome_longer : (old new : List (List ℕ)) (had had_now : List (List (List ℕ))) → AddsOutcome old new had had_now → length had_now ≤ length had + 1
-outcome_longer old new had had_now (inl same) = let e : length had_now ≡ length had = ap length same.1 in omega (arith, e)
-outcome_longer old new had had_now (inr added) = let e : length had_now ≡ length had + 1 = ap length added ∙ length-append had (new ∷ []) in omega (arith, e)
-
 abbrev same_run : (run : Execution) → followed_by run [] ≡ run
 same_run run = ap (λ steps. let v : Execution = record { first = run.first; steps = steps } in v) (append-nil run.steps)
 
-pub joined_still : TrailsJoin → (a b : Execution) (had had_between had_now : List (List (List ℕ))) (contents contents_now : List (List ℕ))
-    → IsCrashSafe a b had had_between contents → IsCrashSafe b b had_between had_now contents_now → IsCrashSafe a b had had_now contents_now
-joined_still join a b had had_between had_now contents contents_now first second = joined join a b b [] had had_between had_now contents contents_now (sym (same_run b)) first second
+pub joined_still : {D : Type 0} (g : Ghosts D) (a b : Execution) (before mid now : D) → IsCrashSafe g a b before mid → IsCrashSafe g b b mid now → IsCrashSafe g a b before now
+joined_still g a b before mid now first second = joined g a b b [] before mid now (sym (same_run b)) first second
 
--- one try more
-pub tried : TrailsJoin → ImagesLand → (run : Execution) (block : ℕ) (bytes : List ℕ) (had had_between had_now : List (List (List ℕ))) (contents now : List (List ℕ)) → block < length run.first
-    → bytes ≡ image (history_of run block) → IsOldOrNew contents block bytes now → AddsOutcome contents now had_between had_now
-    → IsCrashSafe run run had had_between contents → IsCrashSafe run run had had_now now
-tried join land run block bytes had had_between had_now contents now known is either adds so_far =
-    joined_still join run run had had_between had_now contents now so_far (write_refused land run block bytes had_between had_now contents now known is either adds so_far.left)
+-- what is told of a refused write where the answer is
+pub given_so : {A D T : Type 0} (g : Ghosts D) (r : Result T FlushRefusal) (block : ℕ) (flights : Flights A) (before now : D) → IsErrAnd r (λ f. f ≡ flush.DeviceGaveUp block) → HasRefusedHeld g block (held_by flights) before now
+    → IfGivenUp g r flights before now
+given_so g (Ok x) block flights before now is told = absurd is
+given_so {T = T} g (Err x) block flights before now is told = subst (λ f. IfGivenUp {T = T} g (Err f) flights before now) (sym is) told
 
 -- what is known of an error is known of the answer that is made of it
 pub told_so : {T E : Type 0} (r : Result T E) (e : E) (P : E → Type 0) → IsErrAnd r (λ f. f ≡ e) → P e → IfErr r P
 told_so (Ok x) e P is p = absurd is
 told_so (Err x) e P is p = subst P (sym is) p
-
-pub given_so : {A D T : Type 0} (g : Ghosts D) (r : Result T FlushRefusal) (block : ℕ) (flights : Flights A) (before now : D) → IsErrAnd r (λ f. f ≡ flush.DeviceGaveUp block) → HasRefusedFirst g block flights before now
-    → IfGivenUp g r flights before now
-given_so g (Ok x) block flights before now is told = absurd is
-given_so {T = T} g (Err x) block flights before now is told = subst (λ f. IfGivenUp {T = T} g (Err f) flights before now) (sym is) told
 
 -- Steps of traces.
 
@@ -158,28 +148,58 @@ gone_both {others = others} run a b mid now before flights first second =
 -- What they keep of a device.
 
 -- no step, on a device that is as before or has had tries
-pub kept_still : (run : Execution) (had had_now : List (List (List ℕ))) (contents contents_now : List (List ℕ)) → (MayLeave run contents → IsCrashSafe run run had had_now contents_now)
-    → (HoldImages run contents → HoldImages run contents_now) → HasKept run [] had had_now contents contents_now
-kept_still run had had_now contents contents_now safe held = record {
-  crash = λ left. subst (λ r. IsCrashSafe run r had had_now contents_now) (sym (same_run run)) (safe left);
-  images = λ images. subst (λ r. HoldImages r contents_now) (sym (same_run run)) (held images);
+pub kept_still : {D : Type 0} (g : Ghosts D) (run : Execution) (before now : D) → (LeavesOnly g before (MayLeave run) → IsCrashSafe g run run before now)
+    → (HoldImages run (g.contents before) → HoldImages run (g.contents now)) → HasKept g run [] before now
+kept_still g run before now safe held = record {
+  crash = λ left. subst (λ r. IsCrashSafe g run r before now) (sym (same_run run)) (safe left);
+  images = λ images. subst (λ r. HoldImages r (g.contents now)) (sym (same_run run)) (held images);
 }
 
-pub kept_unmoved : (run : Execution) (had : List (List (List ℕ))) (contents : List (List ℕ)) → HasKept run [] had had contents contents
-kept_unmoved run had contents = kept_still run had had contents contents (λ left. unmoved run had contents left) (λ images. images)
+pub kept_unmoved : {D : Type 0} (g : Ghosts D) (run : Execution) (device : D) → HasKept g run [] device device
+kept_unmoved g run device = kept_still g run device device (λ left. unmoved g run device left) (λ images. images)
 
 -- one stretch after another
-pub kept_both : TrailsJoin → (run : Execution) (a b : List Step) (had had_between had_now : List (List (List ℕ))) (contents contents_between contents_now : List (List ℕ))
-    → HasKept run a had had_between contents contents_between → HasKept (followed_by run a) b had_between had_now contents_between contents_now
-    → HasKept run (a ++ b) had had_now contents contents_now
-kept_both join run a b had had_between had_now contents contents_between contents_now first second =
+pub kept_both : {D : Type 0} (g : Ghosts D) (run : Execution) (a b : List Step) (before mid now : D)
+    → HasKept g run a before mid → HasKept g (followed_by run a) b mid now → HasKept g run (a ++ b) before now
+kept_both g run a b before mid now first second =
     let to = flat run a b in record {
       crash = λ left.
           let one = first.crash left in
-          subst (λ r. IsCrashSafe run r had had_now contents_now) to
-          (joined join run (followed_by run a) (followed_by (followed_by run a) b) b had had_between had_now contents_between contents_now refl one (second.crash one.left));
-      images = λ images. subst (λ r. HoldImages r contents_now) to (second.images (first.images images));
+          subst (λ r. IsCrashSafe g run r before now) to (joined g run (followed_by run a) (followed_by (followed_by run a) b) b before mid now refl one (second.crash one.left));
+      images = λ images. subst (λ r. HoldImages r (g.contents now)) to (second.images (first.images images));
     }
+
+pub kept_more : {D : Type 0} (g : Ghosts D) (run : Execution) (before mid now : D) → HasKept g run [] before mid → HasKept g run [] mid now → HasKept g run [] before now
+kept_more g run before mid now first second = kept_both g run [] [] before mid now first (subst (λ r. HasKept g r [] mid now) (sym (same_run run)) second)
+
+-- and of any blocks
+pub stayed_still : (run : Execution) (contents : List (List ℕ)) → HasStayed run [] contents
+stayed_still run contents = record {
+  crash = λ left. subst (λ r. MayLeave r contents) (sym (same_run run)) left;
+  images = λ images. subst (λ r. HoldImages r contents) (sym (same_run run)) images;
+}
+
+pub stayed_both : (run : Execution) (a b : List Step) (contents : List (List ℕ)) → HasStayed run a contents → HasStayed (followed_by run a) b contents → HasStayed run (a ++ b) contents
+stayed_both run a b contents first second =
+    let to = flat run a b in record {
+      crash = λ left. subst (λ r. MayLeave r contents) to (second.crash (first.crash left));
+      images = λ images. subst (λ r. HoldImages r contents) to (second.images (first.images images));
+    }
+
+-- what any blocks keep a device keeps that nothing was done to
+pub kept_aside : {D : Type 0} (g : Ghosts D) (run : Execution) (steps : List Step) (device : D) → ((contents : List (List ℕ)) → HasStayed run steps contents) → HasKept g run steps device device
+kept_aside g run steps device stayed = record {
+  crash = λ left. unmoved_steps g run steps device (λ disk may. (stayed disk).crash (left disk may));
+  images = λ images. (stayed (g.contents device)).images images;
+}
+
+-- and one that lasts as it stands, where its own blocks do
+pub kept_lasting : {D : Type 0} (g : Ghosts D) (run : Execution) (steps : List Step) (device : D) → IsLasting g device → may_leave g device (g.contents device) → HasStayed run steps (g.contents device)
+    → HasKept g run steps device device
+kept_lasting g run steps device lasts all_may stayed = record {
+  crash = λ left. unmoved_steps g run steps device (λ disk may. subst (MayLeave (followed_by run steps)) (sym (lasts disk may)) (stayed.crash (left (g.contents device) all_may)));
+  images = λ images. stayed.images images;
+}
 
 -- Caches that went on.
 
@@ -187,10 +207,12 @@ pub went_by : {A : Type 0} {others : Bool} (run : Execution) (old now : Contents
     → HasGoneOnBeside others run (steps_since old now) now flights
 went_by {others = others} run old now steps flights added gone = subst (λ s. HasGoneOnBeside others run s now flights) (sym (since_is old now steps added)) gone
 
-pub keeps_by : (run : Execution) (old now : Contents) (steps : List Step) (had had_now : List (List (List ℕ))) (contents contents_now : List (List ℕ)) → now.trace ≡ old.trace ++ steps
-    → HasKept run steps had had_now contents contents_now → HasKept run (steps_since old now) had had_now contents contents_now
-keeps_by run old now steps had had_now contents contents_now added kept =
-    subst (λ s. HasKept run s had had_now contents contents_now) (sym (since_is old now steps added)) kept
+pub keeps_by : {D : Type 0} (g : Ghosts D) (run : Execution) (old now : Contents) (steps : List Step) (before after : D) → now.trace ≡ old.trace ++ steps
+    → HasKept g run steps before after → HasKept g run (steps_since old now) before after
+keeps_by g run old now steps before after added kept = subst (λ s. HasKept g run s before after) (sym (since_is old now steps added)) kept
+
+pub stays_by : (run : Execution) (old now : Contents) (steps : List Step) (contents : List (List ℕ)) → now.trace ≡ old.trace ++ steps → HasStayed run steps contents → HasStayed run (steps_since old now) contents
+stays_by run old now steps contents added stayed = subst (λ s. HasStayed run s contents) (sym (since_is old now steps added)) stayed
 
 -- and twice
 
@@ -200,14 +222,21 @@ pub went_both : {A : Type 0} {others : Bool} (run : Execution) (old mid now : Co
 went_both {others = others} run old mid now before flights one two first second =
     subst (λ s. HasGoneOnBeside others run s now flights) (sym (since_both old mid now one two)) (gone_both run (steps_since old mid) (steps_since mid now) mid now before flights first second)
 
-pub keeps_both : TrailsJoin → {A : Type 0} {others : Bool} (old mid now : Contents) (at before : Flights A) (had had_between had_now : List (List (List ℕ))) (contents contents_between contents_now : List (List ℕ))
+pub keeps_both : {A D : Type 0} {others : Bool} (g : Ghosts D) (old mid now : Contents) (at before : Flights A) (first between last : D)
     → Continues old mid → Continues mid now → ((run : Execution) → RunsBeside others old at run → HasGoneOnBeside others run (steps_since old mid) mid before)
-    → KeepsDiskBeside others old mid at had had_between contents contents_between → KeepsDiskBeside others mid now before had_between had_now contents_between contents_now
-    → KeepsDiskBeside others old now at had had_now contents contents_now
-keeps_both join old mid now at before had had_between had_now contents contents_between contents_now one two gone first second run runs =
-    subst (λ s. HasKept run s had had_now contents contents_now) (sym (since_both old mid now one two))
-    (kept_both join run (steps_since old mid) (steps_since mid now) had had_between had_now contents contents_between contents_now (first run runs)
-    (second (followed_by run (steps_since old mid)) (gone run runs).runs))
+    → KeepsDiskBeside g others old mid at first between → KeepsDiskBeside g others mid now before between last
+    → KeepsDiskBeside g others old now at first last
+keeps_both g old mid now at before first between last one two gone kept more run runs =
+    subst (λ s. HasKept g run s first last) (sym (since_both old mid now one two))
+    (kept_both g run (steps_since old mid) (steps_since mid now) first between last (kept run runs) (more (followed_by run (steps_since old mid)) (gone run runs).runs))
+
+pub keeps_aside : {A D : Type 0} {others : Bool} (g : Ghosts D) (old now : Contents) (flights : Flights A) (device : D) → StaysBeside others old now flights → KeepsDiskBeside g others old now flights device device
+keeps_aside g old now flights device stays run runs = kept_aside g run (steps_since old now) device (λ contents. stays run contents runs)
+
+pub stays_both : (run : Execution) (old mid now : Contents) (contents : List (List ℕ)) → Continues old mid → Continues mid now
+    → HasStayed run (steps_since old mid) contents → HasStayed (followed_by run (steps_since old mid)) (steps_since mid now) contents → HasStayed run (steps_since old now) contents
+stays_both run old mid now contents one two first second =
+    subst (λ s. HasStayed run s contents) (sym (since_both old mid now one two)) (stayed_both run (steps_since old mid) (steps_since mid now) contents first second)
 
 -- Steps behind a stretch.
 pub since_more : (old mid now : Contents) (steps : List Step) → Continues old mid → now.trace ≡ mid.trace ++ steps → steps_since old now ≡ steps_since old mid ++ steps
@@ -346,6 +375,97 @@ images_landed extend stay run block contents now done held =
       ];
     }
 
+-- and its end on blocks that hold the image already
+pub stayed_landed : StatesExtend → ImagesStay → WritesEnd → (run : Execution) (block : ℕ) (contents : List (List ℕ)) → IsLegal run → block < length run.first
+    → slice_index_or contents block [] ≡ image (history_of run block) → HasStayed run (Complete block ∷ []) contents
+stayed_landed extend stay ends run block contents legal known there =
+    let same : contents ≡ slice_set contents block (image (history_of run block)) = sym (ap (λ bytes. slice_set contents block bytes) (sym there) ∙ set-get_or contents block []) in record {
+      crash = λ left. subst (MayLeave (extended run (Complete block))) (sym same) (ends run contents block legal known left);
+      images = λ images. images_landed extend stay run block contents contents same images;
+    }
+
+-- Blocks with the images of flights.
+
+other_kept : {A : Type 0} (contents : List (List ℕ)) (held : List (Flight A)) (b : ℕ) → ((flight : Flight A) → In held flight → b ≢ flight.block)
+    → slice_index_or (with_flights contents held) b [] ≡ slice_index_or contents b []
+other_kept contents [] b other = refl
+other_kept contents (f ∷ held) b other =
+    other_kept (slice_set contents f.block f.image) held b (λ flight inside. other flight (inr inside)) ∙ get_or-set_other contents f.block b f.image [] (other f (inl refl))
+
+abbrev EachOnce : {A : Type 0} → List (Flight A) → Type 0
+EachOnce {A = A} held = (i j : ℕ) (f g : Flight A) → slice_get held i ≡ Some f → slice_get held j ≡ Some g → f.block ≡ g.block → i ≡ j
+
+once_behind : {A : Type 0} (f : Flight A) (held : List (Flight A)) → EachOnce (f ∷ held) → EachOnce held
+once_behind f held once i j g h here there same = let e : suc i ≡ suc j = once (suc i) (suc j) g h here there same in omega (arith, e)
+
+other_behind : {A : Type 0} (f : Flight A) (held : List (Flight A)) → EachOnce (f ∷ held) → (flight : Flight A) → In held flight → f.block ≢ flight.block
+other_behind f held once flight inside same =
+    let r = in_get held flight inside in
+    let e : 0 ≡ suc r.0 = once 0 (suc r.0) f flight refl r.1 same in absurd (omega (arith, e))
+
+-- one flight more
+pub with_one_more : {A : Type 0} (contents : List (List ℕ)) (held : List (Flight A)) (f : Flight A) → with_flights contents (held ++ f ∷ []) ≡ slice_set (with_flights contents held) f.block f.image
+with_one_more contents [] f = refl
+with_one_more contents (h ∷ held) f = with_one_more (slice_set contents h.block h.image) held f
+
+pub next_taken : {X : Type 0} (xs : List X) (n : ℕ) (x : X) → n < length xs → x ≡ slice_index_or xs n x → take (n + 1) xs ≡ take n xs ++ x ∷ []
+next_taken xs n x within is = take_more xs n x within ∙ ap (λ y. take n xs ++ y ∷ []) (sym is)
+
+-- each flight's block holds its image, where none is of another's block
+pub flights_written : {A : Type 0} (contents : List (List ℕ)) (held : List (Flight A)) → EachOnce held → ((flight : Flight A) → In held flight → flight.block < length contents)
+    → HoldFlights (with_flights contents held) held
+flights_written contents [] once known flight inside = absurd inside
+flights_written {A = A} contents (f ∷ held) once known flight (inl is) =
+    let next : List (List ℕ) = slice_set contents f.block f.image in
+    let here : slice_index_or (with_flights next held) f.block [] ≡ f.image =
+    other_kept next held f.block (other_behind f held once) ∙ get_or-set_same contents f.block f.image [] (known f (inl refl)) in
+    subst (λ (x : Flight A). slice_index_or (with_flights next held) x.block [] ≡ x.image) is here
+flights_written contents (f ∷ held) once known flight (inr inside) =
+    flights_written (slice_set contents f.block f.image) held (once_behind f held once)
+    (λ g among. subst (λ n. g.block < n) (sym (length-set contents f.block f.image)) (known g (inr among))) flight inside
+
+-- A wave: its flights were written, the device was synced, and they are completed.
+
+-- a disk that a crash may leave has all blocks
+left_long : (run : Execution) (disk : List (List ℕ)) → MayLeave run disk → length disk ≡ length run.first
+left_long run disk left = ap length left.disk_is ∙ length-map-range_with_len (λ block. pile_of (history_of run block) (crash_set left.landed)) 0 (length run.first)
+
+pub held_images : {A : Type 0} {others : Bool} → ((run : Execution) (block : ℕ) → IsLegal run → IsTrue (has_flight (state_of run) block) → IsTrue (list_any (λ e. is_flight e && e.patch.block == block) (entries_of run)))
+    → ((run : Execution) (e : Entry) → IsLegal run → Contains (entries_of run) e → e.patch.block < length run.first) → (run : Execution) (held : List (Flight A))
+    → IsLegal run → AreFlightsBeside others run held → AreImages run held
+held_images holds known run held legal are flight inside =
+    let flies = held_flies run held flight are inside in (flying_known holds known run flight.block legal flies, flies, (are.each flight inside).image_is)
+
+pub images_on : {A D : Type 0} (g : Ghosts D) (run : Execution) (held : List (Flight A)) (device : D) → AreImages run held → g.block_count device ≡ length run.first → AreOnDevice g held device
+images_on g run held device images blocks flight inside = subst (λ (n : ℕ). flight.block < n) (sym blocks) (images flight inside).0
+
+pub wave_kept : {A D : Type 0} {others : Bool} (g : Ghosts D) (run : Execution) (held : List (Flight A)) (steps : List Step) (before mid now : D)
+    → AreFlightsBeside others run held → AreImages run held → HasKept g run [] before mid → HasKept g run [] mid now → IsLasting g now → may_leave g now (g.contents now)
+    → g.contents now ≡ with_flights (g.contents before) held → length (g.contents now) ≡ length (g.contents before)
+    → ((contents : List (List ℕ)) → HoldFlights contents held → HasStayed run steps contents)
+    → HasKept g run steps before now
+wave_kept {A = A} g run held steps before mid now are images first second lasts all_may is as_long stays =
+    let both : HasKept g run [] before now = kept_more g run before mid now first second in
+    let hold : length (g.contents now) ≡ length run.first → HoldFlights (g.contents now) held =
+    λ long. subst (λ c. HoldFlights c held) (sym is)
+    (flights_written (g.contents before) held are.once (λ flight inside. let known = (images flight inside).0 in subst (λ (n : ℕ). flight.block < n) (sym long ∙ as_long) known)) in
+    record {
+      crash = λ left.
+          let one : IsCrashSafe g run run before now = subst (λ r. IsCrashSafe g run r before now) (same_run run) (both.crash left) in
+          let there : MayLeave run (g.contents now) = one.left (g.contents now) all_may in
+          let stayed = stays (g.contents now) (hold (left_long run (g.contents now) there)) in
+          joined g run run (followed_by run steps) steps before now now refl one
+          (unmoved_steps g run steps now (λ disk may. subst (MayLeave (followed_by run steps)) (sym (lasts disk may)) (stayed.crash there)));
+      images = λ held_before.
+          let there : HoldImages run (g.contents now) = subst (λ r. HoldImages r (g.contents now)) (same_run run) (both.images held_before) in
+          (stays (g.contents now) (hold there.count)).images there;
+    }
+
+-- a sync on the way
+pub kept_synced : {D : Type 0} (g : Ghosts D) (run : Execution) (before now : D) → Elapses (g.moment before) (g.moment now) (g.left_at before) (g.left_at now) → g.moment now ≤ g.moment before + 1
+    → LeavesNoMore (may_leave g before) (may_leave g now) → g.contents now ≡ g.contents before → HasKept g run [] before now
+kept_synced g run before now time few fewer same = kept_still g run before now (λ left. synced g run before now time few fewer left) (λ images. subst (HoldImages run) (sym same) images)
+
 -- The flight that is held first.
 
 pub first_stands : {A : Type 0} {others : Bool} → ((run : Execution) (block : ℕ) → IsLegal run → IsTrue (has_flight (state_of run) block) → IsTrue (list_any (λ e. is_flight e && e.patch.block == block) (entries_of run)))
@@ -412,16 +532,8 @@ one_at_last flights after old now empty so_far flight one = elim (so_far flight 
 pub some_held : (n : ℕ) → (n == 0) ≡ false → 0 < n
 some_held n e = grind (arith, nat_tests)
 
--- one flight less that is held
-pub tries_landed : (bound had had_now held held_now : ℕ) → had + TRIES * held ≤ bound → had_now ≤ had + TRIES → held_now + 1 ≡ held → had_now + TRIES * held_now ≤ bound
-tries_landed bound had had_now held held_now so_far one fewer = omega (arith, so_far, one, fewer)
-
--- or it is given up
-pub tries_refused : (bound had had_now held : ℕ) → had + TRIES * held ≤ bound → had_now ≤ had + TRIES → 0 < held → had_now ≤ bound
-tries_refused bound had had_now held so_far one some = omega (arith, so_far, one, some)
-
 -- those of the writes that were begun, behind those that were held
-pub tries_begun : (had had_now held held_now begun ended sends : ℕ) → had_now ≤ had + TRIES * held_now → held_now ≡ held + begun → sends ≡ begun + ended → had_now ≤ had + TRIES * (held + sends)
+pub tries_begun : (had had_now held held_now begun ended sends : ℕ) → had_now ≤ had + (TRIES + 1) * held_now → held_now ≡ held + begun → sends ≡ begun + ended → had_now ≤ had + (TRIES + 1) * (held + sends)
 tries_begun had had_now held held_now begun ended sends told count are = omega (arith, told, count, are)
 
 -- what is left of a flight is of its write
@@ -429,19 +541,6 @@ pub its_flight : {A : Type 0} (run : Execution) (flight : Flight A) (landed : La
     → Contains (state_of run).flights (landed.block, landed.sequence)
 its_flight run flight landed block sequence known =
     let pair : ◌≡◌ {A = ℕ × ℕ} (flight.block, flight.sequence) (landed.block, landed.sequence) = cc in subst (λ (p : ℕ × ℕ). Contains (state_of run).flights p) pair known
-
--- a write that was done after some tries, and completed
-pub completed : TrailsJoin → WritesEnd → (run : Execution) (block : ℕ) (had had_now : List (List (List ℕ))) (contents now : List (List ℕ)) → IsLegal run → block < length run.first
-    → now ≡ slice_set contents block (image (history_of run block)) → MayLeave run contents → IsCrashSafe run run had had_now now → IsCrashSafe run (extended run (Complete block)) had had_now now
-completed join ends run block had had_now contents now legal known done left safe =
-    let next : Execution = extended run (Complete block) in
-    joined join run run next (Complete block ∷ []) had had_now had_now now now refl safe (record {
-      disks = [];
-      counts = [];
-      added = sym (append-nil had_now);
-      trail = longer run (Complete block);
-      left = subst (MayLeave next) (sym done) (ends run contents block legal known left);
-    })
 
 -- how often where none was tried
 pub tries_none : (had more : ℕ) → had ≤ had + more
@@ -457,3 +556,7 @@ one_less now had fewer = omega arith
 -- the flight that is held first
 pub held_at_first : {X : Type 0} (xs : List X) (a : X) → 0 < length xs → a ≡ get_or xs 0 a → slice_get xs 0 ≡ Some a
 held_at_first xs a some is = slice_get-get_or xs 0 a some ∙ ap (λ x. Some x) (sym is)
+
+pub first_inside : {X : Type 0} (xs : List X) (x : X) → slice_get xs 0 ≡ Some x → In xs x
+first_inside [] x e = absurd (cc)
+first_inside (y ∷ ys) x e = inl (some_same y x e)

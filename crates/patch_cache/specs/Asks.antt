@@ -96,13 +96,17 @@ is_complete (Merge a b) = false
 is_complete (Send block) = false
 is_complete (View block moves start len) = false
 
+-- the device refused the write of a completion, or the sync behind it
+abbrev pub IsFault : Answer → Type 0
+IsFault answer = (answer ≡ Refused (bare kind.Fault)) ⊎ (answer ≡ Refused (bare kind.SyncFailed))
+
 -- An ask that no cause stands against is given up where there is no memory; a completion takes none, and is given up where
--- the device refuses the write.
+-- the device refuses the write or the sync.
 pub record IsGivenUp (run : Execution) (ask : Ask) (answer : Answer) : Type 0 where
   pub done : Answer
   pub right : IsAnswer run ask done
   pub not_refused : is_refused done ≡ false
-  pub gives_up : ((answer ≡ Refused (bare kind.OutOfMemory)) × (is_complete ask ≡ false)) ⊎ ((answer ≡ Refused (bare kind.Fault)) × (is_complete ask ≡ true))
+  pub gives_up : ((answer ≡ Refused (bare kind.OutOfMemory)) × (is_complete ask ≡ false)) ⊎ (IsFault answer × (is_complete ask ≡ true))
 
 -- the step that an ask is for
 abbrev pub step_for : Ask → Option Step

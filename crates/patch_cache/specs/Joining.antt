@@ -5,6 +5,8 @@ use Rattle.patch_model.specs.Step.{Step, Create, Complete}
 use Rattle.patch_model.specs.Execution.{Execution, extended, followed_by}
 use Rattle.patch_model.specs.Legal.{IsLegal}
 use Rattle.patch_model.specs.Crash.{MayLeave}
+use Rattle.patch_device.specs.SameDevice.{LeavesOnly}
+use Rattle.patch_device.specs.declared.devices.Device.{Ghosts}
 use Rattle.patch_cache.specs.Contents.{Contents}
 use Rattle.patch_cache.specs.Flights.{AreFlightsOf}
 use Rattle.patch_cache.specs.Running.{Runs, IsCrashSafe}
@@ -13,22 +15,22 @@ use Rattle.patch_cache.specs.declared.flights.Flights.{Flights}
 use Rattle.patch_cache.specs.declared.flights.Flight.{Flight}
 
 -- a device that nothing was done to is left as a crash may leave it
-abbrev pub UnmovedIsSafe : Type 0
-UnmovedIsSafe = (run : Execution) (had : List (List (List ℕ))) (contents : List (List ℕ)) → MayLeave run contents → IsCrashSafe run run had had contents
+abbrev pub UnmovedIsSafe : {D : Type 0} → Ghosts D → Type 0
+UnmovedIsSafe {D = D} g = (run : Execution) (device : D) → LeavesOnly g device (MayLeave run) → IsCrashSafe g run run device device
 
 -- and so it is after a step that ends no write
-abbrev pub UnwrittenIsSafe : Type 0
-UnwrittenIsSafe =
-    (run : Execution) (step : Step) (had : List (List (List ℕ))) (contents : List (List ℕ))
+abbrev pub UnwrittenIsSafe : {D : Type 0} → Ghosts D → Type 0
+UnwrittenIsSafe {D = D} g =
+    (run : Execution) (step : Step) (device : D)
     → IsLegal run → IsLegal (extended run step) → ((block : ℕ) → step ≢ Complete block)
-    → MayLeave run contents → IsCrashSafe run (extended run step) had had contents
+    → LeavesOnly g device (MayLeave run) → IsCrashSafe g run (extended run step) device device
 
 -- what is so left from one execution to the next, and from there to a third, is so left from the first to the third
-abbrev pub SafeJoin : Type 0
-SafeJoin =
-    (a b : Execution) (more : List Step) (had had_between had_now : List (List (List ℕ))) (contents contents_now : List (List ℕ))
-    → IsCrashSafe a b had had_between contents → IsCrashSafe b (followed_by b more) had_between had_now contents_now
-    → IsCrashSafe a (followed_by b more) had had_now contents_now
+abbrev pub SafeJoin : {D : Type 0} → Ghosts D → Type 0
+SafeJoin {D = D} g =
+    (a b : Execution) (more : List Step) (before mid now : D)
+    → IsCrashSafe g a b before mid → IsCrashSafe g b (followed_by b more) mid now
+    → IsCrashSafe g a (followed_by b more) before now
 
 -- a cache adds no step to its own trace
 abbrev pub NoneSince : Type 0
@@ -54,14 +56,13 @@ StretchesJoin A =
     → HasGoneOn run a mid before → HasGoneOn (followed_by run a) b now after → HasGoneOn run (a ++ b) now after
 
 -- it keeps a device that nothing was done to
-abbrev pub StillIsKept : Type 0
-StillIsKept = (run : Execution) (had : List (List (List ℕ))) (contents : List (List ℕ)) → HasKept run [] had had contents contents
+abbrev pub StillIsKept : {D : Type 0} → Ghosts D → Type 0
+StillIsKept {D = D} g = (run : Execution) (device : D) → HasKept g run [] device device
 
-abbrev pub KeptJoin : Type 0
-KeptJoin =
-    (run : Execution) (a b : List Step) (had had_between had_now : List (List (List ℕ))) (contents contents_between contents_now : List (List ℕ))
-    → HasKept run a had had_between contents contents_between → HasKept (followed_by run a) b had_between had_now contents_between contents_now
-    → HasKept run (a ++ b) had had_now contents contents_now
+abbrev pub KeptJoin : {D : Type 0} → Ghosts D → Type 0
+KeptJoin {D = D} g =
+    (run : Execution) (a b : List Step) (before mid now : D)
+    → HasKept g run a before mid → HasKept g (followed_by run a) b mid now → HasKept g run (a ++ b) before now
 
 -- flights stay those of the execution beside a patch that is made
 abbrev pub FlightsStay : (A : Type 0) → Type 0

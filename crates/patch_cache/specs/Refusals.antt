@@ -61,6 +61,7 @@ gave_up_cause refusal = with_number kind.DeviceGaveUp refusal.0
 
 abbrev pub flush_cause : FlushRefusal → Refusal
 flush_cause (flush.DeviceGaveUp n) = with_number kind.DeviceGaveUp n
+flush_cause flush.SyncFailed = bare kind.SyncFailed
 flush_cause flush.OutOfMemory = bare kind.OutOfMemory
 
 -- the refusal has this cause; with no cause there was no memory

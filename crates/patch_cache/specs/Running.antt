@@ -1,17 +1,16 @@
 -- A list of asks, answered one after another.
-use Rattle.std.specs.Prelude.{ℕ, Bool, true, false, ◌≡◌, ◌≤◌, ◌⊎◌, ◌++◌, List, [], ◌∷◌, length, map, slice_set, Vec, Result, Ok, Err}
+use Rattle.std.specs.Prelude.{ℕ, suc, ◌+◌, Bool, true, false, ◌≡◌, ◌≤◌, ◌⊎◌, List, [], ◌∷◌, length, map, slice_set, Vec, Result, Ok, Err}
 use Rattle.patch_model.specs.declared.refusals.OutOfMemory.{OutOfMemory}
-use Rattle.patch_model.specs.declared.refusals.RefusalKind.TheVariants as kind
 use Rattle.patch_model.specs.Execution.{Execution}
 use Rattle.patch_model.specs.Crash.{HasTrail, MayLeave}
 use Rattle.patch_model.specs.History.{history_of, image}
-use Rattle.patch_model.specs.Refusing.{bare}
-use Rattle.patch_device.specs.Device.{HasRisen}
+use Rattle.patch_device.specs.Device.{HasRisen, Elapses}
+use Rattle.patch_device.specs.SameDevice.{LeavesOnly}
 use Rattle.patch_device.specs.declared.devices.Device.{Ghosts}
 use Rattle.patch_cache.specs.Contents.{Contents}
 use Rattle.patch_cache.specs.Meaning.{Represents}
 use Rattle.patch_cache.specs.Flights.{AreFlightsBeside}
-use Rattle.patch_cache.specs.Asks.{Ask, Answer, Create, Merge, Send, Complete, View, Refused, IsAnswer, IsGivenUp, AreAnswers, answer_of, is_refused, after, after_all}
+use Rattle.patch_cache.specs.Asks.{Ask, Answer, Create, Merge, Send, Complete, View, IsFault, IsAnswer, IsGivenUp, AreAnswers, answer_of, is_refused, after, after_all}
 use Rattle.patch_cache.specs.declared.asks.Answer.{Answer as CodeAnswer}
 use Rattle.patch_cache.specs.declared.flights.Flight.{Flight}
 use Rattle.patch_cache.specs.declared.flights.Flights.{Flights}
@@ -53,18 +52,18 @@ pub record IsAnswered {A : Type 0} (run : Execution) (ask : Ask) (answer : Answe
   pub right : IsAnswer run ask answer ⊎ IsGivenUp run ask answer
   pub runs : Runs cache flights (after run ask answer)
 
--- Each contents that the device had on the way is a disk that a crash may leave, of the execution as it was then; and so is
--- what it holds in the end.
-pub record IsCrashSafe (old new : Execution) (had had_now : List (List (List ℕ))) (contents : List (List ℕ)) : Type 0 where
-  pub disks : List (List (List ℕ))
+-- What a cut of the power on the way may have left is a disk that a crash may leave, of the execution as it was then; and so is what
+-- a cut leaves in the end.
+pub record IsCrashSafe {D : Type 0} (g : Ghosts D) (old new : Execution) (before now : D) : Type 0 where
+  pub time : Elapses (g.moment before) (g.moment now) (g.left_at before) (g.left_at now)
   pub counts : List ℕ
-  pub added : had_now ≡ had ++ disks
-  pub trail : HasTrail new (length old.steps) disks counts
-  pub left : MayLeave new contents
+  pub moments : g.moment now ≡ g.moment before + length counts
+  pub trail : HasTrail new (g.left_at now) (suc (g.moment before)) (length old.steps) counts
+  pub left : LeavesOnly g now (MayLeave new)
 
--- An honest device that held what a crash may leave has gone on so.
+-- An honest device of which a cut left what a crash may leave has gone on so.
 abbrev pub LeavesSafe : {D : Type 0} → Ghosts D → (old new : Execution) → (before now : D) → Type 0
-LeavesSafe g old new before now = g.is_honest before → MayLeave old (g.contents before) → IsCrashSafe old new (g.had before) (g.had now) (g.contents now)
+LeavesSafe g old new before now = g.is_honest before → LeavesOnly g before (MayLeave old) → IsCrashSafe g old new before now
 
 -- Each ask that was answered is answered right or given up, and the cache stands after their steps.
 pub record HasRun {A : Type 0} (run : Execution) (asks : List Ask) (answers : List Answer) (cache : Contents) (flights : Flights A) : Type 0 where
@@ -74,7 +73,7 @@ pub record HasRun {A : Type 0} (run : Execution) (asks : List Ask) (answers : Li
 -- What an ask has made of the count of faults: none gets lost, and where it met one, one was counted.
 pub record CountsFaults (answer : Answer) (old new : ℕ) : Type 0 where
   pub kept : old ≤ new
-  pub met : answer ≡ Refused (bare kind.Fault) → HasRisen old new
+  pub met : IsFault answer → HasRisen old new
 
 -- and what a list of them has made of it: each answer that tells of a fault rests on a rise of its own
 abbrev pub CountFaults : List Answer → ℕ → ℕ → Type 0
@@ -85,7 +84,7 @@ CountFaults (answer ∷ answers) old new = (between : ℕ) × CountsFaults answe
 -- nothing else changes the disk.
 abbrev pub HasWritten : Execution → Ask → Answer → List (List ℕ) → List (List ℕ) → Type 0
 HasWritten run (Complete block) answer old new = elim (is_refused answer) [
-  | true ↦ (new ≡ old) ⊎ ((answer ≡ Refused (bare kind.Fault)) × (new ≡ slice_set old block (image (history_of run block))))
+  | true ↦ (new ≡ old) ⊎ (IsFault answer × (new ≡ slice_set old block (image (history_of run block))))
   | false ↦ new ≡ slice_set old block (image (history_of run block))
 ]
 HasWritten run (Create block start bytes after undo) answer old new = new ≡ old
@@ -105,9 +104,9 @@ abbrev pub HaveAllWritten : {D : Type 0} → Ghosts D → Execution → List Ask
 HaveAllWritten g run asks answers before now = g.is_honest before → HaveWritten run asks answers (g.contents before) (g.contents now)
 
 -- What an ask has done that was served on a device: it is answered, a fault that it tells of was counted, an honest device
--- holds what it has written, and was never left as a crash may not leave it.
+-- holds what it has written, and a cut never left what a crash may not leave.
 pub record IsServed {A D : Type 0} (g : Ghosts D) (run : Execution) (ask : Ask) (answer : Answer) (cache : Contents) (flights : Flights A) (before now : D) : Type 0 where
   pub answered : IsAnswered run ask answer cache flights
-  pub fault : answer ≡ Refused (bare kind.Fault) → HasRisen (g.fault_count before) (g.fault_count now)
+  pub fault : IsFault answer → HasRisen (g.fault_count before) (g.fault_count now)
   pub written : g.is_honest before → HasWritten run ask answer (g.contents before) (g.contents now)
   pub crash : LeavesSafe g run (after run ask answer) before now

@@ -1,5 +1,5 @@
 -- Writes that are begun and ended, with no other step between them.
-use Rattle.std.specs.Prelude.{ℕ, Bool, true, false, ◌≡◌, ◌≢◌, ◌==◌, ◌&&◌, ◌+◌, ◌<◌, ◌≤◌, ◌⊎◌, ◌++◌, List, [], ◌∷◌, IsFalse, length, drop, count_by, slice_index_or, slice_get, Contains, Some, None, Result, Ok, Err}
+use Rattle.std.specs.Prelude.{ℕ, Bool, true, false, ◌≡◌, ◌≢◌, ◌==◌, ◌&&◌, ◌+◌, ◌<◌, ◌≤◌, ◌⊎◌, ◌++◌, List, [], ◌∷◌, IsTrue, IsFalse, length, drop, count_by, slice_index_or, slice_set, slice_get, Contains, Some, None, Result, Ok, Err}
 use Rattle.std.specs.List.{list_all}
 use Rattle.patch_model.specs.Step.{Step, Create, Merge, Send, Complete}
 use Rattle.patch_model.specs.Execution.{Execution, extended, followed_by}
@@ -8,7 +8,10 @@ use Rattle.patch_model.specs.State.{entries_of, state_of, has_flight}
 use Rattle.patch_model.specs.History.{history_of, image}
 use Rattle.patch_model.specs.Refusing.{why_not_sent}
 use Rattle.patch_model.specs.Crash.{MayLeave}
-use Rattle.patch_device.specs.Device.{most_faults}
+use Rattle.patch_model.specs.Member.{In}
+use Rattle.patch_device.specs.Device.{most_faults, HasRisen}
+use Rattle.patch_device.specs.SameDevice.{LeavesOnly}
+use Rattle.patch_device.specs.declared.devices.Device.{Ghosts}
 use Rattle.patch_cache.specs.Contents.{Contents}
 use Rattle.patch_cache.specs.Running.{RunsBeside, IsCrashSafe, held_by}
 use Rattle.patch_cache.specs.Flights.{IsLeastReady}
@@ -64,20 +67,43 @@ pub record HoldImages (run : Execution) (contents : List (List ℕ)) : Type 0 wh
   pub count : length contents ≡ length run.first
   pub images : (b : ℕ) → b < length run.first → IsFalse (has_flight (state_of run) b) → slice_index_or contents b [] ≡ image (history_of run b)
 
--- What a stretch keeps of an honest device. Each contents that it had on the way is a disk that a crash may leave, if the
--- first one was; and it holds the images of all blocks with no write under way, if it did before.
-pub record HasKept (run : Execution) (steps : List Step) (had had_now : List (List (List ℕ))) (contents contents_now : List (List ℕ)) : Type 0 where
-  pub crash : MayLeave run contents → IsCrashSafe run (followed_by run steps) had had_now contents_now
-  pub images : HoldImages run contents → HoldImages (followed_by run steps) contents_now
+-- What a stretch keeps of blocks that stay as they are: a crash may leave them, if it could before; and they are the images of all
+-- blocks with no write under way, if they were.
+pub record HasStayed (run : Execution) (steps : List Step) (contents : List (List ℕ)) : Type 0 where
+  pub crash : MayLeave run contents → MayLeave (followed_by run steps) contents
+  pub images : HoldImages run contents → HoldImages (followed_by run steps) contents
+
+-- What it keeps of an honest device. What a cut on the way may have left is a disk that a crash may leave, if that was so at first;
+-- and it holds the images of all blocks with no write under way, if it did.
+pub record HasKept {D : Type 0} (g : Ghosts D) (run : Execution) (steps : List Step) (before now : D) : Type 0 where
+  pub crash : LeavesOnly g before (MayLeave run) → IsCrashSafe g run (followed_by run steps) before now
+  pub images : HoldImages run (g.contents before) → HoldImages (followed_by run steps) (g.contents now)
 
 -- for each execution that cache and flights stood after
-abbrev pub KeepsDiskBeside : {A : Type 0} → Bool → Contents → Contents → Flights A → (had had_now : List (List (List ℕ))) → (contents contents_now : List (List ℕ)) → Type 0
-KeepsDiskBeside others old now flights had had_now contents contents_now =
-    (run : Execution) → RunsBeside others old flights run → HasKept run (steps_since old now) had had_now contents contents_now
+abbrev pub KeepsDiskBeside : {A D : Type 0} → Ghosts D → Bool → Contents → Contents → Flights A → (before after : D) → Type 0
+KeepsDiskBeside g others old now flights before after = (run : Execution) → RunsBeside others old flights run → HasKept g run (steps_since old now) before after
 
 -- and all flights are held
-abbrev pub KeepsDisk : {A : Type 0} → Contents → Contents → Flights A → (had had_now : List (List (List ℕ))) → (contents contents_now : List (List ℕ)) → Type 0
-KeepsDisk old now flights had had_now contents contents_now = KeepsDiskBeside false old now flights had had_now contents contents_now
+abbrev pub KeepsDisk : {A D : Type 0} → Ghosts D → Contents → Contents → Flights A → (before after : D) → Type 0
+KeepsDisk g old now flights before after = KeepsDiskBeside g false old now flights before after
+
+-- and of any blocks
+abbrev pub StaysBeside : {A : Type 0} → Bool → Contents → Contents → Flights A → Type 0
+StaysBeside others old now flights = (run : Execution) (contents : List (List ℕ)) → RunsBeside others old flights run → HasStayed run (steps_since old now) contents
+
+-- the block of each flight is its image
+abbrev pub HoldFlights : {A : Type 0} → List (List ℕ) → List (Flight A) → Type 0
+HoldFlights {A = A} contents held = (flight : Flight A) → In held flight → slice_index_or contents flight.block [] ≡ flight.image
+
+-- and of blocks that hold the images of all flights
+abbrev pub StaysOnImages : {A : Type 0} → Bool → Contents → Contents → Flights A → Type 0
+StaysOnImages others old now flights =
+    (run : Execution) (contents : List (List ℕ)) → RunsBeside others old flights run → HoldFlights contents (held_by flights) → HasStayed run (steps_since old now) contents
+
+-- blocks with the images of flights written, one after another
+abbrev pub with_flights : {A : Type 0} → List (List ℕ) → List (Flight A) → List (List ℕ)
+with_flights contents [] = contents
+with_flights contents (flight ∷ held) = with_flights (slice_set contents flight.block flight.image) held
 
 -- the count of faults rose by so many, or ended at its greatest
 abbrev pub HasRisenBy : ℕ → ℕ → ℕ → Type 0
@@ -87,26 +113,49 @@ HasRisenBy n before now = (before + n ≤ now) ⊎ (now ≡ most_faults)
 abbrev pub HasGivenUp : ℕ → ℕ → Type 0
 HasGivenUp before now = HasRisenBy TRIES before now
 
--- an answer that the device gave up rests on so many faults
+-- an answer that the device gave up rests on so many faults, and one that a sync failed on one
 abbrev pub RisesIfGivenUp : {T : Type 0} → Result T FlushRefusal → ℕ → ℕ → Type 0
 RisesIfGivenUp (Ok done) before now = Unit {0}
 RisesIfGivenUp (Err (flush.DeviceGaveUp block)) before now = HasGivenUp before now
+RisesIfGivenUp (Err flush.SyncFailed) before now = HasRisen before now
 RisesIfGivenUp (Err flush.OutOfMemory) before now = Unit {0}
 
 -- What tries to write a flight leave of an honest device is what a crash may leave, of each execution whose image it holds.
-abbrev pub IsTriedSafely : {A : Type 0} → Flight A → (had had_now : List (List (List ℕ))) → (contents contents_now : List (List ℕ)) → Type 0
-IsTriedSafely flight had had_now contents contents_now =
+abbrev pub IsTriedSafely : {A D : Type 0} → Ghosts D → Flight A → (before now : D) → Type 0
+IsTriedSafely g flight before now =
     (run : Execution) → flight.block < length run.first → flight.image ≡ image (history_of run flight.block)
-    → MayLeave run contents → IsCrashSafe run run had had_now contents_now
+    → LeavesOnly g before (MayLeave run) → IsCrashSafe g run run before now
 
--- the flight that is held first is of the block
-abbrev pub IsHeldFirst : {A : Type 0} → ℕ → Flights A → Type 0
-IsHeldFirst {A = A} block flights = (flight : Flight A) × (slice_get (held_by flights) 0 ≡ Some flight) × (flight.block ≡ block)
+-- These are flights of the execution: each of a block whose write is under way, with its image.
+abbrev pub AreImages : {A : Type 0} → Execution → List (Flight A) → Type 0
+AreImages {A = A} run held =
+    (flight : Flight A) → In held flight → (flight.block < length run.first) × IsTrue (has_flight (state_of run) flight.block) × (flight.image ≡ image (history_of run flight.block))
+
+-- And what tries to write all of these leave of it: no other block is changed.
+abbrev pub AreTriedSafely : {A D : Type 0} → Ghosts D → List (Flight A) → (before now : D) → Type 0
+AreTriedSafely g held before now = (run : Execution) → AreImages run held → HasKept g run [] before now
+
+-- the device has the block of each flight
+abbrev pub AreOnDevice : {A D : Type 0} → Ghosts D → List (Flight A) → D → Type 0
+AreOnDevice {A = A} g held device = (flight : Flight A) → In held flight → flight.block < g.block_count device
+
+-- one of the flights is of the block
+abbrev pub IsOneOf : {A : Type 0} → ℕ → List (Flight A) → Type 0
+IsOneOf {A = A} block held = (flight : Flight A) × In held flight × (flight.block ≡ block)
+
+-- what is held was held before
+abbrev pub StillHolds : {A : Type 0} → (old now : Flights A) → Type 0
+StillHolds {A = A} old now = (flight : Flight A) → In (held_by now) flight → In (held_by old) flight
+
+-- a flight of the block is held
+abbrev pub IsHeld : {A : Type 0} → ℕ → Flights A → Type 0
+IsHeld block flights = IsOneOf block (held_by flights)
 
 -- and so is that of a block which the device gave up
 abbrev pub IsHeldIfGivenUp : {A T : Type 0} → Result T FlushRefusal → Flights A → Type 0
 IsHeldIfGivenUp (Ok done) flights = Unit {0}
-IsHeldIfGivenUp (Err (flush.DeviceGaveUp block)) flights = IsHeldFirst block flights
+IsHeldIfGivenUp (Err (flush.DeviceGaveUp block)) flights = IsHeld block flights
+IsHeldIfGivenUp (Err flush.SyncFailed) flights = Unit {0}
 IsHeldIfGivenUp (Err flush.OutOfMemory) flights = Unit {0}
 
 -- the flight that was held first is completed, and nothing else is done

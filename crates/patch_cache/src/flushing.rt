@@ -2,11 +2,11 @@
 ghost use Rattle.std.specs.Prelude.{Bool, ◌≡◌, ◌+◌, ◌*◌, ◌≤◌, ◌↔◌, ◌++◌, ℕ, List, [], false, None, length, count_by, IfOk, OnOk, OnErr, MatchResult};
 ghost use Rattle.patch_model.specs.Execution.{Execution, followed_by};
 ghost use Rattle.patch_model.specs.Refusing.{why_not_sent};
-ghost use Rattle.patch_device.specs.SameDevice.{IsSameDevice};
+ghost use Rattle.patch_device.specs.SameDevice.{IsSameDevice, IsLasting};
 ghost use Rattle.patch_cache.specs.declared.landing.TheConstants.{TRIES};
 ghost use Rattle.patch_cache.specs.Running.{Runs, RunsBeside, RunsOn, RunsOnBeside, held_by};
 ghost use Rattle.patch_cache.specs.Refused.{IfGivenUp};
-ghost use Rattle.patch_cache.specs.Waves.{is_send, steps_since, Continues, HasGoneOn, HasGoneOnBeside, HasKept, KeepsDisk, KeepsDiskBeside, RisesIfGivenUp, IsHeldIfGivenUp, begun, IsSentOr, HoldsBegun, IsPass, IsFlushed, HasWrittenOne};
+ghost use Rattle.patch_cache.specs.Waves.{is_send, steps_since, Continues, HasGoneOn, HasGoneOnBeside, KeepsDisk, KeepsDiskBeside, StaysBeside, RisesIfGivenUp, IsHeldIfGivenUp, begun, IsSentOr, HoldsBegun, IsPass, IsFlushed, HasWrittenOne};
 
 use crate::caches::Cache;
 use crate::flights::Flights;
@@ -55,8 +55,7 @@ impl<A: Allocator + Copy> Cache<A> {
         ensures ran { (others : Bool) (run : Execution) → RunsBeside others self.old flights.old run
             → HasGoneOnBeside others run (steps_since self.old self.new) self.new flights.new }
         ensures trace { Continues self.old self.new }
-        ensures disk { (had : List (List (List ℕ))) (contents : List (List ℕ)) (others : Bool)
-            → KeepsDiskBeside others self.old self.new flights.old had had contents contents }
+        ensures stays { (others : Bool) → StaysBeside others self.old self.new flights.old }
         ensures pass { (run : Execution) → Runs self.old flights.old run
             → IfOk result (λ sent. IsPass run sent (steps_since self.old self.new)) }
         ensures count { OnOk result (length (held_by flights.new) ≡ length (held_by flights.old) + count_by is_send (steps_since self.old self.new)) }
@@ -68,7 +67,6 @@ impl<A: Allocator + Copy> Cache<A> {
         model_laws::ready_is_largest();
         model_laws::images_stay();
         model_laws::disks_stay();
-        model_laws::trails_join();
         model_laws::patches_are_placed();
         model_laws::paths_form_no_ring();
         let mut sent = false;
@@ -81,7 +79,7 @@ impl<A: Allocator + Copy> Cache<A> {
         Ok(sent)
     }
 
-    /// Begins the write of the least block of which one can begin, and writes out and completes all that is held. Whether
+    /// Begins the write of the least block of which one can begin, writes out all that is held, syncs the device, and completes it. Whether
     /// there was such a block. Called until it answers false, with nothing held at first, it brings the patches to the disk
     /// one flight at a time.
     pub fn write_next<D: Device>(
@@ -93,18 +91,19 @@ impl<A: Allocator + Copy> Cache<A> {
             → HasGoneOn run (steps_since self.old self.new) self.new flights.new }
         ensures trace { Continues self.old self.new }
         ensures disk { D.is_honest device.old
-            → KeepsDisk self.old self.new flights.old (D.had device.old) (D.had device.new) (D.contents device.old) (D.contents device.new) }
+            → KeepsDisk D.Device self.old self.new flights.old device.old device.new }
         ensures wrote { (run : Execution) → Runs self.old flights.old run → held_by flights.old ≡ []
             → IfOk result (λ wrote. HasWrittenOne run wrote (steps_since self.old self.new)) }
         ensures one { count_by is_send (steps_since self.old self.new) ≤ 1 }
-        ensures tries { D.is_honest device.old → length (D.had device.new)
-            ≤ length (D.had device.old) + TRIES * (length (held_by flights.old) + count_by is_send (steps_since self.old self.new)) }
+        ensures tries { D.moment device.new
+            ≤ D.moment device.old + (TRIES + 1) * (length (held_by flights.old) + count_by is_send (steps_since self.old self.new)) }
         ensures gave_up { (run : Execution) → RunsOn D.Device self.old flights.old device.old run
             → RisesIfGivenUp result (D.fault_count device.old) (D.fault_count device.new) }
         ensures refused { (run : Execution) → RunsOn D.Device self.old flights.old device.old run
             → IfGivenUp D.Device result flights.new device.old device.new }
         ensures held { IsHeldIfGivenUp result flights.new }
         ensures landed { OnOk result (held_by flights.old ≡ [] → held_by flights.new ≡ []) }
+        ensures lasts { D.is_honest device.old → OnOk result (IsLasting D.Device device.old → IsLasting D.Device device.new) }
         ensures device { IsSameDevice D.Device device.old device.new }
     {
         model_laws::steps_extend();
@@ -113,7 +112,6 @@ impl<A: Allocator + Copy> Cache<A> {
         model_laws::ready_is_largest();
         model_laws::images_stay();
         model_laws::disks_stay();
-        model_laws::trails_join();
         model_laws::some_is_ready();
         model_laws::patches_are_placed();
         let Some(block) = self.next_ready() else {
@@ -126,9 +124,10 @@ impl<A: Allocator + Copy> Cache<A> {
         Ok(true)
     }
 
-    /// Brings all patches to the disk, in waves: completes all held flights, and then begins all writes that can begin,
-    /// writes them out and completes them, until none can begin. Where it is refused, what was completed stays so, and the
-    /// other flights are held: the next call goes on from there.
+    /// Brings all patches to the disk, in waves: writes out all held flights, syncs the device and completes them, and then begins
+    /// all writes that can begin and does the same with them, until none can begin. So what is written rests on nothing that a cut
+    /// of the power can still take away. Where it is refused, what was completed stays so, and the other flights are held: the next
+    /// call goes on from there, but not on a device that refused a sync.
     pub fn flush<D: Device>(
         &mut self,
         flights: &mut Flights<A>,
@@ -137,21 +136,21 @@ impl<A: Allocator + Copy> Cache<A> {
         ensures ran { (others : Bool) (run : Execution) → RunsBeside others self.old flights.old run
             → HasGoneOnBeside others run (steps_since self.old self.new) self.new flights.new }
         ensures trace { Continues self.old self.new }
-        ensures disk { D.is_honest device.old → (others : Bool) → KeepsDiskBeside others self.old self.new flights.old
-            (D.had device.old) (D.had device.new) (D.contents device.old) (D.contents device.new) }
+        ensures disk { D.is_honest device.old
+            → (others : Bool) → KeepsDiskBeside D.Device others self.old self.new flights.old device.old device.new }
         ensures flushed { (run : Execution) → Runs self.old flights.old run
             → OnOk result (IsFlushed (followed_by run (steps_since self.old self.new))) }
-        ensures tries { D.is_honest device.old
-            → length (D.had device.new) ≤ length (D.had device.old) + TRIES * (length (held_by flights.old) + count_by is_send (steps_since self.old self.new)) }
+        ensures tries { D.moment device.new
+            ≤ D.moment device.old + (TRIES + 1) * (length (held_by flights.old) + count_by is_send (steps_since self.old self.new)) }
         ensures gave_up { (others : Bool) (run : Execution) → RunsOnBeside D.Device others self.old flights.old device.old run
             → RisesIfGivenUp result (D.fault_count device.old) (D.fault_count device.new) }
         ensures refused { (others : Bool) (run : Execution) → RunsOnBeside D.Device others self.old flights.old device.old run
             → IfGivenUp D.Device result flights.new device.old device.new }
         ensures held { IsHeldIfGivenUp result flights.new }
         ensures landed { OnOk result (held_by flights.new ≡ []) }
+        ensures lasts { D.is_honest device.old → OnOk result (IsLasting D.Device device.old → IsLasting D.Device device.new) }
         ensures device { IsSameDevice D.Device device.old device.new }
     {
-        model_laws::trails_join();
         model_laws::some_is_ready();
         model_laws::pairs_merge();
         model_laws::patches_are_placed();

@@ -9,6 +9,7 @@ ghost use Rattle.patch_cache.specs.Joining.{UnmovedIsSafe, UnwrittenIsSafe, Safe
 ghost use Rattle.patch_cache.specs.Asks.{Ask, Answer, IsAnswer};
 ghost use Rattle.patch_cache.specs.Promise.{TakingBack, MovesArePermitted, LooksShow, ImagesSent, CrashesClosed};
 
+use patch_device::Device;
 use std::alloc::Allocator;
 
 /// For every execution of patch, merge, send and completion steps: taking back in any permitted order a set of undoable
@@ -40,12 +41,11 @@ pub fn answers_are_single()
 
 /// What is left of an honest device is what a crash may leave: where nothing changes, over a step that ends no write, and over
 /// one stretch of steps and the next. A run of steps of a crate above is shown so, one call after another.
-pub fn crashes_join()
-    ensures unmoved { UnmovedIsSafe }
-    ensures unwritten { UnwrittenIsSafe }
-    ensures joined { SafeJoin }
+pub fn crashes_join<D: Device>()
+    ensures unmoved { UnmovedIsSafe D.Device }
+    ensures unwritten { UnwrittenIsSafe D.Device }
+    ensures joined { SafeJoin D.Device }
 {
-    patch_model::laws::trails_join();
     patch_model::laws::disks_stay();
 }
 
@@ -58,14 +58,12 @@ pub fn traces_join()
 
 /// Two stretches of writes, one after the other, are one: of the cache and its flights, and of what they keep of an honest
 /// device. Where nothing is done there is a stretch of no steps.
-pub fn stretches_join<A: Allocator>()
+pub fn stretches_join<A: Allocator, D: Device>()
     ensures still { StillIsStretch A }
     ensures joined { StretchesJoin A }
-    ensures still_kept { StillIsKept }
-    ensures kept { KeptJoin }
-{
-    patch_model::laws::trails_join();
-}
+    ensures still_kept { StillIsKept D.Device }
+    ensures kept { KeptJoin D.Device }
+{}
 
 /// Held flights stay those of the execution beside a patch that is made.
 pub fn flights_stay<A: Allocator>()

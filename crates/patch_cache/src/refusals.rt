@@ -29,6 +29,10 @@ pub enum FlushRefusal {
     /// The device refused the write of this block [`TRIES`](crate::TRIES) times. Its flight is held as before.
     #[error("DeviceGaveUp {0}")]
     DeviceGaveUp(BlockNo),
+    /// The device refused the sync behind some writes, so that they may be lost. Their flights are held as before, and the device
+    /// is spent: what is left of it is found by opening it anew.
+    #[error("SyncFailed")]
+    SyncFailed,
     #[error("OutOfMemory")]
     OutOfMemory,
 }
@@ -230,6 +234,7 @@ impl Refuses for FlushRefusal {
     fn refusal(self) -> Refusal {
         match self {
             FlushRefusal::DeviceGaveUp(block) => RefusalKind::DeviceGaveUp.with_number(block.0),
+            FlushRefusal::SyncFailed => RefusalKind::SyncFailed.bare(),
             FlushRefusal::OutOfMemory => RefusalKind::OutOfMemory.bare(),
         }
     }

@@ -1,12 +1,11 @@
 //! A list of asks, answered one after another.
-ghost use Rattle.std.specs.Prelude.{◌≡◌, ◌≢◌, ◌+◌, ◌<◌, ◌++◌, true, Some, None, length, map, IfOk, OnOk, OnErr};
-ghost use Rattle.patch_model.specs.declared.refusals.RefusalKind.TheVariants as kind;
+ghost use Rattle.std.specs.Prelude.{◌≡◌, ◌+◌, ◌<◌, ◌++◌, true, Some, None, length, map, IfOk, OnOk, OnErr};
 ghost use Rattle.patch_model.specs.Execution.{Execution};
-ghost use Rattle.patch_model.specs.Refusing.{bare, why_not_sent};
+ghost use Rattle.patch_model.specs.Refusing.{why_not_sent};
 ghost use Rattle.patch_device.specs.SameDevice.{IsSameDevice};
 ghost use Rattle.patch_cache.specs.Contents.{write_at};
 ghost use Rattle.patch_cache.specs.Meaning.{Represents};
-ghost use Rattle.patch_cache.specs.Asks.{Create, Merge, Send, Complete, Refused, ask_of, answer_of, step_added, steps_added, is_complete, after, after_all};
+ghost use Rattle.patch_cache.specs.Asks.{Create, Merge, Send, Complete, IsFault, ask_of, answer_of, step_added, steps_added, is_complete, after, after_all};
 ghost use Rattle.patch_cache.specs.Promise.{TakingBack, MovesArePermitted, LooksShow, ImagesSent, CrashesClosed};
 ghost use Rattle.patch_cache.specs.Running.{Runs, RunsOn, IsDone, IsAnswered, IsServed, LeavesSafe, HasRun, CountFaults, HaveAllWritten, answers_in};
 
@@ -28,12 +27,12 @@ impl<A: Allocator + Copy> Cache<A> {
     /// This is the cache's promise over whole runs. Each answer is what the definitions say of the steps before it: a view
     /// shows the other patches of its block over its first bytes, whichever classes were taken back in whatever permitted
     /// order, and leaves all as it was; an image sent holds just the durable and in-flight patches of its block. On an honest
-    /// device that held at first what a crash may leave, each contents on the way is a disk that a crash may leave, closed
-    /// under dependencies ([`promise`](crate::laws::promise)).
+    /// device of which a cut of the power left at first what a crash may leave, a cut at each moment on the way leaves a disk that
+    /// a crash may leave, closed under dependencies ([`promise`](crate::laws::promise)).
     ///
     /// `flights` holds the cache's flights that are not completed, all of them and no others, and the device has the cache's
-    /// blocks. The answer of an ask for which there is no memory is `OutOfMemory`; a completion that the device refuses is
-    /// answered `Fault`, and its flight is held as before.
+    /// blocks. The answer of an ask for which there is no memory is `OutOfMemory`; a completion is answered `Fault`
+    /// where the device refuses its write and `SyncFailed` where it refuses the sync, and its flight is held as before.
     pub fn run<D: Device>(
         &mut self,
         flights: &mut Flights<A>,
@@ -59,7 +58,6 @@ impl<A: Allocator + Copy> Cache<A> {
             → LeavesSafe D.Device run (after_all run (map ask_of asks.now) (answers_in result)) device.old device.new }
     {
         laws::promise();
-        model_laws::trails_join();
         let mut answers = Vec::new(self.alloc);
         for ask in asks {
             if let Err(_) = answers.reserve(1) {
@@ -84,7 +82,7 @@ impl<A: Allocator + Copy> Cache<A> {
         ensures trace { self.new.trace ≡ self.old.trace ++ step_added (ask_of ask.now) (answer_of result) }
         ensures device { IsSameDevice D.Device device.old device.new }
         ensures of_completion { (run : Execution) → Runs self.old flights.old run
-            → answer_of result ≡ Refused (bare kind.Fault) → is_complete (ask_of ask.now) ≡ true }
+            → IsFault (answer_of result) → is_complete (ask_of ask.now) ≡ true }
     {
         model_laws::steps_extend();
         model_laws::flights_are_ready();
@@ -122,7 +120,7 @@ impl<A: Allocator + Copy> Cache<A> {
         ensures answer { (run : Execution) → Represents self.old run
             → IsDone run (Create block start bytes.now after.now undo) (answer_of result) self.new }
         ensures trace { self.new.trace ≡ self.old.trace ++ step_added (Create block start bytes.now after.now undo) (answer_of result) }
-        ensures no_fault { answer_of result ≢ Refused (bare kind.Fault) }
+        ensures no_fault { IsFault (answer_of result) → ⊥ }
     {
         match self.create(block, start, bytes, after, undo) {
             Ok(no) => Answer::Made(no),
@@ -134,7 +132,7 @@ impl<A: Allocator + Copy> Cache<A> {
     fn answer_merge(&mut self, a: PatchNo, b: PatchNo) -> Answer<A>
         ensures answer { (run : Execution) → Represents self.old run → IsDone run (Merge a b) (answer_of result) self.new }
         ensures trace { self.new.trace ≡ self.old.trace ++ step_added (Merge a b) (answer_of result) }
-        ensures no_fault { answer_of result ≢ Refused (bare kind.Fault) }
+        ensures no_fault { IsFault (answer_of result) → ⊥ }
     {
         match self.merge(a, b) {
             Ok(name) => Answer::Merged(name),
@@ -146,7 +144,7 @@ impl<A: Allocator + Copy> Cache<A> {
     fn answer_send(&mut self, flights: &mut Flights<A>, block: BlockNo) -> Answer<A>
         ensures answer { (run : Execution) → Runs self.old flights.old run → IsAnswered run (Send block) (answer_of result) self.new flights.new }
         ensures trace { self.new.trace ≡ self.old.trace ++ step_added (Send block) (answer_of result) }
-        ensures no_fault { answer_of result ≢ Refused (bare kind.Fault) }
+        ensures no_fault { IsFault (answer_of result) → ⊥ }
     {
         if let Some(refusal) = self.why_not_sent(block) {
             return Answer::Refused(refusal.refusal());
@@ -169,7 +167,7 @@ impl<A: Allocator + Copy> Cache<A> {
         ensures answer { (run : Execution) → Runs self.old flights.old run → why_not_sent run block ≡ None → IfOk result (λ answer.
             IsAnswered run (Send block) (answer_of answer) self.new flights.new) }
         ensures trace { IfOk result (λ answer. self.new.trace ≡ self.old.trace ++ step_added (Send block) (answer_of answer)) }
-        ensures no_fault { IfOk result (λ answer. answer_of answer ≢ Refused (bare kind.Fault)) }
+        ensures no_fault { IfOk result (λ answer. IsFault (answer_of answer) → ⊥) }
         ensures refused { OnErr result (self.new ≡ self.old) }
         ensures held { OnErr result (flights.new.held.items ≡ flights.old.held.items) }
     {
@@ -192,7 +190,7 @@ impl<A: Allocator + Copy> Cache<A> {
         })
     }
 
-    /// Writes the held flight of the block out, and completes it. After a fault it is held as before.
+    /// Writes the held flight of the block out, syncs the device, and completes it. After a fault it is held as before.
     fn answer_complete<D: Device>(
         &mut self,
         flights: &mut Flights<A>,
@@ -216,6 +214,9 @@ impl<A: Allocator + Copy> Cache<A> {
         };
         if write_image(device, &flights.held[at]).is_err() {
             return Answer::Refused(RefusalKind::Fault.bare());
+        }
+        if device.sync().is_err() {
+            return Answer::Refused(RefusalKind::SyncFailed.bare());
         }
         let landed = flights.held.swap_remove(at).landed();
         match self.complete(landed) {

@@ -1,7 +1,7 @@
 //! Writes of flights to a device, and what is noted of them.
-ghost use Rattle.std.specs.Prelude.{◌≡◌, ◌<◌, slice_set, IfOk, IfErr, OnOk, OnErr};
-ghost use Rattle.patch_device.specs.Device.{HasRisen, IsOldOrNew, AddsOutcome};
-ghost use Rattle.patch_device.specs.SameDevice.{IsSameDevice};
+ghost use Rattle.std.specs.Prelude.{◌≡◌, ◌+◌, ◌<◌, ◌≤◌, slice_set, IfOk, IfErr, OnOk, OnErr};
+ghost use Rattle.patch_device.specs.Device.{HasRisen, IsOldOrNew, LandsOrNot};
+ghost use Rattle.patch_device.specs.SameDevice.{IsSameDevice, may_leave};
 
 use crate::flights::{Flight, Landed};
 use crate::refusals::Fault;
@@ -32,8 +32,8 @@ impl<A: Allocator> Model for Write<A> {
     ghost view = { λ w. record { sequence = w.sequence; numbers = w.numbers } };
 }
 
-/// Writes a flight's image to its block of the device. It takes no memory of its own; after a fault the flight comes back,
-/// and the same image may be written again.
+/// Writes a flight's image to its block of the device. It lasts there once the device is synced, which is when it may be completed.
+/// It takes no memory of its own; after a fault the flight comes back, and the same image may be written again.
 pub fn write_out<A: Allocator, D: Device>(
     device: &mut D,
     flight: Flight<A>,
@@ -45,7 +45,8 @@ pub fn write_out<A: Allocator, D: Device>(
     ensures no_fault { OnOk result (D.fault_count device.new ≡ D.fault_count device.old) }
     ensures written { D.is_honest device.old → OnOk result (D.contents device.new ≡ slice_set (D.contents device.old) flight.block flight.image) }
     ensures refused { D.is_honest device.old → OnErr result (IsOldOrNew (D.contents device.old) flight.block flight.image (D.contents device.new)) }
-    ensures had { D.is_honest device.old → AddsOutcome (D.contents device.old) (D.contents device.new) (D.had device.old) (D.had device.new) }
+    ensures moment { D.moment device.new ≤ D.moment device.old + 1 }
+    ensures left { D.is_honest device.old → LandsOrNot (may_leave D.Device device.old) flight.block flight.image (may_leave D.Device device.new) }
 {
     match write_image(device, &flight) {
         Ok(()) => Ok(flight.landed()),
@@ -63,7 +64,8 @@ pub(crate) fn write_image<A: Allocator, D: Device>(
     ensures no_fault { OnOk result (D.fault_count device.new ≡ D.fault_count device.old) }
     ensures written { D.is_honest device.old → OnOk result (D.contents device.new ≡ slice_set (D.contents device.old) flight.now.block flight.now.image) }
     ensures refused { D.is_honest device.old → OnErr result (IsOldOrNew (D.contents device.old) flight.now.block flight.now.image (D.contents device.new)) }
-    ensures had { D.is_honest device.old → AddsOutcome (D.contents device.old) (D.contents device.new) (D.had device.old) (D.had device.new) }
+    ensures moment { D.moment device.new ≤ D.moment device.old + 1 }
+    ensures left { D.is_honest device.old → LandsOrNot (may_leave D.Device device.old) flight.now.block flight.now.image (may_leave D.Device device.new) }
 {
     match device.write(flight.block.0, flight.image.as_slice()) {
         Ok(()) => Ok(()),

@@ -1,7 +1,7 @@
 -- A device that fails one call.
-use Rattle.std.specs.Prelude.{ℕ, zero, suc, ◌+◌, ◌≡◌, ◌<◌, ◌≤◌, ◌⊎◌, min, Bool, List, Option, Some, None, slice_set}
-use Rattle.std.proofs.Math.Nat.{min-le_right}
+use Rattle.std.specs.Prelude.{ℕ, zero, suc, ◌≡◌, ◌<◌, ◌≤◌, ◌⊎◌, Bool, List, Option, Some, None, slice_set}
 use Rattle.patch_device.specs.Device.{most_faults, HasRisen}
+use Rattle.patch_device.specs.Faults.{faults_together, faults_together_fit}
 use Rattle.patch_device.specs.declared.devices.Device.{Ghosts}
 use Rattle.patch_device.specs.declared.faulty.FaultyDevice.{FaultyDevice}
 
@@ -38,7 +38,7 @@ own_faults (Some n) = 0
 
 -- its own faults and the inner device's
 abbrev pub faults_of_both : Option ℕ → ℕ → ℕ
-faults_of_both calls_left inner = min (own_faults calls_left + inner) most_faults
+faults_of_both calls_left inner = faults_together (own_faults calls_left) inner
 
 pub faults_of_both_fit : (calls_left : Option ℕ) (inner : ℕ) → faults_of_both calls_left inner ≤ most_faults
-faults_of_both_fit calls_left inner = min-le_right (own_faults calls_left + inner) most_faults
+faults_of_both_fit calls_left inner = faults_together_fit (own_faults calls_left) inner

@@ -3,6 +3,11 @@ pub mod Device
 pub mod SameDevice
 pub mod Blocks
 pub mod Writes
+pub mod Cuts
 pub mod MemDevice
+pub mod Faults
 pub mod FaultyDevice
+pub mod UnsyncedDevice
+pub mod VolatileDevice
+pub mod FilePast
 pub mod FileDevice

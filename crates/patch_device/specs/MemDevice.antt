@@ -1,10 +1,9 @@
 -- A device in memory.
-use Rattle.std.specs.Prelude.{ℕ, List, ◌≡◌, ◌≤◌, length, None, Some}
-use Rattle.std.specs.List.{last_or}
-use Rattle.std.proofs.Common.{◌∙◌, sym, ap}
+use Rattle.std.specs.Prelude.{ℕ, List, ◌≡◌, ◌≤◌, length}
+use Rattle.std.proofs.Common.{◌∙◌}
 use Rattle.patch_device.specs.Device.{most_faults}
 use Rattle.patch_device.specs.Blocks.{AreWhole, zeros}
-use Rattle.patch_device.specs.Writes.{under_writes, last_under_writes}
+use Rattle.patch_device.specs.Writes.{left_under, all_land_under}
 use Rattle.patch_device.specs.declared.memory.MemDevice.{MemDevice}
 
 -- what its blocks hold
@@ -15,9 +14,13 @@ contents_of d = d.blocks.items
 abbrev pub landed_writes : {A : Type 0} → MemDevice A → List (ℕ × List ℕ)
 landed_writes d = d.landed.items
 
--- all contents that it has had
-abbrev pub contents_had : {A : Type 0} → MemDevice A → List (List (List ℕ))
-contents_had d = under_writes (zeros d.count) d.landed.items
+-- how many moments there were before this one: a write that lands begins one
+abbrev pub moment_of : {A : Type 0} → MemDevice A → ℕ
+moment_of d = length d.landed.items
+
+-- what a cut leaves at each: the blocks after the writes that had landed
+abbrev pub left_at_of : {A : Type 0} → MemDevice A → ℕ → List (List ℕ) → Type 0
+left_at_of d = left_under (zeros d.count) d.landed.items
 
 -- how many blocks it has
 abbrev pub block_count_of : {A : Type 0} → MemDevice A → ℕ
@@ -33,8 +36,8 @@ blocks_counted_law d _ = d.counted
 pub blocks_whole_law : {A : Type 0} → (d : MemDevice A) → Unit {0} → AreWhole (contents_of d)
 blocks_whole_law d _ = d.whole
 
-pub last_had_law : {A : Type 0} → (d : MemDevice A) → Unit {0} → last_or None (contents_had d) ≡ Some (contents_of d)
-last_had_law d _ = last_under_writes (zeros d.count) d.landed.items None ∙ sym (ap Some d.replayed)
+pub all_may_land_law : {A : Type 0} → (d : MemDevice A) → Unit {0} → left_at_of d (moment_of d) (contents_of d)
+all_may_land_law d _ = d.replayed ∙ all_land_under (zeros d.count) d.landed.items
 
 pub faults_fit_law : {A : Type 0} → (d : MemDevice A) → fault_count_of d ≤ most_faults
 faults_fit_law d = d.faults_fit

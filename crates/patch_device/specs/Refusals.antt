@@ -18,6 +18,7 @@ device_cause device.Fault = bare kind.Fault
 abbrev pub file_cause : FileRefusal → Refusal
 file_cause file.FileSize = bare kind.FileSize
 file_cause file.Disk = bare kind.Disk
+file_cause file.OutOfMemory = bare kind.OutOfMemory
 
 -- why the blocks weren't loaded
 abbrev pub load_cause : LoadFault → Refusal

@@ -1,10 +1,9 @@
 //! A device that fails one call.
-ghost use Rattle.std.specs.Prelude.{◌≡◌, ◌≢◌, ◌≤◌, ◌<◌, ◌↔◌, length, slice_get, slice_set, Some, IsTrue, IsFalse, OnOk, OnErr, IsErrOf};
-ghost use Rattle.patch_device.specs.Device.{CountsFault, IsOldOrNew, AddsOutcome};
-ghost use Rattle.patch_device.specs.SameDevice.{IsSameDevice};
+ghost use Rattle.std.specs.Prelude.{◌≡◌, ◌≢◌, ℕ, List, ◌+◌, ◌≤◌, ◌<◌, ◌↔◌, length, slice_get, slice_set, Some, IsTrue, IsFalse, OnOk, OnErr, IfErr, IsErr, IsErrOf};
+ghost use Rattle.patch_device.specs.Device.{HasRisen, CountsFault, IsOldOrNew, LandsOrNot, LeavesNoMore};
+ghost use Rattle.patch_device.specs.SameDevice.{IsSameDevice, IsLasting, may_leave};
 
 use crate::devices::Device;
-use crate::lasting::Lasting;
 use crate::refusals::DeviceRefusal;
 use patch_model::BLOCK;
 
@@ -27,7 +26,9 @@ impl<D: Device> FaultyDevice<D> {
         ensures lands { does_land result ≡ lands }
         ensures honesty { ⟦<FaultyDevice<D> as Device>⟧.is_honest result ↔ D.is_honest inner }
         ensures contents { ⟦<FaultyDevice<D> as Device>⟧.contents result ≡ D.contents inner }
-        ensures had { ⟦<FaultyDevice<D> as Device>⟧.had result ≡ D.had inner }
+        ensures moment { ⟦<FaultyDevice<D> as Device>⟧.moment result ≡ D.moment inner }
+        ensures left { (t : ℕ) (disk : List (List ℕ))
+            → ⟦<FaultyDevice<D> as Device>⟧.left_at result t disk ↔ D.left_at inner t disk }
         ensures count { ⟦<FaultyDevice<D> as Device>⟧.block_count result ≡ D.block_count inner }
         ensures faults { ⟦<FaultyDevice<D> as Device>⟧.fault_count result ≡ D.fault_count inner }
     {
@@ -58,9 +59,13 @@ impl<D: Device> Device for FaultyDevice<D> {
 
     ghost contents = { λ d. D.contents (inner_of d) };
 
-    ghost had = { λ d. D.had (inner_of d) };
+    ghost moment = { λ d. D.moment (inner_of d) };
+
+    ghost left_at = { λ d. D.left_at (inner_of d) };
 
     ghost is_honest = { λ d. D.is_honest (inner_of d) };
+
+    ghost is_spent = { λ d. D.is_spent (inner_of d) };
 
     ghost block_count = { λ d. D.block_count (inner_of d) };
 
@@ -79,8 +84,8 @@ impl<D: Device> Device for FaultyDevice<D> {
             → OnOk result (slice_get (D.contents (inner_of self.old)) n ≡ Some into.new) }
         ensures same { D.is_honest (inner_of self.old)
             → D.contents (inner_of self.new) ≡ D.contents (inner_of self.old) }
-        ensures had { D.is_honest (inner_of self.old)
-            → D.had (inner_of self.new) ≡ D.had (inner_of self.old) }
+        ensures no_moment { D.moment (inner_of self.new) ≡ D.moment (inner_of self.old) }
+        ensures refuses { D.is_spent (inner_of self.old) → IsErr result }
         ensures lands { does_land self.new ≡ does_land self.old }
         ensures not_counted { D.block_count (inner_of self.old) ≤ n → self.new ≡ self.old }
         ensures counted { n < D.block_count (inner_of self.old)
@@ -111,9 +116,12 @@ impl<D: Device> Device for FaultyDevice<D> {
         ensures refused { D.is_honest (inner_of self.old)
             → OnErr result (IsOldOrNew (D.contents (inner_of self.old)) n from.now
             (D.contents (inner_of self.new))) }
-        ensures had { D.is_honest (inner_of self.old)
-            → AddsOutcome (D.contents (inner_of self.old)) (D.contents (inner_of self.new))
-            (D.had (inner_of self.old)) (D.had (inner_of self.new)) }
+        ensures left { D.is_honest (inner_of self.old)
+            → LandsOrNot (may_leave D.Device (inner_of self.old)) n from.now (may_leave D.Device (inner_of self.new)) }
+        ensures one_moment { D.moment (inner_of self.new) ≤ D.moment (inner_of self.old) + 1 }
+        ensures no_moment { D.block_count (inner_of self.old) ≤ n
+            → D.moment (inner_of self.new) ≡ D.moment (inner_of self.old) }
+        ensures refuses { D.is_spent (inner_of self.old) → IsErr result }
         ensures lands { does_land self.new ≡ does_land self.old }
         ensures not_counted { D.block_count (inner_of self.old) ≤ n → self.new ≡ self.old }
         ensures counted { n < D.block_count (inner_of self.old)
@@ -139,17 +147,46 @@ impl<D: Device> Device for FaultyDevice<D> {
         self.inner.write(n, from)
     }
 
+    // A sync is no call that counts.
+    fn sync(&mut self) -> Result<(), DeviceRefusal>
+        ensures device { IsSameDevice D.Device (inner_of self.old) (inner_of self.new) }
+        ensures lands { does_land self.new ≡ does_land self.old }
+        ensures calls { calls_before self.new ≡ calls_before self.old }
+        ensures no_fault { OnOk result (D.fault_count (inner_of self.new) ≡ D.fault_count (inner_of self.old)) }
+        ensures fault { OnErr result (HasRisen (D.fault_count (inner_of self.old)) (D.fault_count (inner_of self.new))) }
+        ensures kind { IfErr result (λ refusal. refusal ≡ DeviceRefusal.Fault) }
+        ensures refuses { D.is_spent (inner_of self.old) → IsErr result }
+        ensures spends { OnErr result (D.is_spent (inner_of self.new)) }
+        ensures one_moment { D.moment (inner_of self.new) ≤ D.moment (inner_of self.old) + 1 }
+        ensures same { D.is_honest (inner_of self.old)
+            → D.contents (inner_of self.new) ≡ D.contents (inner_of self.old) }
+        ensures no_more { D.is_honest (inner_of self.old)
+            → LeavesNoMore (may_leave D.Device (inner_of self.old)) (may_leave D.Device (inner_of self.new)) }
+        ensures lasts { D.is_honest (inner_of self.old) → OnOk result (IsLasting D.Device (inner_of self.new)) }
+    {
+        self.inner.sync()
+    }
+
+    fn finish(&mut self) -> Result<(), DeviceRefusal>
+        ensures device { IsSameDevice D.Device (inner_of self.old) (inner_of self.new) }
+        ensures lands { does_land self.new ≡ does_land self.old }
+        ensures calls { calls_before self.new ≡ calls_before self.old }
+        ensures no_fault { OnOk result (D.fault_count (inner_of self.new) ≡ D.fault_count (inner_of self.old)) }
+        ensures fault { OnErr result (HasRisen (D.fault_count (inner_of self.old)) (D.fault_count (inner_of self.new))) }
+        ensures kind { IfErr result (λ refusal. refusal ≡ DeviceRefusal.Fault) }
+        ensures spends { OnErr result (D.is_spent (inner_of self.new)) }
+        ensures no_moment { D.moment (inner_of self.new) ≡ D.moment (inner_of self.old) }
+        ensures same { D.is_honest (inner_of self.old)
+            → D.contents (inner_of self.new) ≡ D.contents (inner_of self.old) }
+    {
+        self.inner.finish()
+    }
+
     ghost blocks_counted = { λ d h. D.blocks_counted (inner_of d) h };
 
     ghost blocks_whole = { λ d h. D.blocks_whole (inner_of d) h };
 
-    ghost last_had = { λ d h. D.last_had (inner_of d) h };
+    ghost all_may_land = { λ d h. D.all_may_land (inner_of d) h };
 
     ghost faults_fit = { λ d. faults_of_both_fit (calls_before d) (D.fault_count (inner_of d)) };
-}
-
-impl<D: Lasting> Lasting for FaultyDevice<D> {
-    fn sync(&mut self) -> Result<(), DeviceRefusal> {
-        self.inner.sync()
-    }
 }

@@ -24,7 +24,7 @@ fn read_block<A: Allocator, D: Device>(
     ensures gives { D.is_honest device.old
         → IfOk result (λ block. slice_get (D.contents device.old) n ≡ Some block) }
     ensures same { D.is_honest device.old → D.contents device.new ≡ D.contents device.old }
-    ensures had { D.is_honest device.old → D.had device.new ≡ D.had device.old }
+    ensures no_moment { D.moment device.new ≡ D.moment device.old }
 {
     let mut bytes = vec![in alloc; 0; BLOCK]?;
     match device.read(n, &mut bytes) {
@@ -48,7 +48,7 @@ pub fn load<A: Allocator + Copy, D: Device>(
     ensures gives { D.is_honest device.old
         → IfOk result (λ blocks. blocks.items ≡ D.contents device.old) }
     ensures same { D.is_honest device.old → D.contents device.new ≡ D.contents device.old }
-    ensures had { D.is_honest device.old → D.had device.new ≡ D.had device.old }
+    ensures no_moment { D.moment device.new ≡ D.moment device.old }
 {
     let count = device.count();
     let mut blocks = Vec::with_capacity(alloc, count as usize)?;

@@ -1,17 +1,16 @@
 //! A device in memory, which lists what was written to it.
-ghost use Rattle.std.specs.Prelude.{◌≡◌, ◌≤◌, ◌↔◌, [], ◌∷◌, ◌++◌, length, slice_get, slice_set, Some, IfOk, IfErr, OnOk, OnErr, IsErrOf};
-ghost use Rattle.patch_device.specs.Device.{most_faults, CountsFault, AddsOutcome};
+ghost use Rattle.std.specs.Prelude.{◌≡◌, ◌+◌, ◌≤◌, ◌↔◌, [], ◌∷◌, ◌++◌, length, slice_get, slice_set, Some, Ok, IfOk, IfErr, OnOk, OnErr, IsErrOf};
+ghost use Rattle.patch_device.specs.Device.{most_faults, CountsFault, LandsOrNot, Elapses};
 ghost use Rattle.patch_device.specs.Blocks.{AreWhole, zeros};
 ghost use Rattle.patch_device.specs.Writes.{after_writes};
 
 use crate::devices::Device;
-use crate::lasting::Lasting;
 use crate::refusals::DeviceRefusal;
 use patch_model::{BLOCK, BlockBytes, OutOfMemory};
 use std::alloc::{Allocator, Global};
 
-/// A device in memory, always honest. It keeps the list of the writes that landed, and a call fails only where that list
-/// can't grow.
+/// A device in memory, always honest, on which each write lasts at once. It keeps the list of the writes that landed, and a call
+/// fails only where that list can't grow.
 #[derive(Drop)]
 pub struct MemDevice<A: Allocator = Global> {
     count: u32,
@@ -25,7 +24,7 @@ pub struct MemDevice<A: Allocator = Global> {
 }
 
 /// Puts these bytes in place of the block's.
-fn overwrite<A: Allocator>(block: &mut BlockBytes<A>, bytes: &[u8])
+pub(crate) fn overwrite<A: Allocator>(block: &mut BlockBytes<A>, bytes: &[u8])
     requires { length bytes.now ≡ BLOCK }
     ensures { block.new ≡ bytes.now }
 {
@@ -33,25 +32,34 @@ fn overwrite<A: Allocator>(block: &mut BlockBytes<A>, bytes: &[u8])
     block.write(0, bytes);
 }
 
+/// So many blocks of zeros.
+pub(crate) fn blocks_of_zeros<A: Allocator + Copy>(
+    alloc: A,
+    count: u32,
+) -> Result<Vec<BlockBytes<A>, A>, OutOfMemory>
+    ensures { IfOk result (λ blocks. blocks.items ≡ zeros count) }
+{
+    let mut blocks = Vec::with_capacity(alloc, count as usize)?;
+    for _ in 0..count {
+        blocks.push(BlockBytes::zeros(alloc)?)?;
+    }
+    Ok(blocks)
+}
+
 impl<A: Allocator + Copy> MemDevice<A> {
-    ghost use Rattle.patch_device.specs.MemDevice.{contents_of, contents_had, landed_writes, block_count_of, fault_count_of};
+    ghost use Rattle.patch_device.specs.MemDevice.{contents_of, landed_writes, block_count_of, fault_count_of};
 
     /// A device of so many blocks of zeros.
     pub fn new(alloc: A, count: u32) -> Result<MemDevice<A>, OutOfMemory>
         ensures honest { IfOk result ⟦<MemDevice<A> as Device>⟧.is_honest }
         ensures count { IfOk result (λ d. block_count_of d ≡ count) }
         ensures zeros { IfOk result (λ d. contents_of d ≡ zeros count) }
-        ensures had { IfOk result (λ d. contents_had d ≡ zeros count ∷ []) }
         ensures writes { IfOk result (λ d. landed_writes d ≡ []) }
         ensures faults { IfOk result (λ d. fault_count_of d ≡ 0) }
     {
-        let mut blocks = Vec::with_capacity(alloc, count as usize)?;
-        for _ in 0..count {
-            blocks.push(BlockBytes::zeros(alloc)?)?;
-        }
         Ok(MemDevice {
             count,
-            blocks,
+            blocks: blocks_of_zeros(alloc, count)?,
             landed: Vec::new(alloc),
             faults: 0,
         })
@@ -68,13 +76,17 @@ impl<A: Allocator + Copy> MemDevice<A> {
 }
 
 impl<A: Allocator + Copy> Device for MemDevice<A> {
-    ghost use Rattle.patch_device.specs.MemDevice.{contents_of, contents_had, landed_writes, block_count_of, fault_count_of, blocks_counted_law, blocks_whole_law, last_had_law, faults_fit_law};
+    ghost use Rattle.patch_device.specs.MemDevice.{contents_of, moment_of, left_at_of, landed_writes, block_count_of, fault_count_of, blocks_counted_law, blocks_whole_law, all_may_land_law, faults_fit_law};
 
     ghost contents = { contents_of };
 
-    ghost had = { contents_had };
+    ghost moment = { moment_of };
+
+    ghost left_at = { left_at_of };
 
     ghost is_honest = { λ _. Unit {0} };
+
+    ghost is_spent = { λ _. ⊥ };
 
     ghost block_count = { block_count_of };
 
@@ -100,7 +112,7 @@ impl<A: Allocator + Copy> Device for MemDevice<A> {
         Ok(())
     }
 
-    #[tactic(auto, using(crate::specs::Writes::after_one_more, crate::specs::Writes::under_one_more))]
+    #[tactic(auto, using(crate::specs::Writes::after_one_more))]
     fn write(&mut self, n: u32, from: &[u8]) -> Result<(), DeviceRefusal>
         requires { length from.now ≡ BLOCK }
         ensures count { block_count_of self.new ≡ block_count_of self.old }
@@ -114,8 +126,9 @@ impl<A: Allocator + Copy> Device for MemDevice<A> {
             ≡ landed_writes self.old ++ (n, from.now) ∷ []) }
         ensures refused { OnErr result (contents_of self.new ≡ contents_of self.old) }
         ensures lost { OnErr result (landed_writes self.new ≡ landed_writes self.old) }
-        ensures had { AddsOutcome (contents_of self.old) (contents_of self.new)
-            (contents_had self.old) (contents_had self.new) }
+        ensures time { Elapses (moment_of self.old) (moment_of self.new) (left_at_of self.old) (left_at_of self.new) }
+        ensures one_moment { moment_of self.new ≤ moment_of self.old + 1 }
+        ensures left { LandsOrNot (left_at_of self.old (moment_of self.old)) n from.now (left_at_of self.new (moment_of self.new)) }
     {
         if n >= self.count {
             return Err(DeviceRefusal::NoSuchBlock);
@@ -133,18 +146,26 @@ impl<A: Allocator + Copy> Device for MemDevice<A> {
         Ok(())
     }
 
+    // Each write has lasted already.
+    fn sync(&mut self) -> Result<(), DeviceRefusal>
+        ensures kept { self.new ≡ self.old }
+        ensures done { result ≡ Ok tt }
+    {
+        Ok(())
+    }
+
+    fn finish(&mut self) -> Result<(), DeviceRefusal>
+        ensures kept { self.new ≡ self.old }
+        ensures done { result ≡ Ok tt }
+    {
+        Ok(())
+    }
+
     ghost blocks_counted = { blocks_counted_law };
 
     ghost blocks_whole = { blocks_whole_law };
 
-    ghost last_had = { last_had_law };
+    ghost all_may_land = { all_may_land_law };
 
     ghost faults_fit = { faults_fit_law };
-}
-
-impl<A: Allocator + Copy> Lasting for MemDevice<A> {
-    // Memory has nothing to sync.
-    fn sync(&mut self) -> Result<(), DeviceRefusal> {
-        Ok(())
-    }
 }

@@ -21,9 +21,12 @@ pub enum FileRefusal {
     /// The length isn't 1 to 4,096 whole blocks.
     #[error("FileSize")]
     FileSize,
-    /// The file can't be opened, made, measured or written.
+    /// The file can't be opened, made, measured, read or written.
     #[error("Disk")]
     Disk,
+    /// There is no memory for the blocks.
+    #[error("OutOfMemory")]
+    OutOfMemory,
 }
 
 /// Why the blocks of a device weren't loaded.
@@ -53,6 +56,7 @@ impl Refuses for FileRefusal {
         match self {
             FileRefusal::FileSize => RefusalKind::FileSize.bare(),
             FileRefusal::Disk => RefusalKind::Disk.bare(),
+            FileRefusal::OutOfMemory => RefusalKind::OutOfMemory.bare(),
         }
     }
 }
@@ -65,6 +69,26 @@ impl Refuses for LoadFault {
             LoadFault::Fault => RefusalKind::Fault.bare(),
             LoadFault::OutOfMemory => RefusalKind::OutOfMemory.bare(),
         }
+    }
+}
+
+impl From<AllocError> for FileRefusal {
+    ghost use Rattle.patch_device.specs.declared.refusals.FileRefusal.TheVariants.{OutOfMemory};
+
+    ghost from_gives = { λ _ e. e ≡ OutOfMemory };
+
+    fn from(_: AllocError) -> FileRefusal {
+        FileRefusal::OutOfMemory
+    }
+}
+
+impl<T: Drop> From<AllocFailed<T>> for FileRefusal {
+    ghost use Rattle.patch_device.specs.declared.refusals.FileRefusal.TheVariants.{OutOfMemory};
+
+    ghost from_gives = { λ _ e. e ≡ OutOfMemory };
+
+    fn from(_: AllocFailed<T>) -> FileRefusal {
+        FileRefusal::OutOfMemory
     }
 }
 

@@ -4,8 +4,11 @@ use Rattle.std.specs.Prelude.{Result, Ok, Err, IfOk, IfSome, OnOk, String, strin
 use Rattle.std.specs.declared.alloc.Global.{Global}
 use Rattle.std.specs.Io.KnownBytes.{Appends}
 use Rattle.std.proofs.lemmas.List.{append-nil}
-use Rattle.patch_history.specs.Command.{Reply, is_refused}
-use Rattle.patch_history.specs.History.{History}
+use Rattle.patch_device.specs.SameDevice.{IsSameDevice}
+use Rattle.patch_device.specs.declared.devices.Device.{Ghosts}
+use Rattle.patch_cache.specs.Joining.{SafeJoin}
+use Rattle.patch_history.specs.Command.{Command, Reply, is_refused}
+use Rattle.patch_history.specs.History.{History, Call}
 use Rattle.patch_store.specs.Meaning.{Store}
 use Rattle.patch_store.specs.Opening.{IsOpened, at_opening}
 use Rattle.patch_commands.specs.Reply.{reply_line, synced_line}
@@ -15,8 +18,11 @@ use Rattle.patch_replay.specs.Growing.{twice, same}
 use Rattle.patch_disks.specs.declared.endings.Stop.{Stop}
 use Rattle.patch_disks.specs.Answering.{call_of, saves, with_call, IsSaved, IsAnswered, AreAnswered}
 use Rattle.patch_disks.specs.Ending.{IsDoneBehind}
+use Rattle.patch_disks.specs.Going.{GoesSafely, EndsSafely, StillLasts}
 use Rattle.patch_disks.specs.Reading.{HasLines}
 use Rattle.patch_disks.specs.Running.{HasRun, HasRunScript, StandsOn, IsCalled, IsTold, HasSaved, HasAnswered, HasCome}
+use Rattle.patch_disks.proofs.Going.{goes_still, goes_alike, goes_by_call, goes_both, ends_behind, lasts_alike, lasts_both}
+use Rattle.patch_disks.proofs.Resting.{run_behind}
 
 -- One line.
 
@@ -30,27 +36,36 @@ by_save : (b : Bool) (text reply synced : List ℕ) (SavedSo GoesOn : Type 0) �
 by_save true text reply synced SavedSo GoesOn loud told saved = (told, saved)
 by_save false text reply synced SavedSo GoesOn loud told saved = absurd (cc)
 
+-- the execution behind a call
+pub goes_behind : {D : Type 0} (g : Ghosts D) (h : History) (call : ℕ × Command) (reply : Reply) (store : Store) (contents : List (List ℕ)) (device : D)
+    → (called : IsCalled h call reply store contents) → GoesSafely g h (with_call h call reply called.steps) device device
+goes_behind g h call reply store contents device called =
+    goes_by_call g h (with_call h call reply called.steps) called.steps device (run_behind h (Call call.0 call.1 reply called.steps)) called.stays
+
 -- a line that saves nothing is answered by the reply to its call
-pub answered_by_reply : (h : History) (asked : CommandLine) (text : List ℕ) (store : Store) (contents : List (List ℕ)) → ((reply : Reply) → saves asked reply ≡ false)
-    → IsTold h (call_of asked) text store contents → HasAnswered h asked text store contents
-answered_by_reply h asked text store contents silent told =
+pub answered_by_reply : {D : Type 0} (g : Ghosts D) (h : History) (asked : CommandLine) (text : List ℕ) (store : Store) (device : D)
+    → ((reply : Reply) → saves asked reply ≡ false) → IsTold h (call_of asked) text store (g.contents device) → HasAnswered g h asked text store device device
+answered_by_reply g h asked text store device silent told =
     let next = with_call h (call_of asked) told.reply told.called.steps in
     let so = by_reply (saves asked told.reply) text (reply_line told.reply) synced_line (IsSaved next next) (next ≡ next) (silent told.reply) told.told refl in
     record {
       next = next;
       answered = record { reply = told.reply; steps = told.called.steps; told = so.0; goes_on = so.1 };
       stands = told.called.stands;
+      goes = goes_behind g h (call_of asked) told.reply store (g.contents device) device told.called;
     }
 
-pub each_by_reply : {E : Type 0} (h : History) (asked : CommandLine) (r : Result (String Global) E) (store : Store) (contents : List (List ℕ)) → ((reply : Reply) → saves asked reply ≡ false)
-    → IfOk r (λ text. IsTold h (call_of asked) (string_bytes text) store contents) → IfOk r (λ text. HasAnswered h asked (string_bytes text) store contents)
-each_by_reply h asked (Ok text) store contents silent told = answered_by_reply h asked (string_bytes text) store contents silent told
-each_by_reply h asked (Err e) store contents silent told = tt
+pub each_by_reply : {D E : Type 0} (g : Ghosts D) (h : History) (asked : CommandLine) (r : Result (String Global) E) (store : Store) (device : D)
+    → ((reply : Reply) → saves asked reply ≡ false) → IfOk r (λ text. IsTold h (call_of asked) (string_bytes text) store (g.contents device))
+    → IfOk r (λ text. HasAnswered g h asked (string_bytes text) store device device)
+each_by_reply g h asked (Ok text) store device silent told = answered_by_reply g h asked (string_bytes text) store device silent told
+each_by_reply g h asked (Err e) store device silent told = tt
 
 -- a sync that is refused
-pub sync_refused : (h : History) (writer group : ℕ) (reply : Reply) (text : List ℕ) (store : Store) (contents : List (List ℕ)) → is_refused reply ≡ true
-    → text ≡ reply_line reply → IsCalled h (call_of (line.Sync writer group)) reply store contents → HasAnswered h (line.Sync writer group) text store contents
-sync_refused h writer group reply text store contents refused told called =
+pub sync_refused : {D : Type 0} (g : Ghosts D) (h : History) (writer group : ℕ) (reply : Reply) (text : List ℕ) (store : Store) (device : D) → is_refused reply ≡ true
+    → text ≡ reply_line reply → IsCalled h (call_of (line.Sync writer group)) reply store (g.contents device)
+    → HasAnswered g h (line.Sync writer group) text store device device
+sync_refused g h writer group reply text store device refused told called =
     let asked = line.Sync writer group in
     let next = with_call h (call_of asked) reply called.steps in
     let silent : saves asked reply ≡ false = rw refused refl in
@@ -59,13 +74,14 @@ sync_refused h writer group reply text store contents refused told called =
       next = next;
       answered = record { reply = reply; steps = called.steps; told = so.0; goes_on = so.1 };
       stands = called.stands;
+      goes = goes_behind g h (call_of asked) reply store (g.contents device) device called;
     }
 
 -- and one that isn't
-pub sync_saved : (h : History) (writer group : ℕ) (reply : Reply) (text : List ℕ) (mid : Store) (contents_mid : List (List ℕ)) (store : Store) (contents : List (List ℕ))
-    → is_refused reply ≡ false → text ≡ synced_line → (called : IsCalled h (call_of (line.Sync writer group)) reply mid contents_mid)
-    → HasSaved (with_call h (call_of (line.Sync writer group)) reply called.steps) store contents → HasAnswered h (line.Sync writer group) text store contents
-sync_saved h writer group reply text mid contents_mid store contents accepted told called saved =
+pub sync_saved : {D : Type 0} (g : Ghosts D) → SafeJoin g → (h : History) (writer group : ℕ) (reply : Reply) (text : List ℕ) (mid store : Store) (before now : D)
+    → is_refused reply ≡ false → text ≡ synced_line → (called : IsCalled h (call_of (line.Sync writer group)) reply mid (g.contents before))
+    → HasSaved g (with_call h (call_of (line.Sync writer group)) reply called.steps) store before now → HasAnswered g h (line.Sync writer group) text store before now
+sync_saved g join h writer group reply text mid store before now accepted told called saved =
     let asked = line.Sync writer group in
     let behind = with_call h (call_of asked) reply called.steps in
     let loud : saves asked reply ≡ true = rw accepted refl in
@@ -74,7 +90,14 @@ sync_saved h writer group reply text mid contents_mid store contents accepted to
       next = saved.next;
       answered = record { reply = reply; steps = called.steps; told = so.0; goes_on = so.1 };
       stands = saved.stands;
+      goes = goes_both g join h behind saved.next before before now (goes_behind g h (call_of asked) reply mid (g.contents before) before called) saved.goes;
     }
+
+-- however its save ends
+pub sync_ends : {D : Type 0} (g : Ghosts D) → SafeJoin g → (h : History) (call : ℕ × Command) (reply : Reply) (mid : Store) (before now : D)
+    → (called : IsCalled h call reply mid (g.contents before)) → EndsSafely g (with_call h call reply called.steps) before now → EndsSafely g h before now
+sync_ends g join h call reply mid before now called ends =
+    ends_behind g join h (with_call h call reply called.steps) before before now (goes_behind g h call reply mid (g.contents before) before called) ends
 
 -- One line more.
 
@@ -85,26 +108,28 @@ pushed h mid next [] text t asked so_far one =
 pushed h mid next (l ∷ lines) text t asked so_far one =
     (so_far.0, so_far.1, so_far.2 ++ t, so_far.3, ap (λ (x : List ℕ). x ++ t) so_far.4 ∙ append_assoc so_far.1 so_far.2 t, pushed so_far.0 mid next lines so_far.2 t asked so_far.5 one)
 
-pub at_first : (h : History) (old : Option (List ℕ)) (store : Store) (contents : List (List ℕ)) → StandsOn store h contents → HasCome h [] old old store contents
-at_first h old store contents stands = record { text = []; written = same old; last = h; answers = (refl, refl); stands = stands }
+pub at_first : {D : Type 0} (g : Ghosts D) (h : History) (old : Option (List ℕ)) (store : Store) (device : D) → StandsOn store h (g.contents device)
+    → HasCome g h [] old old store device device
+at_first g h old store device stands = record { text = []; written = same old; last = h; answers = (refl, refl); stands = stands; goes = goes_still g h device }
 
-pub one_more_line : (h : History) (first : List CommandLine) (asked : CommandLine) (old mid new : Option (List ℕ)) (bytes text : List ℕ)
-    (store now : Store) (contents contents_now : List (List ℕ)) → bytes ≡ text → (so_far : HasCome h first old mid store contents)
-    → HasAnswered so_far.last asked text now contents_now → Appends mid new bytes → HasCome h (first ++ asked ∷ []) old new now contents_now
-one_more_line h first asked old mid new bytes text store now contents contents_now said so_far one appends = record {
+pub one_more_line : {D : Type 0} (g : Ghosts D) → SafeJoin g → (h : History) (first : List CommandLine) (asked : CommandLine) (old mid new : Option (List ℕ))
+    (bytes text : List ℕ) (store later : Store) (before between now : D) → bytes ≡ text → (so_far : HasCome g h first old mid store before between)
+    → HasAnswered g so_far.last asked text later between now → Appends mid new bytes → HasCome g h (first ++ asked ∷ []) old new later before now
+one_more_line g join h first asked old mid new bytes text store later before between now said so_far one appends = record {
   text = so_far.text ++ text;
   written = twice old mid new so_far.text text so_far.written (subst (Appends mid new) said appends);
   last = one.next;
   answers = pushed h so_far.last one.next first so_far.text text asked so_far.answers one.answered;
   stands = one.stands;
+  goes = goes_both g join h so_far.last one.next before between now so_far.goes one.goes;
 }
 
 -- The whole run.
 
-pub run_so : (lines : List CommandLine) (old new : Option (List ℕ)) (contents contents_now : List (List ℕ)) (opened mid store : Store) (o : IsOpened contents opened)
-    (mid_contents : List (List ℕ)) (come : HasCome (at_opening contents o.ledger) lines old new mid mid_contents) → HasSaved come.last store contents_now
-    → HasRun lines old new contents contents_now
-run_so lines old new contents contents_now opened mid store o mid_contents come saved = record {
+pub run_so : {D : Type 0} (g : Ghosts D) → SafeJoin g → (lines : List CommandLine) (old new : Option (List ℕ)) (contents : List (List ℕ)) (opened mid store : Store)
+    (o : IsOpened contents opened) (before between now : D) (come : HasCome g (at_opening contents o.ledger) lines old new mid before between)
+    → StillLasts g before between → StillLasts g between now → HasSaved g come.last store between now → HasRun g lines old new contents before now
+run_so g join lines old new contents opened mid store o before between now come lasts lasts_then saved = record {
   ledger = o.ledger;
   reads = o.reads;
   text = come.text;
@@ -115,15 +140,46 @@ run_so lines old new contents contents_now opened mid store o mid_contents come 
   saved = saved.saved;
   legal = saved.stands.still.represents.legal;
   disk = saved.disk;
+  goes = goes_both g join (at_opening contents o.ledger) come.last saved.next before between now come.goes saved.goes;
+  lasts = lasts_both g before between now lasts lasts_then;
 }
 
-pub ok_so : {T E X Y : Type 0} (r : Result T E) → (X → Y) → OnOk r X → OnOk r Y
-ok_so (Ok x) f h = f h
-ok_so (Err e) f h = tt
+pub each_run_so : {D T E : Type 0} (g : Ghosts D) → SafeJoin g → (r : Result T E) (lines : List CommandLine) (old new : Option (List ℕ)) (contents : List (List ℕ))
+    (opened mid store : Store) (o : IsOpened contents opened) (before between now : D) (come : HasCome g (at_opening contents o.ledger) lines old new mid before between)
+    → StillLasts g before between → OnOk r (StillLasts g between now) → OnOk r (HasSaved g come.last store between now)
+    → OnOk r (HasRun g lines old new contents before now)
+each_run_so g join (Ok x) lines old new contents opened mid store o before between now come lasts lasts_then saved =
+    run_so g join lines old new contents opened mid store o before between now come lasts lasts_then saved
+each_run_so g join (Err e) lines old new contents opened mid store o before between now come lasts lasts_then saved = tt
 
-more_written : (lines : List CommandLine) (old mid new : Option (List ℕ)) (contents contents_now : List (List ℕ)) → Appends mid new []
-    → HasRun lines old mid contents contents_now → HasRun lines old new contents contents_now
-more_written lines old mid new contents contents_now none run =
+-- the device was read before
+pub run_behind_reads : {D : Type 0} (g : Ghosts D) → SafeJoin g → (lines : List CommandLine) (old new : Option (List ℕ)) (contents : List (List ℕ)) (before mid now : D)
+    → IsSameDevice g before mid → g.moment mid ≡ g.moment before → g.contents mid ≡ g.contents before → HasRun g lines old new contents mid now
+    → HasRun g lines old new contents before now
+run_behind_reads g join lines old new contents before mid now device none same_contents run =
+    let h = at_opening contents run.ledger in
+    record {
+      ledger = run.ledger;
+      reads = run.reads;
+      text = run.text;
+      written = run.written;
+      answered = run.answered;
+      answers = run.answers;
+      last = run.last;
+      saved = run.saved;
+      legal = run.legal;
+      disk = run.disk;
+      goes = goes_both g join h h run.last before mid now (goes_alike g h before mid device none) run.goes;
+      lasts = lasts_both g before mid now (lasts_alike g before mid device none same_contents) run.lasts;
+    }
+
+pub ok_so : {T E : Type 0} (r : Result T E) (X Y : Type 0) → (X → Y) → OnOk r X → OnOk r Y
+ok_so (Ok x) X Y f h = f h
+ok_so (Err e) X Y f h = tt
+
+more_written : {D : Type 0} (g : Ghosts D) (lines : List CommandLine) (old mid new : Option (List ℕ)) (contents : List (List ℕ)) (before now : D) → Appends mid new []
+    → HasRun g lines old mid contents before now → HasRun g lines old new contents before now
+more_written g lines old mid new contents before now none run =
     record {
       ledger = run.ledger;
       reads = run.reads;
@@ -135,14 +191,16 @@ more_written lines old mid new contents contents_now none run =
       saved = run.saved;
       legal = run.legal;
       disk = run.disk;
+      goes = run.goes;
+      lasts = run.lasts;
     }
 
-pub concluded_so : (ran : Result (Unit {0}) Stop) (lines : List CommandLine) (old mid new : Option (List ℕ)) (contents contents_now : List (List ℕ))
-    → OnOk ran (HasRun lines old mid contents contents_now) → IsDoneBehind ran mid new → HasRun lines old new contents contents_now
-concluded_so (Ok done) lines old mid new contents contents_now run none = more_written lines old mid new contents contents_now none run
-concluded_so (Err stop) lines old mid new contents contents_now run none = absurd none
+pub concluded_so : {D : Type 0} (g : Ghosts D) (ran : Result (Unit {0}) Stop) (lines : List CommandLine) (old mid new : Option (List ℕ)) (contents : List (List ℕ))
+    (before now : D) → OnOk ran (HasRun g lines old mid contents before now) → IsDoneBehind ran mid new → HasRun g lines old new contents before now
+concluded_so g (Ok done) lines old mid new contents before now run none = more_written g lines old mid new contents before now none run
+concluded_so g (Err stop) lines old mid new contents before now run none = absurd none
 
-pub script_so : (input old new : Option (List ℕ)) (contents contents_now : List (List ℕ)) (lines : List CommandLine) → IfSome input (λ text. HasLines text lines)
-    → HasRun lines old new contents contents_now → HasRunScript input old new contents contents_now
-script_so None old new contents contents_now lines has run = tt
-script_so (Some text) old new contents contents_now lines has run = (lines, has, run)
+pub script_so : {D : Type 0} (g : Ghosts D) (input old new : Option (List ℕ)) (contents : List (List ℕ)) (before now : D) (lines : List CommandLine)
+    → IfSome input (λ text. HasLines text lines) → HasRun g lines old new contents before now → HasRunScript g input old new contents before now
+script_so g None old new contents before now lines has run = tt
+script_so g (Some text) old new contents before now lines has run = (lines, has, run)

@@ -1,7 +1,9 @@
 pub mod Calling
 pub mod Coming
+pub mod Going
 pub mod Resting
 pub mod Saving
 pub mod Unused
 pub mod Stopping
+pub mod Upgraded
 pub mod Concluding

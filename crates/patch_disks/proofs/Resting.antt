@@ -1,11 +1,13 @@
--- A call begins no write and ends none, so none is under way behind it, and the images of the blocks stay.
+-- A call begins no write and ends none, so none is under way behind it, the images of the blocks stay, and a crash may leave what it could.
 use Rattle.std.proofs.Common.{◌≡◌, ◌≢◌, ℕ, ◌+◌, ◌∙◌, inl, inr, Bool, true, false, List, [], ◌∷◌, ◌++◌, refl, sym, ap, subst, append_assoc}
-use Rattle.std.specs.Prelude.{◌==◌, IsFalse, MatchBool, Option, Some, None, option_to_list, if◌then◌else◌, fold, flat_map}
+use Rattle.std.specs.Prelude.{length, ◌==◌, IsFalse, MatchBool, Option, Some, None, option_to_list, if◌then◌else◌, fold, flat_map}
 use Rattle.std.proofs.lemmas.List.{append-nil}
 use Rattle.std.proofs.lemmas.Grind.{flat_map-append}
 use Rattle.patch_model.specs.Step.{Step, Create, Merge, Send, Complete}
 use Rattle.patch_model.specs.Execution.{Execution, extended, followed_by}
-use Rattle.patch_model.specs.State.{state_of, after_step, has_flight}
+use Rattle.patch_model.specs.State.{State, state_of, after_step, after_steps, at_first, has_flight}
+use Rattle.patch_model.specs.Legal.{IsLegal, IsLegalStep, AreLegal}
+use Rattle.patch_model.specs.Crash.{MayLeave}
 use Rattle.patch_model.specs.History.{history_of, image}
 use Rattle.patch_model.specs.Progress.{history_after}
 use Rattle.patch_cache.specs.Waves.{HoldImages}
@@ -132,3 +134,54 @@ pub rests_behind : StatesExtend → ImagesStay → (h : History) (writer : ℕ) 
 rests_behind extend stay h writer command reply steps contents st right rests =
     let quiet = of_call (fold after_event st h.events) writer command reply steps (last_right st h.events (Call writer command reply steps) right) in
     subst (λ run. Rests run contents) (sym (run_behind h (Call writer command reply steps))) (over_steps extend stay (execution_of h) steps contents quiet rests)
+
+-- What a crash may leave.
+
+abbrev pub DisksStay : Type 0
+DisksStay = (run : Execution) (step : Step) (disk : List (List ℕ)) → IsLegal run → IsLegalStep (length run.first) (state_of run) step
+    → ((block : ℕ) → step ≢ Complete block) → MayLeave run disk → MayLeave (extended run step) disk
+
+-- the first steps of a legal execution are legal, and so is each step behind them
+legal_first : (blocks : ℕ) (st : State) (steps more : List Step) → AreLegal blocks st (steps ++ more) → AreLegal blocks st steps
+legal_first blocks st [] more legal = tt
+legal_first blocks st (s ∷ steps) more legal = (legal.0, legal_first blocks (after_step st s) steps more legal.1)
+
+legal_at : (blocks : ℕ) (st : State) (steps : List Step) (step : Step) (more : List Step) → AreLegal blocks st (steps ++ step ∷ more)
+    → IsLegalStep blocks (after_steps st steps) step
+legal_at blocks st [] step more legal = legal.0
+legal_at blocks st (s ∷ steps) step more legal = legal_at blocks (after_step st s) steps step more legal.1
+
+legal_before : (run : Execution) (more : List Step) → IsLegal (followed_by run more) → IsLegal run
+legal_before run more legal =
+    record { some = legal.some; few = legal.few; blocks = legal.blocks; steps = legal_first (length run.first) at_first run.steps more legal.steps }
+
+one_disk : DisksStay → (run : Execution) (step : Step) (more : List Step) (disk : List (List ℕ)) → ((block : ℕ) → step ≢ Complete block)
+    → IsLegal (followed_by run (step ∷ more)) → MayLeave run disk → MayLeave (extended run step) disk
+one_disk stay run step more disk other legal may =
+    stay run step disk (legal_before run (step ∷ more) legal) (legal_at (length run.first) at_first run.steps step more legal.steps) other may
+
+legal_on : (run : Execution) (step : Step) (more : List Step) → IsLegal (followed_by run (step ∷ more)) → IsLegal (followed_by (extended run step) more)
+legal_on run step more legal = subst (λ all. IsLegal (record run { steps = all })) (sym (append_assoc run.steps (step ∷ []) more)) legal
+
+disks_over : DisksStay → (run : Execution) (steps : List Step) (disk : List (List ℕ)) → AreQuiet steps → IsLegal (followed_by run steps) → MayLeave run disk
+    → MayLeave (followed_by run steps) disk
+disks_over stay run [] disk q legal may = subst (λ all. MayLeave (record run { steps = all }) disk) (sym (append-nil run.steps)) may
+disks_over stay run (Create block start bytes after undo ∷ steps) disk q legal may =
+    let step = Create block start bytes after undo in
+    subst (λ all. MayLeave (record run { steps = all }) disk) (append_assoc run.steps (step ∷ []) steps)
+    (disks_over stay (extended run step) steps disk q (legal_on run step steps legal) (one_disk stay run step steps disk (λ b e. absurd (cc)) legal may))
+disks_over stay run (Merge a b ∷ steps) disk q legal may =
+    let step = Merge a b in
+    subst (λ all. MayLeave (record run { steps = all }) disk) (append_assoc run.steps (step ∷ []) steps)
+    (disks_over stay (extended run step) steps disk q (legal_on run step steps legal) (one_disk stay run step steps disk (λ b e. absurd (cc)) legal may))
+disks_over stay run (Send block ∷ steps) disk q legal may = absurd q
+disks_over stay run (Complete block ∷ steps) disk q legal may = absurd q
+
+pub disks_behind : DisksStay → (h : History) (writer : ℕ) (command : Command) (reply : Reply) (steps : List Step) (disk : List (List ℕ))
+    → (st : Standing) → AreRight st (h.events ++ Call writer command reply steps ∷ []) → IsLegal (execution_of (with_event h (Call writer command reply steps)))
+    → MayLeave (execution_of h) disk → MayLeave (execution_of (with_event h (Call writer command reply steps))) disk
+disks_behind stay h writer command reply steps disk st right legal may =
+    let event = Call writer command reply steps in
+    let quiet = of_call (fold after_event st h.events) writer command reply steps (last_right st h.events event right) in
+    let is = run_behind h event in
+    subst (λ run. MayLeave run disk) (sym is) (disks_over stay (execution_of h) steps disk quiet (subst IsLegal is legal) may)

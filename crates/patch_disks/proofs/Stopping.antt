@@ -8,7 +8,6 @@ use Rattle.patch_device.specs.declared.devices.Device.{Ghosts}
 use Rattle.patch_replay.specs.declared.endings.Fault.{Fault}
 use Rattle.patch_replay.specs.declared.endings.Fault.TheVariants as write_fault
 use Rattle.patch_cache.specs.Waves.{HasGivenUp, RisesIfGivenUp}
-use Rattle.patch_cache.specs.Refusals.{flush_cause}
 use Rattle.patch_cache.specs.declared.refusals.FlushRefusal.{FlushRefusal}
 use Rattle.patch_cache.specs.declared.refusals.FlushRefusal.TheVariants as flush
 use Rattle.patch_history.specs.declared.refusals.OpenFault.{OpenFault}
@@ -21,7 +20,7 @@ use Rattle.patch_commands.specs.declared.commands.CommandLine.{CommandLine}
 use Rattle.patch_disks.specs.declared.endings.Stop.{Stop}
 use Rattle.patch_disks.specs.declared.endings.Stop.TheVariants as stop
 use Rattle.patch_disks.specs.Running.{HasCome}
-use Rattle.patch_disks.specs.Stopping.{starved, stop_of, IsStop, IsNotOpened, IsBroken, HasComeSome, HasWrittenSome}
+use Rattle.patch_disks.specs.Stopping.{starved, stop_of, flush_stop, IsStop, HoldNoStore, IsNotOpened, IsBroken, HasComeSome, HasWrittenSome}
 use Rattle.patch_replay.specs.Growing.{same}
 
 -- a count that rises does so over what comes before and behind
@@ -59,22 +58,23 @@ each_starved (Ok x) A none = tt
 each_starved (Err why) A none = inl none
 
 -- a flush that was given up
-pub flush_stops : (refusal : FlushRefusal) (why : Stop) (before mid now : ℕ) → why ≡ stop.Refused (flush_cause refusal)
+pub flush_stops : (refusal : FlushRefusal) (why : Stop) (before mid now : ℕ) → why ≡ flush_stop refusal
     → RisesIfGivenUp {T = Unit {0}} (Err refusal) before mid → before ≤ mid → mid ≤ now → now ≤ most_faults → IsStop why (HasRisen before now)
 flush_stops (flush.DeviceGaveUp block) why before mid now is risen low high most =
     rw is (inr (refl, risen_over before before mid now (omega arith) (given_up before mid risen low) high most))
+flush_stops flush.SyncFailed why before mid now is risen low high most = rw is (inr (refl, risen_over before before mid now (omega arith) risen high most))
 flush_stops flush.OutOfMemory why before mid now is risen low high most = inl is
 
 -- blocks that are no store's
-pub open_stops : (fault : OpenFault) (why : Stop) (contents : List (List ℕ)) (faults now : ℕ) → why ≡ stop.Refused (open_cause fault) → IsFaultOf contents fault
-    → IsStop why (IsNotOpened faults now contents)
-open_stops opening.BadSuper why contents faults now is first = rw is (inr (refl, inr (inr (inr (_, first)))))
-open_stops opening.FileSize why contents faults now is first = rw is (inr (refl, inr (inr (inr (_, first)))))
-open_stops opening.BadPointer why contents faults now is first = rw is (inr (refl, inr (inr (inr (_, first)))))
-open_stops (opening.BadSlot slot) why contents faults now is first = rw is (inr (refl, inr (inr (inr (_, first)))))
-open_stops (opening.BadFrame slot) why contents faults now is first = rw is (inr (refl, inr (inr (inr (_, first)))))
-open_stops (opening.DuplicateKey slot) why contents faults now is first = rw is (inr (refl, inr (inr (inr (_, first)))))
-open_stops opening.OutOfMemory why contents faults now is first = inl is
+pub open_stops : (fault : OpenFault) (why : Stop) (contents : List (List ℕ)) → why ≡ stop.Refused (open_cause fault) → IsFaultOf contents fault
+    → IsStop why (HoldNoStore contents)
+open_stops opening.BadSuper why contents is first = rw is (inr (refl, inr (inr (_, first))))
+open_stops opening.FileSize why contents is first = rw is (inr (refl, inr (inr (_, first))))
+open_stops opening.BadPointer why contents is first = rw is (inr (refl, inr (inr (_, first))))
+open_stops (opening.BadSlot slot) why contents is first = rw is (inr (refl, inr (inr (_, first))))
+open_stops (opening.BadFrame slot) why contents is first = rw is (inr (refl, inr (inr (_, first))))
+open_stops (opening.DuplicateKey slot) why contents is first = rw is (inr (refl, inr (inr (_, first))))
+open_stops opening.OutOfMemory why contents is first = inl is
 
 -- What a run has written when it stops.
 
@@ -82,9 +82,9 @@ pub err_so : {T : Type 0} (r : Result T Stop) (why : Stop) (A B : Type 0) → Is
 err_so (Ok x) why A B is f stops = tt
 err_so (Err e) why A B is f stops = rw is (stop_for why A B f stops)
 
-pub come_some : (h : History) (lines first others : List CommandLine) (old new : Option (List ℕ)) (store : Store) (contents : List (List ℕ)) → first ++ others ≡ lines
-    → HasCome h first old new store contents → HasComeSome h lines old new
-come_some h lines first others old new store contents is come = record {
+pub come_some : {D : Type 0} (g : Ghosts D) (h : History) (lines first others : List CommandLine) (old new : Option (List ℕ)) (store : Store) (before now : D)
+    → first ++ others ≡ lines → HasCome g h first old new store before now → HasComeSome h lines old new
+come_some g h lines first others old new store before now is come = record {
   first = first;
   others = others;
   lines_are = is;

@@ -2,6 +2,8 @@
 use Rattle.std.specs.Prelude.{ℕ, ◌≡◌, List, Option, Result, Ok, OnOk, IfSome}
 use Rattle.std.specs.Io.KnownBytes.{Appends}
 use Rattle.patch_model.specs.Step.{Step}
+use Rattle.patch_model.specs.Crash.{MayLeave}
+use Rattle.patch_device.specs.declared.devices.Device.{Ghosts}
 use Rattle.patch_cache.specs.Waves.{HoldImages}
 use Rattle.patch_recovery.specs.Ledger.{Ledger}
 use Rattle.patch_recovery.specs.Reading.{reading}
@@ -13,12 +15,14 @@ use Rattle.patch_store.specs.Opening.{IsOpened, at_opening}
 use Rattle.patch_commands.specs.Reply.{reply_line}
 use Rattle.patch_commands.specs.declared.commands.CommandLine.{CommandLine}
 use Rattle.patch_disks.specs.declared.endings.Stop.{Stop}
+use Rattle.patch_disks.specs.Going.{GoesSafely, StillLasts}
 use Rattle.patch_disks.specs.Answering.{with_call, IsSaved, IsAnswered, AreAnswered}
 use Rattle.patch_disks.specs.Reading.{HasLines}
 
 -- Done: the blocks read as a store's, and over them the lines were answered by calls of one legal history, each right where it
--- stands. The text of the answers was written. In the end all patches were brought to the disk, whose blocks are the cached ones.
-pub record HasRun (lines : List CommandLine) (old new : Option (List ℕ)) (contents contents_now : List (List ℕ)) : Type 0 where
+-- stands. The text of the answers was written. In the end all patches were brought to the disk, whose blocks are the cached ones. What a
+-- cut of the power left on the way is what a crash may leave; and if a cut left just the blocks at first, so it does in the end.
+pub record HasRun {D : Type 0} (g : Ghosts D) (lines : List CommandLine) (old new : Option (List ℕ)) (contents : List (List ℕ)) (before now : D) : Type 0 where
   pub ledger : Ledger
   pub reads : reading contents ≡ Ok ledger
   pub text : List ℕ
@@ -28,12 +32,14 @@ pub record HasRun (lines : List CommandLine) (old new : Option (List ℕ)) (cont
   pub last : History
   pub saved : IsSaved answered last
   pub legal : IsLegalHistory last
-  pub disk : HoldCached (execution_of last) contents_now
+  pub disk : HoldCached (execution_of last) (g.contents now)
+  pub goes : GoesSafely g (at_opening contents ledger) last before now
+  pub lasts : StillLasts g before now
 
 -- what was read had such lines, where it is known
-abbrev pub HasRunScript : (input old new : Option (List ℕ)) (contents contents_now : List (List ℕ)) → Type 0
-HasRunScript input old new contents contents_now =
-    IfSome input (λ text. (lines : List CommandLine) × HasLines text lines × HasRun lines old new contents contents_now)
+abbrev pub HasRunScript : {D : Type 0} → Ghosts D → (input old new : Option (List ℕ)) (contents : List (List ℕ)) (before now : D) → Type 0
+HasRunScript g input old new contents before now =
+    IfSome input (λ text. (lines : List CommandLine) × HasLines text lines × HasRun g lines old new contents before now)
 
 -- On the way.
 
@@ -50,10 +56,11 @@ OfEachPast store contents Said = (past : History) → StandsOn store past conten
 abbrev pub OnceOpened : Store → List (List ℕ) → (List (List ℕ) → Type 0) → Type 0
 OnceOpened store blocks Said = (contents : List (List ℕ)) → contents ≡ blocks → IsOpened contents store → Said contents
 
--- a call was made and answered
+-- a call was made and answered: behind it a crash may leave what it could before
 pub record IsCalled (h : History) (call : ℕ × Command) (reply : Reply) (store : Store) (contents : List (List ℕ)) : Type 0 where
   pub steps : List Step
   pub stands : StandsOn store (with_call h call reply steps) contents
+  pub stays : (disk : List (List ℕ)) → MayLeave (execution_of h) disk → MayLeave (execution_of (with_call h call reply steps)) disk
 
 -- and its reply is the text
 pub record IsTold (h : History) (call : ℕ × Command) (text : List ℕ) (store : Store) (contents : List (List ℕ)) : Type 0 where
@@ -62,33 +69,36 @@ pub record IsTold (h : History) (call : ℕ × Command) (text : List ℕ) (store
   pub called : IsCalled h call reply store contents
 
 -- all patches were brought to the disk
-pub record HasSaved (h : History) (store : Store) (contents : List (List ℕ)) : Type 0 where
+pub record HasSaved {D : Type 0} (g : Ghosts D) (h : History) (store : Store) (before now : D) : Type 0 where
   pub next : History
   pub saved : IsSaved h next
-  pub stands : StandsOn store next contents
-  pub disk : HoldCached (execution_of next) contents
+  pub stands : StandsOn store next (g.contents now)
+  pub disk : HoldCached (execution_of next) (g.contents now)
+  pub goes : GoesSafely g h next before now
 
 -- a line was answered by the text
-pub record HasAnswered (h : History) (asked : CommandLine) (text : List ℕ) (store : Store) (contents : List (List ℕ)) : Type 0 where
+pub record HasAnswered {D : Type 0} (g : Ghosts D) (h : History) (asked : CommandLine) (text : List ℕ) (store : Store) (before now : D) : Type 0 where
   pub next : History
   pub answered : IsAnswered h asked text next
-  pub stands : StandsOn store next contents
+  pub stands : StandsOn store next (g.contents now)
+  pub goes : GoesSafely g h next before now
 
 -- lines were answered, and their texts written
-pub record HasCome (h : History) (lines : List CommandLine) (old new : Option (List ℕ)) (store : Store) (contents : List (List ℕ)) : Type 0 where
+pub record HasCome {D : Type 0} (g : Ghosts D) (h : History) (lines : List CommandLine) (old new : Option (List ℕ)) (store : Store) (before now : D) : Type 0 where
   pub text : List ℕ
   pub written : Appends old new text
   pub last : History
   pub answers : AreAnswered h lines text last
-  pub stands : StandsOn store last contents
+  pub stands : StandsOn store last (g.contents now)
+  pub goes : GoesSafely g h last before now
 
 -- where all lines are answered, the answers follow each history at whose end the store stands on the blocks
-abbrev pub ComesOn : {T : Type 0} → Result T Stop → (store store_now : Store) → (contents contents_now : List (List ℕ)) → List CommandLine
+abbrev pub ComesOn : {D T : Type 0} → Ghosts D → Result T Stop → (store store_now : Store) → (before now : D) → List CommandLine
     → (old new : Option (List ℕ)) → Type 0
-ComesOn result store store_now contents contents_now lines old new =
-    OfEachPast store contents (λ past. OnOk result (HasCome past lines old new store_now contents_now))
+ComesOn g result store store_now before now lines old new =
+    OfEachPast store (g.contents before) (λ past. OnOk result (HasCome g past lines old new store_now before now))
 
 -- where the store was opened on the blocks, and all is done, the script has run
-abbrev pub RunsOpened : {T : Type 0} → Result T Stop → Store → (blocks blocks_now : List (List ℕ)) → List CommandLine
-    → (old new : Option (List ℕ)) → Type 0
-RunsOpened result store blocks blocks_now lines old new = OnceOpened store blocks (λ contents. OnOk result (HasRun lines old new contents blocks_now))
+abbrev pub RunsOpened : {D T : Type 0} → Ghosts D → Result T Stop → Store → List CommandLine → (old new : Option (List ℕ)) → (before now : D) → Type 0
+RunsOpened g result store lines old new before now =
+    OnceOpened store (g.contents before) (λ contents. OnOk result (HasRun g lines old new contents before now))

@@ -3,7 +3,9 @@ use Rattle.std.specs.Prelude.{ℕ, ◌≡◌, ◌<◌, ◌++◌, ◌⊎◌, Bool
 use Rattle.std.specs.Io.KnownBytes.{Appends}
 use Rattle.patch_device.specs.Device.{HasRisen}
 use Rattle.patch_model.specs.declared.refusals.RefusalKind.TheVariants as kind
-use Rattle.patch_model.specs.Refusing.{bare}
+use Rattle.patch_model.specs.Refusing.{bare, with_number}
+use Rattle.patch_cache.specs.declared.refusals.FlushRefusal.{FlushRefusal}
+use Rattle.patch_cache.specs.declared.refusals.FlushRefusal.TheVariants as flush
 use Rattle.patch_recovery.specs.Ledger.{Ledger}
 use Rattle.patch_recovery.specs.Reading.{Fault as Test, reading}
 use Rattle.patch_replay.specs.declared.endings.Fault.{Fault}
@@ -32,6 +34,12 @@ abbrev pub stop_of : Fault → Stop
 stop_of fault.Read = stop.Read
 stop_of fault.Write = stop.Write
 stop_of fault.OutOfMemory = starved
+
+-- What a flush that was refused comes to. A sync that failed is a fault of the disk.
+abbrev pub flush_stop : FlushRefusal → Stop
+flush_stop (flush.DeviceGaveUp block) = stop.Refused (with_number kind.DeviceGaveUp block)
+flush_stop flush.SyncFailed = stop.Refused (bare kind.Disk)
+flush_stop flush.OutOfMemory = starved
 
 -- there was no memory, or the command fails for this cause
 abbrev pub IsStop : Stop → Type 0 → Type 0

@@ -1,5 +1,5 @@
 //! How a line of a script is answered.
-ghost use Rattle.std.specs.Prelude.{ℕ, ◌≡◌, List, IfOk, IfErr, string_bytes};
+ghost use Rattle.std.specs.Prelude.{ℕ, ◌≡◌, List, IfOk, IfErr, OnOk, string_bytes};
 ghost use Rattle.patch_device.specs.Device.{HasRisen};
 ghost use Rattle.patch_device.specs.SameDevice.{IsSameDevice};
 ghost use Rattle.patch_history.specs.Command.{Put};
@@ -7,13 +7,15 @@ ghost use Rattle.patch_history.specs.Commands.{command_of, reply_told};
 ghost use Rattle.patch_history.specs.History.{History};
 ghost use Rattle.patch_commands.specs.Value.{value_of};
 ghost use Rattle.patch_commands.specs.declared.commands.CommandLine.TheVariants.{Sync};
+ghost use Rattle.patch_disks.specs.Going.{EndsSafely, StillLasts};
 ghost use Rattle.patch_disks.specs.Running.{StandsOn, IsCalled, IsTold, HasAnswered};
 ghost use Rattle.patch_disks.specs.Stopping.{starved, IsStop};
 
 use crate::endings::Stop;
 use crate::opening::save;
+use patch_cache::laws as cache_laws;
 use patch_commands::{CommandLine, laid_out, reply_line, synced_line};
-use patch_device::Lasting;
+use patch_device::Device;
 use patch_history::{Command, Reply};
 use patch_model::{Bytes, GroupNo, OutOfMemory, WriterNo, laws as model_laws};
 use patch_store::Store;
@@ -41,6 +43,7 @@ fn reply_to(store: &mut Store, writer: WriterNo, command: &Command) -> Reply
 {
     model_laws::steps_extend();
     model_laws::images_stay();
+    model_laws::disks_stay();
     store.answer(writer, command)
 }
 
@@ -72,7 +75,7 @@ fn put(
 }
 
 /// Brings all patches to the disk, those of the group among them. Where there is no such group, nothing is done.
-fn sync<D: Lasting>(
+fn sync<D: Device>(
     alloc: Global,
     store: &mut Store,
     device: &mut D,
@@ -81,10 +84,14 @@ fn sync<D: Lasting>(
 ) -> Result<String, Stop>
     ensures device { IsSameDevice D.Device device.old device.new }
     ensures answered { D.is_honest device.old → (h : History) → StandsOn store.old h (D.contents device.old) → IfOk result (λ text.
-        HasAnswered h (Sync writer group) (string_bytes text) store.new (D.contents device.new)) }
+        HasAnswered D.Device h (Sync writer group) (string_bytes text) store.new device.old device.new) }
+    ensures lasts { D.is_honest device.old → OnOk result (StillLasts D.Device device.old device.new) }
+    ensures safe { D.is_honest device.old → (h : History) → StandsOn store.old h (D.contents device.old)
+        → EndsSafely D.Device h device.old device.new }
     ensures stops { D.is_honest device.old → (h : History) → StandsOn store.old h (D.contents device.old)
         → IfErr result (λ why. IsStop why (HasRisen (D.fault_count device.old) (D.fault_count device.new))) }
 {
+    cache_laws::crashes_join::<D>();
     let reply = reply_to(store, writer, &Command::Pending { group });
     if let Reply::Refused(_) = reply {
         return Ok(reply_line(alloc, &reply)?);
@@ -94,7 +101,7 @@ fn sync<D: Lasting>(
 }
 
 /// Answers a line, by a line of text.
-pub(crate) fn answer<D: Lasting>(
+pub(crate) fn answer<D: Device>(
     alloc: Global,
     store: &mut Store,
     device: &mut D,
@@ -102,7 +109,10 @@ pub(crate) fn answer<D: Lasting>(
 ) -> Result<String, Stop>
     ensures device { IsSameDevice D.Device device.old device.new }
     ensures answered { D.is_honest device.old → (h : History) → StandsOn store.old h (D.contents device.old) → IfOk result (λ text.
-        HasAnswered h line (string_bytes text) store.new (D.contents device.new)) }
+        HasAnswered D.Device h line (string_bytes text) store.new device.old device.new) }
+    ensures lasts { D.is_honest device.old → OnOk result (StillLasts D.Device device.old device.new) }
+    ensures safe { D.is_honest device.old → (h : History) → StandsOn store.old h (D.contents device.old)
+        → EndsSafely D.Device h device.old device.new }
     ensures stops { D.is_honest device.old → (h : History) → StandsOn store.old h (D.contents device.old)
         → IfErr result (λ why. IsStop why (HasRisen (D.fault_count device.old) (D.fault_count device.new))) }
 {

@@ -17,7 +17,7 @@ use std::rt::Files;
 fn report_of<D: Device>(alloc: Global, device: &mut D) -> Result<Report, Stop>
     ensures device { IsSameDevice D.Device device.old device.new }
     ensures same { D.is_honest device.old → D.contents device.new ≡ D.contents device.old }
-    ensures had { D.is_honest device.old → D.had device.new ≡ D.had device.old }
+    ensures no_moment { D.moment device.new ≡ D.moment device.old }
 {
     let store = open_store(alloc, device)?;
     let report = report_on(&store);
@@ -47,7 +47,7 @@ fn check<W: Output, D: Device>(
 ) -> Result<(), Stop>
     ensures device { IsSameDevice D.Device device.old device.new }
     ensures same { D.is_honest device.old → D.contents device.new ≡ D.contents device.old }
-    ensures had { D.is_honest device.old → D.had device.new ≡ D.had device.old }
+    ensures no_moment { D.moment device.new ≡ D.moment device.old }
 {
     let report = report_of(alloc, device)?;
     write_report(alloc, writer, report)
@@ -62,7 +62,7 @@ pub fn check_disk<W: Output, D: Device>(
 ) -> Status
     ensures device { IsSameDevice D.Device device.old device.new }
     ensures same { D.is_honest device.old → D.contents device.new ≡ D.contents device.old }
-    ensures had { D.is_honest device.old → D.had device.new ≡ D.had device.old }
+    ensures no_moment { D.moment device.new ≡ D.moment device.old }
 {
     let checked = check(alloc, writer, device);
     conclude(alloc, writer, checked)
@@ -74,8 +74,11 @@ fn check_path<F: FileExt + OpenFile + Drop, R: Files<File = F>, W: Output>(
     writer: &mut Sink<W>,
     path: &str,
 ) -> Result<(), Stop> {
-    let mut device = open_file(rt, path)?;
-    check(alloc, writer, &mut device)
+    let (device, store) = open_file(rt, alloc, path)?;
+    let report = report_on(&store);
+    drop(store);
+    drop(device);
+    write_report(alloc, writer, report?)
 }
 
 /// Checks the store of a file, as [`check_disk`] does that of a device.

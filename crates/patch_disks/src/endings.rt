@@ -163,13 +163,18 @@ impl<T: Drop> From<AllocFailed<T>> for Stop {
 }
 
 impl From<FlushRefusal> for Stop {
-    ghost use Rattle.patch_cache.specs.Refusals.{flush_cause};
-    ghost use Rattle.patch_disks.specs.declared.endings.Stop.TheVariants.{Refused};
+    ghost use Rattle.patch_disks.specs.Stopping.{flush_stop};
 
-    ghost from_gives = { λ r e. e ≡ Refused (flush_cause r) };
+    ghost from_gives = { λ r e. e ≡ flush_stop r };
 
+    // That the sync of a disk failed is told as any other fault of the disk is.
     fn from(refusal: FlushRefusal) -> Stop {
-        Stop::Refused(refusal.refusal())
+        match refusal {
+            FlushRefusal::DeviceGaveUp(_) | FlushRefusal::OutOfMemory => {
+                Stop::Refused(refusal.refusal())
+            }
+            FlushRefusal::SyncFailed => Stop::Refused(RefusalKind::Disk.bare()),
+        }
     }
 }
 

@@ -1,14 +1,15 @@
 //! Makes files that hold an empty store.
 use crate::endings::{Status, Stop, conclude};
-use patch_device::{Device, FileDevice, Lasting};
+use patch_device::{Device, FileDevice};
 use patch_frame::Geometry;
 use patch_model::{BlockBytes, MAX_BLOCKS, RefusalKind, Refuses};
 use patch_replay::{Output, Sink};
 use patch_store::make;
 use std::alloc::Global;
 use std::fs;
-use std::fs::OpenFile;
+use std::fs::{File, OpenFile};
 use std::os::unix::fs::FileExt;
+use std::path::Path;
 use std::rt::Files;
 
 /// The blocks of a new disk.
@@ -32,12 +33,24 @@ fn new_file<F: FileExt + OpenFile + Drop, R: Files<File = F>>(
 }
 
 /// Writes the superblock, the one block of a new disk that isn't zeros, and answers whether that went well.
-fn write_first<D: Lasting>(device: &mut D, blocks: &[BlockBytes]) -> bool {
+fn write_first<D: Device>(device: &mut D, blocks: &[BlockBytes]) -> bool {
     match blocks.first() {
         Some(superblock) => {
             device.write(0, superblock.as_slice()).is_ok() && device.sync().is_ok()
         }
         None => false,
+    }
+}
+
+/// Lets the name of a file last in the directory that it stands in, and answers whether that went well.
+fn sync_directory<F: OpenFile + Drop, R: Files<File = F>>(rt: &R, path: &str) -> bool {
+    let parent = Path::new(path)
+        .parent()
+        .map_or("", |parent| parent.as_str());
+    let directory = if parent.is_empty() { "." } else { parent };
+    match File::open(rt, directory) {
+        Ok(directory) => directory.sync_all().is_ok(),
+        Err(_) => false,
     }
 }
 
@@ -53,7 +66,7 @@ fn make_path<F: FileExt + OpenFile + Drop, R: Files<File = F>, W: Output>(
     let count = blocks.len().min(MAX_BLOCKS) as u32;
     let made = format!(in alloc; "made {count}\n")?;
     let mut device = new_file(rt, path, count)?;
-    if !write_first(&mut device, blocks.as_slice()) {
+    if !write_first(&mut device, blocks.as_slice()) || !sync_directory(rt, path) {
         let _removed = fs::remove_file(rt, path);
         return Err(Stop::Refused(RefusalKind::Disk.bare()));
     }
@@ -61,7 +74,8 @@ fn make_path<F: FileExt + OpenFile + Drop, R: Files<File = F>, W: Output>(
 }
 
 /// Makes a file that holds an empty store on a disk that is divided so, and writes `made`, with the number of its blocks. What there
-/// is of this name is left as it was; a file that can't be finished is removed.
+/// is of this name is left as it was; a file that can't be finished is removed. Before `made` is written, the file and its name in its
+/// directory are told to last.
 pub fn make_file<F: FileExt + OpenFile + Drop, R: Files<File = F>, W: Output>(
     rt: &R,
     alloc: Global,

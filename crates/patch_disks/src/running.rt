@@ -1,7 +1,8 @@
 //! Runs a script on a store.
 ghost use Rattle.std.specs.Prelude.{◌≡◌, ◌⊎◌, false, OnOk};
-ghost use Rattle.patch_device.specs.SameDevice.{IsSameDevice};
+ghost use Rattle.patch_device.specs.SameDevice.{IsSameDevice, IsLasting};
 ghost use Rattle.patch_commands.specs.Command.{commands_of};
+ghost use Rattle.patch_disks.specs.Going.{EndsSafely, EndsOpened, WentSafely, StillLasts};
 ghost use Rattle.patch_disks.specs.Reading.{IsRunOf};
 ghost use Rattle.patch_disks.specs.Running.{OfEachPast, OnceOpened, ComesOn, RunsOpened, HasRun, HasRunScript};
 ghost use Rattle.patch_disks.specs.Stopping.{IsBroken, IfFailed, HasComeSome, HasWrittenSome, RunsSomeWay, TellsWhyItStops, TellsWhatItAnswered};
@@ -14,8 +15,10 @@ use crate::endings::{Status, Stop, Unread, conclude, refuse};
 use crate::opening::{open_file, open_store, save};
 use crate::progress::Progress;
 use crate::reading::read_script;
+use patch_cache::laws as cache_laws;
 use patch_commands::CommandLine;
-use patch_device::Lasting;
+use patch_device::Device;
+use patch_model::laws as model_laws;
 use patch_replay::{Output, Sink, Source};
 use patch_store::Store;
 use std::alloc::Global;
@@ -25,7 +28,7 @@ use std::os::unix::fs::FileExt;
 use std::rt::Files;
 
 /// Answers the lines in order, each by a line of text.
-fn answer_lines<W: Output, D: Lasting, P: Progress>(
+fn answer_lines<W: Output, D: Device, P: Progress>(
     alloc: Global,
     writer: &mut Sink<W>,
     store: &mut Store,
@@ -34,13 +37,17 @@ fn answer_lines<W: Output, D: Lasting, P: Progress>(
     progress: &mut P,
 ) -> Result<(), Stop>
     ensures device { IsSameDevice D.Device device.old device.new }
-    ensures come { D.is_honest device.old → ComesOn result store.old store.new (D.contents device.old) (D.contents device.new)
+    ensures come { D.is_honest device.old → ComesOn D.Device result store.old store.new device.old device.new
         lines.items (W.contents writer.old.inner) (W.contents writer.new.inner) }
+    ensures lasts { D.is_honest device.old → OnOk result (StillLasts D.Device device.old device.new) }
+    ensures safe { D.is_honest device.old
+        → OfEachPast store.old (D.contents device.old) (λ past. EndsSafely D.Device past device.old device.new) }
     ensures some { D.is_honest device.old → OfEachPast store.old (D.contents device.old) (λ past. writer.new.failed ≡ false
         → HasComeSome past lines.items (W.contents writer.old.inner) (W.contents writer.new.inner)) }
     ensures stops { D.is_honest device.old → OfEachPast store.old (D.contents device.old) (λ _.
         TellsWhyItStops result writer.new.failed (D.fault_count device.old) (D.fault_count device.new) (D.contents device.old)) }
 {
+    cache_laws::crashes_join::<D>();
     let all = lines.len();
     let mut answered = 0usize;
     for line in lines {
@@ -53,7 +60,7 @@ fn answer_lines<W: Output, D: Lasting, P: Progress>(
 }
 
 /// Answers the lines, and brings all that they changed to the device.
-fn answer_and_save<W: Output, D: Lasting, P: Progress>(
+fn answer_and_save<W: Output, D: Device, P: Progress>(
     alloc: Global,
     writer: &mut Sink<W>,
     store: &mut Store,
@@ -61,32 +68,38 @@ fn answer_and_save<W: Output, D: Lasting, P: Progress>(
     lines: Vec<CommandLine>,
     progress: &mut P,
 ) -> Result<(), Stop>
-    ensures run { D.is_honest device.old → RunsOpened result store.old (D.contents device.old) (D.contents device.new)
-        lines.items (W.contents writer.old.inner) (W.contents writer.new.inner) }
+    ensures run { D.is_honest device.old → RunsOpened D.Device result store.old
+        lines.items (W.contents writer.old.inner) (W.contents writer.new.inner) device.old device.new }
+    ensures safe { D.is_honest device.old → EndsOpened D.Device store.old (D.contents device.old) device.old device.new }
     ensures some { D.is_honest device.old → RunsSomeWay store.old (D.contents device.old) writer.new.failed
         lines.items (W.contents writer.old.inner) (W.contents writer.new.inner) }
     ensures stops { D.is_honest device.old → OnceOpened store.old (D.contents device.old)
         (TellsWhyItStops result writer.new.failed (D.fault_count device.old) (D.fault_count device.new)) }
 {
+    cache_laws::crashes_join::<D>();
     answer_lines(alloc, writer, store, device, lines, progress)?;
     save(store, device)
 }
 
 /// Opens the device's store, answers the lines, and brings all that they changed to the device.
-fn run_lines<W: Output, D: Lasting, P: Progress>(
+fn run_lines<W: Output, D: Device, P: Progress>(
     alloc: Global,
     writer: &mut Sink<W>,
     device: &mut D,
     lines: Vec<CommandLine>,
     progress: &mut P,
 ) -> Result<(), Stop>
-    ensures run { D.is_honest device.old → OnOk result
-        (HasRun lines.items (W.contents writer.old.inner) (W.contents writer.new.inner) (D.contents device.old) (D.contents device.new)) }
+    ensures run { D.is_honest device.old → OnOk result (HasRun D.Device lines.items
+        (W.contents writer.old.inner) (W.contents writer.new.inner) (D.contents device.old) device.old device.new) }
+    ensures crash { D.is_honest device.old → IsLasting D.Device device.old
+        → WentSafely D.Device (D.contents device.old) device.old device.new }
     ensures some { D.is_honest device.old → writer.new.failed ≡ false
         → HasWrittenSome lines.items (W.contents writer.old.inner) (W.contents writer.new.inner) (D.contents device.old) }
     ensures stops { D.is_honest device.old
         → TellsWhyItStops result writer.new.failed (D.fault_count device.old) (D.fault_count device.new) (D.contents device.old) }
 {
+    cache_laws::crashes_join::<D>();
+    model_laws::first_bytes_are_left();
     let mut store = open_store(alloc, device)?;
     let ran = answer_and_save(alloc, writer, &mut store, device, lines, progress);
     drop(store);
@@ -95,9 +108,10 @@ fn run_lines<W: Output, D: Lasting, P: Progress>(
 
 /// Runs the script that the reader gives on the store of a device, and writes an answer for each of its lines.
 ///
-/// All of the script is read and parsed before the store is opened. Blocks go to the device where a line asks for it, and at the end.
-/// A fault is told by a last line, behind the answers of the lines before it; after a fault of the writer nothing more is written.
-pub fn run_script<R: Read, W: Output, D: Lasting, P: Progress>(
+/// All of the script is read and parsed before the store is opened. Blocks go to the device where a line asks for it, and at the end,
+/// and each wave of them is synced before the next. A fault is told by a last line, behind the answers of the lines before it; after a
+/// fault of the writer nothing more is written. A device that refuses a sync is a fault of the disk, and the run ends there.
+pub fn run_script<R: Read, W: Output, D: Device, P: Progress>(
     alloc: Global,
     reader: &mut Source<R>,
     writer: &mut Sink<W>,
@@ -106,13 +120,17 @@ pub fn run_script<R: Read, W: Output, D: Lasting, P: Progress>(
 ) -> Status
     ensures run { IsRunOf commands_of (R.remaining reader.old.inner) (W.contents writer.old.inner) (W.contents writer.new.inner) result }
     ensures left { (why : TheBadScript) → result ≡ Unreadable why → device.new ≡ device.old }
-    ensures done { D.is_honest device.old → result ≡ Done → HasRunScript (R.remaining reader.old.inner)
-        (W.contents writer.old.inner) (W.contents writer.new.inner) (D.contents device.old) (D.contents device.new) }
+    ensures done { D.is_honest device.old → result ≡ Done → HasRunScript D.Device (R.remaining reader.old.inner)
+        (W.contents writer.old.inner) (W.contents writer.new.inner) (D.contents device.old) device.old device.new }
+    ensures lasts { D.is_honest device.old → result ≡ Done → StillLasts D.Device device.old device.new }
+    ensures crash { D.is_honest device.old → IsLasting D.Device device.old
+        → WentSafely D.Device (D.contents device.old) device.old device.new }
     ensures failed { D.is_honest device.old → IfFailed result (IsGivenUp reader.new
         ⊎ IsBroken writer.new.failed (D.fault_count device.old) (D.fault_count device.new) (D.contents device.old)) }
     ensures stopped { D.is_honest device.old → writer.new.failed ≡ false → TellsWhatItAnswered (R.remaining reader.old.inner)
         (W.contents writer.old.inner) (W.contents writer.new.inner) (D.contents device.old) result }
 {
+    model_laws::first_bytes_are_left();
     let lines = match read_script(alloc, reader, None) {
         Ok(lines) => lines,
         Err(Unread::Script(why)) => return refuse(alloc, writer, why),
@@ -138,8 +156,10 @@ where
     W: Output,
     P: Progress,
 {
-    let mut device = open_file(rt, path)?;
-    run_lines(alloc, writer, &mut device, lines, progress)
+    let (mut device, mut store) = open_file(rt, alloc, path)?;
+    let ran = answer_and_save(alloc, writer, &mut store, &mut device, lines, progress);
+    drop(store);
+    ran
 }
 
 /// Runs a script on the store of a file, as [`run_script`] does on that of a device. The file is opened when the script is read.

@@ -25,6 +25,7 @@ use Rattle.patch_commands.specs.Reply.{reply_line}
 use Rattle.patch_commands.specs.Shared.{shared_commands}
 use Rattle.patch_replay.specs.Growing.{twice, same}
 use Rattle.patch_disks.specs.Opening.{IsUnused}
+use Rattle.patch_disks.specs.Going.{StillLasts}
 use Rattle.patch_disks.specs.Reading.{HasLinesBy}
 use Rattle.patch_files.specs.Serving.{commands_by, jobs_by, replies_text, all_text, HasServed, HasServedScript}
 
@@ -131,6 +132,21 @@ pub same_when : {D E : Type 0} (g : Ghosts D) (r : Result D E) (old mid later : 
     → IfOk r (IsSameDevice g later) → IfOk r (IsSameDevice g old)
 same_when g (Ok now) old mid later first second third = same_both g old mid now first (same_both g mid later now second third)
 same_when g (Err e) old mid later first second third = tt
+
+still_lasts : {D : Type 0} (g : Ghosts D) (a b c d : D) → StillLasts g a b → StillLasts g b c → StillLasts g c d → StillLasts g a d
+still_lasts g a b c d first second third lasting = third (second (first lasting))
+
+-- what lasts over some calls and then more
+pub lasts_when : {D E : Type 0} (g : Ghosts D) (r : Result D E) (old mid later : D) → StillLasts g old mid → StillLasts g mid later
+    → IfOk r (StillLasts g later) → IfOk r (StillLasts g old)
+lasts_when g (Ok now) old mid later first second third = still_lasts g old mid later now first second third
+lasts_when g (Err e) old mid later first second third = tt
+
+-- where no moment was begun, and the contents stay
+pub lasts_alike : {D : Type 0} (g : Ghosts D) (old now : D) → IsSameDevice g old now → g.moment now ≡ g.moment old → g.contents now ≡ g.contents old
+    → StillLasts g old now
+lasts_alike g old now device none same lasting disk may =
+    lasting disk ((device.time.past (g.moment old) disk (omega arith)).1 (subst (λ t. g.left_at now t disk) none may)) ∙ sym same
 
 -- what was done with the lines is known of the script, where no more is written
 pub script_served : (input old mid new : Option (List ℕ)) (contents contents_now : List (List ℕ)) (writers : ℕ) (lines : List CommandLine)

@@ -2,6 +2,7 @@
 use Rattle.std.specs.Prelude.{ℕ, ◌≡◌, ◌==◌, List, Option, MatchOption, IfSome, length, map, filter, flat_map, sum_by}
 use Rattle.std.specs.List.{range_with_len}
 use Rattle.std.specs.Io.KnownBytes.{Appends}
+use Rattle.patch_device.specs.declared.devices.Device.{Ghosts}
 use Rattle.patch_history.specs.Command.{Command, Reply}
 use Rattle.patch_store.specs.Flushing.{HoldCached}
 use Rattle.patch_shared.specs.Kept.{Book, IsKept, run_of}
@@ -51,7 +52,6 @@ HasServedScript writers input old new contents contents_now =
     × HasServed writers lines old new contents contents_now)
 
 -- where all was done, the writers of the script were served, and the device comes back
-abbrev pub ServesOn : {D : Type 0} → (D → List (List ℕ)) → Status → Option D → (writers : ℕ) → (input old new : Option (List ℕ))
-    → (opening : List (List ℕ)) → Type 0
-ServesOn contents status back writers input old new opening =
-    status ≡ Done → MatchOption back ⊥ (λ device. HasServedScript writers input old new opening (contents device))
+abbrev pub ServesOn : {D : Type 0} → Ghosts D → Status → (device : D) → (back : Option D) → (writers : ℕ) → (input old new : Option (List ℕ)) → Type 0
+ServesOn g status device back writers input old new =
+    status ≡ Done → MatchOption back ⊥ (λ now. HasServedScript writers input old new (g.contents device) (g.contents now))

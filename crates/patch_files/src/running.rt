@@ -1,14 +1,16 @@
 //! Runs a script of one writer or of several.
-ghost use Rattle.std.specs.Prelude.{◌≡◌, ◌⊎◌, ◌<◌, ◌≤◌, IfSome, IsNone, None, Some, false};
+ghost use Rattle.std.specs.Prelude.{◌≡◌, ◌⊎◌, ◌<◌, ◌≤◌, IfSome, IsNone, MatchOption, None, Some, false};
+ghost use Rattle.patch_device.specs.SameDevice.{IsLasting};
+ghost use Rattle.patch_disks.specs.Going.{StillLasts, WentSafely};
 ghost use Rattle.patch_disks.specs.Reading.{IsRunOf};
 ghost use Rattle.patch_disks.specs.Stopping.{IfFailed, TellsWhatItAnswered};
-ghost use Rattle.patch_disks.specs.declared.endings.Status.TheVariants.{Unreadable};
+ghost use Rattle.patch_disks.specs.declared.endings.Status.TheVariants.{Done, Unreadable};
 ghost use Rattle.patch_files.specs.Running.{IsBrokenOn, commands_for, RunsOn};
 ghost use Rattle.patch_replay.specs.Streams.{IsGivenUp};
 ghost use Rattle.patch_replay.specs.declared.endings.BadScript.{BadScript as TheBadScript};
 
 use crate::serving::{Served, serve_script};
-use patch_device::Lasting;
+use patch_device::Device;
 use patch_disks::{Progress, run_script};
 use patch_replay::{Output, Sink, Source};
 use std::alloc::Global;
@@ -32,15 +34,18 @@ pub fn run_or_serve<R, W, D, P, T>(
 where
     R: Read,
     W: Output,
-    D: Lasting + Drop + Send,
+    D: Device + Drop + Send,
     P: Progress,
     T: Threads + Wait + Sync,
     requires { IfSome writers (λ count. (0 < count) × (count ≤ 8)) }
     ensures run { IsRunOf (commands_for writers) (R.remaining reader.old.inner)
         (W.contents writer.old.inner) (W.contents writer.new.inner) result.status }
     ensures left { (why : TheBadScript) → result.status ≡ Unreadable why → result.device ≡ Some device }
-    ensures done { D.is_honest device → RunsOn D.contents result.status result.device writers
-        (R.remaining reader.old.inner) (W.contents writer.old.inner) (W.contents writer.new.inner) (D.contents device) }
+    ensures done { D.is_honest device → RunsOn D.Device result.status device result.device writers
+        (R.remaining reader.old.inner) (W.contents writer.old.inner) (W.contents writer.new.inner) }
+    ensures lasts { D.is_honest device → result.status ≡ Done → MatchOption result.device ⊥ (StillLasts D.Device device) }
+    ensures crash { IsNone writers → D.is_honest device → IsLasting D.Device device
+        → MatchOption result.device ⊥ (WentSafely D.Device (D.contents device) device) }
     ensures failed { IsNone writers → D.is_honest device → IfFailed result.status (IsGivenUp reader.new
         ⊎ IsBrokenOn D.fault_count writer.new.failed device result.device (D.contents device)) }
     ensures stopped { IsNone writers → D.is_honest device → writer.new.failed ≡ false → TellsWhatItAnswered
@@ -53,7 +58,7 @@ where
 }
 
 /// Runs a script on a device that is handed in, on this thread.
-fn run_alone<R: Read, W: Output, D: Lasting + Drop, P: Progress>(
+fn run_alone<R: Read, W: Output, D: Device + Drop, P: Progress>(
     alloc: Global,
     reader: &mut Source<R>,
     writer: &mut Sink<W>,
@@ -63,8 +68,11 @@ fn run_alone<R: Read, W: Output, D: Lasting + Drop, P: Progress>(
     ensures run { IsRunOf (commands_for None) (R.remaining reader.old.inner)
         (W.contents writer.old.inner) (W.contents writer.new.inner) result.status }
     ensures left { (why : TheBadScript) → result.status ≡ Unreadable why → result.device ≡ Some device }
-    ensures done { D.is_honest device → RunsOn D.contents result.status result.device None
-        (R.remaining reader.old.inner) (W.contents writer.old.inner) (W.contents writer.new.inner) (D.contents device) }
+    ensures done { D.is_honest device → RunsOn D.Device result.status device result.device None
+        (R.remaining reader.old.inner) (W.contents writer.old.inner) (W.contents writer.new.inner) }
+    ensures lasts { D.is_honest device → result.status ≡ Done → MatchOption result.device ⊥ (StillLasts D.Device device) }
+    ensures crash { D.is_honest device → IsLasting D.Device device
+        → MatchOption result.device ⊥ (WentSafely D.Device (D.contents device) device) }
     ensures failed { D.is_honest device → IfFailed result.status (IsGivenUp reader.new
         ⊎ IsBrokenOn D.fault_count writer.new.failed device result.device (D.contents device)) }
     ensures stopped { D.is_honest device → writer.new.failed ≡ false → TellsWhatItAnswered

@@ -6,6 +6,7 @@ ghost use Rattle.patch_history.specs.Commands.{reply_told};
 ghost use Rattle.patch_shared.specs.Kept.{IsFresh, IsNew};
 ghost use Rattle.patch_shared.specs.Telling.{commands_in, replies_in};
 ghost use Rattle.patch_commands.specs.Shared.{shared_commands};
+ghost use Rattle.patch_disks.specs.Going.{StillLasts};
 ghost use Rattle.patch_disks.specs.Reading.{IsRunOf};
 ghost use Rattle.patch_files.specs.Serving.{jobs_by, replies_text, all_text, HasServed, ServesOn};
 ghost use Rattle.patch_disks.specs.declared.endings.Status.TheVariants.{Done, Unreadable};
@@ -13,12 +14,14 @@ ghost use Rattle.patch_replay.specs.declared.endings.BadScript.{BadScript as The
 
 use crate::jobs::jobs_of;
 use patch_commands::{CommandLine, reply_line};
-use patch_device::{Device, Lasting};
-use patch_disks::{Status, Stop, Unread, conclude, open_file, open_store, read_script, refuse};
+use patch_device::Device;
+use patch_disks::{
+    Status, Stop, Unread, conclude, finish_device, open_file, open_store, read_script, refuse,
+};
 use patch_history::{Command, Reply};
 use patch_model::{RefusalKind, Refuses};
 use patch_replay::{Output, Sink, Source};
-use patch_shared::{Finished, OpenGate, ServeFault, serve};
+use patch_shared::{Cause, Finished, OpenGate, ServeFault, serve};
 use patch_store::Store;
 use std::alloc::Global;
 use std::fs::OpenFile;
@@ -46,9 +49,17 @@ impl<D: Device> From<ServeFault<D>> for Unserved<D> {
     fn from(fault: ServeFault<D>) -> Unserved<D> {
         let ServeFault { cause, device } = fault;
         Unserved {
-            why: Stop::Refused(cause.refusal()),
+            why: stop_of(cause),
             device,
         }
+    }
+}
+
+/// What the cause of a fault is told as. That the sync of a disk failed is a fault of the disk.
+fn stop_of(cause: Cause) -> Stop {
+    match cause {
+        Cause::SyncFailed => Stop::Refused(RefusalKind::Disk.bare()),
+        _ => Stop::Refused(cause.refusal()),
     }
 }
 
@@ -81,8 +92,8 @@ fn write_all_replies<W: Output>(
     Ok(())
 }
 
-/// Lets the device last, and then writes all replies.
-fn last_and_tell<W: Output, D: Lasting>(
+/// Lets the device finish, and then writes all replies.
+fn last_and_tell<W: Output, D: Device>(
     alloc: Global,
     writer: &mut Sink<W>,
     device: &mut D,
@@ -90,22 +101,22 @@ fn last_and_tell<W: Output, D: Lasting>(
 ) -> Result<(), Stop>
     ensures device { IsSameDevice D.Device device.old device.new }
     ensures same { D.is_honest device.old → OnOk result (D.contents device.new ≡ D.contents device.old) }
+    ensures lasts { D.is_honest device.old → OnOk result (StillLasts D.Device device.old device.new) }
     ensures written { OnOk result (Appends (W.contents writer.old.inner) (W.contents writer.new.inner) (all_text (replies_in replies.now))) }
 {
-    if device.sync().is_err() {
-        return Err(Stop::Refused(RefusalKind::Disk.bare()));
-    }
+    finish_device(device)?;
     write_all_replies(alloc, writer, replies)
 }
 
 /// Goes on where all are served.
-fn finish<W: Output, D: Lasting + Drop>(
+fn finish<W: Output, D: Device + Drop>(
     alloc: Global,
     writer: &mut Sink<W>,
     finished: Finished<D>,
 ) -> Result<D, Unserved<D>>
     ensures device { IfOk result (IsSameDevice D.Device finished.device) }
     ensures same { D.is_honest finished.device → IfOk result (λ now. D.contents now ≡ D.contents finished.device) }
+    ensures lasts { D.is_honest finished.device → IfOk result (StillLasts D.Device finished.device) }
     ensures written { OnOk result
         (Appends (W.contents writer.old.inner) (W.contents writer.new.inner) (all_text (replies_in finished.replies.items))) }
 {
@@ -128,6 +139,7 @@ fn prepare<D: Device>(
 ) -> Result<(Store, Vec<Vec<Command>>), Stop>
     ensures device { IsSameDevice D.Device device.old device.new }
     ensures same { D.is_honest device.old → D.contents device.new ≡ D.contents device.old }
+    ensures no_moment { D.moment device.new ≡ D.moment device.old }
     ensures new { IfOk result (λ ready. IsNew ready.0) }
     ensures opened { D.is_honest device.old → IfOk result (λ ready. IsFresh ready.0 (D.contents device.old)) }
     ensures jobs { IfOk result (λ ready. commands_in ready.1.items ≡ jobs_by writers lines.now) }
@@ -139,7 +151,7 @@ fn prepare<D: Device>(
 }
 
 /// Opens the device's store, and serves the writers of the lines.
-fn serve_lines<W: Output, D: Lasting + Drop + Send, T: Threads + Wait + Sync>(
+fn serve_lines<W: Output, D: Device + Drop + Send, T: Threads + Wait + Sync>(
     rt: &T,
     alloc: Global,
     writer: &mut Sink<W>,
@@ -149,6 +161,7 @@ fn serve_lines<W: Output, D: Lasting + Drop + Send, T: Threads + Wait + Sync>(
 ) -> Result<D, Unserved<D>>
     requires { (0 < writers) × (writers ≤ 8) }
     ensures device { IfOk result (IsSameDevice D.Device device) }
+    ensures lasts { D.is_honest device → IfOk result (StillLasts D.Device device) }
     ensures served { D.is_honest device → IfOk result (λ now.
         HasServed writers lines.items (W.contents writer.old.inner) (W.contents writer.new.inner) (D.contents device) (D.contents now)) }
 {
@@ -169,11 +182,11 @@ fn serve_lines<W: Output, D: Lasting + Drop + Send, T: Threads + Wait + Sync>(
 /// answer for each line: those of the first writer, then those of the second, and so on.
 ///
 /// All of the script is read and parsed before the store is opened: a line of another writer than these is unreadable, and so is a
-/// sync. All blocks are on the device when the first answer is written, and the device is told to let them last. Where the script
-/// stops before, no answer is written, and the last line tells why.
+/// sync. All blocks are on the device and last there when the first answer is written. Where the script stops before, no answer is
+/// written, and the last line tells why: a device that refuses a sync is a fault of the disk.
 ///
 /// It may wait: that it returns isn't promised.
-pub fn serve_script<R: Read, W: Output, D: Lasting + Drop + Send, T: Threads + Wait + Sync>(
+pub fn serve_script<R: Read, W: Output, D: Device + Drop + Send, T: Threads + Wait + Sync>(
     rt: &T,
     alloc: Global,
     reader: &mut Source<R>,
@@ -186,8 +199,9 @@ pub fn serve_script<R: Read, W: Output, D: Lasting + Drop + Send, T: Threads + W
         (W.contents writer.old.inner) (W.contents writer.new.inner) result.status }
     ensures left { (why : TheBadScript) → result.status ≡ Unreadable why → result.device ≡ Some device }
     ensures device { result.status ≡ Done → MatchOption result.device ⊥ (IsSameDevice D.Device device) }
-    ensures done { D.is_honest device → ServesOn D.contents result.status result.device writers
-        (R.remaining reader.old.inner) (W.contents writer.old.inner) (W.contents writer.new.inner) (D.contents device) }
+    ensures done { D.is_honest device → ServesOn D.Device result.status device result.device writers
+        (R.remaining reader.old.inner) (W.contents writer.old.inner) (W.contents writer.new.inner) }
+    ensures lasts { D.is_honest device → result.status ≡ Done → MatchOption result.device ⊥ (StillLasts D.Device device) }
 {
     let lines = match read_script(alloc, reader, Some(writers)) {
         Ok(lines) => lines,
@@ -216,7 +230,7 @@ pub fn serve_script<R: Read, W: Output, D: Lasting + Drop + Send, T: Threads + W
     }
 }
 
-/// Opens a file's store, and goes on as with that of a device.
+/// Opens a file's store, and serves the writers of the lines.
 fn serve_lines_on_file<F, H, W>(
     rt: &H,
     alloc: Global,
@@ -231,8 +245,13 @@ where
     W: Output,
     requires { (0 < writers) × (writers ≤ 8) }
 {
-    let device = open_file(rt, path)?;
-    match serve_lines(rt, alloc, writer, device, lines, writers) {
+    let jobs = jobs_of(alloc, lines.as_slice(), writers)?;
+    let (device, store) = open_file(rt, alloc, path)?;
+    let served = match serve(rt, alloc, store, device, jobs, &OpenGate) {
+        Ok(finished) => finish(alloc, writer, finished),
+        Err(fault) => Err(Unserved::from(fault)),
+    };
+    match served {
         Ok(_) => Ok(()),
         Err(unserved) => Err(unserved.why),
     }

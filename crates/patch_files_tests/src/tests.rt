@@ -1,5 +1,5 @@
 //! What the tests of commands on disks share: new disks, and runs, checks and upgrades of them.
-use patch_device::{Device, Lasting, MemDevice};
+use patch_device::{Device, MemDevice};
 use patch_files::{Quiet, Status, check_disk, run_script, upgrade_disk};
 use patch_frame::{Format, Geometry};
 use patch_replay::{Sink, Source};
@@ -15,6 +15,7 @@ mod faults;
 mod files;
 mod rows;
 mod scripts;
+mod syncs;
 mod tickers;
 mod writers;
 
@@ -67,7 +68,7 @@ fn expect_end(rt: &impl Abort, ended: Status, text: &[u8], end: End) {
 }
 
 // The commands on a device end so, one behind another.
-fn expect_on<D: Lasting>(rt: &impl Abort, alloc: Global, device: &mut D, turns: &[Turn<'_>]) {
+fn expect_on<D: Device>(rt: &impl Abort, alloc: Global, device: &mut D, turns: &[Turn<'_>]) {
     for (deed, end) in turns {
         let mut out = Sink::new(Vec::new(alloc));
         let status = match deed {

@@ -4,11 +4,14 @@ use Rattle.std.proofs.lemmas.Bool.{cases_Bool}
 use Rattle.std.proofs.lemmas.List.{map-append, length-map, append-nil}
 use Rattle.patch_model.specs.Step.{Step}
 use Rattle.patch_model.specs.Execution.{Execution, followed_by}
-use Rattle.patch_model.specs.Crash.{HasTrail, MayLeave}
+use Rattle.patch_model.specs.Crash.{MayLeave}
+use Rattle.patch_device.specs.Device.{elapses_still}
+use Rattle.patch_device.specs.SameDevice.{LeavesOnly}
 use Rattle.patch_device.specs.declared.devices.Device.{Ghosts}
 use Rattle.patch_cache.specs.Contents.{Contents}
 use Rattle.patch_cache.specs.Asks.{Ask as CacheAsk, Answer as CacheAnswer, after, extended_by, step_for, step_added, steps_added, listed}
 use Rattle.patch_cache.specs.Asks as cache
+use Rattle.patch_cache.specs.Joining.{SafeJoin}
 use Rattle.patch_cache.specs.Running.{IsCrashSafe, CountFaults, HaveWritten}
 use Rattle.patch_cache.specs.declared.flights.Flights.{Flights}
 use Rattle.patch_plans.specs.Groups.{Groups}
@@ -19,28 +22,15 @@ use Rattle.patch_group.specs.declared.asks.GroupAnswer.{GroupAnswer as CodeAnswe
 use Rattle.patch_group.proofs.Asking.{after_append}
 use Rattle.patch_group.proofs.Keeping.{get_or-map}
 
-abbrev pub TrailsJoin : Type 0
-TrailsJoin = (run : Execution) (more : List Step) (from : ℕ) (disks later : List (List (List ℕ))) (counts next : List ℕ)
-    → HasTrail run from disks counts → HasTrail (followed_by run more) (length run.steps) later next
-    → HasTrail (followed_by run more) from (disks ++ later) (counts ++ next)
-
 -- on a device that is as before, with an execution that is
-pub unmoved : (run : Execution) (had : List (List (List ℕ))) (contents : List (List ℕ)) → MayLeave run contents → IsCrashSafe run run had had contents
-unmoved run had contents left = record { disks = []; counts = []; added = sym (append-nil had); trail = omega arith; left = left }
+pub unmoved : {D : Type 0} (g : Ghosts D) (run : Execution) (device : D) → LeavesOnly g device (MayLeave run) → IsCrashSafe g run run device device
+unmoved g run device left = record { time = elapses_still (g.moment device) (g.left_at device); counts = []; moments = omega arith; trail = omega arith; left = left }
 
 -- one call after another
-joined : TrailsJoin → (a b c : Execution) (more : List Step) (had had_between had_now : List (List (List ℕ))) (contents contents_now : List (List ℕ)) → c ≡ followed_by b more
-    → IsCrashSafe a b had had_between contents → IsCrashSafe b c had_between had_now contents_now → IsCrashSafe a c had had_now contents_now
-joined join a b c more had had_between had_now contents contents_now follows first second = record {
-  disks = first.disks ++ second.disks;
-  counts = first.counts ++ second.counts;
-  added = second.added ∙ ap (λ h. h ++ second.disks) first.added ∙ append_assoc had first.disks second.disks;
-  trail =
-      let later : HasTrail (followed_by b more) (length b.steps) second.disks second.counts = subst (λ r. HasTrail r (length b.steps) second.disks second.counts) follows second.trail in
-      subst (λ r. HasTrail r (length a.steps) (first.disks ++ second.disks) (first.counts ++ second.counts)) (sym follows)
-      (join b more (length a.steps) first.disks second.disks first.counts second.counts first.trail later);
-  left = second.left;
-}
+joined : {D : Type 0} (g : Ghosts D) → SafeJoin g → (a b c : Execution) (more : List Step) (before mid now : D) → c ≡ followed_by b more
+    → IsCrashSafe g a b before mid → IsCrashSafe g b c mid now → IsCrashSafe g a c before now
+joined g join a b c more before mid now follows first second =
+    subst (λ r. IsCrashSafe g a r before now) (sym follows) (join a b more before mid now first (subst (λ r. IsCrashSafe g b r mid now) follows second))
 
 -- Steps of parts.
 
@@ -86,13 +76,13 @@ idle g run contents flights groups device stands = record {
   stands = stands;
   faults = refl;
   written = λ honest. refl;
-  crash = λ honest left. unmoved run (g.had device) (g.contents device) left;
+  crash = λ honest left. unmoved g run device left;
 }
 
-pub both : TrailsJoin → {A D : Type 0} (g : Ghosts D) (run : Execution) (ps qs : List Part) (contents next : Contents) (flights more : Flights A) (groups now : Groups) (device between after : D)
+pub both : {A D : Type 0} (g : Ghosts D) → SafeJoin g → (run : Execution) (ps qs : List Part) (contents next : Contents) (flights more : Flights A) (groups now : Groups) (device between after : D)
     → (g.is_honest device → g.is_honest between)
     → HasPassed g run ps contents flights groups device between → HasPassed g (after_parts run ps) qs next more now between after → HasPassed g run (ps ++ qs) next more now device after
-both join g run ps qs contents next flights more groups now device between after honesty first second =
+both g join run ps qs contents next flights more groups now device between after honesty first second =
     let flat : after_parts run (ps ++ qs) ≡ after_parts (after_parts run ps) qs = after_append run ps qs in
     record {
       stands = subst (RunsWith g next more now after) (sym flat) second.stands;
@@ -100,8 +90,8 @@ both join g run ps qs contents next flights more groups now device between after
       written = λ honest. written_append run ps qs _ _ _ (first.written honest) (second.written (honesty honest));
       crash = λ honest left.
           let one = first.crash honest left in
-          subst (λ r. IsCrashSafe run r (g.had device) (g.had after) (g.contents after)) (sym flat)
-          (joined join run (after_parts run ps) (after_parts (after_parts run ps) qs) (steps_of qs) _ _ _ _ _ (parts_follow (after_parts run ps) qs) one (second.crash (honesty honest) one.left));
+          subst (λ r. IsCrashSafe g run r device after) (sym flat)
+          (joined g join run (after_parts run ps) (after_parts (after_parts run ps) qs) (steps_of qs) device between after (parts_follow (after_parts run ps) qs) one (second.crash (honesty honest) one.left));
     }
 
 -- Lists of asks.
@@ -168,13 +158,13 @@ begun_run g run gs asks contents flights device stands = record {
   passed = subst (λ ps. HasPassed g run ps contents flights gs device device) (sym (parts_none gs asks)) (idle g run contents flights gs device stands);
 }
 
-pub stepped_run : TrailsJoin → {A D : Type 0} (g : Ghosts D) (run : Execution) (gs : Groups) (asks : List (CodeAsk A)) (answers : List (CodeAnswer A)) (ask : CodeAsk A) (answer : CodeAnswer A)
+pub stepped_run : {A D : Type 0} (g : Ghosts D) → SafeJoin g → (run : Execution) (gs : Groups) (asks : List (CodeAsk A)) (answers : List (CodeAnswer A)) (ask : CodeAsk A) (answer : CodeAnswer A)
     (contents next : Contents) (flights more : Flights A) (mid now : Groups) (device between after : D) → length answers < length asks → get_or asks (length answers) ask ≡ ask
     → mid ≡ groups_after_all gs (asks_of asks) (map group_answer_of answers) → (g.is_honest device → g.is_honest between)
     → HasGroupRun g run gs (asks_of asks) (map group_answer_of answers) contents flights mid device between
     → IsGroupAnswered g (run_after_all run gs (asks_of asks) (map group_answer_of answers)) mid (group_ask_of ask) (group_answer_of answer) next more now between after
     → HasGroupRun g run gs (asks_of asks) (map group_answer_of (answers ++ answer ∷ [])) next more now device after
-stepped_run join g run gs asks answers ask answer contents next flights more mid now device between after within at are honesty so_far one =
+stepped_run g join run gs asks answers ask answer contents next flights more mid now device between after within at are honesty so_far one =
     let given : List Answer = map group_answer_of answers in
     let wanted : List Ask = asks_of asks in
     let long : length given ≡ length answers = length-map answers group_answer_of in
@@ -182,7 +172,7 @@ stepped_run join g run gs asks answers ask answer contents next flights more mid
     let last : Execution = run_after_all run gs wanted given in
     let is : map group_answer_of (answers ++ answer ∷ []) ≡ given ++ group_answer_of answer ∷ [] = map-append group_answer_of answers (answer ∷ []) in
     let turns = next_code gs asks answers ask answer within at in
-    let done = both join g run (parts gs wanted given) (part_of mid (group_ask_of ask) (group_answer_of answer)) contents next flights more mid now device between after honesty so_far.passed one.passed in
+    let done = both g join run (parts gs wanted given) (part_of mid (group_ask_of ask) (group_answer_of answer)) contents next flights more mid now device between after honesty so_far.passed one.passed in
     let is_parts : parts gs wanted (map group_answer_of (answers ++ answer ∷ [])) ≡ parts gs wanted given ++ part_of mid (group_ask_of ask) (group_answer_of answer) =
     ap (λ xs. parts gs wanted xs) is ∙ turns.parts_are ∙ ap (λ s. parts gs wanted given ++ part_of s (group_ask_of ask) (group_answer_of answer)) (sym are) in
     record {

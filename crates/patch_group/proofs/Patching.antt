@@ -13,6 +13,8 @@ use Rattle.patch_model.specs.Legal.{IsLegal, IsLegalStep, AreLegal}
 use Rattle.patch_model.specs.History.{history_of, image}
 use Rattle.patch_model.specs.Refusing.{bare}
 use Rattle.patch_model.specs.Crash.{MayLeave}
+use Rattle.patch_device.specs.Device.{elapses_still}
+use Rattle.patch_device.specs.SameDevice.{LeavesOnly}
 use Rattle.patch_device.specs.declared.devices.Device.{Ghosts}
 use Rattle.patch_device.specs.Device.{HasRisen}
 use Rattle.patch_cache.specs.Contents.{Contents}
@@ -60,15 +62,15 @@ longer : (run : Execution) (step : Step) → length run.steps ≤ length (extend
 longer run step = let e : length (run.steps ++ step ∷ []) ≡ length run.steps + 1 = length-append run.steps (step ∷ []) in omega (arith, e)
 
 -- the disk may be left as it is with a patch more
-made_unless : DisksStay → (run : Execution) (refused : Bool) (step : Step) (had : List (List (List ℕ))) (contents : List (List ℕ)) → ((block : ℕ) → step ≢ the.Complete block)
-    → IsLegal run → IsLegal (if refused then run else extended run step) → MayLeave run contents → IsCrashSafe run (if refused then run else extended run step) had had contents
-made_unless stay run true step had contents other legal longer_legal left = unmoved run had contents left
-made_unless stay run false step had contents other legal longer_legal left = record {
-  disks = [];
+made_unless : DisksStay → {D : Type 0} (g : Ghosts D) (run : Execution) (refused : Bool) (step : Step) (device : D) → ((block : ℕ) → step ≢ the.Complete block)
+    → IsLegal run → IsLegal (if refused then run else extended run step) → LeavesOnly g device (MayLeave run) → IsCrashSafe g run (if refused then run else extended run step) device device
+made_unless stay g run true step device other legal longer_legal left = unmoved g run device left
+made_unless stay g run false step device other legal longer_legal left = record {
+  time = elapses_still (g.moment device) (g.left_at device);
   counts = [];
-  added = sym (append-nil had);
+  moments = omega arith;
   trail = longer run step;
-  left = stay run step contents legal (legal_last (length run.first) at_first run.steps step longer_legal.steps) other left;
+  left = λ disk may. stay run step disk legal (legal_last (length run.first) at_first run.steps step longer_legal.steps) other (left disk may);
 }
 
 -- and the held flights stay
@@ -109,9 +111,9 @@ module _ (ext : StatesExtend) (numbered : AreNumbered) where
   -- an ask of the cache
   pub plain : {A D : Type 0} (g : Ghosts D) (run : Execution) (gs : Groups) (ask : CacheAsk) (answer : CacheAnswer) (contents now : Contents) (flights held : Flights A) (device device_now : D)
       → RunsWith g contents flights gs device run → IsAnswered run ask answer now held → g.block_count device_now ≡ g.block_count device → g.fault_count device ≤ g.fault_count device_now
-      → (answer ≡ cache.Refused (bare kind.Fault) → HasRisen (g.fault_count device) (g.fault_count device_now))
+      → (cache.IsFault answer → HasRisen (g.fault_count device) (g.fault_count device_now))
       → (g.is_honest device → HasWritten run ask answer (g.contents device) (g.contents device_now))
-      → (g.is_honest device → MayLeave run (g.contents device) → IsCrashSafe run (after run ask answer) (g.had device) (g.had device_now) (g.contents device_now))
+      → (g.is_honest device → LeavesOnly g device (MayLeave run) → IsCrashSafe g run (after run ask answer) device device_now)
       → IsGroupAnswered g run gs (Plain ask) (Plain answer) now held gs device device_now
   plain g run gs ask answer contents now flights held device device_now r one count kept met written crash =
       let right : IsGroupAnswer run gs (Plain ask) (Plain answer) ⊎ IsGroupGivenUp run gs (Plain ask) (Plain answer) = elim one.right [ inl x ↦ inl x | inr x ↦ inr x ] in
@@ -143,23 +145,23 @@ module _ (ext : StatesExtend) (numbered : AreNumbered) where
           };
           faults = rw none refl;
           written = λ honest. rw none refl;
-          crash = λ honest left. subst (λ s. IsCrashSafe run s (g.had device) (g.had device) (g.contents device)) (sym still) (unmoved run (g.had device) (g.contents device) left);
+          crash = λ honest left. subst (λ s. IsCrashSafe g run s device device) (sym still) (unmoved g run device left);
         };
       }
 
   -- a patch of a writer
   pub patched : FlyingStays → ImagesStay → DisksStay → {A D : Type 0} (g : Ghosts D) (run : Execution) (gs now : Groups) (writer block start : ℕ) (bytes names : List ℕ) (undo : Undo) (answer : Answer)
       (contents next : Contents) (flights : Flights A) (device : D) → RunsWith g contents flights gs device run → IsPatched run gs (Patch writer block start bytes names undo) answer next
-      → now ≡ groups_after gs (Patch writer block start bytes names undo) answer → answer ≢ Plain (cache.Refused (bare kind.Fault))
+      → now ≡ groups_after gs (Patch writer block start bytes names undo) answer → ((told : CacheAnswer) → answer ≡ Plain told → cache.IsFault told → ⊥)
       → IsGroupAnswered g run gs (Patch writer block start bytes names undo) answer next flights now device device
   patched flying images stay g run gs now writer block start bytes names undo answer contents next flights device r one same other =
       let is = patch_told run gs writer block start bytes names undo answer one.right in
       subst (λ a. IsGroupAnswered g run gs (Patch writer block start bytes names undo) a next flights now device device) (sym is.1)
       (of_cache is.0 (subst (λ a. IsPatched run gs (Patch writer block start bytes names undo) a next) is.1 one)
-      (subst (λ a. now ≡ groups_after gs (Patch writer block start bytes names undo) a) is.1 same) (λ e. other (is.1 ∙ ap Plain e)))
+      (subst (λ a. now ≡ groups_after gs (Patch writer block start bytes names undo) a) is.1 same) (λ e. other is.0 is.1 e))
     where
       of_cache : (a : CacheAnswer) → IsPatched run gs (Patch writer block start bytes names undo) (Plain a) next → now ≡ groups_after gs (Patch writer block start bytes names undo) (Plain a)
-          → a ≢ cache.Refused (bare kind.Fault) → IsGroupAnswered g run gs (Patch writer block start bytes names undo) (Plain a) next flights now device device
+          → (cache.IsFault a → ⊥) → IsGroupAnswered g run gs (Patch writer block start bytes names undo) (Plain a) next flights now device device
       of_cache a whole are faultless =
           let ask : Ask = Patch writer block start bytes names undo in
           record {
@@ -177,7 +179,7 @@ module _ (ext : StatesExtend) (numbered : AreNumbered) where
               };
               faults = (g.fault_count device, record { kept = omega arith; met = λ e. absurd (faultless e) }, refl);
               written = λ honest. (g.contents device, refl, refl);
-              crash = λ honest left. made_unless stay run (cache.is_refused a) (the.Create block start bytes (named gs (Some writer) names) undo) (g.had device) (g.contents device) (λ b e. absurd (cc e))
+              crash = λ honest left. made_unless stay g run (cache.is_refused a) (the.Create block start bytes (named gs (Some writer) names) undo) device (λ b e. absurd (cc e))
                   r.on.runs.cache_is.legal whole.cache_is.legal left;
             };
           }

@@ -39,13 +39,12 @@ pub went_both : SinceJoin → {A : Type 0} → StretchesJoin A → (run : Execut
 went_both joins stretches run old mid now before after one two first second =
     subst (λ s. HasGoneOn run s now after) (sym (joins old mid now one two).1) (stretches run (steps_since old mid) (steps_since mid now) mid now before after first second)
 
-pub keeps_both : SinceJoin → KeptJoin → {A : Type 0} → (old mid now : Contents) (flights held : Flights A) (had had_between had_now : List (List (List ℕ))) (contents contents_between contents_now : List (List ℕ))
+pub keeps_both : SinceJoin → {A D : Type 0} → (g : Ghosts D) → KeptJoin g → (old mid now : Contents) (flights held : Flights A) (first between last : D)
     → Continues old mid → Continues mid now → ((run : Execution) → Runs old flights run → HasGoneOn run (steps_since old mid) mid held)
-    → KeepsDisk old mid flights had had_between contents contents_between → KeepsDisk mid now held had_between had_now contents_between contents_now
-    → KeepsDisk old now flights had had_now contents contents_now
-keeps_both joins kept old mid now flights held had had_between had_now contents contents_between contents_now one two ran first second run r =
-    subst (λ s. HasKept run s had had_now contents contents_now) (sym (joins old mid now one two).1)
-    (kept run (steps_since old mid) (steps_since mid now) had had_between had_now contents contents_between contents_now (first run r) (second (followed_by run (steps_since old mid)) (ran run r).runs))
+    → KeepsDisk g old mid flights first between → KeepsDisk g mid now held between last → KeepsDisk g old now flights first last
+keeps_both joins g kept old mid now flights held first between last one two ran before after run r =
+    subst (λ s. HasKept g run s first last) (sym (joins old mid now one two).1)
+    (kept run (steps_since old mid) (steps_since mid now) first between last (before run r) (after (followed_by run (steps_since old mid)) (ran run r).runs))
 
 pub flat : (run : Execution) (a b : List Step) → followed_by (followed_by run a) b ≡ followed_by run (a ++ b)
 flat run a b = ap (λ steps. let v : Execution = record { first = run.first; steps = steps } in v) (append_assoc run.steps a b)
@@ -142,10 +141,12 @@ pub write_stops : {A D T : Type 0} (S : Type 0) (g : Ghosts D) (r : Result T Flu
     → IfGivenUp {T = S} g (Err e) flights before now → IfGivenUp g r flights before now
 write_stops S g (Ok x) e flights before now is told = absurd is
 write_stops {T = T} S g (Err f) (flush.DeviceGaveUp block) flights before now is told = subst (λ x. IfGivenUp {T = T} g (Err x) flights before now) (sym is) told
+write_stops {T = T} S g (Err f) flush.SyncFailed flights before now is told = subst (λ x. IfGivenUp {T = T} g (Err x) flights before now) (sym is) told
 write_stops {T = T} S g (Err f) flush.OutOfMemory flights before now is told = subst (λ x. IfGivenUp {T = T} g (Err x) flights before now) (sym is) tt
 
 pub sync_stops : {A D T : Type 0} (S : Type 0) (g : Ghosts D) (r : Result T SyncRefusal) (e : FlushRefusal) (flights : Flights A) (before now : D) → IsErrAnd r (λ f. f ≡ sync_of_flush e)
     → IfGivenUp {T = S} g (Err e) flights before now → IfSyncStops g r flights before now
 sync_stops S g (Ok x) e flights before now is told = absurd is
 sync_stops {T = T} S g (Err f) (flush.DeviceGaveUp block) flights before now is told = subst (λ x. IfSyncStops {T = T} g (Err x) flights before now) (sym is) told
+sync_stops {T = T} S g (Err f) flush.SyncFailed flights before now is told = subst (λ x. IfSyncStops {T = T} g (Err x) flights before now) (sym is) told
 sync_stops {T = T} S g (Err f) flush.OutOfMemory flights before now is told = subst (λ x. IfSyncStops {T = T} g (Err x) flights before now) (sym is) tt

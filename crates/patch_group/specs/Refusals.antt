@@ -24,11 +24,13 @@ group_cause group.OutOfMemory = bare kind.OutOfMemory
 abbrev pub sync_cause : SyncRefusal → Cause
 sync_cause sync.NoSuchGroup = bare kind.NoSuchGroup
 sync_cause (sync.DeviceGaveUp block) = with_number kind.DeviceGaveUp block
+sync_cause sync.SyncFailed = bare kind.SyncFailed
 sync_cause sync.OutOfMemory = bare kind.OutOfMemory
 
 -- the refusal of a write, as one of a sync
 abbrev pub sync_of_flush : FlushRefusal → SyncRefusal
 sync_of_flush (flush.DeviceGaveUp block) = sync.DeviceGaveUp block
+sync_of_flush flush.SyncFailed = sync.SyncFailed
 sync_of_flush flush.OutOfMemory = sync.OutOfMemory
 
 -- a patch is refused for this cause, or for want of memory, also where there is one

@@ -94,4 +94,4 @@ pub record IsPatched (run : Execution) (gs : Groups) (ask : Ask) (answer : Answe
 pub record HasPatched (gs : Groups) (ask : Ask) (answer : Answer) (now : Groups) (trace trace_now : List Step) : Type 0 where
   pub groups_are : now ≡ groups_after gs ask answer
   pub trace_is : trace_now ≡ trace ++ steps_of (part_of gs ask answer)
-  pub no_fault : answer ≢ Plain (cache.Refused (bare kind.Fault))
+  pub no_fault : (told : cache.Answer) → answer ≡ Plain told → cache.IsFault told → ⊥

@@ -3,11 +3,13 @@ use Rattle.std.specs.Prelude.{ℕ, ◌≡◌, ◌<◌, List, [], ◌∷◌, IsTr
 use Rattle.patch_model.specs.Step.{Step, Send, Complete}
 use Rattle.patch_model.specs.Execution.{Execution, extended, followed_by}
 use Rattle.patch_model.specs.State.{entries_of, state_of, has_flight}
+use Rattle.patch_device.specs.Device.{HasRisen}
 use Rattle.patch_device.specs.declared.devices.Device.{Ghosts}
 use Rattle.patch_cache.specs.Contents.{Contents}
 use Rattle.patch_cache.specs.Flights.{IsLeastReady}
-use Rattle.patch_cache.specs.Refused.{HasRefusedFirst}
-use Rattle.patch_cache.specs.Waves.{steps_since, HasGivenUp, IsHeldFirst}
+use Rattle.patch_cache.specs.Refused.{HasRefusedHeld, HasNotSynced}
+use Rattle.patch_cache.specs.Running.{held_by}
+use Rattle.patch_cache.specs.Waves.{steps_since, HasGivenUp, IsHeld}
 use Rattle.patch_cache.specs.declared.flights.Flights.{Flights}
 use Rattle.patch_plans.specs.Groups.{Groups, is_pending}
 use Rattle.patch_group.specs.Runs.{RunsWith}
@@ -43,23 +45,27 @@ abbrev pub StandsAfter : {A D : Type 0} → Ghosts D → Groups → Contents →
 StandsAfter g groups cache flights device cache_now flights_now device_now =
     (run : Execution) → RunsWith g cache flights groups device run → RunsWith g cache_now flights_now groups device_now (followed_by run (steps_since cache cache_now))
 
--- an answer that the device gave up rests on as many faults as a write is tried
+-- an answer that the device gave up rests on as many faults as a write is tried, and one that a sync failed on one
 abbrev pub RisesIfSyncStops : {T : Type 0} → Result T SyncRefusal → ℕ → ℕ → Type 0
 RisesIfSyncStops (Ok done) before now = Unit {0}
 RisesIfSyncStops (Err sync.NoSuchGroup) before now = Unit {0}
 RisesIfSyncStops (Err (sync.DeviceGaveUp block)) before now = HasGivenUp before now
+RisesIfSyncStops (Err sync.SyncFailed) before now = HasRisen before now
 RisesIfSyncStops (Err sync.OutOfMemory) before now = Unit {0}
 
--- the flight of a block that the device gave up was refused as often as a write is tried, and nothing else was done behind that
+-- the flight of a block that the device gave up was refused as often as a write is tried, and nothing else was done behind that; and
+-- so was a sync that failed
 abbrev pub IfSyncStops : {A D T : Type 0} → Ghosts D → Result T SyncRefusal → Flights A → (before now : D) → Type 0
 IfSyncStops g (Ok done) flights before now = Unit {0}
 IfSyncStops g (Err sync.NoSuchGroup) flights before now = Unit {0}
-IfSyncStops g (Err (sync.DeviceGaveUp block)) flights before now = HasRefusedFirst g block flights before now
+IfSyncStops g (Err (sync.DeviceGaveUp block)) flights before now = HasRefusedHeld g block (held_by flights) before now
+IfSyncStops g (Err sync.SyncFailed) flights before now = HasNotSynced g before now
 IfSyncStops g (Err sync.OutOfMemory) flights before now = Unit {0}
 
 -- the flight of a block that the device gave up is held
 abbrev pub IsHeldIfSyncStops : {A T : Type 0} → Result T SyncRefusal → Flights A → Type 0
 IsHeldIfSyncStops (Ok done) flights = Unit {0}
 IsHeldIfSyncStops (Err sync.NoSuchGroup) flights = Unit {0}
-IsHeldIfSyncStops (Err (sync.DeviceGaveUp block)) flights = IsHeldFirst block flights
+IsHeldIfSyncStops (Err (sync.DeviceGaveUp block)) flights = IsHeld block flights
+IsHeldIfSyncStops (Err sync.SyncFailed) flights = Unit {0}
 IsHeldIfSyncStops (Err sync.OutOfMemory) flights = Unit {0}

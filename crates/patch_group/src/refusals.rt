@@ -2,7 +2,7 @@
 ghost use Rattle.std.specs.Prelude.{◌≡◌};
 ghost use Rattle.patch_group.specs.Refusals.{group_cause, sync_cause};
 
-use patch_cache::{DeviceGaveUp, FlushRefusal};
+use patch_cache::FlushRefusal;
 use patch_model::{BlockNo, OutOfMemory, Refusal, RefusalKind, Refuses};
 use std::alloc::AllocError;
 use thiserror::Error;
@@ -43,6 +43,9 @@ pub enum SyncRefusal {
     /// The device refused the write of this block [`TRIES`](patch_cache::TRIES) times. Its flight is held as before.
     #[error("DeviceGaveUp {0}")]
     DeviceGaveUp(BlockNo),
+    /// The device refused the sync behind a write, so that it may be lost. Its flight is held as before, and the device is spent.
+    #[error("SyncFailed")]
+    SyncFailed,
     #[error("OutOfMemory")]
     OutOfMemory,
 }
@@ -71,6 +74,7 @@ impl Refuses for SyncRefusal {
         match self {
             SyncRefusal::NoSuchGroup => RefusalKind::NoSuchGroup.bare(),
             SyncRefusal::DeviceGaveUp(block) => RefusalKind::DeviceGaveUp.with_number(block.0),
+            SyncRefusal::SyncFailed => RefusalKind::SyncFailed.bare(),
             SyncRefusal::OutOfMemory => RefusalKind::OutOfMemory.bare(),
         }
     }
@@ -106,16 +110,6 @@ impl From<OutOfMemory> for SyncRefusal {
     }
 }
 
-impl From<DeviceGaveUp> for SyncRefusal {
-    ghost use Rattle.patch_group.specs.declared.refusals.SyncRefusal.TheVariants.{DeviceGaveUp as GaveUp};
-
-    ghost from_gives = { λ r e. e ≡ GaveUp r.0 };
-
-    fn from(refusal: DeviceGaveUp) -> SyncRefusal {
-        SyncRefusal::DeviceGaveUp(refusal.0)
-    }
-}
-
 impl From<FlushRefusal> for SyncRefusal {
     ghost use Rattle.patch_group.specs.Refusals.{sync_of_flush};
 
@@ -124,6 +118,7 @@ impl From<FlushRefusal> for SyncRefusal {
     fn from(refusal: FlushRefusal) -> SyncRefusal {
         match refusal {
             FlushRefusal::DeviceGaveUp(block) => SyncRefusal::DeviceGaveUp(block),
+            FlushRefusal::SyncFailed => SyncRefusal::SyncFailed,
             FlushRefusal::OutOfMemory => SyncRefusal::OutOfMemory,
         }
     }

@@ -12,7 +12,7 @@ ghost use Rattle.patch_group.specs.Runs.{asks_of, group_ask_of, group_answer_of,
 use crate::asks::{GroupAnswer, GroupAsk};
 use crate::calls::Groups;
 use crate::laws;
-use patch_cache::{Answer, Cache, Flights};
+use patch_cache::{Answer, Cache, Flights, laws as cache_laws};
 use patch_device::Device;
 use patch_model::{
     BlockNo, Bytes, GroupNo, Numbers, OutOfMemory, PatchNo, Refuses, Undo, WriterNo,
@@ -54,7 +54,7 @@ impl<A: Allocator + Copy> Groups<A> {
         ensures in_order { GroupsInOrder }
     {
         laws::promise();
-        model_laws::trails_join();
+        cache_laws::crashes_join::<D>();
         let mut answers = Vec::new(self.alloc);
         for ask in asks {
             if let Err(_) = answers.reserve(1) {

@@ -4,7 +4,7 @@ ghost use Rattle.patch_model.specs.declared.refusals.RefusalKind.TheVariants as 
 ghost use Rattle.patch_model.specs.Execution.{Execution, followed_by};
 ghost use Rattle.patch_model.specs.State.{entries_of};
 ghost use Rattle.patch_model.specs.Refusing.{bare};
-ghost use Rattle.patch_device.specs.SameDevice.{IsSameDevice};
+ghost use Rattle.patch_device.specs.SameDevice.{IsSameDevice, IsLasting};
 ghost use Rattle.patch_cache.specs.Meaning.{Represents};
 ghost use Rattle.patch_cache.specs.Running.{Runs, RunsOn, held_by};
 ghost use Rattle.patch_cache.specs.Refused.{IfGivenUp};
@@ -23,9 +23,9 @@ use patch_model::{GroupNo, PatchNo, laws as model_laws};
 use patch_plans::laws as plan_laws;
 use std::alloc::Allocator;
 
-/// Brings all patches of the group to the disk: completes all held flights, and then begins a write of the least block of
-/// which one can begin, writes it out and completes it, until nothing of the group is pending. Where the device gives a
-/// flight up, it and those behind it are held as before; what was completed stays so.
+/// Brings all patches of the group to the disk: writes out all held flights, syncs the device and completes them, and then begins a
+/// write of the least block of which one can begin, writes it out, syncs and completes it, until nothing of the group is pending.
+/// Where the device gives a flight up, or a sync fails, the flights are held as before; what was completed stays so.
 pub fn sync<A: Allocator + Copy, D: Device>(
     groups: &Groups<A>,
     cache: &mut Cache<A>,
@@ -37,8 +37,7 @@ pub fn sync<A: Allocator + Copy, D: Device>(
         → HasGoneOn run (steps_since cache.old cache.new) cache.new flights.new }
     ensures stands { StandsAfter D.Device groups.now cache.old flights.old device.old cache.new flights.new device.new }
     ensures trace { Continues cache.old cache.new }
-    ensures disk { D.is_honest device.old
-        → KeepsDisk cache.old cache.new flights.old (D.had device.old) (D.had device.new) (D.contents device.old) (D.contents device.new) }
+    ensures disk { D.is_honest device.old → KeepsDisk D.Device cache.old cache.new flights.old device.old device.new }
     ensures steps { (run : Execution) → Runs cache.old flights.old run
         → OnOk result (IsSynced (patches_of groups.now group) run (steps_since cache.old cache.new)) }
     ensures synced { (run : Execution) → Runs cache.old flights.old run
@@ -51,16 +50,17 @@ pub fn sync<A: Allocator + Copy, D: Device>(
         → RisesIfSyncStops result (D.fault_count device.old) (D.fault_count device.new) }
     ensures refused { (run : Execution) → RunsOn D.Device cache.old flights.old device.old run
         → IfSyncStops D.Device result flights.new device.old device.new }
-    ensures tries { D.is_honest device.old → length (D.had device.new)
-        ≤ length (D.had device.old) + TRIES * (length (held_by flights.old) + count_by is_send (steps_since cache.old cache.new)) }
+    ensures tries { D.moment device.new
+        ≤ D.moment device.old + (TRIES + 1) * (length (held_by flights.old) + count_by is_send (steps_since cache.old cache.new)) }
     ensures held { IsHeldIfSyncStops result flights.new }
     ensures landed { OnOk result (held_by flights.new ≡ []) }
+    ensures lasts { D.is_honest device.old → OnOk result (IsLasting D.Device device.old → IsLasting D.Device device.new) }
     ensures device { IsSameDevice D.Device device.old device.new }
 {
     model_laws::steps_extend();
     model_laws::ready_is_largest();
     cache_laws::traces_join();
-    cache_laws::stretches_join::<A>();
+    cache_laws::stretches_join::<A, D>();
     plan_laws::order_is_kept();
     if !groups.is_open(group) {
         return Err(SyncRefusal::NoSuchGroup);
@@ -82,8 +82,7 @@ fn write_all_of<A: Allocator + Copy, D: Device>(
     ensures ran { (run : Execution) → Runs cache.old flights.old run
         → HasGoneOn run (steps_since cache.old cache.new) cache.new flights.new }
     ensures trace { Continues cache.old cache.new }
-    ensures disk { D.is_honest device.old
-        → KeepsDisk cache.old cache.new flights.old (D.had device.old) (D.had device.new) (D.contents device.old) (D.contents device.new) }
+    ensures disk { D.is_honest device.old → KeepsDisk D.Device cache.old cache.new flights.old device.old device.new }
     ensures steps { (run : Execution) → Runs cache.old flights.old run → held_by flights.old ≡ []
         → OnOk result (IsSynced waiting.now run (steps_since cache.old cache.new)) }
     ensures done { (run : Execution) → Runs cache.old flights.old run → held_by flights.old ≡ []
@@ -92,16 +91,17 @@ fn write_all_of<A: Allocator + Copy, D: Device>(
         → RisesIfGivenUp result (D.fault_count device.old) (D.fault_count device.new) }
     ensures refused { (run : Execution) → RunsOn D.Device cache.old flights.old device.old run
         → IfGivenUp D.Device result flights.new device.old device.new }
-    ensures tries { D.is_honest device.old → held_by flights.old ≡ [] → length (D.had device.new)
-        ≤ length (D.had device.old) + TRIES * count_by is_send (steps_since cache.old cache.new) }
+    ensures tries { held_by flights.old ≡ [] → D.moment device.new
+        ≤ D.moment device.old + (TRIES + 1) * count_by is_send (steps_since cache.old cache.new) }
     ensures held { IsHeldIfGivenUp result flights.new }
     ensures landed { OnOk result (held_by flights.old ≡ [] → held_by flights.new ≡ []) }
+    ensures lasts { D.is_honest device.old → OnOk result (IsLasting D.Device device.old → IsLasting D.Device device.new) }
     ensures device { IsSameDevice D.Device device.old device.new }
 {
     model_laws::steps_extend();
     model_laws::ready_is_largest();
     cache_laws::traces_join();
-    cache_laws::stretches_join::<A>();
+    cache_laws::stretches_join::<A, D>();
     cache_laws::classes_are_few();
     let turns = u64::from(cache.live()) + 1;
     let mut at = 0;

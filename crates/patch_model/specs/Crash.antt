@@ -1,5 +1,5 @@
 -- What a crash may leave.
-use Rattle.std.specs.Prelude.{ℕ, Bool, ◌≡◌, ◌≤◌, ◌&&◌, ◌||◌, IsTrue, List, [], ◌∷◌, map, length, slice_set, Contains}
+use Rattle.std.specs.Prelude.{ℕ, suc, Bool, ◌≡◌, ◌≤◌, ◌&&◌, ◌||◌, IsTrue, List, [], ◌∷◌, map, length, slice_set, Contains}
 use Rattle.std.specs.List.{range_with_len}
 use Rattle.patch_model.specs.Execution.{Execution, cut}
 use Rattle.patch_model.specs.Entry.{Entry, is_durable, is_flight, is_among}
@@ -31,10 +31,9 @@ pub record MayLeave (run : Execution) (disk : List (List ℕ)) : Type 0 where
 abbrev pub with_image : Execution → ℕ → List (List ℕ) → List (List ℕ)
 with_image run block disk = slice_set disk block (image (history_of run block))
 
--- each contents is a disk that a crash may leave after as many steps as its count says; no count is below the one before
--- it, nor the first one below this one
-abbrev pub HasTrail : Execution → ℕ → List (List (List ℕ)) → List ℕ → Type 0
-HasTrail run from [] [] = from ≤ length run.steps
-HasTrail run from (disk ∷ disks) (n ∷ counts) = (from ≤ n) × MayLeave (cut n run) disk × HasTrail run n disks counts
-HasTrail run from [] (n ∷ counts) = ⊥
-HasTrail run from (disk ∷ disks) [] = ⊥
+-- Of the moments from this one on, one for each count: what is left at a moment are disks that a crash may leave after as many
+-- steps as its count says; no count is below the one before it, nor the first one below this one.
+abbrev pub HasTrail : Execution → (left_at : ℕ → List (List ℕ) → Type 0) → (moment from : ℕ) → List ℕ → Type 0
+HasTrail run left_at moment from [] = from ≤ length run.steps
+HasTrail run left_at moment from (n ∷ counts) =
+    (from ≤ n) × ((disk : List (List ℕ)) → left_at moment disk → MayLeave (cut n run) disk) × HasTrail run left_at (suc moment) n counts

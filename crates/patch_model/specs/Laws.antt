@@ -3,15 +3,14 @@ use Rattle.std.specs.Prelude.{ℕ, ◌≡◌, ◌≢◌, ◌+◌, ◌<◌, ◌�
 use Rattle.patch_model.specs.declared.blocks.TheConstants.{BLOCK}
 use Rattle.patch_model.specs.declared.limits.TheConstants.{MAX_PATCHES, MAX_LIVE}
 use Rattle.patch_model.specs.declared.patches.Undo.{Undo}
-use Rattle.patch_model.specs.Step.{Step, Create}
+use Rattle.patch_model.specs.Step.{Create}
 use Rattle.patch_model.specs.Pile.{end}
-use Rattle.patch_model.specs.Execution.{Execution, followed_by}
+use Rattle.patch_model.specs.Execution.{Execution}
 use Rattle.patch_model.specs.Entry.{Entry, is_live, is_memory, is_among}
 use Rattle.patch_model.specs.State.{fresh, entries_of, next_patch}
 use Rattle.patch_model.specs.Legal.{IsLegal, touch}
 use Rattle.patch_model.specs.History.{HoldsDependents, history_of}
 use Rattle.patch_model.specs.Orderly.{MeetAt, CoversIt}
-use Rattle.patch_model.specs.Crash.{HasTrail}
 use Rattle.patch_model.specs.Progress.{IsMade, history_after}
 
 -- the patch that is made is the last one of its block
@@ -66,10 +65,3 @@ TakenAreInMemory =
     (run : Execution) (block : ℕ) (names : List ℕ) (e : Entry) → IsLegal run
     → HoldsDependents (history_of run block) names → IsMade run e → IsTrue (is_among names e.class)
     → IsTrue (is_memory e) × (e.patch.block ≡ block)
-
--- the trails of two calls, one after the other, join to one
-abbrev pub TrailsJoin : Type 0
-TrailsJoin =
-    (run : Execution) (more : List Step) (from : ℕ) (disks later : List (List (List ℕ))) (counts next : List ℕ)
-    → HasTrail run from disks counts → HasTrail (followed_by run more) (length run.steps) later next
-    → HasTrail (followed_by run more) from (disks ++ later) (counts ++ next)

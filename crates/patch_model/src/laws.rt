@@ -19,7 +19,7 @@ ghost use Rattle.patch_model.specs.History.{History, of_block, history_of, witho
 ghost use Rattle.patch_model.specs.Orderly.{IsUnder, IsOrderly, IsNumbered, IsOrderlyBlock, MayJoin, MeetAt, IsClassUnder, left_behind};
 ghost use Rattle.patch_model.specs.Crash.{AreWhole, IsClosed, MayLeave, crash_set, with_image};
 ghost use Rattle.patch_model.specs.Progress.{IsMade, IsIdle, MayFollow, history_after, class_in, block_in, live_count, ready_in, ready_numbers, flying_numbers};
-ghost use Rattle.patch_model.specs.Laws.{MadeIsLast, MadeHereAlone, KeepsLimits, NoneComesBetween, ClassesLeaveNoGap, NearClassesTouch, TakenAreLast, TakenAreInMemory, TrailsJoin};
+ghost use Rattle.patch_model.specs.Laws.{MadeIsLast, MadeHereAlone, KeepsLimits, NoneComesBetween, ClassesLeaveNoGap, NearClassesTouch, TakenAreLast, TakenAreInMemory};
 ghost use Rattle.patch_model.specs.Piles.{NeighboursCommute, RearrangedAlike, MayComeLast, UncoveredByte, CoveredByte, TakenBack};
 
 // Piles.
@@ -297,11 +297,6 @@ pub fn crash_sets_are_closed()
 pub fn images_land()
     ensures { (run : Execution) (disk : List (List ℕ)) (block : ℕ) → block < length run.first → MayLeave run disk
         → MayLeave run (with_image run block disk) }
-{}
-
-/// The trails of two calls, one after the other, join to one.
-pub fn trails_join()
-    ensures { TrailsJoin }
 {}
 
 /// A crash before any step leaves the first bytes.

@@ -73,6 +73,7 @@ pub enum RefusalKind {
     ReadBack = 59,
     NoThread = 60,
     AlreadyVersion2 = 61,
+    SyncFailed = 64,
 }
 
 /// What any refusal comes to: its kind, and the number that goes with it.
@@ -176,6 +177,7 @@ impl RefusalKind {
             RefusalKind::ReadBack => "ReadBack",
             RefusalKind::NoThread => "NoThread",
             RefusalKind::AlreadyVersion2 => "AlreadyVersion2",
+            RefusalKind::SyncFailed => "SyncFailed",
         }
     }
 }

@@ -7,9 +7,9 @@ use std::sync::Wait;
 use std::sync::atomic::{AtomicBool, Ordering};
 use std::thread::Threads;
 
-/// The system's files, each locked as long as it is open. An open of one that another program has locked, by this type or by the
-/// library for C, is refused and told by [`LockedFiles::has_met_lock`]. The lock is the system's advisory one, of the open file: it
-/// goes with the program, however that ends.
+/// The system's files, each locked as long as it is open, but for directories: those are opened to let a name in them last. An open
+/// of one that another program has locked, by this type or by the library for C, is refused and told by
+/// [`LockedFiles::has_met_lock`]. The lock is the system's advisory one, of the open file: it goes with the program, however that ends.
 #[derive(Drop)]
 pub struct LockedFiles<'a, R> {
     files: &'a R,
@@ -51,7 +51,11 @@ impl<R: Files<File = File>> Files for LockedFiles<'_, R> {
     type Dir = R::Dir;
 
     fn open_file(&self, how: &OpenOptions, path: &str) -> io::Result<File> {
-        self.lock(self.files.open_file(how, path)?)
+        let file = self.files.open_file(how, path)?;
+        if file.metadata()?.is_dir() {
+            return Ok(file);
+        }
+        self.lock(file)
     }
 
     fn open_dir(&self, path: &str) -> io::Result<R::Dir> {

@@ -39,7 +39,7 @@ grouped core w at = subst (AreGroupsOf w.run) (sym at.groups) at.groups_are
 -- the answer of an ask that was served is right
 served_right : (run : Execution) (gs : Groups) (ask : Ask) (a : Answer) → IsServed a → IsGroupAnswer run gs ask a ⊎ IsGroupGivenUp run gs ask a → IsGroupAnswer run gs ask a
 served_right run gs ask a served (inl right) = right
-served_right run gs (Plain ask) (Plain a) served (inr up) = elim up.gives_up [ inl e ↦ absurd (served.cache_memory (ap plain e.0)) | inr e ↦ absurd (served.fault (ap plain e.0)) ]
+served_right run gs (Plain ask) (Plain a) served (inr up) = elim up.gives_up [ inl e ↦ absurd (served.cache_memory (ap plain e.0)) | inr e ↦ absurd (served.fault a refl e.0) ]
 served_right run gs (Plain ask) (GroupMade group) served (inr up) = absurd up
 served_right run gs (Plain ask) Done served (inr up) = absurd up
 served_right run gs (Plain ask) (Count count) served (inr up) = absurd up
@@ -57,7 +57,7 @@ either true x = refl
 either false x = refl
 
 -- what an ask of the cache has made of the disk
-disk_is : (run : Execution) (disk : List (List ℕ)) (ask : CacheAsk) (a : CacheAnswer) (old new : List (List ℕ)) → old ≡ disk → a ≢ cache.Refused (bare kind.Fault) → HasWritten run ask a old new
+disk_is : (run : Execution) (disk : List (List ℕ)) (ask : CacheAsk) (a : CacheAnswer) (old new : List (List ℕ)) → old ≡ disk → (cache.IsFault a → ⊥) → HasWritten run ask a old new
     → new ≡ (if cache.is_refused a then disk else written run disk ask)
 disk_is run disk (Create block start bytes after undo) a old new is fault wrote = wrote ∙ is ∙ sym (either (cache.is_refused a) disk)
 disk_is run disk (Merge x y) a old new is fault wrote = wrote ∙ is ∙ sym (either (cache.is_refused a) disk)
@@ -66,7 +66,7 @@ disk_is run disk (View block moves start len) a old new is fault wrote = wrote �
 disk_is run disk (Complete block) a old new is fault wrote = by (cache.is_refused a) wrote
   where
     by : (b : Bool) → (elim b as (λ _. Type 0) [
-      | true ↦ (new ≡ old) ⊎ ((a ≡ cache.Refused (bare kind.Fault)) × (new ≡ slice_set old block (image (history_of run block))))
+      | true ↦ (new ≡ old) ⊎ (cache.IsFault a × (new ≡ slice_set old block (image (history_of run block))))
       | false ↦ new ≡ slice_set old block (image (history_of run block))
     ]) → new ≡ (if b then disk else slice_set disk block (image (history_of run block)))
     by true (inl same) = same ∙ is
@@ -88,7 +88,7 @@ disk_of_parts : (run : Execution) (disk : List (List ℕ)) (p : Option CacheAsk)
     → HaveWritten run (cache_asks (parts_by p a)) (cache_answers (parts_by p a)) old new → new ≡ disk_by run disk p a
 disk_of_parts run disk None a call old new is served right wrote = wrote ∙ is ∙ sym (either (is_refused a) disk)
 disk_of_parts run disk (Some ask) (Plain a) call old new is served right wrote =
-    wrote.2 ∙ disk_is run disk ask a old wrote.0 is (λ e. served.fault (ap plain e)) wrote.1
+    wrote.2 ∙ disk_is run disk ask a old wrote.0 is (λ e. served.fault a refl e) wrote.1
 disk_of_parts run disk (Some ask) (GroupMade group) call old new is served right wrote = absurd right
 disk_of_parts run disk (Some ask) Done call old new is served right wrote = absurd right
 disk_of_parts run disk (Some ask) (Count count) call old new is served right wrote = absurd right

@@ -24,4 +24,4 @@ pub record IsAt (core : CachedDisk) (w : World) : Type 0 where
 pub record IsServed (answer : Answer) : Type 0 where
   pub memory : answer ≢ Refused (bare kind.OutOfMemory)
   pub cache_memory : answer ≢ Plain (cache.Refused (bare kind.OutOfMemory))
-  pub fault : answer ≢ Plain (cache.Refused (bare kind.Fault))
+  pub fault : (told : cache.Answer) → answer ≡ Plain told → cache.IsFault told → ⊥

@@ -2,7 +2,7 @@
 ghost use Rattle.std.specs.Prelude.{◌≡◌, ◌≢◌, IfOk};
 ghost use Rattle.patch_model.specs.declared.refusals.RefusalKind.TheVariants as kind;
 ghost use Rattle.patch_model.specs.Refusing.{bare};
-ghost use Rattle.patch_cache.specs.Asks.{answer_of, Refused};
+ghost use Rattle.patch_cache.specs.Asks.{answer_of, Refused, IsFault};
 ghost use Rattle.patch_group.specs.Runs.{group_answer_of};
 ghost use Rattle.patch_group.specs.declared.refusals.SyncRefusal.TheVariants as sync_refusal;
 ghost use Rattle.patch_script.specs.declared.answers.Answer.TheVariants as answer;
@@ -30,7 +30,7 @@ pub(crate) fn answer_of_ask(answer: GroupAnswer) -> Result<Answer, OutOfMemory>
 fn answer_of_cache(answer: patch_cache::Answer) -> Result<Answer, OutOfMemory>
     ensures is { IfOk result (λ line. line ≡ of_cache (answer_of answer)) }
     ensures memory { IfOk result (λ _. answer_of answer ≢ Refused (bare kind.OutOfMemory)) }
-    ensures fault { IfOk result (λ _. answer_of answer ≢ Refused (bare kind.Fault)) }
+    ensures fault { IfOk result (λ _. IsFault (answer_of answer) → ⊥) }
 {
     match answer {
         patch_cache::Answer::Made(no) => Ok(Answer::Made(no)),
@@ -49,10 +49,12 @@ fn answer_of_cache(answer: patch_cache::Answer) -> Result<Answer, OutOfMemory>
 fn answer_of_refusal(refusal: Refusal) -> Result<Answer, OutOfMemory>
     ensures is { IfOk result (λ line. line ≡ answer.Refused refusal) }
     ensures memory { IfOk result (λ _. refusal.kind ≢ kind.OutOfMemory) }
-    ensures fault { IfOk result (λ _. refusal.kind ≢ kind.Fault) }
+    ensures fault { IfOk result (λ _. IsFault (Refused refusal) → ⊥) }
 {
     match refusal.kind {
-        RefusalKind::OutOfMemory | RefusalKind::Fault => Err(OutOfMemory),
+        RefusalKind::OutOfMemory | RefusalKind::Fault | RefusalKind::SyncFailed => {
+            Err(OutOfMemory)
+        }
         _ => Ok(Answer::Refused(refusal)),
     }
 }
@@ -64,6 +66,8 @@ pub(crate) fn answer_of_sync_refusal(refusal: SyncRefusal) -> Result<Answer, Out
 {
     match refusal {
         SyncRefusal::NoSuchGroup => Ok(Answer::Refused(RefusalKind::NoSuchGroup.bare())),
-        SyncRefusal::DeviceGaveUp(_) | SyncRefusal::OutOfMemory => Err(OutOfMemory),
+        SyncRefusal::DeviceGaveUp(_) | SyncRefusal::SyncFailed | SyncRefusal::OutOfMemory => {
+            Err(OutOfMemory)
+        }
     }
 }

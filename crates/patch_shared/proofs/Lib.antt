@@ -3,5 +3,5 @@ pub mod Lengths
 pub mod Told
 pub mod Calls
 pub mod Served
-pub mod Ending
+pub mod Resting
 pub mod Joined

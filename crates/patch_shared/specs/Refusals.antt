@@ -7,6 +7,7 @@ use Rattle.patch_shared.specs.declared.faults.Cause.TheVariants as serving
 
 abbrev pub serve_cause : Cause → Refusal
 serve_cause (serving.DeviceGaveUp block) = with_number kind.DeviceGaveUp block
+serve_cause serving.SyncFailed = bare kind.SyncFailed
 serve_cause serving.Disagreed = bare kind.Disagreed
 serve_cause (serving.ReadBack block) = with_number kind.ReadBack block
 serve_cause serving.NoThread = bare kind.NoThread

@@ -1,13 +1,14 @@
 //! The threads that share a book: how they are started, and joined.
 ghost use Rattle.std.specs.Prelude.{ℕ, ◌≡◌, ◌+◌, ◌≤◌, length, vec_len, IfOk, IfErr, IfSome, sum_by};
 ghost use Rattle.patch_device.specs.SameDevice.{IsSameDevice};
-ghost use Rattle.patch_shared.specs.Serving.{RisesAtEnd};
+ghost use Rattle.patch_shared.specs.Serving.{CameTo, IsBare};
 
 use crate::bells::Bell;
+use crate::completing::{Completed, complete_all};
 use crate::desks::{Desk, Tally};
 use crate::faults::Cause;
 use crate::gates::Gate;
-use crate::working::{Completed, Flushed, Seat, Written, complete_all, flush_all, write_all};
+use crate::working::{Flushed, Seat, Written, flush_all, write_all};
 use patch_device::Device;
 use patch_history::{Command, Reply};
 use patch_model::WriterNo;
@@ -32,10 +33,9 @@ pub struct KeepsDevice<D: Device>(Snapshot<D>);
 
 impl<D: Device, T: Ledger> Promise<Completed<D, T>> for KeepsDevice<D> {
     ghost use Rattle.patch_device.specs.SameDevice.{IsSameDevice};
-    ghost use Rattle.patch_shared.specs.Serving.{RisesAtEnd};
+    ghost use Rattle.patch_shared.specs.Serving.{CameTo};
 
-    ghost kept_by = { λ p r. IsSameDevice D.Device p.0.value r.device
-        × RisesAtEnd r.end (D.fault_count p.0.value) (D.fault_count r.device) };
+    ghost kept_by = { λ p r. IsSameDevice D.Device p.0.value r.device × CameTo D.Device r.end p.0.value r.device };
 }
 
 /// A seat for each writer.
@@ -88,7 +88,7 @@ pub(crate) fn gathered<C: Ledger>(
     Some(lists)
 }
 
-/// Starts the threads, and joins them.
+/// Starts the threads, and joins them. As many writes are under way at a time as there are blocks: so much room is taken first.
 pub(crate) fn run_threads<
     D: Device + Drop + Send,
     G: Gate + Sync,
@@ -109,12 +109,15 @@ pub(crate) fn run_threads<
     blocks: usize,
 ) -> Result<Joined<D, C, S, T>, Cause>
     ensures device { IfOk result (λ j. IsSameDevice D.Device device j.completed.device) }
-    ensures gave_up { IfOk result (λ j. RisesAtEnd j.completed.end (D.fault_count device) (D.fault_count j.completed.device)) }
-    ensures other { IfErr result (λ cause. (block : ℕ) → cause ≡ Cause.DeviceGaveUp block → ⊥) }
+    ensures end { IfOk result (λ j. CameTo D.Device j.completed.end device j.completed.device) }
+    ensures other { IfErr result IsBare }
 {
     let bell = Bell::new(jobs.len());
     let bell = &bell;
     let Ok((to, from)) = crossbeam_channel::bounded(alloc, blocks) else {
+        return Err(Cause::OutOfMemory);
+    };
+    let Ok(landed) = Vec::with_capacity(alloc, blocks) else {
         return Err(Cause::OutOfMemory);
     };
     thread::scope(
@@ -122,12 +125,12 @@ pub(crate) fn run_threads<
         rt,
         move |scope| -> Result<Joined<D, C, S, T>, Cause>
             ensures device { IfOk result (λ j. IsSameDevice D.Device device j.completed.device
-                × RisesAtEnd j.completed.end (D.fault_count device) (D.fault_count j.completed.device)) }
-            ensures other { IfErr result (λ cause. (block : ℕ) → cause ≡ Cause.DeviceGaveUp block → ⊥) }
+                × CameTo D.Device j.completed.end device j.completed.device) }
+            ensures other { IfErr result IsBare }
         {
             let promise = KeepsDevice(Snapshot::of(&device));
             let Ok(completer) = scope.spawn_with(promise, move || {
-                complete_all(rt, desk, bell, gate, from, device, completions)
+                complete_all(rt, desk, bell, gate, from, landed, device, completions)
             }) else {
                 return Err(Cause::NoThread);
             };
@@ -168,7 +171,7 @@ fn run_writers<
     jobs: &'s [Vec<Command>],
     seats: Vec<Seat<C>>,
 ) -> Result<Vec<Written<C>>, Cause>
-    ensures other { IfErr result (λ cause. (block : ℕ) → cause ≡ Cause.DeviceGaveUp block → ⊥) }
+    ensures other { IfErr result IsBare }
 {
     let (writers, lack) = start_writers(scope, rt, alloc, desk, bell, gate, jobs, seats);
     let written = join_writers(rt, alloc, writers);
@@ -198,7 +201,7 @@ fn start_writers<
     jobs: &'s [Vec<Command>],
     seats: Vec<Seat<C>>,
 ) -> (Vec<JoinHandle<Written<C>>>, Option<Cause>)
-    ensures other { IfSome result.1 (λ cause. (block : ℕ) → cause ≡ Cause.DeviceGaveUp block → ⊥) }
+    ensures other { IfSome result.1 IsBare }
 {
     let mut writers = Vec::new(alloc);
     let mut short = writers.reserve(jobs.len()).is_err();
@@ -223,7 +226,7 @@ fn start_writers<
 
 /// Why not all writers were started, if they were not.
 fn lack_of(short: bool, started: bool) -> Option<Cause>
-    ensures other { IfSome result (λ cause. (block : ℕ) → cause ≡ Cause.DeviceGaveUp block → ⊥) }
+    ensures other { IfSome result IsBare }
 {
     if !started {
         Some(Cause::NoThread)
@@ -240,7 +243,7 @@ fn join_writers<C: Ledger + Send, R: Threads>(
     alloc: Global,
     writers: Vec<JoinHandle<Written<C>>>,
 ) -> Result<Vec<Written<C>>, Cause>
-    ensures other { IfErr result (λ cause. (block : ℕ) → cause ≡ Cause.DeviceGaveUp block → ⊥) }
+    ensures other { IfErr result IsBare }
 {
     let mut written = Vec::new(alloc);
     let mut short = false;

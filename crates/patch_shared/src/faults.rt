@@ -12,6 +12,9 @@ pub enum Cause {
     /// The device refused [`TRIES`](patch_cache::TRIES) times to write this block, or to read it back.
     #[error("DeviceGaveUp {0}")]
     DeviceGaveUp(BlockNo),
+    /// The device refused a sync. What was written since the last one may be lost, whatever a later sync says.
+    #[error("SyncFailed")]
+    SyncFailed,
     /// What the book holds isn't what the threads did.
     #[error("Disagreed")]
     Disagreed,
@@ -31,6 +34,7 @@ impl Refuses for Cause {
     fn refusal(self) -> Refusal {
         match self {
             Cause::DeviceGaveUp(block) => RefusalKind::DeviceGaveUp.with_number(block.0),
+            Cause::SyncFailed => RefusalKind::SyncFailed.bare(),
             Cause::Disagreed => RefusalKind::Disagreed.bare(),
             Cause::ReadBack(block) => RefusalKind::ReadBack.with_number(block.0),
             Cause::NoThread => RefusalKind::NoThread.bare(),
@@ -39,7 +43,7 @@ impl Refuses for Cause {
     }
 }
 
-/// A cause, and the device where it gave up. The store is lost.
+/// A cause, and the device where it gave up or refused a sync. The store is lost.
 #[derive(Drop)]
 pub struct ServeFault<D: Device> {
     pub cause: Cause,

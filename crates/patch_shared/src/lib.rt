@@ -2,7 +2,7 @@
 //!
 //! A [`Book`] is a store with the history of its calls, in `books`: its entries are in `entries`, who makes a call in `actors`, and
 //! copies of what is kept in `copying` and `blocks`. [`serve`] runs the threads over one book under a lock. It is in `serving`; how the threads
-//! are started and joined in `crew`, what each of them does in `working`, and what stands under the lock in `desks`. Flights go
+//! are started and joined in `crew`, what each of them does in `working` and `completing`, and what stands under the lock in `desks`. Flights go
 //! from one thread to another in `parcels`, `bells` wake the one that begins writes, and `gates` hold threads in tests.
 //! A device that fails is tried again in `trying`, and what the threads say they did is compared with the book in `comparing`.
 #![tactic(auto)]
@@ -12,6 +12,7 @@ mod bells;
 mod blocks;
 mod books;
 mod comparing;
+mod completing;
 mod copying;
 mod crew;
 mod desks;

@@ -1,22 +1,23 @@
 //! How several writers are served by one store.
-ghost use Rattle.std.specs.Prelude.{ℕ, List, ◌≡◌, ◌<◌, ◌≤◌, length, vec_len, map, sum_by, [], IfOk, IfErr, IfSome, IsNone, OnOk, true};
+ghost use Rattle.std.specs.Prelude.{ℕ, List, ◌≡◌, ◌<◌, ◌≤◌, length, vec_len, map, sum_by, [], IfOk, IfErr, IsNone, OnOk, MatchOption, true};
 ghost use Rattle.patch_device.specs.SameDevice.{IsSameDevice};
 ghost use Rattle.patch_cache.specs.Meaning.{Represents as IsCacheOf};
 ghost use Rattle.patch_store.specs.Flushing.{HoldCached};
 ghost use Rattle.patch_shared.specs.Kept.{IsKept, IsFresh, IsNew, run_of, no_counts};
 ghost use Rattle.patch_shared.specs.Telling.{AreTold, IsSettled, commands_in, replies_in};
-ghost use Rattle.patch_shared.specs.Serving.{RisesIf, RisesAtEnd, IsFaultWith, IsGivenBack, IsServed, book_of};
+ghost use Rattle.patch_shared.specs.Serving.{RestsOn, CameTo, StillLasts, IsFaultWith, IsGivenBack, IsServed, book_of};
 
 use crate::blocks::copy_cached;
 use crate::books::Book;
 use crate::comparing::{are_same_blocks, are_told};
+use crate::completing::Completed;
 use crate::crew::{Joined, gathered, run_threads, seats};
 use crate::desks::{Desk, Tally};
 use crate::entries::Rest;
 use crate::faults::{Cause, ServeFault};
 use crate::gates::Gate;
 use crate::trying::read_back;
-use crate::working::{Completed, End, Flushed};
+use crate::working::Flushed;
 use patch_device::Device;
 use patch_history::{Command, Reply};
 use patch_model::BlockBytes;
@@ -101,6 +102,7 @@ fn run_book<
     ensures commands { IfOk result (λ ran. length ran.book.calls ≡ sum_by (λ list. vec_len list) ran.replies.items) }
     ensures writes { IfOk result (λ ran. (ran.book.counts.flusher ≡ ran.sent) × (ran.book.counts.completer ≡ ran.completed)) }
     ensures device { IfOk result (λ ran. IsSameDevice D.Device device ran.device) }
+    ensures lasts { IfOk result (λ ran. StillLasts D.Device device ran.device) }
     ensures fault { IfErr result (IsFaultWith D.Device device) }
 {
     let (commands, mut all) = blanks.0.open::<C>();
@@ -141,6 +143,7 @@ fn run_desk<
     ensures parts { IfOk result (λ counted. all.new.parts ≡ length jobs.now) }
     ensures amount { IfOk result (λ counted. all.new.amount ≡ sum_by (λ list. vec_len list) counted.replies.items) }
     ensures device { IfOk result (λ counted. IsSameDevice D.Device device counted.device) }
+    ensures lasts { IfOk result (λ counted. StillLasts D.Device device counted.device) }
     ensures fault { IfErr result (IsFaultWith D.Device device) }
 {
     let Some(seats) = seats(alloc, all, jobs.len()) else {
@@ -176,8 +179,10 @@ fn sum_up<D: Device + Drop, C: Ledger, S: Ledger, T: Ledger>(
     ensures parts { IfOk result (λ counted. all.new.parts ≡ writers) }
     ensures amount { IfOk result (λ counted. all.new.amount ≡ sum_by (λ list. vec_len list) counted.replies.items) }
     ensures device { IfOk result (λ counted. counted.device ≡ joined.completed.device) }
+    ensures lasts { (first : D) → CameTo D.Device joined.completed.end first joined.completed.device
+        → OnOk result (StillLasts D.Device first joined.completed.device) }
     ensures fault { (first : D) → IsSameDevice D.Device first joined.completed.device
-        → RisesAtEnd joined.completed.end (D.fault_count first) (D.fault_count joined.completed.device)
+        → CameTo D.Device joined.completed.end first joined.completed.device
         → IfErr result (λ fault. IsGivenBack D.Device first fault.cause fault.device) }
 {
     let cause = cause_of(&joined);
@@ -216,14 +221,14 @@ fn sum_up<D: Device + Drop, C: Ledger, S: Ledger, T: Ledger>(
 fn cause_of<D: Device, C: Ledger, S: Ledger, T: Ledger>(
     joined: &Joined<D, C, S, T>,
 ) -> Option<Cause>
-    ensures cause { (before now : ℕ) → RisesAtEnd joined.now.completed.end before now → IfSome result (λ cause. RisesIf cause before now) }
+    ensures cause { (before now : D) → CameTo D.Device joined.now.completed.end before now
+        → MatchOption result (StillLasts D.Device before now) (λ cause. RestsOn D.Device cause before now) }
     ensures whole { IsNone result → joined.now.flushed.whole ≡ true }
 {
     match joined.completed.end {
-        End::GaveUp(block) => Some(Cause::DeviceGaveUp(block)),
-        End::Strange => Some(Cause::Disagreed),
-        End::Done if joined.flushed.whole => None,
-        End::Done => Some(Cause::OutOfMemory),
+        Err(cause) => Some(cause),
+        Ok(()) if joined.flushed.whole => None,
+        Ok(()) => Some(Cause::OutOfMemory),
     }
 }
 
@@ -292,6 +297,7 @@ fn finish<D: Device + Drop>(ran: Ran<D>) -> Result<Finished<D>, ServeFault<D>>
     ensures replies { IfOk result (λ finished. finished.replies ≡ ran.replies) }
     ensures holds { D.is_honest ran.device → IfOk result (λ finished. HoldCached (run_of ran.book) (D.contents finished.device)) }
     ensures device { IfOk result (λ finished. IsSameDevice D.Device ran.device finished.device) }
+    ensures lasts { IfOk result (λ finished. StillLasts D.Device ran.device finished.device) }
     ensures fault { IfErr result (IsFaultWith D.Device ran.device) }
 {
     let Ran {
@@ -313,14 +319,14 @@ fn finish<D: Device + Drop>(ran: Ran<D>) -> Result<Finished<D>, ServeFault<D>>
     })
 }
 
-/// The fault of this cause: the device goes with it where it gave up.
+/// The fault of this cause: the device goes with it where it gave up or refused a sync.
 fn with_device<D: Device + Drop>(cause: Cause, device: D) -> ServeFault<D>
     ensures cause { result.cause ≡ cause }
-    ensures back { (first : D) → IsSameDevice D.Device first device → RisesIf cause (D.fault_count first) (D.fault_count device)
+    ensures back { (first : D) → IsSameDevice D.Device first device → RestsOn D.Device cause first device
         → IsGivenBack D.Device first cause result.device }
 {
     match cause {
-        Cause::DeviceGaveUp(_) => ServeFault {
+        Cause::DeviceGaveUp(_) | Cause::SyncFailed => ServeFault {
             cause,
             device: Some(device),
         },
@@ -332,8 +338,8 @@ fn with_device<D: Device + Drop>(cause: Cause, device: D) -> ServeFault<D>
 /// they change to the device. So however they run, the replies are those of one writer who gave all commands in some order.
 ///
 /// The store has been opened and has made no patch and no group since; the device holds the blocks that it was opened on. At
-/// the end all patches are on the device, and each of its blocks was read back. After a fault the store is lost. A store's refusal
-/// is a reply, and its own want of memory too.
+/// the end all patches are on the device behind a sync, and each of its blocks was read back. After a fault the store is lost. A
+/// store's refusal is a reply, and its own want of memory too.
 ///
 /// It may wait: that it returns isn't promised.
 pub fn serve<D: Device + Drop + Send, G: Gate + Sync, R: Threads + Wait + Sync>(
@@ -353,6 +359,7 @@ pub fn serve<D: Device + Drop + Send, G: Gate + Sync, R: Threads + Wait + Sync>(
     ensures settled { IfOk result (λ finished. IsSettled (run_of (book_of finished))) }
     ensures holds { IfOk result (λ finished. D.is_honest finished.device → HoldCached (run_of (book_of finished)) (D.contents finished.device)) }
     ensures device { IfOk result (λ finished. IsSameDevice D.Device device finished.device) }
+    ensures lasts { IfOk result (λ finished. StillLasts D.Device device finished.device) }
     ensures fault { IfErr result (IsFaultWith D.Device device) }
 {
     serve_lists(rt, alloc, store, device, jobs.as_slice(), gate)

@@ -1,12 +1,14 @@
 //! Writes and reads of a device that may fail, tried again.
-ghost use Rattle.std.specs.Prelude.{ℕ, List, ◌≡◌, ◌<◌, length, slice_get, Some, IfOk, IfErr, OnOk, OnErr};
+ghost use Rattle.std.specs.Prelude.{ℕ, List, ◌≡◌, ◌<◌, length, slice_get, Some, IfErr, OnOk, OnErr};
 ghost use Rattle.patch_model.specs.Execution.{Execution};
 ghost use Rattle.patch_model.specs.History.{cached, history_of};
 ghost use Rattle.patch_device.specs.SameDevice.{IsSameDevice};
 ghost use Rattle.patch_cache.specs.Meaning.{Represents as IsCacheOf};
+ghost use Rattle.patch_cache.specs.declared.landing.TheConstants.{TRIES};
 ghost use Rattle.patch_cache.specs.Waves.{HasGivenUp};
+ghost use Rattle.patch_cache.specs.Refused.{AreRefused};
 ghost use Rattle.patch_store.specs.Flushing.{HoldCached};
-ghost use Rattle.patch_shared.specs.Serving.{RisesIfGivenUp};
+ghost use Rattle.patch_shared.specs.Serving.{RestsOn, StillLasts};
 
 use crate::blocks::cached_block;
 use crate::faults::Cause;
@@ -19,6 +21,7 @@ pub(crate) fn write_tried<D: Device>(device: &mut D, flight: Flight) -> Result<L
     requires { flight.block < D.block_count device.old }
     ensures device { IsSameDevice D.Device device.old device.new }
     ensures gave_up { OnErr result (HasGivenUp (D.fault_count device.old) (D.fault_count device.new)) }
+    ensures refused { OnErr result (AreRefused D.Device flight.block flight.image TRIES device.old device.new) }
 {
     let mut flight = flight;
     for _tried in 0..TRIES {
@@ -36,8 +39,9 @@ fn read_tried<D: Device>(device: &mut D, n: u32, into: &mut [u8]) -> Result<(), 
     requires whole { length into.old ≡ BLOCK }
     ensures device { IsSameDevice D.Device device.old device.new }
     ensures same { D.is_honest device.old → D.contents device.new ≡ D.contents device.old }
+    ensures moment { D.moment device.new ≡ D.moment device.old }
     ensures given { D.is_honest device.old → OnOk result (slice_get (D.contents device.old) n ≡ Some into.new) }
-    ensures gave_up { RisesIfGivenUp result (D.fault_count device.old) (D.fault_count device.new) }
+    ensures gave_up { IfErr result (λ cause. RestsOn D.Device cause device.old device.new) }
 {
     for _tried in 0..TRIES {
         if device.read(n, into).is_ok() {
@@ -52,9 +56,10 @@ fn compare_block<D: Device>(device: &mut D, cache: &Cache, n: u32) -> Result<(),
     requires known { n < D.block_count device.old }
     ensures device { IsSameDevice D.Device device.old device.new }
     ensures same { D.is_honest device.old → D.contents device.new ≡ D.contents device.old }
+    ensures moment { D.moment device.new ≡ D.moment device.old }
     ensures holds { D.is_honest device.old → (run : Execution) → IsCacheOf cache.now run → n < length run.first
         → OnOk result (slice_get (D.contents device.old) n ≡ Some (cached (history_of run n))) }
-    ensures gave_up { RisesIfGivenUp result (D.fault_count device.old) (D.fault_count device.new) }
+    ensures gave_up { IfErr result (λ cause. RestsOn D.Device cause device.old device.new) }
 {
     let mut bytes = [0u8; BLOCK];
     read_tried(device, n, &mut bytes)?;
@@ -67,9 +72,10 @@ fn compare_block<D: Device>(device: &mut D, cache: &Cache, n: u32) -> Result<(),
 /// Reads all blocks back, from the first on, and compares each with the cached one.
 pub(crate) fn read_back<D: Device>(device: &mut D, cache: &Cache) -> Result<(), Cause>
     ensures device { IsSameDevice D.Device device.old device.new }
+    ensures lasts { StillLasts D.Device device.old device.new }
     ensures holds { D.is_honest device.old → (run : Execution) → IsCacheOf cache.now run → D.block_count device.old ≡ length run.first
         → OnOk result (HoldCached run (D.contents device.new)) }
-    ensures gave_up { RisesIfGivenUp result (D.fault_count device.old) (D.fault_count device.new) }
+    ensures gave_up { IfErr result (λ cause. RestsOn D.Device cause device.old device.new) }
 {
     for n in 0..device.count() {
         compare_block(device, cache, n)?;

@@ -1,20 +1,15 @@
-//! What the threads do: one for each writer, one that begins writes, and one that does and ends them.
+//! What the threads do that change the store: one for each writer, and one that begins writes.
 ghost use Rattle.std.specs.Prelude.{◌≡◌, ◌+◌, ◌≤◌, vec_len, OnOk, OnErr};
 ghost use Rattle.patch_model.specs.declared.limits.TheConstants.{MAX_WRITER};
-ghost use Rattle.patch_device.specs.SameDevice.{IsSameDevice};
-ghost use Rattle.patch_shared.specs.Serving.{RisesAtEnd};
 
 use crate::actors::Actor;
 use crate::bells::Bell;
 use crate::desks::{Desk, Tally};
 use crate::gates::Gate;
 use crate::parcels::Parcel;
-use crate::trying::write_tried;
-use crossbeam_channel::{Receiver, Sender};
-use patch_cache::Flight;
-use patch_device::Device;
+use crossbeam_channel::Sender;
 use patch_history::{Command, Reply};
-use patch_model::{BlockNo, OutOfMemory, WriterNo};
+use patch_model::{OutOfMemory, WriterNo};
 use std::alloc::Global;
 use std::sync::ledger::Ledger;
 use std::sync::{Mutex, Wait};
@@ -43,22 +38,6 @@ pub struct Flushed<S: Ledger> {
     pub tally: Tally<S>,
     /// Whether it had memory to the end.
     pub whole: bool,
-}
-
-/// How the completer ended.
-#[derive(Clone, Copy, Debug, PartialEq, Eq)]
-pub enum End {
-    Done,
-    GaveUp(BlockNo),
-    Strange,
-}
-
-/// What the completer did. The device comes back with it.
-#[derive(Drop)]
-pub struct Completed<D: Device, T: Ledger> {
-    pub device: D,
-    pub tally: Tally<T>,
-    pub end: End,
 }
 
 impl<C: Ledger> Seat<C> {
@@ -169,76 +148,4 @@ pub fn flush_all<C: Ledger, S: Ledger, T: Ledger, G: Gate, R: Wait>(
         }
     }
     Flushed { tally, whole }
-}
-
-/// Does the writes that come, and ends them.
-pub fn complete_all<D: Device, C: Ledger, S: Ledger, T: Ledger, G: Gate, R: Wait>(
-    rt: &R,
-    desk: &Mutex<Desk<C, S, T>>,
-    bell: &Bell,
-    gate: &G,
-    from: Receiver<Parcel>,
-    mut device: D,
-    mut tally: Tally<T>,
-) -> Completed<D, T>
-    ensures device { IsSameDevice D.Device device result.device }
-    ensures gave_up { RisesAtEnd result.end (D.fault_count device) (D.fault_count result.device) }
-{
-    let mut end = End::Done;
-    let mut call = 0u64;
-    for _ in rt.forever() {
-        let Ok(parcel) = from.recv(rt) else {
-            break;
-        };
-        call = call.wrapping_add(1);
-        let flight = parcel.into_flight();
-        match complete_one(rt, desk, gate, call, flight, &mut device, &mut tally) {
-            End::Done => bell.land(rt),
-            fault => {
-                end = fault;
-                break;
-            }
-        }
-    }
-    if end != End::Done {
-        bell.stop(rt);
-    }
-    Completed { device, tally, end }
-}
-
-/// Does one write, and ends it: the end is that of the completer, unless the write is done. No lock is held while the device writes.
-fn complete_one<D: Device, C: Ledger, S: Ledger, T: Ledger, G: Gate, R: Wait>(
-    rt: &R,
-    desk: &Mutex<Desk<C, S, T>>,
-    gate: &G,
-    call: u64,
-    flight: Flight,
-    device: &mut D,
-    tally: &mut Tally<T>,
-) -> End
-    ensures device { IsSameDevice D.Device device.old device.new }
-    ensures gave_up { RisesAtEnd result (D.fault_count device.old) (D.fault_count device.new) }
-{
-    let block = flight.block();
-    if block.0 >= device.count() {
-        flight.abandon();
-        return End::Strange;
-    }
-    let landed = match write_tried(device, flight) {
-        Ok(landed) => landed,
-        Err(flight) => {
-            flight.abandon();
-            return End::GaveUp(block);
-        }
-    };
-    gate.before(Actor::Completer, call);
-    let done = desk.lock(rt).complete(landed, tally);
-    gate.after(Actor::Completer, call);
-    match done {
-        Ok(_) => End::Done,
-        Err(landed) => {
-            landed.abandon();
-            End::Strange
-        }
-    }
 }

@@ -24,6 +24,7 @@ mod devices;
 mod gates;
 mod memory;
 mod serving;
+mod syncs;
 
 // Ends the test, telling both, unless what came is what is wanted. A call takes the prover less than `assert_eq!` where it stands.
 fn expect_eq<T: PartialEq + Debug>(rt: &impl Abort, got: &T, want: &T) {

@@ -178,7 +178,8 @@ pub refused_image : {A D T : Type 0} (g : Ghosts D) (result : Result T FlushRefu
     → RunsBeside true cache flights run → IfGivenUp g result flights before now → IfRefused g result run before now
 refused_image g (Ok done) run cache flights before now runs told = tt
 refused_image g (Err (flush.DeviceGaveUp block)) run cache flights before now runs told =
-    let is = runs.flights_are.each told.flight (first_in (held_by flights) told.flight told.first) in
+    let is = runs.flights_are.each told.flight told.inside in
     subst (λ b. HasRefused g b (image (history_of run b)) before now) told.of
     (subst (λ bytes. HasRefused g told.flight.block bytes before now) is.image_is told.refused)
+refused_image g (Err flush.SyncFailed) run cache flights before now runs told = told
 refused_image g (Err flush.OutOfMemory) run cache flights before now runs told = tt

@@ -5,7 +5,7 @@ use Rattle.patch_model.specs.Execution.{Execution, followed_by}
 use Rattle.patch_model.specs.State.{entries_of, state_of, has_flight}
 use Rattle.patch_model.specs.History.{history_of, image, cached}
 use Rattle.patch_device.specs.declared.devices.Device.{Ghosts}
-use Rattle.patch_cache.specs.Refused.{HasRefused}
+use Rattle.patch_cache.specs.Refused.{HasRefused, HasNotSynced}
 use Rattle.patch_cache.specs.declared.refusals.FlushRefusal.{FlushRefusal}
 use Rattle.patch_cache.specs.declared.refusals.FlushRefusal.TheVariants as flush
 use Rattle.patch_cache.specs.Waves.{is_send, classes_in_memory, steps_since, HasKept}
@@ -32,10 +32,9 @@ pub record HasWritten (h : History) (steps : List Step) (new : Store) : Type 0 w
 abbrev pub run_after : History → (old new : Store) → Execution
 run_after h old new = followed_by (execution_of h) (steps_since old.cache new.cache)
 
--- the disk holds what these steps leave of it, and each contents on the way is such as a crash may leave
-abbrev pub KeepsDisk : History → (old new : Store) → (had had_now : List (List (List ℕ))) (contents contents_now : List (List ℕ)) → Type 0
-KeepsDisk h old new had had_now contents contents_now =
-    HasKept (execution_of h) (steps_since old.cache new.cache) had had_now contents contents_now
+-- the disk holds what these steps leave of it, and what a cut of the power leaves on the way is such as a crash may leave
+abbrev pub KeepsDisk : {D : Type 0} → Ghosts D → History → (old new : Store) → (before now : D) → Type 0
+KeepsDisk g h old new before now = HasKept g (execution_of h) (steps_since old.cache new.cache) before now
 
 -- each block of the device is the cached one
 pub record HoldCached (run : Execution) (contents : List (List ℕ)) : Type 0 where
@@ -46,8 +45,10 @@ pub record HoldCached (run : Execution) (contents : List (List ℕ)) : Type 0 wh
 abbrev pub HoldNow : History → (old new : Store) → (contents : List (List ℕ)) → Type 0
 HoldNow h old new contents = HoldCached (run_after h old new) contents
 
--- a block that the device gave up was refused its image as often as a write is tried, and nothing else was done behind that
+-- a block that the device gave up was refused its image as often as a write is tried, and nothing else was done behind that; and so was
+-- a sync that failed
 abbrev pub IfRefused : {D T : Type 0} → Ghosts D → Result T FlushRefusal → Execution → (before now : D) → Type 0
 IfRefused g (Ok done) run before now = Unit {0}
 IfRefused g (Err (flush.DeviceGaveUp block)) run before now = HasRefused g block (image (history_of run block)) before now
+IfRefused g (Err flush.SyncFailed) run before now = HasNotSynced g before now
 IfRefused g (Err flush.OutOfMemory) run before now = Unit {0}

@@ -1,6 +1,6 @@
 //! How all patches of a store are brought to the disk.
 ghost use Rattle.std.specs.Prelude.{◌≡◌, ◌+◌, ◌*◌, ◌≤◌, length, count_by, OnOk};
-ghost use Rattle.patch_device.specs.SameDevice.{IsSameDevice};
+ghost use Rattle.patch_device.specs.SameDevice.{IsSameDevice, IsLasting};
 ghost use Rattle.patch_cache.specs.declared.landing.TheConstants.{TRIES};
 ghost use Rattle.patch_cache.specs.Waves.{is_send, steps_since, Continues, HoldImages, IsFlushed, RisesIfGivenUp};
 ghost use Rattle.patch_store.specs.Meaning.{Represents};
@@ -12,23 +12,24 @@ use patch_cache::{Flights, FlushRefusal, laws as cache_laws};
 use patch_device::Device;
 use std::alloc::Allocator;
 
-/// Brings all patches of a store to the disk, in waves: begins all writes that can begin, writes them out and completes them,
-/// until none can begin. It is called on a device with the store's blocks. What was completed stays so whatever it answers; the
-/// writes that it has begun and not ended are given up, and their blocks stay in flight for the store's life. Writes that are
-/// under way as it is called are left to whoever holds them: then it is done while patches that wait for these are in memory still.
+/// Brings all patches of a store to the disk, in waves: begins all writes that can begin, writes them out, syncs the device and
+/// completes them, until none can begin. So nothing is written that rests on what a cut of the power can still take away. It is
+/// called on a device with the store's blocks. What was completed stays so whatever it answers; the writes that it has begun and not
+/// ended are given up, and their blocks stay in flight for the store's life. Writes that are under way as it is called are left to
+/// whoever holds them: then it is done while patches that wait for these are in memory still.
 pub fn flush<A: Allocator + Copy, D: Device>(
     store: &mut Store<A>,
     device: &mut D,
 ) -> Result<(), FlushRefusal>
     ensures ran { (h : History) → Represents store.old h → HasWritten h (steps_since store.old.cache store.new.cache) store.new }
     ensures trace { Continues store.old.cache store.new.cache }
-    ensures disk { D.is_honest device.old → (h : History) → Represents store.old h → KeepsDisk h store.old store.new
-        (D.had device.old) (D.had device.new) (D.contents device.old) (D.contents device.new) }
+    ensures disk { D.is_honest device.old → (h : History) → Represents store.old h → KeepsDisk D.Device h store.old store.new device.old device.new }
     ensures flushed { (h : History) → StandsStill store.old h → OnOk result (IsFlushed (run_after h store.old store.new)) }
     ensures cached { D.is_honest device.old → (h : History) → StandsStill store.old h → HoldImages (execution_of h) (D.contents device.old)
         → OnOk result (HoldNow h store.old store.new (D.contents device.new)) }
-    ensures tries { D.is_honest device.old → length (D.had device.new)
-        ≤ length (D.had device.old) + TRIES * count_by is_send (steps_since store.old.cache store.new.cache) }
+    ensures lasts { D.is_honest device.old → OnOk result (IsLasting D.Device device.old → IsLasting D.Device device.new) }
+    ensures tries { D.moment device.new
+        ≤ D.moment device.old + (TRIES + 1) * count_by is_send (steps_since store.old.cache store.new.cache) }
     ensures gave_up { (h : History) → Represents store.old h → D.block_count device.old ≡ length h.opening
         → RisesIfGivenUp result (D.fault_count device.old) (D.fault_count device.new) }
     ensures refused { (h : History) → Represents store.old h → D.block_count device.old ≡ length h.opening

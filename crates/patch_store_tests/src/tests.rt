@@ -13,6 +13,7 @@ use std::process::Abort;
 use std::test::Fail;
 
 mod closed;
+mod cuts;
 mod flights;
 mod flushes;
 mod memory;

@@ -48,9 +48,13 @@ impl Device for StubbornDevice {
 
     ghost contents = { λ _. [] };
 
-    ghost had = { λ _. [] };
+    ghost moment = { λ _. 0 };
+
+    ghost left_at = { λ _ _ _. ⊥ };
 
     ghost is_honest = { λ _. ⊥ };
+
+    ghost is_spent = { λ _. ⊥ };
 
     ghost block_count = { λ d. block_count_of d.inner };
 
@@ -84,11 +88,19 @@ impl Device for StubbornDevice {
         Ok(())
     }
 
+    fn sync(&mut self) -> Result<(), DeviceRefusal> {
+        self.inner.sync()
+    }
+
+    fn finish(&mut self) -> Result<(), DeviceRefusal> {
+        self.inner.finish()
+    }
+
     ghost blocks_counted = { λ d h. absurd h };
 
     ghost blocks_whole = { λ d h. absurd h };
 
-    ghost last_had = { λ d h. absurd h };
+    ghost all_may_land = { λ d h. absurd h };
 
     ghost faults_fit = { λ d. d.faults_fit };
 }

@@ -1,6 +1,5 @@
 //! Files of the system.
 use super::*;
-use std::fs::OpenOptions;
 
 fn expect_not_made(
     rt: &impl Abort,
@@ -14,18 +13,20 @@ fn expect_not_made(
 }
 
 fn expect_not_taken(rt: &impl Abort, files: &HostRuntime, path: &str, refusal: FileRefusal) {
-    let taken = FileDevice::of(files, path).err();
+    let taken = FileDevice::open(files, files.alloc(), path).err();
     expect_eq(rt, &(&path, &taken), &(&path, &Some(refusal)));
 }
 
-// Writes a device of three blocks.
+// Writes a device of three blocks, which gives none of them back, and syncs it.
 fn write_each<D: Device>(rt: &impl Abort, device: &mut D) {
     expect_eq(rt, &device.count(), &3);
     for (n, byte) in &[(2, 7), (1, 8), (2, 9)] {
         expect_write(rt, device, *n, *byte, Ok(()));
-        expect_filled(rt, device, *n, *byte);
+        expect_unread(rt, device, *n, DeviceRefusal::Fault);
     }
     expect_no_block(rt, device, 3);
+    expect_eq(rt, &device.sync(), &Ok(()));
+    expect_eq(rt, &device.finish(), &Ok(()));
 }
 
 fn make(rt: &impl Abort, files: &HostRuntime, path: &str) -> Result<(), Fail> {
@@ -35,8 +36,10 @@ fn make(rt: &impl Abort, files: &HostRuntime, path: &str) -> Result<(), Fail> {
 }
 
 fn take(rt: &impl Abort, files: &HostRuntime, path: &str) -> Result<(), Fail> {
-    let mut taken = FileDevice::of(files, path)?;
-    expect_loaded(rt, files.alloc(), &mut taken, &[0, 8, 9])
+    let (taken, blocks) = FileDevice::open(files, files.alloc(), path)?;
+    expect_eq(rt, &taken.count(), &3);
+    expect_blocks(rt, &blocks, &[0, 8, 9]);
+    Ok(())
 }
 
 fn make_and_take(rt: &impl Abort, files: &HostRuntime, path: &str) -> Result<(), Fail> {
@@ -47,7 +50,7 @@ fn make_and_take(rt: &impl Abort, files: &HostRuntime, path: &str) -> Result<(),
 }
 
 #[test]
-fn makes_takes_and_loads(rt: HostRuntime) -> Result<(), Fail> {
+fn makes_takes_and_reads(rt: HostRuntime) -> Result<(), Fail> {
     make_folder(&rt, "patch_device_made")?;
     make_and_take(&rt, &rt, "patch_device_made/disk")?;
     fs::remove_dir_all(&rt, "patch_device_made")?;
@@ -55,7 +58,7 @@ fn makes_takes_and_loads(rt: HostRuntime) -> Result<(), Fail> {
 }
 
 fn count_taken(files: &HostRuntime, path: &str) -> Result<u32, FileRefusal> {
-    Ok(FileDevice::of(files, path)?.count())
+    Ok(FileDevice::open(files, files.alloc(), path)?.0.count())
 }
 
 // A file of this length is taken as so many blocks, or not at all, and stays as it is.
@@ -141,31 +144,17 @@ fn wants_a_file_that_can_be_written(rt: HostRuntime) -> Result<(), Fail> {
     Ok(())
 }
 
-fn cut(rt: &HostRuntime, path: &str, length: u64) -> Result<(), Fail> {
-    OpenOptions::new()
-        .write(true)
-        .open(rt, path)?
-        .set_len(length)?;
-    Ok(())
-}
-
-// The second of two blocks lacks a byte, until it is written.
-fn expect_cut<D: Device>(rt: &impl Abort, alloc: Global, device: &mut D) {
-    expect_filled(rt, device, 0, 0);
-    expect_unread(rt, device, 1, DeviceRefusal::Fault);
-    expect_eq(rt, &loaded(alloc, device), &Err(LoadFault::Fault));
-    expect_write(rt, device, 1, 1, Ok(()));
-    expect_eq(rt, &loaded(alloc, device), &Ok(2));
+// Writes a device of three blocks without barriers, and opens it.
+fn write_without_barriers(rt: &impl Abort, files: &HostRuntime, path: &str) -> Result<(), Fail> {
+    let mut device = FileDevice::create(files, path, 3)?.without_barriers();
+    write_each(rt, &mut device);
+    take(rt, files, path)
 }
 
 #[test]
-fn answers_a_fault_where_the_file_was_cut(rt: HostRuntime) -> Result<(), Fail> {
-    make_folder(&rt, "patch_device_cut")?;
-    let path = "patch_device_cut/disk";
-    make_file(&rt, path, 8192)?;
-    let mut device = FileDevice::of(&rt, path)?;
-    cut(&rt, path, 8191)?;
-    expect_cut(&rt, rt.alloc(), &mut device);
-    fs::remove_dir_all(&rt, "patch_device_cut")?;
+fn passes_its_syncs_over(rt: HostRuntime) -> Result<(), Fail> {
+    make_folder(&rt, "patch_device_barriers")?;
+    write_without_barriers(&rt, &rt, "patch_device_barriers/disk")?;
+    fs::remove_dir_all(&rt, "patch_device_barriers")?;
     Ok(())
 }

@@ -1,4 +1,4 @@
-//! A disk that is full: what fits is written, and no more.
+//! A disk that is full or broken: what fits is written, and no more, and reads and syncs fail.
 use super::*;
 use std::fs::{File, Metadata, OpenFile, OpenOptions};
 use std::io;
@@ -6,26 +6,53 @@ use std::io::{Read, Seek, SeekFrom, Write};
 use std::os::unix::fs::FileExt;
 use std::rt::Files;
 
-// The system's files, of which none is written from this place on.
+// From which place on no file is written and none is read, and whether they are synced.
+#[derive(Clone, Copy)]
+struct Limits {
+    write_end: u64,
+    read_end: u64,
+    syncs: bool,
+}
+
+// No limit.
+const SOUND: Limits = Limits {
+    write_end: u64::MAX,
+    read_end: u64::MAX,
+    syncs: true,
+};
+
+// The system's files within these limits.
 #[derive(Drop)]
 struct FullDisk<'a> {
     rt: &'a HostRuntime,
-    end: u64,
+    limits: Limits,
 }
 
 #[derive(Drop)]
 struct FileOfFullDisk {
     file: File,
-    end: u64,
+    limits: Limits,
+}
+
+impl FileOfFullDisk {
+    fn synced(&self) -> io::Result<()> {
+        if !self.limits.syncs {
+            return Err(io::ErrorKind::StorageFull.into());
+        }
+        Ok(())
+    }
 }
 
 impl FileExt for FileOfFullDisk {
     fn read_at(&self, buf: &mut [u8], offset: u64) -> io::Result<usize> {
+        if offset >= self.limits.read_end {
+            return Err(io::ErrorKind::StorageFull.into());
+        }
         self.file.read_at(buf, offset)
     }
 
     fn write_at(&self, buf: &[u8], offset: u64) -> io::Result<usize> {
-        if offset >= self.end {
+        if offset >= self.limits.write_end {
             return Err(io::ErrorKind::StorageFull.into());
         }
         self.file.write_at(buf, offset)
@@ -64,10 +91,12 @@ impl OpenFile for FileOfFullDisk {
     }
 
     fn sync_all(&self) -> io::Result<()> {
+        self.synced()?;
         self.file.sync_all()
     }
 
     fn sync_data(&self) -> io::Result<()> {
+        self.synced()?;
         self.file.sync_data()
     }
 }
@@ -80,7 +109,7 @@ impl Files for FullDisk<'_> {
     fn open_file(&self, how: &OpenOptions, path: &str) -> io::Result<FileOfFullDisk> {
         Ok(FileOfFullDisk {
             file: self.rt.open_file(how, path)?,
-            end: self.end,
+            limits: self.limits,
         })
     }
 
@@ -121,37 +150,64 @@ impl Files for FullDisk<'_> {
     }
 }
 
-// Makes a file of three blocks where only so many fit. Whether the last one is zeros.
-fn make_zeros(files: &HostRuntime, path: &str, blocks: u64) -> Result<bool, FileRefusal> {
-    let end = blocks.saturating_mul(4096);
-    let mut made = FileDevice::create(&FullDisk { rt: files, end }, path, 3)?;
-    Ok(is_filled(&mut made, 2, 0))
+// Makes a file of three blocks on such a disk. How many blocks it has then.
+fn make_three(files: &HostRuntime, path: &str, limits: Limits) -> Result<u32, FileRefusal> {
+    let made = FileDevice::create(&FullDisk { rt: files, limits }, path, 3)?;
+    Ok(made.count())
+}
+
+fn expect_none_left(rt: &impl Abort, files: &HostRuntime, path: &str, limits: Limits) {
+    expect_eq(
+        rt,
+        &make_three(files, path, limits),
+        &Err(FileRefusal::Disk),
+    );
+    assert!(rt; fs::metadata(files, path).is_err());
 }
 
 fn make_on_full(rt: &impl Abort, files: &HostRuntime, path: &str, blocks: u64) -> Result<(), Fail> {
-    let made = make_zeros(files, path, blocks);
+    let limits = Limits {
+        write_end: blocks.saturating_mul(4096),
+        ..SOUND
+    };
     if blocks < 3 {
-        expect_eq(rt, &(&blocks, &made), &(&blocks, &Err(FileRefusal::Disk)));
-        assert!(rt; fs::metadata(files, path).is_err());
+        expect_none_left(rt, files, path, limits);
         return Ok(());
     }
-    expect_eq(rt, &(&blocks, &made), &(&blocks, &Ok(true)));
+    expect_eq(rt, &make_three(files, path, limits), &Ok(3));
     expect_length(rt, files, path, 12_288)?;
     fs::remove_file(files, path)?;
     Ok(())
 }
 
+// A file of three blocks on such a disk.
+fn on_disk(
+    files: &HostRuntime,
+    path: &str,
+    limits: Limits,
+) -> Result<FileDevice<FileOfFullDisk>, FileRefusal> {
+    let (device, _blocks) = FileDevice::open(&FullDisk { rt: files, limits }, files.alloc(), path)?;
+    Ok(device)
+}
+
+// What the file holds, on a sound disk.
+fn expect_held(rt: &impl Abort, files: &HostRuntime, path: &str, bytes: &[u8]) -> Result<(), Fail> {
+    let (_device, blocks) = FileDevice::open(files, files.alloc(), path)?;
+    expect_blocks(rt, &blocks, bytes);
+    Ok(())
+}
+
 // Writes a file of three blocks where only one fits.
 fn write_on_full(rt: &impl Abort, files: &HostRuntime, path: &str) -> Result<(), Fail> {
-    let full = FullDisk {
-        rt: files,
-        end: 4096,
+    let limits = Limits {
+        write_end: 4096,
+        ..SOUND
     };
-    let mut device = FileDevice::of(&full, path)?;
+    let mut device = on_disk(files, path, limits)?;
     expect_write(rt, &mut device, 0, 1, Ok(()));
     expect_write(rt, &mut device, 1, 2, Err(DeviceRefusal::Fault));
-    expect_all_filled(rt, &mut device, &[(0, 1), (1, 0), (2, 0)]);
-    Ok(())
+    expect_eq(rt, &device.sync(), &Ok(()));
+    expect_held(rt, files, path, &[1, 0, 0])
 }
 
 #[test]
@@ -164,5 +220,62 @@ fn each_write_of_a_new_file_fails_in_turn(rt: HostRuntime) -> Result<(), Fail> {
     make_file(&rt, path, 12_288)?;
     write_on_full(&rt, &rt, path)?;
     fs::remove_dir_all(&rt, "patch_device_full")?;
+    Ok(())
+}
+
+// A file of three blocks whose last can't be read, though its length says that it is there.
+#[test]
+fn a_file_that_cannot_be_read_is_not_taken(rt: HostRuntime) -> Result<(), Fail> {
+    make_folder(&rt, "patch_device_unread")?;
+    make_file(&rt, "patch_device_unread/disk", 12_288)?;
+    let limits = Limits {
+        read_end: 8192,
+        ..SOUND
+    };
+    let taken = on_disk(&rt, "patch_device_unread/disk", limits).err();
+    expect_eq(&rt, &taken, &Some(FileRefusal::Disk));
+    fs::remove_dir_all(&rt, "patch_device_unread")?;
+    Ok(())
+}
+
+const UNSYNCED: Limits = Limits {
+    syncs: false,
+    ..SOUND
+};
+
+fn expect_spent<D: Device>(rt: &impl Abort, device: &mut D) {
+    expect_write(rt, device, 0, 5, Err(DeviceRefusal::Fault));
+    expect_eq(rt, &device.sync(), &Err(DeviceRefusal::Fault));
+    expect_no_block(rt, device, 3);
+}
+
+fn sync_on_unsynced(rt: &impl Abort, files: &HostRuntime, path: &str) -> Result<(), Fail> {
+    let mut device = on_disk(files, path, UNSYNCED)?;
+    expect_write(rt, &mut device, 0, 4, Ok(()));
+    expect_eq(rt, &device.finish(), &Ok(()));
+    expect_eq(rt, &device.sync(), &Err(DeviceRefusal::Fault));
+    expect_spent(rt, &mut device);
+    expect_held(rt, files, path, &[4, 0, 0])
+}
+
+// Without barriers it is the end that fails.
+fn finish_on_unsynced(rt: &impl Abort, files: &HostRuntime, path: &str) -> Result<(), Fail> {
+    let mut device = on_disk(files, path, UNSYNCED)?.without_barriers();
+    expect_eq(rt, &device.sync(), &Ok(()));
+    expect_write(rt, &mut device, 1, 6, Ok(()));
+    expect_eq(rt, &device.finish(), &Err(DeviceRefusal::Fault));
+    expect_spent(rt, &mut device);
+    expect_held(rt, files, path, &[4, 6, 0])
+}
+
+#[test]
+fn a_failed_sync_is_the_end(rt: HostRuntime) -> Result<(), Fail> {
+    make_folder(&rt, "patch_device_unsynced")?;
+    let path = "patch_device_unsynced/disk";
+    expect_none_left(&rt, &rt, path, UNSYNCED);
+    make_file(&rt, path, 12_288)?;
+    sync_on_unsynced(&rt, &rt, path)?;
+    finish_on_unsynced(&rt, &rt, path)?;
+    fs::remove_dir_all(&rt, "patch_device_unsynced")?;
     Ok(())
 }

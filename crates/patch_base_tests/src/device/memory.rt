@@ -72,9 +72,13 @@ impl Device for InOrder {
 
     ghost contents = { λ _. [] };
 
-    ghost had = { λ _. [] };
+    ghost moment = { λ _. 0 };
+
+    ghost left_at = { λ _ _ _. ⊥ };
 
     ghost is_honest = { λ _. ⊥ };
+
+    ghost is_spent = { λ _. ⊥ };
 
     ghost block_count = { λ d. d.count };
 
@@ -100,11 +104,19 @@ impl Device for InOrder {
         Ok(())
     }
 
+    fn sync(&mut self) -> Result<(), DeviceRefusal> {
+        Ok(())
+    }
+
+    fn finish(&mut self) -> Result<(), DeviceRefusal> {
+        Ok(())
+    }
+
     ghost blocks_counted = { λ d h. absurd h };
 
     ghost blocks_whole = { λ d h. absurd h };
 
-    ghost last_had = { λ d h. absurd h };
+    ghost all_may_land = { λ d h. absurd h };
 
     ghost use Rattle.patch_device.specs.Device.{none_fits};
 

@@ -52,8 +52,9 @@ const TAKE: [TakeRefusal; 6] = [
     TakeRefusal::DependentApplied(PatchNo(6)),
 ];
 
-const FLUSH: [FlushRefusal; 2] = [
+const FLUSH: [FlushRefusal; 3] = [
     FlushRefusal::DeviceGaveUp(BlockNo(7)),
+    FlushRefusal::SyncFailed,
     FlushRefusal::OutOfMemory,
 ];
 
@@ -101,6 +102,7 @@ Hard: 9 Hard 0
 AlreadyTaken: 10 AlreadyTaken 0
 DependentApplied 6: 11 DependentApplied 6
 DeviceGaveUp 7: 57 DeviceGaveUp 7
+SyncFailed: 64 SyncFailed 0
 OutOfMemory: 1 OutOfMemory 0
 NoSuchBlock: 2 NoSuchBlock 0
 OutOfBlock: 15 OutOfBlock 0

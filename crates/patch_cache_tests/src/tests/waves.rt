@@ -1,5 +1,6 @@
 //! Writes in waves: flushes, flights that are landed, and writes one at a time.
 use super::*;
+use patch_device::UnsyncedDevice;
 use patch_testing::StubbornDevice;
 
 // How far the four patches of a chain have come.
@@ -50,7 +51,7 @@ pub(super) fn flush<A: Allocator + Copy, D: Device>(
     bench.cache.flush(&mut bench.flights, &mut bench.device)
 }
 
-fn land<D: Device>(bench: &mut Bench<Global, D>) -> Result<(), DeviceGaveUp> {
+fn land<D: Device>(bench: &mut Bench<Global, D>) -> Result<(), FlushRefusal> {
     bench.cache.land(&mut bench.flights, &mut bench.device)
 }
 
@@ -362,7 +363,7 @@ fn flush_in_vain(rt: &impl Abort, bench: &mut Refused) {
 
 fn land_in_vain(rt: &impl Abort, bench: &mut Refused) {
     hold_first(rt, bench);
-    let gave_up = Err(DeviceGaveUp(BlockNo(0)));
+    let gave_up = Err(FlushRefusal::DeviceGaveUp(BlockNo(0)));
     expect_equal(rt, "landing", land(bench), gave_up);
     expect_marks(rt, &bench.cache, SENT);
     expect_landed(rt, bench);
@@ -407,4 +408,40 @@ fn eight_faults_end_a_landing(rt: HostRuntime) {
 #[test]
 fn eight_faults_end_a_write(rt: HostRuntime) {
     write_in_vain_as(&rt, rt.alloc(), 0, Writes::OneByOne);
+}
+
+// A cache over a device whose first sync fails.
+type Unsynced = Bench<Global, UnsyncedDevice<MemDevice>>;
+
+// The wave was written and is held; nothing of it is completed, and nothing more is written, though the memory behind would sync.
+fn sync_in_vain(rt: &impl Abort, bench: &mut Unsynced) {
+    let failed = Err(FlushRefusal::SyncFailed);
+    expect_equal(rt, "flush", flush(bench), failed);
+    expect_marks(rt, &bench.cache, SENT);
+    expect_equal(
+        rt,
+        "again",
+        flush(bench),
+        Err(FlushRefusal::DeviceGaveUp(BlockNo(0))),
+    );
+    expect_marks(rt, &bench.cache, SENT);
+}
+
+fn count_writes(rt: &impl Abort, bench: Unsynced) {
+    let Bench {
+        cache,
+        flights,
+        device,
+    } = bench;
+    flights.abandon();
+    drop(cache);
+    expect_equal(rt, "writes", device.into_inner().writes().len(), 1);
+}
+
+#[test]
+fn a_failed_sync_ends_all_writes(rt: HostRuntime) {
+    let device = UnsyncedDevice::new(open_device(&rt, rt.alloc(), 2), 0);
+    let mut bench = open_chain(&rt, rt.alloc(), device);
+    sync_in_vain(&rt, &mut bench);
+    count_writes(&rt, bench);
 }

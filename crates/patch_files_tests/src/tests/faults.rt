@@ -41,22 +41,17 @@ const BEHIND: u64 = COUNT as u64;
 
 // The commands end so on the device in two more that fail the call behind the reads of its blocks, and so on in four and in six. Each is a
 // function of its own, so that none sees a type of all.
-fn expect_in_two<D: Lasting + Drop>(rt: &impl Abort, alloc: Global, device: D, turns: &[Turn<'_>]) {
+fn expect_in_two<D: Device + Drop>(rt: &impl Abort, alloc: Global, device: D, turns: &[Turn<'_>]) {
     let mut device = failing_twice(device, BEHIND);
     expect_on(rt, alloc, &mut device, turns);
     drop(device);
 }
 
-fn expect_in_four<D: Lasting + Drop>(
-    rt: &impl Abort,
-    alloc: Global,
-    device: D,
-    turns: &[Turn<'_>],
-) {
+fn expect_in_four<D: Device + Drop>(rt: &impl Abort, alloc: Global, device: D, turns: &[Turn<'_>]) {
     expect_in_two(rt, alloc, failing_twice(device, BEHIND), turns);
 }
 
-fn expect_in_six<D: Lasting + Drop>(rt: &impl Abort, alloc: Global, device: D, turns: &[Turn<'_>]) {
+fn expect_in_six<D: Device + Drop>(rt: &impl Abort, alloc: Global, device: D, turns: &[Turn<'_>]) {
     expect_in_four(rt, alloc, failing_twice(device, BEHIND), turns);
 }
 

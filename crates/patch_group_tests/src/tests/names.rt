@@ -14,6 +14,7 @@ TooManyGroups: 33 TooManyGroups
 OutOfMemory: 1 OutOfMemory
 NoSuchGroup: 27 NoSuchGroup
 DeviceGaveUp 5: 57 DeviceGaveUp
+SyncFailed: 64 SyncFailed
 OutOfMemory: 1 OutOfMemory
 ";
 
@@ -48,6 +49,7 @@ fn tell_calls(told: &mut String) -> Result<(), AllocError> {
 fn tell_syncs(told: &mut String) -> Result<(), AllocError> {
     tell_sync(told, SyncRefusal::NoSuchGroup)?;
     tell_sync(told, SyncRefusal::DeviceGaveUp(BlockNo(5)))?;
+    tell_sync(told, SyncRefusal::SyncFailed)?;
     tell_sync(told, SyncRefusal::OutOfMemory)
 }
 

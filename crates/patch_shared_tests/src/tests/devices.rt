@@ -5,6 +5,7 @@ ghost use Rattle.patch_device.specs.Device.{most_faults};
 use super::gates::Holding;
 use super::*;
 use patch_device::{DeviceRefusal, FaultyDevice};
+use patch_testing::StubbornDevice;
 
 // How many calls a run of the one put makes: it writes three blocks, and reads all of them back.
 const WRITES: u64 = 3;
@@ -50,7 +51,7 @@ pub(super) const GOOD: Plan = Plan {
     way: Way::Refused,
 };
 
-// A device whose calls go wrong so. It counts all of them, and those that it refuses. A gate may hold its writes.
+// A device whose reads and writes go wrong so. It counts all of them, and those that it refuses. A gate may hold its writes.
 #[derive(Drop)]
 pub(super) struct Odd<'a> {
     inner: MemDevice,
@@ -99,9 +100,13 @@ impl<'a> Device for Odd<'a> {
 
     ghost contents = { λ _. [] };
 
-    ghost had = { λ _. [] };
+    ghost moment = { λ _. 0 };
+
+    ghost left_at = { λ _ _ _. ⊥ };
 
     ghost is_honest = { λ _. ⊥ };
+
+    ghost is_spent = { λ _. ⊥ };
 
     ghost block_count = { λ d. block_count_of d.inner };
 
@@ -143,11 +148,20 @@ impl<'a> Device for Odd<'a> {
         Ok(())
     }
 
+    // Each write lasts at once.
+    fn sync(&mut self) -> Result<(), DeviceRefusal> {
+        Ok(())
+    }
+
+    fn finish(&mut self) -> Result<(), DeviceRefusal> {
+        Ok(())
+    }
+
     ghost blocks_counted = { λ d h. absurd h };
 
     ghost blocks_whole = { λ d h. absurd h };
 
-    ghost last_had = { λ d h. absurd h };
+    ghost all_may_land = { λ d h. absurd h };
 
     ghost faults_fit = { λ d. d.faults_fit };
 }
@@ -305,4 +319,15 @@ fn eight_devices_in_one_another_end_the_run(rt: HostRuntime) {
 fn seven_devices_in_one_another_do_not(rt: HostRuntime) {
     let one = FaultyDevice::new(new_device(&rt, rt.alloc()), 0, false);
     expect_end_in_six(&rt, rt.alloc(), one, false);
+}
+
+// A device that refuses the first two writes so many times each, and does them then.
+fn stubborn(rt: &impl Abort, alloc: Global, times: u64) -> StubbornDevice {
+    StubbornDevice::new(new_device(rt, alloc), 0, 2, times)
+}
+
+#[test]
+fn seven_faults_of_each_of_two_writes_are_borne(rt: HostRuntime) {
+    expect_end(&rt, rt.alloc(), stubborn(&rt, rt.alloc(), TRIES - 1), false);
+    expect_end(&rt, rt.alloc(), stubborn(&rt, rt.alloc(), TRIES), true);
 }

@@ -14,13 +14,13 @@ const FEW: u32 = 100;
 
 // How often something has come about, for threads that wait for it. One of them that waits too long is late.
 #[derive(Drop)]
-struct Turn {
+pub(super) struct Turn {
     came: AtomicU64,
     late: AtomicBool,
 }
 
 impl Turn {
-    fn new() -> Turn {
+    pub(super) fn new() -> Turn {
         Turn {
             came: AtomicU64::new(0),
             late: AtomicBool::new(false),
@@ -28,12 +28,12 @@ impl Turn {
     }
 
     // It has come about once more.
-    fn come(&self) {
+    pub(super) fn come(&self) {
         self.came.fetch_add(1, Ordering::SeqCst);
     }
 
     // Waits until it has come about so often, unless some thread was late for it before.
-    fn wait(&self, rt: &impl Clock, turns: u32, times: u64) {
+    pub(super) fn wait(&self, rt: &impl Clock, turns: u32, times: u64) {
         for _ in 0..turns {
             if self.came.load(Ordering::SeqCst) >= times || self.late.load(Ordering::SeqCst) {
                 return;
@@ -41,6 +41,11 @@ impl Turn {
             thread::sleep(rt, Duration::from_micros(10));
         }
         self.late.store(true, Ordering::SeqCst);
+    }
+
+    // Whether some thread was late.
+    pub(super) fn late(&self) -> bool {
+        self.late.load(Ordering::SeqCst)
     }
 }
 
@@ -83,10 +88,7 @@ impl<R: Clock + Drop> Holding<R> {
 
     // Whether some thread was late for what begins, and for what ends.
     pub(super) fn late(&self) -> (bool, bool) {
-        (
-            self.begun.late.load(Ordering::SeqCst),
-            self.ended.late.load(Ordering::SeqCst),
-        )
+        (self.begun.late(), self.ended.late())
     }
 }
 

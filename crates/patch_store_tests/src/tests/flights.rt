@@ -82,9 +82,9 @@ fn expect_blocks(rt: &impl Abort, images: &[Image], blocks: &[u32]) {
 }
 
 // A put of a value of three blocks.
-const PUT: &[Turn<'static>] = &[(Put(b"a", &VALUE), Ok(()))];
+pub(super) const PUT: &[Turn<'static>] = &[(Put(b"a", &VALUE), Ok(()))];
 
-const VALUE: [u8; 12_288] = [0x61; 12_288];
+pub(super) const VALUE: [u8; 12_288] = [0x61; 12_288];
 
 fn store_of_put(rt: &impl Abort, alloc: Global) -> Result<Store, Fail> {
     behind(rt, alloc, SMALL, &[], PUT)
@@ -241,7 +241,7 @@ fn expect_flushed(rt: &impl Abort, alloc: Global, device: &mut MemDevice) -> Res
     let live = store.cache().live();
     drop(store);
     expect_eq(rt, &(ended, is_flushed, live), &(Ok(()), true, 0));
-    expect_blocks(rt, device.writes(), &[4, 6, 5, 3, 2, 1]);
+    expect_blocks(rt, device.writes(), &[4, 5, 6, 3, 2, 1]);
     Ok(())
 }
 

@@ -6,7 +6,7 @@ use Rattle.patch_c.proofs.opening.open_bytes.Goals as goal
 pub invariant_of-new : goal.invariant_of-new
 invariant_of-new c =
     record {
-      stands = same_so _ c.in_ok-store.store c.in_ok-blocks.blocks.items _ (empty_holds c.new-device.result c.in_ok-blocks.blocks.items (c.new-device.ensures.file ∙ c.of-holding.ensures) c.new-device.ensures.writes)
+      stands = same_so _ c.in_ok-store.store c.in_ok-blocks.blocks.items _ (empty_holds c.new-device.result c.in_ok-blocks.blocks.items (c.new-device.ensures.file ∙ c.of-holding.ensures) c.new-device.ensures.events)
           (fresh_so c.in_ok-store.store c.in_ok-blocks.blocks.items c.in_ok-store.ensures.opened);
     }
 

@@ -1,8 +1,8 @@
 use Rattle.std.proofs.Common.{inl, inr, refl, sym, subst, ◌∙◌, ◌<◌, arith}
 use Rattle.patch_device.specs.Device.{IsOldOrNew}
 use Rattle.patch_device.specs.SameDevice.{same_still, same_both}
-use Rattle.patch_cache.proofs.Crashing.{unmoved}
-use Rattle.patch_cache.proofs.Waving.{written_again, either_again, outcome_longer, risen_again, refused_again, tried, is_ok_on, is_ok_off}
+use Rattle.patch_cache.proofs.Crashing.{unmoved, write_lands}
+use Rattle.patch_cache.proofs.Waving.{written_again, either_again, risen_again, refused_again, joined_still, is_ok_on, is_ok_off}
 use Rattle.patch_cache.proofs.landing.write_tried.Goals as goal
 
 pub loop-init : goal.loop-init
@@ -11,8 +11,8 @@ loop-init g c = record {
   cause = λ known. inl (omega arith);
   refused = λ known. refl;
   either = λ honest. inl refl;
-  tries = λ honest. omega arith;
-  crash = λ honest run known is left. unmoved run _ _ left;
+  tries = omega arith;
+  crash = λ honest run known is left. unmoved g.D.Device run c.args.device.now left;
 }
 
 pub returns-then-is_ok-clause-written : goal.returns-then-is_ok-clause-written
@@ -33,19 +33,17 @@ returns-then-is_ok-clause-either g c honest =
 
 pub returns-then-is_ok-clause-crash : goal.returns-then-is_ok-clause-crash
 returns-then-is_ok-clause-crash g c honest run known is left =
-    let device = g.D.Device in
     let before = c.loop.invariant in
+    let told = c.write_image.ensures in
     let flight = c.args.flight.now in
-    tried c.trails_join.ensures c.images_land.ensures run flight.block flight.image (device.had c.args.device.now) (device.had c.loop.device) (device.had c.write_image.new.device)
-    (device.contents c.loop.device) (device.contents c.write_image.new.device) known is
-    (inr (is_ok_on c.write_image.result _ (sym c.is_ok.ensures.value ∙ c.if-is_ok.true) (c.write_image.ensures.written (before.same.honesty.0 honest))))
-    (c.write_image.ensures.had (before.same.honesty.0 honest)) (before.crash honest run known is left)
+    let so_far = before.crash honest run known is left in
+    joined_still g.D.Device run run c.args.device.now c.loop.device c.write_image.new.device so_far
+    (write_lands c.images_land.ensures g.D.Device run flight.block flight.image c.loop.device c.write_image.new.device known is told.device.time told.moment (told.left (before.same.honesty.0 honest)) so_far.left)
 
 pub returns-then-is_ok-clause-tries : goal.returns-then-is_ok-clause-tries
-returns-then-is_ok-clause-tries g c honest =
-    let before = c.loop.invariant in
-    let one = outcome_longer _ _ _ _ (c.write_image.ensures.had (before.same.honesty.0 honest)) in
-    let so_far = before.tries honest in
+returns-then-is_ok-clause-tries g c =
+    let one = c.write_image.ensures.moment in
+    let so_far = c.loop.invariant.tries in
     let within = c.loop-test.true in omega (arith, one, so_far, within)
 
 pub loop-preserved : goal.loop-preserved
@@ -67,11 +65,13 @@ loop-preserved g c =
             same = told.device;
             fault = is_ok_off c.write_image.result _ (sym c.is_ok.ensures.value ∙ c.if-is_ok.false) (told.cause (subst (λ n. flight.block < n) (sym before.same.count) known));
             either = λ honest. is_ok_off c.write_image.result _ (sym c.is_ok.ensures.value ∙ c.if-is_ok.false) (told.refused honest);
-            had = told.had;
+            moment = told.moment;
+            left = told.left;
           });
       either = λ honest. either_again (device.contents c.args.device.now) (device.contents c.loop.device) (device.contents next) flight.block flight.image (before.either honest) (again honest);
-      tries = λ honest. let one = outcome_longer _ _ _ _ (told.had (before.same.honesty.0 honest)) in let so_far = before.tries honest in omega (arith, one, so_far);
+      tries = let one = told.moment in let so_far = before.tries in omega (arith, one, so_far);
       crash = λ honest run known is left.
-          tried c.trails_join.ensures c.images_land.ensures run flight.block flight.image (device.had c.args.device.now) (device.had c.loop.device) (device.had next)
-          (device.contents c.loop.device) (device.contents next) known is (again honest) (told.had (before.same.honesty.0 honest)) (before.crash honest run known is left);
+          let so_far = before.crash honest run known is left in
+          joined_still g.D.Device run run c.args.device.now c.loop.device next so_far
+          (write_lands c.images_land.ensures g.D.Device run flight.block flight.image c.loop.device next known is told.device.time told.moment (told.left (before.same.honesty.0 honest)) so_far.left);
     }

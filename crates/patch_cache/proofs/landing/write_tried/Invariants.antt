@@ -1,4 +1,4 @@
-use Rattle.std.proofs.Common.{◌+◌, ◌<◌, ◌≤◌, length}
+use Rattle.std.proofs.Common.{◌+◌, ◌<◌, ◌≤◌}
 use Rattle.patch_device.specs.Device.{IsOldOrNew}
 use Rattle.patch_device.specs.SameDevice.{IsSameDevice}
 use Rattle.patch_cache.specs.Refused.{AreRefused}
@@ -15,6 +15,6 @@ invariant-loop g l =
       cause : l.flight.block < device.block_count old → HasRisenBy l.counter (device.fault_count old) (device.fault_count l.device);
       refused : l.flight.block < device.block_count old → AreRefused device l.flight.block l.flight.image l.counter old l.device;
       either : device.is_honest old → IsOldOrNew (device.contents old) l.flight.block l.flight.image (device.contents l.device);
-      tries : device.is_honest old → length (device.had l.device) ≤ length (device.had old) + l.counter;
-      crash : device.is_honest old → IsTriedSafely l.flight (device.had old) (device.had l.device) (device.contents old) (device.contents l.device);
+      tries : device.moment l.device ≤ device.moment old + l.counter;
+      crash : device.is_honest old → IsTriedSafely device l.flight old l.device;
     }

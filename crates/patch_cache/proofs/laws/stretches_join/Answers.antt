@@ -8,7 +8,7 @@ pub returns-clause-joined : goal.returns-clause-joined
 returns-clause-joined g c = gone_both
 
 pub returns-clause-still_kept : goal.returns-clause-still_kept
-returns-clause-still_kept g c = kept_unmoved
+returns-clause-still_kept g c = kept_unmoved g.D.Device
 
 pub returns-clause-kept : goal.returns-clause-kept
-returns-clause-kept g c = kept_both c.trails_join.ensures
+returns-clause-kept g c = kept_both g.D.Device

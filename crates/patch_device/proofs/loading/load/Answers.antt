@@ -2,6 +2,7 @@ use Rattle.std.proofs.Common.{◌≡◌, ℕ, ◌+◌, List, [], ◌∷◌, ◌+
 use Rattle.std.proofs.lemmas.Grind.{common_steps}
 use Rattle.std.proofs.lemmas.List.{take_more}
 use Rattle.std.proofs.lemmas.Option.{slice_get_within, get_or_from_slice_get}
+use Rattle.patch_device.specs.Device.{elapses_both}
 use Rattle.patch_device.proofs.loading.load.Goals as goal
 
 -- the first items, and the one after them
@@ -29,5 +30,7 @@ loop-n-preserved g c =
           with_one_more _ _ _ _ _ _ (c.loop-n.invariant.same h) (c.loop-n.invariant.gives h)
           (c.in_ok-read_block.ensures.gives (c.loop-n.invariant.honesty.0 h)) c.in_ok-push.ensures.items;
       same = λ h. c.in_ok-read_block.ensures.same (c.loop-n.invariant.honesty.0 h) ∙ c.loop-n.invariant.same h;
-      had = λ h. c.in_ok-read_block.ensures.had (c.loop-n.invariant.honesty.0 h) ∙ c.loop-n.invariant.had h;
+      spent = λ h. c.in_ok-read_block.ensures.device.spent (c.loop-n.invariant.spent h);
+      time = elapses_both _ _ _ _ _ _ c.loop-n.invariant.time c.in_ok-read_block.ensures.device.time;
+      moment = c.in_ok-read_block.ensures.no_moment ∙ c.loop-n.invariant.moment;
     }

@@ -4,5 +4,5 @@ use Rattle.patch_disks.proofs.answering.reply_to.Goals as goal
 
 pub returns : goal.returns
 returns c h contents stands =
-    called_so c.steps_extend.ensures.state c.images_stay.ensures h c.args.writer (command_of c.args.command.now) (reply_told c.answer.result)
+    called_so c.steps_extend.ensures.state c.images_stay.ensures c.disks_stay.ensures h c.args.writer (command_of c.args.command.now) (reply_told c.answer.result)
     c.args.store.now c.answer.new.self contents c.answer.ensures.answer stands

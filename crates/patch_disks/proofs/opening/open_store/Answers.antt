@@ -1,14 +1,17 @@
-use Rattle.std.proofs.Common.{ap}
-use Rattle.patch_disks.specs.declared.endings.Stop.TheVariants.{Refused}
-use Rattle.patch_disks.proofs.Unused.{unused_store}
-use Rattle.patch_disks.proofs.Stopping.{open_stops}
+use Rattle.std.proofs.Common.{inl, inr, subst}
+use Rattle.std.specs.Prelude.{IfOk}
+use Rattle.patch_store.specs.Opening.{IsOpened}
+use Rattle.patch_disks.specs.Stopping.{HoldNoStore}
+use Rattle.patch_disks.proofs.Stopping.{err_so, each_stop_for}
 use Rattle.patch_disks.proofs.opening.open_store.Goals as goal
 
-pub returns-in-Ok-clause-new : goal.returns-in-Ok-clause-new
-returns-in-Ok-clause-new g c =
-    let untouched = c.in_ok-cache.ensures.untouched in
-    unused_store c.in-Ok.store _ c.in-Ok.ensures.cache untouched (c.in-Ok.ensures.opened untouched.first untouched.cache_is)
+pub returns-clause-opened : goal.returns-clause-opened
+returns-clause-opened g c honest = subst (λ blocks. IfOk c.store_of.result (IsOpened blocks)) (c.in_ok-blocks.ensures.gives honest) c.store_of.ensures.opened
 
-pub returns-in-Err-clause-stops : goal.returns-in-Err-clause-stops
-returns-in-Err-clause-stops g c honest =
-    open_stops c.in-Err.fault _ _ _ _ (ap (λ r. Refused r) c.refusal.ensures) (c.in-Err.ensures.opened _ (c.in_ok-cache.ensures.gives honest))
+pub returns-in_err-blocks-clause-stops : goal.returns-in_err-blocks-clause-stops
+returns-in_err-blocks-clause-stops g c honest =
+    err_so c.from_residual.result c.in_err-blocks.field-0.0 _ _ c.from_residual.ensures.1 (λ risen. inl risen) c.in_err-blocks.ensures.stops
+
+pub returns-clause-stops : goal.returns-clause-stops
+returns-clause-stops g c honest =
+    each_stop_for c.store_of.result _ _ (λ none. inr (subst HoldNoStore (c.in_ok-blocks.ensures.gives honest) none)) c.store_of.ensures.stops

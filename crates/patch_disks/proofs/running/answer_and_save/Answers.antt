@@ -3,7 +3,8 @@ use Rattle.patch_disks.specs.Running.{StandsOn}
 use Rattle.patch_disks.specs.Stopping.{IsBroken}
 use Rattle.patch_store.specs.Opening.{at_opening}
 use Rattle.patch_disks.proofs.Calling.{opened_so}
-use Rattle.patch_disks.proofs.Coming.{run_so, ok_so}
+use Rattle.patch_disks.proofs.Coming.{each_run_so}
+use Rattle.patch_disks.proofs.Going.{ends_behind}
 use Rattle.patch_disks.proofs.Stopping.{written_some, err_so, each_stop_for, risen_behind}
 use Rattle.patch_disks.proofs.running.answer_and_save.Goals as goal
 
@@ -12,8 +13,23 @@ returns-clause-run g c honest contents is opened =
     let h = at_opening contents opened.ledger in
     let stands = subst (StandsOn _ h) is (opened_so _ _ opened) in
     let come = c.in_ok-answer_lines.ensures.come honest h stands in
-    ok_so c.save.result (run_so c.args.lines.items _ _ _ _ _ _ _ opened _ come)
-    (c.save.ensures.saved (c.answer_lines.ensures.device.honesty.0 honest) come.last come.stands)
+    let still = c.answer_lines.ensures.device.honesty.0 honest in
+    each_run_so g.D.Device c.crashes_join.ensures.joined c.save.result c.args.lines.items _ _ contents _ _ _ opened c.args.device.now c.answer_lines.new.device c.save.new.device come
+    (c.in_ok-answer_lines.ensures.lasts honest) (c.save.ensures.lasts still) (c.save.ensures.saved still come.last come.stands)
+
+pub returns-in_err-answer_lines-clause-safe : goal.returns-in_err-answer_lines-clause-safe
+returns-in_err-answer_lines-clause-safe g c honest contents is opened =
+    let h = at_opening contents opened.ledger in
+    c.answer_lines.ensures.safe honest h (subst (StandsOn _ h) is (opened_so _ _ opened))
+
+pub returns-clause-safe : goal.returns-clause-safe
+returns-clause-safe g c honest contents is opened =
+    let h = at_opening contents opened.ledger in
+    let stands = subst (StandsOn _ h) is (opened_so _ _ opened) in
+    let come = c.in_ok-answer_lines.ensures.come honest h stands in
+    let still = c.answer_lines.ensures.device.honesty.0 honest in
+    ends_behind g.D.Device c.crashes_join.ensures.joined h come.last c.args.device.now c.answer_lines.new.device c.save.new.device come.goes
+    (c.save.ensures.safe still come.last come.stands)
 
 pub returns-in_err-answer_lines-clause-some : goal.returns-in_err-answer_lines-clause-some
 returns-in_err-answer_lines-clause-some g c honest contents is opened fine =

@@ -1,13 +1,31 @@
+use Rattle.std.proofs.Common.{refl}
 use Rattle.std.specs.Prelude.{Err}
+use Rattle.patch_device.specs.SameDevice.{same_still}
 use Rattle.patch_disks.specs.Stopping.{IsBroken}
 use Rattle.patch_disks.proofs.Coming.{concluded_so, script_so}
 use Rattle.patch_disks.proofs.Concluding.{fails_for, concluded_failed, of_script, said_none, concluded_stopped, refused_stopped, of_lines_met}
+use Rattle.patch_disks.proofs.Going.{went_nowhere}
 use Rattle.patch_disks.proofs.running.run_script.Goals as goal
 
 pub returns-clause-done : goal.returns-clause-done
 returns-clause-done g c honest done =
-    script_so (g.R.Read.remaining c.args.reader.now.inner) _ _ _ _ c.in-Ok.lines.items c.in-Ok.ensures.parsed
-    (concluded_so c.run_lines-ran.result c.in-Ok.lines.items _ _ _ _ _ (c.run_lines-ran.ensures.run honest) (c.conclude-2.ensures.done done))
+    script_so g.D.Device (g.R.Read.remaining c.args.reader.now.inner) _ _ _ _ _ c.in-Ok.lines.items c.in-Ok.ensures.parsed
+    (concluded_so g.D.Device c.run_lines-ran.result c.in-Ok.lines.items _ _ _ _ _ _ (c.run_lines-ran.ensures.run honest) (c.conclude-2.ensures.done done))
+
+pub returns-clause-lasts : goal.returns-clause-lasts
+returns-clause-lasts g c honest done =
+    (concluded_so g.D.Device c.run_lines-ran.result c.in-Ok.lines.items _ _ _ _ _ _ (c.run_lines-ran.ensures.run honest) (c.conclude-2.ensures.done done)).lasts
+
+pub returns-clause-crash : goal.returns-clause-crash
+returns-clause-crash g c honest lasting = c.run_lines-ran.ensures.crash honest lasting
+
+pub returns-in-Err-Script-clause-crash : goal.returns-in-Err-Script-clause-crash
+returns-in-Err-Script-clause-crash g c honest lasting =
+    went_nowhere c.first_bytes_are_left.ensures g.D.Device c.args.device.now c.args.device.now (same_still g.D.Device c.args.device.now) refl lasting
+
+pub returns-in-Err-Stopped-clause-crash : goal.returns-in-Err-Stopped-clause-crash
+returns-in-Err-Stopped-clause-crash g c honest lasting =
+    went_nowhere c.first_bytes_are_left.ensures g.D.Device c.args.device.now c.args.device.now (same_still g.D.Device c.args.device.now) refl lasting
 
 pub returns-clause-failed : goal.returns-clause-failed
 returns-clause-failed g c honest =

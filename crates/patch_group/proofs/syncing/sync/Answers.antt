@@ -45,7 +45,7 @@ pub returns-in_err-write_all_of-clause-disk : goal.returns-in_err-write_all_of-c
 returns-in_err-write_all_of-clause-disk g c honest =
     let first = c.land.ensures in
     let told = c.write_all_of.ensures in
-    keeps_both c.traces_join.ensures.joined c.stretches_join.ensures.kept c.args.cache.now c.land.new.self c.write_all_of.new.cache c.args.flights.now c.land.new.flights _ _ _ _ _ _ first.trace told.trace (first.ran false)
+    keeps_both c.traces_join.ensures.joined g.D.Device c.stretches_join.ensures.kept c.args.cache.now c.land.new.self c.write_all_of.new.cache c.args.flights.now c.land.new.flights _ _ _ first.trace told.trace (first.ran false)
     (first.disk honest false) (told.disk (first.device.honesty.0 honest))
 
 pub returns-clause-ran : goal.returns-clause-ran
@@ -66,7 +66,7 @@ pub returns-clause-disk : goal.returns-clause-disk
 returns-clause-disk g c honest =
     let first = c.land.ensures in
     let told = c.write_all_of.ensures in
-    keeps_both c.traces_join.ensures.joined c.stretches_join.ensures.kept c.args.cache.now c.land.new.self c.write_all_of.new.cache c.args.flights.now c.land.new.flights _ _ _ _ _ _ first.trace told.trace (first.ran false)
+    keeps_both c.traces_join.ensures.joined g.D.Device c.stretches_join.ensures.kept c.args.cache.now c.land.new.self c.write_all_of.new.cache c.args.flights.now c.land.new.flights _ _ _ first.trace told.trace (first.ran false)
     (first.disk honest false) (told.disk (first.device.honesty.0 honest))
 
 pub returns-clause-steps : goal.returns-clause-steps
@@ -104,21 +104,21 @@ returns-clause-synced g c run r =
 
 -- how often
 pub returns-in_err-write_all_of-clause-tries : goal.returns-in_err-write_all_of-clause-tries
-returns-in_err-write_all_of-clause-tries g c honest =
+returns-in_err-write_all_of-clause-tries g c =
     let first = c.land.ensures in
     let told = c.write_all_of.ensures in
-    let landed = first.tries honest in
+    let landed = first.tries in
     let ends = first.ends in
-    let wrote = told.tries (first.device.honesty.0 honest) c.in_ok-land.ensures.landed in
+    let wrote = told.tries c.in_ok-land.ensures.landed in
     let both = sends_both c.traces_join.ensures.joined c.args.cache.now c.land.new.self c.write_all_of.new.cache first.trace told.trace in omega (arith, landed, ends, wrote, both)
 
 pub returns-clause-tries : goal.returns-clause-tries
-returns-clause-tries g c honest =
+returns-clause-tries g c =
     let first = c.land.ensures in
     let told = c.write_all_of.ensures in
-    let landed = first.tries honest in
+    let landed = first.tries in
     let ends = first.ends in
-    let wrote = told.tries (first.device.honesty.0 honest) c.in_ok-land.ensures.landed in
+    let wrote = told.tries c.in_ok-land.ensures.landed in
     let both = sends_both c.traces_join.ensures.joined c.args.cache.now c.land.new.self c.write_all_of.new.cache first.trace told.trace in omega (arith, landed, ends, wrote, both)
 
 pub returns-in_err-write_all_of-clause-refused : goal.returns-in_err-write_all_of-clause-refused
@@ -131,18 +131,30 @@ returns-in_err-write_all_of-clause-refused g c run on =
 -- what a sync that stops tells
 pub returns-in_err-land-clause-gave_up : goal.returns-in_err-land-clause-gave_up
 returns-in_err-land-clause-gave_up g c run on =
-    let device = g.D.Device in
-    told_as c.from_residual.result (refusal.DeviceGaveUp c.in_err-land.field-0.0.0) (λ r. RisesIfSyncStops r (device.fault_count c.args.device.now) (device.fault_count c.land.new.device)) c.from_residual.ensures.1
-    (c.in_err-land.ensures.cause false run on)
+    sync_rises (Unit {0}) c.from_residual.result c.in_err-land.field-0.0 _ _ _ c.from_residual.ensures.1 (omega arith) (g.met.D.Device.faults_fit c.land.new.device) (c.in_err-land.ensures.gave_up false run on)
 
 pub returns-in_err-land-clause-refused : goal.returns-in_err-land-clause-refused
 returns-in_err-land-clause-refused g c run on =
-    told_as c.from_residual.result (refusal.DeviceGaveUp c.in_err-land.field-0.0.0) (λ r. IfSyncStops g.D.Device r c.land.new.flights c.args.device.now c.land.new.device) c.from_residual.ensures.1
-    (c.in_err-land.ensures.gave_up false run on)
+    sync_stops (Unit {0}) g.D.Device c.from_residual.result c.in_err-land.field-0.0 _ _ _ c.from_residual.ensures.1 (c.in_err-land.ensures.refused false run on)
 
 pub returns-in_err-land-clause-held : goal.returns-in_err-land-clause-held
-returns-in_err-land-clause-held g c =
-    told_as c.from_residual.result (refusal.DeviceGaveUp c.in_err-land.field-0.0.0) (λ r. IsHeldIfSyncStops r c.land.new.flights) c.from_residual.ensures.1 c.in_err-land.ensures.block
+returns-in_err-land-clause-held g c = sync_holds (Unit {0}) c.from_residual.result c.in_err-land.field-0.0 c.land.new.flights c.from_residual.ensures.1 c.in_err-land.ensures.held
+
+pub returns-in_err-land-clause-lasts : goal.returns-in_err-land-clause-lasts
+returns-in_err-land-clause-lasts g c honest = refused-done c.from_residual.result _ c.from_residual.ensures.0
+
+pub returns-in_err-waiting-clause-lasts : goal.returns-in_err-waiting-clause-lasts
+returns-in_err-waiting-clause-lasts g c honest = refused-done c.from_residual-in_err-waiting.result _ c.from_residual-in_err-waiting.ensures.0
+
+pub returns-in_err-write_all_of-clause-lasts : goal.returns-in_err-write_all_of-clause-lasts
+returns-in_err-write_all_of-clause-lasts g c honest = refused-done c.from_residual-in_err-write_all_of.result _ c.from_residual-in_err-write_all_of.ensures.0
+
+pub returns-then-not-is_open-clause-lasts : goal.returns-then-not-is_open-clause-lasts
+returns-then-not-is_open-clause-lasts g c honest = tt
+
+pub returns-clause-lasts : goal.returns-clause-lasts
+returns-clause-lasts g c honest lasts =
+    c.in_ok-write_all_of.ensures.lasts (c.land.ensures.device.honesty.0 honest) (c.in_ok-land.ensures.lasts honest lasts)
 
 pub returns-in_err-waiting-clause-gave_up : goal.returns-in_err-waiting-clause-gave_up
 returns-in_err-waiting-clause-gave_up g c run on =
@@ -161,7 +173,7 @@ pub returns-in_err-write_all_of-clause-gave_up : goal.returns-in_err-write_all_o
 returns-in_err-write_all_of-clause-gave_up g c run on =
     let first = c.land.ensures in
     let told = c.in_err-write_all_of.ensures.gave_up _ (record { runs = (first.ran false run on.runs).runs; blocks = first.device.count ∙ on.blocks }) in
-    sync_rises (Unit {0}) c.from_residual-in_err-write_all_of.result c.in_err-write_all_of.field-0.0 _ _ _ c.from_residual-in_err-write_all_of.ensures.1 first.device.faults told
+    sync_rises (Unit {0}) c.from_residual-in_err-write_all_of.result c.in_err-write_all_of.field-0.0 _ _ _ c.from_residual-in_err-write_all_of.ensures.1 first.device.faults (g.met.D.Device.faults_fit c.write_all_of.new.device) told
 
 pub returns-in_err-write_all_of-clause-held : goal.returns-in_err-write_all_of-clause-held
 returns-in_err-write_all_of-clause-held g c =

@@ -1,5 +1,6 @@
 use Rattle.std.proofs.Common.{Bool, Err, ◌≡◌, ◌<◌, ◌∙◌, ◌++◌, take, length, subst, sym, ap, arith, append-nil}
 use Rattle.std.proofs.lemmas.List.{take_all}
+use Rattle.std.proofs.lemmas.Result.{IfOk-from_err}
 use Rattle.std.specs.Prelude.{count_by}
 use Rattle.patch_model.specs.Execution.{followed_by}
 use Rattle.patch_model.specs.State.{entries_of}
@@ -50,15 +51,15 @@ pub returns-in_err-write_next-clause-disk : goal.returns-in_err-write_next-claus
 returns-in_err-write_next-clause-disk g c honest =
     let before = c.loop.invariant in
     let told = c.write_next.ensures in
-    keeps_both c.traces_join.ensures.joined c.stretches_join.ensures.kept c.args.cache.now c.loop.cache c.write_next.new.self c.args.flights.now c.loop.flights _ _ _ _ _ _ before.trace told.trace before.ran
+    keeps_both c.traces_join.ensures.joined g.D.Device c.stretches_join.ensures.kept c.args.cache.now c.loop.cache c.write_next.new.self c.args.flights.now c.loop.flights _ _ _ before.trace told.trace before.ran
     (before.disk honest) (told.disk (before.same.honesty.0 honest))
 
 pub returns-in_err-write_next-clause-tries : goal.returns-in_err-write_next-clause-tries
-returns-in_err-write_next-clause-tries g c honest none =
+returns-in_err-write_next-clause-tries g c none =
     let before = c.loop.invariant in
     let told = c.write_next.ensures in
-    let so_far = before.tries honest none in
-    let one = told.tries (before.same.honesty.0 honest) in
+    let so_far = before.tries none in
+    let one = told.tries in
     let empty = ap length (before.landed none) in
     let both = sends_both c.traces_join.ensures.joined c.args.cache.now c.loop.cache c.write_next.new.self before.trace told.trace in omega (arith, so_far, one, empty, both)
 
@@ -81,7 +82,7 @@ pub returns-then-not-branch-clause-disk : goal.returns-then-not-branch-clause-di
 returns-then-not-branch-clause-disk g c honest =
     let before = c.loop.invariant in
     let told = c.write_next.ensures in
-    keeps_both c.traces_join.ensures.joined c.stretches_join.ensures.kept c.args.cache.now c.loop.cache c.write_next.new.self c.args.flights.now c.loop.flights _ _ _ _ _ _ before.trace told.trace before.ran
+    keeps_both c.traces_join.ensures.joined g.D.Device c.stretches_join.ensures.kept c.args.cache.now c.loop.cache c.write_next.new.self c.args.flights.now c.loop.flights _ _ _ before.trace told.trace before.ran
     (before.disk honest) (told.disk (before.same.honesty.0 honest))
 
 pub returns-then-not-branch-clause-done : goal.returns-then-not-branch-clause-done
@@ -118,11 +119,11 @@ returns-then-not-branch-clause-steps g c run r none =
     (subst (λ r. count_by (is_pending (entries_of r)) waiting ≡ 0) later (none_pending_of (entries_of (followed_by so_far (steps_since mid now))) waiting flushed.none)))
 
 pub returns-then-not-branch-clause-tries : goal.returns-then-not-branch-clause-tries
-returns-then-not-branch-clause-tries g c honest none =
+returns-then-not-branch-clause-tries g c none =
     let before = c.loop.invariant in
     let told = c.write_next.ensures in
-    let so_far = before.tries honest none in
-    let one = told.tries (before.same.honesty.0 honest) in
+    let so_far = before.tries none in
+    let one = told.tries in
     let empty = ap length (before.landed none) in
     let both = sends_both c.traces_join.ensures.joined c.args.cache.now c.loop.cache c.write_next.new.self before.trace told.trace in omega (arith, so_far, one, empty, both)
 
@@ -161,14 +162,15 @@ loop-preserved g c =
       within = c.first_pending-at.ensures.within;
       trace = continues_both joins old mid now before.trace told.trace;
       disk = λ honest.
-          keeps_both joins c.stretches_join.ensures.kept old mid now c.args.flights.now c.loop.flights _ _ _ _ _ _ before.trace told.trace before.ran (before.disk honest) (told.disk (before.same.honesty.0 honest));
-      tries = λ honest none.
-          let so_far = before.tries honest none in
-          let one = told.tries (before.same.honesty.0 honest) in
+          keeps_both joins g.D.Device c.stretches_join.ensures.kept old mid now c.args.flights.now c.loop.flights _ _ _ before.trace told.trace before.ran (before.disk honest) (told.disk (before.same.honesty.0 honest));
+      tries = λ none.
+          let so_far = before.tries none in
+          let one = told.tries in
           let empty = ap length (before.landed none) in
           let both = sends_both joins old mid now before.trace told.trace in omega (arith, so_far, one, empty, both);
       landed = λ none. told.landed (before.landed none);
       same = same_both g.D.Device _ _ _ before.same told.device;
+      lasts = λ honest lasts. told.lasts (before.same.honesty.0 honest) (before.lasts honest lasts);
     }
 
 -- what a write that was given up leaves
@@ -176,7 +178,7 @@ pub returns-in_err-write_next-clause-gave_up : goal.returns-in_err-write_next-cl
 returns-in_err-write_next-clause-gave_up g c run on =
     let before = c.loop.invariant in
     let told = c.in_err-write_next.ensures.gave_up _ (record { runs = (before.ran run on.runs).runs; blocks = before.same.count ∙ on.blocks }) in
-    write_rises Bool c.from_residual.result c.in_err-write_next.field-0.0 _ _ _ c.from_residual.ensures.1 before.same.faults told
+    write_rises Bool c.from_residual.result c.in_err-write_next.field-0.0 _ _ _ c.from_residual.ensures.1 before.same.faults (g.met.D.Device.faults_fit c.write_next.new.device) told
 
 pub returns-in_err-write_next-clause-held : goal.returns-in_err-write_next-clause-held
 returns-in_err-write_next-clause-held g c = write_holds Bool c.from_residual.result c.in_err-write_next.field-0.0 c.write_next.new.flights c.from_residual.ensures.1 c.in_err-write_next.ensures.held
@@ -192,3 +194,10 @@ returns-then-not-branch-clause-trace g c = continues_both c.traces_join.ensures.
 
 pub returns-then-not-branch-clause-device : goal.returns-then-not-branch-clause-device
 returns-then-not-branch-clause-device g c = same_both g.D.Device c.args.device.now c.loop.device c.write_next.new.device c.loop.invariant.same c.write_next.ensures.device
+
+pub returns-in_err-write_next-clause-lasts : goal.returns-in_err-write_next-clause-lasts
+returns-in_err-write_next-clause-lasts g c honest = IfOk-from_err c.from_residual.result _ c.from_residual.ensures.0
+
+pub returns-then-not-branch-clause-lasts : goal.returns-then-not-branch-clause-lasts
+returns-then-not-branch-clause-lasts g c honest lasts =
+    let before = c.loop.invariant in c.in_ok-write_next.ensures.lasts (before.same.honesty.0 honest) (before.lasts honest lasts)

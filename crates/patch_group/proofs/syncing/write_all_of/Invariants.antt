@@ -2,7 +2,7 @@ use Rattle.std.proofs.Common.{◌≡◌, ◌+◌, ◌*◌, ◌≤◌, [], take, 
 use Rattle.std.specs.Prelude.{count_by}
 use Rattle.patch_model.specs.Execution.{Execution, followed_by}
 use Rattle.patch_model.specs.State.{entries_of}
-use Rattle.patch_device.specs.SameDevice.{IsSameDevice}
+use Rattle.patch_device.specs.SameDevice.{IsSameDevice, IsLasting}
 use Rattle.patch_cache.specs.Running.{Runs, held_by}
 use Rattle.patch_cache.specs.Waves.{is_send, steps_since, Continues, HasGoneOn, KeepsDisk}
 use Rattle.patch_cache.specs.declared.landing.TheConstants.{TRIES}
@@ -22,8 +22,9 @@ invariant-loop g l =
       past : (run : Execution) → Runs l.fn.cache l.fn.flights run → count_by (is_pending (entries_of (followed_by run (steps_since l.fn.cache l.cache)))) (take l.at l.waiting) ≡ 0;
       within : l.at ≤ length l.waiting;
       trace : Continues l.fn.cache l.cache;
-      disk : device.is_honest old → KeepsDisk l.fn.cache l.cache l.fn.flights (device.had old) (device.had l.device) (device.contents old) (device.contents l.device);
-      tries : device.is_honest old → held_by l.fn.flights ≡ [] → length (device.had l.device) ≤ length (device.had old) + TRIES * count_by is_send (steps_since l.fn.cache l.cache);
+      disk : device.is_honest old → KeepsDisk device l.fn.cache l.cache l.fn.flights old l.device;
+      tries : held_by l.fn.flights ≡ [] → device.moment l.device ≤ device.moment old + (TRIES + 1) * count_by is_send (steps_since l.fn.cache l.cache);
       landed : held_by l.fn.flights ≡ [] → held_by l.flights ≡ [];
       same : IsSameDevice g.D.Device old l.device;
+      lasts : device.is_honest old → IsLasting device old → IsLasting device l.device;
     }

@@ -1,6 +1,6 @@
 use Rattle.std.proofs.Common.{subst}
-use Rattle.patch_shared.specs.Serving.{RisesAtEnd}
+use Rattle.patch_shared.specs.Serving.{CameTo}
 use Rattle.patch_shared.proofs.serving.cause_of.Goals as goal
 
-pub returns-in-GaveUp-clause-cause : goal.returns-in-GaveUp-clause-cause
-returns-in-GaveUp-clause-cause g c = λ before now rises. subst (λ end. RisesAtEnd end before now) c.in-GaveUp.is rises
+pub returns-in-Err-clause-cause : goal.returns-in-Err-clause-cause
+returns-in-Err-clause-cause g c = λ before now came. subst (λ end. CameTo g.D.Device end before now) c.in-Err.is came

@@ -8,7 +8,7 @@ returns-clause-served g c =
     let ran = c.args.ran in
     let agreed = c.if-not-agrees.ensures in
     let finished = c.finish.ensures in
-    served_so g.D.Device ran.book ran.device ran.replies c.args.opening.items (commands_in c.args.jobs.now) c.finish.result finished.book finished.replies finished.holds finished.device
+    served_so g.D.Device ran.book ran.device ran.replies c.args.opening.items (commands_in c.args.jobs.now) c.finish.result finished.book finished.replies finished.holds finished.device finished.lasts
     (agreed.opening refl ∙ c.as_slice.ensures.value) c.requires.kept (agreed.told refl) c.requires.all (agreed.settled refl)
 
 pub returns-clause-fault : goal.returns-clause-fault

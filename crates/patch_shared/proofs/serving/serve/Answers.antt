@@ -29,3 +29,6 @@ returns-clause-holds g c = also _ _ c.serve_lists.result (λ finished is. is.hol
 
 pub returns-clause-device : goal.returns-clause-device
 returns-clause-device g c = also _ _ c.serve_lists.result (λ finished is. is.same) (c.serve_lists.ensures.served c.requires.new.0 c.requires.new.1)
+
+pub returns-clause-lasts : goal.returns-clause-lasts
+returns-clause-lasts g c = also _ _ c.serve_lists.result (λ finished is. is.lasts) (c.serve_lists.ensures.served c.requires.new.0 c.requires.new.1)

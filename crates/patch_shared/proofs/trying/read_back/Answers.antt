@@ -4,6 +4,7 @@ use Rattle.std.proofs.lemmas.Result.{IfOk-from_err}
 use Rattle.patch_device.specs.SameDevice.{same_still, same_both}
 use Rattle.patch_model.specs.History.{cached, history_of}
 use borrow.Author.Count.{below_more}
+use Rattle.patch_shared.proofs.Resting.{fault_later, lasts_on}
 use Rattle.patch_shared.proofs.trying.read_back.Goals as goal
 
 pub compare_block-requires : goal.compare_block-requires
@@ -14,6 +15,7 @@ compare_block-requires g c =
 pub loop-n-init : goal.loop-n-init
 loop-n-init g c = record {
   same = same_still g.D.Device c.args.device.now;
+  moment = refl;
   contents_are = λ _. refl;
   hold = λ honest run stands count b none. absurd (omega (arith, none));
 }
@@ -34,6 +36,7 @@ loop-n-preserved g c =
     let so_far = c.loop-n.invariant in
     record {
       same = same_both d c.args.device.now c.loop-n.device c.compare_block.new.device so_far.same c.in_ok-compare_block.ensures.device;
+      moment = c.in_ok-compare_block.ensures.moment ∙ so_far.moment;
       contents_are = λ honest. c.in_ok-compare_block.ensures.same (so_far.same.honesty.0 honest) ∙ so_far.contents_are honest;
       hold = λ honest run stands count.
           let there : c.loop-n.n < length run.first = omega (arith, count) in
@@ -41,3 +44,19 @@ loop-n-preserved g c =
           (subst (λ x. slice_get x c.loop-n.n ≡ Some (cached (history_of run c.loop-n.n))) (so_far.contents_are honest)
           (c.in_ok-compare_block.ensures.holds (so_far.same.honesty.0 honest) run stands there));
     }
+
+pub returns-in_err-compare_block-clause-gave_up : goal.returns-in_err-compare_block-clause-gave_up
+returns-in_err-compare_block-clause-gave_up g c =
+    fault_later g.D.Device c.from_residual.result _ c.args.device.now c.loop-n.device c.compare_block.new.device c.from_residual.ensures.1 c.loop-n.invariant.same
+    c.in_err-compare_block.ensures.gave_up
+
+pub returns-clause-lasts : goal.returns-clause-lasts
+returns-clause-lasts g c = λ honest. lasts_on g.D.Device c.args.device.now c.loop-n.device c.loop-n.invariant.same c.loop-n.invariant.moment (c.loop-n.invariant.contents_are honest)
+
+pub returns-in_err-compare_block-clause-lasts : goal.returns-in_err-compare_block-clause-lasts
+returns-in_err-compare_block-clause-lasts g c = λ honest.
+    let d = g.D.Device in
+    let so_far = c.loop-n.invariant in
+    lasts_on d c.args.device.now c.compare_block.new.device
+    (same_both d c.args.device.now c.loop-n.device c.compare_block.new.device so_far.same c.in_err-compare_block.ensures.device)
+    (c.in_err-compare_block.ensures.moment ∙ so_far.moment) (c.in_err-compare_block.ensures.same (so_far.same.honesty.0 honest) ∙ so_far.contents_are honest)

@@ -10,6 +10,7 @@ use Rattle.patch_shared.proofs.trying.read_back.Given as goal
 abbrev pub invariant-loop-n : goal.invariant-loop-n
 invariant-loop-n g l = record {
   same : IsSameDevice g.D.Device l.fn.device l.device;
+  moment : g.D.Device.moment l.device ≡ g.D.Device.moment l.fn.device;
   contents_are : g.D.Device.is_honest l.fn.device → g.D.Device.contents l.device ≡ g.D.Device.contents l.fn.device;
   hold : g.D.Device.is_honest l.fn.device → (run : Execution) → IsCacheOf l.cache run → g.D.Device.block_count l.fn.device ≡ length run.first
       → (b : ℕ) → b < l.n → slice_get (g.D.Device.contents l.fn.device) b ≡ Some (cached (history_of run b));

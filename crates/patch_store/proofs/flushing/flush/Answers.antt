@@ -14,10 +14,7 @@ returns-clause-ran g c h was =
 
 pub returns-clause-disk : goal.returns-clause-disk
 returns-clause-disk g c honest h was =
-    let d = g.D.Device in
-    let before = c.args.device.now in
-    let now = c.flush-flushed.new.device in
-    said_beside (λ h steps. HasKept (execution_of h) steps (d.had before) (d.had now) (d.contents before) (d.contents now)) _ _ c.flush-flushed.new.self
+    said_beside (λ h steps. HasKept g.D.Device (execution_of h) steps c.args.device.now c.flush-flushed.new.device) _ _ c.flush-flushed.new.self
     c.new-flights.result c.store.view_is c.new-flights.ensures (λ h runs. c.flush-flushed.ensures.disk honest true (execution_of h) runs) h was
 
 pub returns-clause-flushed : goal.returns-clause-flushed

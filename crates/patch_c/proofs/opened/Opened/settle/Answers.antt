@@ -7,5 +7,5 @@ invariant_of-self-else-not-is_done c =
     let before = contents_of c.args.self.now.device in
     record {
       stands = same_so c.args.self.now.is_spent c.args.self.now.store before (contents_of c.clear.new.self)
-          (empty_holds c.clear.new.self before c.clear.ensures.file c.clear.ensures.writes) c.args.self.now.stands;
+          (empty_holds c.clear.new.self before c.clear.ensures.file c.clear.ensures.events) c.args.self.now.stands;
     }

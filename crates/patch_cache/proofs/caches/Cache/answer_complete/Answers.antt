@@ -1,16 +1,19 @@
-use Rattle.std.proofs.Common.{◌≡◌, ◌<◌, ◌++◌, ◌∷◌, [], ap, slice_set}
+use Rattle.std.proofs.Common.{◌≡◌, ◌<◌, ◌++◌, ◌∷◌, [], length, ap, inr, slice_set}
 use Rattle.patch_model.specs.Execution.{extended}
 use Rattle.patch_model.specs.State.{entries_of, flying_of, numbers_of}
 use Rattle.patch_model.specs.Step as the
 use Rattle.patch_cache.specs.Meaning.{Represents}
 use Rattle.patch_cache.specs.Flights.{AreFlightsOf}
 use Rattle.patch_device.specs.Device.{HasRisen, IsOldOrNew}
-use Rattle.patch_cache.specs.Running.{IsCrashSafe}
 use Rattle.patch_cache.proofs.caches.Cache.answer_complete.Goals as goal
 use Rattle.std.proofs.Common.{inl, refl, sym, subst, ◌∙◌}
 use Rattle.patch_cache.proofs.Answering.{found, no_stranger, on_err, on_ok, none_answered, fault_answered, landed_answered, written_or_not, written_for}
-use Rattle.patch_cache.proofs.Crashing.{unmoved, write_refused, write_completed}
-use Rattle.patch_cache.proofs.Serving.{stranger_faultless}
+use Rattle.patch_cache.proofs.Crashing.{unmoved, unmoved_steps, write_lands, synced, joined}
+use Rattle.patch_cache.proofs.Waving.{joined_still}
+use Rattle.patch_cache.proofs.GivenUp.{risen_once_later}
+use Rattle.patch_cache.specs.Asks.{Refused, IsFault}
+use Rattle.patch_model.specs.Crash.{MayLeave}
+use Rattle.patch_cache.proofs.Serving.{stranger_faultless, landed_faultless}
 use Rattle.patch_cache.proofs.Holding.{held_complete, none_stands, stands_at}
 
 -- the block has no flight
@@ -20,7 +23,7 @@ returns-in_default-clause-served g c = λ run on. record {
       (none_stands run c.args.flights.now.held.items c.args.block on.runs.flights_are (sym c.place_of.ensures ∙ c.in_default.is));
   fault = λ is. absurd (stranger_faultless c.bare.result c.bare.ensures is);
   written = λ honest. inl refl;
-  crash = λ honest left. unmoved run _ _ left;
+  crash = λ honest left. unmoved g.D.Device run c.args.device.now left;
 }
 
 -- the device refused the write
@@ -33,18 +36,46 @@ returns-then-is_err-clause-served g c = λ run on.
     let old = c.args.device.now in
     let new = c.write_image.new.device in
     let flight = c.index.result.now in
+    let told = c.write_image.ensures in
     let failed = sym c.is_err.ensures.value ∙ c.if-is_err.true in
     let either = λ (honest : device.is_honest old).
-    on_err c.write_image.result (IsOldOrNew (device.contents old) flight.block flight.image (device.contents new)) failed (c.write_image.ensures.refused honest) in record {
-      answered = fault_answered run c.args.block c.bare-then-is_err.result c.args.self.now c.args.flights.now c.bare-then-is_err.ensures on.runs s.block_flies;
+    on_err c.write_image.result (IsOldOrNew (device.contents old) flight.block flight.image (device.contents new)) failed (told.refused honest) in
+    let fault : IsFault (Refused c.bare-then-is_err.result) = inl (ap Refused c.bare-then-is_err.ensures) in record {
+      answered = fault_answered run c.args.block c.bare-then-is_err.result c.args.self.now c.args.flights.now fault on.runs s.block_flies;
       fault = λ is.
           on_err c.write_image.result (HasRisen (device.fault_count old) (device.fault_count new)) failed
-          (c.write_image.ensures.cause (subst (λ n. flight.block < n) (sym on.blocks) s.known));
-      written = λ honest.
-          written_or_not run c.args.block flight c.bare-then-is_err.result (device.contents old) (device.contents new) c.bare-then-is_err.ensures s.block_is s.is.image_is (either honest);
+          (told.cause (subst (λ n. flight.block < n) (sym on.blocks) s.known));
+      written = λ honest. written_or_not run c.args.block flight c.bare-then-is_err.result (device.contents old) (device.contents new) fault s.block_is s.is.image_is (either honest);
       crash = λ honest left.
-          write_refused c.images_land.ensures run flight.block flight.image (device.had old) (device.had new) (device.contents old) (device.contents new) s.known s.is.image_is (either honest)
-          (c.write_image.ensures.had honest) left;
+          write_lands c.images_land.ensures device run flight.block flight.image old new s.known s.is.image_is told.device.time told.moment (told.left honest) left;
+    }
+
+-- the device refused the sync
+pub returns-then-is_err-2-clause-served : goal.returns-then-is_err-2-clause-served
+returns-then-is_err-2-clause-served g c = λ run on.
+    let s =
+    found c.flights_are_single.ensures.holds c.patches_are_placed.ensures.known run c.args.flights.now.held.items c.args.block c.in-Some.at c.index.result.now on.runs.cache_is.legal
+    on.runs.flights_are (sym c.place_of.ensures ∙ c.in-Some.is) c.index.ensures in
+    let device = g.D.Device in
+    let old = c.args.device.now in
+    let mid = c.write_image.new.device in
+    let new = c.sync.new.self in
+    let flight = c.index.result.now in
+    let told = c.write_image.ensures in
+    let synced_so = c.sync.ensures in
+    let passed = sym c.is_err.ensures.value ∙ c.if-is_err.false in
+    let failed = sym c.is_err-2.ensures.value ∙ c.if-is_err-2.true in
+    let fault : IsFault (Refused c.bare-then-is_err-2.result) = inr (ap Refused c.bare-then-is_err-2.ensures) in record {
+      answered = fault_answered run c.args.block c.bare-then-is_err-2.result c.args.self.now c.args.flights.now fault on.runs s.block_flies;
+      fault = λ is.
+          risen_once_later (device.fault_count old) (device.fault_count mid) (device.fault_count new) told.device.faults (g.met.D.Device.faults_fit new)
+          (on_err c.sync.result (HasRisen (device.fault_count mid) (device.fault_count new)) failed synced_so.fault);
+      written = λ honest.
+          let wrote = on_ok c.write_image.result (device.contents mid ≡ slice_set (device.contents old) flight.block flight.image) passed (told.written honest) in
+          written_or_not run c.args.block flight c.bare-then-is_err-2.result (device.contents old) (device.contents new) fault s.block_is s.is.image_is (inr (synced_so.same (told.device.honesty.0 honest) ∙ wrote));
+      crash = λ honest left.
+          let first = write_lands c.images_land.ensures device run flight.block flight.image old mid s.known s.is.image_is told.device.time told.moment (told.left honest) left in
+          joined_still device run run old mid new first (synced device run mid new synced_so.time synced_so.one_moment (synced_so.no_more (told.device.honesty.0 honest)) first.left);
     }
 
 -- the write is completed
@@ -55,12 +86,17 @@ returns-in-Ok-clause-served g c = λ run on.
     on.runs.flights_are (sym c.place_of.ensures ∙ c.in-Some.is) c.index.ensures in
     let device = g.D.Device in
     let old = c.args.device.now in
-    let new = c.write_image.new.device in
+    let mid = c.write_image.new.device in
+    let new = c.sync.new.self in
     let block = c.args.block in
     let flight = c.index.result.now in
+    let told = c.write_image.ensures in
+    let synced_so = c.sync.ensures in
     let passed = sym c.is_err.ensures.value ∙ c.if-is_err.false in
+    let lasted = sym c.is_err-2.ensures.value ∙ c.if-is_err-2.false in
     let wrote = λ (honest : device.is_honest old).
-    on_ok c.write_image.result (device.contents new ≡ slice_set (device.contents old) flight.block flight.image) passed (c.write_image.ensures.written honest) in record {
+    on_ok c.write_image.result (device.contents mid ≡ slice_set (device.contents old) flight.block flight.image) passed (told.written honest) in
+    let holds = λ (honest : device.is_honest old). written_for run block flight (device.contents old) (device.contents new) s.block_is s.is.image_is (synced_so.same (told.device.honesty.0 honest) ∙ wrote honest) in record {
       answered =
           let taken = c.swap_remove.result in
           let t =
@@ -76,12 +112,19 @@ returns-in-Ok-clause-served g c = λ run on.
                 (held_complete c.steps_extend.ensures.state c.images_stay.ensures c.flights_are_ready.ensures.landed_elsewhere run block c.args.flights.now.held.items c.in-Some.at taken taken t.stands t.block_is
                 on.runs.flights_are);
           });
-      fault = λ is. absurd (cc);
-      written = λ honest. written_for run block flight (device.contents old) (device.contents new) s.block_is s.is.image_is (wrote honest);
+      fault = λ is. absurd (landed_faultless c.in-Ok.done.block c.in-Ok.done.numbers is);
+      written = holds;
       crash = λ honest left.
-          subst (λ b. IsCrashSafe run (extended run (the.Complete b)) (device.had old) (device.had new) (device.contents new)) s.block_is
-          (write_completed c.images_land.ensures c.writes_end.ensures run flight.block flight.image (device.had old) (device.had new) (device.contents old) (device.contents new)
-          on.runs.cache_is.legal s.known s.is.image_is (wrote honest) (c.write_image.ensures.had honest) left);
+          let there = told.device.honesty.0 honest in
+          let first = write_lands c.images_land.ensures device run flight.block flight.image old mid s.known s.is.image_is told.device.time told.moment (told.left honest) left in
+          let second = joined_still device run run old mid new first (synced device run mid new synced_so.time synced_so.one_moment (synced_so.no_more there) first.left) in
+          let lasts = on_ok c.sync.result _ lasted (synced_so.lasts there) in
+          let next = extended run (the.Complete block) in
+          let ended : MayLeave next (device.contents new) =
+          subst (MayLeave next) (sym (holds honest)) (c.writes_end.ensures run (device.contents old) block on.runs.cache_is.legal (subst (λ n. n < length run.first) s.block_is s.known)
+          (left (device.contents old) (g.met.D.Device.all_may_land old honest))) in
+          joined device run run next (the.Complete block ∷ []) old new new refl second
+          (unmoved_steps device run (the.Complete block ∷ []) new (λ disk may. subst (MayLeave next) (sym (lasts disk may)) ended));
     }
 
 -- the flight is the cache's, and can't be a stranger

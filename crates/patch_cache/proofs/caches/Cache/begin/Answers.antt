@@ -1,5 +1,5 @@
 use Rattle.std.proofs.Common.{◌≡◌, ◌<◌, ◌≤◌, ◌++◌, ◌∷◌, ◌+◌, ◌∙◌, ℕ, List, [], None, Some, length, get_or, map, refl, sym, ap, subst}
-use Rattle.std.specs.Prelude.{◌==◌, ◌&&◌, not, count_by, slice_index_or}
+use Rattle.std.specs.Prelude.{count_by, slice_index_or}
 use Rattle.std.specs.List.Sorted.{IsNonDecreasing}
 use Rattle.std.proofs.lemmas.List.{get_or_read_under, length-append, length-set, map-append}
 use Rattle.patch_model.specs.StepOf.{step_of}

@@ -1,12 +1,12 @@
-use Rattle.std.proofs.Common.{Bool, Result, false, ◌∙◌, length, sym, ap, subst, arith}
+use Rattle.std.proofs.Common.{Bool, false, ◌∙◌, length, sym, ap, subst, arith}
 use Rattle.patch_model.specs.Execution.{Execution, followed_by}
 use Rattle.patch_model.specs.State.{entries_of}
 use Rattle.patch_device.specs.SameDevice.{same_both}
 use Rattle.patch_cache.specs.Running.{Runs, RunsBeside}
 use Rattle.patch_cache.specs.Waves.{steps_since, HasGoneOnBeside, IsFlushed, RisesIfGivenUp, IsHeldIfGivenUp}
-use Rattle.patch_cache.specs.Refused.{IfGivenUp, refused_later}
-use Rattle.patch_cache.proofs.Waving.{continues_both, since_both, went_both, keeps_both, sends_since, given_so}
-use Rattle.patch_cache.proofs.GivenUp.{rises_so, held_so, no_device_gave_up, risen_later}
+use Rattle.patch_cache.specs.Refused.{IfGivenUp, given_up_later}
+use Rattle.patch_cache.proofs.Waving.{continues_both, since_both, went_both, keeps_both, keeps_aside, sends_since}
+use Rattle.patch_cache.proofs.GivenUp.{rises_on, rises_later, held_on, given_on, no_device_gave_up}
 use Rattle.patch_cache.proofs.Passing.{passed_none, passed_some, flushed_after, few_classes}
 use Rattle.std.proofs.lemmas.Result.{IfOk-from_err}
 use Rattle.patch_cache.proofs.caches.Cache.flush.Goals as goal
@@ -19,9 +19,10 @@ loop-init g c =
       waves = λ run runs. omega arith;
       trace = told.trace;
       disk = told.disk;
-      tries = λ honest. let tried = told.tries honest in let ends = told.ends in omega (arith, tried, ends);
+      tries = let tried = told.tries in let ends = told.ends in omega (arith, tried, ends);
       landed = c.in_ok-land.ensures.landed;
       same = told.device;
+      lasts = c.in_ok-land.ensures.lasts;
     }
 
 -- a wave can't begin
@@ -38,8 +39,8 @@ pub returns-in_err-send_all-clause-disk : goal.returns-in_err-send_all-clause-di
 returns-in_err-send_all-clause-disk g c honest others =
     let device = g.D.Device in
     let before = c.loop.invariant in
-    keeps_both c.trails_join.ensures c.args.self.now c.loop.self c.send_all.new.self c.args.flights.now c.loop.flights _ _ _ _ _ _ before.trace c.send_all.ensures.trace (before.ran others) (before.disk honest others)
-    (c.send_all.ensures.disk (device.had c.loop.device) (device.contents c.loop.device) others)
+    keeps_both device c.args.self.now c.loop.self c.send_all.new.self c.args.flights.now c.loop.flights _ _ _ before.trace c.send_all.ensures.trace (before.ran others) (before.disk honest others)
+    (keeps_aside device c.loop.self c.send_all.new.self c.loop.flights c.loop.device (c.send_all.ensures.stays others))
 
 -- there was none to begin
 pub returns-then-not-branch-clause-flushed : goal.returns-then-not-branch-clause-flushed
@@ -61,8 +62,8 @@ pub returns-then-not-branch-clause-disk : goal.returns-then-not-branch-clause-di
 returns-then-not-branch-clause-disk g c honest others =
     let device = g.D.Device in
     let before = c.loop.invariant in
-    keeps_both c.trails_join.ensures c.args.self.now c.loop.self c.send_all.new.self c.args.flights.now c.loop.flights _ _ _ _ _ _ before.trace c.send_all.ensures.trace (before.ran others) (before.disk honest others)
-    (c.send_all.ensures.disk (device.had c.loop.device) (device.contents c.loop.device) others)
+    keeps_both device c.args.self.now c.loop.self c.send_all.new.self c.args.flights.now c.loop.flights _ _ _ before.trace c.send_all.ensures.trace (before.ran others) (before.disk honest others)
+    (keeps_aside device c.loop.self c.send_all.new.self c.loop.flights c.loop.device (c.send_all.ensures.stays others))
 
 -- a flight of the wave was given up
 pub returns-in_err-land-2-clause-ran : goal.returns-in_err-land-2-clause-ran
@@ -86,9 +87,9 @@ returns-in_err-land-2-clause-disk g c honest others =
     let told = c.in_ok-send_all.ensures in
     let ran : (run : Execution) → RunsBeside others old c.args.flights.now run → HasGoneOnBeside others run (steps_since old sent) sent c.send_all.new.flights =
     λ run runs. let first = before.ran others run runs in went_both run old mid sent c.loop.flights c.send_all.new.flights before.trace told.trace first (told.ran others _ first.runs) in
-    keeps_both c.trails_join.ensures old sent c.land-in-loop.new.self c.args.flights.now c.send_all.new.flights _ _ _ _ _ _ (continues_both old mid sent before.trace told.trace) c.land-in-loop.ensures.trace ran
-    (keeps_both c.trails_join.ensures old mid sent c.args.flights.now c.loop.flights _ _ _ _ _ _ before.trace told.trace (before.ran others) (before.disk honest others)
-    (told.disk (device.had c.loop.device) (device.contents c.loop.device) others))
+    keeps_both device old sent c.land-in-loop.new.self c.args.flights.now c.send_all.new.flights _ _ _ (continues_both old mid sent before.trace told.trace) c.land-in-loop.ensures.trace ran
+    (keeps_both device old mid sent c.args.flights.now c.loop.flights _ _ _ before.trace told.trace (before.ran others) (before.disk honest others)
+    (keeps_aside device mid sent c.loop.flights c.loop.device (c.send_all.ensures.stays others)))
     (c.land-in-loop.ensures.disk (before.same.honesty.0 honest) others)
 
 pub loop-preserved : goal.loop-preserved
@@ -114,13 +115,13 @@ loop-preserved g c =
           let outer = sends_since old sent now trace told.trace in omega (arith, some, so_far, inner, outer);
       trace = continues_both old sent now trace told.trace;
       disk = λ honest others.
-          keeps_both c.trails_join.ensures old sent now c.args.flights.now c.send_all.new.flights _ _ _ _ _ _ trace told.trace (ran others)
-          (keeps_both c.trails_join.ensures old mid sent c.args.flights.now c.loop.flights _ _ _ _ _ _ before.trace wave.trace (before.ran others) (before.disk honest others)
-          (wave.disk (device.had c.loop.device) (device.contents c.loop.device) others))
+          keeps_both device old sent now c.args.flights.now c.send_all.new.flights _ _ _ trace told.trace (ran others)
+          (keeps_both device old mid sent c.args.flights.now c.loop.flights _ _ _ before.trace wave.trace (before.ran others) (before.disk honest others)
+          (keeps_aside device mid sent c.loop.flights c.loop.device (c.send_all.ensures.stays others)))
           (told.disk (before.same.honesty.0 honest) others);
-      tries = λ honest.
-          let so_far = before.tries honest in
-          let wave_tried = told.tries (before.same.honesty.0 honest) in
+      tries =
+          let so_far = before.tries in
+          let wave_tried = told.tries in
           let held = wave.count in
           let none = ap length before.landed in
           let sends = sends_since old mid sent before.trace wave.trace in
@@ -128,6 +129,7 @@ loop-preserved g c =
           let ends = told.ends in omega (arith, so_far, wave_tried, held, none, sends, lands, ends);
       landed = c.in_ok-land-2.ensures.landed;
       same = same_both g.D.Device c.args.device.now c.loop.device c.land-in-loop.new.device before.same told.device;
+      lasts = λ honest lasts. c.in_ok-land-2.ensures.lasts (before.same.honesty.0 honest) (before.lasts honest lasts);
     }
 
 pub returns-in_err-land-2-clause-refused : goal.returns-in_err-land-2-clause-refused
@@ -135,9 +137,9 @@ returns-in_err-land-2-clause-refused g c others run on =
     let before = c.loop.invariant in
     let first = before.ran others run on.runs in
     let sent = c.send_all.ensures.ran others _ first.runs in
-    let told = c.in_err-land-2.ensures.gave_up others _ (record { runs = sent.runs; blocks = before.same.count ∙ on.blocks }) in
-    given_so g.D.Device _ c.in_err-land-2.field-0.0.0 _ _ _ c.from_residual-in_err-land-2.ensures.1
-    (refused_later g.D.Device _ _ c.args.device.now c.loop.device c.land-in-loop.new.device before.same told)
+    let told = c.in_err-land-2.ensures.refused others _ (record { runs = sent.runs; blocks = before.same.count ∙ on.blocks }) in
+    given_up_later g.D.Device _ _ c.args.device.now c.loop.device c.land-in-loop.new.device before.same
+    (given_on (Unit {0}) g.D.Device _ c.in_err-land-2.field-0.0 _ _ _ c.from_residual-in_err-land-2.ensures.1 told)
 
 -- there are no more waves than classes in memory at first
 pub returns-clause-flushed : goal.returns-clause-flushed
@@ -152,30 +154,30 @@ returns-clause-flushed g c run runs =
 
 -- how often
 pub returns-in_err-land-clause-tries : goal.returns-in_err-land-clause-tries
-returns-in_err-land-clause-tries g c honest = let told = c.land.ensures.tries honest in omega (arith, told)
+returns-in_err-land-clause-tries g c = let told = c.land.ensures.tries in omega (arith, told)
 
 pub returns-in_err-send_all-clause-tries : goal.returns-in_err-send_all-clause-tries
-returns-in_err-send_all-clause-tries g c honest =
+returns-in_err-send_all-clause-tries g c =
     let before = c.loop.invariant in
-    let so_far = before.tries honest in
+    let so_far = before.tries in
     let sends = sends_since c.args.self.now c.loop.self c.send_all.new.self before.trace c.send_all.ensures.trace in omega (arith, so_far, sends)
 
 pub returns-then-not-branch-clause-tries : goal.returns-then-not-branch-clause-tries
-returns-then-not-branch-clause-tries g c honest =
+returns-then-not-branch-clause-tries g c =
     let before = c.loop.invariant in
-    let so_far = before.tries honest in
+    let so_far = before.tries in
     let sends = sends_since c.args.self.now c.loop.self c.send_all.new.self before.trace c.send_all.ensures.trace in omega (arith, so_far, sends)
 
 pub returns-in_err-land-2-clause-tries : goal.returns-in_err-land-2-clause-tries
-returns-in_err-land-2-clause-tries g c honest =
+returns-in_err-land-2-clause-tries g c =
     let old = c.args.self.now in
     let mid = c.loop.self in
     let sent = c.send_all.new.self in
     let before = c.loop.invariant in
     let wave = c.in_ok-send_all.ensures in
     let told = c.land-in-loop.ensures in
-    let so_far = before.tries honest in
-    let wave_tried = told.tries (before.same.honesty.0 honest) in
+    let so_far = before.tries in
+    let wave_tried = told.tries in
     let held = wave.count in
     let none = ap length before.landed in
     let sends = sends_since old mid sent before.trace wave.trace in
@@ -185,14 +187,29 @@ returns-in_err-land-2-clause-tries g c honest =
 -- which device was given up
 pub returns-in_err-land-clause-gave_up : goal.returns-in_err-land-clause-gave_up
 returns-in_err-land-clause-gave_up g c others run on =
-    rises_so c.from_residual.result c.in_err-land.field-0.0.0 _ _ c.from_residual.ensures.1 (c.in_err-land.ensures.cause others run on)
+    rises_on (Unit {0}) c.from_residual.result c.in_err-land.field-0.0 _ _ c.from_residual.ensures.1 (c.in_err-land.ensures.gave_up others run on)
 
 pub returns-in_err-land-clause-refused : goal.returns-in_err-land-clause-refused
 returns-in_err-land-clause-refused g c others run on =
-    given_so g.D.Device c.from_residual.result c.in_err-land.field-0.0.0 _ _ _ c.from_residual.ensures.1 (c.in_err-land.ensures.gave_up others run on)
+    given_on (Unit {0}) g.D.Device c.from_residual.result c.in_err-land.field-0.0 _ _ _ c.from_residual.ensures.1 (c.in_err-land.ensures.refused others run on)
 
 pub returns-in_err-land-clause-held : goal.returns-in_err-land-clause-held
-returns-in_err-land-clause-held g c = held_so c.from_residual.result c.in_err-land.field-0.0.0 c.land.new.flights c.from_residual.ensures.1 c.in_err-land.ensures.block
+returns-in_err-land-clause-held g c = held_on (Unit {0}) c.from_residual.result c.in_err-land.field-0.0 c.land.new.flights c.from_residual.ensures.1 c.in_err-land.ensures.held
+
+pub returns-in_err-land-clause-lasts : goal.returns-in_err-land-clause-lasts
+returns-in_err-land-clause-lasts g c honest = IfOk-from_err c.from_residual.result _ c.from_residual.ensures.0
+
+pub returns-in_err-send_all-clause-lasts : goal.returns-in_err-send_all-clause-lasts
+returns-in_err-send_all-clause-lasts g c honest = IfOk-from_err c.from_residual-in_err-send_all.result _ c.from_residual-in_err-send_all.ensures.0
+
+pub returns-in_err-land-2-clause-lasts : goal.returns-in_err-land-2-clause-lasts
+returns-in_err-land-2-clause-lasts g c honest = IfOk-from_err c.from_residual-in_err-land-2.result _ c.from_residual-in_err-land-2.ensures.0
+
+pub returns-then-not-branch-clause-lasts : goal.returns-then-not-branch-clause-lasts
+returns-then-not-branch-clause-lasts g c = c.loop.invariant.lasts
+
+pub returns-clause-lasts : goal.returns-clause-lasts
+returns-clause-lasts g c = c.loop.invariant.lasts
 
 pub returns-in_err-send_all-clause-gave_up : goal.returns-in_err-send_all-clause-gave_up
 returns-in_err-send_all-clause-gave_up g c others run on =
@@ -211,12 +228,13 @@ returns-in_err-land-2-clause-gave_up g c others run on =
     let before = c.loop.invariant in
     let first = before.ran others run on.runs in
     let sent = c.send_all.ensures.ran others _ first.runs in
-    let told = c.in_err-land-2.ensures.cause others _ (record { runs = sent.runs; blocks = before.same.count ∙ on.blocks }) in
-    rises_so c.from_residual-in_err-land-2.result c.in_err-land-2.field-0.0.0 _ _ c.from_residual-in_err-land-2.ensures.1 (risen_later _ _ _ _ before.same.faults told)
+    let told = c.in_err-land-2.ensures.gave_up others _ (record { runs = sent.runs; blocks = before.same.count ∙ on.blocks }) in
+    rises_later c.from_residual-in_err-land-2.result _ _ _ before.same.faults (g.met.D.Device.faults_fit c.land-in-loop.new.device)
+    (rises_on (Unit {0}) c.from_residual-in_err-land-2.result c.in_err-land-2.field-0.0 _ _ c.from_residual-in_err-land-2.ensures.1 told)
 
 pub returns-in_err-land-2-clause-held : goal.returns-in_err-land-2-clause-held
 returns-in_err-land-2-clause-held g c =
-    held_so c.from_residual-in_err-land-2.result c.in_err-land-2.field-0.0.0 c.land-in-loop.new.flights c.from_residual-in_err-land-2.ensures.1 c.in_err-land-2.ensures.block
+    held_on (Unit {0}) c.from_residual-in_err-land-2.result c.in_err-land-2.field-0.0 c.land-in-loop.new.flights c.from_residual-in_err-land-2.ensures.1 c.in_err-land-2.ensures.held
 
 -- what the way to each exit adds to the trace, and leaves of the device
 pub returns-then-not-branch-clause-ran : goal.returns-then-not-branch-clause-ran

@@ -1,7 +1,7 @@
 use Rattle.std.proofs.Common.{Bool, ◌≡◌, ◌+◌, ◌*◌, ◌≤◌, [], length}
 use Rattle.std.specs.Prelude.{count_by}
 use Rattle.patch_model.specs.Execution.{Execution}
-use Rattle.patch_device.specs.SameDevice.{IsSameDevice}
+use Rattle.patch_device.specs.SameDevice.{IsSameDevice, IsLasting}
 use Rattle.patch_cache.specs.Running.{Runs, RunsBeside, held_by}
 use Rattle.patch_cache.specs.Waves.{is_send, steps_since, Continues, HasGoneOnBeside, KeepsDiskBeside}
 use Rattle.patch_cache.specs.declared.landing.TheConstants.{TRIES}
@@ -16,9 +16,9 @@ invariant-loop g l =
       ran : (others : Bool) (run : Execution) → RunsBeside others l.fn.self l.fn.flights run → HasGoneOnBeside others run (steps_since l.fn.self l.self) l.self l.flights;
       waves : (run : Execution) → Runs l.fn.self l.fn.flights run → l.counter ≤ count_by is_send (steps_since l.fn.self l.self);
       trace : Continues l.fn.self l.self;
-      disk : device.is_honest old → (others : Bool) → KeepsDiskBeside others l.fn.self l.self l.fn.flights (device.had old) (device.had l.device) (device.contents old) (device.contents l.device);
-      tries : device.is_honest old
-          → length (device.had l.device) ≤ length (device.had old) + TRIES * (length (held_by l.fn.flights) + count_by is_send (steps_since l.fn.self l.self));
+      disk : device.is_honest old → (others : Bool) → KeepsDiskBeside device others l.fn.self l.self l.fn.flights old l.device;
+      tries : device.moment l.device ≤ device.moment old + (TRIES + 1) * (length (held_by l.fn.flights) + count_by is_send (steps_since l.fn.self l.self));
       landed : held_by l.flights ≡ [];
       same : IsSameDevice device old l.device;
+      lasts : device.is_honest old → IsLasting device old → IsLasting device l.device;
     }

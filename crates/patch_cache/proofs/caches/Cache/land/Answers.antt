@@ -1,141 +1,92 @@
-use Rattle.std.proofs.Common.{[], false, inl, refl, sym, ◌∙◌, arith, ◌<◌, ℕ, subst}
-use Rattle.std.proofs.lemmas.List.{nil_from_length}
-use Rattle.patch_device.specs.SameDevice.{same_still, same_both}
-use Rattle.patch_cache.specs.declared.refusals.DeviceGaveUp.{DeviceGaveUp}
-use Rattle.patch_cache.specs.Refused.{HasRefusedFirst, refused_later}
-use Rattle.patch_cache.proofs.Waving.{none_added, since_is, no_sends, continues, continues_both, gone_still, kept_unmoved, went_by, went_both, keeps_by, keeps_both, sends_since, one_ended, one_at_last, is_same, some_held, tries_landed, tries_refused, told_so, one_less}
-use Rattle.std.proofs.lemmas.Result.{IfOk-from_err}
-use Rattle.patch_cache.specs.Waves.{IsHeldFirst}
-use Rattle.patch_cache.proofs.Stepping.{on_err}
-use Rattle.patch_cache.proofs.GivenUp.{risen_later}
+use Rattle.std.proofs.Common.{[], refl, sym, ap, subst, ◌∙◌}
+use Rattle.patch_cache.specs.Waves.{AreImages, AreOnDevice, IsOneOf, with_flights}
+use Rattle.patch_cache.specs.Refused.{HasRefusedHeld}
+use Rattle.patch_device.specs.Device.{never_fewer}
+use Rattle.patch_device.specs.SameDevice.{same_both}
+use Rattle.patch_cache.proofs.Answering.{on_ok}
+use Rattle.patch_cache.proofs.GivenUp.{rises_so, held_so}
+use Rattle.patch_cache.proofs.Waving.{none_added, went_by, keeps_by, gone_still, kept_unmoved, kept_more, kept_synced, held_images, images_on, wave_kept, given_so}
 use Rattle.patch_cache.proofs.caches.Cache.land.Goals as goal
 
-pub loop-self-init : goal.loop-self-init
-loop-self-init g c =
+pub returns-then-is_empty-clause-disk : goal.returns-then-is_empty-clause-disk
+returns-then-is_empty-clause-disk g c honest others run runs =
+    let old = c.args.self.now in keeps_by g.D.Device run old old [] _ _ (none_added old old refl) (kept_unmoved g.D.Device run c.args.device.now)
+
+-- the device gave up
+pub returns-in_err-write_each-clause-ran : goal.returns-in_err-write_each-clause-ran
+returns-in_err-write_each-clause-ran g c others run runs =
+    let old = c.args.self.now in went_by run old old [] c.args.flights.now (none_added old old refl) (gone_still run old c.args.flights.now runs)
+
+pub returns-in_err-write_each-clause-disk : goal.returns-in_err-write_each-clause-disk
+returns-in_err-write_each-clause-disk g c honest others run runs =
     let old = c.args.self.now in
-    let none = none_added old old refl in
-    record {
-      ran = λ others run runs. went_by run old old [] c.args.flights.now none (gone_still run old c.args.flights.now runs);
-      trace = continues old old [] none;
-      ends = no_sends old old [] none refl;
-      one = λ run runs flight one. inl (one, since_is old old [] none);
-      tries = λ honest. omega arith;
-      disk = λ honest others run runs. keeps_by run old old [] _ _ _ _ none (kept_unmoved run _ _);
-      same = same_still g.D.Device c.args.device.now;
-    }
+    let images = held_images c.flights_are_single.ensures.holds c.patches_are_placed.ensures.known run c.args.flights.now.held.items runs.cache_is.legal runs.flights_are in
+    keeps_by g.D.Device run old old [] _ _ (none_added old old refl) (c.write_each.ensures.crash honest run (subst (AreImages run) (sym c.as_slice.ensures.value) images))
 
-pub loop-self-preserved : goal.loop-self-preserved
-loop-self-preserved g c =
+pub returns-in_err-write_each-clause-gave_up : goal.returns-in_err-write_each-clause-gave_up
+returns-in_err-write_each-clause-gave_up g c others run on =
+    let images = held_images c.flights_are_single.ensures.holds c.patches_are_placed.ensures.known run c.args.flights.now.held.items on.runs.cache_is.legal on.runs.flights_are in
+    rises_so c.from_residual.result c.in_err-write_each.field-0.0.0 _ _ c.from_residual.ensures.1 (c.in_err-write_each.ensures.cause (subst (λ xs. AreOnDevice g.D.Device xs c.args.device.now) (sym c.as_slice.ensures.value) (images_on g.D.Device run _ c.args.device.now images on.blocks)))
+
+pub returns-in_err-write_each-clause-refused : goal.returns-in_err-write_each-clause-refused
+returns-in_err-write_each-clause-refused g c others run on =
+    let images = held_images c.flights_are_single.ensures.holds c.patches_are_placed.ensures.known run c.args.flights.now.held.items on.runs.cache_is.legal on.runs.flights_are in
+    given_so g.D.Device c.from_residual.result c.in_err-write_each.field-0.0.0 c.args.flights.now _ _ c.from_residual.ensures.1
+    (subst (λ xs. HasRefusedHeld g.D.Device c.in_err-write_each.field-0.0.0 xs c.args.device.now c.write_each.new.device) c.as_slice.ensures.value
+    (c.in_err-write_each.ensures.refused (subst (λ xs. AreOnDevice g.D.Device xs c.args.device.now) (sym c.as_slice.ensures.value) (images_on g.D.Device run _ c.args.device.now images on.blocks))))
+
+pub returns-in_err-write_each-clause-held : goal.returns-in_err-write_each-clause-held
+returns-in_err-write_each-clause-held g c = held_so c.from_residual.result c.in_err-write_each.field-0.0.0 c.args.flights.now c.from_residual.ensures.1 (subst (IsOneOf c.in_err-write_each.field-0.0.0) c.as_slice.ensures.value c.in_err-write_each.ensures.block)
+
+-- the sync failed
+pub returns-then-is_err-clause-ran : goal.returns-then-is_err-clause-ran
+returns-then-is_err-clause-ran g c others run runs =
+    let old = c.args.self.now in went_by run old old [] c.args.flights.now (none_added old old refl) (gone_still run old c.args.flights.now runs)
+
+pub returns-then-is_err-clause-disk : goal.returns-then-is_err-clause-disk
+returns-then-is_err-clause-disk g c honest others run runs =
+    let device = g.D.Device in
     let old = c.args.self.now in
-    let mid = c.loop-self.self in
-    let next = c.land_first.new.self in
-    let before = c.loop-self.invariant in
-    let told = c.land_first.ensures in
-    record {
-      ran = λ others run runs. let first = before.ran others run runs in went_both run old mid next _ _ before.trace told.trace first (told.ran others _ first.runs);
-      trace = continues_both old mid next before.trace told.trace;
-      ends = let both = sends_since old mid next before.trace told.trace in let a = before.ends in let b = told.ends in omega (arith, both, a, b);
-      one = λ run runs.
-          let first = before.ran false run runs in
-          one_ended c.args.flights.now c.loop-self.flights c.land_first.new.flights old mid next before.trace c.in_ok-land_first.ensures.landed (before.one run runs) (c.in_ok-land_first.ensures.first _ first.runs);
-      tries = λ honest. tries_landed _ _ _ _ _ (before.tries honest) (told.tries (before.same.honesty.0 honest)) c.in_ok-land_first.ensures.landed;
-      disk = λ honest others. keeps_both c.trails_join.ensures old mid next c.args.flights.now c.loop-self.flights _ _ _ _ _ _ before.trace told.trace (before.ran others) (before.disk honest others) (told.disk (before.same.honesty.0 honest) others);
-      same = same_both g.D.Device c.args.device.now c.loop-self.device c.land_first.new.device before.same told.device;
-    }
-
-pub returns-in_err-land_first-clause-ran : goal.returns-in_err-land_first-clause-ran
-returns-in_err-land_first-clause-ran g c others run runs =
-    let before = c.loop-self.invariant in
-    let told = c.land_first.ensures in
-    let first = before.ran others run runs in went_both run c.args.self.now c.loop-self.self c.land_first.new.self _ _ before.trace told.trace first (told.ran others _ first.runs)
-
-pub returns-in_err-land_first-clause-trace : goal.returns-in_err-land_first-clause-trace
-returns-in_err-land_first-clause-trace g c = continues_both c.args.self.now c.loop-self.self c.land_first.new.self c.loop-self.invariant.trace c.land_first.ensures.trace
-
-pub returns-in_err-land_first-clause-ends : goal.returns-in_err-land_first-clause-ends
-returns-in_err-land_first-clause-ends g c =
-    let before = c.loop-self.invariant in
-    let told = c.land_first.ensures in
-    let both = sends_since c.args.self.now c.loop-self.self c.land_first.new.self before.trace told.trace in
-    let a = before.ends in
-    let b = told.ends in omega (arith, both, a, b)
-
-pub returns-in_err-land_first-clause-disk : goal.returns-in_err-land_first-clause-disk
-returns-in_err-land_first-clause-disk g c honest others =
-    let before = c.loop-self.invariant in
-    let told = c.land_first.ensures in
-    keeps_both c.trails_join.ensures c.args.self.now c.loop-self.self c.land_first.new.self c.args.flights.now c.loop-self.flights _ _ _ _ _ _ before.trace told.trace (before.ran others) (before.disk honest others)
-    (told.disk (before.same.honesty.0 honest) others)
-
-pub returns-in_err-land_first-clause-tries : goal.returns-in_err-land_first-clause-tries
-returns-in_err-land_first-clause-tries g c honest =
-    let before = c.loop-self.invariant in
-    let some = some_held _ (sym c.is_empty.ensures ∙ c.loop-self-test.true) in
-    let long = c.loop-self.flights.held.ok.0 in
-    tries_refused _ _ _ _ (before.tries honest) (c.land_first.ensures.tries (before.same.honesty.0 honest)) (omega (arith, some, long))
-
-pub returns-in_err-land_first-clause-gave_up : goal.returns-in_err-land_first-clause-gave_up
-returns-in_err-land_first-clause-gave_up g c others run on =
-    let before = c.loop-self.invariant in
-    let stands = before.ran others run on.runs in
-    told_so _ c.in_err-land_first.field-0.0 (λ (refusal : DeviceGaveUp). HasRefusedFirst g.D.Device refusal.0 c.land_first.new.flights c.args.device.now c.land_first.new.device) c.from_residual.ensures.1
-    (refused_later g.D.Device _ _ c.args.device.now c.loop-self.device c.land_first.new.device before.same (c.in_err-land_first.ensures.gave_up others _ (record { runs = stands.runs; blocks = before.same.count ∙ on.blocks })))
+    let written = c.write_each.ensures in
+    let told = c.sync.ensures in
+    let here = written.device.honesty.0 honest in
+    let images = held_images c.flights_are_single.ensures.holds c.patches_are_placed.ensures.known run c.args.flights.now.held.items runs.cache_is.legal runs.flights_are in
+    keeps_by device run old old [] _ _ (none_added old old refl)
+    (kept_more device run c.args.device.now c.write_each.new.device c.sync.new.self (written.crash honest run (subst (AreImages run) (sym c.as_slice.ensures.value) images))
+    (kept_synced device run c.write_each.new.device c.sync.new.self told.time told.one_moment (told.no_more here) (told.same here)))
 
 -- all are completed
-pub returns-clause-tries : goal.returns-clause-tries
-returns-clause-tries g c honest = let so_far = c.loop-self.invariant.tries honest in omega (arith, so_far)
-
-pub returns-clause-one : goal.returns-clause-one
-returns-clause-one g c run runs =
-    let held = c.loop-self.flights.held in
-    let none = is_same _ 0 (sym c.is_empty.ensures ∙ c.loop-self-test.false) in
-    let long = held.ok.0 in
-    one_at_last c.args.flights.now c.loop-self.flights c.args.self.now c.loop-self.self (nil_from_length held.items (omega (arith, none, long))) (c.loop-self.invariant.one run runs)
-
-pub land_first-requires : goal.land_first-requires
-land_first-requires g c = record { some = subst (λ (n : ℕ). 0 < n) c.loop-self.flights.held.ok.0 (some_held _ (sym c.is_empty.ensures ∙ c.loop-self-test.true)) }
-
-pub loop-self-smaller : goal.loop-self-smaller
-loop-self-smaller g c = one_less _ _ c.in_ok-land_first.ensures.landed
+pub returns-clause-disk : goal.returns-clause-disk
+returns-clause-disk g c honest others run runs =
+    let device = g.D.Device in
+    let first = c.args.device.now in
+    let mid = c.write_each.new.device in
+    let last = c.sync.new.self in
+    let written = c.write_each.ensures in
+    let told = c.sync.ensures in
+    let here = written.device.honesty.0 honest in
+    let there = told.honesty.0 here in
+    let passed = sym c.is_err.ensures.value ∙ c.if-is_err.false in
+    let images = held_images c.flights_are_single.ensures.holds c.patches_are_placed.ensures.known run c.args.flights.now.held.items runs.cache_is.legal runs.flights_are in
+    wave_kept device run c.args.flights.now.held.items _ first mid last runs.flights_are images (written.crash honest run (subst (AreImages run) (sym c.as_slice.ensures.value) images))
+    (kept_synced device run mid last told.time told.one_moment (told.no_more here) (told.same here))
+    (on_ok c.sync.result _ passed (told.lasts here)) (g.met.D.Device.all_may_land last there)
+    (told.same here ∙ c.in_ok-write_each.ensures.written honest ∙ ap (with_flights (device.contents first)) c.as_slice.ensures.value)
+    (g.met.D.Device.blocks_counted last there ∙ told.count ∙ written.device.count ∙ sym (g.met.D.Device.blocks_counted first honest))
+    (λ contents holds. c.complete_held.ensures.stays others run contents runs holds)
 
 pub returns-clause-device : goal.returns-clause-device
-returns-clause-device g c = c.loop-self.invariant.same
+returns-clause-device g c =
+    let told = c.sync.ensures in
+    same_both g.D.Device c.args.device.now c.write_each.new.device c.sync.new.self c.write_each.ensures.device (record {
+      honesty = told.honesty;
+      count = told.count;
+      faults = never_fewer c.sync.result _ _ told.no_fault told.fault;
+      spent = told.spent;
+      time = told.time;
+    })
 
-pub returns-clause-trace : goal.returns-clause-trace
-returns-clause-trace g c = c.loop-self.invariant.trace
-
-pub returns-clause-ends : goal.returns-clause-ends
-returns-clause-ends g c = c.loop-self.invariant.ends
-
-pub returns-clause-ran : goal.returns-clause-ran
-returns-clause-ran g c = c.loop-self.invariant.ran
-
-pub returns-clause-disk : goal.returns-clause-disk
-returns-clause-disk g c = c.loop-self.invariant.disk
-
-pub returns-clause-cause : goal.returns-clause-cause
-returns-clause-cause g c = λ others run on. tt
-
-pub returns-clause-gave_up : goal.returns-clause-gave_up
-returns-clause-gave_up g c = λ others run on. tt
-
-pub returns-clause-block : goal.returns-clause-block
-returns-clause-block g c = tt
-
-pub returns-in_err-land_first-clause-device : goal.returns-in_err-land_first-clause-device
-returns-in_err-land_first-clause-device g c = same_both g.D.Device c.args.device.now c.loop-self.device c.land_first.new.device c.loop-self.invariant.same c.land_first.ensures.device
-
-pub returns-in_err-land_first-clause-landed : goal.returns-in_err-land_first-clause-landed
-returns-in_err-land_first-clause-landed g c = IfOk-from_err c.from_residual.result _ c.from_residual.ensures.0
-
-pub returns-in_err-land_first-clause-one : goal.returns-in_err-land_first-clause-one
-returns-in_err-land_first-clause-one g c = λ run runs. IfOk-from_err c.from_residual.result _ c.from_residual.ensures.0
-
-pub returns-in_err-land_first-clause-cause : goal.returns-in_err-land_first-clause-cause
-returns-in_err-land_first-clause-cause g c others run on =
-    let before = c.loop-self.invariant in
-    let stands = before.ran others run on.runs in
-    on_err _ (risen_later _ _ _ _ before.same.faults (c.in_err-land_first.ensures.cause others _ (record { runs = stands.runs; blocks = before.same.count ∙ on.blocks })))
-
-pub returns-in_err-land_first-clause-block : goal.returns-in_err-land_first-clause-block
-returns-in_err-land_first-clause-block g c = told_so _ c.in_err-land_first.field-0.0 (λ (refusal : DeviceGaveUp). IsHeldFirst refusal.0 c.land_first.new.flights) c.from_residual.ensures.1 c.in_err-land_first.ensures.block
+pub returns-clause-lasts : goal.returns-clause-lasts
+returns-clause-lasts g c honest before =
+    let passed = sym c.is_err.ensures.value ∙ c.if-is_err.false in
+    on_ok c.sync.result _ passed (c.sync.ensures.lasts (c.write_each.ensures.device.honesty.0 honest))

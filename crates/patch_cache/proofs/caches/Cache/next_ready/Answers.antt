@@ -1,4 +1,4 @@
-use Rattle.std.proofs.Common.{◌≡◌, ℕ, None, ap, subst, sym}
+use Rattle.std.proofs.Common.{◌≡◌, None, ap, subst, sym}
 use Rattle.std.specs.Prelude.{◌==◌}
 use Rattle.std.specs.List.{list_any}
 use Rattle.patch_model.specs.Refusing.{why_not_sent}

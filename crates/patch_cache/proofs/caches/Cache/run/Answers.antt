@@ -1,6 +1,7 @@
 use Rattle.std.proofs.Common.{◌≡◌, ◌∙◌, ◌<◌, ◌++◌, ◌∷◌, [], length, map, get_or, append_assoc, ◌+◌, refl, sym, ap, subst, arith}
 use Rattle.std.proofs.lemmas.List.{length-append, length-map, map-append, append-nil}
 use Rattle.patch_model.specs.Execution.{Execution}
+use Rattle.patch_device.specs.SameDevice.{same_still, same_both}
 use Rattle.patch_cache.specs.Asks.{ask_of, answer_of, after_all, step_added, steps_added}
 use Rattle.patch_cache.specs.Running.{HasRun, RunsOn, CountsFaults, CountFaults, IsCrashSafe, HaveWritten}
 use Rattle.patch_cache.proofs.Asking.{after_none, all_first, one_more_counted}
@@ -15,13 +16,13 @@ loop-ask-init g c =
     let none : c.new-answers.result.items ≡ [] = c.new-answers.ensures.items in
     record {
       many = ap length none;
-      device = record { honesty = (λ h. h, λ h. h); count = refl; faults = omega arith };
+      device = same_still device c.args.device.now;
       so_far = λ run on. rw none (begun run asks _ _ on.runs);
       fault = λ run on. rw none refl;
       trace = rw none (sym (append-nil c.args.self.now.trace ∙ refl));
       written = λ run on honest. rw none refl;
       crash = λ run on honest left.
-          rw none (subst (λ now. IsCrashSafe run now (device.had c.args.device.now) (device.had c.args.device.now) (device.contents c.args.device.now)) (sym (after_none run asks)) (unmoved run _ _ left));
+          rw none (subst (λ now. IsCrashSafe device run now c.args.device.now c.args.device.now) (sym (after_none run asks)) (unmoved device run c.args.device.now left));
     }
 
 pub loop-ask-preserved : goal.loop-ask-preserved
@@ -46,11 +47,7 @@ loop-ask-preserved g c =
     }) in
     record {
       many = ap length pushed ∙ length-append answers (answer ∷ []) ∙ ap (λ n. n + 1) at;
-      device = record {
-        honesty = (λ h. told.device.honesty.0 (before.device.honesty.0 h), λ h. before.device.honesty.1 (told.device.honesty.1 h));
-        count = told.device.count ∙ before.device.count;
-        faults = let a = before.device.faults in let b = told.device.faults in omega (arith, a, b);
-      };
+      device = same_both device old now next before.device told.device;
       so_far = λ run on.
           rw pushed (stepped run asks answers c.ask-item.result answer _ _ _ _ within item (before.so_far run on) (served run on).answered).0;
       fault = λ run on.
@@ -69,8 +66,8 @@ loop-ask-preserved g c =
           let goes = (stepped run asks answers c.ask-item.result answer _ _ _ _ within item (before.so_far run on) (served run on).answered).1 in
           let safe = before.crash run on honest left in
           let one = (served run on).crash (before.device.honesty.0 honest) safe.left in
-          rw pushed (subst (λ last. IsCrashSafe run last (device.had old) (device.had next) (device.contents next)) (sym goes)
-          (joined_ask c.trails_join.ensures run (so_far run) (ask_of c.ask-item.result) (answer_of answer) _ _ _ _ _ safe one));
+          rw pushed (subst (λ last. IsCrashSafe device run last old next) (sym goes)
+          (joined_ask device run (so_far run) (ask_of c.ask-item.result) (answer_of answer) old now next safe one));
     }
 
 pub returns-in-Err-clause-fault : goal.returns-in-Err-clause-fault

@@ -1,9 +1,9 @@
-use Rattle.std.proofs.Common.{◌≡◌, ◌<◌, ◌≤◌, ◌||◌, ◌+◌, ℕ, [], false, None, Some, refl, sym, ap, subst, ◌∙◌, arith}
+use Rattle.std.proofs.Common.{◌≡◌, ◌||◌, ◌+◌, [], false, None, Some, refl, sym, ap, subst, ◌∙◌, arith}
 use Rattle.std.specs.Prelude.{count_by}
 use Rattle.patch_model.specs.State.{entries_of}
 use Rattle.patch_graph.specs.Ready.{TellsNextOpen}
 use Rattle.patch_cache.specs.Contents.{Contents}
-use Rattle.patch_cache.specs.Waves.{is_send, steps_since, Continues, HasKept, begun}
+use Rattle.patch_cache.specs.Waves.{is_send, steps_since, Continues, HasStayed, begun}
 use Rattle.patch_cache.proofs.Waving.{none_added, no_sends, since_is, since_more, continues, continues_both, gone_same}
 use Rattle.patch_cache.proofs.Counting.{count-append}
 use Rattle.patch_cache.proofs.Passing.{LargestLaw, Passed, pass_begun, pass_more, pass_skipped, pass_ended, neither}
@@ -42,7 +42,7 @@ loop-block-preserved g c =
           subst (λ n. Passed others run (n + 1) c.if-sent.sent (steps_since old next) next c.send_if_ready.new.flights) (sym c.block.view_is)
           (subst (λ b. Passed others run (c.in-Some.block + 1) b (steps_since old next) next c.send_if_ready.new.flights) (sym is)
           (subst (λ s. Passed others run (c.in-Some.block + 1) (c.loop-block.sent || c.in_ok-more.more) s next c.send_if_ready.new.flights) (sym (since_more old mid next more before.trace told.trace))
-          (pass_more c.trails_join.ensures c.steps_extend.ensures.state c.images_stay.ensures c.disks_stay.ensures c.executions_are_orderly.ensures.patches largest
+          (pass_more c.steps_extend.ensures.state c.images_stay.ensures c.disks_stay.ensures c.executions_are_orderly.ensures.patches largest
           c.pairs_merge.ensures.sent run c.in-Some.block c.loop-block.sent c.in_ok-more.more (steps_since old mid) mid next c.loop-block.flights c.send_if_ready.new.flights first (told.sent others _ first.gone.runs))));
       trace = continues_both old mid next before.trace (continues mid next more told.trace);
       count =
@@ -63,16 +63,16 @@ returns-in_err-more-clause-ran g c others run runs =
 pub returns-in_err-more-clause-trace : goal.returns-in_err-more-clause-trace
 returns-in_err-more-clause-trace g c = subst (λ (x : Contents). Continues c.args.self.now x) (sym c.in_err-more.ensures.refused) c.loop-block.invariant.trace
 
-pub returns-in_err-more-clause-disk : goal.returns-in_err-more-clause-disk
-returns-in_err-more-clause-disk g c had contents others run runs =
+pub returns-in_err-more-clause-stays : goal.returns-in_err-more-clause-stays
+returns-in_err-more-clause-stays g c others run contents runs =
     let first = c.loop-block.invariant.so_far others run runs in
-    subst (λ (x : Contents). HasKept run (steps_since c.args.self.now x) had had contents contents) (sym c.in_err-more.ensures.refused) (first.kept had contents)
+    subst (λ (x : Contents). HasStayed run (steps_since c.args.self.now x) contents) (sym c.in_err-more.ensures.refused) (first.stayed contents)
 
 pub returns-clause-ran : goal.returns-clause-ran
 returns-clause-ran g c others run runs = (c.loop-block.invariant.so_far others run runs).gone
 
-pub returns-clause-disk : goal.returns-clause-disk
-returns-clause-disk g c had contents others run runs = (c.loop-block.invariant.so_far others run runs).kept had contents
+pub returns-clause-stays : goal.returns-clause-stays
+returns-clause-stays g c others run contents runs = (c.loop-block.invariant.so_far others run runs).stayed contents
 
 pub returns-clause-pass : goal.returns-clause-pass
 returns-clause-pass g c run runs =

@@ -1,10 +1,9 @@
-use Rattle.std.proofs.Common.{◌≡◌, ◌++◌, ◌∷◌, [], true, refl, ◌≢◌, ℕ, List}
+use Rattle.std.proofs.Common.{◌≡◌, ◌++◌, ◌∷◌, [], true, refl, ℕ, List, inl, inr}
 use Rattle.patch_model.specs.Execution.{extended}
 use Rattle.patch_model.specs.State.{entries_of}
 use Rattle.std.proofs.lemmas.Result.{IfOk-from_err}
 use Rattle.patch_cache.proofs.Stepping.{on_err, one_left}
-use Rattle.patch_model.specs.declared.refusals.Refusal.{Refusal}
-use Rattle.patch_cache.specs.Asks.{Sent, Refused}
+use Rattle.patch_cache.specs.Asks.{Sent, IsFault}
 use Rattle.patch_cache.proofs.caches.Cache.send_and_hold.Goals as goal
 use Rattle.std.specs.Prelude.{is_ok}
 use Rattle.std.proofs.Common.{sym, ap, subst, ◌∙◌}
@@ -39,8 +38,9 @@ returns-clause-answer g c = λ run runs why.
           runs.cache_is.legal startable.1.0 sent.0 runs.flights_are);
     })
 
-sent_no_fault : (block : ℕ) (numbers image : List ℕ) (refusal : Refusal) → Sent block numbers image ≢ Refused refusal
-sent_no_fault block numbers image refusal e = absurd (cc)
+sent_no_fault : (block : ℕ) (numbers image : List ℕ) → IsFault (Sent block numbers image) → ⊥
+sent_no_fault block numbers image (inl e) = absurd (cc)
+sent_no_fault block numbers image (inr e) = absurd (cc)
 
 pub returns-in_err-numbers-clause-answer : goal.returns-in_err-numbers-clause-answer
 returns-in_err-numbers-clause-answer g c = λ run runs why. IfOk-from_err c.from_residual.result _ c.from_residual.ensures.0
@@ -136,4 +136,4 @@ pub push_reserved-requires : goal.push_reserved-requires
 push_reserved-requires g c = one_left _ _ c.in_ok-reserve.ensures.ok
 
 pub returns-clause-no_fault : goal.returns-clause-no_fault
-returns-clause-no_fault g c = sent_no_fault c.args.block c.from_vec.result c.from_vec-2.result _
+returns-clause-no_fault g c = sent_no_fault c.args.block c.from_vec.result c.from_vec-2.result

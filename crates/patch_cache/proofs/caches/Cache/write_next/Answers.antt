@@ -5,19 +5,19 @@ use Rattle.patch_model.specs.Step.{Send}
 use Rattle.patch_cache.specs.Contents.{Contents}
 use Rattle.patch_cache.specs.Running.{Runs}
 use Rattle.patch_cache.specs.Waves.{IsFlushed, RisesIfGivenUp, IsHeldIfGivenUp}
-use Rattle.patch_cache.proofs.Waving.{none_added, no_sends, since_is, continues, runs_same, gone_still, kept_unmoved, went_by, went_both, keeps_by, keeps_both, tries_begun, continues_both, given_so, tries_none}
+use Rattle.patch_cache.proofs.Waving.{none_added, no_sends, since_is, continues, runs_same, gone_still, kept_unmoved, went_by, went_both, keeps_by, keeps_both, tries_begun, continues_both, tries_none}
 use Rattle.patch_cache.proofs.Passing.{sent_still, one_written, begun_by, begun_few, begun_sends, begun_gone, begun_kept, flushed, flushed_still, none_begun, unsent_still}
 use Rattle.std.proofs.lemmas.Result.{IfOk-from_err}
 use Rattle.patch_device.specs.SameDevice.{same_still}
 use Rattle.patch_cache.specs.Refused.{IfGivenUp}
-use Rattle.patch_cache.proofs.GivenUp.{rises_so, held_so, no_device_gave_up}
+use Rattle.patch_cache.proofs.GivenUp.{rises_on, held_on, given_on, no_device_gave_up}
 use Rattle.patch_cache.proofs.caches.Cache.write_next.Goals as goal
 
 -- no write can begin
 pub returns-in_default-clause-disk : goal.returns-in_default-clause-disk
 returns-in_default-clause-disk g c honest run runs =
     let old = c.args.self.now in
-    let now = c.next_ready.new.self in keeps_by run old now [] _ _ _ _ (none_added old now c.next_ready.ensures.same) (kept_unmoved run _ _)
+    let now = c.next_ready.new.self in keeps_by g.D.Device run old now [] _ _ (none_added old now c.next_ready.ensures.same) (kept_unmoved g.D.Device run c.args.device.now)
 
 pub returns-in_default-clause-wrote : goal.returns-in_default-clause-wrote
 returns-in_default-clause-wrote g c run runs empty =
@@ -42,7 +42,7 @@ pub returns-in_err-send_if_ready-clause-disk : goal.returns-in_err-send_if_ready
 returns-in_err-send_if_ready-clause-disk g c honest run runs =
     let old = c.args.self.now in
     let now = c.send_if_ready.new.self in
-    keeps_by run old now [] _ _ _ _ (none_added old now (c.in_err-send_if_ready.ensures.refused ∙ c.next_ready.ensures.same)) (kept_unmoved run _ _)
+    keeps_by g.D.Device run old now [] _ _ (none_added old now (c.in_err-send_if_ready.ensures.refused ∙ c.next_ready.ensures.same)) (kept_unmoved g.D.Device run c.args.device.now)
 
 -- it was begun, and the flights written out
 pub returns-in_err-land-clause-ran : goal.returns-in_err-land-clause-ran
@@ -66,14 +66,14 @@ returns-in_err-land-clause-disk g c honest =
     let mid = c.send_if_ready.new.self in
     let block = c.in-Some.block in
     let sent = c.in_ok-send_if_ready in
-    keeps_both c.trails_join.ensures old mid c.land.new.self c.args.flights.now c.send_if_ready.new.flights (device.had at) (device.had at) (device.had c.land.new.device) (device.contents at) (device.contents at) (device.contents c.land.new.device)
+    keeps_both device old mid c.land.new.self c.args.flights.now c.send_if_ready.new.flights at at c.land.new.device
     (continues old mid (Send block ∷ []) (begun_by old still mid block sent.field-0 c.next_ready.ensures.same c.if-not-branch.false sent.ensures.trace)) c.land.ensures.trace
     (λ run runs.
     begun_gone c.steps_extend.ensures.state c.executions_are_orderly.ensures.patches (λ run block. c.ready_is_largest.ensures.largest (entries_of run) block (c.ready_is_largest.ensures.made run)) c.pairs_merge.ensures.sent run block old still mid sent.field-0
     c.args.flights.now c.send_if_ready.new.flights c.next_ready.ensures.same c.if-not-branch.false sent.ensures.trace (sent.ensures.sent false run) runs)
     (λ run runs.
-    begun_kept c.steps_extend.ensures.state c.images_stay.ensures c.disks_stay.ensures run block old still mid sent.field-0
-    c.args.flights.now c.send_if_ready.new.flights (device.had at) (device.contents at) c.next_ready.ensures.same c.if-not-branch.false sent.ensures.trace (sent.ensures.sent false run) runs)
+    begun_kept c.steps_extend.ensures.state c.images_stay.ensures c.disks_stay.ensures device run block old still mid sent.field-0
+    c.args.flights.now c.send_if_ready.new.flights at c.next_ready.ensures.same c.if-not-branch.false sent.ensures.trace (sent.ensures.sent false run) runs)
     (c.land.ensures.disk honest false)
 
 -- all of them
@@ -98,14 +98,14 @@ returns-clause-disk g c honest =
     let mid = c.send_if_ready.new.self in
     let block = c.in-Some.block in
     let sent = c.in_ok-send_if_ready in
-    keeps_both c.trails_join.ensures old mid c.land.new.self c.args.flights.now c.send_if_ready.new.flights (device.had at) (device.had at) (device.had c.land.new.device) (device.contents at) (device.contents at) (device.contents c.land.new.device)
+    keeps_both device old mid c.land.new.self c.args.flights.now c.send_if_ready.new.flights at at c.land.new.device
     (continues old mid (Send block ∷ []) (begun_by old still mid block sent.field-0 c.next_ready.ensures.same c.if-not-branch.false sent.ensures.trace)) c.land.ensures.trace
     (λ run runs.
     begun_gone c.steps_extend.ensures.state c.executions_are_orderly.ensures.patches (λ run block. c.ready_is_largest.ensures.largest (entries_of run) block (c.ready_is_largest.ensures.made run)) c.pairs_merge.ensures.sent run block old still mid sent.field-0
     c.args.flights.now c.send_if_ready.new.flights c.next_ready.ensures.same c.if-not-branch.false sent.ensures.trace (sent.ensures.sent false run) runs)
     (λ run runs.
-    begun_kept c.steps_extend.ensures.state c.images_stay.ensures c.disks_stay.ensures run block old still mid sent.field-0
-    c.args.flights.now c.send_if_ready.new.flights (device.had at) (device.contents at) c.next_ready.ensures.same c.if-not-branch.false sent.ensures.trace (sent.ensures.sent false run) runs)
+    begun_kept c.steps_extend.ensures.state c.images_stay.ensures c.disks_stay.ensures device run block old still mid sent.field-0
+    c.args.flights.now c.send_if_ready.new.flights at c.next_ready.ensures.same c.if-not-branch.false sent.ensures.trace (sent.ensures.sent false run) runs)
     (c.land.ensures.disk honest false)
 
 pub returns-clause-wrote : goal.returns-clause-wrote
@@ -129,14 +129,14 @@ returns-in_default-clause-one g c =
     let none = no_sends c.args.self.now c.next_ready.new.self [] (none_added c.args.self.now c.next_ready.new.self c.next_ready.ensures.same) refl in omega (arith, none)
 
 pub returns-in_default-clause-tries : goal.returns-in_default-clause-tries
-returns-in_default-clause-tries g c honest = tries_none _ _
+returns-in_default-clause-tries g c = tries_none _ _
 
 pub returns-in_err-send_if_ready-clause-one : goal.returns-in_err-send_if_ready-clause-one
 returns-in_err-send_if_ready-clause-one g c =
     let none = no_sends c.args.self.now c.send_if_ready.new.self [] (none_added c.args.self.now c.send_if_ready.new.self (c.in_err-send_if_ready.ensures.refused ∙ c.next_ready.ensures.same)) refl in omega (arith, none)
 
 pub returns-in_err-send_if_ready-clause-tries : goal.returns-in_err-send_if_ready-clause-tries
-returns-in_err-send_if_ready-clause-tries g c honest = tries_none _ _
+returns-in_err-send_if_ready-clause-tries g c = tries_none _ _
 
 pub returns-then-not-branch-clause-one : goal.returns-then-not-branch-clause-one
 returns-then-not-branch-clause-one g c =
@@ -155,9 +155,9 @@ returns-in_err-land-clause-one g c =
     let none = c.land.ensures.ends in omega (arith, few, all, none)
 
 pub returns-in_err-land-clause-tries : goal.returns-in_err-land-clause-tries
-returns-in_err-land-clause-tries g c honest =
+returns-in_err-land-clause-tries g c =
     let sent = c.in_ok-send_if_ready in
-    tries_begun _ _ _ _ _ _ _ (c.land.ensures.tries honest) sent.ensures.count
+    tries_begun _ _ _ _ _ _ _ c.land.ensures.tries sent.ensures.count
     (begun_sends c.args.self.now c.next_ready.new.self c.send_if_ready.new.self c.land.new.self c.in-Some.block sent.field-0 c.next_ready.ensures.same sent.ensures.trace c.land.ensures.trace)
 
 pub returns-clause-one : goal.returns-clause-one
@@ -168,9 +168,9 @@ returns-clause-one g c =
     let none = c.land.ensures.ends in omega (arith, few, all, none)
 
 pub returns-clause-tries : goal.returns-clause-tries
-returns-clause-tries g c honest =
+returns-clause-tries g c =
     let sent = c.in_ok-send_if_ready in
-    tries_begun _ _ _ _ _ _ _ (c.land.ensures.tries honest) sent.ensures.count
+    tries_begun _ _ _ _ _ _ _ c.land.ensures.tries sent.ensures.count
     (begun_sends c.args.self.now c.next_ready.new.self c.send_if_ready.new.self c.land.new.self c.in-Some.block sent.field-0 c.next_ready.ensures.same sent.ensures.trace c.land.ensures.trace)
 
 -- what is told where no write can begin
@@ -236,7 +236,7 @@ returns-then-not-branch-clause-trace g c = continues c.args.self.now c.send_if_r
 pub returns-then-not-branch-clause-disk : goal.returns-then-not-branch-clause-disk
 returns-then-not-branch-clause-disk g c honest run runs =
     let old = c.args.self.now in
-    let now = c.send_if_ready.new.self in keeps_by run old now [] _ _ _ _ (none_begun old c.next_ready.new.self now c.in-Some.block c.in_ok-send_if_ready.field-0 c.next_ready.ensures.same c.if-not-branch.true c.in_ok-send_if_ready.ensures.trace) (kept_unmoved run _ _)
+    let now = c.send_if_ready.new.self in keeps_by g.D.Device run old now [] _ _ (none_begun old c.next_ready.new.self now c.in-Some.block c.in_ok-send_if_ready.field-0 c.next_ready.ensures.same c.if-not-branch.true c.in_ok-send_if_ready.ensures.trace) (kept_unmoved g.D.Device run c.args.device.now)
 
 pub returns-then-not-branch-clause-wrote : goal.returns-then-not-branch-clause-wrote
 returns-then-not-branch-clause-wrote g c run runs empty =
@@ -244,7 +244,7 @@ returns-then-not-branch-clause-wrote g c run runs empty =
     absurd (unsent.0 (c.in-Some.ensures.answer run runs.cache_is).0)
 
 pub returns-then-not-branch-clause-tries : goal.returns-then-not-branch-clause-tries
-returns-then-not-branch-clause-tries g c honest = tries_none _ _
+returns-then-not-branch-clause-tries g c = tries_none _ _
 
 pub returns-then-not-branch-clause-device : goal.returns-then-not-branch-clause-device
 returns-then-not-branch-clause-device g c = same_still g.D.Device c.args.device.now
@@ -291,15 +291,30 @@ returns-in_err-land-clause-landed g c = IfOk-from_err c.from_residual-in_err-lan
 pub returns-in_err-land-clause-gave_up : goal.returns-in_err-land-clause-gave_up
 returns-in_err-land-clause-gave_up g c run on =
     let sent = sent_still run c.in-Some.block c.args.self.now c.next_ready.new.self c.send_if_ready.new.self c.in_ok-send_if_ready.field-0 c.args.flights.now c.send_if_ready.new.flights c.next_ready.ensures.same c.if-not-branch.false (c.in_ok-send_if_ready.ensures.sent false run) on.runs in
-    rises_so c.from_residual-in_err-land.result c.in_err-land.field-0.0.0 _ _ c.from_residual-in_err-land.ensures.1 (c.in_err-land.ensures.cause false _ (record { runs = sent.1; blocks = on.blocks }))
+    rises_on (Unit {0}) c.from_residual-in_err-land.result c.in_err-land.field-0.0 _ _ c.from_residual-in_err-land.ensures.1 (c.in_err-land.ensures.gave_up false _ (record { runs = sent.1; blocks = on.blocks }))
 
 pub returns-in_err-land-clause-refused : goal.returns-in_err-land-clause-refused
 returns-in_err-land-clause-refused g c run on =
     let sent = sent_still run c.in-Some.block c.args.self.now c.next_ready.new.self c.send_if_ready.new.self c.in_ok-send_if_ready.field-0 c.args.flights.now c.send_if_ready.new.flights c.next_ready.ensures.same c.if-not-branch.false (c.in_ok-send_if_ready.ensures.sent false run) on.runs in
-    given_so g.D.Device _ c.in_err-land.field-0.0.0 _ _ _ c.from_residual-in_err-land.ensures.1 (c.in_err-land.ensures.gave_up false _ (record { runs = sent.1; blocks = on.blocks }))
+    given_on (Unit {0}) g.D.Device c.from_residual-in_err-land.result c.in_err-land.field-0.0 _ _ _ c.from_residual-in_err-land.ensures.1 (c.in_err-land.ensures.refused false _ (record { runs = sent.1; blocks = on.blocks }))
 
 pub returns-in_err-land-clause-held : goal.returns-in_err-land-clause-held
-returns-in_err-land-clause-held g c = held_so c.from_residual-in_err-land.result c.in_err-land.field-0.0.0 c.land.new.flights c.from_residual-in_err-land.ensures.1 c.in_err-land.ensures.block
+returns-in_err-land-clause-held g c = held_on (Unit {0}) c.from_residual-in_err-land.result c.in_err-land.field-0.0 c.land.new.flights c.from_residual-in_err-land.ensures.1 c.in_err-land.ensures.held
+
+pub returns-in_err-land-clause-lasts : goal.returns-in_err-land-clause-lasts
+returns-in_err-land-clause-lasts g c honest = IfOk-from_err c.from_residual-in_err-land.result _ c.from_residual-in_err-land.ensures.0
+
+pub returns-in_err-send_if_ready-clause-lasts : goal.returns-in_err-send_if_ready-clause-lasts
+returns-in_err-send_if_ready-clause-lasts g c honest = IfOk-from_err c.from_residual.result _ c.from_residual.ensures.0
+
+pub returns-in_default-clause-lasts : goal.returns-in_default-clause-lasts
+returns-in_default-clause-lasts g c = λ honest lasts. lasts
+
+pub returns-then-not-branch-clause-lasts : goal.returns-then-not-branch-clause-lasts
+returns-then-not-branch-clause-lasts g c = λ honest lasts. lasts
+
+pub returns-clause-lasts : goal.returns-clause-lasts
+returns-clause-lasts g c honest = c.in_ok-land.ensures.lasts honest
 
 pub returns-clause-gave_up : goal.returns-clause-gave_up
 returns-clause-gave_up g c = λ run on. tt

@@ -48,7 +48,7 @@ loop-ask-preserved g c =
           ∙ ap (λ s. c.args.cache.now.trace ++ s) (sym (ap steps_of done ∙ steps_append (parts old (asks_of asks) given) (part_of mid wanted (group_answer_of answer))));
       ran = λ run r.
           let so_far = before.ran run r in
-          rw pushed (stepped_run c.trails_join.ensures g.D.Device run old asks answers c.ask-item.result answer _ _ _ _ mid _ _ _ _ within item before.groups before.device.honesty.0 so_far (told.answer _ so_far.passed.stands));
+          rw pushed (stepped_run g.D.Device c.crashes_join.ensures.joined run old asks answers c.ask-item.result answer _ _ _ _ mid _ _ _ _ within item before.groups before.device.honesty.0 so_far (told.answer _ so_far.passed.stands));
     }
 
 pub returns-in-Err-clause-ran : goal.returns-in-Err-clause-ran

@@ -1,0 +1,34 @@
+-- A file after a write that was tried, and after a sync.
+use Rattle.std.proofs.Common.{◌≡◌, ℕ, List, [], ◌∷◌, ◌++◌, Some, None, Bool, true, length, sym, ◌∙◌}
+use Rattle.std.specs.Prelude.{slice_set}
+use Rattle.patch_model.specs.declared.blocks.TheConstants.{BLOCK}
+use Rattle.patch_device.specs.Blocks.{AreWhole}
+use Rattle.patch_device.specs.Device.{LandsOrNot, LeavesNoMore, LeavesJust}
+use Rattle.patch_device.specs.Cuts.{Event, written_behind, left_of, written_more, written_synced, counted_more, whole_more, lands_of, no_more_behind, lasts_behind}
+
+pub written_then : (first first' : List (List ℕ)) (es es' : List Event) (w : ℕ × List ℕ) → first' ≡ first → es' ≡ es ++ Some w ∷ []
+    → written_behind first' es' ≡ slice_set (written_behind first es) w.0 w.1
+written_then first first' es es' w same more = rw (same, more) (written_more first es w)
+
+pub counted_then : (first first' : List (List ℕ)) (es es' : List Event) (w : ℕ × List ℕ) (count : ℕ) → first' ≡ first → es' ≡ es ++ Some w ∷ []
+    → length (written_behind first es) ≡ count → length (written_behind first' es') ≡ count
+counted_then first first' es es' w count same more counted = rw (same, more) (counted_more first es w ∙ counted)
+
+pub whole_then : (first first' : List (List ℕ)) (es es' : List Event) (w : ℕ × List ℕ) → first' ≡ first → es' ≡ es ++ Some w ∷ [] → length w.1 ≡ BLOCK
+    → AreWhole (written_behind first es) → AreWhole (written_behind first' es')
+whole_then first first' es es' w same more long whole = rw (same, more) (whole_more first es w long whole)
+
+pub lands_then : (synced synced' : Bool) (first first' : List (List ℕ)) (es es' : List Event) (w : ℕ × List ℕ) → synced' ≡ synced → first' ≡ first → es' ≡ es ++ Some w ∷ []
+    → LandsOrNot (left_of synced first es (length es)) w.0 w.1 (left_of synced' first' es' (length es'))
+lands_then synced synced' first first' es es' w as_before same more = rw (as_before, same, more) (lands_of synced first es w)
+
+pub synced_then : (first first' : List (List ℕ)) (es es' : List Event) → first' ≡ first → es' ≡ es ++ None ∷ [] → written_behind first' es' ≡ written_behind first es
+synced_then first first' es es' same more = rw (same, more) (written_synced first es)
+
+pub no_more_then : (synced synced' : Bool) (first first' : List (List ℕ)) (es es' : List Event) → synced ≡ true → synced' ≡ true → first' ≡ first → es' ≡ es ++ None ∷ []
+    → LeavesNoMore (left_of synced first es (length es)) (left_of synced' first' es' (length es'))
+no_more_then synced synced' first first' es es' on still_on same more = rw (on, still_on, same, more) (no_more_behind first es)
+
+pub lasts_then : (synced : Bool) (first first' : List (List ℕ)) (es es' : List Event) → synced ≡ true → first' ≡ first → es' ≡ es ++ None ∷ []
+    → LeavesJust (written_behind first' es') (left_of synced first' es' (length es'))
+lasts_then synced first first' es es' on same more = rw (on, same, more) (λ disk left. lasts_behind first es disk left ∙ sym (written_synced first es))

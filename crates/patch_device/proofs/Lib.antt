@@ -1,0 +1,4 @@
+pub mod Cutting
+pub mod Caching
+pub mod Walks
+pub mod Filing

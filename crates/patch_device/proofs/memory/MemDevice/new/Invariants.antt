@@ -1,7 +1,0 @@
-use Rattle.std.proofs.Common.{◌≡◌}
-use Rattle.patch_device.specs.Blocks.{zeros}
-use Rattle.patch_device.proofs.memory.MemDevice.new.Given as goal
-
--- so many blocks of zeros so far
-abbrev pub invariant-loop : goal.invariant-loop
-invariant-loop g l = l.blocks.items ≡ zeros l.counter

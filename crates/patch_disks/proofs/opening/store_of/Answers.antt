@@ -1,0 +1,14 @@
+use Rattle.std.proofs.Common.{ap}
+use Rattle.patch_disks.specs.declared.endings.Stop.TheVariants.{Refused}
+use Rattle.patch_disks.proofs.Unused.{unused_store}
+use Rattle.patch_disks.proofs.Stopping.{open_stops}
+use Rattle.patch_disks.proofs.opening.store_of.Goals as goal
+
+pub returns-in-Ok-clause-new : goal.returns-in-Ok-clause-new
+returns-in-Ok-clause-new c =
+    let untouched = c.in_ok-cache.ensures.untouched in
+    unused_store c.in-Ok.store _ c.in-Ok.ensures.cache untouched (c.in-Ok.ensures.opened untouched.first untouched.cache_is)
+
+pub returns-in-Err-clause-stops : goal.returns-in-Err-clause-stops
+returns-in-Err-clause-stops c =
+    open_stops c.in-Err.fault _ _ (ap (λ r. Refused r) c.refusal.ensures) (c.in-Err.ensures.opened _ c.in_ok-cache.ensures.gives)
