@@ -1,6 +1,7 @@
 -- A file after a write that was tried, and after a sync.
-use Rattle.std.proofs.Common.{◌≡◌, ℕ, List, [], ◌∷◌, ◌++◌, Some, None, Bool, true, length, sym, ◌∙◌}
-use Rattle.std.specs.Prelude.{slice_set}
+use Rattle.std.proofs.Common.{◌≡◌, ℕ, List, [], ◌∷◌, ◌++◌, Option, Some, None, Bool, true, length, refl, sym, ap, arith, ◌∙◌}
+use Rattle.std.specs.Prelude.{slice_get, slice_set, IsNone, MatchOption}
+use Rattle.std.specs.Option.{ForSome}
 use Rattle.patch_model.specs.declared.blocks.TheConstants.{BLOCK}
 use Rattle.patch_device.specs.Blocks.{AreWhole}
 use Rattle.patch_device.specs.Device.{LandsOrNot, LeavesNoMore, LeavesJust}
@@ -32,3 +33,17 @@ no_more_then synced synced' first first' es es' on still_on same more = rw (on, 
 pub lasts_then : (synced : Bool) (first first' : List (List ℕ)) (es es' : List Event) → synced ≡ true → first' ≡ first → es' ≡ es ++ None ∷ []
     → LeavesJust (written_behind first' es') (left_of synced first' es' (length es'))
 lasts_then synced first first' es es' on same more = rw (on, same, more) (λ disk left. lasts_behind first es disk left ∙ sym (written_synced first es))
+
+-- what is read as it is remembered is what the file holds
+pub read_as_remembered : (remembered contents : List (List ℕ)) (n : ℕ) (block into : List ℕ) → remembered ≡ contents → slice_get remembered n ≡ Some block → into ≡ block
+    → slice_get contents n ≡ Some into
+read_as_remembered remembered contents n block into is there same = rw (← is, same) there
+
+-- what is remembered is put as it is written
+pub remembered_then : {V : Type 0} (items : V → List (List ℕ)) (before now : Option V) (old new : List (List ℕ)) (w : ℕ × List ℕ)
+    → MatchOption before (IsNone now) (λ b. MatchOption now ⊥ (λ a. items a ≡ slice_set (items b) w.0 w.1))
+    → new ≡ slice_set old w.0 w.1 → ForSome before (λ b. items b ≡ old) → ForSome now (λ a. items a ≡ new)
+remembered_then items None None old new w put more was a is = cc
+remembered_then items None (Some kept) old new w put more was a is = cc
+remembered_then items (Some before) None old new w put more was a is = cc
+remembered_then items (Some before) (Some kept) old new w put more was a is = grind (arith, put, more, was before refl, is)

@@ -1,5 +1,5 @@
 -- A device over a file.
-use Rattle.std.specs.Prelude.{ℕ, List, ◌≡◌, ◌≤◌, Bool, IsTrue, length}
+use Rattle.std.specs.Prelude.{ℕ, List, ◌≡◌, ◌≤◌, Bool, IsTrue, IsSome, length}
 use Rattle.patch_device.specs.Device.{most_faults}
 use Rattle.patch_device.specs.Blocks.{AreWhole}
 use Rattle.patch_device.specs.Cuts.{Event, written_behind, left_of, all_land_of}
@@ -20,6 +20,10 @@ IsSpent d = IsTrue d.spent
 -- whether its syncs are done, and not passed over
 abbrev pub has_barriers : {F : Type 0} → FileDevice F → Bool
 has_barriers d = d.barriers
+
+-- whether it keeps all that the file holds, and so can be read
+abbrev pub Remembers : {F : Type 0} → FileDevice F → Type 0
+Remembers d = IsSome d.remembered
 
 -- what the file held when it was opened or made
 abbrev pub first_of : {F : Type 0} → FileDevice F → List (List ℕ)

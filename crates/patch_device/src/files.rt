@@ -1,23 +1,28 @@
 //! A device over a file.
-ghost use Rattle.std.specs.Prelude.{◌≡◌, ℕ, ◌+◌, ◌*◌, ◌≤◌, ◌<◌, ◌↔◌, ◌⊎◌, [], ◌∷◌, ◌++◌, length, Some, None, Err, Ok, IfOk, IfErr, OnOk, OnErr, IfSome, IsNone, IsTrue, IsFalse, IsErr, IsErrOf, true, false, slice_set};
+ghost use Rattle.std.specs.Prelude.{◌≡◌, ℕ, ◌+◌, ◌*◌, ◌≤◌, ◌<◌, ◌↔◌, ◌⊎◌, [], ◌∷◌, ◌++◌, length, Some, None, Err, Ok, IfOk, IfErr, OnOk, OnErr, IfSome, IsNone, IsSome, MatchOption, IsTrue, IsFalse, IsErr, IsErrOf, true, false, slice_get, slice_set};
+ghost use Rattle.std.specs.Option.{ForSome};
 ghost use Rattle.patch_device.specs.Blocks.{FitsFile, AreWhole, zeros};
 ghost use Rattle.patch_device.specs.Cuts.{written_behind};
 ghost use Rattle.patch_device.specs.Device.{most_faults, HasRisen, CountsFault, IsOldOrNew, LandsOrNot, LeavesNoMore, LeavesJust, Elapses};
 
 use crate::devices::Device;
+use crate::memory::put;
 use crate::past::{FilePast, Filled, Found, Writing};
 use crate::refusals::{DeviceRefusal, FileRefusal};
-use patch_model::{BLOCK, BlockBytes, MAX_BLOCKS};
+use patch_model::{BLOCK, BlockBytes, MAX_BLOCKS, OutOfMemory};
 use std::alloc::Global;
 use std::fs;
 use std::fs::{OpenFile, OpenOptions};
 use std::os::unix::fs::FileExt;
 use std::rt::Files;
 
-/// A file of 1 to 4,096 whole blocks, which is read once, when it is opened: `read` refuses each block that there is. What it holds is
-/// a premise: what was found in it and what was written to it before a sync that was done is there, and of what was written since,
-/// each block is old or new, whatever is cut. A write that failed is taken for one that was done. To contracts, then, the device is
-/// honest; that its calls reach the file no clause can say.
+/// A file of 1 to 4,096 whole blocks, which is read once, when it is opened. What it holds is a premise: what was found in it and
+/// what was written to it before a sync that was done is there, and of what was written since, each block is old or new, whatever is
+/// cut. A write that failed is taken for one that was done. To contracts, then, the device is honest; that its calls reach the file no
+/// clause can say.
+///
+/// `read` refuses each block that there is, but where the device remembers all that the file holds: then it reads the file, and
+/// refuses what isn't as it is remembered.
 ///
 /// Without barriers its syncs are passed over, and done as one by `finish`. The premise is weaker then: only of a crash of the
 /// program, and not of a cut of the power, is it said what is there, each write as soon as it is done.
@@ -26,6 +31,8 @@ pub struct FileDevice<F: FileExt + Drop> {
     file: F,
     count: u32,
     past: FilePast,
+    /// All blocks as they were found and written, where reads are compared with them.
+    remembered: Option<Vec<BlockBytes>>,
     /// Syncs are done, and not passed over.
     barriers: bool,
     faults: u64,
@@ -34,6 +41,7 @@ pub struct FileDevice<F: FileExt + Drop> {
     ghost fits: { FitsFile count },
     ghost counted: { length (written_behind past.first past.events) ≡ count },
     ghost whole: { AreWhole (written_behind past.first past.events) },
+    ghost remembers: { ForSome remembered (λ blocks. blocks.items ≡ written_behind past.first past.events) },
     ghost faults_fit: { faults ≤ most_faults },
 }
 
@@ -92,6 +100,35 @@ fn read_blocks<F: FileExt>(
     Ok(blocks)
 }
 
+/// A copy of these blocks.
+fn copies(alloc: Global, blocks: &[BlockBytes]) -> Result<Vec<BlockBytes>, OutOfMemory>
+    ensures { IfOk result (λ copied. copied.items ≡ blocks.now) }
+{
+    let mut copied = Vec::with_capacity(alloc, blocks.len())?;
+    for block in blocks {
+        copied.push(BlockBytes::from_slice(alloc, block.as_slice())?)?;
+    }
+    Ok(copied)
+}
+
+/// Whether these are the same bytes.
+fn are_same(read: &[u8], remembered: &[u8]) -> bool
+    ensures { result ≡ true → read.now ≡ remembered.now }
+{
+    read == remembered
+}
+
+/// Puts these bytes in a block, where the blocks are remembered.
+fn put_where_remembered(remembered: &mut Option<Vec<BlockBytes>>, n: u32, bytes: &[u8])
+    requires { length bytes.now ≡ BLOCK }
+    ensures { MatchOption remembered.old (IsNone remembered.new) (λ before.
+        MatchOption remembered.new ⊥ (λ now. now.items ≡ slice_set before.items n bytes.now)) }
+{
+    if let Some(blocks) = remembered {
+        put(blocks, n, bytes);
+    }
+}
+
 /// A device over a file to which nothing was done.
 fn begun<F: FileExt + Drop>(file: F, count: u32, past: FilePast) -> FileDevice<F>
     requires fits { FitsFile count }
@@ -100,6 +137,7 @@ fn begun<F: FileExt + Drop>(file: F, count: u32, past: FilePast) -> FileDevice<F
     requires whole { AreWhole past.first }
     ensures past { result.past ≡ past }
     ensures count { result.count ≡ count }
+    ensures remembered { result.remembered ≡ None }
     ensures barriers { result.barriers ≡ true }
     ensures faults { result.faults ≡ 0 }
     ensures spent { result.spent ≡ false }
@@ -108,6 +146,7 @@ fn begun<F: FileExt + Drop>(file: F, count: u32, past: FilePast) -> FileDevice<F
         file,
         count,
         past,
+        remembered: None,
         barriers: true,
         faults: 0,
         spent: false,
@@ -115,7 +154,7 @@ fn begun<F: FileExt + Drop>(file: F, count: u32, past: FilePast) -> FileDevice<F
 }
 
 impl<F: FileExt + OpenFile + Drop> FileDevice<F> {
-    ghost use Rattle.patch_device.specs.FileDevice.{block_count_of, fault_count_of, first_of, events_of, contents_of, moment_of, left_at_of, has_barriers, IsSpent};
+    ghost use Rattle.patch_device.specs.FileDevice.{block_count_of, fault_count_of, first_of, events_of, contents_of, moment_of, left_at_of, has_barriers, Remembers, IsSpent};
 
     /// Makes a new file of so many blocks of zeros, and syncs it. `Disk` also says that there is something of this name, which is
     /// left as it was. A file that can't be filled is removed.
@@ -203,10 +242,55 @@ impl<F: FileExt + OpenFile + Drop> FileDevice<F> {
         device
     }
 
+    /// The device, which remembers what the file holds, in a copy of these blocks, and so can be read.
+    pub fn remembering(
+        self,
+        alloc: Global,
+        blocks: &[BlockBytes],
+    ) -> Result<FileDevice<F>, OutOfMemory>
+        requires { blocks.now ≡ contents_of self }
+        ensures remembers { IfOk result Remembers }
+        ensures barriers { IfOk result (λ d. has_barriers d ≡ has_barriers self) }
+        ensures count { IfOk result (λ d. block_count_of d ≡ block_count_of self) }
+        ensures first { IfOk result (λ d. first_of d ≡ first_of self) }
+        ensures events { IfOk result (λ d. events_of d ≡ events_of self) }
+        ensures faults { IfOk result (λ d. fault_count_of d ≡ fault_count_of self) }
+        ensures spent { IfOk result (λ d. IsSpent d ↔ IsSpent self) }
+    {
+        let mut device = self;
+        device.remembered = Some(copies(alloc, blocks)?);
+        Ok(device)
+    }
+
+    /// What is remembered of a block.
+    fn remembered_of(&self, n: u32) -> Option<&[u8]>
+        ensures is { IfSome result (λ bytes. slice_get (contents_of self.now) n ≡ Some bytes.now) }
+        ensures remembers { IsSome result → Remembers self.now }
+    {
+        let blocks = self.remembered.as_ref()?;
+        let block = blocks.get(n as usize)?;
+        Some(block.as_slice())
+    }
+
+    /// Reads a block of the file, and answers whether that gave what is remembered of it.
+    fn reads_back(&self, n: u32, into: &mut [u8]) -> bool
+        requires { length into.old ≡ BLOCK }
+        ensures gives { result ≡ true → slice_get (contents_of self.now) n ≡ Some into.new }
+        ensures remembers { result ≡ true → Remembers self.now }
+    {
+        match self.remembered_of(n) {
+            Some(bytes) => {
+                self.file.read_exact_at(into, place_of(n)).is_ok() && are_same(into, bytes)
+            }
+            None => false,
+        }
+    }
+
     /// Counts a fault.
     fn fault(&mut self) -> Result<(), DeviceRefusal>
         ensures count { block_count_of self.new ≡ block_count_of self.old }
         ensures past { self.new.past ≡ self.old.past }
+        ensures remembers { Remembers self.old ↔ Remembers self.new }
         ensures risen { HasRisen (fault_count_of self.old) (fault_count_of self.new) }
         ensures barriers { self.new.barriers ≡ self.old.barriers }
         ensures spent { self.new.spent ≡ self.old.spent }
@@ -222,6 +306,7 @@ impl<F: FileExt + OpenFile + Drop> FileDevice<F> {
         ensures count { block_count_of self.new ≡ block_count_of self.old }
         ensures first { first_of self.new ≡ first_of self.old }
         ensures events { events_of self.new ≡ events_of self.old ++ Some (n, from.now) ∷ [] }
+        ensures remembers { Remembers self.old ↔ Remembers self.new }
         ensures faults { fault_count_of self.new ≡ fault_count_of self.old }
         ensures barriers { self.new.barriers ≡ self.old.barriers }
         ensures spent { self.new.spent ≡ self.old.spent }
@@ -229,6 +314,7 @@ impl<F: FileExt + OpenFile + Drop> FileDevice<F> {
         let mut bytes = [0; BLOCK];
         bytes.copy_from_slice(from);
         let past = self.past.same();
+        put_where_remembered(&mut self.remembered, n, from);
         self.past = FilePast::behind_write(&Writing { past, n, bytes });
     }
 
@@ -236,6 +322,7 @@ impl<F: FileExt + OpenFile + Drop> FileDevice<F> {
     fn sync_file(&mut self) -> Result<(), DeviceRefusal>
         ensures count { block_count_of self.new ≡ block_count_of self.old }
         ensures past { self.new.past ≡ self.old.past }
+        ensures remembers { Remembers self.old ↔ Remembers self.new }
         ensures no_fault { OnOk result (fault_count_of self.new ≡ fault_count_of self.old) }
         ensures fault { OnErr result (HasRisen (fault_count_of self.old) (fault_count_of self.new)) }
         ensures kind { IfErr result (λ refusal. refusal ≡ DeviceRefusal.Fault) }
@@ -253,7 +340,7 @@ impl<F: FileExt + OpenFile + Drop> FileDevice<F> {
 }
 
 impl<F: FileExt + OpenFile + Drop> Device for FileDevice<F> {
-    ghost use Rattle.patch_device.specs.FileDevice.{block_count_of, fault_count_of, first_of, events_of, contents_of, moment_of, left_at_of, has_barriers, IsSpent, blocks_counted_law, blocks_whole_law, all_may_land_law, faults_fit_law};
+    ghost use Rattle.patch_device.specs.FileDevice.{block_count_of, fault_count_of, first_of, events_of, contents_of, moment_of, left_at_of, has_barriers, Remembers, IsSpent, blocks_counted_law, blocks_whole_law, all_may_land_law, faults_fit_law};
 
     ghost contents = { contents_of };
 
@@ -273,29 +360,36 @@ impl<F: FileExt + OpenFile + Drop> Device for FileDevice<F> {
         self.count
     }
 
-    // A premise says what the file holds, and what a read gives would be one more.
-    fn read(&mut self, n: u32, _into: &mut [u8]) -> Result<(), DeviceRefusal>
-        requires { length _into.old ≡ BLOCK }
+    // A premise says what the file holds, and what a read gives would be one more: so it is compared with what is remembered.
+    fn read(&mut self, n: u32, into: &mut [u8]) -> Result<(), DeviceRefusal>
+        requires { length into.old ≡ BLOCK }
         ensures count { block_count_of self.new ≡ block_count_of self.old }
         ensures first { first_of self.new ≡ first_of self.old }
         ensures events { events_of self.new ≡ events_of self.old }
         ensures barriers { has_barriers self.new ≡ has_barriers self.old }
+        ensures remembers { Remembers self.old ↔ Remembers self.new }
         ensures still_spent { IsSpent self.old ↔ IsSpent self.new }
         ensures no_such_block { IsErrOf result DeviceRefusal.NoSuchBlock
             ↔ (block_count_of self.old ≤ n) }
         ensures cause { CountsFault (fault_count_of self.old) (fault_count_of self.new) result }
-        ensures refuses { IsErr result }
+        ensures refuses { IsSpent self.old → IsErr result }
+        ensures unremembered { (Remembers self.old → ⊥) → IsErr result }
+        ensures gives { OnOk result (slice_get (contents_of self.old) n ≡ Some into.new) }
     {
         if n >= self.count {
             return Err(DeviceRefusal::NoSuchBlock);
         }
-        self.fault()
+        if self.spent || !self.reads_back(n, into) {
+            return self.fault();
+        }
+        Ok(())
     }
 
     fn write(&mut self, n: u32, from: &[u8]) -> Result<(), DeviceRefusal>
         requires { length from.now ≡ BLOCK }
         ensures count { block_count_of self.new ≡ block_count_of self.old }
         ensures barriers { has_barriers self.new ≡ has_barriers self.old }
+        ensures remembers { Remembers self.old ↔ Remembers self.new }
         ensures still_spent { IsSpent self.old ↔ IsSpent self.new }
         ensures no_such_block { IsErrOf result DeviceRefusal.NoSuchBlock
             ↔ (block_count_of self.old ≤ n) }
@@ -330,6 +424,7 @@ impl<F: FileExt + OpenFile + Drop> Device for FileDevice<F> {
     fn sync(&mut self) -> Result<(), DeviceRefusal>
         ensures count { block_count_of self.new ≡ block_count_of self.old }
         ensures barriers { has_barriers self.new ≡ has_barriers self.old }
+        ensures remembers { Remembers self.old ↔ Remembers self.new }
         ensures no_fault { OnOk result (fault_count_of self.new ≡ fault_count_of self.old) }
         ensures fault { OnErr result (HasRisen (fault_count_of self.old) (fault_count_of self.new)) }
         ensures kind { IfErr result (λ refusal. refusal ≡ DeviceRefusal.Fault) }
@@ -362,6 +457,7 @@ impl<F: FileExt + OpenFile + Drop> Device for FileDevice<F> {
         ensures first { first_of self.new ≡ first_of self.old }
         ensures events { events_of self.new ≡ events_of self.old }
         ensures barriers { has_barriers self.new ≡ has_barriers self.old }
+        ensures remembers { Remembers self.old ↔ Remembers self.new }
         ensures no_fault { OnOk result (fault_count_of self.new ≡ fault_count_of self.old) }
         ensures fault { OnErr result (HasRisen (fault_count_of self.old) (fault_count_of self.new)) }
         ensures kind { IfErr result (λ refusal. refusal ≡ DeviceRefusal.Fault) }

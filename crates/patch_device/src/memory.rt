@@ -32,6 +32,16 @@ pub(crate) fn overwrite<A: Allocator>(block: &mut BlockBytes<A>, bytes: &[u8])
     block.write(0, bytes);
 }
 
+/// Puts these bytes in a block, if it is there.
+pub(crate) fn put<A: Allocator>(blocks: &mut Vec<BlockBytes<A>, A>, n: u32, bytes: &[u8])
+    requires { length bytes.now ≡ BLOCK }
+    ensures { blocks.new.items ≡ slice_set blocks.old.items n bytes.now }
+{
+    if (n as usize) < blocks.len() {
+        overwrite(&mut blocks[n as usize], bytes);
+    }
+}
+
 /// So many blocks of zeros.
 pub(crate) fn blocks_of_zeros<A: Allocator + Copy>(
     alloc: A,

@@ -5,7 +5,7 @@ ghost use Rattle.patch_device.specs.Blocks.{AreWhole, zeros};
 ghost use Rattle.patch_device.specs.Cuts.{written_behind, with_landed, IsSyncedAt, writes_among};
 
 use crate::devices::Device;
-use crate::memory::{blocks_of_zeros, overwrite};
+use crate::memory::{blocks_of_zeros, overwrite, put};
 use crate::refusals::DeviceRefusal;
 use patch_model::{BLOCK, BlockBytes, OutOfMemory};
 use std::alloc::{Allocator, Global};
@@ -32,22 +32,13 @@ pub struct VolatileDevice<A: Allocator = Global> {
     ghost faults_fit: { faults ≤ most_faults },
 }
 
-/// Puts these bytes in a block, if it is there.
-fn put<A: Allocator>(blocks: &mut Vec<BlockBytes<A>, A>, n: u32, bytes: &BlockBytes<A>)
-    ensures { blocks.new.items ≡ slice_set blocks.old.items n bytes.now }
-{
-    if (n as usize) < blocks.len() {
-        overwrite(&mut blocks[n as usize], bytes.as_slice());
-    }
-}
-
 /// Does all of these writes to the blocks.
 fn replay<A: Allocator>(blocks: &mut Vec<BlockBytes<A>, A>, events: &[Option<(u32, BlockBytes<A>)>])
     ensures { blocks.new.items ≡ written_behind blocks.old.items events.now }
 {
     for event in events {
         if let Some((n, bytes)) = event {
-            put(blocks, *n, bytes);
+            put(blocks, *n, bytes.as_slice());
         }
     }
 }
@@ -71,7 +62,7 @@ fn replay_some<A: Allocator>(
     for event in events {
         if let Some((n, bytes)) = event {
             if is_said(lands, place) {
-                put(blocks, *n, bytes);
+                put(blocks, *n, bytes.as_slice());
             }
             place += 1;
         }

@@ -12,8 +12,8 @@ loop-event-preserved g c = elim c.match-event.branch [
     landed = rw w.blocks-is (elim w.if-is_said.branch [
       | then-is_said v ↦
           rw v.blocks-is
-          (v.put.ensures ∙ landed_one c.args.blocks.now.items c.loop-event.blocks.items c.args.events.now c.loop-event.event-index c.loop-event.place c.event-item.result (w.in-Some.n, w.in-Some.bytes)
-          c.args.lands.now c.loop-event-test.true c.event-item.is w.in-Some.is c.loop-event.invariant.place c.loop-event.invariant.landed (sym w.is_said.ensures ∙ v.if-is_said.true))
+          (rw v.put.ensures (rw v.as_slice.ensures.bytes (landed_one c.args.blocks.now.items c.loop-event.blocks.items c.args.events.now c.loop-event.event-index c.loop-event.place c.event-item.result (w.in-Some.n, w.in-Some.bytes)
+          c.args.lands.now c.loop-event-test.true c.event-item.is w.in-Some.is c.loop-event.invariant.place c.loop-event.invariant.landed (sym w.is_said.ensures ∙ v.if-is_said.true))))
       | else-is_said v ↦
           rw v.blocks-is
           (lost_one c.args.blocks.now.items c.loop-event.blocks.items c.args.events.now c.loop-event.event-index c.loop-event.place c.event-item.result (w.in-Some.n, w.in-Some.bytes)

@@ -37,3 +37,10 @@ returns-clause-lasts g c =
     let on : c.args.self.now.barriers ≡ true = grind (arith, common_steps) in
     lasts_then c.sync_file.new.self.barriers c.sync_file.new.self.past.first c.behind_sync-self.result.first c.sync_file.new.self.past.events c.behind_sync-self.result.events
     (c.sync_file.ensures.barriers ∙ on) c.behind_sync-self.ensures.0 c.behind_sync-self.ensures.1
+
+-- nor what is remembered
+pub invariant_of-self-clause-remembers : goal.invariant_of-self-clause-remembers
+invariant_of-self-clause-remembers g c blocks is =
+    c.sync_file.new.self.remembers blocks is
+    ∙ sym (synced_then c.sync_file.new.self.past.first c.behind_sync-self.result.first c.sync_file.new.self.past.events c.behind_sync-self.result.events c.behind_sync-self.ensures.0
+    c.behind_sync-self.ensures.1)
