@@ -3,7 +3,7 @@ ghost use Rattle.std.specs.Prelude.{◌≡◌};
 ghost use Rattle.patch_device.specs.SameDevice.{IsSameDevice};
 
 use crate::endings::{Status, Stop, conclude};
-use crate::opening::{open_file, open_store};
+use crate::opening::{Barriers, open_file, open_store};
 use crate::reporting::{write_entries, write_extents};
 use patch_device::Device;
 use patch_replay::{Output, Sink};
@@ -74,7 +74,7 @@ fn check_path<F: FileExt + OpenFile + Drop, R: Files<File = F>, W: Output>(
     writer: &mut Sink<W>,
     path: &str,
 ) -> Result<(), Stop> {
-    let (device, store) = open_file(rt, alloc, path)?;
+    let (device, store) = open_file(rt, alloc, path, Barriers::On)?;
     let report = report_on(&store);
     drop(store);
     drop(device);

@@ -3,7 +3,7 @@
 //! Each command is a function over any reader, writer and device, and answers how it ended: [`run_script`], [`check_disk`] and
 //! [`upgrade_disk`]. [`make_file`], [`run_file`], [`check_file`] and [`upgrade_file`] do the same by the path of a file. Nothing is
 //! written to a device but by a store's flush. What the commands are made of is for scripts of several writers too: [`read_script`],
-//! [`open_file`], [`open_store`] and [`finish_device`], which answer why they [`Stop`], and the end of the text by [`conclude`] or [`refuse`].
+//! [`open_file`], [`open_file_to_read`], [`open_store`] and [`finish_device`], which answer why they [`Stop`], and the end of the text by [`conclude`] or [`refuse`].
 #![tactic(auto)]
 
 mod answering;
@@ -20,7 +20,7 @@ mod upgrading;
 pub use checking::{check_disk, check_file};
 pub use endings::{Status, Stop, Unread, conclude, refuse};
 pub use making::make_file;
-pub use opening::{finish_device, open_file, open_store};
+pub use opening::{Barriers, finish_device, open_file, open_file_to_read, open_store};
 pub use progress::{Progress, Quiet, Ticker};
 pub use reading::read_script;
 pub use running::{run_file, run_script};

@@ -1,13 +1,13 @@
 //! How the store of a device is opened, and how it is brought to the device.
-ghost use Rattle.std.specs.Prelude.{◌≡◌, IfOk, IfErr, OnOk};
+ghost use Rattle.std.specs.Prelude.{◌≡◌, IfOk, IfErr, OnOk, IsTrue};
 ghost use Rattle.patch_device.specs.Device.{HasRisen};
-ghost use Rattle.patch_device.specs.FileDevice.{contents_of};
+ghost use Rattle.patch_device.specs.FileDevice.{contents_of, has_barriers, Remembers};
 ghost use Rattle.patch_device.specs.SameDevice.{IsSameDevice, IsLasting};
 ghost use Rattle.patch_cache.specs.Meaning.{Represents as IsCacheOf};
 ghost use Rattle.patch_history.specs.History.{History};
 ghost use Rattle.patch_store.specs.Opening.{unchanged, IsOpened};
 ghost use Rattle.patch_disks.specs.Going.{EndsSafely, StillLasts};
-ghost use Rattle.patch_disks.specs.Opening.{IsUntouched, IsUnused};
+ghost use Rattle.patch_disks.specs.Opening.{IsUntouched, IsUnused, IsUnder};
 ghost use Rattle.patch_disks.specs.Running.{StandsOn, HasSaved};
 ghost use Rattle.patch_disks.specs.Stopping.{HoldNoStore, IsNotOpened, IsStop};
 
@@ -49,23 +49,82 @@ fn store_of(alloc: Global, blocks: Vec<BlockBytes>) -> Result<Store, Stop>
     }
 }
 
+/// Whether what rests on writes waits until the file is synced behind them.
+#[derive(Clone, Copy, Debug, PartialEq, Eq)]
+pub enum Barriers {
+    On,
+    /// The file is synced once, behind all writes of a run's sync: faster, and safe against a crash of the program alone.
+    Off,
+}
+
+/// A device with barriers, or the same without.
+fn set_barriers<F: FileExt + OpenFile + Drop>(
+    device: FileDevice<F>,
+    barriers: Barriers,
+) -> FileDevice<F>
+    requires barriers { IsTrue (has_barriers device) }
+    requires lasting { IsLasting ⟦<FileDevice<F> as Device>⟧ device }
+    ensures contents { contents_of result ≡ contents_of device }
+    ensures barriers { IsUnder barriers result }
+    ensures lasts { IsLasting ⟦<FileDevice<F> as Device>⟧ result }
+{
+    match barriers {
+        Barriers::On => device,
+        Barriers::Off => device.without_barriers(),
+    }
+}
+
+/// The file of this name, as a device, and its blocks.
+fn open_blocks<F: FileExt + OpenFile + Drop, R: Files<File = F>>(
+    rt: &R,
+    alloc: Global,
+    path: &str,
+    barriers: Barriers,
+) -> Result<(FileDevice<F>, Vec<BlockBytes>), Stop>
+    ensures contents { IfOk result (λ opened. contents_of opened.0 ≡ opened.1.items) }
+    ensures barriers { IfOk result (λ opened. IsUnder barriers opened.0) }
+    ensures lasts { IfOk result (λ opened. IsLasting ⟦<FileDevice<F> as Device>⟧ opened.0) }
+{
+    match FileDevice::open(rt, alloc, path) {
+        Ok((device, blocks)) => Ok((set_barriers(device, barriers), blocks)),
+        Err(refusal) => Err(Stop::Refused(refusal.refusal())),
+    }
+}
+
 /// The file of this name, as a device, and the store that it holds. A file is read once, as it is opened.
 pub fn open_file<F: FileExt + OpenFile + Drop, R: Files<File = F>>(
     rt: &R,
     alloc: Global,
     path: &str,
+    barriers: Barriers,
 ) -> Result<(FileDevice<F>, Store), Stop>
     ensures new { IfOk result (λ opened. IsUnused opened.1) }
     ensures opened { IfOk result (λ opened. IsOpened (contents_of opened.0) opened.1) }
+    ensures barriers { IfOk result (λ opened. IsUnder barriers opened.0) }
     ensures lasts { IfOk result (λ opened. IsLasting ⟦<FileDevice<F> as Device>⟧ opened.0) }
 {
-    match FileDevice::open(rt, alloc, path) {
-        Ok((device, blocks)) => {
-            let store = store_of(alloc, blocks)?;
-            Ok((device, store))
-        }
-        Err(refusal) => Err(Stop::Refused(refusal.refusal())),
-    }
+    let (device, blocks) = open_blocks(rt, alloc, path, barriers)?;
+    let store = store_of(alloc, blocks)?;
+    Ok((device, store))
+}
+
+/// As [`open_file`] does, with a device that can be read: it remembers all blocks, and compares what it reads with them.
+pub fn open_file_to_read<F: FileExt + OpenFile + Drop, R: Files<File = F>>(
+    rt: &R,
+    alloc: Global,
+    path: &str,
+    barriers: Barriers,
+) -> Result<(FileDevice<F>, Store), Stop>
+    ensures new { IfOk result (λ opened. IsUnused opened.1) }
+    ensures opened { IfOk result (λ opened. IsOpened (contents_of opened.0) opened.1) }
+    ensures barriers { IfOk result (λ opened. IsUnder barriers opened.0) }
+    ensures remembers { IfOk result (λ opened. Remembers opened.0) }
+    ensures lasts { IfOk result (λ opened. IsLasting ⟦<FileDevice<F> as Device>⟧ opened.0) }
+{
+    let (device, blocks) = open_blocks(rt, alloc, path, barriers)?;
+    let device = device.remembering(alloc, blocks.as_slice())?;
+    let store = store_of(alloc, blocks)?;
+    Ok((device, store))
 }
 
 /// The blocks of the device, of which there are as many as a disk may have.

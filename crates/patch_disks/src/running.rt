@@ -12,7 +12,7 @@ ghost use Rattle.patch_replay.specs.declared.endings.BadScript.{BadScript as The
 
 use crate::answering::answer;
 use crate::endings::{Status, Stop, Unread, conclude, refuse};
-use crate::opening::{open_file, open_store, save};
+use crate::opening::{Barriers, open_file, open_store, save};
 use crate::progress::Progress;
 use crate::reading::read_script;
 use patch_cache::laws as cache_laws;
@@ -147,6 +147,7 @@ fn run_lines_on_file<F, H, W, P>(
     alloc: Global,
     writer: &mut Sink<W>,
     path: &str,
+    barriers: Barriers,
     lines: Vec<CommandLine>,
     progress: &mut P,
 ) -> Result<(), Stop>
@@ -156,7 +157,7 @@ where
     W: Output,
     P: Progress,
 {
-    let (mut device, mut store) = open_file(rt, alloc, path)?;
+    let (mut device, mut store) = open_file(rt, alloc, path, barriers)?;
     let ran = answer_and_save(alloc, writer, &mut store, &mut device, lines, progress);
     drop(store);
     ran
@@ -169,6 +170,7 @@ pub fn run_file<F, H, R, W, P>(
     reader: &mut Source<R>,
     writer: &mut Sink<W>,
     path: &str,
+    barriers: Barriers,
     progress: &mut P,
 ) -> Status
 where
@@ -184,7 +186,7 @@ where
         Err(Unread::Script(why)) => return refuse(alloc, writer, why),
         Err(Unread::Stopped(stop)) => return conclude(alloc, writer, Err(stop)),
     };
-    let ran = run_lines_on_file(rt, alloc, writer, path, lines, progress);
+    let ran = run_lines_on_file(rt, alloc, writer, path, barriers, lines, progress);
     progress.end();
     conclude(alloc, writer, ran)
 }

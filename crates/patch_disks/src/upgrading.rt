@@ -9,7 +9,7 @@ ghost use Rattle.patch_disks.specs.Upgrading.{HasUpgraded, HasUpgradedBehind};
 ghost use Rattle.patch_disks.specs.declared.endings.Status.TheVariants.{Done};
 
 use crate::endings::{Status, Stop, conclude};
-use crate::opening::{open_file, open_store, save};
+use crate::opening::{Barriers, open_file, open_store, save};
 use patch_cache::laws as cache_laws;
 use patch_device::Device;
 use patch_model::{Refuses, laws as model_laws};
@@ -93,7 +93,7 @@ fn upgrade_path<F: FileExt + OpenFile + Drop, R: Files<File = F>, W: Output>(
     writer: &mut Sink<W>,
     path: &str,
 ) -> Result<(), Stop> {
-    let (mut device, mut store) = open_file(rt, alloc, path)?;
+    let (mut device, mut store) = open_file(rt, alloc, path, Barriers::On)?;
     let upgraded = upgrade_and_tell(writer, &mut store, &mut device);
     drop(store);
     upgraded

@@ -12,8 +12,8 @@ mod running;
 mod serving;
 
 pub use patch_disks::{
-    Progress, Quiet, Status, Ticker, check_disk, check_file, make_file, run_file, run_script,
-    upgrade_disk, upgrade_file,
+    Barriers, Progress, Quiet, Status, Ticker, check_disk, check_file, make_file, run_file,
+    run_script, upgrade_disk, upgrade_file,
 };
 pub use running::run_or_serve;
 pub use serving::{Served, serve_file, serve_script};

@@ -16,7 +16,8 @@ use crate::jobs::jobs_of;
 use patch_commands::{CommandLine, reply_line};
 use patch_device::Device;
 use patch_disks::{
-    Status, Stop, Unread, conclude, finish_device, open_file, open_store, read_script, refuse,
+    Barriers, Status, Stop, Unread, conclude, finish_device, open_file_to_read, open_store,
+    read_script, refuse,
 };
 use patch_history::{Command, Reply};
 use patch_model::{RefusalKind, Refuses};
@@ -236,6 +237,7 @@ fn serve_lines_on_file<F, H, W>(
     alloc: Global,
     writer: &mut Sink<W>,
     path: &str,
+    barriers: Barriers,
     lines: Vec<CommandLine>,
     writers: u32,
 ) -> Result<(), Stop>
@@ -246,7 +248,7 @@ where
     requires { (0 < writers) × (writers ≤ 8) }
 {
     let jobs = jobs_of(alloc, lines.as_slice(), writers)?;
-    let (device, store) = open_file(rt, alloc, path)?;
+    let (device, store) = open_file_to_read(rt, alloc, path, barriers)?;
     let served = match serve(rt, alloc, store, device, jobs, &OpenGate) {
         Ok(finished) => finish(alloc, writer, finished),
         Err(fault) => Err(Unserved::from(fault)),
@@ -265,6 +267,7 @@ pub fn serve_file<F, H, R, W>(
     reader: &mut Source<R>,
     writer: &mut Sink<W>,
     path: &str,
+    barriers: Barriers,
     writers: u32,
 ) -> Status
 where
@@ -281,6 +284,6 @@ where
         Err(Unread::Script(why)) => return refuse(alloc, writer, why),
         Err(Unread::Stopped(stop)) => return conclude(alloc, writer, Err(stop)),
     };
-    let served = serve_lines_on_file(rt, alloc, writer, path, lines, writers);
+    let served = serve_lines_on_file(rt, alloc, writer, path, barriers, lines, writers);
     conclude(alloc, writer, served)
 }

@@ -1,6 +1,6 @@
 //! Runs of the program: what it answers to words and a script.
 use crate::tests::expect_eq;
-use patch_program::{Errors, LockedFiles, run, words};
+use patch_program::{Errors, LockedFiles, Notes, run, words};
 use std::alloc::{AllocError, Global};
 use std::env::{Env, FillError};
 use std::fs::{OpenFile, OpenOptions};
@@ -61,6 +61,8 @@ static ROWS: [Row; 17] = [
 
 const PUT: &str = r#"{"op":"put","key":"k","hex":"0102"}"#;
 
+const GET: &str = r#"{"op":"get","key":"k"}"#;
+
 const OF_A_THIRD: &str = r#"{"op":"get","key":"a"}
 {"op":"put","key":"k","hex":"0102","writer":2}"#;
 
@@ -69,7 +71,7 @@ const OF_A_SYNC: &str = r#"{"op":"sync","group":0}"#;
 const HELD: &str = "entry 6b 2\nextent 0 0 38 19\nextent 1 0 0 0\nclean\n";
 
 /// Commands on one file, in their order.
-static ROWS_OF_FILES: [Row; 21] = [
+static ROWS_OF_FILES: [Row; 24] = [
     Row("fstch check patch_tool_disk", "", 4, "fault Disk\n", ""),
     Row("fstch run patch_tool_disk", PUT, 4, "fault Disk\n", ""),
     Row(
@@ -166,6 +168,27 @@ static ROWS_OF_FILES: [Row; 21] = [
     ),
     Row("fstch run patch_tool_disk", PUT, 0, "ok\n", ""),
     Row("fstch check patch_tool_disk", "", 0, HELD, ""),
+    Row(
+        "fstch run patch_tool_disk --no-barriers",
+        GET,
+        0,
+        "value 0102\n",
+        "",
+    ),
+    Row(
+        "fstch run patch_tool_disk --no-barriers --writers 2",
+        GET,
+        0,
+        "value 0102\n",
+        "",
+    ),
+    Row(
+        "fstch run patch_tool_disk --no-barriers=no",
+        GET,
+        2,
+        "",
+        "--no-barriers",
+    ),
     Row("fstch upgrade patch_tool_disk", "", 0, "upgraded\n", ""),
     Row(
         "fstch upgrade patch_tool_disk",
@@ -283,15 +306,17 @@ static LET_GO: [Row; 2] = [
 fn a_file_in_use_is_refused(rt: HostRuntime) {
     let path = "patch_locked_disk";
     let _old = fs::remove_file(&rt, path);
-    let files = LockedFiles::new(&rt);
+    let notes = Notes::new();
+    let files = LockedFiles::new(&rt, &notes);
     expect_each(&rt, &files, rt.alloc(), &TO_BE_LOCKED);
-    assert!(rt; !files.has_met_lock());
+    assert!(rt; !notes.has_met_lock());
     let held = OpenOptions::new()
         .read(true)
         .open(&files, path)
         .expect(&rt, "a file that is opened");
     expect_each(&rt, &files, rt.alloc(), &IN_USE);
-    assert!(rt; files.has_met_lock());
+    assert!(rt; notes.has_met_lock());
+    assert!(rt; !notes.has_failed_sync());
     drop(held);
     expect_each(&rt, &files, rt.alloc(), &LET_GO);
     fs::remove_file(&rt, path).expect(&rt, "a file that is there");

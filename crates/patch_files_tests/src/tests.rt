@@ -78,7 +78,7 @@ fn expect_on<D: Device>(rt: &impl Abort, alloc: Global, device: &mut D, turns: &
             }
             Deed::Check => check_disk(alloc, &mut out, device),
             Deed::Upgrade => upgrade_disk(alloc, &mut out, device),
-            Deed::Make(_) | Deed::Serve(..) => panic!(rt;
+            Deed::Make(_) | Deed::Serve(..) | Deed::RunLoose(_) | Deed::ServeLoose(..) => panic!(rt;
                 "a device is neither made nor given away"
             ),
         };

@@ -12,6 +12,6 @@ AreWriters n = (0 < n) × (n ≤ 8)
 abbrev pub MayBeAsked : Request → Type 0
 MayBeAsked (Replay blocks) = (0 < blocks) × (blocks ≤ MAX_BLOCKS)
 MayBeAsked (Make path geometry) = Unit {0}
-MayBeAsked (Run path writers) = IfSome writers AreWriters
+MayBeAsked (Run path writers barriers) = IfSome writers AreWriters
 MayBeAsked (Check path) = Unit {0}
 MayBeAsked (Upgrade path) = Unit {0}

@@ -2,7 +2,8 @@
 ghost use Rattle.std.specs.Prelude.{IfOk, IfSome};
 ghost use Rattle.patch_program.specs.Asked.{AreWriters, MayBeAsked};
 
-use clap::{Arg, ArgMatches, Command, Error, value_parser};
+use clap::{Arg, ArgAction, ArgMatches, Command, Error, value_parser};
+use patch_files::Barriers;
 use patch_frame::{Format, Geometry};
 use patch_model::MAX_BLOCKS;
 use std::alloc::Global;
@@ -54,6 +55,7 @@ pub enum Request<'a> {
         path: &'a str,
         /// How many writers have a thread each; `None` where one thread answers all lines.
         writers: Option<u32>,
+        barriers: Barriers,
     },
     /// To report what the store of a file holds.
     Check {
@@ -125,6 +127,15 @@ fn writers<'a>(alloc: Global) -> Arg<'a> {
         .value_parser(value_parser!(u32).range(1..=8))
 }
 
+fn no_barriers<'a>(alloc: Global) -> Arg<'a> {
+    Arg::new(alloc, "no-barriers")
+        .long("no-barriers")
+        .help(
+            "Syncs the file once, behind all writes of a sync: faster, and safe against a crash of the program, but not a cut of the power",
+        )
+        .action(ArgAction::SetTrue)
+}
+
 // The commands.
 
 fn named<'a>(alloc: Global, name: &'a str, about: &'a str, after_help: &'a str) -> Command<'a> {
@@ -167,7 +178,8 @@ fn run_command<'a>(alloc: Global) -> Result<Command<'a>, Error> {
     let about =
         "Runs a script of puts, gets and deletes from standard input on the store of a file";
     let command = named(alloc, "run", about, AFTER_RUN);
-    with(with(Ok(command), file(alloc)), writers(alloc))
+    let command = with(with(Ok(command), file(alloc)), writers(alloc));
+    with(command, no_barriers(alloc))
 }
 
 fn check_command<'a>(alloc: Global) -> Result<Command<'a>, Error> {
@@ -224,6 +236,13 @@ fn writers_in(matches: &ArgMatches<'_>) -> Option<u32>
     Some(writers.clamp(1, 8))
 }
 
+fn barriers_in(matches: &ArgMatches<'_>) -> Barriers {
+    if matches.get_flag("no-barriers") {
+        return Barriers::Off;
+    }
+    Barriers::On
+}
+
 fn replay_in<'a>(matches: &ArgMatches<'_>) -> Request<'a>
     ensures { MayBeAsked result }
 {
@@ -245,6 +264,7 @@ fn request_in<'a>(name: &str, matches: &ArgMatches<'a>) -> Request<'a>
         "run" => Request::Run {
             path: path_in(matches),
             writers: writers_in(matches),
+            barriers: barriers_in(matches),
         },
         "check" => Request::Check {
             path: path_in(matches),

@@ -6,5 +6,5 @@ mod locking;
 mod running;
 
 pub use arguments::words;
-pub use locking::LockedFiles;
+pub use locking::{LockedFile, LockedFiles, Notes};
 pub use running::{Errors, run};

@@ -1,26 +1,26 @@
 //! Files that are locked while they are open, so that no two programs write one store.
 use std::alloc::Allocator;
-use std::fs::{File, Metadata, OpenOptions, TryLockError};
+use std::fs::{File, Metadata, OpenFile, OpenOptions, TryLockError};
 use std::io;
+use std::io::{Read, Seek, SeekFrom, Write};
+use std::os::unix::fs::FileExt;
 use std::rt::Files;
 use std::sync::Wait;
 use std::sync::atomic::{AtomicBool, Ordering};
 use std::thread::Threads;
 
-/// The system's files, each locked as long as it is open, but for directories: those are opened to let a name in them last. An open
-/// of one that another program has locked, by this type or by the library for C, is refused and told by
-/// [`LockedFiles::has_met_lock`]. The lock is the system's advisory one, of the open file: it goes with the program, however that ends.
+/// What was met by files that are open, and by those that were not opened.
 #[derive(Drop)]
-pub struct LockedFiles<'a, R> {
-    files: &'a R,
+pub struct Notes {
     met_lock: AtomicBool,
+    failed_sync: AtomicBool,
 }
 
-impl<'a, R> LockedFiles<'a, R> {
-    pub fn new(files: &'a R) -> LockedFiles<'a, R> {
-        LockedFiles {
-            files,
+impl Notes {
+    pub fn new() -> Notes {
+        Notes {
             met_lock: AtomicBool::new(false),
+            failed_sync: AtomicBool::new(false),
         }
     }
 
@@ -29,11 +29,46 @@ impl<'a, R> LockedFiles<'a, R> {
         self.met_lock.load(Ordering::SeqCst)
     }
 
+    /// Whether a sync of a file failed.
+    pub fn has_failed_sync(&self) -> bool {
+        self.failed_sync.load(Ordering::SeqCst)
+    }
+
+    /// How a sync ended, and notes it where it failed.
+    fn synced(&self, ended: io::Result<()>) -> io::Result<()> {
+        if ended.is_err() {
+            self.failed_sync.store(true, Ordering::SeqCst);
+        }
+        ended
+    }
+}
+
+/// The system's files, each locked as long as it is open, but for directories: those are opened to let a name in them last. An open
+/// of one that another program has locked, by this type or by the library for C, is refused and noted, and so is a sync that fails.
+/// The lock is the system's advisory one, of the open file: it goes with the program, however that ends.
+#[derive(Drop)]
+pub struct LockedFiles<'a, R> {
+    files: &'a R,
+    notes: &'a Notes,
+}
+
+/// A file of [`LockedFiles`].
+#[derive(Drop)]
+pub struct LockedFile<'a> {
+    file: File,
+    notes: &'a Notes,
+}
+
+impl<'a, R> LockedFiles<'a, R> {
+    pub fn new(files: &'a R, notes: &'a Notes) -> LockedFiles<'a, R> {
+        LockedFiles { files, notes }
+    }
+
     fn lock(&self, file: File) -> io::Result<File> {
         match file.try_lock() {
             Ok(()) => Ok(file),
             Err(TryLockError::WouldBlock) => {
-                self.met_lock.store(true, Ordering::SeqCst);
+                self.notes.met_lock.store(true, Ordering::SeqCst);
                 Err(io::ErrorKind::WouldBlock.into())
             }
             Err(TryLockError::Error(e)) => Err(e),
@@ -41,21 +76,73 @@ impl<'a, R> LockedFiles<'a, R> {
     }
 }
 
+impl FileExt for LockedFile<'_> {
+    fn read_at(&self, buf: &mut [u8], offset: u64) -> io::Result<usize> {
+        self.file.read_at(buf, offset)
+    }
+
+    fn write_at(&self, buf: &[u8], offset: u64) -> io::Result<usize> {
+        self.file.write_at(buf, offset)
+    }
+}
+
+impl Read for LockedFile<'_> {
+    fn read(&mut self, buf: &mut [u8]) -> io::Result<usize> {
+        self.file.read(buf)
+    }
+}
+
+impl Write for LockedFile<'_> {
+    fn write(&mut self, buf: &[u8]) -> io::Result<usize> {
+        self.file.write(buf)
+    }
+
+    fn flush(&mut self) -> io::Result<()> {
+        self.file.flush()
+    }
+}
+
+impl Seek for LockedFile<'_> {
+    fn seek(&mut self, to: SeekFrom) -> io::Result<u64> {
+        self.file.seek(to)
+    }
+}
+
+impl OpenFile for LockedFile<'_> {
+    fn metadata(&self) -> io::Result<Metadata> {
+        self.file.metadata()
+    }
+
+    fn set_len(&self, size: u64) -> io::Result<()> {
+        self.file.set_len(size)
+    }
+
+    fn sync_all(&self) -> io::Result<()> {
+        self.notes.synced(self.file.sync_all())
+    }
+
+    fn sync_data(&self) -> io::Result<()> {
+        self.notes.synced(self.file.sync_data())
+    }
+}
+
 impl<R: Wait> Wait for LockedFiles<'_, R> {}
 
 impl<R: Threads> Threads for LockedFiles<'_, R> {}
 
-impl<R: Files<File = File>> Files for LockedFiles<'_, R> {
-    type File = File;
+impl<'a, R: Files<File = File>> Files for LockedFiles<'a, R> {
+    type File = LockedFile<'a>;
 
     type Dir = R::Dir;
 
-    fn open_file(&self, how: &OpenOptions, path: &str) -> io::Result<File> {
+    fn open_file(&self, how: &OpenOptions, path: &str) -> io::Result<LockedFile<'a>> {
         let file = self.files.open_file(how, path)?;
-        if file.metadata()?.is_dir() {
-            return Ok(file);
-        }
-        self.lock(file)
+        let is_directory = file.metadata()?.is_dir();
+        let file = if is_directory { file } else { self.lock(file)? };
+        Ok(LockedFile {
+            file,
+            notes: self.notes,
+        })
     }
 
     fn open_dir(&self, path: &str) -> io::Result<R::Dir> {

@@ -9,7 +9,8 @@ use crate::arguments;
 use crate::arguments::Request;
 use clap::error::ErrorKind;
 use patch_files::{
-    Quiet, Status as FileStatus, Ticker, check_file, make_file, run_file, serve_file, upgrade_file,
+    Barriers, Quiet, Status as FileStatus, Ticker, check_file, make_file, run_file, serve_file,
+    upgrade_file,
 };
 use patch_frame::Geometry;
 use patch_model::MAX_BLOCKS;
@@ -137,11 +138,15 @@ where
         Request::Run {
             path,
             writers: None,
-        } => run_script(files, alloc, script, answers, errors, path),
+            barriers,
+        } => run_script(files, alloc, script, answers, errors, path, barriers),
         Request::Run {
             path,
             writers: Some(writers),
-        } => run_writers(files, alloc, script, answers, errors, path, writers),
+            barriers,
+        } => run_writers(
+            files, alloc, script, answers, errors, path, barriers, writers,
+        ),
         Request::Check { path } => check_file(files, alloc, answers, path).code(),
         Request::Upgrade { path } => upgrade_file(files, alloc, answers, path).code(),
     }
@@ -177,6 +182,7 @@ fn run_script<F, H, R, O, E>(
     answers: &mut Sink<O>,
     errors: &mut Errors<'_, E>,
     path: &str,
+    barriers: Barriers,
 ) -> u8
 where
     F: FileExt + OpenFile + Drop,
@@ -187,9 +193,9 @@ where
 {
     let status = if errors.is_terminal {
         let mut ticker = Ticker::new(&mut *errors.stream);
-        run_file(files, alloc, script, answers, path, &mut ticker)
+        run_file(files, alloc, script, answers, path, barriers, &mut ticker)
     } else {
-        run_file(files, alloc, script, answers, path, &mut Quiet)
+        run_file(files, alloc, script, answers, path, barriers, &mut Quiet)
     };
     if let FileStatus::Unreadable(why) = status {
         say(errors, why);
@@ -204,6 +210,7 @@ fn run_writers<F, H, R, O, E>(
     answers: &mut Sink<O>,
     errors: &mut Errors<'_, E>,
     path: &str,
+    barriers: Barriers,
     writers: u32,
 ) -> u8
 where
@@ -214,7 +221,7 @@ where
     E: Write,
     requires { AreWriters writers }
 {
-    let status = serve_file(files, alloc, script, answers, path, writers);
+    let status = serve_file(files, alloc, script, answers, path, barriers, writers);
     if let FileStatus::Unreadable(why) = status {
         say(errors, why);
     }

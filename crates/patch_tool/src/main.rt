@@ -6,7 +6,7 @@ ghost use Rattle.std.specs.IoError.{error_kind};
 ghost use Rattle.std.specs.Process.{exit_status};
 ghost use Rattle.std.specs.declared.io.ErrorKind.TheVariants.{InvalidData};
 
-use patch_program::{Errors, LockedFiles, run, words};
+use patch_program::{Errors, LockedFiles, Notes, run, words};
 use std::alloc::Global;
 use std::fs::OpenFile;
 use std::io;
@@ -16,6 +16,11 @@ use std::process::ExitCode;
 use std::rt::Files;
 use std::sync::Wait;
 use std::thread::Threads;
+
+const AFTER_FAILED_SYNC: &[u8] = b"\
+fstch: a sync of the file failed, so the system may show what the disk doesn't have: have it read anew from the disk, as after a
+fstch: restart, before you open it again
+";
 
 /// Does what the words ask for, and gives its exit status to the system.
 fn end_of<F, H, R, W, E>(
@@ -37,11 +42,22 @@ where
     ExitCode::from(run(files, alloc, words, input, output, errors))
 }
 
+/// Says what was met, where that isn't seen by the answers.
+fn tell<E: Write>(errors: &mut E, notes: &Notes) {
+    if notes.has_met_lock() {
+        let _ = errors.write_all(b"fstch: the file is in use\n");
+    }
+    if notes.has_failed_sync() {
+        let _ = errors.write_all(AFTER_FAILED_SYNC);
+    }
+}
+
 fn main(rt: HostRuntime) -> ExitCode {
     let (mut output, mut errors) = (rt.stdout(), rt.stderr());
     let is_terminal = errors.is_terminal();
     let words = words(&rt);
-    let files = LockedFiles::new(&rt);
+    let notes = Notes::new();
+    let files = LockedFiles::new(&rt, &notes);
     let mut errors = Errors {
         stream: &mut errors,
         is_terminal,
@@ -54,8 +70,6 @@ fn main(rt: HostRuntime) -> ExitCode {
         &mut output,
         &mut errors,
     );
-    if files.has_met_lock() {
-        let _ = errors.stream.write_all(b"fstch: the file is in use\n");
-    }
+    tell(errors.stream, &notes);
     ended
 }

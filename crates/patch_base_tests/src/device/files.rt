@@ -57,6 +57,40 @@ fn makes_takes_and_reads(rt: HostRuntime) -> Result<(), Fail> {
     Ok(())
 }
 
+// A file of three blocks that is opened, and remembered.
+fn remembering(files: &HostRuntime, path: &str) -> Result<FileDevice<File>, Fail> {
+    let (device, blocks) = FileDevice::open(files, files.alloc(), path)?;
+    Ok(device.remembering(files.alloc(), blocks.as_slice())?)
+}
+
+fn read_what_is_remembered(rt: &impl Abort, files: &HostRuntime, path: &str) -> Result<(), Fail> {
+    let mut device = remembering(files, path)?;
+    expect_all_filled(rt, &mut device, &[(0, 0), (1, 8), (2, 9)]);
+    expect_write(rt, &mut device, 1, 5, Ok(()));
+    expect_all_filled(rt, &mut device, &[(1, 5), (2, 9), (0, 0)]);
+    expect_no_block(rt, &mut device, 3);
+    // Another one writes to the file: what is read isn't what is remembered.
+    let (mut other, _blocks) = FileDevice::open(files, files.alloc(), path)?;
+    expect_write(rt, &mut other, 2, 6, Ok(()));
+    expect_unread(rt, &mut device, 2, DeviceRefusal::Fault);
+    expect_filled(rt, &mut device, 1, 5);
+    expect_write(rt, &mut device, 2, 7, Ok(()));
+    expect_filled(rt, &mut device, 2, 7);
+    expect_eq(rt, &device.sync(), &Ok(()));
+    expect_filled(rt, &mut device, 2, 7);
+    Ok(())
+}
+
+#[test]
+fn reads_what_it_remembers(rt: HostRuntime) -> Result<(), Fail> {
+    make_folder(&rt, "patch_device_remembered")?;
+    let path = "patch_device_remembered/disk";
+    make(&rt, &rt, path)?;
+    read_what_is_remembered(&rt, &rt, path)?;
+    fs::remove_dir_all(&rt, "patch_device_remembered")?;
+    Ok(())
+}
+
 fn count_taken(files: &HostRuntime, path: &str) -> Result<u32, FileRefusal> {
     Ok(FileDevice::open(files, files.alloc(), path)?.0.count())
 }

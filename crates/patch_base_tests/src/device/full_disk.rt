@@ -6,19 +6,29 @@ use std::io::{Read, Seek, SeekFrom, Write};
 use std::os::unix::fs::FileExt;
 use std::rt::Files;
 
-// From which place on no file is written and none is read, and whether they are synced.
+// Which syncs of a file go well: of its data alone, and of all that it has.
+#[derive(Clone, Copy)]
+struct Syncs {
+    data: bool,
+    all: bool,
+}
+
+// From which place on no file is written and none is read, and how it is synced.
 #[derive(Clone, Copy)]
 struct Limits {
     write_end: u64,
     read_end: u64,
-    syncs: bool,
+    syncs: Syncs,
 }
 
 // No limit.
 const SOUND: Limits = Limits {
     write_end: u64::MAX,
     read_end: u64::MAX,
-    syncs: true,
+    syncs: Syncs {
+        data: true,
+        all: true,
+    },
 };
 
 // The system's files within these limits.
@@ -32,15 +42,6 @@ struct FullDisk<'a> {
 struct FileOfFullDisk {
     file: File,
     limits: Limits,
-}
-
-impl FileOfFullDisk {
-    fn synced(&self) -> io::Result<()> {
-        if !self.limits.syncs {
-            return Err(io::ErrorKind::StorageFull.into());
-        }
-        Ok(())
-    }
 }
 
 impl FileExt for FileOfFullDisk {
@@ -91,12 +92,16 @@ impl OpenFile for FileOfFullDisk {
     }
 
     fn sync_all(&self) -> io::Result<()> {
-        self.synced()?;
+        if !self.limits.syncs.all {
+            return Err(io::ErrorKind::StorageFull.into());
+        }
         self.file.sync_all()
     }
 
     fn sync_data(&self) -> io::Result<()> {
-        self.synced()?;
+        if !self.limits.syncs.data {
+            return Err(io::ErrorKind::StorageFull.into());
+        }
         self.file.sync_data()
     }
 }
@@ -238,8 +243,21 @@ fn a_file_that_cannot_be_read_is_not_taken(rt: HostRuntime) -> Result<(), Fail> 
     Ok(())
 }
 
+// A disk that fails as a file is opened or made, where it is synced whole,
 const UNSYNCED: Limits = Limits {
-    syncs: false,
+    syncs: Syncs {
+        data: true,
+        all: false,
+    },
+    ..SOUND
+};
+
+// and one that fails later.
+const UNSYNCED_LATER: Limits = Limits {
+    syncs: Syncs {
+        data: false,
+        all: true,
+    },
     ..SOUND
 };
 
@@ -250,7 +268,7 @@ fn expect_spent<D: Device>(rt: &impl Abort, device: &mut D) {
 }
 
 fn sync_on_unsynced(rt: &impl Abort, files: &HostRuntime, path: &str) -> Result<(), Fail> {
-    let mut device = on_disk(files, path, UNSYNCED)?;
+    let mut device = on_disk(files, path, UNSYNCED_LATER)?;
     expect_write(rt, &mut device, 0, 4, Ok(()));
     expect_eq(rt, &device.finish(), &Ok(()));
     expect_eq(rt, &device.sync(), &Err(DeviceRefusal::Fault));
@@ -260,7 +278,7 @@ fn sync_on_unsynced(rt: &impl Abort, files: &HostRuntime, path: &str) -> Result<
 
 // Without barriers it is the end that fails.
 fn finish_on_unsynced(rt: &impl Abort, files: &HostRuntime, path: &str) -> Result<(), Fail> {
-    let mut device = on_disk(files, path, UNSYNCED)?.without_barriers();
+    let mut device = on_disk(files, path, UNSYNCED_LATER)?.without_barriers();
     expect_eq(rt, &device.sync(), &Ok(()));
     expect_write(rt, &mut device, 1, 6, Ok(()));
     expect_eq(rt, &device.finish(), &Err(DeviceRefusal::Fault));
@@ -274,6 +292,8 @@ fn a_failed_sync_is_the_end(rt: HostRuntime) -> Result<(), Fail> {
     let path = "patch_device_unsynced/disk";
     expect_none_left(&rt, &rt, path, UNSYNCED);
     make_file(&rt, path, 12_288)?;
+    let taken = on_disk(&rt, path, UNSYNCED).err();
+    expect_eq(&rt, &taken, &Some(FileRefusal::Disk));
     sync_on_unsynced(&rt, &rt, path)?;
     finish_on_unsynced(&rt, &rt, path)?;
     fs::remove_dir_all(&rt, "patch_device_unsynced")?;

@@ -1,6 +1,6 @@
 //! Commands on a file, one behind another: how each ends, and what the file holds.
 use super::*;
-use patch_files::{check_file, make_file, run_file, serve_file, upgrade_file};
+use patch_files::{Barriers, check_file, make_file, run_file, serve_file, upgrade_file};
 use std::fs;
 use std::fs::OpenFile;
 use std::os::unix::fs::FileExt;
@@ -13,13 +13,45 @@ use std::thread::Threads;
 pub(super) enum Deed<'a> {
     Make(Geometry),
     Run(&'a str),
+    /// The same with one sync behind all writes.
+    RunLoose(&'a str),
     /// The lines of so many writers run on threads.
     Serve(u32, &'a str),
+    ServeLoose(u32, &'a str),
     Check,
     Upgrade,
 }
 
 pub(super) type Turn<'a> = (Deed<'a>, End);
+
+fn run_on<F: FileExt + OpenFile + Drop, H: Files<File = F>>(
+    rt: &H,
+    alloc: Global,
+    path: &str,
+    script: &str,
+    barriers: Barriers,
+    out: &mut Sink<Vec<u8>>,
+) -> Status {
+    let mut source = Source::new(script.as_bytes());
+    run_file(rt, alloc, &mut source, out, path, barriers, &mut Quiet)
+}
+
+fn serve_on<
+    F: FileExt + OpenFile + Drop + Send,
+    H: Files<File = F> + Threads + Wait + Abort + Sync,
+>(
+    rt: &H,
+    alloc: Global,
+    path: &str,
+    writers: u32,
+    script: &str,
+    barriers: Barriers,
+    out: &mut Sink<Vec<u8>>,
+) -> Status {
+    assert!(rt; 0 < writers && writers <= 8);
+    let mut source = Source::new(script.as_bytes());
+    serve_file(rt, alloc, &mut source, out, path, barriers, writers)
+}
 
 // How the command ends on the file of this path.
 fn end_of<F: FileExt + OpenFile + Drop + Send, H: Files<File = F> + Threads + Wait + Abort + Sync>(
@@ -31,14 +63,13 @@ fn end_of<F: FileExt + OpenFile + Drop + Send, H: Files<File = F> + Threads + Wa
 ) -> Status {
     match deed {
         Deed::Make(geometry) => make_file(rt, alloc, out, path, *geometry),
-        Deed::Run(script) => {
-            let mut source = Source::new(script.as_bytes());
-            run_file(rt, alloc, &mut source, out, path, &mut Quiet)
-        }
+        Deed::Run(script) => run_on(rt, alloc, path, script, Barriers::On, out),
+        Deed::RunLoose(script) => run_on(rt, alloc, path, script, Barriers::Off, out),
         Deed::Serve(writers, script) => {
-            assert!(rt; 0 < *writers && *writers <= 8);
-            let mut source = Source::new(script.as_bytes());
-            serve_file(rt, alloc, &mut source, out, path, *writers)
+            serve_on(rt, alloc, path, *writers, script, Barriers::On, out)
+        }
+        Deed::ServeLoose(writers, script) => {
+            serve_on(rt, alloc, path, *writers, script, Barriers::Off, out)
         }
         Deed::Check => check_file(rt, alloc, out, path),
         Deed::Upgrade => upgrade_file(rt, alloc, out, path),

@@ -303,7 +303,27 @@ static OF_EXTENTS: [Row; 4] = [
     ("patch_files_emptied", REUSED),
 ];
 
-static OF_WRITERS: [Row; 2] = [
+const WITHOUT_BARRIERS: &[Turn<'static>] = &[
+    (Deed::Make(SMALL), MADE),
+    (Deed::RunLoose(PUT), OK),
+    (Deed::Check, HELD),
+    (
+        Deed::ServeLoose(2, OF_TWO),
+        End(Status::Done, 0, "ok\nvalue 01\nok\nnone\n"),
+    ),
+    (
+        Deed::RunLoose(OF_ALL),
+        End(Status::Done, 0, "value 01\nvalue 02\nvalue 0102\n"),
+    ),
+];
+
+// What was put before, with barriers or without, by one writer or by two.
+const OF_ALL: &str = r#"{"op":"get","key":"a"}
+{"op":"get","key":"b"}
+{"op":"get","key":"k"}"#;
+
+static OF_WRITERS: [Row; 3] = [
+    ("patch_files_without_barriers", WITHOUT_BARRIERS),
     ("patch_files_of_two", SERVED_TWO),
     ("patch_files_of_three", SERVED_THREE),
 ];
