@@ -24,6 +24,8 @@
  * - No pointer is null. Where a length is 0 the pointer beside it is any other. A path ends with a 0 byte.
  * - A buffer has the length that is passed beside it. The store, the buffers and the out parameters of one call don't overlap.
  * - The thread that opened a store makes all its calls. Two threads may each have a store of their own.
+ * - While a store is open nobody writes to its file, cuts it, removes it or gives its name to another file, but by these calls. The lock
+ *   keeps those out who ask for it; a sync on a file that was removed is answered as on any other.
  * - No call is made from a signal handler, nor in a child that was forked while a store was open, but for one that has run another
  *   program by then. Such a child has the lock of the file too, until it ends or runs another program.
  * - malloc, realloc and free are those of one allocator.
@@ -36,7 +38,7 @@
 #include <stdint.h>
 
 /* The version of this interface: 10,000 for each major, 100 for each minor number, 1 for each patch. */
-#define FSTCH_VERSION 100
+#define FSTCH_VERSION 200
 
 #ifdef __cplusplus
 extern "C" {
@@ -157,8 +159,8 @@ enum fstch_answer {
 int32_t fstch_make(const char *path, uint32_t index_blocks, uint32_t extents, uint32_t extent_blocks);
 
 /* Opens the store of a file into a closed fstch_store, and locks the file until it is closed or the program ends. The program fstch
- * takes the same lock. The file is synced, so that what it shows lasts, and then read whole from the disk: an open store takes as much memory as the file has bytes, and more for what is not
- * synced; opening takes twice as much, and a sync as much again as it writes.
+ * takes the same lock. The file is synced, so that what it shows lasts, and then read whole from the disk. An open store takes as much
+ * memory as the file has bytes, and more for what is not synced; opening takes twice as much, and a sync as much again as it writes.
  *
  * `slot` is set with FSTCH_BAD_SLOT, FSTCH_BAD_FRAME and FSTCH_DUPLICATE_KEY alone: to the first slot of the index that is wrong.
  *

@@ -12,7 +12,7 @@ from . import errors
 
 __all__ = ["VERSION", "Handle", "calls", "refusal", "require_done", "text_of"]
 
-VERSION = 100
+VERSION = 200
 """The version of the interface that this module is written for: of its major and minor number the library has to be."""
 
 NAME = "libfstch.so"

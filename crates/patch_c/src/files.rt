@@ -9,7 +9,7 @@ use crate::opening::{geometry_for, make_first, open_bytes};
 use std::alloc::Global;
 
 /// `FSTCH_VERSION`.
-const VERSION: u32 = 100;
+const VERSION: u32 = 200;
 
 /// What `fstch_core_file` answers where no store is open.
 const NO_FILE: i32 = -1;

@@ -459,5 +459,5 @@ fn texts_end(rt: HostRuntime) {
         expect_eq(&rt, &fstch_error_text(*answer, part(&mut into, *room)), len);
         expect_eq(&rt, &shows(&into, shown), &told(1));
     }
-    expect_eq(&rt, &fstch_version(), &100);
+    expect_eq(&rt, &fstch_version(), &200);
 }

@@ -24,7 +24,7 @@ use std::rt::Files;
 /// `read` refuses each block that there is, but where the device remembers all that the file holds: then it reads the file, and
 /// refuses what isn't as it is remembered.
 ///
-/// Without barriers its syncs are passed over, and done as one by `finish`. The premise is weaker then: only of a crash of the
+/// Without barriers its syncs are passed over, and done as one by `finish`, where something was written. The premise is weaker then: only of a crash of the
 /// program, and not of a cut of the power, is it said what is there, each write as soon as it is done.
 #[derive(Drop)]
 pub struct FileDevice<F: FileExt + Drop> {
@@ -35,6 +35,8 @@ pub struct FileDevice<F: FileExt + Drop> {
     remembered: Option<Vec<BlockBytes>>,
     /// Syncs are done, and not passed over.
     barriers: bool,
+    /// A write was tried, and no sync was done behind it.
+    loose: bool,
     faults: u64,
     /// A sync has failed.
     spent: bool,
@@ -148,6 +150,7 @@ fn begun<F: FileExt + Drop>(file: F, count: u32, past: FilePast) -> FileDevice<F
         past,
         remembered: None,
         barriers: true,
+        loose: false,
         faults: 0,
         spent: false,
     }
@@ -313,6 +316,7 @@ impl<F: FileExt + OpenFile + Drop> FileDevice<F> {
     {
         let mut bytes = [0; BLOCK];
         bytes.copy_from_slice(from);
+        self.loose = true;
         let past = self.past.same();
         put_where_remembered(&mut self.remembered, n, from);
         self.past = FilePast::behind_write(&Writing { past, n, bytes });
@@ -335,6 +339,7 @@ impl<F: FileExt + OpenFile + Drop> FileDevice<F> {
             self.spent = true;
             return self.fault();
         }
+        self.loose = false;
         Ok(())
     }
 }
@@ -465,7 +470,8 @@ impl<F: FileExt + OpenFile + Drop> Device for FileDevice<F> {
         ensures spends { OnErr result (IsSpent self.new) }
         ensures nothing_left { IsTrue (has_barriers self.old) → result ≡ Ok tt }
     {
-        if self.barriers {
+        let is_done = !self.loose && !self.spent;
+        if self.barriers || is_done {
             return Ok(());
         }
         self.sync_file()

@@ -276,10 +276,11 @@ fn sync_on_unsynced(rt: &impl Abort, files: &HostRuntime, path: &str) -> Result<
     expect_held(rt, files, path, &[4, 0, 0])
 }
 
-// Without barriers it is the end that fails.
+// Without barriers it is the end that fails, and that of something written alone.
 fn finish_on_unsynced(rt: &impl Abort, files: &HostRuntime, path: &str) -> Result<(), Fail> {
     let mut device = on_disk(files, path, UNSYNCED_LATER)?.without_barriers();
     expect_eq(rt, &device.sync(), &Ok(()));
+    expect_eq(rt, &device.finish(), &Ok(()));
     expect_write(rt, &mut device, 1, 6, Ok(()));
     expect_eq(rt, &device.finish(), &Err(DeviceRefusal::Fault));
     expect_spent(rt, &mut device);
