@@ -20,6 +20,7 @@ use std::thread::Threads;
 
 mod books;
 mod crashes;
+mod cuts;
 mod devices;
 mod gates;
 mod memory;

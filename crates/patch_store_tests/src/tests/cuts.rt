@@ -1,85 +1,93 @@
-//! Cuts of the power while a put is brought to a disk with a write cache: whichever of the loose writes have landed, what is left
-//! opens, and the value is there once its last sync was done.
+//! Cuts of the power while puts are brought to a disk with a write cache: whichever of the loose writes have landed, what is left
+//! opens, and the value is there once the last of them was done.
 use super::flights::{PUT, VALUE};
 use super::*;
 use patch_device::{Device, VolatileDevice};
 use patch_store::flush;
+use patch_testing::{Event, cuts_of, device_behind};
 
-// A write of a block, or a sync.
-type Event = Option<(u32, BlockBytes)>;
-
-// Does to the device what was done to another.
-fn repeat(device: &mut VolatileDevice, event: &Event) -> bool {
-    match event {
-        Some((block, bytes)) => device.write(*block, bytes.as_slice()).is_ok(),
-        None => device.sync().is_ok(),
-    }
+// A put of a new store, and after how many cuts the value is there: behind the superblock and its sync, and then behind each write and
+// each sync of the put.
+#[derive(Clone, Copy)]
+struct Row<'a> {
+    turns: &'a [Turn<'a>],
+    key: &'a [u8],
+    value: &'a [u8],
+    present: &'a [u32],
 }
 
-// A disk to which this has happened.
-fn device_behind(
-    rt: &impl Abort,
-    alloc: Global,
-    events: &[Event],
-) -> Result<VolatileDevice, OutOfMemory> {
-    let mut device = VolatileDevice::new(alloc, 35)?;
-    for event in events {
-        let done = repeat(&mut device, event);
-        expect_eq(rt, &done, &true);
-    }
-    Ok(device)
-}
+// A frame of one block, its pointer, and its slot.
+const OF_ONE_BLOCK: Row<'static> = Row {
+    turns: &[(Put(b"k", &[1, 2]), Ok(()))],
+    key: b"k",
+    value: &[1, 2],
+    present: &[0, 0, 0, 0, 0, 1, 1],
+};
 
-// Which of six writes land, each by its own bit.
-fn lands_of(landed: u32) -> [bool; 6] {
-    let mut lands = [false; 6];
-    let mut left = landed;
-    for land in lands.iter_mut() {
-        *land = left % 2 == 1;
-        left /= 2;
-    }
-    lands
-}
+// A frame of four blocks, which are written together.
+const OF_FOUR_BLOCKS: Row<'static> = Row {
+    turns: PUT,
+    key: b"a",
+    value: &VALUE,
+    present: &[0, 0, 0, 0, 0, 0, 0, 0, 1, 1],
+};
 
 // Whether the store of these blocks has the value. It has to open, and to have the whole value or none.
-fn has_value(rt: &impl Abort, alloc: Global, blocks: Vec<BlockBytes>) -> Result<bool, Fail> {
+fn has_value(
+    rt: &impl Abort,
+    alloc: Global,
+    row: &Row<'_>,
+    blocks: Vec<BlockBytes>,
+) -> Result<bool, Fail> {
     let store = opened(rt, alloc, blocks)?;
-    let present = read(&store, b"a", Some(&VALUE)).is_ok();
-    let absent = read(&store, b"a", None).is_ok();
+    let present = read(&store, row.key, Some(row.value)).is_ok();
+    let absent = read(&store, row.key, None).is_ok();
     drop(store);
     expect_eq(rt, &present, &!absent);
     Ok(present)
 }
 
-// Of 64 cuts of the power, each part of the loose writes among them, those after which the value is there.
-fn count_present(rt: &impl Abort, alloc: Global, device: &VolatileDevice) -> Result<u32, Fail> {
+// After how many of these cuts the value is there.
+fn count_present(
+    rt: &impl Abort,
+    alloc: Global,
+    row: &Row<'_>,
+    cuts: Vec<Vec<BlockBytes>>,
+) -> Result<u32, Fail> {
     let mut count = 0u32;
-    for landed in 0..64u32 {
-        let blocks = device.cut(alloc, &lands_of(landed))?;
-        if has_value(rt, alloc, blocks)? {
+    for blocks in cuts {
+        if has_value(rt, alloc, row, blocks)? {
             count = count.saturating_add(1);
         }
     }
     Ok(count)
 }
 
-// How many of them there are behind the superblock and its sync, and behind each write and each sync of the put: of four blocks
-// of the frame, of the pointer, and of the slot.
-const PRESENT: &[u32] = &[0, 0, 0, 0, 0, 0, 0, 0, 32, 64];
-
-fn expect_cuts(rt: &impl Abort, alloc: Global, events: &[Event]) -> Result<(), Fail> {
-    for (at, present) in PRESENT.iter().enumerate() {
-        let device = device_behind(rt, alloc, events.get(..at + 2).unwrap_or(&[]))?;
-        let count = count_present(rt, alloc, &device);
+fn expect_cuts(
+    rt: &impl Abort,
+    alloc: Global,
+    row: &Row<'_>,
+    events: &[Event],
+) -> Result<(), Fail> {
+    expect_eq(rt, &events.len(), &row.present.len().saturating_add(1));
+    for (at, present) in row.present.iter().enumerate() {
+        let device = device_behind(alloc, 35, events.get(..at + 2).unwrap_or(&[]))?;
+        let cuts = cuts_of(alloc, &device);
         drop(device);
-        expect_eq(rt, &(at, count?), &(at, *present));
+        let count = count_present(rt, alloc, row, cuts?)?;
+        expect_eq(rt, &(at, count), &(at, *present));
     }
     Ok(())
 }
 
-// A disk with a write cache that has got a new disk's superblock, and then the put.
-fn flush_put(rt: &impl Abort, alloc: Global, device: &mut VolatileDevice) -> Result<(), Fail> {
-    let mut store = behind(rt, alloc, SMALL, &[], PUT)?;
+// Brings the put to a disk with a write cache that has got a new disk's superblock.
+fn flush_put(
+    rt: &impl Abort,
+    alloc: Global,
+    row: &Row<'_>,
+    device: &mut VolatileDevice,
+) -> Result<(), Fail> {
+    let mut store = behind(rt, alloc, SMALL, &[], row.turns)?;
     let flushed = flush(&mut store, device).is_ok();
     drop(store);
     expect_eq(rt, &flushed, &true);
@@ -94,18 +102,26 @@ fn begin(device: &mut VolatileDevice, blocks: &[BlockBytes]) -> bool {
     }
 }
 
-fn cut_put(rt: &impl Abort, alloc: Global, device: &mut VolatileDevice) -> Result<(), Fail> {
+fn cut_put(
+    rt: &impl Abort,
+    alloc: Global,
+    row: &Row<'_>,
+    device: &mut VolatileDevice,
+) -> Result<(), Fail> {
     let blocks = made(alloc, SMALL)?;
     let begun = begin(device, &blocks);
     expect_eq(rt, &begun, &true);
-    flush_put(rt, alloc, device)?;
-    expect_cuts(rt, alloc, device.events())
+    flush_put(rt, alloc, row, device)?;
+    expect_cuts(rt, alloc, row, device.events())
 }
 
 #[test]
 fn whatever_a_cut_leaves_of_a_put_opens(rt: HostRuntime) -> Result<(), Fail> {
-    let mut device = VolatileDevice::new(rt.alloc(), 35)?;
-    let cut = cut_put(&rt, rt.alloc(), &mut device);
-    drop(device);
-    cut
+    for row in &[OF_ONE_BLOCK, OF_FOUR_BLOCKS] {
+        let mut device = VolatileDevice::new(rt.alloc(), 35)?;
+        let cut = cut_put(&rt, rt.alloc(), row, &mut device);
+        drop(device);
+        cut?;
+    }
+    Ok(())
 }
