@@ -7,3 +7,4 @@ pub mod Unused
 pub mod Stopping
 pub mod Upgraded
 pub mod Concluding
+pub mod Filed

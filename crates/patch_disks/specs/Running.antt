@@ -3,6 +3,7 @@ use Rattle.std.specs.Prelude.{ℕ, ◌≡◌, List, Option, Result, Ok, OnOk, If
 use Rattle.std.specs.Io.KnownBytes.{Appends}
 use Rattle.patch_model.specs.Step.{Step}
 use Rattle.patch_model.specs.Crash.{MayLeave}
+use Rattle.patch_device.specs.SameDevice.{IsLasting}
 use Rattle.patch_device.specs.declared.devices.Device.{Ghosts}
 use Rattle.patch_cache.specs.Waves.{HoldImages}
 use Rattle.patch_recovery.specs.Ledger.{Ledger}
@@ -40,6 +41,14 @@ pub record HasRun {D : Type 0} (g : Ghosts D) (lines : List CommandLine) (old ne
 abbrev pub HasRunScript : {D : Type 0} → Ghosts D → (input old new : Option (List ℕ)) (contents : List (List ℕ)) (before now : D) → Type 0
 HasRunScript g input old new contents before now =
     IfSome input (λ text. (lines : List CommandLine) × HasLines text lines × HasRun g lines old new contents before now)
+
+-- a device was opened of which a cut left just what it held, and the lines were run on it
+abbrev pub HasRunOnOne : {D : Type 0} → Ghosts D → List CommandLine → (old new : Option (List ℕ)) → Type 0
+HasRunOnOne {D = D} g lines old new = (first : D) × (now : D) × IsLasting g first × HasRun g lines old new (g.contents first) first now
+
+-- what was read had such lines, where it is known
+abbrev pub HasRunScriptOnOne : {D : Type 0} → Ghosts D → (input old new : Option (List ℕ)) → Type 0
+HasRunScriptOnOne g input old new = IfSome input (λ text. (lines : List CommandLine) × HasLines text lines × HasRunOnOne g lines old new)
 
 -- On the way.
 

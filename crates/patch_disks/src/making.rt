@@ -8,6 +8,7 @@ use patch_store::make;
 use std::alloc::Global;
 use std::fs;
 use std::fs::{File, OpenFile};
+use std::io;
 use std::os::unix::fs::FileExt;
 use std::path::Path;
 use std::rt::Files;
@@ -42,15 +43,20 @@ fn write_first<D: Device>(device: &mut D, blocks: &[BlockBytes]) -> bool {
     }
 }
 
-/// Lets the name of a file last in the directory that it stands in, and answers whether that went well.
+/// Lets the name of a file last in the directory that it stands in, and answers whether that went well. A system that can't sync a
+/// directory says that the call is invalid: there the name may get lost with the power.
 fn sync_directory<F: OpenFile + Drop, R: Files<File = F>>(rt: &R, path: &str) -> bool {
     let parent = Path::new(path)
         .parent()
         .map_or("", |parent| parent.as_str());
     let directory = if parent.is_empty() { "." } else { parent };
-    match File::open(rt, directory) {
-        Ok(directory) => directory.sync_all().is_ok(),
-        Err(_) => false,
+    let synced = match File::open(rt, directory) {
+        Ok(directory) => directory.sync_all(),
+        Err(_) => return false,
+    };
+    match synced {
+        Ok(()) => true,
+        Err(e) => e.kind() == io::ErrorKind::InvalidInput,
     }
 }
 
@@ -74,8 +80,8 @@ fn make_path<F: FileExt + OpenFile + Drop, R: Files<File = F>, W: Output>(
 }
 
 /// Makes a file that holds an empty store on a disk that is divided so, and writes `made`, with the number of its blocks. What there
-/// is of this name is left as it was; a file that can't be finished is removed. Before `made` is written, the file and its name in its
-/// directory are told to last.
+/// is of this name is left as it was; a file that can't be finished is removed. Before `made` is written, the file is synced, and the
+/// directory that it stands in where the system can sync directories.
 pub fn make_file<F: FileExt + OpenFile + Drop, R: Files<File = F>, W: Output>(
     rt: &R,
     alloc: Global,

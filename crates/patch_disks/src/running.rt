@@ -4,7 +4,7 @@ ghost use Rattle.patch_device.specs.SameDevice.{IsSameDevice, IsLasting};
 ghost use Rattle.patch_commands.specs.Command.{commands_of};
 ghost use Rattle.patch_disks.specs.Going.{EndsSafely, EndsOpened, WentSafely, StillLasts};
 ghost use Rattle.patch_disks.specs.Reading.{IsRunOf};
-ghost use Rattle.patch_disks.specs.Running.{OfEachPast, OnceOpened, ComesOn, RunsOpened, HasRun, HasRunScript};
+ghost use Rattle.patch_disks.specs.Running.{OfEachPast, OnceOpened, ComesOn, RunsOpened, HasRun, HasRunScript, HasRunOnOne, HasRunScriptOnOne};
 ghost use Rattle.patch_disks.specs.Stopping.{IsBroken, IfFailed, HasComeSome, HasWrittenSome, RunsSomeWay, TellsWhyItStops, TellsWhatItAnswered};
 ghost use Rattle.patch_disks.specs.declared.endings.Status.TheVariants.{Done, Unreadable};
 ghost use Rattle.patch_replay.specs.Streams.{IsGivenUp};
@@ -17,7 +17,7 @@ use crate::progress::Progress;
 use crate::reading::read_script;
 use patch_cache::laws as cache_laws;
 use patch_commands::CommandLine;
-use patch_device::Device;
+use patch_device::{Device, FileDevice};
 use patch_model::laws as model_laws;
 use patch_replay::{Output, Sink, Source};
 use patch_store::Store;
@@ -156,6 +156,7 @@ where
     H: Files<File = F>,
     W: Output,
     P: Progress,
+    ensures run { OnOk result (HasRunOnOne ⟦<FileDevice<F> as Device>⟧ lines.items (W.contents writer.old.inner) (W.contents writer.new.inner)) }
 {
     let (mut device, mut store) = open_file(rt, alloc, path, barriers)?;
     let ran = answer_and_save(alloc, writer, &mut store, &mut device, lines, progress);
@@ -179,7 +180,9 @@ where
     R: Read,
     W: Output,
     P: Progress,
-    ensures { IsRunOf commands_of (R.remaining reader.old.inner) (W.contents writer.old.inner) (W.contents writer.new.inner) result }
+    ensures run { IsRunOf commands_of (R.remaining reader.old.inner) (W.contents writer.old.inner) (W.contents writer.new.inner) result }
+    ensures done { result ≡ Done → HasRunScriptOnOne ⟦<FileDevice<F> as Device>⟧ (R.remaining reader.old.inner)
+        (W.contents writer.old.inner) (W.contents writer.new.inner) }
 {
     let lines = match read_script(alloc, reader, None) {
         Ok(lines) => lines,

@@ -9,6 +9,8 @@ use Rattle.std.proofs.lemmas.List.FromFn.{map-range_with_len_more}
 use Rattle.std.proofs.lemmas.List.Sums.{sum_by-cons}
 use Rattle.patch_device.specs.declared.devices.Device.{Ghosts}
 use Rattle.patch_device.specs.SameDevice.{IsSameDevice, same_both}
+use Rattle.patch_disks.specs.declared.endings.Stop.{Stop}
+use Rattle.patch_disks.specs.Ending.{IsDoneBehind}
 use Rattle.patch_history.specs.declared.commands.Command.{Command as CodeCommand}
 use Rattle.patch_history.specs.declared.commands.Reply.{Reply as CodeReply}
 use Rattle.patch_history.specs.Command.{Command}
@@ -27,7 +29,7 @@ use Rattle.patch_replay.specs.Growing.{twice, same}
 use Rattle.patch_disks.specs.Opening.{IsUnused}
 use Rattle.patch_disks.specs.Going.{StillLasts}
 use Rattle.patch_disks.specs.Reading.{HasLinesBy}
-use Rattle.patch_files.specs.Serving.{commands_by, jobs_by, replies_text, all_text, HasServed, HasServedScript}
+use Rattle.patch_files.specs.Serving.{commands_by, jobs_by, replies_text, all_text, HasServed, HasServedScript, HasServedOnOne, HasServedScriptOnOne}
 
 -- The commands.
 
@@ -128,19 +130,17 @@ served_so g (Ok now) f jobs writers lines old new contents opening kept told are
 served_so g (Err e) f jobs writers lines old new contents opening kept told are counted settled disk same written = tt
 
 -- it is the same device still, over some calls and then more
-pub same_when : {D E : Type 0} (g : Ghosts D) (r : Result D E) (old mid later : D) → IsSameDevice g old mid → IsSameDevice g mid later
-    → IfOk r (IsSameDevice g later) → IfOk r (IsSameDevice g old)
-same_when g (Ok now) old mid later first second third = same_both g old mid now first (same_both g mid later now second third)
-same_when g (Err e) old mid later first second third = tt
+pub same_over : {D E : Type 0} (g : Ghosts D) (r : Result D E) (old mid : D) → IsSameDevice g old mid → IfOk r (IsSameDevice g mid) → IfOk r (IsSameDevice g old)
+same_over g (Ok now) old mid first second = same_both g old mid now first second
+same_over g (Err e) old mid first second = tt
 
-still_lasts : {D : Type 0} (g : Ghosts D) (a b c d : D) → StillLasts g a b → StillLasts g b c → StillLasts g c d → StillLasts g a d
-still_lasts g a b c d first second third lasting = third (second (first lasting))
+still_lasts : {D : Type 0} (g : Ghosts D) (a b c : D) → StillLasts g a b → StillLasts g b c → StillLasts g a c
+still_lasts g a b c first second lasting = second (first lasting)
 
--- what lasts over some calls and then more
-pub lasts_when : {D E : Type 0} (g : Ghosts D) (r : Result D E) (old mid later : D) → StillLasts g old mid → StillLasts g mid later
-    → IfOk r (StillLasts g later) → IfOk r (StillLasts g old)
-lasts_when g (Ok now) old mid later first second third = still_lasts g old mid later now first second third
-lasts_when g (Err e) old mid later first second third = tt
+-- and what lasts over them
+pub lasts_over : {D E : Type 0} (g : Ghosts D) (r : Result D E) (old mid : D) → StillLasts g old mid → IfOk r (StillLasts g mid) → IfOk r (StillLasts g old)
+lasts_over g (Ok now) old mid first second = still_lasts g old mid now first second
+lasts_over g (Err e) old mid first second = tt
 
 -- where no moment was begun, and the contents stay
 pub lasts_alike : {D : Type 0} (g : Ghosts D) (old now : D) → IsSameDevice g old now → g.moment now ≡ g.moment old → g.contents now ≡ g.contents old
@@ -148,23 +148,38 @@ pub lasts_alike : {D : Type 0} (g : Ghosts D) (old now : D) → IsSameDevice g o
 lasts_alike g old now device none same lasting disk may =
     lasting disk ((device.time.past (g.moment old) disk (omega arith)).1 (subst (λ t. g.left_at now t disk) none may)) ∙ sym same
 
+-- where no more is written
+more_served : (writers : ℕ) (lines : List CommandLine) (old mid new : Option (List ℕ)) (contents contents_now : List (List ℕ))
+    → HasServed writers lines old mid contents contents_now → Appends mid new [] → HasServed writers lines old new contents contents_now
+more_served writers lines old mid new contents contents_now served none = record {
+  book = served.book;
+  opening_is = served.opening_is;
+  kept = served.kept;
+  replies = served.replies;
+  told = served.told;
+  no_others = served.no_others;
+  written = subst (Appends old new) (append-nil (all_text served.replies)) (twice old mid new (all_text served.replies) [] served.written none);
+  settled = served.settled;
+  disk = served.disk;
+}
+
 -- what was done with the lines is known of the script, where no more is written
 pub script_served : (input old mid new : Option (List ℕ)) (contents contents_now : List (List ℕ)) (writers : ℕ) (lines : List CommandLine)
     → IfSome input (λ text. HasLinesBy (shared_commands writers) text lines) → HasServed writers lines old mid contents contents_now → Appends mid new []
     → HasServedScript writers input old new contents contents_now
 script_served None old mid new contents contents_now writers lines has served none = tt
-script_served (Some text) old mid new contents contents_now writers lines has served none = (
-  lines,
-  has,
-  record {
-    book = served.book;
-    opening_is = served.opening_is;
-    kept = served.kept;
-    replies = served.replies;
-    told = served.told;
-    no_others = served.no_others;
-    written = subst (Appends old new) (append-nil (all_text served.replies)) (twice old mid new (all_text served.replies) [] served.written none);
-    settled = served.settled;
-    disk = served.disk;
-  },
-)
+script_served (Some text) old mid new contents contents_now writers lines has served none =
+    (lines, has, more_served writers lines old mid new contents contents_now served none)
+
+done_on_one : {D : Type 0} (g : Ghosts D) (ran : Result (Unit {0}) Stop) (writers : ℕ) (lines : List CommandLine) (old mid new : Option (List ℕ))
+    → OnOk ran (HasServedOnOne g writers lines old mid) → IsDoneBehind ran mid new → HasServedOnOne g writers lines old new
+done_on_one g (Ok done) writers lines old mid new one none =
+    (one.0, one.1, one.2, one.3, more_served writers lines old mid new (g.contents one.0) (g.contents one.1) one.4 none)
+done_on_one g (Err stop) writers lines old mid new one none = absurd none
+
+-- and of a script that was served on a file
+pub script_on_one : {D : Type 0} (g : Ghosts D) (ran : Result (Unit {0}) Stop) (input old mid new : Option (List ℕ)) (writers : ℕ) (lines : List CommandLine)
+    → IfSome input (λ text. HasLinesBy (shared_commands writers) text lines) → OnOk ran (HasServedOnOne g writers lines old mid) → IsDoneBehind ran mid new
+    → HasServedScriptOnOne g writers input old new
+script_on_one g ran None old mid new writers lines has one none = tt
+script_on_one g ran (Some text) old mid new writers lines has one none = (lines, has, done_on_one g ran writers lines old mid new one none)

@@ -2,6 +2,7 @@
 use Rattle.std.specs.Prelude.{ℕ, ◌≡◌, ◌==◌, List, Option, MatchOption, IfSome, length, map, filter, flat_map, sum_by}
 use Rattle.std.specs.List.{range_with_len}
 use Rattle.std.specs.Io.KnownBytes.{Appends}
+use Rattle.patch_device.specs.SameDevice.{IsLasting}
 use Rattle.patch_device.specs.declared.devices.Device.{Ghosts}
 use Rattle.patch_history.specs.Command.{Command, Reply}
 use Rattle.patch_store.specs.Flushing.{HoldCached}
@@ -50,6 +51,16 @@ abbrev pub HasServedScript : (writers : ℕ) (input old new : Option (List ℕ))
 HasServedScript writers input old new contents contents_now =
     IfSome input (λ text. (lines : List CommandLine) × HasLinesBy (shared_commands writers) text lines
     × HasServed writers lines old new contents contents_now)
+
+-- a device was opened of which a cut left just what it held, and the writers of the lines were served on it; all of that lasts
+abbrev pub HasServedOnOne : {D : Type 0} → Ghosts D → (writers : ℕ) → List CommandLine → (old new : Option (List ℕ)) → Type 0
+HasServedOnOne {D = D} g writers lines old new =
+    (first : D) × (now : D) × IsLasting g first × IsLasting g now × HasServed writers lines old new (g.contents first) (g.contents now)
+
+-- what was read had such lines, where it is known
+abbrev pub HasServedScriptOnOne : {D : Type 0} → Ghosts D → (writers : ℕ) → (input old new : Option (List ℕ)) → Type 0
+HasServedScriptOnOne g writers input old new =
+    IfSome input (λ text. (lines : List CommandLine) × HasLinesBy (shared_commands writers) text lines × HasServedOnOne g writers lines old new)
 
 -- where all was done, the writers of the script were served, and the device comes back
 abbrev pub ServesOn : {D : Type 0} → Ghosts D → Status → (device : D) → (back : Option D) → (writers : ℕ) → (input old new : Option (List ℕ)) → Type 0

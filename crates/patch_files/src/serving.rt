@@ -1,20 +1,21 @@
 //! Serves the writers of a script, each on a thread of its own.
-ghost use Rattle.std.specs.Prelude.{◌≡◌, ◌<◌, ◌≤◌, map, vec_len, IfOk, OnOk, MatchOption, Some};
+ghost use Rattle.std.specs.Prelude.{◌≡◌, ◌<◌, ◌≤◌, ℕ, List, map, vec_len, IfOk, OnOk, MatchOption, Some};
 ghost use Rattle.std.specs.Io.KnownBytes.{Appends};
 ghost use Rattle.patch_device.specs.SameDevice.{IsSameDevice};
 ghost use Rattle.patch_history.specs.Commands.{reply_told};
 ghost use Rattle.patch_shared.specs.Kept.{IsFresh, IsNew};
 ghost use Rattle.patch_shared.specs.Telling.{commands_in, replies_in};
 ghost use Rattle.patch_commands.specs.Shared.{shared_commands};
+ghost use Rattle.patch_commands.specs.declared.commands.CommandLine.{CommandLine as TheLine};
 ghost use Rattle.patch_disks.specs.Going.{StillLasts};
 ghost use Rattle.patch_disks.specs.Reading.{IsRunOf};
-ghost use Rattle.patch_files.specs.Serving.{jobs_by, replies_text, all_text, HasServed, ServesOn};
+ghost use Rattle.patch_files.specs.Serving.{jobs_by, replies_text, all_text, HasServed, HasServedOnOne, HasServedScriptOnOne, ServesOn};
 ghost use Rattle.patch_disks.specs.declared.endings.Status.TheVariants.{Done, Unreadable};
 ghost use Rattle.patch_replay.specs.declared.endings.BadScript.{BadScript as TheBadScript};
 
 use crate::jobs::jobs_of;
 use patch_commands::{CommandLine, reply_line};
-use patch_device::Device;
+use patch_device::{Device, FileDevice};
 use patch_disks::{
     Barriers, Status, Stop, Unread, conclude, finish_device, open_file_to_read, open_store,
     read_script, refuse,
@@ -151,6 +152,27 @@ fn prepare<D: Device>(
     Ok((store, jobs))
 }
 
+/// Serves the writers of these jobs on a store and its device, and writes their replies.
+fn serve_jobs<W: Output, D: Device + Drop + Send, T: Threads + Wait + Sync>(
+    rt: &T,
+    alloc: Global,
+    writer: &mut Sink<W>,
+    store: Store,
+    device: D,
+    jobs: Vec<Vec<Command>>,
+) -> Result<D, Unserved<D>>
+    requires new { IsNew store }
+    requires jobs { (0 < vec_len jobs) × (vec_len jobs ≤ 8) }
+    ensures device { IfOk result (IsSameDevice D.Device device) }
+    ensures lasts { D.is_honest device → IfOk result (StillLasts D.Device device) }
+    ensures served { D.is_honest device → (blocks : List (List ℕ)) → IsFresh store blocks → (writers : ℕ) (lines : List TheLine)
+        → commands_in jobs.items ≡ jobs_by writers lines → IfOk result (λ now.
+        HasServed writers lines (W.contents writer.old.inner) (W.contents writer.new.inner) blocks (D.contents now)) }
+{
+    let finished = serve(rt, alloc, store, device, jobs, &OpenGate)?;
+    finish(alloc, writer, finished)
+}
+
 /// Opens the device's store, and serves the writers of the lines.
 fn serve_lines<W: Output, D: Device + Drop + Send, T: Threads + Wait + Sync>(
     rt: &T,
@@ -166,17 +188,13 @@ fn serve_lines<W: Output, D: Device + Drop + Send, T: Threads + Wait + Sync>(
     ensures served { D.is_honest device → IfOk result (λ now.
         HasServed writers lines.items (W.contents writer.old.inner) (W.contents writer.new.inner) (D.contents device) (D.contents now)) }
 {
-    let (store, jobs) = match prepare(alloc, &mut device, lines.as_slice(), writers) {
-        Ok(ready) => ready,
-        Err(why) => {
-            return Err(Unserved {
-                why,
-                device: Some(device),
-            });
-        }
-    };
-    let finished = serve(rt, alloc, store, device, jobs, &OpenGate)?;
-    finish(alloc, writer, finished)
+    match prepare(alloc, &mut device, lines.as_slice(), writers) {
+        Ok((store, jobs)) => serve_jobs(rt, alloc, writer, store, device, jobs),
+        Err(why) => Err(Unserved {
+            why,
+            device: Some(device),
+        }),
+    }
 }
 
 /// Runs the script that the reader gives on the store of a device, the lines of each writer on a thread of its own, and writes an
@@ -246,15 +264,16 @@ where
     H: Files<File = F> + Threads + Wait + Sync,
     W: Output,
     requires { (0 < writers) × (writers ≤ 8) }
+    ensures served { OnOk result (HasServedOnOne ⟦<FileDevice<F> as Device>⟧ writers lines.items
+        (W.contents writer.old.inner) (W.contents writer.new.inner)) }
 {
     let jobs = jobs_of(alloc, lines.as_slice(), writers)?;
     let (device, store) = open_file_to_read(rt, alloc, path, barriers)?;
-    let served = match serve(rt, alloc, store, device, jobs, &OpenGate) {
-        Ok(finished) => finish(alloc, writer, finished),
-        Err(fault) => Err(Unserved::from(fault)),
-    };
-    match served {
-        Ok(_) => Ok(()),
+    match serve_jobs(rt, alloc, writer, store, device, jobs) {
+        Ok(device) => {
+            drop(device);
+            Ok(())
+        }
         Err(unserved) => Err(unserved.why),
     }
 }
@@ -276,8 +295,10 @@ where
     R: Read,
     W: Output,
     requires { (0 < writers) × (writers ≤ 8) }
-    ensures { IsRunOf (shared_commands writers) (R.remaining reader.old.inner)
+    ensures run { IsRunOf (shared_commands writers) (R.remaining reader.old.inner)
         (W.contents writer.old.inner) (W.contents writer.new.inner) result }
+    ensures done { result ≡ Done → HasServedScriptOnOne ⟦<FileDevice<F> as Device>⟧ writers (R.remaining reader.old.inner)
+        (W.contents writer.old.inner) (W.contents writer.new.inner) }
 {
     let lines = match read_script(alloc, reader, Some(writers)) {
         Ok(lines) => lines,
