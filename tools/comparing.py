@@ -17,6 +17,10 @@ SECONDS = 120
 LONG = 1000  # lines of a script that isn't made shorter
 
 
+class Wrong(Exception):
+    """What is wrong."""
+
+
 @dataclass(frozen=True)
 class Call:
     """The program is called with these words, and reads these lines. It ends with this status, and answers this."""
@@ -30,13 +34,21 @@ class Call:
     def wanted(self):
         return self.status, as_text(self.answers)
 
+    @property
+    def texts(self):
+        """The lines as they are read."""
+        return texts_of(self.lines)
+
+    def command(self, program):
+        return [program, *self.words]
+
     def perform(self, program, folder, under=(), output=subprocess.PIPE):
         """The exit status and the text that the program gives. Under another one, its output may go to a file."""
         try:
             ended = subprocess.run(
-                [*under, program, *self.words],
+                [*under, *self.command(program)],
                 cwd=folder,
-                input=as_text(texts_of(self.lines)).encode(),
+                input=as_text(self.texts).encode(),
                 stdout=output,
                 stderr=subprocess.DEVNULL,
                 timeout=SECONDS,
@@ -48,8 +60,8 @@ class Call:
     def shown(self, seen, is_long):
         """The lines of which the two say different things; if it isn't long, the others too."""
         status, text = seen
-        parts = [f"fstch {' '.join(self.words)} ends with {status}, by the model with {self.status}"]
-        rows = itertools.zip_longest(texts_of(self.lines), self.answers, text.splitlines(), fillvalue="nothing")
+        parts = [f"{' '.join(self.command('fstch'))} ends with {status}, by the model with {self.status}"]
+        rows = itertools.zip_longest(self.texts, self.answers, text.splitlines(), fillvalue="nothing")
         for number, (line, wanted, got) in enumerate(rows, 1):
             said = [wanted] if wanted == got else [f"model    {wanted}", f"program  {got}"]
             if wanted != got or not is_long:

@@ -10,7 +10,7 @@ NumbersSpent isn't among the answers that are reached: it takes 16,777,216 patch
 """
 
 import collections
-from dataclasses import dataclass
+from dataclasses import dataclass, replace
 
 from authors import MOST, REACHED_OF_GROUPS, USUAL_OF_GROUPS, WRITERS, GroupAuthor, is_accepted, kind, renumbered
 from comparing import FILE, Call, Edit, Holds
@@ -77,7 +77,7 @@ class Script:
         before, rest = self.lines[:index], self.lines[index + 1 :]
         if self.lines[index].get("op") == "group":
             rest = without_group(before, rest)
-        return Script(self.geometry, before + rest)
+        return replace(self, lines=before + rest)
 
 
 def runs_of(lines):
