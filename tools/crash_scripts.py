@@ -150,15 +150,15 @@ class RoundAuthor(KindAuthor):
 
     def write_lines(self, number):
         keys = self.some_keys(self.random.randint(2, 4))
-        largest = self.random.choice((9000, 14000))
+        largest, syncs = self.random.choice((9000, 14000)), self.random.choice((0.05, 0.2, 0.4))
         while min(pointer.generation for pointer in self.disk.pointers) == 0 and len(self.lines) < 60:
             self.ask_put(self.random.choice(keys), self.random.randint(largest // 2, largest))
-            if self.chance(0.3):
+            if self.chance(syncs):
                 self.ask_sync()
 
 
 class ChainsAuthor(KindAuthor):
-    """Chains of groups, of one writer or two, with keys of two index blocks."""
+    """Chains of groups, of one writer or two, with keys of two index blocks, and changes of a third writer between them."""
 
     runs = 2
 
@@ -172,16 +172,18 @@ class ChainsAuthor(KindAuthor):
                 self.ask_put(key, self.random.randint(0, 30))
             return
         for _ in range(self.random.choice((1, 2))):
-            self.write_chains()
+            self.write_chains(self.random.sample(self.all_keys, self.random.choice((4, 8, 40))))
 
-    def write_chains(self):
+    def write_chains(self, keys):
         lasts = {}
         for _ in range(self.random.randint(3, 8)):
             writer = self.random.randrange(2)
-            lasts[writer] = self.ask_link(writer, lasts.get(writer))
+            lasts[writer] = self.ask_link(writer, lasts.get(writer), keys)
+            if self.chance(0.5):
+                self.ask_change(self.random.choice(keys), 2)
         self.ask({"op": "sync", "group": self.random.choice(list(lasts.values()))})
 
-    def ask_link(self, writer, before):
+    def ask_link(self, writer, before, keys):
         """A group with some changes of the writer, behind the one before. Its number is given."""
         group = self.model.groups.count
         self.ask({"op": "group"})
@@ -189,12 +191,12 @@ class ChainsAuthor(KindAuthor):
             self.ask({"op": "depend", "group": group, "on": before})
         self.ask({"op": "engage", "group": group, "writer": writer})
         for _ in range(self.random.randint(1, 3)):
-            self.ask_change(self.random.choice(self.all_keys), writer)
+            self.ask_change(self.random.choice(keys), writer)
         self.ask({"op": "disengage", "group": group, "writer": writer})
         return group
 
     def ask_change(self, key, writer):
-        if self.has_key(key) and self.chance(0.4):
+        if self.has_key(key) and self.chance(0.5):
             self.ask_delete(key, writer=writer)
         else:
             self.ask_put(key, self.random.choice((0, 40, 3000)), writer=writer)

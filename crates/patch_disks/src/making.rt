@@ -6,12 +6,11 @@ use patch_model::{BlockBytes, MAX_BLOCKS, RefusalKind, Refuses};
 use patch_replay::{Output, Sink};
 use patch_store::make;
 use std::alloc::Global;
-use std::fs;
 use std::fs::{File, OpenFile};
-use std::io;
 use std::os::unix::fs::FileExt;
 use std::path::Path;
 use std::rt::Files;
+use std::{fs, io};
 
 /// The blocks of a new disk.
 fn new_blocks(alloc: Global, geometry: Geometry) -> Result<Vec<BlockBytes>, Stop> {
