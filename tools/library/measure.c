@@ -3,8 +3,8 @@
  *     measure FOLDER
  *
  * writes a table to standard output: medians of RUNS runs of RUN_SECONDS each, of 1,000 keys of 8 bytes, put by turns, on a file that is
- * made in the folder. A sync of LMDB and SQLite is the commit of a transaction that has the puts since the last one; of SQLite with a
- * write-ahead log and synchronous=FULL. tools/measure_library builds it.
+ * made in the folder; of fstch also without barriers, where a sync is one sync of the file. A sync of LMDB and SQLite is the commit of a
+ * transaction that has the puts since the last one; of SQLite with a write-ahead log and synchronous=FULL. tools/measure_library builds it.
  */
 #define _GNU_SOURCE
 #include <fstch.h>
@@ -52,16 +52,24 @@ static void done(int32_t answer) {
     must(answer == FSTCH_DONE, text);
 }
 
-static void store_open(void) {
+static void store_open_with(uint32_t flags) {
     static const char *const path = "measure.fstch";
     uint32_t slot;
     remove(path);
     done(fstch_make(path, 16, EXTENTS, 0));
-    done(fstch_open(&store, path, &slot));
+    done(fstch_open_with(&store, path, flags, &slot));
     next_extent = 0;
 }
 
 /* Where there is no room, the next extent that can be emptied is. */
+static void store_open(void) {
+    store_open_with(0);
+}
+
+static void store_open_without(void) {
+    store_open_with(FSTCH_NO_BARRIERS);
+}
+
 static void store_put(const char *key, const uint8_t *value, size_t length) {
     int32_t answer = fstch_put(&store, FSTCH_NO_WRITER, key, KEY_LENGTH, value, length);
     for (int tries = 0; answer == FSTCH_NO_SPACE && tries < EXTENTS; tries++) {
@@ -87,6 +95,7 @@ static void store_close(void) {
 }
 
 static const engine FSTCH = {"fstch", store_open, store_put, store_sync, store_get, store_close};
+static const engine WITHOUT = {"fstch without barriers", store_open_without, store_put, store_sync, store_get, store_close};
 
 /* LMDB. */
 
@@ -287,6 +296,7 @@ static void write_row(const engine *it, size_t length) {
 int main(int argc, char **argv) {
     static const engine *const engines[] = {
         &FSTCH,
+        &WITHOUT,
 #ifdef HAS_LMDB
         &LMDB,
 #endif
