@@ -114,15 +114,30 @@ static void a_write_is_tried_again(void) {
     wants_reopened(&store, "key", "first");
 }
 
-static void a_read_is_refused(void) {
+/* Where the first of these calls is refused the file isn't opened, and its lock is let go. */
+static void wants_no_open_without(long *calls_till_refused) {
     fstch_store store = new_store(1, 4);
     WANT(FSTCH_DONE, fstch_close(&store));
-    reads_till_refused = 0;
+    *calls_till_refused = 0;
     WANT(FSTCH_DISK, open_path(&store, FILE_NAME));
-    reads_till_refused = -1;
+    *calls_till_refused = -1;
     WANT(false, fstch_is_open(&store));
-    WANT(FSTCH_DONE, open_path(&store, FILE_NAME)); /* the lock is let go */
+    WANT(FSTCH_DONE, open_path(&store, FILE_NAME));
     WANT(FSTCH_DONE, fstch_close(&store));
+}
+
+static void a_read_is_refused(void) {
+    wants_no_open_without(&reads_till_refused);
+}
+
+/* A store goes on with a file that has no name any more. */
+static void the_file_is_removed(void) {
+    fstch_store store = new_store(1, 4);
+    WANT(0, remove(FILE_NAME));
+    WANT(FSTCH_DONE, put(&store, "key", "first"));
+    WANT(FSTCH_DONE, fstch_sync(&store));
+    WANT(FSTCH_DONE, fstch_close(&store));
+    WANT(FSTCH_DISK, open_path(&store, FILE_NAME));
 }
 
 static void a_file_that_is_too_long_is_not_read(void) {
@@ -158,14 +173,7 @@ static void the_system_refuses_to_sync(void) {
 }
 
 static void a_file_is_not_settled(void) {
-    fstch_store store = new_store(1, 4);
-    WANT(FSTCH_DONE, fstch_close(&store));
-    syncs_till_refused = 0;
-    WANT(FSTCH_DISK, open_path(&store, FILE_NAME));
-    syncs_till_refused = -1;
-    WANT(false, fstch_is_open(&store));
-    WANT(FSTCH_DONE, open_path(&store, FILE_NAME)); /* the lock is let go */
-    WANT(FSTCH_DONE, fstch_close(&store));
+    wants_no_open_without(&syncs_till_refused);
 }
 
 static void a_file_is_not_finished(void) {
@@ -381,6 +389,7 @@ int main(void) {
     a_write_is_refused();
     a_write_is_tried_again();
     a_read_is_refused();
+    the_file_is_removed();
     a_file_that_is_too_long_is_not_read();
     a_sync_has_barriers();
     barriers_are_passed_over();
