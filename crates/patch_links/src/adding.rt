@@ -1,5 +1,5 @@
 //! One more class.
-ghost use Rattle.std.specs.Prelude.{◌≡◌, ◌≢◌, ◌<◌, ◌≤◌, ◌+◌, ◌∷◌, ℕ, [], true, false, nat_lt, length, count_by, vec_capacity, Some, IfOk, OnOk, OnErr};
+ghost use Rattle.std.specs.Prelude.{◌≡◌, ◌↔◌, ◌≢◌, ◌<◌, ◌≤◌, ◌+◌, ◌∷◌, ℕ, [], true, false, nat_lt, length, count_by, vec_capacity, Some, IfOk, OnOk, OnErr};
 ghost use Rattle.std.specs.List.{list_all};
 ghost use Rattle.patch_model.specs.declared.patches.Mark.TheVariants.{Memory};
 ghost use Rattle.slab.specs.Slab.{HasRoomFor};
@@ -283,7 +283,7 @@ fn after<A: Allocator>(class: &Class<A>) -> &[PatchNo]
 
 /// Whether the class is in memory.
 fn is_in_memory<A: Allocator>(class: &Class<A>) -> bool
-    ensures { result ≡ true → class.now.mark ≡ Memory }
+    ensures { result ≡ true ↔ class.now.mark ≡ Memory }
 {
     match class.mark {
         Mark::Memory => true,
@@ -293,7 +293,7 @@ fn is_in_memory<A: Allocator>(class: &Class<A>) -> bool
 
 /// Whether the class is of one patch.
 fn is_of_one<A: Allocator>(class: &Class<A>) -> bool
-    ensures { result ≡ true → class.now.members ≡ class.now.name ∷ [] }
+    ensures { result ≡ true ↔ class.now.members ≡ class.now.name ∷ [] }
 {
     match class.members.as_slice() {
         [no] => *no == class.name,
@@ -311,7 +311,7 @@ fn is_of_earlier<A: Allocator>(class: &Class<A>) -> bool
 
 /// Whether the class is of one patch in memory, which depends on earlier ones.
 pub fn is_new<A: Allocator>(class: &Class<A>) -> bool
-    ensures { result ≡ true → IsNewClass class.now }
+    ensures { result ≡ true ↔ IsNewClass class.now }
 {
     if !is_in_memory(class) {
         return false;

@@ -1,5 +1,5 @@
 //! The live classes of all blocks.
-ghost use Rattle.std.specs.Prelude.{◌≡◌, ◌<◌, ℕ, [], None, IfOk, OnOk, OnErr, false, true, is_some};
+ghost use Rattle.std.specs.Prelude.{◌≡◌, ◌↔◌, ◌<◌, ℕ, [], None, IfOk, OnOk, OnErr, false, true, is_some};
 ghost use Rattle.std.specs.Option.{option_copied};
 ghost use Rattle.patch_links.specs.State.{find, class_at};
 ghost use Rattle.patch_links.specs.Ready.{AreReady, TellsReady, TellsEmpty, IsNextOpen};
@@ -99,7 +99,7 @@ impl<A: Allocator> Links<A> {
     /// Whether the class is one that can be put in: that of one patch in memory, whose number is new, and which depends on
     /// earlier ones.
     pub fn may_add(&self, class: &Class<A>) -> bool
-        ensures { result ≡ true → IsNew self.now.made class.now }
+        ensures { result ≡ true ↔ IsNew self.now.made class.now }
     {
         self.made <= u64::from(class.name.0) && is_new(class)
     }
