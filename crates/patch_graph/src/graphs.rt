@@ -10,7 +10,7 @@ ghost use Rattle.patch_graph.specs.Between.{LacksAnEnd, TellsLeastBetween, Tells
 ghost use Rattle.patch_graph.specs.Ready.{AreReady, TellsReady, TellsNextOpen};
 ghost use Rattle.patch_graph.specs.MarkFlight.{PutsInFlight};
 ghost use Rattle.patch_graph.specs.MarkDurable.{MakesDurable};
-ghost use Rattle.patch_graph.specs.Merging.{Merges};
+ghost use Rattle.patch_graph.specs.Merging.{Merges, CantBeOne};
 ghost use Rattle.patch_graph.specs.Adding.{Adds, IsDrawnUp, MayBePutIn, PutsIn, Tells};
 
 use crate::adding::{dependencies, insert, is_hard};
@@ -184,6 +184,7 @@ impl<A: Allocator + Copy> Graph<A> {
     /// Makes one class of the classes of two patches, where that is legal. Its name.
     pub fn merge(&mut self, a: PatchNo, b: PatchNo) -> Result<PatchNo, OutOfMemory>
         ensures answer { IfOk result (Merges self.old self.new a b) }
+        ensures idle { (all : List Entry) → Represents self.old all → CantBeOne all a b → self.new ≡ self.old }
         ensures made { self.new.made ≡ self.old.made }
         ensures refused { OnErr result (self.new ≡ self.old) }
     {

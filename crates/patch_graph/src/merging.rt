@@ -1,7 +1,8 @@
 //! Two classes made one.
-ghost use Rattle.std.specs.Prelude.{◌≡◌, ℕ, IfOk, OnOk, OnErr};
+ghost use Rattle.std.specs.Prelude.{◌≡◌, ℕ, false, IfOk, OnOk, OnErr};
+ghost use Rattle.patch_links.specs.Merging.{may_join_at};
 ghost use Rattle.patch_graph.specs.State.{KeysFit};
-ghost use Rattle.patch_graph.specs.Merging.{HasJoined, Merges};
+ghost use Rattle.patch_graph.specs.Merging.{HasJoined, Merges, may_be_one};
 
 use crate::register::Register;
 use patch_model::PatchNo;
@@ -14,6 +15,7 @@ fn join<A: Allocator + Copy>(
     gone: usize,
 ) -> Result<(), AllocError>
     ensures joined { OnOk result (HasJoined keep gone register.old register.new) }
+    ensures idle { may_join_at keep gone register.old.slots ≡ false → register.new ≡ register.old }
     ensures refused { OnErr result (register.new ≡ register.old) }
     ensures made { register.new.made ≡ register.old.made }
     ensures tops { register.new.tops ≡ register.old.tops }
@@ -37,6 +39,7 @@ pub fn merge<A: Allocator + Copy>(
     b: PatchNo,
 ) -> Result<PatchNo, AllocError>
     ensures answer { IfOk result (Merges register.old register.new a b) }
+    ensures idle { may_be_one register.old.slots register.old.numbers a b ≡ false → register.new ≡ register.old }
     ensures refused { OnErr result (register.new ≡ register.old) }
     ensures made { register.new.made ≡ register.old.made }
     ensures fit { (room : ℕ) → KeysFit register.old.slots room → KeysFit register.new.slots room }

@@ -1,5 +1,6 @@
 use Rattle.std.proofs.Common.{sym, ap, ◌∙◌, inl, inr, Option, ℕ}
 use Rattle.std.specs.Option.{unwrap_or}
+use Rattle.patch_graph.proofs.Joining.{at-keys, at-keys-back}
 use Rattle.patch_graph.proofs.Legality.{not-found, merges-to, merges-swapped}
 use Rattle.patch_graph.proofs.Places.{ok-if, err-still}
 use Rattle.patch_graph.proofs.merging.merge.Goals as goal
@@ -33,3 +34,24 @@ returns-in_err-join-clause-refused g c = err-still _ _ c.in_err-join.ensures.ref
 
 pub returns-in_err-join-2-clause-refused : goal.returns-in_err-join-2-clause-refused
 returns-in_err-join-2-clause-refused g c = err-still _ _ c.in_err-join-2.ensures.refused
+
+-- nothing can be merged
+pub returns-in_ok-join-clause-idle : goal.returns-in_ok-join-clause-idle
+returns-in_ok-join-clause-idle g c off =
+    c.in_ok-join.ensures.idle
+    (at-keys-back c.args.register.now.slots c.args.register.now.numbers c.args.a c.args.b c.in-Some.first c.in-Some-find.second (sym c.in-Some.ensures) (sym c.in-Some-find.ensures) off)
+
+pub returns-in_err-join-clause-idle : goal.returns-in_err-join-clause-idle
+returns-in_err-join-clause-idle g c off =
+    c.join.ensures.idle
+    (at-keys-back c.args.register.now.slots c.args.register.now.numbers c.args.a c.args.b c.in-Some.first c.in-Some-find.second (sym c.in-Some.ensures) (sym c.in-Some-find.ensures) off)
+
+pub returns-in_ok-join-2-clause-idle : goal.returns-in_ok-join-2-clause-idle
+returns-in_ok-join-2-clause-idle g c off =
+    c.in_ok-join-2.ensures.idle
+    (at-keys c.args.register.now.slots c.args.register.now.numbers c.args.a c.args.b c.in-Some.first c.in-Some-find.second (sym c.in-Some.ensures) (sym c.in-Some-find.ensures) off)
+
+pub returns-in_err-join-2-clause-idle : goal.returns-in_err-join-2-clause-idle
+returns-in_err-join-2-clause-idle g c off =
+    c.join-else-members_at.ensures.idle
+    (at-keys c.args.register.now.slots c.args.register.now.numbers c.args.a c.args.b c.in-Some.first c.in-Some-find.second (sym c.in-Some.ensures) (sym c.in-Some-find.ensures) off)
