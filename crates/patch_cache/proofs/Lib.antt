@@ -28,3 +28,4 @@ pub mod Waving
 pub mod GivenUp
 pub mod Passing
 pub mod Unmade
+pub mod Tries

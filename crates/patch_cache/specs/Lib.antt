@@ -10,6 +10,7 @@ pub mod Looking
 pub mod Running
 pub mod Waves
 pub mod Refused
+pub mod Tries
 pub mod Joining
 pub mod Promise
 pub mod Creating

@@ -181,10 +181,14 @@ abbrev pub HoldsBegun : {A : Type 0} → ℕ → Bool → (old now : Flights A) 
 HoldsBegun {A = A} block true old now = (flight : Flight A) × (flight.block ≡ block) × (held_by now ≡ held_by old ++ flight ∷ [])
 HoldsBegun block false old now = held_by now ≡ held_by old
 
+-- no write can begin
+abbrev pub NoneCanBegin : Execution → Type 0
+NoneCanBegin run = (b : ℕ) → why_not_sent run b ≡ None → ⊥
+
 -- a write of some block was begun, or none could be
 abbrev pub IsPass : Execution → Bool → List Step → Type 0
 IsPass run true steps = 0 < count_by is_send steps
-IsPass run false steps = (steps ≡ []) × ((b : ℕ) → why_not_sent run b ≡ None → ⊥)
+IsPass run false steps = (steps ≡ []) × NoneCanBegin run
 
 -- no patch is in memory or in flight
 pub record IsFlushed (run : Execution) : Type 0 where

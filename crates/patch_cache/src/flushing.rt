@@ -6,7 +6,8 @@ ghost use Rattle.patch_device.specs.SameDevice.{IsSameDevice, IsLasting};
 ghost use Rattle.patch_cache.specs.declared.landing.TheConstants.{TRIES};
 ghost use Rattle.patch_cache.specs.Running.{Runs, RunsBeside, RunsOn, RunsOnBeside, held_by};
 ghost use Rattle.patch_cache.specs.Refused.{IfGivenUp};
-ghost use Rattle.patch_cache.specs.Waves.{is_send, steps_since, Continues, HasGoneOn, HasGoneOnBeside, KeepsDisk, KeepsDiskBeside, StaysBeside, RisesIfGivenUp, IsHeldIfGivenUp, begun, IsSentOr, HoldsBegun, IsPass, IsFlushed, HasWrittenOne};
+ghost use Rattle.patch_cache.specs.Waves.{is_send, steps_since, Continues, HasGoneOn, HasGoneOnBeside, KeepsDisk, KeepsDiskBeside, StaysBeside, RisesIfGivenUp, IsHeldIfGivenUp, begun, IsSentOr, HoldsBegun, IsPass, NoneCanBegin, IsFlushed, HasWrittenOne};
+ghost use Rattle.patch_cache.specs.Tries.{EachTried, HoldsMore, NoneLost};
 
 use crate::caches::Cache;
 use crate::flights::Flights;
@@ -27,7 +28,7 @@ impl<A: Allocator + Copy> Cache<A> {
         ensures cause { (run : Execution) → Runs self.old flights.old run → OnErr result (why_not_sent run block ≡ None) }
         ensures trace { IfOk result (λ sent. self.new.trace ≡ self.old.trace ++ begun block sent) }
         ensures refused { OnErr result (self.new ≡ self.old) }
-        ensures more { (run : Execution) → Runs self.old flights.old run
+        ensures more { (others : Bool) (run : Execution) → RunsBeside others self.old flights.old run
             → IfOk result (λ sent. HoldsBegun block sent flights.old flights.new) }
         ensures count { IfOk result (λ sent. length (held_by flights.new) ≡ length (held_by flights.old) + count_by is_send (begun block sent)) }
         ensures kept { IfOk result (λ sent. sent ≡ false → held_by flights.new ≡ held_by flights.old) }
@@ -56,8 +57,10 @@ impl<A: Allocator + Copy> Cache<A> {
             → HasGoneOnBeside others run (steps_since self.old self.new) self.new flights.new }
         ensures trace { Continues self.old self.new }
         ensures stays { (others : Bool) → StaysBeside others self.old self.new flights.old }
-        ensures pass { (run : Execution) → Runs self.old flights.old run
+        ensures pass { (others : Bool) (run : Execution) → RunsBeside others self.old flights.old run
             → IfOk result (λ sent. IsPass run sent (steps_since self.old self.new)) }
+        ensures more { (others : Bool) (run : Execution) (block : ℕ) → RunsBeside others self.old flights.old run
+            → HoldsMore (steps_since self.old self.new) flights.old flights.new block }
         ensures count { OnOk result (length (held_by flights.new) ≡ length (held_by flights.old) + count_by is_send (steps_since self.old self.new)) }
         ensures kept { IfOk result (λ sent. sent ≡ false → held_by flights.new ≡ held_by flights.old) }
     {
@@ -94,6 +97,12 @@ impl<A: Allocator + Copy> Cache<A> {
             → KeepsDisk D.Device self.old self.new flights.old device.old device.new }
         ensures wrote { (run : Execution) → Runs self.old flights.old run → held_by flights.old ≡ []
             → IfOk result (λ wrote. HasWrittenOne run wrote (steps_since self.old self.new)) }
+        ensures pass { (others : Bool) (run : Execution) → RunsBeside others self.old flights.old run
+            → IfOk result (λ wrote. IsPass run wrote (steps_since self.old self.new)) }
+        ensures none_lost { (others : Bool) (run : Execution) → RunsBeside others self.old flights.old run
+            → NoneLost (steps_since self.old self.new) flights.old flights.new }
+        ensures each { (others : Bool) (run : Execution) → RunsBeside others self.old flights.old run
+            → EachTried D.Device (steps_since self.old self.new) (held_by flights.old) device.old device.new }
         ensures one { count_by is_send (steps_since self.old self.new) ≤ 1 }
         ensures tries { D.moment device.new
             ≤ D.moment device.old + (TRIES + 1) * (length (held_by flights.old) + count_by is_send (steps_since self.old self.new)) }
@@ -138,6 +147,12 @@ impl<A: Allocator + Copy> Cache<A> {
         ensures trace { Continues self.old self.new }
         ensures disk { D.is_honest device.old
             → (others : Bool) → KeepsDiskBeside D.Device others self.old self.new flights.old device.old device.new }
+        ensures done { (others : Bool) (run : Execution) → RunsBeside others self.old flights.old run
+            → OnOk result (NoneCanBegin (followed_by run (steps_since self.old self.new))) }
+        ensures none_lost { (others : Bool) (run : Execution) → RunsBeside others self.old flights.old run
+            → NoneLost (steps_since self.old self.new) flights.old flights.new }
+        ensures each { (others : Bool) (run : Execution) → RunsBeside others self.old flights.old run
+            → EachTried D.Device (steps_since self.old self.new) (held_by flights.old) device.old device.new }
         ensures flushed { (run : Execution) → Runs self.old flights.old run
             → OnOk result (IsFlushed (followed_by run (steps_since self.old self.new))) }
         ensures tries { D.moment device.new

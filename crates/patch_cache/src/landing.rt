@@ -6,6 +6,7 @@ ghost use Rattle.patch_device.specs.Device.{IsOldOrNew};
 ghost use Rattle.patch_cache.specs.Running.{Runs, RunsBeside, RunsOnBeside, held_by};
 ghost use Rattle.patch_cache.specs.Waves.{is_send, steps_since, Continues, HasRisenBy, HasGivenUp, HasGoneOnBeside, KeepsDiskBeside, StaysOnImages, with_flights, EndsFirst, EndsOne, AreOnDevice, IsOneOf, StillHolds, IsTriedSafely, AreTriedSafely, IsHeldIfGivenUp, RisesIfGivenUp};
 ghost use Rattle.patch_cache.specs.Refused.{AreRefused, HasRefusedHeld, IfGivenUp};
+ghost use Rattle.patch_cache.specs.Tries.{AreTried, IsWave, NoneLost};
 ghost use Rattle.patch_cache.specs.declared.refusals.FlushRefusal.TheVariants as flush;
 
 use crate::caches::Cache;
@@ -50,6 +51,7 @@ fn write_each<A: Allocator, D: Device>(
 ) -> Result<(), DeviceGaveUp>
     ensures device { IsSameDevice D.Device device.old device.new }
     ensures tries { D.moment device.new ≤ D.moment device.old + TRIES * length held.now }
+    ensures each { AreTried D.Device held.now device.old device.new }
     ensures written { D.is_honest device.old
         → OnOk result (D.contents device.new ≡ with_flights (D.contents device.old) held.now) }
     ensures cause { AreOnDevice D.Device held.now device.old
@@ -75,6 +77,8 @@ impl<A: Allocator + Copy> Cache<A> {
             → HasGoneOnBeside others run (steps_since self.old self.new) self.new flights.new }
         ensures trace { Continues self.old self.new }
         ensures ends { count_by is_send (steps_since self.old self.new) ≡ 0 }
+        ensures none_lost { (others : Bool) (run : Execution) → RunsBeside others self.old flights.old run
+            → NoneLost (steps_since self.old self.new) flights.old flights.new }
         ensures stays { (others : Bool) → StaysOnImages others self.old self.new flights.old }
         ensures first { (run : Execution) → Runs self.old flights.old run → EndsFirst flights.old self.old self.new }
         ensures landed { length (held_by flights.new) + 1 ≡ length (held_by flights.old) }
@@ -99,6 +103,8 @@ impl<A: Allocator + Copy> Cache<A> {
             → HasGoneOnBeside others run (steps_since self.old self.new) self.new flights.new }
         ensures trace { Continues self.old self.new }
         ensures ends { count_by is_send (steps_since self.old self.new) ≡ 0 }
+        ensures none_lost { (others : Bool) (run : Execution) → RunsBeside others self.old flights.old run
+            → NoneLost (steps_since self.old self.new) flights.old flights.new }
         ensures stays { (others : Bool) → StaysOnImages others self.old self.new flights.old }
         ensures one { (run : Execution) → Runs self.old flights.old run → EndsOne flights.old self.old self.new }
         ensures landed { held_by flights.new ≡ [] }
@@ -128,6 +134,9 @@ impl<A: Allocator + Copy> Cache<A> {
             → IfGivenUp D.Device result flights.new device.old device.new }
         ensures memory { result ≢ Err flush.OutOfMemory }
         ensures tries { D.moment device.new ≤ D.moment device.old + (TRIES + 1) * length (held_by flights.old) }
+        ensures wave { IsWave D.Device (held_by flights.old) device.old device.new }
+        ensures none_lost { (others : Bool) (run : Execution) → RunsBeside others self.old flights.old run
+            → NoneLost (steps_since self.old self.new) flights.old flights.new }
         ensures one { (run : Execution) → Runs self.old flights.old run → OnOk result (EndsOne flights.old self.old self.new) }
         ensures landed { OnOk result (held_by flights.new ≡ []) }
         ensures lasts { D.is_honest device.old → OnOk result (IsLasting D.Device device.old → IsLasting D.Device device.new) }

@@ -7,6 +7,7 @@ ghost use Rattle.patch_model.specs.History.{history_of, image, cached};
 ghost use Rattle.patch_cache.specs.Waves.{classes_in_memory, live_classes, IsFlushed};
 ghost use Rattle.patch_cache.specs.Joining.{UnmovedIsSafe, UnwrittenIsSafe, SafeJoin, NoneSince, AddedSince, SinceJoin, StillIsStretch, StretchesJoin, StillIsKept, KeptJoin, FlightsStay};
 ghost use Rattle.patch_cache.specs.Asks.{Ask, Answer, IsAnswer};
+ghost use Rattle.patch_cache.specs.declared.landing.TheConstants.{TRIES};
 ghost use Rattle.patch_cache.specs.Promise.{TakingBack, MovesArePermitted, LooksShow, ImagesSent, CrashesClosed};
 
 use patch_device::Device;
@@ -31,6 +32,11 @@ pub fn promise()
     patch_view::laws::blocks_are_coherent();
     patch_view::laws::refusals_have_causes();
 }
+
+/// How often the write of a flight is tried, in numbers.
+pub fn limits_are_numbers()
+    ensures { TRIES ≡ 8 }
+{}
 
 /// The definitions leave one answer to each ask.
 pub fn answers_are_single()

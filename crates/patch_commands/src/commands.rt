@@ -1,11 +1,17 @@
 //! The forms of lines.
 ghost use Rattle.std.specs.Prelude.{◌≡◌};
+ghost use Rattle.patch_commands.specs.declared.commands.TheConstants.{MAX_VALUE_TEXT};
 ghost use Rattle.patch_commands.specs.Shared.{writer_of, is_sync as the_is_sync};
 
 use patch_model::{Bytes, GroupNo, WriterNo};
 
 /// The most bytes of the value that a line puts.
 pub const MAX_VALUE_TEXT: usize = 1_048_576;
+
+/// The limit of a value in a line, in numbers.
+pub fn limits_are_numbers()
+    ensures { MAX_VALUE_TEXT ≡ 1048576 }
+{}
 
 /// What a line of a store script asks for, and for which writer.
 #[derive(Debug, Drop)]

@@ -20,5 +20,6 @@ pub use forms::{Line, Span};
 pub use kinds::{LineReader, ObjectReader};
 pub use objects::Object;
 pub use scripts::{
-    MAX_BYTES, MAX_LINES, ScriptError, passes_limit, read_lines, read_objects, read_script,
+    MAX_BYTES, MAX_LINES, ScriptError, limits_are_numbers, passes_limit, read_lines, read_objects,
+    read_script,
 };

@@ -1,6 +1,7 @@
 //! Scripts: their limits, and what their lines ask for.
 ghost use Rattle.std.specs.Prelude.{◌≡◌, ◌<◌, ◌+◌, ◌∷◌, ◌≤◌, length, MatchResult};
 ghost use Rattle.patch_script.specs.Kind.{lines_of, lines_by, Reads};
+ghost use Rattle.patch_script.specs.declared.scripts.TheConstants.{MAX_BYTES, MAX_LINES};
 ghost use Rattle.patch_script.specs.Script.{script_of, is_too_long};
 
 use crate::defects::Defect;
@@ -17,6 +18,12 @@ pub const MAX_BYTES: usize = 16_777_216;
 
 /// The most lines of a script, blank ones too.
 pub const MAX_LINES: usize = 100_000;
+
+/// The limits of a script in numbers.
+pub fn limits_are_numbers()
+    ensures bytes { MAX_BYTES ≡ 16777216 }
+    ensures lines { MAX_LINES ≡ 100000 }
+{}
 
 /// Why a script isn't run.
 #[derive(Clone, Copy, Debug, PartialEq, Eq)]

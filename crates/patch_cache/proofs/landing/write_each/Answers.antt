@@ -3,6 +3,8 @@ use Rattle.std.proofs.Math.Seq.{take-length}
 use Rattle.patch_cache.proofs.Holding.{inside_at}
 use Rattle.patch_device.specs.SameDevice.{same_still, same_both}
 use Rattle.patch_cache.specs.Waves.{with_flights}
+use Rattle.patch_cache.specs.Tries.{AreTried}
+use Rattle.patch_cache.proofs.Tries.{tried_more, tried_so_far}
 use Rattle.patch_cache.proofs.Answering.{on_err, on_ok}
 use Rattle.patch_cache.proofs.GivenUp.{risen_later}
 use Rattle.patch_cache.proofs.Waving.{kept_still, kept_unmoved, kept_more, with_one_more, next_taken, images_either}
@@ -12,6 +14,7 @@ pub loop-flight-init : goal.loop-flight-init
 loop-flight-init g c = record {
   same = same_still g.D.Device c.args.device.now;
   tries = omega arith;
+  each = refl;
   written = λ honest. refl;
   crash = λ honest run images. kept_unmoved g.D.Device run c.args.device.now;
 }
@@ -31,6 +34,8 @@ loop-flight-preserved g c =
     record {
       same = same_both device old mid next before.same told.device;
       tries = let so_far = before.tries in let one = told.tries in omega (arith, so_far, one);
+      each = subst (λ xs. AreTried device xs old next) (sym (next_taken held c.loop-flight.flight-index flight within c.flight-item.is))
+          (tried_more device (take c.loop-flight.flight-index held) flight old mid next before.each (record { same = told.device; tries = told.tries; either = told.either }));
       written = λ honest.
           on_ok c.write_tried.result _ passed (told.written (before.same.honesty.0 honest)) ∙ ap (λ d. slice_set d flight.block flight.image) (before.written honest)
           ∙ sym (with_one_more (device.contents old) (take c.loop-flight.flight-index held) flight)
@@ -52,6 +57,21 @@ returns-then-is_err-clause-tries g c =
     let one = c.write_tried.ensures.tries in
     let within = c.loop-flight-test.true in
     let long = c.loop-flight.auto.flight-index-end in omega (arith, so_far, one, within, long)
+
+pub returns-then-is_err-clause-each : goal.returns-then-is_err-clause-each
+returns-then-is_err-clause-each g c =
+    let device = g.D.Device in
+    let before = c.loop-flight.invariant in
+    let told = c.write_tried.ensures in
+    let held = c.args.held.now in
+    let flight = c.flight-item.result in
+    let at = c.loop-flight.flight-index in
+    let old = c.args.device.now in
+    let mid = c.loop-flight.device in
+    let next = c.write_tried.new.device in
+    tried_so_far device held at old next
+    (subst (λ xs. AreTried device xs old next) (sym (next_taken held at flight c.loop-flight-test.true c.flight-item.is))
+    (tried_more device (take at held) flight old mid next before.each (record { same = told.device; tries = told.tries; either = told.either })))
 
 pub returns-then-is_err-clause-cause : goal.returns-then-is_err-clause-cause
 returns-then-is_err-clause-cause g c known =
@@ -106,6 +126,14 @@ returns-clause-tries g c =
     let so_far = c.loop-flight.invariant.tries in
     let past = c.loop-flight-test.false in
     let long = c.loop-flight.auto.flight-index-end in omega (arith, so_far, past, long)
+
+pub returns-clause-each : goal.returns-clause-each
+returns-clause-each g c =
+    let held = c.args.held.now in
+    let past = c.loop-flight-test.false in
+    let long = c.loop-flight.auto.flight-index-end in
+    let all : c.loop-flight.flight-index ≡ length held = omega (arith, past, long) in
+    subst (λ xs. AreTried g.D.Device xs c.args.device.now c.loop-flight.device) (ap (λ n. take n held) all ∙ take-length held) c.loop-flight.invariant.each
 
 pub returns-clause-written : goal.returns-clause-written
 returns-clause-written g c honest =

@@ -5,6 +5,7 @@ use Rattle.patch_cache.specs.Meaning.{Represents}
 use Rattle.patch_cache.specs.Flights.{AreFlightsBeside}
 use Rattle.patch_cache.proofs.Holding.{held_complete, removed_inside}
 use Rattle.patch_cache.proofs.Waving.{none_added, no_sends, continues, went_by, stays_by, first_stands, first_held, first_inside, its_flight, gone_complete, stayed_landed, fewer_landed, fewer_held}
+use Rattle.patch_cache.proofs.Tries.{lost_first}
 use Rattle.patch_model.specs.Member.{In}
 use Rattle.patch_cache.proofs.caches.Cache.complete_first.Goals as goal
 
@@ -41,6 +42,10 @@ returns-in-Ok-clause-stays g c others run contents runs images =
     stays_by run c.args.self.now c.complete.new.self (the.Complete block ∷ []) contents added
     (stayed_landed c.steps_extend.ensures.state c.images_stay.ensures c.writes_end.ensures run block contents runs.cache_is.legal s.known (images flight (first_inside held flight s.stands) ∙ s.is.image_is))
 
+pub returns-in-Ok-clause-none_lost : goal.returns-in-Ok-clause-none_lost
+returns-in-Ok-clause-none_lost g c others run runs =
+    lost_first c.args.self.now c.complete.new.self c.args.flights.now.held.items _ c.swap_remove.result c.landed-landed.result.block c.requires.some c.swap_remove.ensures.value c.swap_remove.ensures.items c.landed-landed.ensures.block c.in-Ok.ensures.trace
+
 pub returns-in-Ok-clause-first : goal.returns-in-Ok-clause-first
 returns-in-Ok-clause-first g c run runs flight stands =
     c.in-Ok.ensures.trace ∙ ap (λ b. c.args.self.now.trace ++ the.Complete b ∷ [])
@@ -55,6 +60,12 @@ returns-clause-first g c run runs flight stands =
 
 pub returns-clause-ran : goal.returns-clause-ran
 returns-clause-ran g c others run runs =
+    let flight = c.swap_remove.result in
+    let s = first_stands c.flights_are_single.ensures.holds c.patches_are_placed.ensures.known run c.args.flights.now.held.items flight runs.cache_is.legal runs.flights_are c.requires.some c.swap_remove.ensures.value in
+    absurd (c.in-Err.ensures.stranger run runs.cache_is (its_flight run flight c.landed-landed.result c.landed-landed.ensures.block c.landed-landed.ensures.sequence s.is.known))
+
+pub returns-clause-none_lost : goal.returns-clause-none_lost
+returns-clause-none_lost g c others run runs =
     let flight = c.swap_remove.result in
     let s = first_stands c.flights_are_single.ensures.holds c.patches_are_placed.ensures.known run c.args.flights.now.held.items flight runs.cache_is.legal runs.flights_are c.requires.some c.swap_remove.ensures.value in
     absurd (c.in-Err.ensures.stranger run runs.cache_is (its_flight run flight c.landed-landed.result c.landed-landed.ensures.block c.landed-landed.ensures.sequence s.is.known))

@@ -1,6 +1,7 @@
 use Rattle.std.proofs.Common.{[], false, inl, refl, sym, ◌∙◌, arith, ◌<◌, ℕ, subst}
 use Rattle.std.proofs.lemmas.List.{nil_from_length}
 use Rattle.patch_cache.proofs.Waving.{none_added, since_is, no_sends, continues, continues_both, gone_still, stays_by, stayed_still, went_by, went_both, stays_both, sends_since, one_ended, one_at_last, is_same, some_held, one_less}
+use Rattle.patch_cache.proofs.Tries.{lost_still, lost_both}
 use Rattle.patch_cache.proofs.caches.Cache.complete_held.Goals as goal
 
 pub loop-self-init : goal.loop-self-init
@@ -11,6 +12,7 @@ loop-self-init g c =
       ran = λ others run runs. went_by run old old [] c.args.flights.now none (gone_still run old c.args.flights.now runs);
       trace = continues old old [] none;
       ends = no_sends old old [] none refl;
+      none_lost = λ others run runs. lost_still old old c.args.flights.now c.args.flights.now none refl;
       one = λ run runs flight one. inl (one, since_is old old [] none);
       stays = λ others run contents runs images. stays_by run old old [] contents none (stayed_still run contents);
       held = λ flight inside. inside;
@@ -27,6 +29,9 @@ loop-self-preserved g c =
       ran = λ others run runs. let first = before.ran others run runs in went_both run old mid next _ _ before.trace told.trace first (told.ran others _ first.runs);
       trace = continues_both old mid next before.trace told.trace;
       ends = let both = sends_since old mid next before.trace told.trace in let a = before.ends in let b = told.ends in omega (arith, both, a, b);
+      none_lost = λ others run runs.
+          let first = before.ran others run runs in
+          lost_both old mid next c.args.flights.now c.loop-self.flights c.complete_first.new.flights before.trace told.trace (before.none_lost others run runs) (told.none_lost others _ first.runs);
       one = λ run runs.
           let first = before.ran false run runs in
           one_ended c.args.flights.now c.loop-self.flights c.complete_first.new.flights old mid next before.trace told.landed (before.one run runs) (told.first _ first.runs);
@@ -68,3 +73,6 @@ returns-clause-ran g c = c.loop-self.invariant.ran
 
 pub returns-clause-stays : goal.returns-clause-stays
 returns-clause-stays g c = c.loop-self.invariant.stays
+
+pub returns-clause-none_lost : goal.returns-clause-none_lost
+returns-clause-none_lost g c = c.loop-self.invariant.none_lost

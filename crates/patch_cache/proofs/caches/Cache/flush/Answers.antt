@@ -2,12 +2,13 @@ use Rattle.std.proofs.Common.{Bool, false, ◌∙◌, length, sym, ap, subst, ar
 use Rattle.patch_model.specs.Execution.{Execution, followed_by}
 use Rattle.patch_model.specs.State.{entries_of}
 use Rattle.patch_device.specs.SameDevice.{same_both}
-use Rattle.patch_cache.specs.Running.{Runs, RunsBeside}
-use Rattle.patch_cache.specs.Waves.{steps_since, HasGoneOnBeside, IsFlushed, RisesIfGivenUp, IsHeldIfGivenUp}
+use Rattle.patch_cache.specs.Running.{Runs, RunsBeside, held_by}
+use Rattle.patch_cache.specs.Waves.{steps_since, HasGoneOnBeside, NoneCanBegin, IsFlushed, RisesIfGivenUp, IsHeldIfGivenUp}
 use Rattle.patch_cache.specs.Refused.{IfGivenUp, given_up_later}
 use Rattle.patch_cache.proofs.Waving.{continues_both, since_both, went_both, keeps_both, keeps_aside, sends_since}
 use Rattle.patch_cache.proofs.GivenUp.{rises_on, rises_later, held_on, given_on, no_device_gave_up}
 use Rattle.patch_cache.proofs.Passing.{passed_none, passed_some, flushed_after, few_classes}
+use Rattle.patch_cache.proofs.Tries.{begins_none, each_wave, each_since, each_begun, each_untried, kept_more, lost_both, none_of, none_after}
 use Rattle.std.proofs.lemmas.Result.{IfOk-from_err}
 use Rattle.patch_cache.proofs.caches.Cache.flush.Goals as goal
 
@@ -16,7 +17,9 @@ loop-init g c =
     let told = c.land.ensures in
     record {
       ran = told.ran;
-      waves = λ run runs. omega arith;
+      waves = λ others run runs. omega arith;
+      none_lost = told.none_lost;
+      each = λ others run runs. each_wave g.D.Device (steps_since c.args.self.now c.land.new.self) (held_by c.args.flights.now) c.args.device.now c.land.new.device (begins_none (steps_since c.args.self.now c.land.new.self) told.ends) told.wave;
       trace = told.trace;
       disk = told.disk;
       tries = let tried = told.tries in let ends = told.ends in omega (arith, tried, ends);
@@ -52,7 +55,7 @@ returns-then-not-branch-clause-flushed g c run runs =
     let told = c.in_ok-send_all.ensures in
     let first = before.ran false run runs in
     let parts = since_both old mid now before.trace told.trace in
-    let pass = passed_none (followed_by run (steps_since old mid)) c.in_ok-send_all.field-0 (steps_since mid now) c.if-not-branch.true (told.pass _ first.runs) in
+    let pass = passed_none (followed_by run (steps_since old mid)) c.in_ok-send_all.field-0 (steps_since mid now) c.if-not-branch.true (told.pass false _ first.runs) in
     let both = went_both run old mid now _ _ before.trace told.trace first (told.ran false _ first.runs) in
     subst (λ s. IsFlushed (followed_by run s)) (sym parts)
     (flushed_after c.some_is_ready.ensures c.patches_are_placed.ensures.flying c.pairs_merge.ensures.sent run (steps_since old mid) (steps_since mid now) now _
@@ -107,12 +110,23 @@ loop-preserved g c =
     λ others run runs. let first = before.ran others run runs in went_both run old mid sent c.loop.flights c.send_all.new.flights before.trace wave.trace first (wave.ran others _ first.runs) in
     record {
       ran = λ others run runs. let both = ran others run runs in went_both run old sent now _ _ trace told.trace both (told.ran others _ both.runs);
-      waves = λ run runs.
-          let first = before.ran false run runs in
-          let some = passed_some (followed_by run (steps_since old mid)) c.in_ok-send_all.field-0 (steps_since mid sent) c.if-not-branch.false (wave.pass _ first.runs) in
-          let so_far = before.waves run runs in
+      waves = λ others run runs.
+          let first = before.ran others run runs in
+          let some = passed_some (followed_by run (steps_since old mid)) c.in_ok-send_all.field-0 (steps_since mid sent) c.if-not-branch.false (wave.pass others _ first.runs) in
+          let so_far = before.waves others run runs in
           let inner = sends_since old mid sent before.trace wave.trace in
           let outer = sends_since old sent now trace told.trace in omega (arith, some, so_far, inner, outer);
+      none_lost = λ others run runs.
+          let first = before.ran others run runs in
+          lost_both old sent now c.args.flights.now c.send_all.new.flights c.land-in-loop.new.flights trace told.trace
+          (lost_both old mid sent c.args.flights.now c.loop.flights c.send_all.new.flights before.trace wave.trace (before.none_lost others run runs)
+          (kept_more (steps_since mid sent) c.loop.flights c.send_all.new.flights (λ b. wave.more others _ b first.runs)))
+          (told.none_lost others _ (ran others run runs).runs);
+      each = λ others run runs.
+          let first = before.ran others run runs in
+          each_since device old mid now (held_by c.args.flights.now) (held_by c.loop.flights) c.args.device.now c.loop.device c.land-in-loop.new.device before.trace (continues_both mid sent now wave.trace told.trace)
+          (before.each others run runs) (none_of (held_by c.loop.flights) before.landed)
+          (each_begun device mid sent now c.loop.flights c.send_all.new.flights c.loop.device c.land-in-loop.new.device wave.trace told.trace (λ b. wave.more others _ b first.runs) told.ends told.wave);
       trace = continues_both old sent now trace told.trace;
       disk = λ honest others.
           keeps_both device old sent now c.args.flights.now c.send_all.new.flights _ _ _ trace told.trace (ran others)
@@ -148,7 +162,7 @@ returns-clause-flushed g c run runs =
     let live = c.live.ensures.answer run runs.cache_is in
     let some = few_classes (entries_of run) in
     let sends = first.sends in
-    let turns = c.loop.invariant.waves run runs in
+    let turns = c.loop.invariant.waves false run runs in
     let past = c.loop-test.false in
     let wide = c.from-turns.ensures in absurd (omega (arith, live, some, sends, turns, past, wide))
 
@@ -330,3 +344,115 @@ returns-clause-disk g c = c.loop.invariant.disk
 
 pub returns-clause-tries : goal.returns-clause-tries
 returns-clause-tries g c = c.loop.invariant.tries
+
+-- what became of each flight, and that none can begin at the end
+
+pub returns-in_err-land-clause-each : goal.returns-in_err-land-clause-each
+returns-in_err-land-clause-each g c others run runs =
+    let told = c.land.ensures in each_wave g.D.Device (steps_since c.args.self.now c.land.new.self) (held_by c.args.flights.now) c.args.device.now c.land.new.device (begins_none (steps_since c.args.self.now c.land.new.self) told.ends) told.wave
+
+pub returns-in_err-land-clause-none_lost : goal.returns-in_err-land-clause-none_lost
+returns-in_err-land-clause-none_lost g c = c.land.ensures.none_lost
+
+pub returns-in_err-land-clause-done : goal.returns-in_err-land-clause-done
+returns-in_err-land-clause-done g c others run runs = IfOk-from_err c.from_residual.result _ c.from_residual.ensures.0
+
+pub returns-in_err-send_all-clause-done : goal.returns-in_err-send_all-clause-done
+returns-in_err-send_all-clause-done g c others run runs = IfOk-from_err c.from_residual-in_err-send_all.result _ c.from_residual-in_err-send_all.ensures.0
+
+pub returns-in_err-land-2-clause-done : goal.returns-in_err-land-2-clause-done
+returns-in_err-land-2-clause-done g c others run runs = IfOk-from_err c.from_residual-in_err-land-2.result _ c.from_residual-in_err-land-2.ensures.0
+
+pub returns-then-not-branch-clause-done : goal.returns-then-not-branch-clause-done
+returns-then-not-branch-clause-done g c others run runs =
+    let old = c.args.self.now in
+    let mid = c.loop.self in
+    let now = c.send_all.new.self in
+    let before = c.loop.invariant in
+    let told = c.in_ok-send_all.ensures in
+    let first = before.ran others run runs in
+    let pass = passed_none (followed_by run (steps_since old mid)) c.in_ok-send_all.field-0 (steps_since mid now) c.if-not-branch.true (told.pass others _ first.runs) in
+    subst (λ s. NoneCanBegin (followed_by run s)) (sym (since_both old mid now before.trace told.trace)) (none_after run (steps_since old mid) (steps_since mid now) pass.0 pass.1)
+
+pub returns-clause-done : goal.returns-clause-done
+returns-clause-done g c others run runs =
+    let first = c.loop.invariant.ran others run runs in
+    let live = c.live.ensures.answer run runs.cache_is in
+    let some = few_classes (entries_of run) in
+    let sends = first.sends in
+    let turns = c.loop.invariant.waves others run runs in
+    let past = c.loop-test.false in
+    let wide = c.from-turns.ensures in absurd (omega (arith, live, some, sends, turns, past, wide))
+
+pub returns-clause-none_lost : goal.returns-clause-none_lost
+returns-clause-none_lost g c = c.loop.invariant.none_lost
+
+pub returns-clause-each : goal.returns-clause-each
+returns-clause-each g c = c.loop.invariant.each
+
+pub returns-in_err-send_all-clause-none_lost : goal.returns-in_err-send_all-clause-none_lost
+returns-in_err-send_all-clause-none_lost g c others run runs =
+    let mid = c.loop.self in
+    let now = c.send_all.new.self in
+    let before = c.loop.invariant in
+    let told = c.send_all.ensures in
+    let first = before.ran others run runs in
+    lost_both c.args.self.now mid now c.args.flights.now c.loop.flights c.send_all.new.flights before.trace told.trace (before.none_lost others run runs)
+    (kept_more (steps_since mid now) c.loop.flights c.send_all.new.flights (λ b. told.more others _ b first.runs))
+
+pub returns-in_err-send_all-clause-each : goal.returns-in_err-send_all-clause-each
+returns-in_err-send_all-clause-each g c others run runs =
+    let mid = c.loop.self in
+    let now = c.send_all.new.self in
+    let before = c.loop.invariant in
+    let told = c.send_all.ensures in
+    let first = before.ran others run runs in
+    each_since g.D.Device c.args.self.now mid now (held_by c.args.flights.now) (held_by c.loop.flights) c.args.device.now c.loop.device c.loop.device before.trace told.trace (before.each others run runs)
+    (none_of (held_by c.loop.flights) before.landed) (each_untried g.D.Device (steps_since mid now) c.loop.flights c.send_all.new.flights c.loop.device (λ b. told.more others _ b first.runs))
+
+pub returns-then-not-branch-clause-none_lost : goal.returns-then-not-branch-clause-none_lost
+returns-then-not-branch-clause-none_lost g c others run runs =
+    let mid = c.loop.self in
+    let now = c.send_all.new.self in
+    let before = c.loop.invariant in
+    let told = c.send_all.ensures in
+    let first = before.ran others run runs in
+    lost_both c.args.self.now mid now c.args.flights.now c.loop.flights c.send_all.new.flights before.trace told.trace (before.none_lost others run runs)
+    (kept_more (steps_since mid now) c.loop.flights c.send_all.new.flights (λ b. told.more others _ b first.runs))
+
+pub returns-then-not-branch-clause-each : goal.returns-then-not-branch-clause-each
+returns-then-not-branch-clause-each g c others run runs =
+    let mid = c.loop.self in
+    let now = c.send_all.new.self in
+    let before = c.loop.invariant in
+    let told = c.send_all.ensures in
+    let first = before.ran others run runs in
+    each_since g.D.Device c.args.self.now mid now (held_by c.args.flights.now) (held_by c.loop.flights) c.args.device.now c.loop.device c.loop.device before.trace told.trace (before.each others run runs)
+    (none_of (held_by c.loop.flights) before.landed) (each_untried g.D.Device (steps_since mid now) c.loop.flights c.send_all.new.flights c.loop.device (λ b. told.more others _ b first.runs))
+
+pub returns-in_err-land-2-clause-none_lost : goal.returns-in_err-land-2-clause-none_lost
+returns-in_err-land-2-clause-none_lost g c others run runs =
+    let old = c.args.self.now in
+    let mid = c.loop.self in
+    let sent = c.send_all.new.self in
+    let before = c.loop.invariant in
+    let wave = c.in_ok-send_all.ensures in
+    let first = before.ran others run runs in
+    let both = went_both run old mid sent c.loop.flights c.send_all.new.flights before.trace wave.trace first (wave.ran others _ first.runs) in
+    lost_both old sent c.land-in-loop.new.self c.args.flights.now c.send_all.new.flights c.land-in-loop.new.flights (continues_both old mid sent before.trace wave.trace) c.land-in-loop.ensures.trace
+    (lost_both old mid sent c.args.flights.now c.loop.flights c.send_all.new.flights before.trace wave.trace (before.none_lost others run runs)
+    (kept_more (steps_since mid sent) c.loop.flights c.send_all.new.flights (λ b. wave.more others _ b first.runs)))
+    (c.land-in-loop.ensures.none_lost others _ both.runs)
+
+pub returns-in_err-land-2-clause-each : goal.returns-in_err-land-2-clause-each
+returns-in_err-land-2-clause-each g c others run runs =
+    let mid = c.loop.self in
+    let sent = c.send_all.new.self in
+    let now = c.land-in-loop.new.self in
+    let before = c.loop.invariant in
+    let wave = c.in_ok-send_all.ensures in
+    let told = c.land-in-loop.ensures in
+    let first = before.ran others run runs in
+    each_since g.D.Device c.args.self.now mid now (held_by c.args.flights.now) (held_by c.loop.flights) c.args.device.now c.loop.device c.land-in-loop.new.device before.trace (continues_both mid sent now wave.trace told.trace)
+    (before.each others run runs) (none_of (held_by c.loop.flights) before.landed)
+    (each_begun g.D.Device mid sent now c.loop.flights c.send_all.new.flights c.loop.device c.land-in-loop.new.device wave.trace told.trace (λ b. wave.more others _ b first.runs) told.ends told.wave)

@@ -1,6 +1,8 @@
 use Rattle.std.proofs.Common.{[], refl, sym, ap, subst, ◌∙◌}
 use Rattle.patch_cache.specs.Waves.{AreImages, AreOnDevice, IsOneOf, with_flights}
 use Rattle.patch_cache.specs.Refused.{HasRefusedHeld}
+use Rattle.patch_cache.specs.Tries.{AreTried}
+use Rattle.patch_cache.proofs.Tries.{no_wave, wave_unsynced, lost_still}
 use Rattle.patch_device.specs.Device.{never_fewer}
 use Rattle.patch_device.specs.SameDevice.{same_both}
 use Rattle.patch_cache.proofs.Answering.{on_ok}
@@ -12,7 +14,22 @@ pub returns-then-is_empty-clause-disk : goal.returns-then-is_empty-clause-disk
 returns-then-is_empty-clause-disk g c honest others run runs =
     let old = c.args.self.now in keeps_by g.D.Device run old old [] _ _ (none_added old old refl) (kept_unmoved g.D.Device run c.args.device.now)
 
+pub returns-then-is_empty-clause-wave : goal.returns-then-is_empty-clause-wave
+returns-then-is_empty-clause-wave g c = no_wave g.D.Device c.args.flights.now.held.items c.args.device.now
+
+pub returns-then-is_empty-clause-none_lost : goal.returns-then-is_empty-clause-none_lost
+returns-then-is_empty-clause-none_lost g c others run runs =
+    let old = c.args.self.now in lost_still old old c.args.flights.now c.args.flights.now (none_added old old refl) refl
+
 -- the device gave up
+pub returns-in_err-write_each-clause-wave : goal.returns-in_err-write_each-clause-wave
+returns-in_err-write_each-clause-wave g c =
+    wave_unsynced g.D.Device c.args.flights.now.held.items c.args.device.now c.write_each.new.device (subst (λ xs. AreTried g.D.Device xs c.args.device.now c.write_each.new.device) c.as_slice.ensures.value c.write_each.ensures.each)
+
+pub returns-in_err-write_each-clause-none_lost : goal.returns-in_err-write_each-clause-none_lost
+returns-in_err-write_each-clause-none_lost g c others run runs =
+    let old = c.args.self.now in lost_still old old c.args.flights.now c.args.flights.now (none_added old old refl) refl
+
 pub returns-in_err-write_each-clause-ran : goal.returns-in_err-write_each-clause-ran
 returns-in_err-write_each-clause-ran g c others run runs =
     let old = c.args.self.now in went_by run old old [] c.args.flights.now (none_added old old refl) (gone_still run old c.args.flights.now runs)
@@ -39,6 +56,20 @@ pub returns-in_err-write_each-clause-held : goal.returns-in_err-write_each-claus
 returns-in_err-write_each-clause-held g c = held_so c.from_residual.result c.in_err-write_each.field-0.0.0 c.args.flights.now c.from_residual.ensures.1 (subst (IsOneOf c.in_err-write_each.field-0.0.0) c.as_slice.ensures.value c.in_err-write_each.ensures.block)
 
 -- the sync failed
+pub returns-then-is_err-clause-wave : goal.returns-then-is_err-clause-wave
+returns-then-is_err-clause-wave g c =
+    let told = c.sync.ensures in record {
+      mid = c.write_each.new.device;
+      tried = subst (λ xs. AreTried g.D.Device xs c.args.device.now c.write_each.new.device) c.as_slice.ensures.value c.write_each.ensures.each;
+      same = record { honesty = told.honesty; count = told.count; faults = never_fewer c.sync.result _ _ told.no_fault told.fault; spent = told.spent; time = told.time };
+      sync = told.one_moment;
+      contents = told.same;
+    }
+
+pub returns-then-is_err-clause-none_lost : goal.returns-then-is_err-clause-none_lost
+returns-then-is_err-clause-none_lost g c others run runs =
+    let old = c.args.self.now in lost_still old old c.args.flights.now c.args.flights.now (none_added old old refl) refl
+
 pub returns-then-is_err-clause-ran : goal.returns-then-is_err-clause-ran
 returns-then-is_err-clause-ran g c others run runs =
     let old = c.args.self.now in went_by run old old [] c.args.flights.now (none_added old old refl) (gone_still run old c.args.flights.now runs)
@@ -90,3 +121,16 @@ pub returns-clause-lasts : goal.returns-clause-lasts
 returns-clause-lasts g c honest before =
     let passed = sym c.is_err.ensures.value ∙ c.if-is_err.false in
     on_ok c.sync.result _ passed (c.sync.ensures.lasts (c.write_each.ensures.device.honesty.0 honest))
+
+pub returns-clause-wave : goal.returns-clause-wave
+returns-clause-wave g c =
+    let told = c.sync.ensures in record {
+      mid = c.write_each.new.device;
+      tried = subst (λ xs. AreTried g.D.Device xs c.args.device.now c.write_each.new.device) c.as_slice.ensures.value c.write_each.ensures.each;
+      same = record { honesty = told.honesty; count = told.count; faults = never_fewer c.sync.result _ _ told.no_fault told.fault; spent = told.spent; time = told.time };
+      sync = told.one_moment;
+      contents = told.same;
+    }
+
+pub returns-clause-none_lost : goal.returns-clause-none_lost
+returns-clause-none_lost g c = c.complete_held.ensures.none_lost

@@ -30,7 +30,7 @@ returns-in-Ok-clause-sent g c = λ others run runs.
     )
 
 pub returns-in-Ok-clause-more : goal.returns-in-Ok-clause-more
-returns-in-Ok-clause-more g c = λ run runs.
+returns-in-Ok-clause-more g c = λ others run runs.
     let flight = c.in-Ok.flight in
     let before : Represents c.why_not_sent.new.self run = subst (λ (x : Contents). Represents x run) (sym c.why_not_sent.ensures.same) runs.cache_is in
     let begun = (c.in-Ok.ensures.sent run before).1.0 in
@@ -54,13 +54,13 @@ pub returns-then-is_some-clause-trace : goal.returns-then-is_some-clause-trace
 returns-then-is_some-clause-trace g c = none_added c.args.self.now c.why_not_sent.new.self c.why_not_sent.ensures.same
 
 pub returns-then-is_some-clause-more : goal.returns-then-is_some-clause-more
-returns-then-is_some-clause-more g c = λ run runs. refl
+returns-then-is_some-clause-more g c = λ others run runs. refl
 
 pub returns-in_err-reserve-clause-sent : goal.returns-in_err-reserve-clause-sent
 returns-in_err-reserve-clause-sent g c = λ others run runs. IfOk-from_err c.from_residual.result _ c.from_residual.ensures.0
 
 pub returns-in_err-reserve-clause-more : goal.returns-in_err-reserve-clause-more
-returns-in_err-reserve-clause-more g c = λ run runs. IfOk-from_err c.from_residual.result _ c.from_residual.ensures.0
+returns-in_err-reserve-clause-more g c = λ others run runs. IfOk-from_err c.from_residual.result _ c.from_residual.ensures.0
 
 pub returns-in_err-reserve-clause-trace : goal.returns-in_err-reserve-clause-trace
 returns-in_err-reserve-clause-trace g c = IfOk-from_err c.from_residual.result _ c.from_residual.ensures.0

@@ -3,10 +3,11 @@ use Rattle.patch_model.specs.State.{entries_of}
 use Rattle.patch_model.specs.Execution.{followed_by}
 use Rattle.patch_model.specs.Step.{Send}
 use Rattle.patch_cache.specs.Contents.{Contents}
-use Rattle.patch_cache.specs.Running.{Runs}
-use Rattle.patch_cache.specs.Waves.{IsFlushed, RisesIfGivenUp, IsHeldIfGivenUp}
+use Rattle.patch_cache.specs.Running.{Runs, RunsBeside}
+use Rattle.patch_cache.specs.Waves.{steps_since, IsFlushed, RisesIfGivenUp, IsHeldIfGivenUp}
 use Rattle.patch_cache.proofs.Waving.{none_added, no_sends, since_is, continues, runs_same, gone_still, kept_unmoved, went_by, went_both, keeps_by, keeps_both, tries_begun, continues_both, tries_none}
 use Rattle.patch_cache.proofs.Passing.{sent_still, one_written, begun_by, begun_few, begun_sends, begun_gone, begun_kept, flushed, flushed_still, none_begun, unsent_still}
+use Rattle.patch_cache.proofs.Tries.{each_still, each_begun, begun_since, begun_one, kept_more, lost_still, lost_both}
 use Rattle.std.proofs.lemmas.Result.{IfOk-from_err}
 use Rattle.patch_device.specs.SameDevice.{same_still}
 use Rattle.patch_cache.specs.Refused.{IfGivenUp}
@@ -116,7 +117,7 @@ returns-clause-wrote g c run runs empty =
     let block = c.in-Some.block in
     let sent = c.in_ok-send_if_ready in
     let begun = sent_still run block old still mid sent.field-0 c.args.flights.now c.send_if_ready.new.flights c.next_ready.ensures.same c.if-not-branch.false (sent.ensures.sent false run) runs in
-    let more = sent.ensures.more run (subst (λ (x : Contents). Runs x c.args.flights.now run) (sym c.next_ready.ensures.same) runs) in (
+    let more = sent.ensures.more false run (subst (λ (x : Contents). Runs x c.args.flights.now run) (sym c.next_ready.ensures.same) runs) in (
       block,
       c.in-Some.ensures.answer run runs.cache_is,
       one_written block sent.field-0 old still mid c.land.new.self c.args.flights.now c.send_if_ready.new.flights c.next_ready.ensures.same c.if-not-branch.false sent.ensures.trace empty more
@@ -327,3 +328,112 @@ returns-clause-held g c = tt
 
 pub returns-clause-landed : goal.returns-clause-landed
 returns-clause-landed g c = λ empty. c.in_ok-land.ensures.landed
+
+-- which write was begun, and what became of each flight
+
+pub returns-in_default-clause-pass : goal.returns-in_default-clause-pass
+returns-in_default-clause-pass g c others run runs =
+    let old = c.args.self.now in
+    let now = c.next_ready.new.self in (since_is old now [] (none_added old now c.next_ready.ensures.same), c.in_default.ensures.answer run runs.cache_is)
+
+pub returns-in_default-clause-none_lost : goal.returns-in_default-clause-none_lost
+returns-in_default-clause-none_lost g c others run runs =
+    let old = c.args.self.now in
+    let now = c.next_ready.new.self in lost_still old now c.args.flights.now c.args.flights.now (none_added old now c.next_ready.ensures.same) refl
+
+pub returns-in_default-clause-each : goal.returns-in_default-clause-each
+returns-in_default-clause-each g c others run runs =
+    let old = c.args.self.now in
+    let now = c.next_ready.new.self in
+    each_still g.D.Device old now c.args.flights.now.held.items c.args.device.now (none_added old now c.next_ready.ensures.same)
+
+pub returns-in_err-send_if_ready-clause-pass : goal.returns-in_err-send_if_ready-clause-pass
+returns-in_err-send_if_ready-clause-pass g c = λ others run runs. IfOk-from_err c.from_residual.result _ c.from_residual.ensures.0
+
+pub returns-in_err-send_if_ready-clause-none_lost : goal.returns-in_err-send_if_ready-clause-none_lost
+returns-in_err-send_if_ready-clause-none_lost g c others run runs =
+    let old = c.args.self.now in
+    let now = c.send_if_ready.new.self in
+    lost_still old now c.args.flights.now c.send_if_ready.new.flights (none_added old now (c.in_err-send_if_ready.ensures.refused ∙ c.next_ready.ensures.same)) c.in_err-send_if_ready.ensures.held
+
+pub returns-in_err-send_if_ready-clause-each : goal.returns-in_err-send_if_ready-clause-each
+returns-in_err-send_if_ready-clause-each g c others run runs =
+    let old = c.args.self.now in
+    let now = c.send_if_ready.new.self in
+    each_still g.D.Device old now c.args.flights.now.held.items c.args.device.now (none_added old now (c.in_err-send_if_ready.ensures.refused ∙ c.next_ready.ensures.same))
+
+pub returns-then-not-branch-clause-pass : goal.returns-then-not-branch-clause-pass
+returns-then-not-branch-clause-pass g c others run runs =
+    let unsent = unsent_still run c.in-Some.block c.args.self.now c.next_ready.new.self c.send_if_ready.new.self c.in_ok-send_if_ready.field-0 c.args.flights.now c.send_if_ready.new.flights c.next_ready.ensures.same c.if-not-branch.true (c.in_ok-send_if_ready.ensures.sent others run) runs in
+    absurd (unsent.0 (c.in-Some.ensures.answer run runs.cache_is).0)
+
+pub returns-then-not-branch-clause-none_lost : goal.returns-then-not-branch-clause-none_lost
+returns-then-not-branch-clause-none_lost g c others run runs =
+    let unsent = unsent_still run c.in-Some.block c.args.self.now c.next_ready.new.self c.send_if_ready.new.self c.in_ok-send_if_ready.field-0 c.args.flights.now c.send_if_ready.new.flights c.next_ready.ensures.same c.if-not-branch.true (c.in_ok-send_if_ready.ensures.sent others run) runs in
+    absurd (unsent.0 (c.in-Some.ensures.answer run runs.cache_is).0)
+
+pub returns-then-not-branch-clause-each : goal.returns-then-not-branch-clause-each
+returns-then-not-branch-clause-each g c others run runs =
+    let unsent = unsent_still run c.in-Some.block c.args.self.now c.next_ready.new.self c.send_if_ready.new.self c.in_ok-send_if_ready.field-0 c.args.flights.now c.send_if_ready.new.flights c.next_ready.ensures.same c.if-not-branch.true (c.in_ok-send_if_ready.ensures.sent others run) runs in
+    absurd (unsent.0 (c.in-Some.ensures.answer run runs.cache_is).0)
+
+pub returns-in_err-land-clause-pass : goal.returns-in_err-land-clause-pass
+returns-in_err-land-clause-pass g c = λ others run runs. IfOk-from_err c.from_residual-in_err-land.result _ c.from_residual-in_err-land.ensures.0
+
+pub returns-clause-pass : goal.returns-clause-pass
+returns-clause-pass g c others run runs =
+    let sent = c.in_ok-send_if_ready in
+    let one = begun_one c.in-Some.block sent.field-0 c.if-not-branch.false in
+    let all = begun_sends c.args.self.now c.next_ready.new.self c.send_if_ready.new.self c.land.new.self c.in-Some.block sent.field-0 c.next_ready.ensures.same sent.ensures.trace c.land.ensures.trace in omega (arith, one, all)
+
+pub returns-in_err-land-clause-none_lost : goal.returns-in_err-land-clause-none_lost
+returns-in_err-land-clause-none_lost g c others run runs =
+    let old = c.args.self.now in
+    let still = c.next_ready.new.self in
+    let mid = c.send_if_ready.new.self in
+    let block = c.in-Some.block in
+    let sent = c.in_ok-send_if_ready in
+    let begun = sent_still run block old still mid sent.field-0 c.args.flights.now c.send_if_ready.new.flights c.next_ready.ensures.same c.if-not-branch.false (sent.ensures.sent others run) runs in
+    let more = sent.ensures.more others run (subst (λ (x : Contents). RunsBeside others x c.args.flights.now run) (sym c.next_ready.ensures.same) runs) in
+    lost_both old mid c.land.new.self c.args.flights.now c.send_if_ready.new.flights c.land.new.flights
+    (continues old mid (Send block ∷ []) (begun_by old still mid block sent.field-0 c.next_ready.ensures.same c.if-not-branch.false sent.ensures.trace)) c.land.ensures.trace
+    (kept_more (steps_since old mid) c.args.flights.now c.send_if_ready.new.flights (begun_since block sent.field-0 old still mid c.args.flights.now c.send_if_ready.new.flights c.next_ready.ensures.same sent.ensures.trace more))
+    (c.land.ensures.none_lost others _ begun.1)
+
+pub returns-in_err-land-clause-each : goal.returns-in_err-land-clause-each
+returns-in_err-land-clause-each g c others run runs =
+    let old = c.args.self.now in
+    let still = c.next_ready.new.self in
+    let mid = c.send_if_ready.new.self in
+    let block = c.in-Some.block in
+    let sent = c.in_ok-send_if_ready in
+    let more = sent.ensures.more others run (subst (λ (x : Contents). RunsBeside others x c.args.flights.now run) (sym c.next_ready.ensures.same) runs) in
+    each_begun g.D.Device old mid c.land.new.self c.args.flights.now c.send_if_ready.new.flights c.args.device.now c.land.new.device
+    (continues old mid (Send block ∷ []) (begun_by old still mid block sent.field-0 c.next_ready.ensures.same c.if-not-branch.false sent.ensures.trace)) c.land.ensures.trace
+    (begun_since block sent.field-0 old still mid c.args.flights.now c.send_if_ready.new.flights c.next_ready.ensures.same sent.ensures.trace more) c.land.ensures.ends c.land.ensures.wave
+
+pub returns-clause-none_lost : goal.returns-clause-none_lost
+returns-clause-none_lost g c others run runs =
+    let old = c.args.self.now in
+    let still = c.next_ready.new.self in
+    let mid = c.send_if_ready.new.self in
+    let block = c.in-Some.block in
+    let sent = c.in_ok-send_if_ready in
+    let begun = sent_still run block old still mid sent.field-0 c.args.flights.now c.send_if_ready.new.flights c.next_ready.ensures.same c.if-not-branch.false (sent.ensures.sent others run) runs in
+    let more = sent.ensures.more others run (subst (λ (x : Contents). RunsBeside others x c.args.flights.now run) (sym c.next_ready.ensures.same) runs) in
+    lost_both old mid c.land.new.self c.args.flights.now c.send_if_ready.new.flights c.land.new.flights
+    (continues old mid (Send block ∷ []) (begun_by old still mid block sent.field-0 c.next_ready.ensures.same c.if-not-branch.false sent.ensures.trace)) c.land.ensures.trace
+    (kept_more (steps_since old mid) c.args.flights.now c.send_if_ready.new.flights (begun_since block sent.field-0 old still mid c.args.flights.now c.send_if_ready.new.flights c.next_ready.ensures.same sent.ensures.trace more))
+    (c.land.ensures.none_lost others _ begun.1)
+
+pub returns-clause-each : goal.returns-clause-each
+returns-clause-each g c others run runs =
+    let old = c.args.self.now in
+    let still = c.next_ready.new.self in
+    let mid = c.send_if_ready.new.self in
+    let block = c.in-Some.block in
+    let sent = c.in_ok-send_if_ready in
+    let more = sent.ensures.more others run (subst (λ (x : Contents). RunsBeside others x c.args.flights.now run) (sym c.next_ready.ensures.same) runs) in
+    each_begun g.D.Device old mid c.land.new.self c.args.flights.now c.send_if_ready.new.flights c.args.device.now c.land.new.device
+    (continues old mid (Send block ∷ []) (begun_by old still mid block sent.field-0 c.next_ready.ensures.same c.if-not-branch.false sent.ensures.trace)) c.land.ensures.trace
+    (begun_since block sent.field-0 old still mid c.args.flights.now c.send_if_ready.new.flights c.next_ready.ensures.same sent.ensures.trace more) c.land.ensures.ends c.land.ensures.wave
