@@ -1,5 +1,5 @@
 -- How what was done in two stretches, one after the other, is done in one.
-use Rattle.std.specs.Prelude.{ℕ, ◌≡◌, ◌≢◌, ◌++◌, List, []}
+use Rattle.std.specs.Prelude.{ℕ, ◌≡◌, ◌≢◌, ◌++◌, List, [], count_by}
 use Rattle.patch_model.specs.declared.patches.Undo.{Undo}
 use Rattle.patch_model.specs.Step.{Step, Create, Complete}
 use Rattle.patch_model.specs.Execution.{Execution, extended, followed_by}
@@ -10,7 +10,8 @@ use Rattle.patch_device.specs.declared.devices.Device.{Ghosts}
 use Rattle.patch_cache.specs.Contents.{Contents}
 use Rattle.patch_cache.specs.Flights.{AreFlightsOf}
 use Rattle.patch_cache.specs.Running.{Runs, IsCrashSafe}
-use Rattle.patch_cache.specs.Waves.{steps_since, Continues, HasGoneOn, HasKept}
+use Rattle.patch_cache.specs.Waves.{is_send, steps_since, Continues, HasGoneOn, HasKept}
+use Rattle.patch_cache.specs.Tries.{IsWave, EachTried}
 use Rattle.patch_cache.specs.declared.flights.Flights.{Flights}
 use Rattle.patch_cache.specs.declared.flights.Flight.{Flight}
 
@@ -63,6 +64,20 @@ abbrev pub KeptJoin : {D : Type 0} → Ghosts D → Type 0
 KeptJoin {D = D} g =
     (run : Execution) (a b : List Step) (before mid now : D)
     → HasKept g run a before mid → HasKept g (followed_by run a) b mid now → HasKept g run (a ++ b) before now
+
+-- where steps begin no write, the flights that are held were tried if nothing was done, or if they went out in one wave
+abbrev pub StillIsTried : (A : Type 0) {D : Type 0} → Ghosts D → Type 0
+StillIsTried A {D = D} g = (steps : List Step) (held : List (Flight A)) (device : D) → count_by is_send steps ≡ 0 → EachTried g steps held device device
+
+abbrev pub WavesAreTried : (A : Type 0) {D : Type 0} → Ghosts D → Type 0
+WavesAreTried A {D = D} g =
+    (steps : List Step) (held : List (Flight A)) (before now : D) → count_by is_send steps ≡ 0 → IsWave g held before now → EachTried g steps held before now
+
+-- and what was tried in two stretches, with nothing held between them, was tried in one
+abbrev pub TriesJoin : (A : Type 0) {D : Type 0} → Ghosts D → Type 0
+TriesJoin A {D = D} g =
+    (a b : List Step) (held between : List (Flight A)) (before mid now : D)
+    → EachTried g a held before mid → between ≡ [] → EachTried g b between mid now → EachTried g (a ++ b) held before now
 
 -- flights stay those of the execution beside a patch that is made
 abbrev pub FlightsStay : (A : Type 0) → Type 0

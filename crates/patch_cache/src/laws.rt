@@ -5,7 +5,7 @@ ghost use Rattle.patch_model.specs.Execution.{Execution};
 ghost use Rattle.patch_model.specs.Entry.{Entry, is_live};
 ghost use Rattle.patch_model.specs.History.{history_of, image, cached};
 ghost use Rattle.patch_cache.specs.Waves.{classes_in_memory, live_classes, IsFlushed};
-ghost use Rattle.patch_cache.specs.Joining.{UnmovedIsSafe, UnwrittenIsSafe, SafeJoin, NoneSince, AddedSince, SinceJoin, StillIsStretch, StretchesJoin, StillIsKept, KeptJoin, FlightsStay};
+ghost use Rattle.patch_cache.specs.Joining.{UnmovedIsSafe, UnwrittenIsSafe, SafeJoin, NoneSince, AddedSince, SinceJoin, StillIsStretch, StretchesJoin, StillIsKept, KeptJoin, StillIsTried, WavesAreTried, TriesJoin, FlightsStay};
 ghost use Rattle.patch_cache.specs.Asks.{Ask, Answer, IsAnswer};
 ghost use Rattle.patch_cache.specs.declared.landing.TheConstants.{TRIES};
 ghost use Rattle.patch_cache.specs.Promise.{TakingBack, MovesArePermitted, LooksShow, ImagesSent, CrashesClosed};
@@ -69,6 +69,13 @@ pub fn stretches_join<A: Allocator, D: Device>()
     ensures joined { StretchesJoin A }
     ensures still_kept { StillIsKept D.Device }
     ensures kept { KeptJoin D.Device }
+{}
+
+/// The flights of two stretches of writes, one after the other, are tried as those of one: none by what another one left over.
+pub fn tries_join<A: Allocator, D: Device>()
+    ensures still { StillIsTried A D.Device }
+    ensures waves { WavesAreTried A D.Device }
+    ensures joined { TriesJoin A D.Device }
 {}
 
 /// Held flights stay those of the execution beside a patch that is made.
