@@ -15,7 +15,9 @@ use Rattle.patch_model.specs.Member.{In, In-from_Contains, Contains-from_In, lis
 use Rattle.patch_cache.specs.Contents.{Contents}
 use Rattle.patch_cache.specs.Running.{Runs}
 use Rattle.patch_cache.specs.Waves.{is_send, is_write, steps_since, Continues, HasGoneOn, HasKept, KeepsDisk, HasWrittenOne, IsFlushed}
-use Rattle.patch_cache.specs.Joining.{SinceJoin, StretchesJoin, KeptJoin}
+use Rattle.patch_cache.specs.Joining.{SinceJoin, StretchesJoin, KeptJoin, TriesJoin}
+use Rattle.patch_cache.specs.Tries.{EachTried}
+use Rattle.patch_cache.specs.declared.flights.Flight.{Flight}
 use Rattle.patch_cache.specs.Refused.{IfGivenUp}
 use Rattle.patch_cache.specs.declared.flights.Flights.{Flights}
 use Rattle.patch_cache.specs.declared.refusals.FlushRefusal.{FlushRefusal}
@@ -53,6 +55,12 @@ flat run a b = ap (λ steps. let v : Execution = record { first = run.first; ste
 pub since_both : SinceJoin → (run : Execution) (old mid now : Contents) → Continues old mid → Continues mid now
     → followed_by (followed_by run (steps_since old mid)) (steps_since mid now) ≡ followed_by run (steps_since old now)
 since_both joins run old mid now one two = flat run (steps_since old mid) (steps_since mid now) ∙ ap (followed_by run) (sym (joins old mid now one two).1)
+
+-- what was tried in both
+pub tried_both : SinceJoin → {A D : Type 0} → (g : Ghosts D) → TriesJoin A g → (old mid now : Contents) (held between : List (Flight A)) (first mids last : D) → Continues old mid → Continues mid now
+    → EachTried g (steps_since old mid) held first mids → between ≡ [] → EachTried g (steps_since mid now) between mids last → EachTried g (steps_since old now) held first last
+tried_both joins g tries old mid now held between first mids last one two before none after =
+    subst (λ s. EachTried g s held first last) (sym (joins old mid now one two).1) (tries (steps_since old mid) (steps_since mid now) held between first mids last before none after)
 
 pub sends_both : SinceJoin → (old mid now : Contents) → Continues old mid → Continues mid now → count_by is_send (steps_since old now) ≡ count_by is_send (steps_since old mid) + count_by is_send (steps_since mid now)
 sends_both joins old mid now one two =

@@ -10,6 +10,7 @@ ghost use Rattle.patch_cache.specs.Running.{Runs, RunsOn, held_by};
 ghost use Rattle.patch_cache.specs.Refused.{IfGivenUp};
 ghost use Rattle.patch_cache.specs.declared.landing.TheConstants.{TRIES};
 ghost use Rattle.patch_cache.specs.Waves.{is_send, steps_since, Continues, HasGoneOn, KeepsDisk, RisesIfGivenUp, IsHeldIfGivenUp};
+ghost use Rattle.patch_cache.specs.Tries.{EachTried};
 ghost use Rattle.patch_plans.specs.Groups.{patches_of, pending, why_not_counted};
 ghost use Rattle.patch_group.specs.Syncing.{NonePending, SomePending, IsSynced, StandsAfter, RisesIfSyncStops, IfSyncStops, IsHeldIfSyncStops};
 ghost use Rattle.patch_group.specs.declared.refusals.SyncRefusal.TheVariants as refusal;
@@ -50,6 +51,8 @@ pub fn sync<A: Allocator + Copy, D: Device>(
         → RisesIfSyncStops result (D.fault_count device.old) (D.fault_count device.new) }
     ensures refused { (run : Execution) → RunsOn D.Device cache.old flights.old device.old run
         → IfSyncStops D.Device result flights.new device.old device.new }
+    ensures each { (run : Execution) → Runs cache.old flights.old run
+        → EachTried D.Device (steps_since cache.old cache.new) (held_by flights.old) device.old device.new }
     ensures tries { D.moment device.new
         ≤ D.moment device.old + (TRIES + 1) * (length (held_by flights.old) + count_by is_send (steps_since cache.old cache.new)) }
     ensures held { IsHeldIfSyncStops result flights.new }
@@ -61,6 +64,7 @@ pub fn sync<A: Allocator + Copy, D: Device>(
     model_laws::ready_is_largest();
     cache_laws::traces_join();
     cache_laws::stretches_join::<A, D>();
+    cache_laws::tries_join::<A, D>();
     plan_laws::order_is_kept();
     if !groups.is_open(group) {
         return Err(SyncRefusal::NoSuchGroup);
@@ -91,6 +95,8 @@ fn write_all_of<A: Allocator + Copy, D: Device>(
         → RisesIfGivenUp result (D.fault_count device.old) (D.fault_count device.new) }
     ensures refused { (run : Execution) → RunsOn D.Device cache.old flights.old device.old run
         → IfGivenUp D.Device result flights.new device.old device.new }
+    ensures each { (run : Execution) → Runs cache.old flights.old run → held_by flights.old ≡ []
+        → EachTried D.Device (steps_since cache.old cache.new) (held_by flights.old) device.old device.new }
     ensures tries { held_by flights.old ≡ [] → D.moment device.new
         ≤ D.moment device.old + (TRIES + 1) * count_by is_send (steps_since cache.old cache.new) }
     ensures held { IsHeldIfGivenUp result flights.new }
@@ -102,6 +108,7 @@ fn write_all_of<A: Allocator + Copy, D: Device>(
     model_laws::ready_is_largest();
     cache_laws::traces_join();
     cache_laws::stretches_join::<A, D>();
+    cache_laws::tries_join::<A, D>();
     cache_laws::classes_are_few();
     let turns = u64::from(cache.live()) + 1;
     let mut at = 0;

@@ -9,6 +9,7 @@ use Rattle.patch_cache.specs.Refused.{HasRefused, HasNotSynced}
 use Rattle.patch_cache.specs.declared.refusals.FlushRefusal.{FlushRefusal}
 use Rattle.patch_cache.specs.declared.refusals.FlushRefusal.TheVariants as flush
 use Rattle.patch_cache.specs.Waves.{is_send, classes_in_memory, steps_since, HasKept}
+use Rattle.patch_cache.specs.Tries.{EachTried}
 use Rattle.patch_history.specs.History.{History, Moved, execution_of}
 use Rattle.patch_store.specs.Meaning.{Store, Represents}
 
@@ -52,3 +53,7 @@ IfRefused g (Ok done) run before now = Unit {0}
 IfRefused g (Err (flush.DeviceGaveUp block)) run before now = HasRefused g block (image (history_of run block)) before now
 IfRefused g (Err flush.SyncFailed) run before now = HasNotSynced g before now
 IfRefused g (Err flush.OutOfMemory) run before now = Unit {0}
+
+-- of each block as many flights went out as the steps have begun, and none was tried by what another one left over
+abbrev pub EachBegunTried : (A : Type 0) {D : Type 0} → Ghosts D → List Step → (before now : D) → Type 0
+EachBegunTried A g steps before now = EachTried {A = A} g steps [] before now

@@ -2,10 +2,10 @@
 ghost use Rattle.std.specs.Prelude.{◌≡◌, ◌+◌, ◌*◌, ◌≤◌, length, count_by, OnOk};
 ghost use Rattle.patch_device.specs.SameDevice.{IsSameDevice, IsLasting};
 ghost use Rattle.patch_cache.specs.declared.landing.TheConstants.{TRIES};
-ghost use Rattle.patch_cache.specs.Waves.{is_send, steps_since, Continues, HoldImages, IsFlushed, RisesIfGivenUp};
+ghost use Rattle.patch_cache.specs.Waves.{is_send, steps_since, Continues, HoldImages, NoneCanBegin, IsFlushed, RisesIfGivenUp};
 ghost use Rattle.patch_store.specs.Meaning.{Represents};
 ghost use Rattle.patch_history.specs.History.{History, execution_of};
-ghost use Rattle.patch_store.specs.Flushing.{StandsStill, HasWritten, KeepsDisk, HoldNow, IfRefused, run_after};
+ghost use Rattle.patch_store.specs.Flushing.{StandsStill, HasWritten, KeepsDisk, HoldNow, EachBegunTried, IfRefused, run_after};
 
 use crate::stores::Store;
 use patch_cache::{Flights, FlushRefusal, laws as cache_laws};
@@ -24,6 +24,9 @@ pub fn flush<A: Allocator + Copy, D: Device>(
     ensures ran { (h : History) → Represents store.old h → HasWritten h (steps_since store.old.cache store.new.cache) store.new }
     ensures trace { Continues store.old.cache store.new.cache }
     ensures disk { D.is_honest device.old → (h : History) → Represents store.old h → KeepsDisk D.Device h store.old store.new device.old device.new }
+    ensures done { (h : History) → Represents store.old h → OnOk result (NoneCanBegin (run_after h store.old store.new)) }
+    ensures each { (h : History) → Represents store.old h
+        → EachBegunTried A D.Device (steps_since store.old.cache store.new.cache) device.old device.new }
     ensures flushed { (h : History) → StandsStill store.old h → OnOk result (IsFlushed (run_after h store.old store.new)) }
     ensures cached { D.is_honest device.old → (h : History) → StandsStill store.old h → HoldImages (execution_of h) (D.contents device.old)
         → OnOk result (HoldNow h store.old store.new (D.contents device.new)) }

@@ -1,17 +1,18 @@
-use Rattle.std.proofs.Common.{Err, false, arith, ◌≡◌, ◌∙◌, refl, subst, sym, length}
+use Rattle.std.proofs.Common.{Err, false, arith, ◌≡◌, ◌∙◌, refl, subst, sym, ap, length}
 use Rattle.std.specs.Prelude.{count_by}
 use Rattle.patch_model.specs.Execution.{followed_by}
 use Rattle.patch_model.specs.State.{entries_of}
 use Rattle.patch_device.specs.SameDevice.{same_still, same_both}
 use Rattle.patch_cache.specs.Refused.{given_up_later}
-use Rattle.patch_cache.specs.Waves.{steps_since}
+use Rattle.patch_cache.specs.Running.{held_by}
+use Rattle.patch_cache.specs.Waves.{is_send, steps_since}
 use Rattle.patch_plans.specs.Groups.{is_pending, patches_of}
 use Rattle.patch_group.specs.Syncing.{IsSynced, RisesIfSyncStops, IfSyncStops, IsHeldIfSyncStops}
 use Rattle.patch_group.specs.declared.refusals.SyncRefusal.TheVariants as refusal
 use Rattle.patch_group.proofs.Outcomes.{refused-done}
 use Rattle.patch_group.proofs.Pending.{none_left}
 use Rattle.patch_group.proofs.Steps.{for_all, landed_first}
-use Rattle.patch_group.proofs.Writing.{continues_both, went_both, keeps_both, since_both, sends_both, sync_stops, stays_past, groups_stay}
+use Rattle.patch_group.proofs.Writing.{continues_both, went_both, keeps_both, since_both, sends_both, tried_both, sync_stops, stays_past, groups_stay}
 use Rattle.patch_group.proofs.Stopping.{sync_rises, sync_holds, told_as}
 use Rattle.patch_group.proofs.syncing.sync.Goals as goal
 
@@ -289,3 +290,35 @@ returns-then-not-is_open-clause-unchanged g c is = (refl, refl, refl)
 
 pub returns-then-not-is_open-clause-device : goal.returns-then-not-is_open-clause-device
 returns-then-not-is_open-clause-device g c = same_still g.D.Device _
+
+-- and each flight by itself
+pub returns-then-not-is_open-clause-each : goal.returns-then-not-is_open-clause-each
+returns-then-not-is_open-clause-each g c run r =
+    let cache = c.args.cache.now in
+    c.tries_join.ensures.still (steps_since cache cache) (held_by c.args.flights.now) c.args.device.now (ap (count_by is_send) (c.traces_join.ensures.none cache).1)
+
+pub returns-in_err-land-clause-each : goal.returns-in_err-land-clause-each
+returns-in_err-land-clause-each g c run r =
+    c.tries_join.ensures.waves (steps_since c.args.cache.now c.land.new.self) (held_by c.args.flights.now) c.args.device.now c.land.new.device c.land.ensures.ends c.land.ensures.wave
+
+pub returns-in_err-waiting-clause-each : goal.returns-in_err-waiting-clause-each
+returns-in_err-waiting-clause-each g c run r =
+    c.tries_join.ensures.waves (steps_since c.args.cache.now c.land.new.self) (held_by c.args.flights.now) c.args.device.now c.land.new.device c.land.ensures.ends c.land.ensures.wave
+
+pub returns-in_err-write_all_of-clause-each : goal.returns-in_err-write_all_of-clause-each
+returns-in_err-write_all_of-clause-each g c run r =
+    let old = c.args.cache.now in
+    let mid = c.land.new.self in
+    let first = c.land.ensures in
+    tried_both c.traces_join.ensures.joined g.D.Device c.tries_join.ensures.joined old mid c.write_all_of.new.cache (held_by c.args.flights.now) (held_by c.land.new.flights) c.args.device.now c.land.new.device c.write_all_of.new.device first.trace c.write_all_of.ensures.trace
+    (c.tries_join.ensures.waves (steps_since old mid) (held_by c.args.flights.now) c.args.device.now c.land.new.device first.ends first.wave) c.in_ok-land.ensures.landed
+    (c.write_all_of.ensures.each _ (first.ran false run r).runs c.in_ok-land.ensures.landed)
+
+pub returns-clause-each : goal.returns-clause-each
+returns-clause-each g c run r =
+    let old = c.args.cache.now in
+    let mid = c.land.new.self in
+    let first = c.land.ensures in
+    tried_both c.traces_join.ensures.joined g.D.Device c.tries_join.ensures.joined old mid c.write_all_of.new.cache (held_by c.args.flights.now) (held_by c.land.new.flights) c.args.device.now c.land.new.device c.write_all_of.new.device first.trace c.write_all_of.ensures.trace
+    (c.tries_join.ensures.waves (steps_since old mid) (held_by c.args.flights.now) c.args.device.now c.land.new.device first.ends first.wave) c.in_ok-land.ensures.landed
+    (c.write_all_of.ensures.each _ (first.ran false run r).runs c.in_ok-land.ensures.landed)

@@ -1,4 +1,4 @@
-use Rattle.std.proofs.Common.{Bool, Err, ◌≡◌, ◌<◌, ◌∙◌, ◌++◌, take, length, subst, sym, ap, arith, append-nil}
+use Rattle.std.proofs.Common.{Bool, Err, false, ◌≡◌, ◌<◌, ◌∙◌, ◌++◌, take, length, subst, sym, ap, arith, append-nil}
 use Rattle.std.proofs.lemmas.List.{take_all}
 use Rattle.std.proofs.lemmas.Result.{IfOk-from_err}
 use Rattle.std.specs.Prelude.{count_by}
@@ -6,11 +6,12 @@ use Rattle.patch_model.specs.Execution.{followed_by}
 use Rattle.patch_model.specs.State.{entries_of}
 use Rattle.patch_device.specs.SameDevice.{same_both}
 use Rattle.patch_cache.specs.Refused.{given_up_later}
+use Rattle.patch_cache.specs.Running.{held_by}
 use Rattle.patch_cache.specs.Waves.{steps_since}
 use Rattle.patch_plans.specs.Groups.{is_pending}
 use Rattle.patch_group.specs.Syncing.{IsSynced}
 use Rattle.patch_group.proofs.Pending.{none_still, none_pending_of}
-use Rattle.patch_group.proofs.Writing.{continues_both, went_both, keeps_both, since_both, sends_both, write_stops, stays_past, wrote_none, wrote_some, same_run}
+use Rattle.patch_group.proofs.Writing.{continues_both, went_both, keeps_both, since_both, sends_both, tried_both, write_stops, stays_past, wrote_none, wrote_some, same_run}
 use Rattle.patch_group.proofs.Steps.{none_fly, leads_on, leads_here, wrote_nothing}
 use Rattle.patch_group.proofs.Stopping.{write_rises, write_holds}
 use Rattle.patch_group.proofs.syncing.write_all_of.Goals as goal
@@ -163,6 +164,9 @@ loop-preserved g c =
       trace = continues_both joins old mid now before.trace told.trace;
       disk = λ honest.
           keeps_both joins g.D.Device c.stretches_join.ensures.kept old mid now c.args.flights.now c.loop.flights _ _ _ before.trace told.trace before.ran (before.disk honest) (told.disk (before.same.honesty.0 honest));
+      each = λ run r none.
+          tried_both joins g.D.Device c.tries_join.ensures.joined old mid now (held_by c.args.flights.now) (held_by c.loop.flights) c.args.device.now c.loop.device c.write_next.new.device before.trace told.trace
+          (before.each run r none) (before.landed none) (told.each false _ (before.ran run r).runs);
       tries = λ none.
           let so_far = before.tries none in
           let one = told.tries in
@@ -201,3 +205,23 @@ returns-in_err-write_next-clause-lasts g c honest = IfOk-from_err c.from_residua
 pub returns-then-not-branch-clause-lasts : goal.returns-then-not-branch-clause-lasts
 returns-then-not-branch-clause-lasts g c honest lasts =
     let before = c.loop.invariant in c.in_ok-write_next.ensures.lasts (before.same.honesty.0 honest) (before.lasts honest lasts)
+
+pub returns-in_err-write_next-clause-each : goal.returns-in_err-write_next-clause-each
+returns-in_err-write_next-clause-each g c run r none =
+    let before = c.loop.invariant in
+    let told = c.write_next.ensures in
+    tried_both c.traces_join.ensures.joined g.D.Device c.tries_join.ensures.joined c.args.cache.now c.loop.cache c.write_next.new.self (held_by c.args.flights.now) (held_by c.loop.flights) c.args.device.now c.loop.device c.write_next.new.device before.trace told.trace
+    (before.each run r none) (before.landed none) (told.each false _ (before.ran run r).runs)
+
+pub returns-then-not-branch-clause-each : goal.returns-then-not-branch-clause-each
+returns-then-not-branch-clause-each g c run r none =
+    let before = c.loop.invariant in
+    let told = c.write_next.ensures in
+    tried_both c.traces_join.ensures.joined g.D.Device c.tries_join.ensures.joined c.args.cache.now c.loop.cache c.write_next.new.self (held_by c.args.flights.now) (held_by c.loop.flights) c.args.device.now c.loop.device c.write_next.new.device before.trace told.trace
+    (before.each run r none) (before.landed none) (told.each false _ (before.ran run r).runs)
+
+pub returns-then-at-waiting-clause-each : goal.returns-then-at-waiting-clause-each
+returns-then-at-waiting-clause-each g c = c.loop.invariant.each
+
+pub returns-clause-each : goal.returns-clause-each
+returns-clause-each g c = c.loop.invariant.each

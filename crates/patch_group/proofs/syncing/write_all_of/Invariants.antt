@@ -5,6 +5,7 @@ use Rattle.patch_model.specs.State.{entries_of}
 use Rattle.patch_device.specs.SameDevice.{IsSameDevice, IsLasting}
 use Rattle.patch_cache.specs.Running.{Runs, held_by}
 use Rattle.patch_cache.specs.Waves.{is_send, steps_since, Continues, HasGoneOn, KeepsDisk}
+use Rattle.patch_cache.specs.Tries.{EachTried}
 use Rattle.patch_cache.specs.declared.landing.TheConstants.{TRIES}
 use Rattle.patch_plans.specs.Groups.{is_pending}
 use Rattle.patch_group.proofs.Steps.{LeadsOn}
@@ -23,6 +24,7 @@ invariant-loop g l =
       within : l.at ≤ length l.waiting;
       trace : Continues l.fn.cache l.cache;
       disk : device.is_honest old → KeepsDisk device l.fn.cache l.cache l.fn.flights old l.device;
+      each : (run : Execution) → Runs l.fn.cache l.fn.flights run → held_by l.fn.flights ≡ [] → EachTried device (steps_since l.fn.cache l.cache) (held_by l.fn.flights) old l.device;
       tries : held_by l.fn.flights ≡ [] → device.moment l.device ≤ device.moment old + (TRIES + 1) * count_by is_send (steps_since l.fn.cache l.cache);
       landed : held_by l.fn.flights ≡ [] → held_by l.flights ≡ [];
       same : IsSameDevice g.D.Device old l.device;

@@ -1,7 +1,8 @@
-use Rattle.std.proofs.Common.{◌≡◌, true, length}
+use Rattle.std.proofs.Common.{◌≡◌, true, [], length, subst}
 use Rattle.std.specs.Prelude.{OnOk}
 use Rattle.patch_model.specs.Execution.{followed_by}
-use Rattle.patch_cache.specs.Waves.{HasKept, IsFlushed, RisesIfGivenUp, steps_since}
+use Rattle.patch_cache.specs.Waves.{HasKept, IsFlushed, NoneCanBegin, RisesIfGivenUp, steps_since}
+use Rattle.patch_cache.specs.Tries.{EachTried}
 use Rattle.patch_history.specs.History.{execution_of}
 use Rattle.patch_store.specs.Flushing.{HoldCached, IfRefused}
 use Rattle.patch_store.proofs.Waving.{written_view, said_view, said_beside, refused_image, ok_map, cached_so}
@@ -50,3 +51,14 @@ returns-clause-refused g c h was count =
     (λ h runs count.
     refused_image d c.flush-flushed.result _ c.flush-flushed.new.self c.flush-flushed.new.flights before now (c.flush-flushed.ensures.ran true (execution_of h) runs).runs
     (c.flush-flushed.ensures.refused true (execution_of h) (record { runs = runs; blocks = count }))) h was count
+
+pub returns-clause-done : goal.returns-clause-done
+returns-clause-done g c h was =
+    said_beside (λ h steps. OnOk c.flush-flushed.result (NoneCanBegin (followed_by (execution_of h) steps))) _ _ c.flush-flushed.new.self
+    c.new-flights.result c.store.view_is c.new-flights.ensures (λ h runs. c.flush-flushed.ensures.done true (execution_of h) runs) h was
+
+pub returns-clause-each : goal.returns-clause-each
+returns-clause-each g c h was =
+    said_beside (λ h steps. EachTried g.D.Device steps [] c.args.device.now c.flush-flushed.new.device) _ _ c.flush-flushed.new.self
+    c.new-flights.result c.store.view_is c.new-flights.ensures
+    (λ h runs. subst (λ held. EachTried g.D.Device (steps_since _ c.flush-flushed.new.self) held c.args.device.now c.flush-flushed.new.device) c.new-flights.ensures (c.flush-flushed.ensures.each true (execution_of h) runs)) h was
