@@ -35,7 +35,7 @@ pub refused_so : (h : History) (key into : List ℕ) (len : ℕ) (cause : Refusa
 refused_so h key into len cause why is kind_is = by-cause (why_no_key key) refl is
   where
     by-cause : (o : Option Refusal) → why_no_key key ≡ o → IsCause o cause → HasGot h key into len (pos (code_of why), into, len)
-    by-cause None none out = inr (λ i. (pos (code_of ((kind_is ∙ ap (λ (r : Refusal). r.kind) out) i)), into, len))
+    by-cause None none out = inr (none, λ i. (pos (code_of ((kind_is ∙ ap (λ (r : Refusal). r.kind) out) i)), into, len))
     by-cause (Some first) some same =
         inl (subst (λ o. (pos (code_of why), into, len) ≡ get_told o (value_in (standing_of h).map.entries key) into len) (sym some)
         (λ i. (pos (code_of ((kind_is ∙ ap (λ (r : Refusal). r.kind) same) i)), into, len)))

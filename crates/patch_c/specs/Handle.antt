@@ -1,5 +1,5 @@
 -- What a handle stands for.
-use Rattle.std.specs.Prelude.{◌≡◌, false, IfSome, None}
+use Rattle.std.specs.Prelude.{◌≡◌, false, IsFalse, IfSome, None}
 use denote.RawPtr.{null_ptr}
 use Rattle.patch_c.specs.declared.handle.Handle.{Handle}
 use Rattle.patch_c.specs.declared.opened.Opened.{Opened}
@@ -9,6 +9,10 @@ pub record IsZeros (h : Handle) : Type 0 where
   pub not_open : h.is_open ≡ false
   pub null : h.sealed.at ≡ null_ptr
   pub nothing : h.sealed.opened ≡ None
+
+-- where it was closed it still is, all zeros
+abbrev pub StaysClosed : Handle → Handle → Type 0
+StaysClosed old new = IsFalse old.is_open → IsZeros new
 
 -- but for its store what is open is as it was: the tape, with what the file holds, the file's number, whether it is synced at barriers, and
 -- whether a sync was refused

@@ -1,5 +1,5 @@
 -- A store that is opened, and the file of a new one.
-use Rattle.std.specs.Prelude.{ℕ, ℤ, ◌≡◌, ◌==◌, ◌+◌, ◌*◌, ◌/◌, ◌++◌, ◌⊎◌, Bool, false, if◌then◌else◌, IsTrue, List, [], length, map, drop, slice_range, slice_get, Some, None}
+use Rattle.std.specs.Prelude.{ℕ, ℤ, ◌≡◌, ◌==◌, ◌+◌, ◌*◌, ◌/◌, ◌++◌, ◌⊎◌, Bool, false, if◌then◌else◌, IsTrue, nat_le, MatchBool, List, [], length, map, drop, slice_range, slice_get, Some, None}
 use Rattle.std.specs.List.{range_with_len}
 use Rattle.patch_model.specs.declared.blocks.TheConstants.{BLOCK}
 use Rattle.patch_model.specs.declared.refusals.Refusal.{Refusal}
@@ -14,7 +14,8 @@ use Rattle.patch_history.specs.declared.refusals.OpenFault.{OpenFault}
 use Rattle.patch_history.specs.Refusals.{open_cause}
 use Rattle.patch_store.specs.Making.{new_disk}
 use Rattle.patch_store.specs.Opening.{IsOpened, IsFaultOf}
-use Rattle.patch_c.specs.declared.answers.Answer.TheVariants.{Refused}
+use Rattle.patch_c.specs.declared.answers.Answer.{Answer}
+use Rattle.patch_c.specs.declared.answers.Answer.TheVariants.{Done, Refused, BufferTooSmall}
 use Rattle.patch_c.specs.declared.opened.Opened.{Opened}
 use Rattle.patch_c.specs.declared.unopened.Unopened.{Unopened}
 use Rattle.patch_c.specs.Answering.{number_of}
@@ -45,10 +46,16 @@ pub record IsFresh (file : ℤ) (barriers : Bool) (bytes : List ℕ) (opened : O
 abbrev pub starved : Unopened
 starved = record { refusal = bare kind.OutOfMemory }
 
--- the bytes aren't whole blocks, or not as many as a file may have
+-- the bytes are whole blocks, as many as a file may have
+pub record IsFile (bytes : List ℕ) : Type 0 where
+  pub count : ℕ
+  pub whole : length bytes ≡ count * BLOCK
+  pub fits : FitsFile count
+
+-- they are not, and that goes before all else
 pub record IsNoFile (bytes : List ℕ) (refusal : Refusal) : Type 0 where
   pub refusal_is : refusal ≡ bare kind.FileSize
-  pub none : (count : ℕ) → length bytes ≡ count * BLOCK → FitsFile count → ⊥
+  pub none : IsFile bytes → ⊥
 
 -- this is the first test that refuses the blocks, or there was no memory
 pub record IsTested (blocks : List (List ℕ)) (refusal : Refusal) : Type 0 where
@@ -57,7 +64,7 @@ pub record IsTested (blocks : List (List ℕ)) (refusal : Refusal) : Type 0 wher
   pub refusal_is : refusal ≡ open_cause fault
 
 abbrev pub IsWhyNot : (bytes : List ℕ) → Refusal → Type 0
-IsWhyNot bytes refusal = IsNoFile bytes refusal ⊎ IsTested (blocks_in bytes) refusal
+IsWhyNot bytes refusal = IsNoFile bytes refusal ⊎ (IsFile bytes × IsTested (blocks_in bytes) refusal)
 
 -- the number that goes with a refusal, or what stood there before
 abbrev pub number_told : Refusal → ℕ → ℕ
@@ -78,6 +85,15 @@ format_for extent_blocks = if extent_blocks == 0 then One else Two extent_blocks
 
 abbrev pub geometry_for : (index extents extent_blocks : ℕ) → Geometry
 geometry_for index extents extent_blocks = record { index = index; extents = extents; format = format_for extent_blocks }
+
+-- whether its first block fits a buffer
+abbrev pub answer_fitting : (into : List ℕ) → Answer
+answer_fitting into = if nat_le BLOCK (length into) then Done else BufferTooSmall
+
+-- That is answered where a disk may be divided so, unless there was no memory; and where it may not, that it may not.
+abbrev pub AnswersMaking : Geometry → (into : List ℕ) → Answer → Type 0
+AnswersMaking g into answer =
+    MatchBool (is_geometry g) ((answer ≡ answer_fitting into) ⊎ (answer ≡ Refused kind.OutOfMemory)) (answer ≡ Refused kind.Geometry)
 
 -- the first block of a new disk stands at the front of a buffer, and its blocks are counted
 pub record HasMade (g : Geometry) (into into_now : List ℕ) (count : ℕ) : Type 0 where

@@ -26,10 +26,11 @@ abbrev pub get_told : Option Refusal → Option (List ℕ) → (into : List ℕ)
 get_told None found into len = value_told found into len
 get_told (Some refusal) found into len = (number_of (answer.Refused refusal.kind), into, len)
 
--- the value is that which the commands of the history have left; or there was no memory
+-- the value is that which the commands of the history have left; or the key may be one, and there was no memory
 abbrev pub HasGot : History → (key : List ℕ) → (into : List ℕ) (len : ℕ) → (told : ℤ × List ℕ × ℕ) → Type 0
 HasGot h key into len told =
-    (told ≡ get_told (why_no_key key) (value_in (standing_of h).map.entries key) into len) ⊎ (told ≡ (pos 1, into, len))
+    (told ≡ get_told (why_no_key key) (value_in (standing_of h).map.entries key) into len)
+    ⊎ ((why_no_key key ≡ None) × (told ≡ (pos 1, into, len)))
 
 -- all keys with the lengths of their values, in the order of a check
 abbrev pub entries_of : History → List (List ℕ × ℕ)

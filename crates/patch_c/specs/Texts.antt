@@ -1,5 +1,64 @@
--- A text in a buffer.
-use Rattle.std.specs.Prelude.{ℕ, ◌+◌, ◌++◌, min, List, [], ◌∷◌, length, take, drop}
+-- What answers mean, in words, and a text in a buffer.
+use Rattle.std.specs.Ordering.{int_eq}
+use Rattle.std.specs.Prelude.{ℕ, ℤ, pos, negsuc, ◌+◌, ◌++◌, min, List, [], ◌∷◌, length, take, drop, find, codes, Some, None}
+use Rattle.patch_model.specs.declared.refusals.RefusalKind.{RefusalKind}
+use Rattle.patch_model.specs.declared.refusals.RefusalKind.TheVariants as kind
+use Rattle.patch_c.specs.declared.answers.Answer.TheVariants.{Done, Refused, BufferTooSmall, Absent, NoSync, BadWriter}
+use Rattle.patch_c.specs.declared.answers.TheConstants.{NOT_OPEN, IS_OPEN}
+use Rattle.patch_c.specs.Answering.{number_of}
+
+-- the number of a refusal
+abbrev pub refusal : RefusalKind → ℤ
+refusal why = number_of (Refused why)
+
+-- the file is that of another store, which C alone answers
+abbrev pub in_use : ℤ
+in_use = negsuc 5
+
+-- the numbers that are answered, each with what it means
+abbrev pub texts : List (ℤ × List ℕ)
+texts =
+    (number_of Done, codes "done")
+    ∷ (refusal kind.OutOfMemory, codes "out of memory")
+    ∷ (refusal kind.Disk, codes "the file can't be opened, made, read or written")
+    ∷ (refusal kind.FileSize, codes "the file has not as many blocks as a store")
+    ∷ (refusal kind.NumbersSpent, codes "all numbers of changes are spent: open it again")
+    ∷ (refusal kind.TooManyLive, codes "too many changes are in memory: sync")
+    ∷ (refusal kind.NoSuchGroup, codes "there is no such group")
+    ∷ (refusal kind.SameGroup, codes "a group can't go after itself")
+    ∷ (refusal kind.Started, codes "the group was engaged before")
+    ∷ (refusal kind.Sealed, codes "a group goes after this one")
+    ∷ (refusal kind.Engaged, codes "the group is engaged")
+    ∷ (refusal kind.NotEngaged, codes "the writer hasn't engaged the group")
+    ∷ (refusal kind.TooManyGroups, codes "too many groups were made")
+    ∷ (refusal kind.NoSuchExtent, codes "there is no such extent")
+    ∷ (refusal kind.GenerationSpent, codes "the extent was won back too often")
+    ∷ (refusal kind.KeyLength, codes "a key has 1 to 32 bytes")
+    ∷ (refusal kind.ValueLength, codes "the value is too long")
+    ∷ (refusal kind.NoKey, codes "the key has no value")
+    ∷ (refusal kind.IndexFull, codes "there are as many keys as there can be")
+    ∷ (refusal kind.NoSpace, codes "no extent has room")
+    ∷ (refusal kind.OpenExtent, codes "the extent is in use")
+    ∷ (refusal kind.EmptyExtent, codes "the extent is empty")
+    ∷ (refusal kind.Geometry, codes "no store is divided like this")
+    ∷ (refusal kind.BadSuper, codes "no store: its first block is wrong")
+    ∷ (refusal kind.BadPointer, codes "no store: a pointer of an extent is wrong")
+    ∷ (refusal kind.BadSlot, codes "no store: a slot is wrong")
+    ∷ (refusal kind.BadFrame, codes "no store: a slot names no value")
+    ∷ (refusal kind.DuplicateKey, codes "no store: two slots have one key")
+    ∷ (refusal kind.DeviceGaveUp, codes "the file refused a write")
+    ∷ (NOT_OPEN, codes "the store isn't open")
+    ∷ (IS_OPEN, codes "the store is open")
+    ∷ (number_of BufferTooSmall, codes "the buffer is too small")
+    ∷ (number_of Absent, codes "there is no such entry")
+    ∷ (in_use, codes "the file is in use")
+    ∷ (number_of NoSync, codes "not synced: close the store and open it again")
+    ∷ (number_of BadWriter, codes "there is no such writer")
+    ∷ []
+
+-- what an answer of this number means
+abbrev pub text_of : ℤ → List ℕ
+text_of answer = elim (find (λ text. int_eq text.0 answer) texts) [ Some text ↦ text.1 | None ↦ codes "unknown answer" ]
 
 -- so many bytes of the text, a zero byte, and what stood behind
 abbrev pub with_first : (count : ℕ) → (text into : List ℕ) → List ℕ

@@ -2,7 +2,7 @@
 ghost use Rattle.std.specs.Prelude.{ℕ, ◌≡◌, ◌↔◌, IsTrue, IsFalse, IfSome, IsNone};
 ghost use Rattle.patch_history.specs.Command.{Delete, Reclaim};
 ghost use Rattle.patch_c.specs.Answering.{number_of, writer_of as writer_for, Tells, KeepsIfRefused, KeepsUnlessDone};
-ghost use Rattle.patch_c.specs.Handle.{Between, KeepsRest};
+ghost use Rattle.patch_c.specs.Handle.{Between, KeepsRest, StaysClosed};
 
 use crate::answers::{Answer, NOT_OPEN, told};
 use crate::handle::Handle;
@@ -41,6 +41,7 @@ impl Opened {
 pub extern "C" fn fstch_delete(handle: &mut Handle, alloc: Global, writer: u32, key: &[u8]) -> i32
     ensures open { handle.new.is_open ≡ handle.old.is_open }
     ensures not_open { (result ≡ NOT_OPEN) ↔ IsFalse handle.old.is_open }
+    ensures closed { StaysClosed handle.old handle.new }
     ensures told { IfSome (writer_for writer) (λ no. Between handle.old handle.new (λ before after.
         Tells no (Delete key.now) result before.store after.store)) }
     ensures bad_writer { IsNone (writer_for writer) → IsTrue handle.old.is_open → result ≡ number_of Answer.BadWriter }
@@ -60,6 +61,7 @@ pub extern "C" fn fstch_delete(handle: &mut Handle, alloc: Global, writer: u32, 
 pub extern "C" fn fstch_reclaim(handle: &mut Handle, alloc: Global, extent: u32) -> i32
     ensures open { handle.new.is_open ≡ handle.old.is_open }
     ensures not_open { (result ≡ NOT_OPEN) ↔ IsFalse handle.old.is_open }
+    ensures closed { StaysClosed handle.old handle.new }
     ensures told { (writer : ℕ) → Between handle.old handle.new (λ before after.
         Tells writer (Reclaim extent) result before.store after.store) }
     ensures kept { Between handle.old handle.new (λ before after. KeepsIfRefused result before.store after.store) }

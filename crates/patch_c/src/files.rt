@@ -1,7 +1,8 @@
 //! Files: what a new one holds, and how the store of one is opened and closed. The program in C makes, opens and closes the files.
 ghost use Rattle.std.specs.Prelude.{◌≡◌, ◌≢◌, ◌↔◌, IsTrue, IsFalse, IfSome, false};
-ghost use Rattle.patch_c.specs.Handle.{IsZeros};
-ghost use Rattle.patch_c.specs.Opening.{IsFresh, TellsWhyNot, HasMade, geometry_for as geometry_of};
+ghost use Rattle.patch_c.specs.Answering.{IsOf};
+ghost use Rattle.patch_c.specs.Handle.{IsZeros, StaysClosed};
+ghost use Rattle.patch_c.specs.Opening.{IsFresh, TellsWhyNot, AnswersMaking, HasMade, geometry_for as geometry_of};
 
 use crate::answers::{DONE, IS_OPEN, NOT_OPEN};
 use crate::handle::Handle;
@@ -14,7 +15,8 @@ const VERSION: u32 = 200;
 /// What `fstch_core_file` answers where no store is open.
 const NO_FILE: i32 = -1;
 
-/// The first block of a file that holds an empty store, and how many blocks the file has. All others are zeros.
+/// The first block of a file that holds an empty store, and how many blocks the file has. All others are zeros. There is no memory before
+/// the buffer is too small.
 #[unsafe(no_mangle)]
 pub extern "C" fn fstch_core_make(
     alloc: Global,
@@ -24,6 +26,7 @@ pub extern "C" fn fstch_core_make(
     into: &mut [u8],
     blocks: &mut u32,
 ) -> i32
+    ensures answered { IsOf result (AnswersMaking (geometry_of index_blocks extents extent_blocks) into.old) }
     ensures made { result ≡ DONE → HasMade (geometry_of index_blocks extents extent_blocks) into.old into.new blocks.new }
     ensures refused { result ≢ DONE → (into.new ≡ into.old) × (blocks.new ≡ blocks.old) }
 {
@@ -71,6 +74,7 @@ pub extern "C" fn fstch_core_file(handle: &mut Handle, alloc: Global) -> i32
     ensures open { handle.new.is_open ≡ handle.old.is_open }
     ensures file { IfSome handle.old.sealed.opened (λ opened. result ≡ opened.file) }
     ensures none { IsFalse handle.old.is_open → result ≡ NO_FILE }
+    ensures closed { StaysClosed handle.old handle.new }
 {
     let Some(opened) = handle.take(alloc) else {
         return NO_FILE;
@@ -87,6 +91,7 @@ pub extern "C" fn fstch_core_barriers(handle: &mut Handle, alloc: Global) -> boo
     ensures open { handle.new.is_open ≡ handle.old.is_open }
     ensures barriers { IfSome handle.old.sealed.opened (λ opened. result ≡ opened.barriers) }
     ensures none { IsFalse handle.old.is_open → result ≡ false }
+    ensures closed { StaysClosed handle.old handle.new }
 {
     let Some(opened) = handle.take(alloc) else {
         return false;

@@ -2,7 +2,7 @@
 ghost use Rattle.std.specs.Prelude.{ℕ, ◌≡◌, ◌↔◌, IsTrue, IsFalse, IfSome, IsNone};
 ghost use Rattle.patch_history.specs.Command.{Group, Engage, Disengage, Depend, CloseGroup, Pending};
 ghost use Rattle.patch_c.specs.Answering.{number_of, engaging_writer as engaging, Tells, TellsOf, KeepsUnlessDone};
-ghost use Rattle.patch_c.specs.Handle.{Between, KeepsRest};
+ghost use Rattle.patch_c.specs.Handle.{Between, KeepsRest, StaysClosed};
 
 use crate::answers::{Answer, NOT_OPEN, told};
 use crate::handle::Handle;
@@ -96,6 +96,7 @@ fn number_of_group(group: GroupNo) -> u32
 pub extern "C" fn fstch_group(handle: &mut Handle, alloc: Global, group: &mut u32) -> i32
     ensures open { handle.new.is_open ≡ handle.old.is_open }
     ensures not_open { (result ≡ NOT_OPEN) ↔ IsFalse handle.old.is_open }
+    ensures closed { StaysClosed handle.old handle.new }
     ensures told { (writer : ℕ) → Between handle.old handle.new (λ before after.
         TellsOf writer Group result group.old group.new before.store after.store) }
     ensures kept { Between handle.old handle.new (λ before after. KeepsUnlessDone result before.store after.store) }
@@ -120,6 +121,7 @@ pub extern "C" fn fstch_group_engage(
 ) -> i32
     ensures open { handle.new.is_open ≡ handle.old.is_open }
     ensures not_open { (result ≡ NOT_OPEN) ↔ IsFalse handle.old.is_open }
+    ensures closed { StaysClosed handle.old handle.new }
     ensures told { IfSome (engaging writer) (λ no. Between handle.old handle.new (λ before after.
         Tells no (Engage group) result before.store after.store)) }
     ensures bad_writer { IsNone (engaging writer) → IsTrue handle.old.is_open → result ≡ number_of Answer.BadWriter }
@@ -144,6 +146,7 @@ pub extern "C" fn fstch_group_disengage(
 ) -> i32
     ensures open { handle.new.is_open ≡ handle.old.is_open }
     ensures not_open { (result ≡ NOT_OPEN) ↔ IsFalse handle.old.is_open }
+    ensures closed { StaysClosed handle.old handle.new }
     ensures told { IfSome (engaging writer) (λ no. Between handle.old handle.new (λ before after.
         Tells no (Disengage group) result before.store after.store)) }
     ensures bad_writer { IsNone (engaging writer) → IsTrue handle.old.is_open → result ≡ number_of Answer.BadWriter }
@@ -168,6 +171,7 @@ pub extern "C" fn fstch_group_depend(
 ) -> i32
     ensures open { handle.new.is_open ≡ handle.old.is_open }
     ensures not_open { (result ≡ NOT_OPEN) ↔ IsFalse handle.old.is_open }
+    ensures closed { StaysClosed handle.old handle.new }
     ensures told { (writer : ℕ) → Between handle.old handle.new (λ before after.
         Tells writer (Depend later earlier) result before.store after.store) }
     ensures kept { Between handle.old handle.new (λ before after. KeepsUnlessDone result before.store after.store) }
@@ -186,6 +190,7 @@ pub extern "C" fn fstch_group_depend(
 pub extern "C" fn fstch_group_close(handle: &mut Handle, alloc: Global, group: u32) -> i32
     ensures open { handle.new.is_open ≡ handle.old.is_open }
     ensures not_open { (result ≡ NOT_OPEN) ↔ IsFalse handle.old.is_open }
+    ensures closed { StaysClosed handle.old handle.new }
     ensures told { (writer : ℕ) → Between handle.old handle.new (λ before after.
         Tells writer (CloseGroup group) result before.store after.store) }
     ensures kept { Between handle.old handle.new (λ before after. KeepsUnlessDone result before.store after.store) }
@@ -209,6 +214,7 @@ pub extern "C" fn fstch_group_pending(
 ) -> i32
     ensures same { handle.new.sealed.opened ≡ handle.old.sealed.opened }
     ensures not_open { (result ≡ NOT_OPEN) ↔ IsFalse handle.old.is_open }
+    ensures closed { StaysClosed handle.old handle.new }
     ensures told { (writer : ℕ) → IfSome handle.old.sealed.opened (λ opened.
         TellsOf writer (Pending group) result changes.old changes.new opened.store opened.store) }
     ensures refused { IsFalse handle.old.is_open → changes.new ≡ changes.old }

@@ -3,6 +3,7 @@ ghost use Rattle.std.specs.Prelude.{◌≡◌, ◌↔◌, IsFalse, IfSome};
 ghost use Rattle.patch_history.specs.History.{History};
 ghost use Rattle.patch_store.specs.Meaning.{Represents};
 ghost use Rattle.patch_c.specs.Answering.{number_of};
+ghost use Rattle.patch_c.specs.Handle.{StaysClosed};
 ghost use Rattle.patch_c.specs.Reading.{HasListed, HasCounted};
 
 use crate::answers::{Answer, NOT_OPEN};
@@ -65,6 +66,7 @@ pub extern "C" fn fstch_check(
 ) -> i32
     ensures same { handle.new.sealed.opened ≡ handle.old.sealed.opened }
     ensures not_open { (result ≡ NOT_OPEN) ↔ IsFalse handle.old.is_open }
+    ensures closed { StaysClosed handle.old handle.new }
     ensures counted { IfSome handle.old.sealed.opened (λ opened. (h : History) → Represents opened.store h →
         HasCounted h entries.old extents.old (result, entries.new, extents.new)) }
     ensures refused { IsFalse handle.old.is_open → (entries.new ≡ entries.old) × (extents.new ≡ extents.old) }
@@ -89,6 +91,7 @@ pub extern "C" fn fstch_entry(
 ) -> i32
     ensures same { handle.new.sealed.opened ≡ handle.old.sealed.opened }
     ensures not_open { (result ≡ NOT_OPEN) ↔ IsFalse handle.old.is_open }
+    ensures closed { StaysClosed handle.old handle.new }
     ensures listed { IfSome handle.old.sealed.opened (λ opened. (h : History) → Represents opened.store h →
         HasListed h number key.old key_len.old value_len.old (result, key.new, key_len.new, value_len.new)) }
     ensures refused { IsFalse handle.old.is_open

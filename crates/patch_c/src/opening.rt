@@ -2,7 +2,7 @@
 ghost use Rattle.std.specs.Prelude.{◌≡◌, ◌≢◌, [], length, IfOk, IfErr};
 ghost use Rattle.patch_device.specs.Blocks.{FitsFile};
 ghost use Rattle.patch_store.specs.Opening.{IsOpened};
-ghost use Rattle.patch_c.specs.Opening.{IsFresh, IsTested, IsWhyNot, HasMade, geometry_for};
+ghost use Rattle.patch_c.specs.Opening.{IsFresh, IsTested, IsWhyNot, AnswersMaking, HasMade, geometry_for};
 
 use crate::answers::Answer;
 use crate::copying::copy_out;
@@ -83,6 +83,7 @@ pub fn geometry_for(index: u32, extents: u32, extent_blocks: u32) -> Geometry
 /// Copies the first block of a new disk to the front of a buffer, and counts the blocks. The others are zeros.
 #[tactic(auto, using(crate::proofs::Made::made_so, crate::proofs::Made::kept_so))]
 pub fn make_first(alloc: Global, geometry: Geometry, into: &mut [u8], count: &mut u32) -> Answer
+    ensures answered { AnswersMaking geometry into.old result }
     ensures made { result ≡ Answer.Done → HasMade geometry into.old into.new count.new }
     ensures refused { result ≢ Answer.Done → (into.new ≡ into.old) × (count.new ≡ count.old) }
 {

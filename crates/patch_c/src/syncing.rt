@@ -6,7 +6,7 @@ ghost use Rattle.patch_store.specs.Flushing.{StandsStill};
 ghost use Rattle.patch_store.specs.Meaning.{Represents};
 ghost use Rattle.patch_disks.specs.Running.{StandsOn};
 ghost use Rattle.patch_c.specs.Answering.{number_of, IsOf};
-ghost use Rattle.patch_c.specs.Handle.{Between};
+ghost use Rattle.patch_c.specs.Handle.{Between, StaysClosed};
 ghost use Rattle.patch_c.specs.Saving.{IsSynced, HasSaved, HasWrittenOn, LandsSafely, HasCause, LastsOnceDone, IsSettled};
 ghost use Rattle.patch_c.specs.Tape.{file_of, contents_of, block_count_of, fault_count_of, events_of, event_told};
 
@@ -100,6 +100,7 @@ impl Opened {
 pub extern "C" fn fstch_core_sync(handle: &mut Handle, alloc: Global) -> i32
     ensures open { handle.new.is_open ≡ handle.old.is_open }
     ensures not_open { (result ≡ NOT_OPEN) ↔ IsFalse handle.old.is_open }
+    ensures closed { StaysClosed handle.old handle.new }
     ensures saved { Between handle.old handle.new (λ before after. (h : History) → StandsOn before.store h (contents_of before.device)
         → result ≡ DONE → HasSaved h after.store (contents_of after.device)) }
     ensures lands { Between handle.old handle.new (λ before after. IsFalse before.is_spent → events_of before.device ≡ []
@@ -142,6 +143,7 @@ pub extern "C" fn fstch_core_write(
 ) -> i32
     ensures same { handle.new.sealed.opened ≡ handle.old.sealed.opened }
     ensures not_open { (result ≡ NOT_OPEN) ↔ IsFalse handle.old.is_open }
+    ensures closed { StaysClosed handle.old handle.new }
     ensures told { IfSome handle.old.sealed.opened (λ opened.
         (result, is_barrier.new, block.new, into.new)
         ≡ event_told (slice_get (events_of opened.device) number) is_barrier.old block.old into.old) }
@@ -162,6 +164,7 @@ pub extern "C" fn fstch_core_synced(handle: &mut Handle, alloc: Global, is_done:
     ensures open { handle.new.is_open ≡ handle.old.is_open }
     ensures done { (result ≡ DONE) ↔ IsTrue handle.old.is_open }
     ensures not_open { (result ≡ NOT_OPEN) ↔ IsFalse handle.old.is_open }
+    ensures closed { StaysClosed handle.old handle.new }
     ensures settled { Between handle.old handle.new (IsSettled is_done) }
 {
     let Some(mut opened) = handle.take(alloc) else {

@@ -381,9 +381,15 @@ fn groups_are_ordered(rt: HostRuntime) {
     walk_on(&rt, rt.alloc(), (1, 4, 0), &GROUPS);
 }
 
-const MISUSE: [Move; 29] = [
+const MISUSE: [Move; 35] = [
     (Call::Put(0, b"a", b"b"), (NOT_OPEN, KEPT, KEPT)),
     (Call::Get(b"a", 4), (NOT_OPEN, KEPT, KEPT)),
+    (Call::Shows(b"....."), (1, KEPT, KEPT)),
+    (Call::Entry(0, 4), (NOT_OPEN, KEPT, KEPT)),
+    (Call::Shows(b"....."), (1, KEPT, KEPT)),
+    (Call::Check, (NOT_OPEN, KEPT, KEPT)),
+    (Call::Group, (NOT_OPEN, KEPT, KEPT)),
+    (Call::Pending(0), (NOT_OPEN, KEPT, KEPT)),
     (Call::Sync, (NOT_OPEN, KEPT, KEPT)),
     (Call::Event(0, 4), (NOT_OPEN, KEPT, 0)),
     (Call::Synced(true), (NOT_OPEN, KEPT, KEPT)),
@@ -446,8 +452,10 @@ fn a_store_is_spent_where_its_writes_are_lost(rt: HostRuntime) {
 }
 
 // How long a text is, and what a buffer of so much room has then.
-const TEXTS: [(i32, usize, usize, &[u8]); 3] = [
+const TEXTS: [(i32, usize, usize, &[u8]); 5] = [
     (0, 8, 4, b"done\0..."),
+    (1, 8, 13, b"out of \0"),
+    (-6, 8, 18, b"the fil\0"),
     (-5, 8, 22, b"there i\0"),
     (99, 0, 14, b"...."),
 ];

@@ -1,10 +1,11 @@
 //! What answers mean, in words.
 ghost use Rattle.std.specs.Prelude.{◌≡◌, ◌<◌, length};
-ghost use Rattle.patch_c.specs.Texts.{with_text};
+ghost use Rattle.patch_c.specs.Texts.{text_of, with_text};
 
 /// What an answer of this number means. It is ASCII, and has no zero byte.
 fn text_of(answer: i32) -> &'static str
-    ensures { length result.now < 64 }
+    ensures text { result.now ≡ text_of answer }
+    ensures short { length result.now < 64 }
 {
     match answer {
         0 => "done",
@@ -62,7 +63,9 @@ fn copy_text(text: &[u8], into: &mut [u8])
 /// Copies the text of an answer, and answers how long it is.
 #[unsafe(no_mangle)]
 pub extern "C" fn fstch_error_text(answer: i32, into: &mut [u8]) -> usize
-    ensures { result < 64 }
+    ensures length { result ≡ length (text_of answer) }
+    ensures text { into.new ≡ with_text (text_of answer) into.old }
+    ensures short { result < 64 }
 {
     let text = text_of(answer).as_bytes();
     copy_text(text, into);

@@ -4,7 +4,7 @@ ghost use Rattle.patch_history.specs.Command.{Put};
 ghost use Rattle.patch_history.specs.History.{History};
 ghost use Rattle.patch_store.specs.Meaning.{Represents};
 ghost use Rattle.patch_c.specs.Answering.{number_of, writer_of as writer_for, Tells, KeepsIfRefused};
-ghost use Rattle.patch_c.specs.Handle.{Between, KeepsRest};
+ghost use Rattle.patch_c.specs.Handle.{Between, KeepsRest, StaysClosed};
 ghost use Rattle.patch_c.specs.Reading.{HasGot};
 
 use crate::answers::{Answer, NOT_OPEN, told};
@@ -54,6 +54,7 @@ pub extern "C" fn fstch_put(
 ) -> i32
     ensures open { handle.new.is_open ≡ handle.old.is_open }
     ensures not_open { (result ≡ NOT_OPEN) ↔ IsFalse handle.old.is_open }
+    ensures closed { StaysClosed handle.old handle.new }
     ensures told { IfSome (writer_for writer) (λ no. Between handle.old handle.new (λ before after.
         Tells no (Put key.now value.now) result before.store after.store)) }
     ensures bad_writer { IsNone (writer_for writer) → IsTrue handle.old.is_open → result ≡ number_of Answer.BadWriter }
@@ -79,6 +80,7 @@ pub extern "C" fn fstch_get(
 ) -> i32
     ensures same { handle.new.sealed.opened ≡ handle.old.sealed.opened }
     ensures not_open { (result ≡ NOT_OPEN) ↔ IsFalse handle.old.is_open }
+    ensures closed { StaysClosed handle.old handle.new }
     ensures got { IfSome handle.old.sealed.opened (λ opened. (h : History) → Represents opened.store h →
         HasGot h key.now into.old len.old (result, into.new, len.new)) }
     ensures refused { IsFalse handle.old.is_open → (into.new ≡ into.old) × (len.new ≡ len.old) }

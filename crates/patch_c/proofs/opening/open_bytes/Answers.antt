@@ -1,4 +1,4 @@
-use Rattle.std.proofs.Common.{◌∙◌}
+use Rattle.std.proofs.Common.{◌∙◌, length}
 use Rattle.patch_c.proofs.Refused.{starved_why}
 use Rattle.patch_c.proofs.Staying.{fresh_so, same_so, empty_holds}
 use Rattle.patch_c.proofs.opening.open_bytes.Goals as goal
@@ -11,4 +11,6 @@ invariant_of-new c =
     }
 
 pub returns-in_err-new-clause-why : goal.returns-in_err-new-clause-why
-returns-in_err-new-clause-why c = starved_why c.args.bytes.now c.from_residual-in_err-new.result c.from_residual-in_err-new.ensures.1
+returns-in_err-new-clause-why c =
+    starved_why c.args.bytes.now (length c.in_ok-blocks.blocks.items) c.from_residual-in_err-new.result c.from_residual-in_err-new.ensures.1
+    c.in_ok-blocks.ensures.whole c.in_ok-blocks.ensures.fits
