@@ -4,6 +4,8 @@
 #[cfg(test)]
 mod laws;
 #[cfg(test)]
+mod readers;
+#[cfg(test)]
 mod rows;
 #[cfg(test)]
 mod rows_of_groups;

@@ -19,16 +19,16 @@ use std::process::Abort;
 use std::test::Fail;
 
 // Ends the test, telling both, unless what came is what is wanted. A call takes the prover less than `assert_eq!` where it stands.
-fn expect_eq<T: PartialEq + Debug>(rt: &impl Abort, got: &T, want: &T) {
+pub(crate) fn expect_eq<T: PartialEq + Debug>(rt: &impl Abort, got: &T, want: &T) {
     assert_eq!(rt; *got, *want);
 }
 
-const SCRIPT: &str = r#"{"op":"patch","block":0,"start":0,"hex":"a1a2a3a4"}
+pub(crate) const SCRIPT: &str = r#"{"op":"patch","block":0,"start":0,"hex":"a1a2a3a4"}
 
 {"op":"patch","block":0,"start":2,"hex":"b1b2b3b4"}
 {"op":"view","block":0,"take":[1],"start":0,"len":6}"#;
 
-const ANSWERS: &str = "patch 0\npatch 1\nwithout a1a2a3a40000 cached a1a2b1b2b3b4\n";
+pub(crate) const ANSWERS: &str = "patch 0\npatch 1\nwithout a1a2a3a40000 cached a1a2b1b2b3b4\n";
 
 /// How the replay of a script ends, and what it writes.
 fn replayed(alloc: Global, script: &[u8], blocks: u32) -> (Status, Vec<u8>)
@@ -197,7 +197,7 @@ fn as_many_patches_as_may_be_live(rt: HostRuntime) -> Result<(), Fail> {
 
 /// How a replay ended, and what its streams have noted.
 #[derive(Clone, Copy, Debug, PartialEq, Eq)]
-struct End {
+pub(crate) struct End {
     status: Status,
     code: u8,
     read_failed: bool,
@@ -207,7 +207,7 @@ struct End {
 }
 
 /// The end of a replay that could read its script in so many reads, and write all answers.
-fn done(reads: u32) -> End {
+pub(crate) fn done(reads: u32) -> End {
     End {
         status: Status::Done,
         code: 0,
@@ -219,7 +219,11 @@ fn done(reads: u32) -> End {
 }
 
 /// Replays on the streams.
-fn end_of<R: Read, W: Output>(alloc: Global, reader: &mut Source<R>, writer: &mut Sink<W>) -> End {
+pub(crate) fn end_of<R: Read, W: Output>(
+    alloc: Global,
+    reader: &mut Source<R>,
+    writer: &mut Sink<W>,
+) -> End {
     let status = replay(alloc, reader, writer, DEFAULT_BLOCKS);
     End {
         status,
@@ -240,7 +244,7 @@ fn expect_from<R: Read + Drop>(rt: &impl Abort, alloc: Global, reader: R, end: E
 }
 
 /// The end of a replay that gave up its reader behind so many reads, of which one has failed or none.
-fn unread(reads: u32, read_failed: bool) -> End {
+pub(crate) fn unread(reads: u32, read_failed: bool) -> End {
     End {
         status: Status::Failed,
         code: 4,

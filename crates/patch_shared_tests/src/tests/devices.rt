@@ -34,12 +34,14 @@ enum Way {
     Forgotten,
 }
 
-// So many calls of this kind go well, and then so many in a row go wrong.
+// So many calls of this kind go well, and then so many in a row go wrong. Where it is so again, one goes well between, and then as many go
+// wrong once more.
 #[derive(Clone, Copy)]
 pub(super) struct Plan {
     kind: Kind,
     well: u64,
     wrong: u64,
+    again: Option<u64>,
     way: Way,
 }
 
@@ -48,6 +50,7 @@ pub(super) const GOOD: Plan = Plan {
     kind: Kind::All,
     well: 0,
     wrong: 0,
+    again: None,
     way: Way::Refused,
 };
 
@@ -90,6 +93,9 @@ impl<'a> Odd<'a> {
         }
         let wrong = is_meant && self.plan.wrong > 0;
         self.plan.wrong -= wrong as u64;
+        if is_meant && !wrong {
+            self.plan.wrong = self.plan.again.take().unwrap_or(0);
+        }
         wrong
     }
 }
@@ -210,7 +216,16 @@ fn first(kind: Kind, wrong: u64, way: Way) -> Plan {
         kind,
         well: 0,
         wrong,
+        again: None,
         way,
+    }
+}
+
+// The first two calls of this kind are refused so many times each, and done then.
+fn first_two(kind: Kind, times: u64) -> Plan {
+    Plan {
+        again: Some(times),
+        ..first(kind, times, Way::Refused)
     }
 }
 
@@ -245,6 +260,7 @@ fn each_call_may_fail_once(rt: HostRuntime) {
                 kind: Kind::All,
                 well,
                 wrong: 1,
+                again: None,
                 way,
             };
             expect_borne(&rt, rt.alloc(), plan, (well < CALLS) as u64);
@@ -330,4 +346,24 @@ fn stubborn(rt: &impl Abort, alloc: Global, times: u64) -> StubbornDevice {
 fn seven_faults_of_each_of_two_writes_are_borne(rt: HostRuntime) {
     expect_end(&rt, rt.alloc(), stubborn(&rt, rt.alloc(), TRIES - 1), false);
     expect_end(&rt, rt.alloc(), stubborn(&rt, rt.alloc(), TRIES), true);
+}
+
+// The first two reads are of the first two blocks. A read that is refused once too often ends the run, be it the first or the second.
+#[test]
+fn seven_faults_of_each_of_two_calls_are_borne(rt: HostRuntime) {
+    for kind in [Kind::Reads, Kind::Writes] {
+        expect_borne(&rt, rt.alloc(), first_two(kind, TRIES - 1), 2 * (TRIES - 1));
+    }
+    for (kind, block, calls) in [
+        (Kind::Writes, 2, 1 + TRIES + TRIES - 1),
+        (Kind::Reads, 1, WRITES + 1 + TRIES + TRIES - 1),
+    ] {
+        let worse = Plan {
+            again: Some(TRIES),
+            ..first_two(kind, TRIES - 1)
+        };
+        let cause = Cause::DeviceGaveUp(BlockNo(block));
+        let left = Some((calls, TRIES + TRIES - 1));
+        expect_fault(&rt, rt.alloc(), worse, cause, left);
+    }
 }
