@@ -4,6 +4,7 @@ use patch_program::{Errors, LockedFiles, Notes, run, words};
 use std::alloc::{AllocError, Global};
 use std::env::{Env, FillError};
 use std::fs::{OpenFile, OpenOptions};
+use std::io::Write;
 use std::os::unix::fs::FileExt;
 use std::process::Abort;
 use std::rt::Files;
@@ -320,6 +321,118 @@ fn a_file_in_use_is_refused(rt: HostRuntime) {
     drop(held);
     expect_each(&rt, &files, rt.alloc(), &LET_GO);
     fs::remove_file(&rt, path).expect(&rt, "a file that is there");
+}
+
+const TICKED: &str = "patch_ticked_disk";
+
+/// A writer that takes so many bytes.
+#[derive(Drop)]
+struct Narrow {
+    left: usize,
+}
+
+impl Write for Narrow {
+    fn write(&mut self, buf: &[u8]) -> io::Result<usize> {
+        if self.left < buf.len() {
+            return Err(io::Error::from(io::ErrorKind::StorageFull));
+        }
+        self.left = self.left.saturating_sub(buf.len());
+        Ok(buf.len())
+    }
+
+    fn flush(&mut self) -> io::Result<()> {
+        Ok(())
+    }
+}
+
+/// Words that run a script of so many readings of no key, whether somebody reads standard error at a terminal, how many bytes of answers are
+/// taken, how the run ends, and all that is said on standard error.
+struct Ticking(&'static str, usize, bool, usize, u8, &'static str);
+
+const RUN: &str = "fstch run patch_ticked_disk";
+
+const ON_THREADS: &str = "fstch run patch_ticked_disk --writers 2";
+
+const TWICE_SHOWN: &str = "\rfstch: line 1000 of 2500\rfstch: line 2000 of 2500\r\x1b[K";
+
+static TICKINGS: [Ticking; 7] = [
+    Ticking(RUN, 999, true, usize::MAX, 0, ""),
+    Ticking(
+        RUN,
+        1_000,
+        true,
+        usize::MAX,
+        0,
+        "\rfstch: line 1000 of 1000\r\x1b[K",
+    ),
+    Ticking(RUN, 2_500, true, usize::MAX, 0, TWICE_SHOWN),
+    // At no terminal nothing is shown.
+    Ticking(RUN, 1_000, false, usize::MAX, 0, ""),
+    Ticking(RUN, 2_500, false, usize::MAX, 0, ""),
+    // Of writers on threads nothing is shown.
+    Ticking(ON_THREADS, 2_500, true, usize::MAX, 0, ""),
+    // A run that stops clears the line.
+    Ticking(RUN, 2_500, true, 0, 4, "\rfstch: line 1000 of 2500\r\x1b[K"),
+];
+
+fn script_of(rt: &impl Abort, alloc: Global, lines: usize) -> String {
+    let mut script = String::new(alloc);
+    for _ in 0..lines {
+        script
+            .push_str("{\"op\":\"get\",\"key\":\"k\"}\n")
+            .expect(rt, "memory for a line");
+    }
+    script
+}
+
+fn expect_ticking<F: FileExt + OpenFile + Drop + Send, H: Files<File = F> + Threads + Wait + Sync>(
+    rt: &impl Abort,
+    files: &H,
+    alloc: Global,
+    row: &Ticking,
+) {
+    let Ticking(name, lines, is_terminal, bytes, status, said) = *row;
+    let script = script_of(rt, alloc, lines);
+    let mut errors = Vec::new(alloc);
+    let mut stream = Errors {
+        stream: &mut errors,
+        is_terminal,
+    };
+    let mut out = Narrow { left: bytes };
+    let words = Ok(words_of(rt, alloc, name));
+    let ended = run(
+        files,
+        alloc,
+        words,
+        script.as_bytes(),
+        &mut out,
+        &mut stream,
+    );
+    let told = std::str::from_utf8(&errors).unwrap_or("no text");
+    expect_eq(
+        rt,
+        &(name, lines, is_terminal, ended, told),
+        &(name, lines, is_terminal, status, said),
+    );
+    drop(errors);
+}
+
+// A buffer of answers is full behind line 1,638, where a run ends whose answers aren't taken.
+#[test]
+fn how_far_a_run_is_stands_at_a_terminal_alone(rt: HostRuntime) {
+    let _old = fs::remove_file(&rt, TICKED);
+    let made = Row(
+        "fstch make patch_ticked_disk --index 1 --extents 2",
+        "",
+        0,
+        "made 35\n",
+        "",
+    );
+    expect_each(&rt, &rt, rt.alloc(), &[made]);
+    for row in &TICKINGS {
+        expect_ticking(&rt, &rt, rt.alloc(), row);
+    }
+    fs::remove_file(&rt, TICKED).expect(&rt, "a file that is there");
 }
 
 /// A command line whose second word is one byte that is no text.

@@ -13,10 +13,14 @@ mod crashes;
 mod damages;
 mod faults;
 mod files;
+mod making;
 mod rows;
 mod scripts;
+mod served;
+mod stopped;
 mod syncs;
 mod tickers;
+mod weak;
 mod writers;
 
 use files::{Deed, Turn};

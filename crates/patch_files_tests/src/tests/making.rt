@@ -1,0 +1,214 @@
+//! Files that can't be finished: what is left of each.
+use super::files::{Deed as FileDeed, MADE, follow};
+use super::*;
+use patch_files::make_file;
+use std::alloc::Allocator;
+use std::fs::{File, Metadata, OpenFile, OpenOptions};
+use std::io::{ErrorKind, Read, Seek, SeekFrom, Write};
+use std::os::unix::fs::FileExt;
+use std::rt::Files;
+use std::sync::atomic::{AtomicU64, Ordering};
+use std::{fs, io};
+
+/// Counts calls, of which one fails, by an error of this kind.
+#[derive(Drop)]
+struct Calls {
+    left: AtomicU64,
+    kind: ErrorKind,
+}
+
+impl Calls {
+    fn new(well: u64, kind: ErrorKind) -> Calls {
+        Calls {
+            left: AtomicU64::new(well),
+            kind,
+        }
+    }
+
+    fn call(&self) -> io::Result<()> {
+        let left = self.left.load(Ordering::SeqCst);
+        self.left.store(left.wrapping_sub(1), Ordering::SeqCst);
+        if left == 0 {
+            return Err(io::Error::from(self.kind));
+        }
+        Ok(())
+    }
+}
+
+/// The system's files, of which an open, a write or a sync fails.
+#[derive(Drop)]
+struct WeakFiles<'a, R> {
+    files: &'a R,
+    calls: &'a Calls,
+}
+
+/// A file of [`WeakFiles`].
+#[derive(Drop)]
+struct WeakFile<'a> {
+    file: File,
+    calls: &'a Calls,
+}
+
+impl FileExt for WeakFile<'_> {
+    fn read_at(&self, buf: &mut [u8], offset: u64) -> io::Result<usize> {
+        self.file.read_at(buf, offset)
+    }
+
+    fn write_at(&self, buf: &[u8], offset: u64) -> io::Result<usize> {
+        self.calls.call()?;
+        self.file.write_at(buf, offset)
+    }
+}
+
+impl Read for WeakFile<'_> {
+    fn read(&mut self, buf: &mut [u8]) -> io::Result<usize> {
+        self.file.read(buf)
+    }
+}
+
+impl Write for WeakFile<'_> {
+    fn write(&mut self, buf: &[u8]) -> io::Result<usize> {
+        self.calls.call()?;
+        self.file.write(buf)
+    }
+
+    fn flush(&mut self) -> io::Result<()> {
+        self.file.flush()
+    }
+}
+
+impl Seek for WeakFile<'_> {
+    fn seek(&mut self, to: SeekFrom) -> io::Result<u64> {
+        self.file.seek(to)
+    }
+}
+
+impl OpenFile for WeakFile<'_> {
+    fn metadata(&self) -> io::Result<Metadata> {
+        self.file.metadata()
+    }
+
+    fn set_len(&self, size: u64) -> io::Result<()> {
+        self.calls.call()?;
+        self.file.set_len(size)
+    }
+
+    fn sync_all(&self) -> io::Result<()> {
+        self.calls.call()?;
+        self.file.sync_all()
+    }
+
+    fn sync_data(&self) -> io::Result<()> {
+        self.calls.call()?;
+        self.file.sync_data()
+    }
+}
+
+impl<'a, R: Files<File = File>> Files for WeakFiles<'a, R> {
+    type File = WeakFile<'a>;
+
+    type Dir = R::Dir;
+
+    fn open_file(&self, how: &OpenOptions, path: &str) -> io::Result<WeakFile<'a>> {
+        self.calls.call()?;
+        Ok(WeakFile {
+            file: self.files.open_file(how, path)?,
+            calls: self.calls,
+        })
+    }
+
+    fn open_dir(&self, path: &str) -> io::Result<R::Dir> {
+        self.files.open_dir(path)
+    }
+
+    fn metadata(&self, path: &str) -> io::Result<Metadata> {
+        self.files.metadata(path)
+    }
+
+    fn symlink_metadata(&self, path: &str) -> io::Result<Metadata> {
+        self.files.symlink_metadata(path)
+    }
+
+    fn copy(&self, from: &str, to: &str) -> io::Result<u64> {
+        self.files.copy(from, to)
+    }
+
+    fn rename(&self, from: &str, to: &str) -> io::Result<()> {
+        self.files.rename(from, to)
+    }
+
+    fn remove_file(&self, path: &str) -> io::Result<()> {
+        self.files.remove_file(path)
+    }
+
+    fn create_dir(&self, path: &str) -> io::Result<()> {
+        self.files.create_dir(path)
+    }
+
+    fn remove_dir(&self, path: &str) -> io::Result<()> {
+        self.files.remove_dir(path)
+    }
+
+    fn remove_dir_all<B: Allocator>(&self, alloc: B, path: &str) -> io::Result<()> {
+        self.files.remove_dir_all(alloc, path)
+    }
+}
+
+const PATH: &str = "patch_files_unfinished";
+
+// A file is opened, 35 blocks of zeros are written and synced, the superblock is written and synced, and the directory is opened and synced.
+const CALLS: u64 = 41;
+
+// The make whose call behind so many fails by an error of this kind ends so.
+fn expect_make(rt: &impl Abort, files: &HostRuntime, well: u64, kind: ErrorKind, end: End) {
+    let calls = Calls::new(well, kind);
+    let weak = WeakFiles {
+        files,
+        calls: &calls,
+    };
+    let mut out = Sink::new(Vec::new(files.alloc()));
+    let status = make_file(&weak, files.alloc(), &mut out, PATH, SMALL);
+    expect_end(rt, status, out.into_inner().as_slice(), end);
+    let is_there = fs::metadata(files, PATH).is_ok();
+    expect_eq(rt, &(well, is_there), &(well, end.1 == 0));
+}
+
+// Where the last call but one is invalid, the system can't open a directory; where the last one is, it can't sync one.
+#[test]
+fn a_file_that_can_not_be_finished_is_removed(rt: HostRuntime) {
+    let _old = fs::remove_file(&rt, PATH);
+    for well in 0..CALLS {
+        expect_make(
+            &rt,
+            &rt,
+            well,
+            ErrorKind::StorageFull,
+            failed("fault Disk\n"),
+        );
+    }
+    expect_make(
+        &rt,
+        &rt,
+        CALLS - 2,
+        ErrorKind::InvalidInput,
+        failed("fault Disk\n"),
+    );
+    for well in [CALLS - 1, CALLS] {
+        expect_make(&rt, &rt, well, ErrorKind::InvalidInput, MADE);
+        follow(&rt, rt.alloc(), PATH, &[(FileDeed::Check, EMPTY_STORE)]);
+        fs::remove_file(&rt, PATH).expect(&rt, "a file that is there");
+    }
+}
+
+#[test]
+fn what_is_there_is_left_as_it_was(rt: HostRuntime) {
+    fs::write(&rt, PATH_OF_ANOTHER, b"another's").expect(&rt, "a file that is written");
+    let turns = [(FileDeed::Make(SMALL), failed("fault Disk\n"))];
+    follow(&rt, rt.alloc(), PATH_OF_ANOTHER, &turns);
+    let left = fs::read(&rt, PATH_OF_ANOTHER).expect(&rt, "a file that is read");
+    expect_eq(&rt, &left.as_slice(), &b"another's".as_slice());
+    drop(left);
+    fs::remove_file(&rt, PATH_OF_ANOTHER).expect(&rt, "a file that is there");
+}
+
+const PATH_OF_ANOTHER: &str = "patch_files_another";
