@@ -1,5 +1,6 @@
 //! Files that can't be finished: what is left of each.
-use super::files::{Deed as FileDeed, MADE, follow};
+use super::files::{MADE, follow};
+use super::weak::{ALL, WeakWriter, Well};
 use super::*;
 use patch_files::make_file;
 use std::alloc::Allocator;
@@ -156,6 +157,10 @@ impl<'a, R: Files<File = File>> Files for WeakFiles<'a, R> {
 
 const PATH: &str = "patch_files_unfinished";
 
+const PATH_OF_FINISHED: &str = "patch_files_finished";
+
+const PATH_OF_ANOTHER: &str = "patch_files_another";
+
 // A file is opened, 35 blocks of zeros are written and synced, the superblock is written and synced, and the directory is opened and synced.
 const CALLS: u64 = 41;
 
@@ -173,7 +178,7 @@ fn expect_make(rt: &impl Abort, files: &HostRuntime, well: u64, kind: ErrorKind,
     expect_eq(rt, &(well, is_there), &(well, end.1 == 0));
 }
 
-// Where the last call but one is invalid, the system can't open a directory; where the last one is, it can't sync one.
+// A system that can't sync a directory says of that call alone that it is invalid: then the file is made.
 #[test]
 fn a_file_that_can_not_be_finished_is_removed(rt: HostRuntime) {
     let _old = fs::remove_file(&rt, PATH);
@@ -195,20 +200,30 @@ fn a_file_that_can_not_be_finished_is_removed(rt: HostRuntime) {
     );
     for well in [CALLS - 1, CALLS] {
         expect_make(&rt, &rt, well, ErrorKind::InvalidInput, MADE);
-        follow(&rt, rt.alloc(), PATH, &[(FileDeed::Check, EMPTY_STORE)]);
+        follow(&rt, rt.alloc(), PATH, &[(Deed::Check, EMPTY_STORE)]);
         fs::remove_file(&rt, PATH).expect(&rt, "a file that is there");
     }
+}
+
+// The line that tells of it isn't taken.
+#[test]
+fn a_file_that_is_finished_stays(rt: HostRuntime) {
+    let _old = fs::remove_file(&rt, PATH_OF_FINISHED);
+    let mut out = Sink::new(WeakWriter::new(rt.alloc(), Well { texts: 0, ..ALL }));
+    let status = make_file(&rt, rt.alloc(), &mut out, PATH_OF_FINISHED, SMALL);
+    expect_end(&rt, status, out.into_inner().taken.as_slice(), failed(""));
+    let turns = [(Deed::Check, EMPTY_STORE)];
+    follow(&rt, rt.alloc(), PATH_OF_FINISHED, &turns);
+    fs::remove_file(&rt, PATH_OF_FINISHED).expect(&rt, "a file that is there");
 }
 
 #[test]
 fn what_is_there_is_left_as_it_was(rt: HostRuntime) {
     fs::write(&rt, PATH_OF_ANOTHER, b"another's").expect(&rt, "a file that is written");
-    let turns = [(FileDeed::Make(SMALL), failed("fault Disk\n"))];
+    let turns = [(Deed::Make(SMALL), failed("fault Disk\n"))];
     follow(&rt, rt.alloc(), PATH_OF_ANOTHER, &turns);
     let left = fs::read(&rt, PATH_OF_ANOTHER).expect(&rt, "a file that is read");
     expect_eq(&rt, &left.as_slice(), &b"another's".as_slice());
     drop(left);
     fs::remove_file(&rt, PATH_OF_ANOTHER).expect(&rt, "a file that is there");
 }
-
-const PATH_OF_ANOTHER: &str = "patch_files_another";

@@ -122,7 +122,7 @@ fn expect_back(
     rt: &impl Abort,
     alloc: Global,
     device: Option<WeakDevice>,
-    name: u32,
+    name: usize,
     want: Option<(usize, End)>,
 ) {
     expect_eq(rt, &(name, device.is_some()), &(name, want.is_some()));
@@ -139,7 +139,7 @@ fn expect_back(
 }
 
 // Two writers are served so. The second has no lines.
-fn expect_row<T: Threads + Wait + Abort + Sync>(rt: &T, alloc: Global, name: u32, row: &Row) {
+fn expect_row<T: Threads + Wait + Abort + Sync>(rt: &T, alloc: Global, name: usize, row: &Row) {
     let Row(well, end, back) = row;
     let device = WeakDevice::new(new_device(rt, alloc), name, *well);
     let mut source = Source::new(WeakReader::new(PUT_AND_GET, *well));
@@ -153,6 +153,6 @@ fn expect_row<T: Threads + Wait + Abort + Sync>(rt: &T, alloc: Global, name: u32
 #[test]
 fn writers_are_told_why_they_stop_and_the_device_comes_back(rt: HostRuntime) {
     for (number, row) in ROWS.iter().enumerate() {
-        expect_row(&rt, rt.alloc(), number as u32, row);
+        expect_row(&rt, rt.alloc(), number, row);
     }
 }

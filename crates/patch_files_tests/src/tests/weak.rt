@@ -47,7 +47,7 @@ fn goes_well(left: &mut u64) -> bool {
 #[derive(Drop)]
 pub(super) struct WeakDevice {
     pub(super) inner: MemDevice,
-    pub(super) name: u32,
+    pub(super) name: usize,
     well: Well,
     spent: bool,
     faults: u64,
@@ -55,7 +55,7 @@ pub(super) struct WeakDevice {
 }
 
 impl WeakDevice {
-    pub(super) fn new(inner: MemDevice, name: u32, well: Well) -> WeakDevice {
+    pub(super) fn new(inner: MemDevice, name: usize, well: Well) -> WeakDevice {
         WeakDevice {
             inner,
             name,
