@@ -345,7 +345,7 @@ impl Write for Narrow {
     }
 }
 
-/// Words that run a script of so many readings of no key, whether somebody reads standard error at a terminal, how many bytes of answers are
+/// Words that run a script of so many readings of no key, whether standard error is a terminal, how many bytes of answers are
 /// taken, how the run ends, and all that is said on standard error.
 struct Ticking(&'static str, usize, bool, usize, u8, &'static str);
 

@@ -161,7 +161,7 @@ const PATH_OF_FINISHED: &str = "patch_files_finished";
 
 const PATH_OF_ANOTHER: &str = "patch_files_another";
 
-// A file is opened, 35 blocks of zeros are written and synced, the superblock is written and synced, and the directory is opened and synced.
+// A file is opened, 35 blocks of zeros are written and synced, then the superblock, and then the directory is opened and synced.
 const CALLS: u64 = 41;
 
 // The make whose call behind so many fails by an error of this kind ends so.
