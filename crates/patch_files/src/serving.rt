@@ -1,5 +1,5 @@
 //! Serves the writers of a script, each on a thread of its own.
-ghost use Rattle.std.specs.Prelude.{◌≡◌, ◌<◌, ◌≤◌, ℕ, List, map, vec_len, IfOk, OnOk, MatchOption, Some};
+ghost use Rattle.std.specs.Prelude.{◌≡◌, ◌<◌, ◌≤◌, ℕ, List, map, vec_len, IfOk, IfErr, IfSome, OnOk, MatchOption, Some};
 ghost use Rattle.std.specs.Io.KnownBytes.{Appends};
 ghost use Rattle.patch_device.specs.SameDevice.{IsSameDevice};
 ghost use Rattle.patch_history.specs.Commands.{reply_told};
@@ -10,6 +10,7 @@ ghost use Rattle.patch_commands.specs.declared.commands.CommandLine.{CommandLine
 ghost use Rattle.patch_disks.specs.Going.{StillLasts};
 ghost use Rattle.patch_disks.specs.Reading.{IsRunOf};
 ghost use Rattle.patch_files.specs.Serving.{jobs_by, replies_text, all_text, HasServed, HasServedOnOne, HasServedScriptOnOne, ServesOn};
+ghost use Rattle.patch_files.specs.Stopping.{stop_for, IsUnserved};
 ghost use Rattle.patch_disks.specs.declared.endings.Status.TheVariants.{Done, Unreadable};
 ghost use Rattle.patch_replay.specs.declared.endings.BadScript.{BadScript as TheBadScript};
 
@@ -48,6 +49,8 @@ struct Unserved<D: Device> {
 }
 
 impl<D: Device> From<ServeFault<D>> for Unserved<D> {
+    ghost from_gives = { λ fault unserved. (unserved.why ≡ stop_for fault.cause) × (unserved.device ≡ fault.device) };
+
     fn from(fault: ServeFault<D>) -> Unserved<D> {
         let ServeFault { cause, device } = fault;
         Unserved {
@@ -58,7 +61,9 @@ impl<D: Device> From<ServeFault<D>> for Unserved<D> {
 }
 
 /// What the cause of a fault is told as. That the sync of a disk failed is a fault of the disk.
-fn stop_of(cause: Cause) -> Stop {
+fn stop_of(cause: Cause) -> Stop
+    ensures { result ≡ stop_for cause }
+{
     match cause {
         Cause::SyncFailed => Stop::Refused(RefusalKind::Disk.bare()),
         _ => Stop::Refused(cause.refusal()),
@@ -102,8 +107,8 @@ fn last_and_tell<W: Output, D: Device>(
     replies: &[Vec<Reply>],
 ) -> Result<(), Stop>
     ensures device { IsSameDevice D.Device device.old device.new }
-    ensures same { D.is_honest device.old → OnOk result (D.contents device.new ≡ D.contents device.old) }
-    ensures lasts { D.is_honest device.old → OnOk result (StillLasts D.Device device.old device.new) }
+    ensures same { D.is_honest device.old → D.contents device.new ≡ D.contents device.old }
+    ensures lasts { D.is_honest device.old → StillLasts D.Device device.old device.new }
     ensures written { OnOk result (Appends (W.contents writer.old.inner) (W.contents writer.new.inner) (all_text (replies_in replies.now))) }
 {
     finish_device(device)?;
@@ -121,6 +126,9 @@ fn finish<W: Output, D: Device + Drop>(
     ensures lasts { D.is_honest finished.device → IfOk result (StillLasts D.Device finished.device) }
     ensures written { OnOk result
         (Appends (W.contents writer.old.inner) (W.contents writer.new.inner) (all_text (replies_in finished.replies.items))) }
+    ensures back { IfErr result (λ unserved. MatchOption unserved.device ⊥ (IsSameDevice D.Device finished.device)) }
+    ensures kept { D.is_honest finished.device → IfErr result (λ unserved.
+        MatchOption unserved.device ⊥ (λ now. D.contents now ≡ D.contents finished.device)) }
 {
     let (mut device, replies) = finished.let_go();
     match last_and_tell(alloc, writer, &mut device, replies.as_slice()) {
@@ -168,6 +176,7 @@ fn serve_jobs<W: Output, D: Device + Drop + Send, T: Threads + Wait + Sync>(
     ensures served { D.is_honest device → (blocks : List (List ℕ)) → IsFresh store blocks → (writers : ℕ) (lines : List TheLine)
         → commands_in jobs.items ≡ jobs_by writers lines → IfOk result (λ now.
         HasServed writers lines (W.contents writer.old.inner) (W.contents writer.new.inner) blocks (D.contents now)) }
+    ensures back { IfErr result (IsUnserved D.Device device) }
 {
     let finished = serve(rt, alloc, store, device, jobs, &OpenGate)?;
     finish(alloc, writer, finished)
@@ -187,6 +196,7 @@ fn serve_lines<W: Output, D: Device + Drop + Send, T: Threads + Wait + Sync>(
     ensures lasts { D.is_honest device → IfOk result (StillLasts D.Device device) }
     ensures served { D.is_honest device → IfOk result (λ now.
         HasServed writers lines.items (W.contents writer.old.inner) (W.contents writer.new.inner) (D.contents device) (D.contents now)) }
+    ensures back { IfErr result (IsUnserved D.Device device) }
 {
     match prepare(alloc, &mut device, lines.as_slice(), writers) {
         Ok((store, jobs)) => serve_jobs(rt, alloc, writer, store, device, jobs),
@@ -218,6 +228,7 @@ pub fn serve_script<R: Read, W: Output, D: Device + Drop + Send, T: Threads + Wa
         (W.contents writer.old.inner) (W.contents writer.new.inner) result.status }
     ensures left { (why : TheBadScript) → result.status ≡ Unreadable why → result.device ≡ Some device }
     ensures device { result.status ≡ Done → MatchOption result.device ⊥ (IsSameDevice D.Device device) }
+    ensures back { IfSome result.device (IsSameDevice D.Device device) }
     ensures done { D.is_honest device → ServesOn D.Device result.status device result.device writers
         (R.remaining reader.old.inner) (W.contents writer.old.inner) (W.contents writer.new.inner) }
     ensures lasts { D.is_honest device → result.status ≡ Done → MatchOption result.device ⊥ (StillLasts D.Device device) }
