@@ -14,7 +14,7 @@ use Rattle.patch_plans.specs.Writing as extents
 use Rattle.patch_plans.specs.Writing.{named_plan, with_patches, merge_with, merge_behind, written, steps_by, steps_of}
 use Rattle.patch_history.specs.History.{IsWhole}
 use Rattle.patch_history.specs.Shelf.{Shelf, after_point, after_change, after_plan}
-use Rattle.patch_history.specs.Standing.{Standing, made_by, creates}
+use Rattle.patch_history.specs.Standing.{Standing, made_by, creates, onto}
 use Rattle.patch_history.specs.Steps.{ShelvesGoOn}
 
 -- Merges make none.
@@ -55,6 +55,10 @@ length-named gs w n (m ∷ plan) = let e = length-named (with_patch gs w n) w (n
 
 pub creates_of : (choices : List Bool) (s : Extents) (gs : Groups) (w : Option ℕ) (n : ℕ) (plan : List Made) → creates (steps_of choices s gs w n plan) ≡ length plan
 creates_of choices s gs w n plan = creates_by choices s n (named_plan gs w n plan) ∙ length-named gs w n plan
+
+pub onto_length : (plan made : List Made) → length (onto plan made) ≡ length made + length plan
+onto_length [] made = omega arith
+onto_length (m ∷ plan) made = let e = onto_length plan (m ∷ made) in omega (arith, e)
 
 -- The groups after one patch more.
 

@@ -27,3 +27,5 @@ pub mod Tried
 pub mod Summed
 pub mod Judged
 pub mod Agreeing
+pub mod Told
+pub mod Alike

@@ -29,7 +29,7 @@ use Rattle.patch_history.specs.Laws.{HistoriesExtend, StandingsRun}
 use Rattle.patch_history.specs.Planning.{frame_plan, content_of, moves, emptied}
 use Rattle.patch_history.specs.Refusing.{why_not_reclaimed}
 use Rattle.patch_history.specs.Shelf.{Shelf, slot_at, left_of, after_plan}
-use Rattle.patch_history.specs.Standing.{Standing, made_by, creates, onto}
+use Rattle.patch_history.specs.Standing.{Standing, made_by, creates}
 use Rattle.patch_history.specs.Steps.{framed, ShelvesGoOn}
 use Rattle.patch_history.specs.Steps as plans
 use Rattle.patch_history.specs.History.{History, Event, Call, IsWhole, IsCut, after_event, execution_of, standing_of, ledger_of, with_event}
@@ -37,7 +37,7 @@ use Rattle.patch_store.specs.Given.{Given}
 use Rattle.patch_store.specs.Meaning.{Store, Represents, HasGained, HasAnswered}
 use Rattle.patch_store.specs.Framing.{framing, StandsBehind, IsFramed, IsFramedInPart}
 use Rattle.patch_store.specs.Moving.{IsStanding, IsCached, frame_cached, IsMovable, reset_of, IsEmptied, IsReclaiming, HaveMoved, plan_at, IsReclaimedInPart}
-use Rattle.patch_store.proofs.Counted.{creates_all}
+use Rattle.patch_store.proofs.Counted.{creates_all, onto_length}
 use Rattle.patch_store.proofs.Gaining.{fold_push, run_push, gained, refused, right_caused}
 use Rattle.patch_store.proofs.Moves.{named_none, patches_none, IsMove, move_cases, move_made, moves_joined, moves_keep, IsLater, join_stands, widen_stands, whole_few, cut_few, cut_longer}
 use Rattle.patch_store.proofs.Outcomes.{merged_none}
@@ -102,10 +102,6 @@ record StillMakes (h : History) (extent : ℕ) (moved : List Made) : Type 0 wher
 never_none : (p : List Made) (m : Made) → p ++ m ∷ [] ≢ []
 never_none [] m is = let g : m ∷ [] ≡ [] = is in cc
 never_none (x ∷ p) m is = let g : x ∷ (p ++ m ∷ []) ≡ [] = is in cc
-
-onto_length : (plan made : List Made) → length (onto plan made) ≡ length made + length plan
-onto_length [] made = omega arith
-onto_length (m ∷ plan) made = let e = onto_length plan (m ∷ made) in omega (arith, e)
 
 behind_so : ShelvesGoOn → (st later : Standing) (p : List Made) (steps : List Step) → IsLater st p steps later → plans.StandsBehind st p later
 behind_so go st later p steps is = record { extents = ap (λ (s : Shelf). s.extents) is.shelf_is ∙ go st.shelf (made_by st) p; made = is.made_is }

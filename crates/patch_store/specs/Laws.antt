@@ -6,8 +6,9 @@ use Rattle.patch_model.specs.Crash.{IsClosed, MayLeave, crash_set, disk_of}
 use Rattle.patch_recovery.specs.Ledger.{value_in}
 use Rattle.patch_recovery.specs.Closed.{Opens, cached_blocks}
 use Rattle.patch_history.specs.Closed.{OpensBy}
-use Rattle.patch_history.specs.History.{History, execution_of, standing_of, ledger_of}
+use Rattle.patch_history.specs.History.{History, IsLegalHistory, execution_of, standing_of, ledger_of}
 use Rattle.patch_store.specs.Meaning.{Store, Represents}
+use Rattle.patch_store.specs.Merging.{LeavesOut}
 
 -- the cached blocks are read as the map of the commands that were done
 abbrev pub CachedDisksOpen : Type 0
@@ -30,3 +31,15 @@ CrashDisksOpen =
 -- stores that represent one history have counted as many merges that had no memory
 abbrev pub CountsAgree : Type 0
 CountsAgree = (one other : Store) (h : History) → Represents one h → Represents other h → one.left_out ≡ other.left_out
+
+-- legal histories of the same opening blocks and the same steps have left out as many merges for want of memory
+abbrev pub CountsAreSingle : Type 0
+CountsAreSingle =
+    (h other : History) (count : ℕ) → IsLegalHistory h → IsLegalHistory other → execution_of h ≡ execution_of other
+    → LeavesOut h count → LeavesOut other count
+
+-- so a store represents, with one history, each legal one of the same blocks and steps that leads to the same groups
+abbrev pub StoresAreOfSteps : Type 0
+StoresAreOfSteps =
+    (s : Store) (h other : History) → Represents s h → IsLegalHistory other → execution_of other ≡ execution_of h
+    → (standing_of other).groups ≡ (standing_of h).groups → Represents s other
