@@ -1,5 +1,5 @@
 //! What is compared when the threads have ended.
-ghost use Rattle.std.specs.Prelude.{ℕ, List, ◌≡◌, ◌<◌, ◌≤◌, length, map, true};
+ghost use Rattle.std.specs.Prelude.{ℕ, List, ◌≡◌, ◌↔◌, ◌<◌, ◌≤◌, length, map, true};
 ghost use Rattle.patch_model.specs.declared.limits.TheConstants.{MAX_WRITER};
 ghost use Rattle.patch_history.specs.Command.{Put};
 ghost use Rattle.patch_history.specs.Commands.{command_of, reply_told};
@@ -13,7 +13,7 @@ use patch_model::{BlockBytes, Bytes, Refusal};
 
 /// Whether two commands are the same.
 fn is_same_command(a: &Command, b: &Command) -> bool
-    ensures { result ≡ true → command_of a.now ≡ command_of b.now }
+    ensures { result ≡ true ↔ command_of a.now ≡ command_of b.now }
 {
     match a {
         Command::Put { key, value } => is_put(b, key, value),
@@ -58,7 +58,7 @@ fn is_same_command(a: &Command, b: &Command) -> bool
 }
 
 fn is_put(command: &Command, key: &Bytes, value: &Bytes) -> bool
-    ensures { result ≡ true → command_of command.now ≡ Put key.now value.now }
+    ensures { result ≡ true ↔ command_of command.now ≡ Put key.now value.now }
 {
     match command {
         Command::Put { key: k, value: v } => is_same_bytes(k, key) && is_same_bytes(v, value),
@@ -67,13 +67,13 @@ fn is_put(command: &Command, key: &Bytes, value: &Bytes) -> bool
 }
 
 fn is_same_bytes(a: &Bytes, b: &Bytes) -> bool
-    ensures { result ≡ true → a.now ≡ b.now }
+    ensures { result ≡ true ↔ a.now ≡ b.now }
 {
     a.as_slice() == b.as_slice()
 }
 
 fn is_same_number(a: Option<u32>, b: Option<u32>) -> bool
-    ensures { result ≡ true → a ≡ b }
+    ensures { result ≡ true ↔ a ≡ b }
 {
     match a {
         None => b.is_none(),
@@ -85,14 +85,14 @@ fn is_same_number(a: Option<u32>, b: Option<u32>) -> bool
 }
 
 fn is_same_refusal(a: &Refusal, b: &Refusal) -> bool
-    ensures { result ≡ true → a.now ≡ b.now }
+    ensures { result ≡ true ↔ a.now ≡ b.now }
 {
     a.kind == b.kind && is_same_number(a.number, b.number)
 }
 
 /// Whether two replies are the same.
 fn is_same_reply(a: &Reply, b: &Reply) -> bool
-    ensures { result ≡ true → reply_told a.now ≡ reply_told b.now }
+    ensures { result ≡ true ↔ reply_told a.now ≡ reply_told b.now }
 {
     match a {
         Reply::Done => matches!(b, Reply::Done),
@@ -129,7 +129,7 @@ fn is_by(entry: &Entry, writer: u8) -> bool
 
 /// Whether the entry has the command and the reply of this place.
 fn is_next(entry: &Entry, next: usize, jobs: &[Command], replies: &[Reply]) -> bool
-    ensures { result ≡ true → IsNext (entry_of entry.now) next (map command_of jobs.now) (map reply_told replies.now) }
+    ensures { result ≡ true ↔ IsNext (entry_of entry.now) next (map command_of jobs.now) (map reply_told replies.now) }
 {
     next < jobs.len()
         && next < replies.len()
@@ -139,7 +139,7 @@ fn is_next(entry: &Entry, next: usize, jobs: &[Command], replies: &[Reply]) -> b
 
 /// Whether the writer's entries have these commands with these replies, all of them and in this order.
 fn is_told(calls: &[Entry], writer: u8, jobs: &[Command], replies: &[Reply]) -> bool
-    ensures { result ≡ true → IsTold writer (map entry_of calls.now) (map command_of jobs.now) (map reply_told replies.now) }
+    ensures { result ≡ true ↔ IsTold writer (map entry_of calls.now) (map command_of jobs.now) (map reply_told replies.now) }
 {
     if jobs.len() != replies.len() {
         return false;
@@ -159,7 +159,7 @@ fn is_told(calls: &[Entry], writer: u8, jobs: &[Command], replies: &[Reply]) -> 
 /// Whether this is so of each writer.
 pub(crate) fn are_told(calls: &[Entry], jobs: &[Vec<Command>], replies: &[Vec<Reply>]) -> bool
     requires { length jobs.now ≤ 8 }
-    ensures { result ≡ true → AreTold (map entry_of calls.now) (commands_in jobs.now) (replies_in replies.now) }
+    ensures { result ≡ true ↔ AreTold (map entry_of calls.now) (commands_in jobs.now) (replies_in replies.now) }
 {
     if jobs.len() != replies.len() {
         return false;
@@ -174,7 +174,7 @@ pub(crate) fn are_told(calls: &[Entry], jobs: &[Vec<Command>], replies: &[Vec<Re
 
 /// Whether two lists of blocks are the same.
 pub(crate) fn are_same_blocks(a: &[BlockBytes], b: &[BlockBytes]) -> bool
-    ensures { result ≡ true → a.now ≡ b.now }
+    ensures { result ≡ true ↔ a.now ≡ b.now }
 {
     if a.len() != b.len() {
         return false;
