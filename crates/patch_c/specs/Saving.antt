@@ -1,5 +1,5 @@
 -- What a sync has done.
-use Rattle.std.specs.Prelude.{ℕ, ◌≡◌, ◌≤◌, ◌⊎◌, ◌||◌, Bool, not, List, [], take}
+use Rattle.std.specs.Prelude.{ℕ, ◌≡◌, ◌≤◌, ◌⊎◌, ◌||◌, Bool, IsTrue, not, List, [], take}
 use Rattle.patch_model.specs.declared.refusals.RefusalKind.{RefusalKind}
 use Rattle.patch_model.specs.declared.refusals.RefusalKind.TheVariants as kind
 use Rattle.patch_model.specs.Step.{Step}
@@ -73,11 +73,11 @@ HasCause Absent faults faults_now = ⊥
 HasCause BadWriter faults faults_now = ⊥
 
 -- What is on the tape was brought to the file, or given up: the store stays as it is, and it is spent where not all is there. Where all is,
--- the file holds what the tape did.
+-- the file holds what the tape did; of what it holds where not all is nothing is said.
 pub record IsSettled (is_done : Bool) (before after : Opened) : Type 0 where
   pub store : after.store ≡ before.store
   pub no_events : events_of after.device ≡ []
-  pub holds : file_of after.device ≡ contents_of before.device
+  pub holds : IsTrue is_done → file_of after.device ≡ contents_of before.device
   pub count : block_count_of after.device ≡ block_count_of before.device
   pub faults : fault_count_of after.device ≡ fault_count_of before.device
   pub file : after.file ≡ before.file

@@ -1,5 +1,5 @@
 -- Why a run stops.
-use Rattle.std.proofs.Common.{◌≡◌, ℕ, ◌≤◌, ◌⊎◌, ◌∙◌, inl, inr, Bool, true, false, List, [], ◌++◌, refl, sym, arith}
+use Rattle.std.proofs.Common.{◌≡◌, ℕ, ◌≤◌, ◌⊎◌, ◌∙◌, inl, inr, Bool, true, false, List, [], ◌++◌, refl, sym, subst, arith}
 use Rattle.std.specs.Prelude.{Option, Result, Ok, Err, IfErr, IsErrAnd}
 use Rattle.std.proofs.lemmas.Bool.{cases_order}
 use Rattle.patch_device.specs.Device.{HasRisen, most_faults}
@@ -20,7 +20,7 @@ use Rattle.patch_commands.specs.declared.commands.CommandLine.{CommandLine}
 use Rattle.patch_disks.specs.declared.endings.Stop.{Stop}
 use Rattle.patch_disks.specs.declared.endings.Stop.TheVariants as stop
 use Rattle.patch_disks.specs.Running.{HasCome}
-use Rattle.patch_disks.specs.Stopping.{starved, stop_of, flush_stop, IsStop, HoldNoStore, IsNotOpened, IsBroken, HasComeSome, HasWrittenSome}
+use Rattle.patch_disks.specs.Stopping.{starved, stop_of, flush_stop, IsStop, IsOfDisk, HoldNoStore, IsNotOpened, IsBroken, HasComeSome, HasWrittenSome}
 use Rattle.patch_replay.specs.Growing.{same}
 
 -- a count that rises does so over what comes before and behind
@@ -135,3 +135,18 @@ broken_write (Err e) fault failed C is write broken = rw (is, write) (inr (refl,
 
 pub no_fault : (failed : Bool) → failed ≡ false → failed ≡ true → ⊥
 no_fault failed fine broken = absurd (let no : false ≡ true = sym fine ∙ broken in cc)
+
+-- what is said of a cause is said of an answer that gives it
+pub kind_so : {T : Type 0} (r : Result T Stop) (why : Stop) (P : Stop → Type 0) → IsErrAnd r (λ e. e ≡ why) → P why → IfErr r P
+kind_so (Ok x) why P is told = tt
+kind_so (Err e) why P is told = subst P (sym is) told
+
+-- and of each that says it, what follows from it
+pub kind_for : {T : Type 0} (r : Result T Stop) (P Q : Stop → Type 0) → ((why : Stop) → P why → Q why) → IfErr r P → IfErr r Q
+kind_for (Ok x) P Q f told = tt
+kind_for (Err e) P Q f told = f e told
+
+-- faults that come behind others
+pub disk_behind : (first mid now : ℕ) (why : Stop) → (HasRisen mid now → HasRisen first now) → IsOfDisk mid now why → IsOfDisk first now why
+disk_behind first mid now why later (inl none) = inl none
+disk_behind first mid now why later (inr risen) = inr (risen.0, later risen.1)

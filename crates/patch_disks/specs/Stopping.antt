@@ -2,6 +2,8 @@
 use Rattle.std.specs.Prelude.{ℕ, ◌≡◌, ◌<◌, ◌++◌, ◌⊎◌, Bool, true, false, List, [], Option, Result, Ok, Err, IfErr, IfSome, length}
 use Rattle.std.specs.Io.KnownBytes.{Appends}
 use Rattle.patch_device.specs.Device.{HasRisen}
+use Rattle.patch_device.specs.declared.devices.Device.{Ghosts}
+use Rattle.patch_model.specs.Execution.{Execution}
 use Rattle.patch_model.specs.declared.refusals.RefusalKind.TheVariants as kind
 use Rattle.patch_model.specs.Refusing.{bare, with_number}
 use Rattle.patch_cache.specs.declared.refusals.FlushRefusal.{FlushRefusal}
@@ -11,8 +13,11 @@ use Rattle.patch_recovery.specs.Reading.{Fault as Test, reading}
 use Rattle.patch_replay.specs.declared.endings.Fault.{Fault}
 use Rattle.patch_replay.specs.declared.endings.Fault.TheVariants as fault
 use Rattle.patch_history.specs.History.{History, IsLegalHistory}
+use Rattle.patch_history.specs.Refusals.{open_cause}
+use Rattle.patch_history.specs.declared.refusals.OpenFault.{OpenFault}
 use Rattle.patch_store.specs.Meaning.{Store}
-use Rattle.patch_store.specs.Opening.{at_opening}
+use Rattle.patch_store.specs.Opening.{at_opening, IsFaultOf}
+use Rattle.patch_store.specs.Flushing.{IfRefused}
 use Rattle.patch_commands.specs.declared.commands.CommandLine.{CommandLine}
 use Rattle.patch_disks.specs.declared.endings.Status.{Status}
 use Rattle.patch_disks.specs.declared.endings.Status.TheVariants.{Done, Misused, Unreadable, Failed, OutOfMemory}
@@ -53,6 +58,27 @@ IsUnread (Stopped why) Cause = IsStop why Cause
 -- no disk has so many blocks, or a test refuses them
 abbrev pub HoldNoStore : List (List ℕ) → Type 0
 HoldNoStore blocks = (length blocks ≡ 0) ⊎ (4096 < length blocks) ⊎ ((why : Test) × (reading blocks ≡ Err why))
+
+-- there was no memory, or the device had a fault, which is told as one of the disk
+abbrev pub IsOfDisk : (faults faults_now : ℕ) → Stop → Type 0
+IsOfDisk faults faults_now why = (why ≡ starved) ⊎ ((why ≡ stop.Refused (bare kind.Disk)) × HasRisen faults faults_now)
+
+-- there was no memory, or no disk has so many blocks, which is told as their count
+abbrev pub IsOfCount : List (List ℕ) → Stop → Type 0
+IsOfCount blocks why = (why ≡ starved) ⊎ ((why ≡ stop.Refused (bare kind.FileSize)) × ((length blocks ≡ 0) ⊎ (4096 < length blocks)))
+
+-- so it is, or the first test that refuses the blocks is told
+abbrev pub TellsTest : List (List ℕ) → Stop → Type 0
+TellsTest blocks why = IsOfCount blocks why ⊎ ((fault : OpenFault) × (why ≡ stop.Refused (open_cause fault)) × IsFaultOf blocks fault)
+
+-- why a store isn't opened, by its kind
+abbrev pub TellsWhyNotOpened : (faults faults_now : ℕ) → List (List ℕ) → Stop → Type 0
+TellsWhyNotOpened faults faults_now contents why = IsOfDisk faults faults_now why ⊎ TellsTest contents why
+
+-- and why it isn't brought to the device: the flush was refused and that is told, with the block that was given up, or its end
+abbrev pub TellsWhyNotSaved : {D : Type 0} → Ghosts D → Execution → (before now : D) → Stop → Type 0
+TellsWhyNotSaved g run before now why =
+    IsOfDisk (g.fault_count before) (g.fault_count now) why ⊎ ((refusal : FlushRefusal) × (why ≡ flush_stop refusal) × IfRefused {T = Unit {0}} g (Err refusal) run before now)
 
 -- why a store isn't opened: a fault of the device, or what is on it
 abbrev pub IsNotOpened : (faults faults_now : ℕ) (contents : List (List ℕ)) → Type 0

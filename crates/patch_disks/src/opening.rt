@@ -9,7 +9,8 @@ ghost use Rattle.patch_store.specs.Opening.{unchanged, IsOpened};
 ghost use Rattle.patch_disks.specs.Going.{EndsSafely, StillLasts};
 ghost use Rattle.patch_disks.specs.Opening.{IsUntouched, IsUnused, IsUnder};
 ghost use Rattle.patch_disks.specs.Running.{StandsOn, HasSaved};
-ghost use Rattle.patch_disks.specs.Stopping.{HoldNoStore, IsNotOpened, IsStop};
+ghost use Rattle.patch_store.specs.Flushing.{run_after};
+ghost use Rattle.patch_disks.specs.Stopping.{HoldNoStore, IsNotOpened, IsStop, IsOfDisk, IsOfCount, TellsTest, TellsWhyNotOpened, TellsWhyNotSaved};
 
 use crate::endings::Stop;
 use patch_cache::{Cache, laws as cache_laws};
@@ -25,6 +26,7 @@ use std::rt::Files;
 fn cache_of(alloc: Global, blocks: Vec<BlockBytes>) -> Result<Cache, Stop>
     ensures untouched { IfOk result IsUntouched }
     ensures gives { IfOk result (λ cache. IsCacheOf cache (unchanged blocks.items)) }
+    ensures kind { IfErr result (IsOfCount blocks.items) }
     ensures stops { IfErr result (λ why. IsStop why (HoldNoStore blocks.items)) }
 {
     if blocks.is_empty() || blocks.len() > MAX_BLOCKS {
@@ -37,6 +39,7 @@ fn cache_of(alloc: Global, blocks: Vec<BlockBytes>) -> Result<Cache, Stop>
 fn store_of(alloc: Global, blocks: Vec<BlockBytes>) -> Result<Store, Stop>
     ensures new { IfOk result IsUnused }
     ensures opened { IfOk result (IsOpened blocks.items) }
+    ensures kind { IfErr result (TellsTest blocks.items) }
     ensures stops { IfErr result (λ why. IsStop why (HoldNoStore blocks.items)) }
 {
     let cache = cache_of(alloc, blocks)?;
@@ -133,6 +136,7 @@ fn read_blocks<D: Device>(alloc: Global, device: &mut D) -> Result<Vec<BlockByte
     ensures same { D.is_honest device.old → D.contents device.new ≡ D.contents device.old }
     ensures no_moment { D.moment device.new ≡ D.moment device.old }
     ensures gives { D.is_honest device.old → IfOk result (λ blocks. blocks.items ≡ D.contents device.old) }
+    ensures kind { IfErr result (IsOfDisk (D.fault_count device.old) (D.fault_count device.new)) }
     ensures stops { IfErr result (λ why. IsStop why (HasRisen (D.fault_count device.old) (D.fault_count device.new))) }
 {
     match load(alloc, device) {
@@ -149,6 +153,8 @@ pub fn open_store<D: Device>(alloc: Global, device: &mut D) -> Result<Store, Sto
     ensures no_moment { D.moment device.new ≡ D.moment device.old }
     ensures new { IfOk result IsUnused }
     ensures opened { D.is_honest device.old → IfOk result (λ store. IsOpened (D.contents device.old) store) }
+    ensures kind { D.is_honest device.old
+        → IfErr result (TellsWhyNotOpened (D.fault_count device.old) (D.fault_count device.new) (D.contents device.old)) }
     ensures stops { D.is_honest device.old → IfErr result (λ why.
         IsStop why (IsNotOpened (D.fault_count device.old) (D.fault_count device.new) (D.contents device.old))) }
 {
@@ -163,6 +169,7 @@ pub fn finish_device<D: Device>(device: &mut D) -> Result<(), Stop>
     ensures same { D.is_honest device.old → D.contents device.new ≡ D.contents device.old }
     ensures lasts { D.is_honest device.old → StillLasts D.Device device.old device.new }
     ensures no_fault { OnOk result (D.fault_count device.new ≡ D.fault_count device.old) }
+    ensures kind { IfErr result (IsOfDisk (D.fault_count device.old) (D.fault_count device.new)) }
     ensures stops { IfErr result (λ why. IsStop why (HasRisen (D.fault_count device.old) (D.fault_count device.new))) }
 {
     match device.finish() {
@@ -182,6 +189,8 @@ pub(crate) fn save<D: Device>(store: &mut Store, device: &mut D) -> Result<(), S
     ensures lasts { D.is_honest device.old → OnOk result (StillLasts D.Device device.old device.new) }
     ensures safe { D.is_honest device.old → (h : History) → StandsOn store.old h (D.contents device.old)
         → EndsSafely D.Device h device.old device.new }
+    ensures kind { D.is_honest device.old → (h : History) → StandsOn store.old h (D.contents device.old)
+        → IfErr result (TellsWhyNotSaved D.Device (run_after h store.old store.new) device.old device.new) }
     ensures stops { D.is_honest device.old → (h : History) → StandsOn store.old h (D.contents device.old)
         → IfErr result (λ why. IsStop why (HasRisen (D.fault_count device.old) (D.fault_count device.new))) }
 {

@@ -37,7 +37,7 @@ fn are_below(made: u32, numbers: &[PatchNo]) -> bool
     numbers.iter().all(|no| no.0 < made)
 }
 
-/// Puts numbers behind the others, of those that are below this one: mostly all are, and are copied at once.
+/// Puts numbers behind the others, of those that are below this one: mostly all are, and more than one are copied at once.
 fn push_numbers<A: Allocator>(
     made: u32,
     numbers: &[PatchNo],
@@ -45,8 +45,11 @@ fn push_numbers<A: Allocator>(
 ) -> Result<(), AllocError>
     ensures { OnOk result (all.new.items ≡ all.old.items ++ filter (λ n. nat_lt n made) numbers.now) }
 {
+    if numbers.is_empty() {
+        return Ok(());
+    }
     all.reserve(numbers.len())?;
-    if are_below(made, numbers) {
+    if numbers.len() > 1 && are_below(made, numbers) {
         all.extend_reserved(numbers);
         return Ok(());
     }

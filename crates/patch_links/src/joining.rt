@@ -207,7 +207,7 @@ fn relist<A: Allocator>(
     ensures listed { IsListed block nodes.new.slots list.new }
 {
     if other.ready {
-        let place = list.leave_ready(gone, other.place);
+        let place = list.leave_ready(gone, other.place as usize);
         renote(nodes, list, place);
         return;
     }

@@ -68,12 +68,12 @@ impl<A: Allocator> Model for Class<A> {
 #[derive(Drop)]
 pub struct Node<A: Allocator = Global> {
     pub class: Class<A>,
-    /// Whether its block's ready set has it.
-    pub ready: bool,
-    /// Where its key stands there, if it has it: a hint, which no proof asks for.
-    pub place: usize,
-    /// How many of the numbers that it depends on keep it out of there.
+    /// How many of the numbers that it depends on keep it out of its block's ready set.
     pub waits: usize,
+    /// Where its key stands there, if it has it: a hint, which no proof asks for.
+    pub place: u32,
+    /// Whether that set has it.
+    pub ready: bool,
     /// A number of each class that depends on it, for each time that it does. Those that lead to the class itself are
     /// skipped, and those that lead nowhere, as some do while classes land.
     pub followers: NumberList<A>,
@@ -185,20 +185,25 @@ pub fn raise<A: Allocator>(nodes: &mut Nodes<A>, key: usize)
     }
 }
 
+/// A place as a hint, which may be any number.
+fn narrow(place: usize) -> u32 {
+    u32::try_from(place).unwrap_or(u32::MAX)
+}
+
 /// Has the ready set have the class at a key, which stands at this place there.
 pub fn put_ready<A: Allocator>(nodes: &mut Nodes<A>, key: usize, place: usize)
     ensures { nodes.new.slots ≡ changed_at readied nodes.old.slots key }
 {
     if let Some(node) = nodes.get_mut(key) {
         node.ready = true;
-        node.place = place;
+        node.place = narrow(place);
     }
 }
 
 /// Where the key stands among those of the ready set, as it was noted.
 pub fn place_at<A: Allocator>(nodes: &Nodes<A>, key: usize) -> usize {
     match nodes.get(key) {
-        Some(node) => node.place,
+        Some(node) => node.place as usize,
         None => 0,
     }
 }
@@ -208,7 +213,7 @@ pub fn note_place<A: Allocator>(nodes: &mut Nodes<A>, key: usize, place: usize)
     ensures { nodes.new.slots ≡ nodes.old.slots }
 {
     if let Some(node) = nodes.get_mut(key) {
-        node.place = place;
+        node.place = narrow(place);
     }
 }
 

@@ -210,7 +210,7 @@ impl<A: Allocator> BlockState<A> {
         requires within { high < length self.old.classes }
         ensures { IsCleared self.old self.new low high result }
     {
-        if self.is_loose_from(low + 1, high) {
+        if low + 1 == high || self.is_loose_from(low + 1, high) {
             return Way::Clear(low);
         }
         let mut run = Places {

@@ -1,7 +1,8 @@
-use Rattle.std.proofs.Common.{ap}
+use Rattle.std.proofs.Common.{inl, inr, ap}
 use Rattle.patch_disks.specs.declared.endings.Stop.TheVariants.{Refused}
+use Rattle.patch_disks.specs.Stopping.{TellsTest}
 use Rattle.patch_disks.proofs.Unused.{unused_store}
-use Rattle.patch_disks.proofs.Stopping.{open_stops}
+use Rattle.patch_disks.proofs.Stopping.{open_stops, kind_so}
 use Rattle.patch_disks.proofs.opening.store_of.Goals as goal
 
 pub returns-in-Ok-clause-new : goal.returns-in-Ok-clause-new
@@ -12,3 +13,9 @@ returns-in-Ok-clause-new c =
 pub returns-in-Err-clause-stops : goal.returns-in-Err-clause-stops
 returns-in-Err-clause-stops c =
     open_stops c.in-Err.fault _ _ (ap (λ r. Refused r) c.refusal.ensures) (c.in-Err.ensures.opened _ c.in_ok-cache.ensures.gives)
+
+pub returns-in-Err-clause-kind : goal.returns-in-Err-clause-kind
+returns-in-Err-clause-kind c = inr (c.in-Err.fault, ap (λ r. Refused r) c.refusal.ensures, c.in-Err.ensures.opened _ c.in_ok-cache.ensures.gives)
+
+pub returns-in_err-cache-clause-kind : goal.returns-in_err-cache-clause-kind
+returns-in_err-cache-clause-kind c = kind_so c.from_residual.result c.in_err-cache.field-0.0 (TellsTest c.args.blocks.items) c.from_residual.ensures.1 (inl c.in_err-cache.ensures.kind)
