@@ -7,7 +7,8 @@ use Rattle.patch_device.specs.SameDevice.{IsSameDevice}
 use Rattle.patch_device.specs.declared.devices.Device.{Ghosts}
 use Rattle.patch_replay.specs.declared.endings.Fault.{Fault}
 use Rattle.patch_replay.specs.declared.endings.Fault.TheVariants as write_fault
-use Rattle.patch_cache.specs.Waves.{HasGivenUp, RisesIfGivenUp}
+use Rattle.patch_model.specs.Execution.{Execution}
+use Rattle.patch_cache.specs.Waves.{HasGivenUp, RisesIfGivenUp, IsFlushed}
 use Rattle.patch_cache.specs.declared.refusals.FlushRefusal.{FlushRefusal}
 use Rattle.patch_cache.specs.declared.refusals.FlushRefusal.TheVariants as flush
 use Rattle.patch_history.specs.declared.refusals.OpenFault.{OpenFault}
@@ -20,7 +21,7 @@ use Rattle.patch_commands.specs.declared.commands.CommandLine.{CommandLine}
 use Rattle.patch_disks.specs.declared.endings.Stop.{Stop}
 use Rattle.patch_disks.specs.declared.endings.Stop.TheVariants as stop
 use Rattle.patch_disks.specs.Running.{HasCome}
-use Rattle.patch_disks.specs.Stopping.{starved, stop_of, flush_stop, IsStop, IsOfDisk, HoldNoStore, IsNotOpened, IsBroken, HasComeSome, HasWrittenSome}
+use Rattle.patch_disks.specs.Stopping.{starved, stop_of, flush_stop, IsStop, IsOfDisk, TellsWhyNotSaved, HoldNoStore, IsNotOpened, IsBroken, HasComeSome, HasWrittenSome}
 use Rattle.patch_replay.specs.Growing.{same}
 
 -- a count that rises does so over what comes before and behind
@@ -146,7 +147,8 @@ pub kind_for : {T : Type 0} (r : Result T Stop) (P Q : Stop → Type 0) → ((wh
 kind_for (Ok x) P Q f told = tt
 kind_for (Err e) P Q f told = f e told
 
--- faults that come behind others
-pub disk_behind : (first mid now : ℕ) (why : Stop) → (HasRisen mid now → HasRisen first now) → IsOfDisk mid now why → IsOfDisk first now why
-disk_behind first mid now why later (inl none) = inl none
-disk_behind first mid now why later (inr risen) = inr (risen.0, later risen.1)
+-- the end of a save had a fault, behind a flush that was done
+pub end_stops : {D : Type 0} (g : Ghosts D) (run : Execution) (old mid new : D) (why : Stop) → g.fault_count new ≤ most_faults → IsSameDevice g old mid → IsFlushed run
+    → IsOfDisk (g.fault_count mid) (g.fault_count new) why → TellsWhyNotSaved g run old new why
+end_stops g run old mid new why fits same_device flushed (inl none) = inl none
+end_stops g run old mid new why fits same_device flushed (inr risen) = inr (inr (risen.0, risen_behind g old mid new fits same_device risen.1, flushed))

@@ -6,6 +6,7 @@ use Rattle.patch_device.specs.declared.devices.Device.{Ghosts}
 use Rattle.patch_model.specs.Execution.{Execution}
 use Rattle.patch_model.specs.declared.refusals.RefusalKind.TheVariants as kind
 use Rattle.patch_model.specs.Refusing.{bare, with_number}
+use Rattle.patch_cache.specs.Waves.{IsFlushed}
 use Rattle.patch_cache.specs.declared.refusals.FlushRefusal.{FlushRefusal}
 use Rattle.patch_cache.specs.declared.refusals.FlushRefusal.TheVariants as flush
 use Rattle.patch_recovery.specs.Ledger.{Ledger}
@@ -75,10 +76,13 @@ TellsTest blocks why = IsOfCount blocks why ⊎ ((fault : OpenFault) × (why ≡
 abbrev pub TellsWhyNotOpened : (faults faults_now : ℕ) → List (List ℕ) → Stop → Type 0
 TellsWhyNotOpened faults faults_now contents why = IsOfDisk faults faults_now why ⊎ TellsTest contents why
 
--- and why it isn't brought to the device: the flush was refused and that is told, with the block that was given up, or its end
+-- And why it isn't brought to the device: there was no memory, or the flush was refused, which is told, with the block that was given up, or
+-- all was written and the end of it had a fault, which is told as one of the disk.
 abbrev pub TellsWhyNotSaved : {D : Type 0} → Ghosts D → Execution → (before now : D) → Stop → Type 0
 TellsWhyNotSaved g run before now why =
-    IsOfDisk (g.fault_count before) (g.fault_count now) why ⊎ ((refusal : FlushRefusal) × (why ≡ flush_stop refusal) × IfRefused {T = Unit {0}} g (Err refusal) run before now)
+    (why ≡ starved)
+    ⊎ ((refusal : FlushRefusal) × (why ≡ flush_stop refusal) × IfRefused {T = Unit {0}} g (Err refusal) run before now)
+    ⊎ ((why ≡ stop.Refused (bare kind.Disk)) × HasRisen (g.fault_count before) (g.fault_count now) × IsFlushed run)
 
 -- why a store isn't opened: a fault of the device, or what is on it
 abbrev pub IsNotOpened : (faults faults_now : ℕ) (contents : List (List ℕ)) → Type 0

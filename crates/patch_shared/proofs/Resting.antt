@@ -70,6 +70,11 @@ pub fault_later : {T D : Type 0} (g : Ghosts D) (r : Result T Cause) (why : Caus
 fault_later g (Ok done) why old mid now is same told = tt
 fault_later g (Err e) why old mid now is same told = subst (λ x. RestsOn g x old now) (sym is) (rests_later g why old mid now same told)
 
+-- what is said of a cause is said of an answer that gives it
+pub cause_so : {T : Type 0} (r : Result T Cause) (why : Cause) (P : Cause → Type 0) → IsErrAnd r (λ e. e ≡ why) → P why → IfErr r P
+cause_so (Ok done) why P is told = tt
+cause_so (Err e) why P is told = subst P (sym is) told
+
 -- What lasts on it.
 
 -- where nothing was done to it but reads, it lasts as it stands if it did

@@ -1,5 +1,7 @@
 -- What is said of those who serve.
-use Rattle.std.specs.Prelude.{ℕ, zero, suc, List, ◌≡◌, ◌⊎◌, length, vec_len, sum_by, Result, Ok, Err, Option, Some, None}
+use Rattle.std.specs.Prelude.{ℕ, zero, suc, List, ◌≡◌, ◌≢◌, ◌⊎◌, length, slice_get, vec_len, sum_by, Result, Ok, Err, Option, Some, None}
+use Rattle.patch_model.specs.Execution.{Execution}
+use Rattle.patch_model.specs.History.{cached, history_of}
 use Rattle.patch_cache.specs.declared.landing.TheConstants.{TRIES}
 use Rattle.patch_cache.specs.Waves.{HasGivenUp}
 use Rattle.patch_cache.specs.Refused.{HasRefused, HasNotSynced}
@@ -50,6 +52,24 @@ RestsOn g cause.Disagreed before now = Unit {0}
 RestsOn g (cause.ReadBack block) before now = Unit {0}
 RestsOn g cause.NoThread before now = Unit {0}
 RestsOn g cause.OutOfMemory before now = Unit {0}
+
+-- it is this block that was given up, or read back
+abbrev pub IsAt : ℕ → Cause → Type 0
+IsAt n (cause.DeviceGaveUp block) = block ≡ n
+IsAt n cause.SyncFailed = Unit {0}
+IsAt n cause.Disagreed = Unit {0}
+IsAt n (cause.ReadBack block) = block ≡ n
+IsAt n cause.NoThread = Unit {0}
+IsAt n cause.OutOfMemory = Unit {0}
+
+-- a block of which is told that it was read back is another one in these contents than the cached one
+abbrev pub IfReadBack : Execution → (contents : List (List ℕ)) → Cause → Type 0
+IfReadBack run contents (cause.DeviceGaveUp block) = Unit {0}
+IfReadBack run contents cause.SyncFailed = Unit {0}
+IfReadBack run contents cause.Disagreed = Unit {0}
+IfReadBack run contents (cause.ReadBack block) = slice_get contents block ≢ Some (cached (history_of run block))
+IfReadBack run contents cause.NoThread = Unit {0}
+IfReadBack run contents cause.OutOfMemory = Unit {0}
 
 -- a cause of which no device comes back
 abbrev pub IsBare : Cause → Type 0

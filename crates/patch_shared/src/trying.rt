@@ -1,5 +1,5 @@
 //! Writes and reads of a device that may fail, tried again.
-ghost use Rattle.std.specs.Prelude.{ℕ, List, ◌≡◌, ◌<◌, length, slice_get, Some, IfErr, OnOk, OnErr};
+ghost use Rattle.std.specs.Prelude.{ℕ, List, ◌≡◌, ◌↔◌, ◌<◌, true, length, slice_get, Some, IfErr, OnOk, OnErr};
 ghost use Rattle.patch_model.specs.Execution.{Execution};
 ghost use Rattle.patch_model.specs.History.{cached, history_of};
 ghost use Rattle.patch_device.specs.SameDevice.{IsSameDevice};
@@ -8,7 +8,7 @@ ghost use Rattle.patch_cache.specs.declared.landing.TheConstants.{TRIES};
 ghost use Rattle.patch_cache.specs.Waves.{HasGivenUp};
 ghost use Rattle.patch_cache.specs.Refused.{AreRefused};
 ghost use Rattle.patch_store.specs.Flushing.{HoldCached};
-ghost use Rattle.patch_shared.specs.Serving.{RestsOn, StillLasts};
+ghost use Rattle.patch_shared.specs.Serving.{RestsOn, StillLasts, IsAt, IfReadBack};
 
 use crate::blocks::cached_block;
 use crate::faults::Cause;
@@ -42,6 +42,7 @@ fn read_tried<D: Device>(device: &mut D, n: u32, into: &mut [u8]) -> Result<(), 
     ensures moment { D.moment device.new ≡ D.moment device.old }
     ensures given { D.is_honest device.old → OnOk result (slice_get (D.contents device.old) n ≡ Some into.new) }
     ensures gave_up { IfErr result (λ cause. RestsOn D.Device cause device.old device.new) }
+    ensures told { IfErr result (IsAt n) }
 {
     for _tried in 0..TRIES {
         if device.read(n, into).is_ok() {
@@ -49,6 +50,17 @@ fn read_tried<D: Device>(device: &mut D, n: u32, into: &mut [u8]) -> Result<(), 
         }
     }
     Err(Cause::DeviceGaveUp(BlockNo(n)))
+}
+
+/// Whether these are a block's bytes with all its patches.
+fn is_cached(cache: &Cache, n: u32, bytes: &[u8]) -> bool
+    ensures { (run : Execution) → IsCacheOf cache.now run → n < length run.first
+        → (result ≡ true) ↔ (bytes.now ≡ cached (history_of run n)) }
+{
+    match cached_block(cache, n) {
+        Some(cached) => cached == bytes,
+        None => false,
+    }
 }
 
 /// Reads a block back, and compares it with the cached one.
@@ -59,13 +71,17 @@ fn compare_block<D: Device>(device: &mut D, cache: &Cache, n: u32) -> Result<(),
     ensures moment { D.moment device.new ≡ D.moment device.old }
     ensures holds { D.is_honest device.old → (run : Execution) → IsCacheOf cache.now run → n < length run.first
         → OnOk result (slice_get (D.contents device.old) n ≡ Some (cached (history_of run n))) }
+    ensures differs { D.is_honest device.old → (run : Execution) → IsCacheOf cache.now run → n < length run.first
+        → IfErr result (IfReadBack run (D.contents device.old)) }
     ensures gave_up { IfErr result (λ cause. RestsOn D.Device cause device.old device.new) }
+    ensures told { IfErr result (IsAt n) }
 {
     let mut bytes = [0u8; BLOCK];
     read_tried(device, n, &mut bytes)?;
-    match cached_block(cache, n) {
-        Some(cached) if cached == bytes.as_slice() => Ok(()),
-        _ => Err(Cause::ReadBack(BlockNo(n))),
+    if is_cached(cache, n, &bytes) {
+        Ok(())
+    } else {
+        Err(Cause::ReadBack(BlockNo(n)))
     }
 }
 
@@ -75,6 +91,8 @@ pub(crate) fn read_back<D: Device>(device: &mut D, cache: &Cache) -> Result<(), 
     ensures lasts { StillLasts D.Device device.old device.new }
     ensures holds { D.is_honest device.old → (run : Execution) → IsCacheOf cache.now run → D.block_count device.old ≡ length run.first
         → OnOk result (HoldCached run (D.contents device.new)) }
+    ensures differs { D.is_honest device.old → (run : Execution) → IsCacheOf cache.now run → D.block_count device.old ≡ length run.first
+        → IfErr result (IfReadBack run (D.contents device.new)) }
     ensures gave_up { IfErr result (λ cause. RestsOn D.Device cause device.old device.new) }
 {
     for n in 0..device.count() {

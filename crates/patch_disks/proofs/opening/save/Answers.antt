@@ -4,7 +4,7 @@ use Rattle.patch_store.specs.Flushing.{run_after}
 use Rattle.patch_disks.specs.Stopping.{flush_stop, starved, TellsWhyNotSaved}
 use Rattle.patch_disks.proofs.Going.{goes_by_writes, lasts_both}
 use Rattle.patch_disks.proofs.Saving.{flushed_goes, flushed_ends, flushed_stands, saved_so}
-use Rattle.patch_disks.proofs.Stopping.{err_so, flush_stops, risen_behind, kind_so, disk_behind}
+use Rattle.patch_disks.proofs.Stopping.{err_so, flush_stops, risen_behind, kind_so, end_stops}
 use Rattle.patch_disks.proofs.opening.save.Goals as goal
 
 pub returns-clause-saved : goal.returns-clause-saved
@@ -72,16 +72,18 @@ returns-in_err-flush-clause-kind g c honest h stands =
     let refusal = c.in_err-flush.field-0.0 in
     let counted = sym (g.met.D.Device.blocks_counted c.args.device.now honest) ∙ stands.images.count in
     kind_so c.from_residual.result (flush_stop refusal) (TellsWhyNotSaved d (run_after h c.args.store.now c.flush.new.store) c.args.device.now c.flush.new.device) c.from_residual.ensures.1
-    (inr (refusal, refl, c.in_err-flush.ensures.refused h stands.still.represents counted))
+    (inr (inl (refusal, refl, c.in_err-flush.ensures.refused h stands.still.represents counted)))
 
 pub returns-in_err-finish_device-clause-kind : goal.returns-in_err-finish_device-clause-kind
 returns-in_err-finish_device-clause-kind g c honest h stands =
     let d = g.D.Device in
     let why = c.in_err-finish_device.field-0.0 in
-    kind_so c.from_residual-in_err-finish_device.result why (TellsWhyNotSaved d (run_after h c.args.store.now c.flush.new.store) c.args.device.now c.finish_device.new.device) c.from_residual-in_err-finish_device.ensures.1
-    (inl (disk_behind (d.fault_count c.args.device.now) (d.fault_count c.flush.new.device) (d.fault_count c.finish_device.new.device) why
-    (λ risen. risen_behind d c.args.device.now c.flush.new.device c.finish_device.new.device (g.met.D.Device.faults_fit c.finish_device.new.device) c.flush.ensures.device risen) c.in_err-finish_device.ensures.kind))
+    let run = run_after h c.args.store.now c.flush.new.store in
+    kind_so c.from_residual-in_err-finish_device.result why (TellsWhyNotSaved d run c.args.device.now c.finish_device.new.device) c.from_residual-in_err-finish_device.ensures.1
+    (end_stops d run c.args.device.now c.flush.new.device c.finish_device.new.device why (g.met.D.Device.faults_fit c.finish_device.new.device) c.flush.ensures.device
+    (c.in_ok-flush.ensures.flushed h stands.still) c.in_err-finish_device.ensures.kind)
 
 pub returns-in_err-drain_trace-clause-kind : goal.returns-in_err-drain_trace-clause-kind
 returns-in_err-drain_trace-clause-kind g c honest h stands =
-    kind_so c.from_residual-in_err-drain_trace.result starved (TellsWhyNotSaved g.D.Device _ c.args.device.now c.finish_device.new.device) c.from_residual-in_err-drain_trace.ensures.1 (inl (inl refl))
+    kind_so c.from_residual-in_err-drain_trace.result starved (TellsWhyNotSaved g.D.Device (run_after h c.args.store.now c.drain_trace.new.self) c.args.device.now c.finish_device.new.device)
+    c.from_residual-in_err-drain_trace.ensures.1 (inl refl)

@@ -1,10 +1,11 @@
-use Rattle.std.proofs.Common.{◌≡◌, ◌<◌, ◌∙◌, Some, length, refl, subst, arith}
+use Rattle.std.proofs.Common.{◌≡◌, ◌<◌, ◌∙◌, Some, length, refl, sym, subst, arith}
 use Rattle.std.specs.Prelude.{slice_get}
 use Rattle.std.proofs.lemmas.Result.{IfOk-from_err}
 use Rattle.patch_device.specs.SameDevice.{same_still, same_both}
 use Rattle.patch_model.specs.History.{cached, history_of}
 use borrow.Author.Count.{below_more}
-use Rattle.patch_shared.proofs.Resting.{fault_later, lasts_on}
+use Rattle.patch_shared.specs.Serving.{IfReadBack}
+use Rattle.patch_shared.proofs.Resting.{fault_later, lasts_on, cause_so}
 use Rattle.patch_shared.proofs.trying.read_back.Goals as goal
 
 pub compare_block-requires : goal.compare_block-requires
@@ -60,3 +61,13 @@ returns-in_err-compare_block-clause-lasts g c = λ honest.
     lasts_on d c.args.device.now c.compare_block.new.device
     (same_both d c.args.device.now c.loop-n.device c.compare_block.new.device so_far.same c.in_err-compare_block.ensures.device)
     (c.in_err-compare_block.ensures.moment ∙ so_far.moment) (c.in_err-compare_block.ensures.same (so_far.same.honesty.0 honest) ∙ so_far.contents_are honest)
+
+pub returns-in_err-compare_block-clause-differs : goal.returns-in_err-compare_block-clause-differs
+returns-in_err-compare_block-clause-differs g c honest run stands count =
+    let d = g.D.Device in
+    let so_far = c.loop-n.invariant in
+    let told = c.in_err-compare_block.ensures in
+    let here = so_far.same.honesty.0 honest in
+    let there : c.loop-n.n < length run.first = omega (arith, count) in
+    cause_so c.from_residual.result c.in_err-compare_block.field-0.0 (IfReadBack run (d.contents c.compare_block.new.device)) c.from_residual.ensures.1
+    (subst (λ x. IfReadBack run x c.in_err-compare_block.field-0.0) (sym (told.same here)) (told.differs here run stands there))
