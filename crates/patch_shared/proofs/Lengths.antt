@@ -1,7 +1,8 @@
 -- Cached blocks have the length of a block.
 use Rattle.std.proofs.Common.{◌≡◌, ℕ, ◌+◌, ◌<◌, ◌≤◌, ◌∙◌, ◌++◌, sym, inl, inr, List, [], ◌∷◌, length, map, slice_range, refl, ap, arith}
-use Rattle.std.specs.Prelude.{◌==◌, not, filter, slice_index_or}
+use Rattle.std.specs.Prelude.{◌==◌, not, false, nat_le, filter, slice_index_or, Some, None}
 use Rattle.std.specs.List.{range_with_len}
+use Rattle.std.proofs.lemmas.Bool.{lt-leb}
 use Rattle.std.proofs.lemmas.List.{take_all}
 use Rattle.std.proofs.lemmas.List.FromFn.{map-range_with_len_more}
 use Rattle.patch_model.specs.declared.blocks.TheConstants.{BLOCK}
@@ -12,6 +13,8 @@ use Rattle.patch_model.specs.State.{entries_of}
 use Rattle.patch_model.specs.History.{history_of, of_block, cached}
 use Rattle.patch_model.specs.Legal.{IsLegal}
 use Rattle.patch_model.specs.Orderly.{IsOrderly}
+use Rattle.patch_model.specs.declared.refusals.Refusal.{Refusal}
+use Rattle.patch_model.specs.Refusing.{why_not_shown}
 use Rattle.patch_model.specs.Laying.{length-lay}
 use Rattle.patch_model.specs.Member.{In, filter-In, Contains-from_In}
 
@@ -45,3 +48,9 @@ pub copied_more : (f : ℕ → List ℕ) (xs : List (List ℕ)) (n : ℕ) (x : L
 copied_more f xs n x so_far is =
     ap (λ ys. ys ++ x ∷ []) so_far ∙ ap (λ y. map f (range_with_len 0 n) ++ y ∷ []) is
     ∙ sym (map-range_with_len_more f 0 n n (let e : 0 + n ≡ n = omega arith in e))
+
+-- no cause stands against reading all bytes of a block that there is
+pub none_refused : (blocks block : ℕ) (cause : Refusal) → block < blocks → why_not_shown blocks block 0 BLOCK ≡ Some cause → ⊥
+none_refused blocks block cause less told =
+    let known : nat_le blocks block ≡ false = lt-leb blocks block less in
+    let none : why_not_shown blocks block 0 BLOCK ≡ None = rw known refl in cc

@@ -1,5 +1,5 @@
 //! Whole blocks of a cache, and copies of all of them.
-ghost use Rattle.std.specs.Prelude.{◌≡◌, ◌<◌, length, IfOk, IfSome};
+ghost use Rattle.std.specs.Prelude.{◌≡◌, ◌<◌, length, IfOk, MatchOption};
 ghost use Rattle.patch_model.specs.Execution.{Execution};
 ghost use Rattle.patch_model.specs.History.{cached, history_of};
 ghost use Rattle.patch_cache.specs.Meaning.{Represents as IsCacheOf};
@@ -9,10 +9,10 @@ use patch_cache::Cache;
 use patch_model::{BLOCK, BlockBytes, BlockNo, OutOfMemory, laws as model_laws};
 use std::alloc::Allocator;
 
-/// The bytes of a block with all its patches, if there is such a block.
+/// The bytes of a block with all its patches, where there is such a block.
 pub(crate) fn cached_block<A: Allocator + Copy>(cache: &Cache<A>, n: u32) -> Option<&[u8]>
     ensures { (run : Execution) → IsCacheOf cache.now run → n < length run.first
-        → IfSome result (λ bytes. bytes.now ≡ cached (history_of run n)) }
+        → MatchOption result ⊥ (λ bytes. bytes.now ≡ cached (history_of run n)) }
 {
     model_laws::executions_are_orderly();
     match cache.read(BlockNo(n), 0, BLOCK) {
