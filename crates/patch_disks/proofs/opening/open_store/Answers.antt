@@ -19,10 +19,10 @@ returns-clause-stops g c honest =
 pub returns-in_err-blocks-clause-kind : goal.returns-in_err-blocks-clause-kind
 returns-in_err-blocks-clause-kind g c honest =
     let faults = g.D.Device.fault_count in
-    kind_so c.from_residual.result c.in_err-blocks.field-0.0 (TellsWhyNotOpened (faults c.args.device.now) (faults c.blocks.new.device) (g.D.Device.contents c.args.device.now)) c.from_residual.ensures.1 (inl c.in_err-blocks.ensures.kind)
+    kind_so c.from_residual.result c.in_err-blocks.field-0.0 (TellsWhyNotOpened (faults c.args.device.now) (faults c.read_blocks.new.device) (g.D.Device.contents c.args.device.now)) c.from_residual.ensures.1 (inl c.in_err-blocks.ensures.kind)
 
 pub returns-clause-kind : goal.returns-clause-kind
 returns-clause-kind g c honest =
     let faults = g.D.Device.fault_count in
-    kind_for c.store_of.result (TellsTest c.in_ok-blocks.field-0.items) (TellsWhyNotOpened (faults c.args.device.now) (faults c.blocks.new.device) (g.D.Device.contents c.args.device.now))
+    kind_for c.store_of.result (TellsTest c.in_ok-blocks.blocks.items) (TellsWhyNotOpened (faults c.args.device.now) (faults c.read_blocks.new.device) (g.D.Device.contents c.args.device.now))
     (λ why told. inr (subst (λ blocks. TellsTest blocks why) (c.in_ok-blocks.ensures.gives honest) told)) c.store_of.ensures.kind
