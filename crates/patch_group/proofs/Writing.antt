@@ -17,7 +17,7 @@ use Rattle.patch_cache.specs.Running.{Runs}
 use Rattle.patch_cache.specs.Waves.{is_send, is_write, steps_since, Continues, HasGoneOn, HasKept, KeepsDisk, HasWrittenOne, IsFlushed}
 use Rattle.patch_cache.specs.Joining.{SinceJoin, StretchesJoin, KeptJoin, TriesJoin}
 use Rattle.patch_cache.specs.Tries.{EachTried}
-use Rattle.patch_cache.specs.declared.flights.Flight.{Flight}
+use Rattle.patch_cache.specs.declared.flights.Flight.{Flight as HeldFlight}
 use Rattle.patch_cache.specs.Refused.{IfGivenUp}
 use Rattle.patch_cache.specs.declared.flights.Flights.{Flights}
 use Rattle.patch_cache.specs.declared.refusals.FlushRefusal.{FlushRefusal}
@@ -57,7 +57,7 @@ pub since_both : SinceJoin → (run : Execution) (old mid now : Contents) → Co
 since_both joins run old mid now one two = flat run (steps_since old mid) (steps_since mid now) ∙ ap (followed_by run) (sym (joins old mid now one two).1)
 
 -- what was tried in both
-pub tried_both : SinceJoin → {A D : Type 0} → (g : Ghosts D) → TriesJoin A g → (old mid now : Contents) (held between : List (Flight A)) (first mids last : D) → Continues old mid → Continues mid now
+pub tried_both : SinceJoin → {A D : Type 0} → (g : Ghosts D) → TriesJoin A g → (old mid now : Contents) (held between : List (HeldFlight A)) (first mids last : D) → Continues old mid → Continues mid now
     → EachTried g (steps_since old mid) held first mids → between ≡ [] → EachTried g (steps_since mid now) between mids last → EachTried g (steps_since old now) held first last
 tried_both joins g tries old mid now held between first mids last one two before none after =
     subst (λ s. EachTried g s held first last) (sym (joins old mid now one two).1) (tries (steps_since old mid) (steps_since mid now) held between first mids last before none after)
