@@ -59,6 +59,6 @@ returns-clause-done g c h was =
 
 pub returns-clause-each : goal.returns-clause-each
 returns-clause-each g c h was =
-    said_beside (λ h steps. EachTried g.D.Device steps [] c.args.device.now c.flush-flushed.new.device) _ _ c.flush-flushed.new.self
+    said_beside (λ h steps. EachTried {A = g.row.A.Denot} g.D.Device steps [] c.args.device.now c.flush-flushed.new.device) _ _ c.flush-flushed.new.self
     c.new-flights.result c.store.view_is c.new-flights.ensures
-    (λ h runs. subst (λ held. EachTried g.D.Device (steps_since _ c.flush-flushed.new.self) held c.args.device.now c.flush-flushed.new.device) c.new-flights.ensures (c.flush-flushed.ensures.each true (execution_of h) runs)) h was
+    (λ h runs. subst (λ held. EachTried {A = g.row.A.Denot} g.D.Device (steps_since c.store.inside.cache c.flush-flushed.new.self) held c.args.device.now c.flush-flushed.new.device) c.new-flights.ensures (c.flush-flushed.ensures.each true (execution_of h) runs)) h was
