@@ -8,6 +8,7 @@ ghost use Rattle.patch_cache.specs.declared.landing.TheConstants.{TRIES};
 ghost use Rattle.patch_cache.specs.Waves.{HasGivenUp};
 ghost use Rattle.patch_cache.specs.Refused.{AreRefused};
 ghost use Rattle.patch_store.specs.Flushing.{HoldCached};
+ghost use Rattle.patch_shared.specs.declared.faults.Cause.TheVariants as why;
 ghost use Rattle.patch_shared.specs.Serving.{RestsOn, StillLasts, IsAt, IfReadBack};
 
 use crate::blocks::cached_block;
@@ -42,7 +43,7 @@ fn read_tried<D: Device>(device: &mut D, n: u32, into: &mut [u8]) -> Result<(), 
     ensures moment { D.moment device.new ≡ D.moment device.old }
     ensures given { D.is_honest device.old → OnOk result (slice_get (D.contents device.old) n ≡ Some into.new) }
     ensures gave_up { IfErr result (λ cause. RestsOn D.Device cause device.old device.new) }
-    ensures told { IfErr result (IsAt n) }
+    ensures told { IfErr result (λ cause. cause ≡ why.DeviceGaveUp n) }
 {
     for _tried in 0..TRIES {
         if device.read(n, into).is_ok() {
