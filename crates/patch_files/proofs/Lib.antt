@@ -1,2 +1,3 @@
 pub mod Writers
 pub mod Sending
+pub mod Unserved

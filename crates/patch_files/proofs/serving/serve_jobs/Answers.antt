@@ -1,5 +1,6 @@
 use Rattle.patch_shared.specs.Telling.{commands_in}
 use Rattle.patch_files.proofs.Writers.{served_so, same_over, lasts_over}
+use Rattle.patch_files.proofs.Unserved.{unserved_over}
 use Rattle.patch_files.proofs.serving.serve_jobs.Goals as goal
 
 pub returns-clause-device : goal.returns-clause-device
@@ -16,3 +17,6 @@ pub returns-clause-lasts : goal.returns-clause-lasts
 returns-clause-lasts g c honest =
     let done = c.in_ok-finished.ensures in
     lasts_over g.D.Device c.finish.result _ _ (done.lasts honest) (c.finish.ensures.lasts (done.device.honesty.0 honest))
+
+pub returns-clause-back : goal.returns-clause-back
+returns-clause-back g c = unserved_over g.D.Device c.finish.result _ _ c.in_ok-finished.ensures.device c.finish.ensures.back

@@ -1,6 +1,7 @@
 use Rattle.std.proofs.Common.{◌∙◌, ap}
 use Rattle.patch_files.specs.Serving.{jobs_by}
 use Rattle.patch_files.proofs.Writers.{same_over, lasts_over, lasts_alike}
+use Rattle.patch_files.proofs.Unserved.{back_over}
 use Rattle.patch_files.proofs.serving.serve_lines.Goals as goal
 
 pub returns-in-Ok-clause-device : goal.returns-in-Ok-clause-device
@@ -17,3 +18,6 @@ returns-in-Ok-clause-lasts g c honest =
     let ready = c.prepare.ensures in
     lasts_over g.D.Device c.serve_jobs.result _ _ (lasts_alike g.D.Device _ _ ready.device ready.no_moment (ready.same honest))
     (c.serve_jobs.ensures.lasts (ready.device.honesty.0 honest))
+
+pub returns-in-Ok-clause-back : goal.returns-in-Ok-clause-back
+returns-in-Ok-clause-back g c = back_over g.D.Device c.serve_jobs.result _ _ c.prepare.ensures.device c.serve_jobs.ensures.back
