@@ -28,7 +28,6 @@ fn whole_blocks(length: usize) -> Option<u32>
 }
 
 /// Copies of the blocks.
-#[tactic(auto, using(crate::proofs::Refused::starved_why))]
 pub fn blocks_in(alloc: Global, bytes: &[u8]) -> Result<Vec<BlockBytes>, Unopened>
     ensures blocks { IfOk result (λ blocks. blocks.items ≡ blocks_in bytes.now) }
     ensures whole { IfOk result (λ blocks. length bytes.now ≡ length blocks.items * BLOCK) }

@@ -3,7 +3,7 @@ use Rattle.std.proofs.lemmas.List.FromFn.{length-map-range_with_len, map-range_w
 use Rattle.patch_model.specs.declared.blocks.TheConstants.{BLOCK}
 use Rattle.patch_device.specs.Blocks.{FitsFile}
 use Rattle.patch_c.specs.Opening.{block_in}
-use Rattle.patch_c.proofs.Refused.{no_file}
+use Rattle.patch_c.proofs.Refused.{no_file, starved_why}
 use Rattle.patch_c.proofs.given.blocks_in.Goals as goal
 
 pub returns-in_default-clause-why : goal.returns-in_default-clause-why
@@ -29,3 +29,12 @@ returns-clause-fits c =
     ap length c.loop-n.invariant ∙ length-map-range_with_len (block_in c.args.bytes.now) 0 c.loop-n.n in
     let last : c.loop-n.n ≡ c.in-Some.count = let done = c.loop-n-test.false in let low = c.loop-n.auto.n-end in omega arith in
     subst FitsFile (sym (many ∙ last)) c.in-Some.ensures.fits
+
+pub returns-in_err-blocks-clause-why : goal.returns-in_err-blocks-clause-why
+returns-in_err-blocks-clause-why c = starved_why c.args.bytes.now c.in-Some.count c.from_residual.result c.from_residual.ensures.1 c.in-Some.ensures.whole c.in-Some.ensures.fits
+
+pub returns-in_err-from_slice-clause-why : goal.returns-in_err-from_slice-clause-why
+returns-in_err-from_slice-clause-why c = starved_why c.args.bytes.now c.in-Some.count c.from_residual-in_err-from_slice.result c.from_residual-in_err-from_slice.ensures.1 c.in-Some.ensures.whole c.in-Some.ensures.fits
+
+pub returns-in_err-push-clause-why : goal.returns-in_err-push-clause-why
+returns-in_err-push-clause-why c = starved_why c.args.bytes.now c.in-Some.count c.from_residual-in_err-push.result c.from_residual-in_err-push.ensures.1 c.in-Some.ensures.whole c.in-Some.ensures.fits
