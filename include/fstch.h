@@ -16,7 +16,8 @@
  *
  * Answers. Every call but fstch_is_open, fstch_error_text and fstch_version answers FSTCH_DONE or the number of why it was refused.
  * A refused call changes nothing, in the store or in what it was given, but where it says so. With FSTCH_OUT_OF_MEMORY each key has
- * the value that it had. Each call lists its own answers, in the order in which they are tested. Each that takes an open store may also
+ * the value that it had. Behind FSTCH_DISK and FSTCH_DEVICE_GAVE_UP errno has why the system refused a call; behind other answers it
+ * says nothing. Each call lists its own answers, in the order in which they are tested. Each that takes an open store may also
  * answer FSTCH_NOT_OPEN, which goes before all others.
  *
  * What a caller owes, and nothing tests:

@@ -31,13 +31,20 @@ static int open_file(const char *path, int flags) {
     return file;
 }
 
+/* Closes a file, and leaves errno as it is: it says why a call failed before. */
+static void close_file(int file) {
+    int kept = errno;
+    close(file);
+    errno = kept;
+}
+
 /* The same file, by a number above those of the standard streams: a program that has closed one of these may write to it all the same. */
 static int above_streams(int file) {
     if (file < 0 || file >= LOWEST_FILE) {
         return file;
     }
     int above = fcntl(file, F_DUPFD_CLOEXEC, LOWEST_FILE);
-    close(file);
+    close_file(file);
     return above;
 }
 
@@ -70,6 +77,14 @@ static bool sync_data(int file) {
     return answer == 0;
 }
 
+/* Whether a call of the system took no bytes, which is a fault of the disk where it says no other. */
+static bool is_stuck(ssize_t count) {
+    if (count == 0) {
+        errno = EIO;
+    }
+    return count <= 0;
+}
+
 /* Reads so many bytes from the file's beginning. It fails also where there are fewer. */
 static bool read_bytes(int file, uint8_t *into, size_t length) {
     size_t done = 0;
@@ -78,7 +93,7 @@ static bool read_bytes(int file, uint8_t *into, size_t length) {
         if (is_interrupted(count)) {
             continue;
         }
-        if (count <= 0) {
+        if (is_stuck(count)) {
             return false;
         }
         done += (size_t)count;
@@ -93,7 +108,7 @@ static bool write_once(int file, uint32_t block, const uint8_t *bytes) {
         if (is_interrupted(count)) {
             continue;
         }
-        if (count <= 0) {
+        if (is_stuck(count)) {
             return false;
         }
         done += (size_t)count;
@@ -129,6 +144,7 @@ static bool give_room(int file, uint32_t blocks) {
     if (error == EINVAL || error == EOPNOTSUPP || error == ENOSYS) {
         return write_zeros(file, blocks); /* the system can't, so that writing takes the room */
     }
+    errno = error;
     return error == 0;
 }
 
@@ -138,8 +154,15 @@ static bool finish_file(int file, uint32_t blocks, const uint8_t *first) {
         return false;
     }
     bool is_finished = give_room(file, blocks) && write_block(file, 0, first) && sync_all(file);
-    close(file);
+    close_file(file);
     return is_finished;
+}
+
+/* Frees what was allocated, and leaves errno as it is. */
+static void free_bytes(void *bytes) {
+    int kept = errno;
+    free(bytes);
+    errno = kept;
 }
 
 /* The directory of a path, to be freed. NULL where there is no memory. */
@@ -166,7 +189,7 @@ static bool sync_directory(const char *directory) {
         return false;
     }
     bool is_synced = sync_all(file) || errno == EINVAL;
-    close(file);
+    close_file(file);
     return is_synced;
 }
 
@@ -176,7 +199,9 @@ static int32_t make_file(const char *path, const char *directory, uint32_t block
         return FSTCH_DISK;
     }
     if (!finish_file(above_streams(file), blocks, first) || !sync_directory(directory)) {
+        int kept = errno;
         unlink(path);
+        errno = kept;
         return FSTCH_DISK;
     }
     return FSTCH_DONE;
@@ -194,7 +219,7 @@ int32_t fstch_make(const char *path, uint32_t index_blocks, uint32_t extents, ui
         return FSTCH_OUT_OF_MEMORY;
     }
     answer = make_file(path, directory, blocks, first);
-    free(directory);
+    free_bytes(directory);
     return answer;
 }
 
@@ -224,7 +249,7 @@ static int32_t open_store(fstch_store *store, int file, bool has_barriers, uint3
     if (settle_file(file) && read_bytes(file, bytes, (size_t)length)) {
         answer = fstch_core_open(store, file, has_barriers, bytes, (size_t)length, slot);
     }
-    free(bytes);
+    free_bytes(bytes);
     return answer;
 }
 
@@ -241,7 +266,7 @@ int32_t fstch_open_with(fstch_store *store, const char *path, uint32_t flags, ui
         answer = open_store(store, file, (flags & FSTCH_NO_BARRIERS) == 0, slot);
     }
     if (answer != FSTCH_DONE) {
-        close(file);
+        close_file(file);
     }
     return answer;
 }
@@ -282,7 +307,9 @@ int32_t fstch_sync(fstch_store *store) {
     if (answer == FSTCH_DONE) {
         answer = write_tape(store, fstch_core_file(store), fstch_core_barriers(store));
     }
+    int kept = errno; /* (the core asks for memory) */
     fstch_core_synced(store, answer == FSTCH_DONE);
+    errno = kept;
     return answer;
 }
 

@@ -2,6 +2,8 @@
 
 from __future__ import annotations
 
+import errno
+import os
 from typing import Optional
 
 __all__ = [
@@ -15,6 +17,9 @@ __all__ = [
     "BufferTooSmall",
     "DeviceGaveUp",
     "Disk",
+    "DiskForbidden",
+    "DiskMissing",
+    "DiskTaken",
     "DuplicateKey",
     "EmptyExtent",
     "Engaged",
@@ -69,9 +74,22 @@ class OutOfMemory(Error, MemoryError):
 
 
 class Disk(Error, OSError):
-    """The file can't be opened, made, read or written; or there is one already where one is to be made."""
+    """The file can't be opened, made, read or written; or there is one already where one is to be made. `errno` and `filename` say why,
+    and of which file; where that has an exception of its own, it is that one too."""
 
     number = 4
+
+
+class DiskMissing(Disk, FileNotFoundError):
+    """There is no such file, or no such folder."""
+
+
+class DiskTaken(Disk, FileExistsError):
+    """There is something of this name already."""
+
+
+class DiskForbidden(Disk, PermissionError):
+    """There is no right to do it."""
 
 
 class FileSize(Error):
@@ -225,7 +243,7 @@ class DuplicateKey(Error):
 
 
 class DeviceGaveUp(Error, OSError):
-    """The file refused the write of a block, each time that it was tried. Close the store and open it again."""
+    """The file refused the write of a block, each time that it was tried, last for the cause in `errno`. Close the store and open it again."""
 
     number = 57
 
@@ -286,8 +304,19 @@ class WrongThread(Error):
 _BY_NUMBER = {kind.number: kind for kind in Error.__subclasses__() if kind.number is not None}
 
 
+_BY_SYSTEM = {errno.ENOENT: DiskMissing, errno.EEXIST: DiskTaken, errno.EACCES: DiskForbidden, errno.EPERM: DiskForbidden}
+
+
 def of(number: int, text: str) -> Error:
     """The exception for an answer of the library, with its text."""
     error = _BY_NUMBER.get(number, Error)(text)
     error.number = number
+    return error
+
+
+def of_system(number: int, text: str, why: int, filename: object) -> Error:
+    """The exception for an answer behind which the system has refused a call: why, and of which file."""
+    error = _BY_SYSTEM.get(why, Disk)(text) if number == Disk.number else of(number, text)
+    if isinstance(error, OSError):
+        error.errno, error.strerror, error.filename = why, os.strerror(why), filename
     return error

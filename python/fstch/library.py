@@ -17,6 +17,8 @@ VERSION = 200
 
 NAME = "libfstch.so"
 VARIABLE = "FSTCH_LIBRARY"
+# How many bytes of a key an exception shows at most: of a longer one its length.
+SHOWN = 64
 
 
 class Handle(ctypes.Structure):
@@ -74,7 +76,7 @@ def _load() -> ctypes.CDLL:
     why: Optional[OSError] = None
     for name in _names():
         try:
-            return _declared(ctypes.CDLL(name))
+            return _declared(ctypes.CDLL(name, use_errno=True))
         except OSError as error:
             why = why or error
     raise ImportError(why or f"there is no {NAME} beside the module: './build-library' makes it, and {VARIABLE} may name one elsewhere")
@@ -113,5 +115,10 @@ def require_done(answer: int, about: object = None) -> None:
 
 def refusal(answer: int, about: object = None) -> errors.Error:
     """The exception of an answer."""
+    why = ctypes.get_errno()
     text = text_of(answer)
-    return errors.of(answer, text if about is None else f"{text}: {about!r}")
+    if about is not None:
+        text += f": {len(about)} bytes" if isinstance(about, bytes) and len(about) > SHOWN else f": {about!r}"
+    if answer in (errors.Disk.number, errors.DeviceGaveUp.number):
+        return errors.of_system(answer, f"{text}: {os.strerror(why)}", why, about)
+    return errors.of(answer, text)

@@ -10,7 +10,7 @@ import weakref
 from collections.abc import Iterable, Iterator, MutableMapping
 from ctypes import byref, c_size_t, c_uint32, c_uint8
 from types import TracebackType
-from typing import NamedTuple, Optional, Type, Union
+from typing import NamedTuple, NoReturn, Optional, Type, Union
 
 from . import errors
 from .library import Handle, calls, refusal, require_done
@@ -74,14 +74,17 @@ class Store(MutableMapping[bytes, bytes]):
     Whenever the program ends or the power is cut, the file opens again. One premise is left to the system and its disk: what was
     written to the file before an fsync that succeeded is there, and of what was written since, each block of 4,096 bytes is old or new.
 
-    Keys have 1 to 32 bytes. A store is used by the thread that opened it alone: other threads are refused with `WrongThread`, and so
+    Keys have 1 to 32 bytes. A store can't be copied or pickled. It is used by the thread that opened it alone: other threads are refused with `WrongThread`, and so
     is a child that is forked while it is open. Such a child holds the file's lock too, until it ends.
     """
 
     def __init__(self, path: Path, *, barriers: bool = True) -> None:
+        if hasattr(self, "_handle"):
+            raise TypeError("a store is opened once")
         self._handle = Handle()
         self._thread: Optional[int] = threading.get_ident()
-        self._room = ctypes.create_string_buffer(ROOM)
+        # (what values are copied to, while no call has it)
+        self._room: Optional[ctypes.Array[ctypes.c_char]] = None
         self._path = path
         slot = c_uint32(NO_SLOT)
         answer = calls.fstch_open_with(self._handle, _name(path), 0 if barriers else NO_BARRIERS, byref(slot))
@@ -149,13 +152,16 @@ class Store(MutableMapping[bytes, bytes]):
     def __getitem__(self, key: bytes) -> bytes:
         """The value of a key. Raises `Absent`, which is a KeyError, and `KeyLength` and `OutOfMemory`."""
         handle, name, length = self._own(), _bytes(key), c_size_t()
-        room = self._room
+        # (what reads the store in between, as a signal's handler may, finds no room here and takes one of its own)
+        room, self._room = self._room or ctypes.create_string_buffer(ROOM), None
         answer = calls.fstch_get(handle, name, len(name), room, len(room), byref(length))
-        if answer == errors.BufferTooSmall.number:
-            self._room = room = ctypes.create_string_buffer(length.value)
+        while answer == errors.BufferTooSmall.number:
+            room = ctypes.create_string_buffer(length.value)
             answer = calls.fstch_get(handle, name, len(name), room, len(room), byref(length))
-        require_done(answer, key)
-        return ctypes.string_at(room, length.value)
+        value = ctypes.string_at(room, length.value)
+        self._room = room
+        require_done(answer, name)
+        return value
 
     def __setitem__(self, key: bytes, value: bytes) -> None:
         """Puts a value under a key, in place of the one that it had.
@@ -163,7 +169,8 @@ class Store(MutableMapping[bytes, bytes]):
         Raises `KeyLength`, `ValueLength`, `IndexFull`, `NoSpace`, `NumbersSpent`, `TooManyLive` and `OutOfMemory`.
         """
         handle, name, content = self._own(), _bytes(key), _bytes(value)
-        require_done(calls.fstch_put(handle, WRITER, name, len(name), content, len(content)), key)
+        answer = calls.fstch_put(handle, WRITER, name, len(name), content, len(content))
+        require_done(answer, content if answer == errors.ValueLength.number else name)
 
     def __delitem__(self, key: bytes) -> None:
         """Takes a key and its value away.
@@ -171,7 +178,7 @@ class Store(MutableMapping[bytes, bytes]):
         Raises `NoKey`, which is a KeyError, and `KeyLength`, `NumbersSpent`, `TooManyLive` and `OutOfMemory`.
         """
         handle, name = self._own(), _bytes(key)
-        require_done(calls.fstch_delete(handle, WRITER, name, len(name)), key)
+        require_done(calls.fstch_delete(handle, WRITER, name, len(name)), name)
 
     def __contains__(self, key: object) -> bool:
         """Whether a key has a value. No key of a wrong length or type has one."""
@@ -179,7 +186,7 @@ class Store(MutableMapping[bytes, bytes]):
         if not isinstance(key, (bytes, bytearray, memoryview)):
             return False
         name, length = bytes(key), c_size_t()
-        answer = calls.fstch_get(handle, name, len(name), self._room, 0, byref(length))
+        answer = calls.fstch_get(handle, name, len(name), None, 0, byref(length))
         if answer in (errors.Absent.number, errors.KeyLength.number):
             return False
         if answer != errors.BufferTooSmall.number:
@@ -236,6 +243,15 @@ class Store(MutableMapping[bytes, bytes]):
         if handle is not None and handle.is_open and self._thread == threading.get_ident():
             warnings.warn(f"{self!r} was never closed", ResourceWarning, source=self)
             self.close()
+
+    def __copy__(self) -> NoReturn:
+        raise TypeError("a store can't be copied: its file has one")
+
+    def __deepcopy__(self, memo: object) -> NoReturn:
+        self.__copy__()
+
+    def __reduce__(self) -> NoReturn:
+        self.__copy__()
 
     def __repr__(self) -> str:
         return f"<fstch.Store {self._path!r}{'' if self._handle.is_open else ', closed'}>"

@@ -93,6 +93,7 @@ static void a_write_is_refused(void) {
     WANT(FSTCH_DONE, put(&store, "key", "second"));
     writes_till_refused = 0;
     WANT(FSTCH_DEVICE_GAVE_UP, fstch_sync(&store));
+    WANT(EIO, errno);
     writes_till_refused = -1;
     WANT(true, has(&store, "key", "second"));
     wants_reopened(&store, "key", "first");
@@ -120,6 +121,7 @@ static void wants_no_open_without(long *calls_till_refused) {
     WANT(FSTCH_DONE, fstch_close(&store));
     *calls_till_refused = 0;
     WANT(FSTCH_DISK, open_path(&store, FILE_NAME));
+    WANT(EIO, errno);
     *calls_till_refused = -1;
     WANT(false, fstch_is_open(&store));
     WANT(FSTCH_DONE, open_path(&store, FILE_NAME));
@@ -138,6 +140,7 @@ static void the_file_is_removed(void) {
     WANT(FSTCH_DONE, fstch_sync(&store));
     WANT(FSTCH_DONE, fstch_close(&store));
     WANT(FSTCH_DISK, open_path(&store, FILE_NAME));
+    WANT(ENOENT, errno);
 }
 
 static void a_file_that_is_too_long_is_not_read(void) {
@@ -180,16 +183,19 @@ static void a_file_is_not_finished(void) {
     remove(FILE_NAME);
     writes_till_refused = 0;
     WANT(FSTCH_DISK, make(FILE_NAME, 1, 4));
+    WANT(EIO, errno); /* and not what the removal of the file left there */
     writes_till_refused = -1;
     MUST(access(FILE_NAME, F_OK) != 0);
     for (long sync = 0; sync < 2; sync++) { /* of the file, and of its directory */
         syncs_till_refused = sync;
         WANT(FSTCH_DISK, make(FILE_NAME, 1, 4));
+        WANT(EIO, errno);
         syncs_till_refused = -1;
         MUST(access(FILE_NAME, F_OK) != 0);
     }
     answer_to_room = ENOSPC;
     WANT(FSTCH_DISK, make(FILE_NAME, 1, 4));
+    WANT(ENOSPC, errno);
     answer_to_room = 0;
     MUST(access(FILE_NAME, F_OK) != 0);
 }

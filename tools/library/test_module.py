@@ -1,7 +1,11 @@
 """Tests the module `fstch`: run where it is found, in a folder of its own."""
 
+import copy
+import ctypes
+import errno
 import gc
 import os
+import pickle
 import signal
 import subprocess
 import sys
@@ -9,6 +13,7 @@ import threading
 import unittest
 import warnings
 from pathlib import Path
+from unittest import mock
 
 import fstch
 
@@ -53,6 +58,37 @@ class Mapping(unittest.TestCase):
             store[b"k" * 32] = bytes(range(256)) * 128
             self.assertEqual(store[b"k" * 32], bytes(range(256)) * 128)
             self.assertIn(b"k" * 32, store)
+
+    def test_a_read_in_between_changes_no_other(self):
+        with new_store() as store:
+            store.update({b"a": b"1" * 100, b"b": b"2" * 100, b"long": b"3" * 5000})
+            copied, inside = ctypes.string_at, []
+
+            def read_first(*given):
+                if not inside:
+                    inside.append(True)
+                    self.assertEqual((store[b"b"], store[b"long"], b"a" in store), (b"2" * 100, b"3" * 5000, True))
+                    inside.clear()
+                return copied(*given)
+
+            with mock.patch("ctypes.string_at", read_first):
+                for _ in range(3):
+                    self.assertEqual(store[b"a"], b"1" * 100)
+                    self.assertEqual(store[b"long"], b"3" * 5000)
+
+    def test_a_handler_of_a_signal_may_read(self):
+        with new_store() as store:
+            store.update({b"a": b"1" * 100, b"b": b"2" * 100})
+            seen = []
+            before = signal.signal(signal.SIGALRM, lambda *_: seen.append(store[b"b"]))
+            signal.setitimer(signal.ITIMER_REAL, 0.0001, 0.0001)
+            try:
+                while len(seen) < 300:
+                    self.assertEqual(store[b"a"], b"1" * 100)
+            finally:
+                signal.setitimer(signal.ITIMER_REAL, 0)
+                signal.signal(signal.SIGALRM, before)
+            self.assertEqual(set(seen), {b"2" * 100})
 
     def test_keys_stay_while_they_are_gone_over(self):
         with new_store() as store:
@@ -148,6 +184,30 @@ class Files(unittest.TestCase):
         fstch.make(b"\xff.disk", index_blocks=1, extents=4)
         fstch.open(b"\xff.disk").close()
 
+    def test_refused_by_the_system(self):
+        def told(kind, call, *given, **named):
+            with self.assertRaises(kind) as raised:
+                call(*given, **named)
+            self.assertIsInstance(raised.exception, fstch.Disk)
+            return raised.exception.errno, raised.exception.filename, os.strerror(raised.exception.errno) in str(raised.exception)
+
+        self.assertEqual(told(FileNotFoundError, fstch.open, "missing.disk"), (errno.ENOENT, "missing.disk", True))
+        self.assertEqual(told(fstch.Disk, fstch.open, "."), (errno.EISDIR, ".", True))
+        path = Path("no such folder/file")
+        self.assertEqual(told(FileNotFoundError, fstch.make, path, index_blocks=1, extents=4), (errno.ENOENT, path, True))
+        new_store().close()
+        self.assertEqual(told(FileExistsError, fstch.make, FILE, index_blocks=1, extents=4), (errno.EEXIST, FILE, True))
+        if os.geteuid() != 0:
+            os.chmod(FILE, 0o400)
+            self.assertEqual(told(PermissionError, fstch.open, FILE), (errno.EACCES, FILE, True))
+
+    def test_long_ones_are_told_by_their_length(self):
+        with new_store() as store:
+            for kind, call in ((fstch.ValueLength, lambda: store.update({b"key": bytes(40000)})), (fstch.KeyLength, lambda: store[bytes(30000)])):
+                with self.assertRaises(kind) as raised:
+                    call()
+                self.assertRegex(str(raised.exception), r": [34]0000 bytes$")
+
     def test_damaged(self):
         with new_store() as store:
             store[b"key"] = b"value"
@@ -213,6 +273,17 @@ class Files(unittest.TestCase):
         ):
             with self.assertRaises(fstch.NotOpen):
                 call()
+
+    def test_not_copied(self):
+        with new_store() as store:
+            store[b"key"] = b"value"
+            for copies in (copy.copy, copy.deepcopy, pickle.dumps):
+                with self.assertRaises(TypeError):
+                    copies(store)
+            with self.assertRaises(TypeError):
+                store.__init__(FILE)
+            gc.collect()
+            self.assertEqual(store[b"key"], b"value")
 
     def test_forgotten(self):
         store = new_store()
