@@ -196,7 +196,7 @@ fn serve_lines<W: Output, D: Device + Drop + Send, T: Threads + Wait + Sync>(
     ensures lasts { D.is_honest device → IfOk result (StillLasts D.Device device) }
     ensures served { D.is_honest device → IfOk result (λ now.
         HasServed writers lines.items (W.contents writer.old.inner) (W.contents writer.new.inner) (D.contents device) (D.contents now)) }
-    ensures back { IfErr result (λ unserved. IfSome unserved.device (IsSameDevice D.Device device)) }
+    ensures back { IfErr result (IsUnserved D.Device device) }
 {
     match prepare(alloc, &mut device, lines.as_slice(), writers) {
         Ok((store, jobs)) => serve_jobs(rt, alloc, writer, store, device, jobs),
