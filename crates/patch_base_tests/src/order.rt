@@ -5,7 +5,7 @@ use std::test::Fail;
 
 #[test]
 fn numbers_stand_where_they_are_put(rt: HostRuntime) -> Result<(), Fail> {
-    let mut order = Order::<4>::new();
+    let mut order = Order::new(rt.alloc())?;
     order.insert(0, 5);
     order.insert(0, 3);
     order.insert(2, 9);

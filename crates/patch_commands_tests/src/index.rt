@@ -44,7 +44,7 @@ fn entry(rt: &impl Abort, key: &[u8], extent: u32, offset: u32) -> Entry {
     }
 }
 
-fn empty_index<A: Allocator>(alloc: A) -> Result<Index<A>, OutOfMemory> {
+fn empty_index<A: Allocator + Copy>(alloc: A) -> Result<Index<A>, OutOfMemory> {
     let mut index = Index::with_room(alloc, COUNT)?;
     for _ in 0..COUNT {
         if index.count() < 1024 {
@@ -87,11 +87,30 @@ fn expect_answers<A: Allocator>(rt: &impl Abort, index: &Index<A>, want: Answers
     expect_eq(rt, &index.live_bytes(1), &(18 * want.live.len() as u32));
 }
 
+// Each report by its number is that of the list, which ends where there are no more.
+fn expect_reports<A: Allocator>(
+    rt: &impl Abort,
+    alloc: Global,
+    index: &Index<A>,
+) -> Result<(), Fail> {
+    let all = index.reports(alloc)?;
+    for number in 0..=COUNT {
+        let one = index.report(number);
+        let told = one.as_ref().map(|it| (it.key.as_slice(), it.length));
+        let want = all
+            .get(number as usize)
+            .map(|it| (it.key.as_slice(), it.length));
+        expect_eq(rt, &told, &want);
+    }
+    Ok(())
+}
+
 fn walk(rt: &impl Abort, alloc: Global, steps: &[(Move, Answers)]) -> Result<(), Fail> {
     let mut index = empty_index(alloc)?;
     for (step, want) in steps {
         make_move(rt, &mut index, *step);
         expect_answers(rt, &index, *want);
+        expect_reports(rt, alloc, &index)?;
     }
     Ok(())
 }

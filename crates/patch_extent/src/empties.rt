@@ -1,23 +1,22 @@
 //! Which extents are empty.
-ghost use Rattle.std.specs.Prelude.{ℕ, Bool, ◌≡◌, ◌<◌, ◌≤◌, ◌&&◌, ◌||◌, ◌==◌, not, nat_lt, length, slice_index_or};
+ghost use Rattle.std.specs.Prelude.{ℕ, Bool, ◌≡◌, ◌<◌, ◌≤◌, ◌&&◌, ◌||◌, ◌==◌, not, nat_lt, length, slice_index_or, IfOk};
 ghost use Rattle.std.specs.List.Sorted.{IsPartitionPoint};
 ghost use Rattle.patch_plans.specs.Empties.{passing, AreSome};
 ghost use Rattle.patch_plans.specs.Extents.{is_empty_in};
 
+use patch_model::OutOfMemory;
 use patch_order::Order;
 use patch_plans::Extent;
+use std::alloc::{Allocator, Global};
 use std::marker::Model;
 
-// The most extents of a disk.
-const MAX_EXTENTS: usize = 254;
-
-/// Some extents in rising order, in no memory of their own.
+/// Some extents in rising order.
 #[derive(Drop)]
-pub(crate) struct EmptyExtents {
-    numbers: Order<MAX_EXTENTS>,
+pub(crate) struct EmptyExtents<A: Allocator = Global> {
+    numbers: Order<A>,
 }
 
-impl Model for EmptyExtents {
+impl<A: Allocator> Model for EmptyExtents<A> {
     ghost use Rattle.std.specs.Prelude.{ℕ, List};
 
     ghost Value = { List ℕ };
@@ -25,20 +24,20 @@ impl Model for EmptyExtents {
     ghost view = { λ s. s.numbers };
 }
 
-impl EmptyExtents {
+impl<A: Allocator> EmptyExtents<A> {
     /// Those of these extents whose pointer is 0.
-    pub(crate) fn of(each: &[Extent]) -> EmptyExtents
+    pub(crate) fn of(alloc: A, each: &[Extent]) -> Result<EmptyExtents<A>, OutOfMemory>
         requires { length each.now ≤ 254 }
-        ensures { result ≡ passing (is_empty_in each.now) (length each.now) }
+        ensures { IfOk result (λ empty. empty ≡ passing (is_empty_in each.now) (length each.now)) }
     {
-        let mut numbers = Order::new();
+        let mut numbers = Order::new(alloc)?;
         for extent in 0..each.len() {
             if each[extent].pointer.offset == 0 {
                 let last = numbers.len();
                 numbers.insert(last, extent as u16);
             }
         }
-        EmptyExtents { numbers }
+        Ok(EmptyExtents { numbers })
     }
 
     /// The extents.

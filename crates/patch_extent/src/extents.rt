@@ -25,7 +25,7 @@ pub struct Extents<A: Allocator + Copy = Global> {
     pub(crate) geometry: Geometry,
     pub(crate) each: Vec<Extent, A>,
     /// Those whose pointer is 0.
-    pub(crate) empty: EmptyExtents,
+    pub(crate) empty: EmptyExtents<A>,
 }
 
 impl<A: Allocator + Copy> Model for Extents<A> {
@@ -62,7 +62,7 @@ impl<A: Allocator + Copy> Extents<A> {
             return Err(ExtentsFault::BadPointer);
         }
         let each = read_records(alloc, block, geometry)?;
-        let empty = EmptyExtents::of(each.as_slice());
+        let empty = EmptyExtents::of(alloc, each.as_slice())?;
         Ok(Extents {
             alloc,
             geometry,

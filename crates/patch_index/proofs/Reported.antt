@@ -1,6 +1,6 @@
 -- What is reported of slots, one more at a time.
-use Rattle.std.proofs.Common.{◌≡◌, ℕ, ◌+◌, ◌<◌, ◌∙◌, inl, inr, List, [], ◌∷◌, ◌++◌, length, map, take, get_or, refl, sym, ap, arith}
-use Rattle.std.specs.Prelude.{Option, Some, None, ◌==◌, nat_le}
+use Rattle.std.proofs.Common.{◌≡◌, ℕ, zero, suc, ◌+◌, ◌<◌, ◌∙◌, inl, inr, List, [], ◌∷◌, ◌++◌, length, map, take, get_or, refl, sym, ap, arith}
+use Rattle.std.specs.Prelude.{Option, Some, None, ◌==◌, nat_le, option_map, slice_get}
 use Rattle.std.specs.List.{sum_by}
 use Rattle.std.proofs.lemmas.Bool.{cases_Bool}
 use Rattle.std.proofs.lemmas.List.{map_more}
@@ -63,3 +63,12 @@ sum_from extent k (Some f ∷ slots) = elim (cases_Bool (f.extent == extent)) [
 pub live_sum : (slots : List (Option SlotFields)) (extent : ℕ) → sum_by (length_at slots) (live_behind slots extent 0) ≡ live_bytes slots extent
 live_sum slots extent =
     sum_said slots (in_order (live_from extent 0 slots)) (said_behind slots extent 0) ∙ sum_in_order (live_from extent 0 slots) ∙ sum_from extent 0 slots
+
+-- what is reported of a used slot stands behind that of the used ones before it
+pub at_slot : (slots : List (Option SlotFields)) (i : ℕ) (f : SlotFields) → get_or slots i None ≡ Some f
+    → slice_get (of_slots slots) (length (of_slots (take i slots))) ≡ Some (of_slot f)
+at_slot [] i f is = absurd (cc)
+at_slot (None ∷ slots) zero f is = absurd (cc)
+at_slot (Some g ∷ slots) zero f is = ap (option_map of_slot) is
+at_slot (None ∷ slots) (suc i) f is = at_slot slots i f is
+at_slot (Some g ∷ slots) (suc i) f is = at_slot slots i f is

@@ -1,5 +1,5 @@
 //! The index: what each slot says.
-ghost use Rattle.std.specs.Prelude.{◌≡◌, ◌<◌, ◌≤◌, ◌++◌, ◌∷◌, [], Some, None, length, position, is_none, slice_index_or, slice_set, map, IfOk, OnOk, OnErr};
+ghost use Rattle.std.specs.Prelude.{◌≡◌, ◌<◌, ◌≤◌, ◌++◌, ◌∷◌, [], Some, None, length, position, is_none, slice_get, slice_index_or, slice_set, map, option_map, IfOk, OnOk, OnErr};
 ghost use Rattle.patch_recovery.specs.Reading.{has_key as is_of};
 ghost use Rattle.patch_index.specs.Reporting.{reported, of_slots, live_bytes, length_told};
 ghost use Rattle.patch_index.specs.Index.{fields_of, key_of, told};
@@ -21,10 +21,10 @@ pub(crate) const MAX_SLOTS: usize = 1024;
 #[derive(Drop)]
 pub struct Index<A: Allocator = Global> {
     slots: Vec<Option<Entry>, A>,
-    empty: Order<MAX_SLOTS>,
+    empty: Order<A>,
     /// The used slots by their keys, and by the places of their frames.
-    by_key: Order<MAX_SLOTS>,
-    by_place: Order<MAX_SLOTS>,
+    by_key: Order<A>,
+    by_place: Order<A>,
 }
 
 impl<A: Allocator> Model for Index<A> {
@@ -40,7 +40,7 @@ impl<A: Allocator> Model for Index<A> {
     ghost invariant = { λ i. (length i.slots.items ≤ 1024) × AreOrders (map told i.slots.items) i.empty i.by_key i.by_place };
 }
 
-impl<A: Allocator> Index<A> {
+impl<A: Allocator + Copy> Index<A> {
     /// An index of no slot yet, with room for so many.
     pub fn with_room(alloc: A, count: u32) -> Result<Index<A>, OutOfMemory>
         ensures { IfOk result (λ index. index ≡ []) }
@@ -48,12 +48,14 @@ impl<A: Allocator> Index<A> {
         let slots = Vec::with_capacity(alloc, count as usize)?;
         Ok(Index {
             slots,
-            empty: Order::new(),
-            by_key: Order::new(),
-            by_place: Order::new(),
+            empty: Order::new(alloc)?,
+            by_key: Order::new(alloc)?,
+            by_place: Order::new(alloc)?,
         })
     }
+}
 
+impl<A: Allocator> Index<A> {
     /// One slot more, behind the others.
     pub fn push(&mut self, slot: Option<Entry>) -> Result<(), OutOfMemory>
         requires { length self.old < 1024 }
@@ -118,6 +120,22 @@ impl<A: Allocator> Index<A> {
             Some(slot) => Some(u32::from(*slot)),
             None => None,
         }
+    }
+
+    /// The key of the used slot that so many used ones stand before, with the length of its value.
+    pub fn report(&self, number: u32) -> Option<EntryReport>
+        ensures { option_map reported result ≡ slice_get (of_slots self.now) number }
+    {
+        let mut before = 0;
+        for slot in 0..self.slots.len() {
+            if let Some(entry) = self.slots[slot] {
+                if before == number {
+                    return Some(entry.report());
+                }
+                before += 1;
+            }
+        }
+        None
     }
 
     /// Each used slot's key, with the length of its value, in the order of the slots.

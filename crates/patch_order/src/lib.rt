@@ -1,6 +1,6 @@
-//! Numbers in an order that its user keeps, in no memory of their own: an [`Order`].
+//! Numbers in an order that its user keeps: an [`Order`].
 #![tactic(auto)]
 
 mod orders;
 
-pub use orders::Order;
+pub use orders::{MOST, Order};

@@ -1,35 +1,41 @@
 //! Numbers in a row, where one may be put in or taken out.
-ghost use Rattle.std.specs.Prelude.{◌≡◌, ◌<◌, ◌≤◌, [], length};
+ghost use Rattle.std.specs.Prelude.{◌≡◌, ◌<◌, ◌≤◌, [], length, IfOk};
 ghost use Rattle.std.specs.List.{insert, remove};
 
+use std::alloc::{AllocError, Allocator, Global};
 use std::marker::Model;
 
-/// Numbers in a row, no more than `MOST` of them, in no memory of their own. What order they are in is for their user to keep.
+/// How many numbers an order has room for.
+pub const MOST: usize = 1024;
+
+/// Numbers in a row, no more than [`MOST`] of them, for which there is room from the beginning. What order they are in is for their user to
+/// keep.
 #[derive(Drop)]
-pub struct Order<const MOST: usize> {
-    numbers: [u16; MOST],
+pub struct Order<A: Allocator = Global> {
+    numbers: Vec<u16, A>,
     count: usize,
 }
 
-impl<const MOST: usize> Model for Order<MOST> {
-    ghost use Rattle.std.specs.Prelude.{ℕ, ◌≤◌, List, take};
+impl<A: Allocator> Model for Order<A> {
+    ghost use Rattle.std.specs.Prelude.{ℕ, ◌≡◌, ◌≤◌, List, length, take};
+    ghost use Rattle.patch_order.specs.declared.orders.TheConstants.{MOST};
 
     ghost Value = { List ℕ };
 
-    ghost view = { λ o. take o.count o.numbers };
+    ghost view = { λ o. take o.count o.numbers.items };
 
-    ghost invariant = { λ o. o.count ≤ MOST };
+    ghost invariant = { λ o. (length o.numbers.items ≡ MOST) × (o.count ≤ MOST) };
 }
 
-impl<const MOST: usize> Order<MOST> {
+impl<A: Allocator> Order<A> {
     /// No number yet.
-    pub fn new() -> Order<MOST>
-        ensures { result ≡ [] }
+    pub fn new(alloc: A) -> Result<Order<A>, AllocError>
+        ensures { IfOk result (λ order. order ≡ []) }
     {
-        Order {
-            numbers: [0; MOST],
+        Ok(Order {
+            numbers: vec![in alloc; 0; MOST]?,
             count: 0,
-        }
+        })
     }
 
     /// How many they are.
@@ -43,7 +49,7 @@ impl<const MOST: usize> Order<MOST> {
     pub fn as_slice(&self) -> &[u16]
         ensures { result.now ≡ self.now }
     {
-        &self.numbers[..self.count]
+        &self.numbers.as_slice()[..self.count]
     }
 
     /// Puts a number in at a place; those that stand there or behind it move up by one.
@@ -54,7 +60,7 @@ impl<const MOST: usize> Order<MOST> {
     {
         let last = self.count;
         self.numbers[last] = number;
-        let numbers = &mut self.numbers[..];
+        let numbers = self.numbers.as_mut_slice();
         numbers[at..last + 1].rotate_right(1);
         self.count = last + 1;
     }
@@ -65,7 +71,7 @@ impl<const MOST: usize> Order<MOST> {
         ensures { self.new ≡ remove self.old at }
     {
         let count = self.count;
-        let numbers = &mut self.numbers[..];
+        let numbers = self.numbers.as_mut_slice();
         numbers[at..count].rotate_left(1);
         self.count = count - 1;
     }

@@ -10,7 +10,7 @@ use Rattle.patch_extent.proofs.empties.EmptyExtents.of.Goals as goal
 use Rattle.patch_extent.proofs.empties.EmptyExtents.of.Goals.{then-each-extent-eq0, else-each-extent-eq0}
 
 pub loop-extent-preserved : goal.loop-extent-preserved
-loop-extent-preserved c =
+loop-extent-preserved g c =
     let each = c.args.each.now in
     let e = c.loop-extent.extent in
     let there = c.loop-extent-test.true in

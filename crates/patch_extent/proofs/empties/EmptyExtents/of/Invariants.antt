@@ -5,4 +5,4 @@ use Rattle.patch_extent.proofs.empties.EmptyExtents.of.Given as goal
 
 -- the empty ones so far
 abbrev pub invariant-loop-extent : goal.invariant-loop-extent
-invariant-loop-extent l = (l.numbers ≡ passing (is_empty_in l.each) l.extent) × (length l.numbers ≤ l.extent)
+invariant-loop-extent g l = (l.numbers ≡ passing (is_empty_in l.each) l.extent) × (length l.numbers ≤ l.extent)

@@ -5,7 +5,7 @@ use Rattle.patch_extent.proofs.Rising.{Point, parted, point_of}
 use Rattle.patch_extent.proofs.empties.EmptyExtents.place_of.Goals as goal
 
 pub returns-clause-place : goal.returns-clause-place
-returns-clause-place c test count is =
+returns-clause-place g c test count is =
     let extent = c.args.extent in
     let same = c.as_slice.ensures ∙ c.self.view_is in
     let point = c.partition_point.ensures.partitioned (λ e. nat_lt e extent) (always_returns_same _ _ _ (λ a r f k. search (rules, of_calls)))

@@ -37,6 +37,16 @@ returns-in_err-each-clause-opened g c run cache =
     let good = ap (has_bad_pointers c.args.geometry) (sym (block_read run c.args.geometry c.in-Ok.block.now there long is)) ∙ sym c.has_bad_pointers.ensures ∙ c.if-has_bad_pointers.false in
     rw p.1 (good ∙ ap tells_bad (sym p.2))
 
+pub returns-in_err-empty-clause-opened : goal.returns-in_err-empty-clause-opened
+returns-in_err-empty-clause-opened g c run cache =
+    let p = err_from_is_err_and c.from_residual-in_err-empty.result c.from_residual-in_err-empty.ensures.1 in
+    let low = pointer_block_there c.args.geometry in
+    let there : pointer_block c.args.geometry < length run.first = omega (arith, low, c.requires.blocks, cache.count) in
+    let long = cached_long run (pointer_block c.args.geometry) (c.executions_are_orderly.ensures.blocks run (pointer_block c.args.geometry) cache.legal there) in
+    let is = (c.in-Ok.ensures run cache).1 ∙ ap (λ b. slice_range (cached (history_of run b)) 0 4096) c.pointer_block.ensures in
+    let good = ap (has_bad_pointers c.args.geometry) (sym (block_read run c.args.geometry c.in-Ok.block.now there long is)) ∙ sym c.has_bad_pointers.ensures ∙ c.if-has_bad_pointers.false in
+    rw p.1 (good ∙ ap tells_bad (sym p.2))
+
 pub returns-clause-opened : goal.returns-clause-opened
 returns-clause-opened g c run cache =
     let low = pointer_block_there c.args.geometry in

@@ -39,7 +39,7 @@ insert-requires g c =
     let few = c.self.invariant.0 in
     let same = length-map items told in
     let some = there.0.0 in
-    (omega arith, (places.empty_is.within, omega (arith, counted, few, same, some)))
+    record { within = places.empty_is.within; room = omega (arith, counted, few, same, some) }
 
 pub remove-requires : goal.remove-requires
 remove-requires g c =
@@ -57,7 +57,7 @@ remove-requires g c =
     same_places (map told c.as_slice.result.now) slots s f c.as_slice-2.result.now o.empty c.as_slice-3.result.now o.by_key c.as_slice-4.result.now o.by_place at.empty at.by_key at.by_place
     (ap (map told) c.as_slice.ensures.value) c.as_slice-2.ensures c.as_slice-3.ensures c.as_slice-4.ensures c.places_of-places.ensures in
     let there = among_used slots s f o.empty o.by_key o.by_place at.empty at.by_key at.by_place c.self.invariant.1 is places in
-    (omega arith, there.0.0)
+    there.0.0
 
 pub remove-requires-2 : goal.remove-requires-2
 remove-requires-2 g c =
@@ -75,7 +75,7 @@ remove-requires-2 g c =
     same_places (map told c.as_slice.result.now) slots s f c.as_slice-2.result.now o.empty c.as_slice-3.result.now o.by_key c.as_slice-4.result.now o.by_place at.empty at.by_key at.by_place
     (ap (map told) c.as_slice.ensures.value) c.as_slice-2.ensures c.as_slice-3.ensures c.as_slice-4.ensures c.places_of-places.ensures in
     let there = among_used slots s f o.empty o.by_key o.by_place at.empty at.by_key at.by_place c.self.invariant.1 is places in
-    (omega arith, there.1.0)
+    there.1.0
 
 pub invariant_of-self : goal.invariant_of-self
 invariant_of-self g c =

@@ -22,7 +22,7 @@ remove-requires g c =
     let places =
     same_places (map told c.as_slice.result.now) slots s f c.as_slice-2.result.now o.empty c.as_slice-3.result.now o.by_key c.as_slice-4.result.now o.by_place at.empty at.by_key at.by_place
     (ap (map told) c.as_slice.ensures.value) c.as_slice-2.ensures c.as_slice-3.ensures c.as_slice-4.ensures c.places_of-places.ensures in
-    (omega arith, (among_empty slots s o.empty o.by_key o.by_place at.empty c.self.invariant.1 inside is places.empty_is).0)
+    (among_empty slots s o.empty o.by_key o.by_place at.empty c.self.invariant.1 inside is places.empty_is).0
 
 pub invariant_of-self : goal.invariant_of-self
 invariant_of-self g c =

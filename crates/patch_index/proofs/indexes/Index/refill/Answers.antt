@@ -24,7 +24,7 @@ remove-requires g c =
     let is : get_or slots s None ≡ Some f = ap (λ v. get_or v s None) c.self.view_is ∙ c.requires.used in
     let p = c.place_of-from.result in
     let from = same_place (map told c.as_slice.result.now) slots c.as_slice-2.result.now o.by_place (place_rank (Some f), s) p (ap (map told) c.as_slice.ensures.value) c.as_slice-2.ensures c.place_of-from.ensures in
-    (omega arith, (among_places slots s f o.empty o.by_key o.by_place p c.self.invariant.1 is from).0)
+    (among_places slots s f o.empty o.by_key o.by_place p c.self.invariant.1 is from).0
 
 pub place_of-to-requires : goal.place_of-to-requires
 place_of-to-requires g c =
@@ -64,7 +64,7 @@ insert-requires g c =
     let few = c.self.invariant.0 in
     let same = length-map items told in
     let within = to.within in
-    (omega arith, (omega (arith, within, now), omega (arith, there, shorter, now, counted, placed, few, same)))
+    record { within = omega (arith, within, now); room = omega (arith, there, shorter, now, counted, placed, few, same) }
 
 pub invariant_of-self : goal.invariant_of-self
 invariant_of-self g c =
