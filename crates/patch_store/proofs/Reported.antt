@@ -1,8 +1,10 @@
 -- What is reported of slots is the map.
-use Rattle.std.proofs.Common.{◌≡◌, ℕ, zero, suc, ◌+◌, ◌-◌, ◌<◌, ◌∙◌, List, [], ◌∷◌, ◌++◌, length, map, get_or, refl, sym, ap, arith}
-use Rattle.std.specs.Prelude.{Option, Some, None, flat_map}
+use Rattle.std.proofs.Common.{◌≡◌, ℕ, zero, suc, ◌+◌, ◌-◌, ◌<◌, ◌≤◌, ◌∙◌, List, [], ◌∷◌, ◌++◌, length, map, get_or, refl, sym, ap, arith}
+use Rattle.std.specs.Prelude.{Option, Some, None, flat_map, slice_get}
 use Rattle.std.specs.List.{range_with_len}
-use Rattle.std.proofs.lemmas.List.{map-append}
+use Rattle.std.proofs.lemmas.List.{map-append, length-map}
+use Rattle.std.proofs.lemmas.List.FromFn.{length-range_with_len, get_or-map-range_with_len}
+use Rattle.std.proofs.lemmas.Option.{slice_get-get_or, slice_get_past}
 use Rattle.patch_frame.specs.Geometry.{slot_count}
 use Rattle.patch_frame.specs.Slot.{SlotFields}
 use Rattle.patch_recovery.specs.Ledger.{Ledger, entry_of, entry_read}
@@ -12,7 +14,7 @@ use Rattle.patch_history.specs.Kept.{ShelvesAreKept}
 use Rattle.patch_history.specs.Laws.{HistoriesAreRead}
 use Rattle.patch_history.specs.Shelf.{Shelf}
 use Rattle.patch_index.specs.Reporting.{of_slots}
-use Rattle.patch_store.specs.Checking.{of_content, ListsMap}
+use Rattle.patch_store.specs.Checking.{of_content, extent_report, extent_reports, ListsMap}
 use Rattle.patch_store.specs.Meaning.{Store, Represents}
 
 -- what the slots tell is what the map has
@@ -75,3 +77,18 @@ pub more_extents : {X : Type 0} (f : ℕ → X) (n : ℕ) → map f (range_with_
 more_extents f n =
     ap (λ k. map f (range_with_len 0 k)) (let e : n + 1 ≡ suc n = omega arith in e) ∙ ap (map f) (range_more 0 n)
     ∙ map-append f (range_with_len 0 n) ((0 + n) ∷ []) ∙ ap (λ k. map f (range_with_len 0 n) ++ f k ∷ []) (let e : 0 + n ≡ n = omega arith in e)
+
+-- an extent among those that are reported, and what is behind the last one
+pub extent_told : (s : Shelf) (extent : ℕ) → extent < s.extents.geometry.extents → slice_get (extent_reports s) extent ≡ Some (extent_report s extent)
+extent_told s extent less =
+    let count = s.extents.geometry.extents in
+    let told = extent_report s in
+    let long : length (extent_reports s) ≡ count = length-map (range_with_len 0 count) told ∙ length-range_with_len 0 count in
+    slice_get-get_or (extent_reports s) extent (told extent) (omega (arith, less, long))
+    ∙ ap (λ e. Some e) (get_or-map-range_with_len told 0 count extent extent (told extent) less (omega arith))
+
+pub no_extent_told : (s : Shelf) (extent : ℕ) → s.extents.geometry.extents ≤ extent → slice_get (extent_reports s) extent ≡ None
+no_extent_told s extent past =
+    let count = s.extents.geometry.extents in
+    let long : length (extent_reports s) ≡ count = length-map (range_with_len 0 count) (extent_report s) ∙ length-range_with_len 0 count in
+    slice_get_past (extent_reports s) extent (omega (arith, past, long))

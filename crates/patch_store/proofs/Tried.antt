@@ -18,7 +18,7 @@ use Rattle.patch_history.specs.Shelf.{Shelf, after_plan}
 use Rattle.patch_history.specs.Shelf.{after_point as shelf_after_point}
 use Rattle.patch_history.specs.Kept.{IsShelfOf, ShelvesAreKept}
 use Rattle.patch_history.specs.Laws.{StandingsAgree}
-use Rattle.patch_history.specs.History.{History, standing_of, ledger_of}
+use Rattle.patch_history.specs.History.{History, ledger_of}
 use Rattle.patch_store.specs.Meaning.{Store, Represents}
 use Rattle.patch_recovery.specs.Ledger.{Ledger}
 use Rattle.patch_frame.specs.declared.geometries.Geometry.{Geometry}

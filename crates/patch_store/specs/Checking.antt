@@ -13,6 +13,10 @@ use Rattle.patch_store.specs.declared.reports.ExtentReport.{ExtentReport}
 abbrev pub of_content : Content → List ℕ × ℕ
 of_content c = (c.key, length c.value)
 
+-- all of them, in the order of the slots
+abbrev pub entries_of : History → List (List ℕ × ℕ)
+entries_of h = map of_content (map_of (ledger_of h))
+
 -- an extent of the shelf
 abbrev pub extent_report : Shelf → ℕ → ExtentReport
 extent_report s extent = record {
@@ -27,5 +31,5 @@ extent_reports s = map (extent_report s) (range_with_len 0 s.extents.geometry.ex
 -- The entries are those of the map that the cached blocks are read as, in the order of the slots; and it is the map of the
 -- commands.
 pub record ListsMap (h : History) (entries : List (List ℕ × ℕ)) : Type 0 where
-  pub listed : entries ≡ map of_content (map_of (ledger_of h))
+  pub listed : entries ≡ entries_of h
   pub said : (key : List ℕ) → value_in (map_of (ledger_of h)) key ≡ value_in (standing_of h).map.entries key

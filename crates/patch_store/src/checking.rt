@@ -1,13 +1,14 @@
 //! What a store holds, as it is reported.
-ghost use Rattle.std.specs.Prelude.{◌≡◌, ◌<◌, map, IfOk};
+ghost use Rattle.std.specs.Prelude.{◌≡◌, ◌<◌, slice_get, map, option_map, IfOk};
 ghost use Rattle.patch_history.specs.History.{History, standing_of};
 ghost use Rattle.patch_index.specs.Reporting.{reported};
-ghost use Rattle.patch_store.specs.Checking.{extent_report, extent_reports, ListsMap};
+ghost use Rattle.patch_store.specs.Checking.{entries_of, extent_report, extent_reports, ListsMap};
 ghost use Rattle.patch_store.specs.Meaning.{Represents};
 
 use crate::reports::{ExtentReport, Report};
 use crate::stores::Store;
 use patch_history::laws as history_laws;
+use patch_index::EntryReport;
 use patch_model::OutOfMemory;
 use std::alloc::Allocator;
 
@@ -23,6 +24,26 @@ impl<A: Allocator + Copy> Store<A> {
         let entries = self.index.reports(self.alloc)?;
         let extents = self.extent_reports()?;
         Ok(Report { entries, extents })
+    }
+
+    /// The key that so many others stand before in the order of the slots, with the length of its value.
+    pub fn entry(&self, number: u32) -> Option<EntryReport>
+        ensures { (h : History) → Represents self.now h → option_map reported result ≡ slice_get (entries_of h) number }
+    {
+        history_laws::shelves_are_kept();
+        history_laws::histories_are_of_stores();
+        self.index.report(number)
+    }
+
+    /// An extent, if there is one of this number.
+    pub fn extent(&self, extent: u32) -> Option<ExtentReport>
+        ensures { (h : History) → Represents self.now h → result ≡ slice_get (extent_reports (standing_of h).shelf) extent }
+    {
+        if extent < self.geometry.extents {
+            Some(self.extent_report(extent))
+        } else {
+            None
+        }
     }
 
     /// The extents, rising.

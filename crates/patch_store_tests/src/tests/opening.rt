@@ -1,6 +1,7 @@
 //! Disks that open, and disks that don't: which fault each has, and that the cache comes back.
 use super::*;
 use linked_list_allocator::LocalHeap;
+use patch_store::{EntryReport, ExtentReport};
 use patch_testing::{fill, hole_of};
 
 // How many bytes the heap has: a cache of 35 blocks, and more.
@@ -168,4 +169,32 @@ fn refuse_each(rt: &impl Abort, alloc: Global, heap: &LocalHeap) -> Result<(), F
 fn opening_is_refused_and_repeated(rt: HostRuntime) -> Result<(), Fail> {
     let heap = LocalHeap::new(rt.alloc(), HEAP)?;
     refuse_each(&rt, rt.alloc(), &heap)
+}
+
+fn told(entry: Option<EntryReport>) -> Option<(u8, usize, u32)> {
+    let entry = entry?;
+    let key = entry.key.as_slice();
+    Some((*key.first()?, key.len(), entry.length))
+}
+
+// Behind those that there are there is none.
+#[test]
+fn entries_and_extents_are_told_by_their_numbers(rt: HostRuntime) -> Result<(), Fail> {
+    let store = opened(&rt, rt.alloc(), disk_with(rt.alloc(), SMALL, WORKED)?)?;
+    let entries = [told(store.entry(0)), told(store.entry(1))];
+    let extents = [store.extent(0), store.extent(1), store.extent(2)];
+    drop(store);
+    expect_eq(&rt, &entries, &[Some((b'k', 1, 2)), None]);
+    let filled = ExtentReport {
+        generation: 0,
+        pointer: 19,
+        live: 19,
+    };
+    let empty = ExtentReport {
+        generation: 0,
+        pointer: 0,
+        live: 0,
+    };
+    expect_eq(&rt, &extents, &[Some(filled), Some(empty), None]);
+    Ok(())
 }

@@ -4,7 +4,6 @@ use Rattle.patch_frame.specs.declared.geometries.Geometry.{Geometry}
 use Rattle.patch_frame.specs.Geometry.{IsFormat, largest_pointer}
 use Rattle.patch_plans.specs.Extents.{offset_at}
 use Rattle.patch_history.specs.Shelf.{Shelf}
-use Rattle.patch_store.specs.declared.trials.Filled.{Filled}
 use Rattle.patch_store.specs.Trials.{extent_of}
 use Rattle.patch_store.proofs.Placing.{small_extents}
 use Rattle.patch_store.proofs.Tried.{IsCurrentOf, trial_of}
