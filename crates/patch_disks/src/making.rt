@@ -20,6 +20,27 @@ fn new_blocks(alloc: Global, geometry: Geometry) -> Result<Vec<BlockBytes>, Stop
     }
 }
 
+/// How many names are tried for a file that isn't whole yet.
+const NAMES: u32 = 64;
+
+/// Why no file is made.
+fn no_disk() -> Stop {
+    Stop::Refused(RefusalKind::Disk.bare())
+}
+
+/// Whether there is something of this name.
+fn is_there<R: Files>(rt: &R, path: &str) -> bool {
+    fs::symlink_metadata(rt, path).is_ok()
+}
+
+/// The directory that a file stands in.
+fn directory_of(path: &str) -> &str {
+    let parent = Path::new(path)
+        .parent()
+        .map_or("", |parent| parent.as_str());
+    if parent.is_empty() { "." } else { parent }
+}
+
 /// A new file of so many blocks of zeros, where there is nothing of this name.
 fn new_file<F: FileExt + OpenFile + Drop, R: Files<File = F>>(
     rt: &R,
@@ -30,6 +51,28 @@ fn new_file<F: FileExt + OpenFile + Drop, R: Files<File = F>>(
         Ok(device) => Ok(device),
         Err(refusal) => Err(Stop::Refused(refusal.refusal())),
     }
+}
+
+/// A new file in the same directory as another, by a name that nothing has: it is given its own one when it is whole.
+fn new_file_beside<F: FileExt + OpenFile + Drop, R: Files<File = F>>(
+    rt: &R,
+    alloc: Global,
+    path: &str,
+    blocks: u32,
+) -> Result<(FileDevice<F>, String), Stop> {
+    let directory = directory_of(path);
+    for number in 0..NAMES {
+        let name = format!(in alloc; "{directory}/.fstch-{number}")?;
+        match new_file(rt, name.as_str(), blocks) {
+            Ok(device) => return Ok((device, name)),
+            Err(stop) => {
+                if !is_there(rt, name.as_str()) {
+                    return Err(stop);
+                }
+            }
+        }
+    }
+    Err(no_disk())
 }
 
 /// Writes the superblock, the one block of a new disk that isn't zeros, and answers whether that went well.
@@ -45,17 +88,53 @@ fn write_first<D: Device>(device: &mut D, blocks: &[BlockBytes]) -> bool {
 /// Lets the name of a file last in the directory that it stands in, and answers whether that went well. A system that can't sync a
 /// directory says that the call is invalid: there the name may get lost with the power.
 fn sync_directory<F: OpenFile + Drop, R: Files<File = F>>(rt: &R, path: &str) -> bool {
-    let parent = Path::new(path)
-        .parent()
-        .map_or("", |parent| parent.as_str());
-    let directory = if parent.is_empty() { "." } else { parent };
-    let synced = match File::open(rt, directory) {
+    let synced = match File::open(rt, directory_of(path)) {
         Ok(directory) => directory.sync_all(),
         Err(_) => return false,
     };
     match synced {
         Ok(()) => true,
         Err(e) => e.kind() == io::ErrorKind::InvalidInput,
+    }
+}
+
+/// Makes the file where it is to be. One that can't be finished is removed.
+fn make_in_place<F: FileExt + OpenFile + Drop, R: Files<File = F>>(
+    rt: &R,
+    path: &str,
+    blocks: &[BlockBytes],
+    count: u32,
+) -> Result<(), Stop> {
+    let mut device = new_file(rt, path, count)?;
+    if write_first(&mut device, blocks) {
+        return Ok(());
+    }
+    let _removed = fs::remove_file(rt, path);
+    Err(no_disk())
+}
+
+/// Makes the file under another name, and links it to its own when it is whole, so that a make which is killed leaves nothing of this name
+/// but a store. Where the file system has no links, it is made where it is to be.
+fn make_whole<F: FileExt + OpenFile + Drop, R: Files<File = F>>(
+    rt: &R,
+    alloc: Global,
+    path: &str,
+    blocks: &[BlockBytes],
+    count: u32,
+) -> Result<(), Stop> {
+    if is_there(rt, path) {
+        return Err(no_disk());
+    }
+    let (mut device, other) = new_file_beside(rt, alloc, path, count)?;
+    let is_whole = write_first(&mut device, blocks);
+    let is_linked = is_whole && fs::hard_link(rt, other.as_str(), path).is_ok();
+    let _removed = fs::remove_file(rt, other.as_str());
+    if is_linked {
+        Ok(())
+    } else if is_whole {
+        make_in_place(rt, path, blocks, count)
+    } else {
+        Err(no_disk())
     }
 }
 
@@ -70,17 +149,18 @@ fn make_path<F: FileExt + OpenFile + Drop, R: Files<File = F>, W: Output>(
     // A disk has no more.
     let count = blocks.len().min(MAX_BLOCKS) as u32;
     let made = format!(in alloc; "made {count}\n")?;
-    let mut device = new_file(rt, path, count)?;
-    if !write_first(&mut device, blocks.as_slice()) || !sync_directory(rt, path) {
+    make_whole(rt, alloc, path, blocks.as_slice(), count)?;
+    if !sync_directory(rt, path) {
         let _removed = fs::remove_file(rt, path);
-        return Err(Stop::Refused(RefusalKind::Disk.bare()));
+        return Err(no_disk());
     }
     Ok(writer.write_all(made.as_bytes())?)
 }
 
 /// Makes a file that holds an empty store on a disk that is divided so, and writes `made`, with the number of its blocks. What there
-/// is of this name is left as it was; a file that can't be finished is removed. Before `made` is written, the file is synced, and the
-/// directory that it stands in where the system can sync directories.
+/// is of this name is left as it was; a file that can't be finished is removed. It has another name, `.fstch-N` in the same directory,
+/// until it is whole and synced, but where the file system has no links; a make that is killed may leave that. Before `made` is written,
+/// the directory is synced too where the system can sync directories.
 pub fn make_file<F: FileExt + OpenFile + Drop, R: Files<File = F>, W: Output>(
     rt: &R,
     alloc: Global,

@@ -169,6 +169,10 @@ impl<'a, R: Files<File = File>> Files for LockedFiles<'a, R> {
         self.files.remove_file(path)
     }
 
+    fn hard_link(&self, original: &str, link: &str) -> io::Result<()> {
+        self.files.hard_link(original, link)
+    }
+
     fn create_dir(&self, path: &str) -> io::Result<()> {
         self.files.create_dir(path)
     }

@@ -1,4 +1,4 @@
-//! Files that can't be finished: what is left of each.
+//! Files that can't be finished, and makes that are killed: what is left of each.
 use super::files::{MADE, follow};
 use super::weak::{ALL, WeakWriter, Well};
 use super::*;
@@ -11,24 +11,20 @@ use std::rt::Files;
 use std::sync::atomic::{AtomicU64, Ordering};
 use std::{fs, io};
 
-/// Counts calls, of which one fails, by an error of this kind.
+/// Counts calls, of which one fails, by an error of this kind, or all from then on, as where the program is killed.
 #[derive(Drop)]
 struct Calls {
     left: AtomicU64,
     kind: ErrorKind,
+    kills: bool,
 }
 
 impl Calls {
-    fn new(well: u64, kind: ErrorKind) -> Calls {
-        Calls {
-            left: AtomicU64::new(well),
-            kind,
-        }
-    }
-
     fn call(&self) -> io::Result<()> {
         let left = self.left.load(Ordering::SeqCst);
-        self.left.store(left.wrapping_sub(1), Ordering::SeqCst);
+        if left > 0 || !self.kills {
+            self.left.store(left.wrapping_sub(1), Ordering::SeqCst);
+        }
         if left == 0 {
             return Err(io::Error::from(self.kind));
         }
@@ -36,7 +32,7 @@ impl Calls {
     }
 }
 
-/// The system's files, of which an open, a write or a sync fails.
+/// The system's files, of which a call that changes something fails.
 #[derive(Drop)]
 struct WeakFiles<'a, R> {
     files: &'a R,
@@ -139,7 +135,15 @@ impl<'a, R: Files<File = File>> Files for WeakFiles<'a, R> {
     }
 
     fn remove_file(&self, path: &str) -> io::Result<()> {
+        if self.calls.kills {
+            self.calls.call()?;
+        }
         self.files.remove_file(path)
+    }
+
+    fn hard_link(&self, original: &str, link: &str) -> io::Result<()> {
+        self.calls.call()?;
+        self.files.hard_link(original, link)
     }
 
     fn create_dir(&self, path: &str) -> io::Result<()> {
@@ -155,54 +159,118 @@ impl<'a, R: Files<File = File>> Files for WeakFiles<'a, R> {
     }
 }
 
-const PATH: &str = "patch_files_unfinished";
+const FOLDER: &str = "patch_files_makes";
+
+const PATH: &str = "patch_files_makes/unfinished";
+
+// The name of a file that isn't whole yet.
+const OTHER: &str = "patch_files_makes/.fstch-0";
+
+const FOLDER_OF_KILLED: &str = "patch_files_kills";
+
+const PATH_OF_KILLED: &str = "patch_files_kills/killed";
 
 const PATH_OF_FINISHED: &str = "patch_files_finished";
 
 const PATH_OF_ANOTHER: &str = "patch_files_another";
 
-// A file is opened, 35 blocks of zeros are written and synced, then the superblock, and then the directory is opened and synced.
-const CALLS: u64 = 41;
+// A file is opened, 35 blocks of zeros are written and synced, then the superblock, the file is linked to its name, and then the directory
+// is opened and synced.
+const CALLS: u64 = 42;
 
-// The make whose call behind so many fails by an error of this kind ends so.
-fn expect_make(rt: &impl Abort, files: &HostRuntime, well: u64, kind: ErrorKind, end: End) {
-    let calls = Calls::new(well, kind);
-    let weak = WeakFiles {
-        files,
-        calls: &calls,
-    };
-    let mut out = Sink::new(Vec::new(files.alloc()));
-    let status = make_file(&weak, files.alloc(), &mut out, PATH, SMALL);
-    expect_end(rt, status, out.into_inner().as_slice(), end);
-    let is_there = fs::metadata(files, PATH).is_ok();
-    expect_eq(rt, &(well, is_there), &(well, end.1 == 0));
+// How many calls go before the link.
+const LINK: u64 = 39;
+
+fn new_folder(files: &HostRuntime, folder: &str) {
+    let _old = fs::remove_dir_all(files, files.alloc(), folder);
+    fs::create_dir(files, folder).expect(files, "a folder that is made");
 }
 
-// A system that can't sync a directory says of that call alone that it is invalid: then the file is made.
+fn make_by(files: &HostRuntime, path: &str, calls: &Calls) -> (Status, Vec<u8>) {
+    let weak = WeakFiles { files, calls };
+    let mut out = Sink::new(Vec::new(files.alloc()));
+    let status = make_file(&weak, files.alloc(), &mut out, path, SMALL);
+    (status, out.into_inner())
+}
+
+// The make whose call behind so many fails by an error of this kind ends so.
+fn expect_make(files: &HostRuntime, well: u64, kind: ErrorKind, end: End) {
+    let calls = Calls {
+        left: AtomicU64::new(well),
+        kind,
+        kills: false,
+    };
+    let (status, written) = make_by(files, PATH, &calls);
+    expect_end(files, status, written.as_slice(), end);
+    let is_there = fs::metadata(files, PATH).is_ok();
+    expect_eq(files, &(well, is_there), &(well, end.1 == 0));
+    expect_eq(
+        files,
+        &(well, fs::metadata(files, OTHER).is_ok()),
+        &(well, false),
+    );
+}
+
+fn expect_made(files: &HostRuntime, well: u64, kind: ErrorKind) {
+    expect_make(files, well, kind, MADE);
+    follow(files, files.alloc(), PATH, &[(Deed::Check, EMPTY_STORE)]);
+    fs::remove_file(files, PATH).expect(files, "a file that is there");
+}
+
+// A system that can't sync a directory says of that call alone that it is invalid: then the file is made. One that has no links says so, in
+// whatever way, and the file is made where it is to be.
 #[test]
 fn a_file_that_can_not_be_finished_is_removed(rt: HostRuntime) {
-    let _old = fs::remove_file(&rt, PATH);
+    new_folder(&rt, FOLDER);
     for well in 0..CALLS {
-        expect_make(
-            &rt,
-            &rt,
-            well,
-            ErrorKind::StorageFull,
-            failed("fault Disk\n"),
-        );
+        if well != LINK {
+            expect_make(&rt, well, ErrorKind::StorageFull, failed("fault Disk\n"));
+        }
     }
     expect_make(
-        &rt,
         &rt,
         CALLS - 2,
         ErrorKind::InvalidInput,
         failed("fault Disk\n"),
     );
+    expect_made(&rt, LINK, ErrorKind::Unsupported);
     for well in [CALLS - 1, CALLS] {
-        expect_make(&rt, &rt, well, ErrorKind::InvalidInput, MADE);
-        follow(&rt, rt.alloc(), PATH, &[(Deed::Check, EMPTY_STORE)]);
-        fs::remove_file(&rt, PATH).expect(&rt, "a file that is there");
+        expect_made(&rt, well, ErrorKind::InvalidInput);
     }
+    fs::remove_dir(&rt, FOLDER).expect(&rt, "a folder that is empty");
+}
+
+// Wherever a make is killed, the name is free, or has the store.
+#[test]
+fn a_make_that_is_killed_leaves_nothing_but_a_store(rt: HostRuntime) {
+    let mut made = 0;
+    for well in 0..CALLS + 2 {
+        new_folder(&rt, FOLDER_OF_KILLED);
+        let calls = Calls {
+            left: AtomicU64::new(well),
+            kind: ErrorKind::StorageFull,
+            kills: true,
+        };
+        let _end = make_by(&rt, PATH_OF_KILLED, &calls);
+        if fs::metadata(&rt, PATH_OF_KILLED).is_ok() {
+            made += 1;
+        } else {
+            follow(
+                &rt,
+                rt.alloc(),
+                PATH_OF_KILLED,
+                &[(Deed::Make(SMALL), MADE)],
+            );
+        }
+        follow(
+            &rt,
+            rt.alloc(),
+            PATH_OF_KILLED,
+            &[(Deed::Check, EMPTY_STORE)],
+        );
+    }
+    expect_eq(&rt, &made, &(CALLS + 1 - LINK));
+    let _left = fs::remove_dir_all(&rt, rt.alloc(), FOLDER_OF_KILLED);
 }
 
 // The line that tells of it isn't taken.
