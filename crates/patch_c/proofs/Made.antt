@@ -1,9 +1,10 @@
 -- The first block of a new disk is in the buffer where it fits, and the buffer is as it was where it doesn't.
-use Rattle.std.proofs.Common.{◌≡◌, ◌∙◌, ℕ, Bool, true, false, List, length, refl, sym, ap}
-use Rattle.std.specs.Prelude.{◌≢◌, ◌++◌, drop, slice_get, Some, IsTrue, nat_le, if◌then◌else◌}
+use Rattle.std.proofs.Common.{◌≡◌, ◌∙◌, ℕ, suc, ◌+◌, ◌-◌, ◌*◌, Bool, true, false, List, length, refl, sym, ap, arith}
+use Rattle.std.specs.Prelude.{◌≢◌, ◌++◌, drop, replicate, Some, IsTrue, nat_le, if◌then◌else◌}
+use Rattle.std.proofs.lemmas.List.{length-replicate}
 use Rattle.patch_frame.specs.declared.geometries.Geometry.{Geometry}
-use Rattle.patch_frame.specs.Geometry.{is_geometry}
-use Rattle.patch_store.specs.Making.{new_disk}
+use Rattle.patch_frame.specs.Geometry.{is_geometry, block_count, extent_blocks}
+use Rattle.patch_frame.specs.Superblock.{spelling}
 use Rattle.patch_c.specs.declared.answers.Answer.{Answer}
 use Rattle.patch_c.specs.declared.answers.Answer.TheVariants.{Done, BufferTooSmall}
 use Rattle.patch_c.specs.Opening.{HasMade}
@@ -17,14 +18,16 @@ as_before : (fits : Bool) (whole into : List ℕ) → (if fits then Done else Bu
 as_before true whole into refused = absurd (refused refl)
 as_before false whole into refused = refl
 
-pub made_so : (g : Geometry) (blocks : List (List ℕ)) (first into into_now : List ℕ) (count : ℕ) (answer : Answer) → IsTrue (is_geometry g) → blocks ≡ new_disk g
-    → slice_get blocks 0 ≡ Some first → count ≡ length blocks → answer ≡ answer_copying first into → into_now ≡ copied first into → answer ≡ Done
-    → HasMade g into into_now count
-made_so g blocks first into into_now count answer geometry disk at many told is done = record {
+pub made_so : (g : Geometry) (first into into_now : List ℕ) (count : ℕ) (answer : Answer) → IsTrue (is_geometry g) → first ≡ spelling g → count ≡ block_count g
+    → answer ≡ answer_copying first into → into_now ≡ copied first into → answer ≡ Done → HasMade g into into_now count
+made_so g first into into_now count answer geometry disk many told is done = record {
   geometry = geometry;
-  count_is = many ∙ ap length disk;
+  count_is =
+      let long : length (replicate (block_count g - 1) (replicate 4096 0)) ≡ block_count g - 1 = length-replicate (block_count g - 1) (replicate 4096 0) in
+      let whole : 2 + g.index + extent_blocks g.format * g.extents ≡ suc (2 + g.index + extent_blocks g.format * g.extents - 1) = omega arith in
+      many ∙ whole ∙ ap suc (sym long);
   first = first;
-  first_is = ap (λ all. slice_get all 0) (sym disk) ∙ at;
+  first_is = ap Some (sym disk);
   copied = is ∙ all_there (nat_le (length first) (length into)) (first ++ drop (length first) into) into (sym told ∙ done);
 }
 

@@ -1,18 +1,17 @@
 -- What is copied of a report.
 use Rattle.std.proofs.Common.{◌≡◌, ℕ, pos, ◌∙◌, List, length, map, sym, ap, subst}
-use Rattle.std.specs.Prelude.{slice_get, option_map, Some}
+use Rattle.std.specs.Prelude.{slice_get, Some}
 use Rattle.std.proofs.lemmas.List.{length-map}
 use Rattle.std.proofs.lemmas.List.FromFn.{length-map-range_with_len}
-use Rattle.std.proofs.lemmas.Option.{slice_get-map}
 use Rattle.patch_history.specs.History.{History, standing_of}
 use Rattle.patch_index.specs.Index.{key_of}
 use Rattle.patch_index.specs.Reporting.{reported}
 use Rattle.patch_index.specs.declared.reports.EntryReport.{EntryReport}
-use Rattle.patch_store.specs.Checking.{extent_report, extent_reports, ListsMap}
+use Rattle.patch_store.specs.Checking.{entries_of, extent_report, extent_reports, ListsMap}
 use Rattle.patch_store.specs.declared.reports.ExtentReport.{ExtentReport}
 use Rattle.patch_c.specs.declared.answers.Answer.{Answer}
 use Rattle.patch_c.specs.Answering.{number_of}
-use Rattle.patch_c.specs.Reading.{copied, answer_copying, entries_of, entry_told, counts_told}
+use Rattle.patch_c.specs.Reading.{copied, answer_copying, entry_told, counts_told}
 
 pub counted_so : (h : History) (entries : List EntryReport) (extents : List ExtentReport) (keys count : ℕ) → ListsMap h (map reported entries)
     → extents ≡ extent_reports (standing_of h).shelf → keys ≡ length entries → count ≡ length extents → (pos 0, keys, count) ≡ counts_told h
@@ -23,15 +22,12 @@ counted_so h entries extents keys count lists are keys_are count_is =
     count_is ∙ ap length are ∙ length-map-range_with_len (extent_report shelf) 0 shelf.extents.geometry.extents in
     λ i. (pos 0, e i, x i)
 
-pub listed_so : (h : History) (entries : List EntryReport) (number : ℕ) (entry : EntryReport) (key into : List ℕ) (len value_len : ℕ) (answer : Answer)
-    (into_now : List ℕ) (len_now : ℕ) → ListsMap h (map reported entries) → slice_get entries number ≡ Some entry → key ≡ key_of entry.key
-    → answer ≡ answer_copying key into → into_now ≡ copied key into → len_now ≡ length key
+pub listed_so : (h : History) (number : ℕ) (entry : EntryReport) (key into : List ℕ) (len value_len : ℕ) (answer : Answer) (into_now : List ℕ) (len_now : ℕ)
+    → Some (reported entry) ≡ slice_get (entries_of h) number → key ≡ key_of entry.key → answer ≡ answer_copying key into → into_now ≡ copied key into → len_now ≡ length key
     → (number_of answer, into_now, len_now, entry.length) ≡ entry_told (slice_get (entries_of h) number) into len value_len
-listed_so h entries number entry key into len value_len answer into_now len_now lists got key_is answer_is into_is len_is =
-    let at : slice_get (entries_of h) number ≡ Some (key_of entry.key, entry.length) =
-    ap (λ xs. slice_get xs number) (sym lists.listed) ∙ slice_get-map reported entries number ∙ ap (option_map reported) got in
+listed_so h number entry key into len value_len answer into_now len_now got key_is answer_is into_is len_is =
     let a : answer ≡ answer_copying (key_of entry.key) into = answer_is ∙ ap (λ k. answer_copying k into) key_is in
     let b : into_now ≡ copied (key_of entry.key) into = into_is ∙ ap (λ k. copied k into) key_is in
     let l : len_now ≡ length (key_of entry.key) = len_is ∙ ap length key_is in
-    subst (λ o. (number_of answer, into_now, len_now, entry.length) ≡ entry_told o into len value_len) (sym at)
+    subst (λ o. (number_of answer, into_now, len_now, entry.length) ≡ entry_told o into len value_len) got
     (λ i. (number_of (a i), b i, l i, entry.length))

@@ -86,14 +86,13 @@ format_for extent_blocks = if extent_blocks == 0 then One else Two extent_blocks
 abbrev pub geometry_for : (index extents extent_blocks : ℕ) → Geometry
 geometry_for index extents extent_blocks = record { index = index; extents = extents; format = format_for extent_blocks }
 
--- whether its first block fits a buffer
-abbrev pub answer_fitting : (into : List ℕ) → Answer
-answer_fitting into = if nat_le BLOCK (length into) then Done else BufferTooSmall
-
--- That is answered where a disk may be divided so, unless there was no memory; and where it may not, that it may not.
+-- That is answered just where a disk may not be divided so; else the buffer is too small just where a block doesn't fit it; else it is done,
+-- or there was no memory.
 abbrev pub AnswersMaking : Geometry → (into : List ℕ) → Answer → Type 0
 AnswersMaking g into answer =
-    MatchBool (is_geometry g) ((answer ≡ answer_fitting into) ⊎ (answer ≡ Refused kind.OutOfMemory)) (answer ≡ Refused kind.Geometry)
+    MatchBool (is_geometry g)
+    (MatchBool (nat_le BLOCK (length into)) ((answer ≡ Done) ⊎ (answer ≡ Refused kind.OutOfMemory)) (answer ≡ BufferTooSmall))
+    (answer ≡ Refused kind.Geometry)
 
 -- the first block of a new disk stands at the front of a buffer, and its blocks are counted
 pub record HasMade (g : Geometry) (into into_now : List ℕ) (count : ℕ) : Type 0 where

@@ -1,10 +1,14 @@
 -- What is copied out of a store: values, and entries of what it is checked to hold.
-use Rattle.std.specs.Prelude.{ℕ, ℤ, pos, ◌≡◌, ◌++◌, ◌⊎◌, nat_le, if◌then◌else◌, List, length, map, drop, slice_get, Option, Some, None}
+use Rattle.std.specs.Prelude.{ℕ, ℤ, pos, ◌≡◌, ◌++◌, ◌⊎◌, nat_le, if◌then◌else◌, List, length, drop, slice_get, count_by, Option, Some, None}
 use Rattle.patch_model.specs.declared.refusals.Refusal.{Refusal}
-use Rattle.patch_recovery.specs.Ledger.{map_of, value_in}
-use Rattle.patch_history.specs.History.{History, standing_of, ledger_of}
+use Rattle.patch_model.specs.declared.refusals.RefusalKind.TheVariants.{NoSuchExtent}
+use Rattle.patch_model.specs.Entry.{is_live}
+use Rattle.patch_model.specs.State.{entries_of as entries_of_run}
+use Rattle.patch_recovery.specs.Ledger.{value_in}
+use Rattle.patch_history.specs.History.{History, standing_of, execution_of}
 use Rattle.patch_history.specs.Refusing.{why_no_key}
-use Rattle.patch_store.specs.Checking.{of_content}
+use Rattle.patch_store.specs.Checking.{entries_of, extent_reports}
+use Rattle.patch_store.specs.declared.reports.ExtentReport.{ExtentReport}
 use Rattle.patch_c.specs.declared.answers.Answer.{Answer}
 use Rattle.patch_c.specs.declared.answers.Answer.TheVariants as answer
 use Rattle.patch_c.specs.Answering.{number_of}
@@ -32,18 +36,25 @@ HasGot h key into len told =
     (told ≡ get_told (why_no_key key) (value_in (standing_of h).map.entries key) into len)
     ⊎ ((why_no_key key ≡ None) × (told ≡ (pos 1, into, len)))
 
--- all keys with the lengths of their values, in the order of a check
-abbrev pub entries_of : History → List (List ℕ × ℕ)
-entries_of h = map of_content (map_of (ledger_of h))
-
 -- one of them, if there is one of this number: the answer's number, the buffer with the key, and both lengths
 abbrev pub entry_told : Option (List ℕ × ℕ) → (into : List ℕ) (len value_len : ℕ) → ℤ × List ℕ × ℕ × ℕ
 entry_told None into len value_len = (number_of answer.Absent, into, len, value_len)
 entry_told (Some entry) into len value_len = (number_of (answer_copying entry.0 into), copied entry.0 into, length entry.0, entry.1)
 
 abbrev pub HasListed : History → (number : ℕ) → (into : List ℕ) (len value_len : ℕ) → (told : ℤ × List ℕ × ℕ × ℕ) → Type 0
-HasListed h number into len value_len told =
-    (told ≡ entry_told (slice_get (entries_of h) number) into len value_len) ⊎ (told ≡ (pos 1, into, len, value_len))
+HasListed h number into len value_len told = told ≡ entry_told (slice_get (entries_of h) number) into len value_len
+
+-- an extent, if there is one of this number: how many bytes of it are live, and how many are filled
+abbrev pub extent_told : Option ExtentReport → (live filled : ℕ) → ℤ × ℕ × ℕ
+extent_told None live filled = (number_of (answer.Refused NoSuchExtent), live, filled)
+extent_told (Some report) live filled = (pos 0, report.live, report.pointer)
+
+abbrev pub HasMeasured : History → (extent : ℕ) → (live filled : ℕ) → (told : ℤ × ℕ × ℕ) → Type 0
+HasMeasured h extent live filled told = told ≡ extent_told (slice_get (extent_reports (standing_of h).shelf) extent) live filled
+
+-- how many patches haven't reached the file
+abbrev pub unsynced : History → ℕ
+unsynced h = count_by is_live (entries_of_run (execution_of h))
 
 -- how many they are, and how many extents there are
 abbrev pub counts_told : History → ℤ × ℕ × ℕ

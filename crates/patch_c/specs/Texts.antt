@@ -1,6 +1,6 @@
 -- What answers mean, in words, and a text in a buffer.
 use Rattle.std.specs.Ordering.{int_eq}
-use Rattle.std.specs.Prelude.{ℕ, ℤ, pos, negsuc, ◌+◌, ◌++◌, min, List, [], ◌∷◌, length, take, drop, find, codes, Some, None}
+use Rattle.std.specs.Prelude.{ℕ, ℤ, negsuc, ◌+◌, ◌++◌, min, List, [], ◌∷◌, length, take, drop, find, codes, Some, None}
 use Rattle.patch_model.specs.declared.refusals.RefusalKind.{RefusalKind}
 use Rattle.patch_model.specs.declared.refusals.RefusalKind.TheVariants as kind
 use Rattle.patch_c.specs.declared.answers.Answer.TheVariants.{Done, Refused, BufferTooSmall, Absent, NoSync, BadWriter}

@@ -10,13 +10,12 @@ use crate::opening::{geometry_for, make_first, open_bytes};
 use std::alloc::Global;
 
 /// `FSTCH_VERSION`.
-const VERSION: u32 = 200;
+const VERSION: u32 = 300;
 
 /// What `fstch_core_file` answers where no store is open.
 const NO_FILE: i32 = -1;
 
-/// The first block of a file that holds an empty store, and how many blocks the file has. All others are zeros. There is no memory before
-/// the buffer is too small.
+/// The first block of a file that holds an empty store, and how many blocks the file has. All others are zeros.
 #[unsafe(no_mangle)]
 pub extern "C" fn fstch_core_make(
     alloc: Global,

@@ -1,12 +1,12 @@
-//! Entries: how they are counted, and listed.
-ghost use Rattle.std.specs.Prelude.{◌≡◌, ◌↔◌, IsFalse, IfSome};
+//! What a store holds: how entries are counted, and listed, how full extents are, and what is to be synced.
+ghost use Rattle.std.specs.Prelude.{◌≡◌, ◌↔◌, IsTrue, IsFalse, IfSome};
 ghost use Rattle.patch_history.specs.History.{History};
 ghost use Rattle.patch_store.specs.Meaning.{Represents};
 ghost use Rattle.patch_c.specs.Answering.{number_of};
 ghost use Rattle.patch_c.specs.Handle.{StaysClosed};
-ghost use Rattle.patch_c.specs.Reading.{HasListed, HasCounted};
+ghost use Rattle.patch_c.specs.Reading.{HasListed, HasCounted, HasMeasured, unsynced};
 
-use crate::answers::{Answer, NOT_OPEN};
+use crate::answers::{Answer, DONE, NOT_OPEN};
 use crate::copying::copy_out;
 use crate::handle::Handle;
 use crate::opened::Opened;
@@ -45,14 +45,29 @@ impl Opened {
         ensures { (h : History) → Represents self.now.store h →
             HasListed h number key.old key_len.old value_len.old (number_of result, key.new, key_len.new, value_len.new) }
     {
-        let Ok(report) = self.store.check() else {
-            return NO_MEMORY;
-        };
-        let Some(entry) = report.entries.get(number as usize) else {
+        let Some(entry) = self.store.entry(number) else {
             return Answer::Absent;
         };
         *value_len = entry.length as usize;
         copy_out(entry.key.as_slice(), key, key_len)
+    }
+
+    fn extent(&self, extent: u32, live: &mut u32, filled: &mut u32) -> Answer
+        ensures { (h : History) → Represents self.now.store h →
+            HasMeasured h extent live.old filled.old (number_of result, live.new, filled.new) }
+    {
+        let Some(report) = self.store.extent(extent) else {
+            return Answer::Refused(RefusalKind::NoSuchExtent);
+        };
+        *live = report.live;
+        *filled = report.pointer;
+        Answer::Done
+    }
+
+    fn unsynced(&self) -> u32
+        ensures { (h : History) → Represents self.now.store h → result ≡ unsynced h }
+    {
+        self.store.cache().live()
     }
 }
 
@@ -103,4 +118,47 @@ pub extern "C" fn fstch_entry(
     let answer = opened.entry(number, key, key_len, value_len);
     handle.put_back(opened);
     answer.number()
+}
+
+/// Tells how many bytes of an extent are live, and how many are filled.
+#[unsafe(no_mangle)]
+pub extern "C" fn fstch_extent(
+    handle: &mut Handle,
+    alloc: Global,
+    extent: u32,
+    live: &mut u32,
+    filled: &mut u32,
+) -> i32
+    ensures same { handle.new.sealed.opened ≡ handle.old.sealed.opened }
+    ensures not_open { (result ≡ NOT_OPEN) ↔ IsFalse handle.old.is_open }
+    ensures closed { StaysClosed handle.old handle.new }
+    ensures measured { IfSome handle.old.sealed.opened (λ opened. (h : History) → Represents opened.store h →
+        HasMeasured h extent live.old filled.old (result, live.new, filled.new)) }
+    ensures refused { IsFalse handle.old.is_open → (live.new ≡ live.old) × (filled.new ≡ filled.old) }
+{
+    let Some(opened) = handle.take(alloc) else {
+        return NOT_OPEN;
+    };
+    let answer = opened.extent(extent, live, filled);
+    handle.put_back(opened);
+    answer.number()
+}
+
+/// Tells how many patches haven't reached the file.
+#[unsafe(no_mangle)]
+pub extern "C" fn fstch_unsynced(handle: &mut Handle, alloc: Global, changes: &mut u32) -> i32
+    ensures same { handle.new.sealed.opened ≡ handle.old.sealed.opened }
+    ensures not_open { (result ≡ NOT_OPEN) ↔ IsFalse handle.old.is_open }
+    ensures done { (result ≡ DONE) ↔ IsTrue handle.old.is_open }
+    ensures closed { StaysClosed handle.old handle.new }
+    ensures counted { IfSome handle.old.sealed.opened (λ opened. (h : History) → Represents opened.store h →
+        changes.new ≡ unsynced h) }
+    ensures refused { IsFalse handle.old.is_open → changes.new ≡ changes.old }
+{
+    let Some(opened) = handle.take(alloc) else {
+        return NOT_OPEN;
+    };
+    *changes = opened.unsynced();
+    handle.put_back(opened);
+    DONE
 }

@@ -12,9 +12,9 @@ use crate::opened::Opened;
 use crate::tape::Tape;
 use crate::unopened::Unopened;
 use patch_cache::Cache;
-use patch_frame::{Format, Geometry};
-use patch_model::{BlockBytes, RefusalKind, Refuses};
-use patch_store::{Store, make};
+use patch_frame::{Format, Geometry, write_superblock};
+use patch_model::{BLOCK, BlockBytes, RefusalKind, Refuses};
+use patch_store::Store;
 use std::alloc::Global;
 
 /// The store of these blocks.
@@ -87,22 +87,19 @@ pub fn make_first(alloc: Global, geometry: Geometry, into: &mut [u8], count: &mu
     ensures made { result ≡ Answer.Done → HasMade geometry into.old into.new count.new }
     ensures refused { result ≢ Answer.Done → (into.new ≡ into.old) × (count.new ≡ count.old) }
 {
-    let blocks = match make(alloc, geometry) {
-        Ok(blocks) => blocks,
-        Err(refusal) => return Answer::Refused(refusal.kind()),
-    };
-    let Some(first) = blocks.first() else {
-        // Never so: a disk has blocks.
+    if !geometry.is_valid() {
         return Answer::Refused(RefusalKind::Geometry);
-    };
-    let Ok(many) = u32::try_from(blocks.len()) else {
-        // Never so: a disk has few.
-        return Answer::Refused(RefusalKind::Geometry);
+    }
+    if into.len() < BLOCK {
+        return Answer::BufferTooSmall;
+    }
+    let Ok(first) = write_superblock(alloc, geometry) else {
+        return Answer::Refused(RefusalKind::OutOfMemory);
     };
     let mut len = 0;
     let answer = copy_out(first.as_slice(), into, &mut len);
     if answer == Answer::Done {
-        *count = many;
+        *count = geometry.block_count();
     }
     answer
 }

@@ -12,7 +12,7 @@ use crate::groups::{
     fstch_group_pending,
 };
 use crate::handle::Handle;
-use crate::listing::{fstch_check, fstch_entry};
+use crate::listing::{fstch_check, fstch_entry, fstch_extent, fstch_unsynced};
 use crate::syncing::{fstch_core_sync, fstch_core_synced, fstch_core_write};
 use crate::texts::fstch_error_text;
 use crate::values::{fstch_get, fstch_put};
@@ -58,6 +58,8 @@ enum Call {
     Reclaim(u32),
     Check,
     Entry(u32, usize),
+    Extent(u32),
+    Unsynced,
     Group,
     Engage(u32, u32),
     Disengage(u32, u32),
@@ -132,6 +134,19 @@ fn entry(alloc: Global, handle: &mut Handle, number: u32, into: &mut [u8]) -> To
     let mut value_len = KEPT;
     let answer = fstch_entry(handle, alloc, number, into, &mut key_len, &mut value_len);
     (answer, key_len, value_len)
+}
+
+fn extent(alloc: Global, handle: &mut Handle, number: u32) -> Told {
+    let mut live = KEPT as u32;
+    let mut filled = KEPT as u32;
+    let answer = fstch_extent(handle, alloc, number, &mut live, &mut filled);
+    (answer, live as usize, filled as usize)
+}
+
+fn unsynced(alloc: Global, handle: &mut Handle) -> Told {
+    let mut changes = KEPT as u32;
+    let answer = fstch_unsynced(handle, alloc, &mut changes);
+    (answer, changes as usize, KEPT)
 }
 
 fn group(alloc: Global, handle: &mut Handle) -> Told {
@@ -242,6 +257,8 @@ fn step(alloc: Global, handle: &mut Handle, file: &mut [u8], into: &mut [u8], ca
         Call::File => told(fstch_core_file(handle, alloc)),
         Call::Barriers => told(i32::from(fstch_core_barriers(handle, alloc))),
         Call::Check => check(alloc, handle),
+        Call::Extent(number) => extent(alloc, handle, *number),
+        Call::Unsynced => unsynced(alloc, handle),
         Call::Save => save(alloc, handle, file, into),
         Call::Shows(bytes) => shows(into, bytes),
         Call::Make(_, _, _, _) | Call::Get(_, _) | Call::Entry(_, _) | Call::Event(_, _) => {
@@ -336,11 +353,18 @@ fn values_last(rt: HostRuntime) {
     walk_on(&rt, rt.alloc(), (1, 4, 0), &VALUES);
 }
 
-const ENTRIES: [Move; 11] = [
+const ENTRIES: [Move; 18] = [
     (Call::Open, (DONE, KEPT, KEPT)),
     (Call::Check, (DONE, 0, 3)),
     (Call::Entry(0, 32), (-5, KEPT, KEPT)),
+    (Call::Unsynced, (DONE, 0, KEPT)),
     (Call::Put(1, b"key", b"value"), (DONE, KEPT, KEPT)),
+    (Call::Unsynced, (DONE, 3, KEPT)),
+    (Call::Extent(0), (DONE, 24, 24)),
+    (Call::Extent(1), (DONE, 0, 0)),
+    (Call::Extent(3), (34, KEPT, KEPT)),
+    (Call::Save, (DONE, KEPT, KEPT)),
+    (Call::Unsynced, (DONE, 0, KEPT)),
     (Call::Check, (DONE, 1, 3)),
     (Call::Entry(0, 2), (-4, 3, 5)),
     (Call::Shows(b"..."), (1, KEPT, KEPT)),
@@ -381,13 +405,15 @@ fn groups_are_ordered(rt: HostRuntime) {
     walk_on(&rt, rt.alloc(), (1, 4, 0), &GROUPS);
 }
 
-const MISUSE: [Move; 35] = [
+const MISUSE: [Move; 37] = [
     (Call::Put(0, b"a", b"b"), (NOT_OPEN, KEPT, KEPT)),
     (Call::Get(b"a", 4), (NOT_OPEN, KEPT, KEPT)),
     (Call::Shows(b"....."), (1, KEPT, KEPT)),
     (Call::Entry(0, 4), (NOT_OPEN, KEPT, KEPT)),
     (Call::Shows(b"....."), (1, KEPT, KEPT)),
     (Call::Check, (NOT_OPEN, KEPT, KEPT)),
+    (Call::Extent(0), (NOT_OPEN, KEPT, KEPT)),
+    (Call::Unsynced, (NOT_OPEN, KEPT, KEPT)),
     (Call::Group, (NOT_OPEN, KEPT, KEPT)),
     (Call::Pending(0), (NOT_OPEN, KEPT, KEPT)),
     (Call::Sync, (NOT_OPEN, KEPT, KEPT)),
@@ -467,5 +493,5 @@ fn texts_end(rt: HostRuntime) {
         expect_eq(&rt, &fstch_error_text(*answer, part(&mut into, *room)), len);
         expect_eq(&rt, &shows(&into, shown), &told(1));
     }
-    expect_eq(&rt, &fstch_version(), &200);
+    expect_eq(&rt, &fstch_version(), &300);
 }
