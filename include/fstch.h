@@ -1,9 +1,9 @@
 /* fstch: keys and values in one file that opens after every crash.
  *
- * This file is all that a caller has to read. It is C and C++. Link with libfstch.a or libfstch.so.
+ * This file is all that a caller has to read. It is C and C++. Link with libfstch.a or libfstch.so, which run on Linux on x86-64.
  *
  *     fstch_store store = FSTCH_CLOSED;
- *     fstch_open(&store, path, &slot);
+ *     fstch_open(&store, path, NULL);
  *     fstch_put(&store, FSTCH_NO_WRITER, key, key_length, value, value_length);
  *     fstch_sync(&store);
  *     fstch_close(&store);
@@ -21,15 +21,18 @@
  * answer FSTCH_NOT_OPEN, which goes before all others.
  *
  * What a caller owes, and nothing tests:
- * - A fstch_store begins as FSTCH_CLOSED, and these calls alone change it. A copy of an open one is never passed.
- * - No pointer is null. Where a length is 0 the pointer beside it is any other. A path ends with a 0 byte.
+ * - A fstch_store begins as FSTCH_CLOSED, and these calls alone change it. It may be moved: its bytes are copied elsewhere, and those that
+ *   were copied aren't passed any more.
+ * - No pointer is null, but for `slot`. Where a length is 0 the pointer beside it is any other. A path ends with a 0 byte.
  * - A buffer has the length that is passed beside it. The store, the buffers and the out parameters of one call don't overlap.
- * - The thread that opened a store makes all its calls. Two threads may each have a store of their own.
+ * - One thread at a time makes a call on a store, also where the store is const: any thread, with a lock between where there are several.
+ *   Two threads may each have a store of their own at the same time.
  * - While a store is open nobody writes to its file, cuts it, removes it or gives its name to another file, but by these calls. The lock
  *   keeps those out who ask for it; a sync on a file that was removed is answered as on any other.
- * - No call is made from a signal handler, nor in a child that was forked while a store was open, but for one that has run another
- *   program by then. Such a child has the lock of the file too, until it ends or runs another program.
- * - malloc, realloc and free are those of one allocator.
+ * - No call is made from a signal handler. SIGXFSZ is ignored or blocked where a limit of file sizes may be met: else it ends the program.
+ * - In a child that was forked while a store was open nothing is called on it but fstch_close, which leaves the parent its store and the
+ *   file's lock. The child has the lock too, until it closes the store, ends or runs another program.
+ * - malloc, realloc and free are those of one allocator. A call takes at most 16 KiB of the stack.
  */
 #ifndef FSTCH_H
 #define FSTCH_H
@@ -39,22 +42,33 @@
 #include <stdint.h>
 
 /* The version of this interface: 10,000 for each major, 100 for each minor number, 1 for each patch. */
-#define FSTCH_VERSION 200
+#define FSTCH_VERSION 300
 
 #ifdef __cplusplus
 extern "C" {
 #endif
 
-/* A store that is open, or none. It takes 16 bytes and stays where the program puts it. */
+#ifdef __clang__
+#pragma clang diagnostic push
+#pragma clang diagnostic ignored "-Wpadded"
+#endif
+/* A store that is open, or none. It takes 16 bytes. */
 typedef struct fstch_store {
     /* Whether it is open. To be read alone; fstch_is_open says the same. */
     bool is_open;
     /* What belongs to these calls. Null where it is closed. */
     void *at;
 } fstch_store;
+#ifdef __clang__
+#pragma clang diagnostic pop
+#endif
 
 /* How a fstch_store begins, and what fstch_close leaves: all zeros. */
-#define FSTCH_CLOSED {false, 0}
+#ifdef __cplusplus
+#define FSTCH_CLOSED {}
+#else
+#define FSTCH_CLOSED {false, NULL}
+#endif
 
 /* Writers are numbered from 0 to 6. A put or delete by one belongs to all groups that the writer has engaged. */
 #define FSTCH_WRITERS 7u
@@ -146,6 +160,10 @@ enum fstch_answer {
  * The file and the directory that it stands in are synced, so that the name lasts too; but where the system can't sync directories the
  * name may get lost with the power.
  *
+ * The file is made under another name, `.fstch-` with two digits in the same directory, and linked to its own when it is whole. So a program
+ * that is killed, or a cut of the power, leaves nothing of this name but a store; it may leave the other one, which may be removed. Where
+ * the file system has no links the file is made where it is to be.
+ *
  * The file is given room for all its blocks, so that no later sync needs more. That is the file system's word: one that puts each write
  * in a new place, or that can't set room aside but for zeros that are written, may still have none, and a sync then answers
  * FSTCH_DEVICE_GAVE_UP or FSTCH_NO_SYNC.
@@ -163,7 +181,8 @@ int32_t fstch_make(const char *path, uint32_t index_blocks, uint32_t extents, ui
  * takes the same lock. The file is synced, so that what it shows lasts, and then read whole from the disk. An open store takes as much
  * memory as the file has bytes, and more for what is not synced; opening takes twice as much, and a sync as much again as it writes.
  *
- * `slot` is set with FSTCH_BAD_SLOT, FSTCH_BAD_FRAME and FSTCH_DUPLICATE_KEY alone: to the first slot of the index that is wrong.
+ * `slot` is set with FSTCH_BAD_SLOT, FSTCH_BAD_FRAME and FSTCH_DUPLICATE_KEY alone: to the first slot of the index that is wrong. It may be
+ * null.
  *
  * FSTCH_IS_OPEN, FSTCH_DISK, FSTCH_IN_USE, FSTCH_FILE_SIZE, FSTCH_OUT_OF_MEMORY, FSTCH_BAD_SUPER, FSTCH_BAD_POINTER, FSTCH_BAD_SLOT,
  * FSTCH_BAD_FRAME, FSTCH_DUPLICATE_KEY.
@@ -209,7 +228,7 @@ int32_t fstch_put(fstch_store *store, uint32_t writer, const void *key, size_t k
  *
  * FSTCH_KEY_LENGTH, FSTCH_ABSENT, FSTCH_OUT_OF_MEMORY, FSTCH_BUFFER_TOO_SMALL.
  */
-int32_t fstch_get(fstch_store *store, const void *key, size_t key_length, void *into, size_t into_length, size_t *length);
+int32_t fstch_get(const fstch_store *store, const void *key, size_t key_length, void *into, size_t into_length, size_t *length);
 
 /* Takes a key and its value away. The room is won back by fstch_reclaim. `writer` is as in fstch_put.
  *
@@ -228,15 +247,25 @@ int32_t fstch_reclaim(fstch_store *store, uint32_t extent);
  *
  * FSTCH_OUT_OF_MEMORY.
  */
-int32_t fstch_check(fstch_store *store, uint32_t *entries, uint32_t *extents);
+int32_t fstch_check(const fstch_store *store, uint32_t *entries, uint32_t *extents);
 
 /* The entry of this number, from 0 to one less than fstch_check counts: its key is copied to the front of `key`, `key_length` becomes
  * the key's length and `value_length` that of its value. A buffer of FSTCH_MAX_KEY bytes is large enough. With FSTCH_BUFFER_TOO_SMALL
  * the lengths are set and nothing is copied. The numbers stay while no new key is put and none is deleted.
  *
- * FSTCH_OUT_OF_MEMORY, FSTCH_ABSENT, FSTCH_BUFFER_TOO_SMALL.
+ * FSTCH_ABSENT, FSTCH_BUFFER_TOO_SMALL.
  */
-int32_t fstch_entry(fstch_store *store, uint32_t number, void *key, size_t key_room, size_t *key_length, size_t *value_length);
+int32_t fstch_entry(const fstch_store *store, uint32_t number, void *key, size_t key_room, size_t *key_length, size_t *value_length);
+
+/* How full an extent is: sets `filled` to how many bytes were appended to it since it was made or won back, and `live` to how many of them
+ * hold a key with the value that it has. A reclaim copies the live ones, and frees the others.
+ *
+ * FSTCH_NO_SUCH_EXTENT.
+ */
+int32_t fstch_extent(const fstch_store *store, uint32_t extent, uint32_t *live, uint32_t *filled);
+
+/* Sets `changes` to how many pieces of changes haven't reached the file: 0 where a sync has nothing to do. A put has several pieces. */
+int32_t fstch_unsynced(const fstch_store *store, uint32_t *changes);
 
 /* Groups: an order in which changes reach the file. It costs what its syncs of the file cost, which one fstch_sync makes for all groups
  * together: one for each wave, and changes that don't wait for one another share a wave. A group has all changes of the writers that have
@@ -277,7 +306,7 @@ int32_t fstch_group_close(fstch_store *store, uint32_t group);
  *
  * FSTCH_NO_SUCH_GROUP.
  */
-int32_t fstch_group_pending(fstch_store *store, uint32_t group, uint32_t *changes);
+int32_t fstch_group_pending(const fstch_store *store, uint32_t group, uint32_t *changes);
 
 /* About the library. */
 

@@ -8,7 +8,7 @@
 /* Copies the first block of a new store, 4,096 bytes, to the front of `into`, and sets `blocks` to how many its file has. All others
  * are zeros.
  *
- * FSTCH_GEOMETRY, FSTCH_OUT_OF_MEMORY, FSTCH_BUFFER_TOO_SMALL.
+ * FSTCH_GEOMETRY, FSTCH_BUFFER_TOO_SMALL, FSTCH_OUT_OF_MEMORY.
  */
 int32_t fstch_core_make(uint32_t index_blocks, uint32_t extents, uint32_t extent_blocks, uint8_t *into, size_t into_length,
                         uint32_t *blocks);
@@ -22,10 +22,10 @@ int32_t fstch_core_make(uint32_t index_blocks, uint32_t extents, uint32_t extent
 int32_t fstch_core_open(fstch_store *store, int32_t file, bool has_barriers, const uint8_t *bytes, size_t length, uint32_t *slot);
 
 /* The number that the store was opened with, or -1 where it is closed. */
-int32_t fstch_core_file(fstch_store *store);
+int32_t fstch_core_file(const fstch_store *store);
 
 /* Whether the store was opened with barriers: its file is synced at each. False where it is closed. */
-bool fstch_core_barriers(fstch_store *store);
+bool fstch_core_barriers(const fstch_store *store);
 
 /* Brings all changes to the store's tape, as events in the order in which they have to be done to the file: writes, and behind those on
  * which others rest a barrier, at which the file has to be synced before anything behind it is written. The last event, if there is one,
@@ -40,7 +40,7 @@ int32_t fstch_core_sync(fstch_store *store);
  *
  * FSTCH_ABSENT behind the last one, FSTCH_BUFFER_TOO_SMALL.
  */
-int32_t fstch_core_write(fstch_store *store, uint32_t number, bool *is_barrier, uint32_t *block, uint8_t *into, size_t into_length);
+int32_t fstch_core_write(const fstch_store *store, uint32_t number, bool *is_barrier, uint32_t *block, uint8_t *into, size_t into_length);
 
 /* Empties the tape: all its events are done to the file, in their order, and the system lets its writes last. Where that isn't so, is_done
  * is false, and each later sync is refused with FSTCH_NO_SYNC. */

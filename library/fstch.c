@@ -8,6 +8,7 @@
 #include <stdlib.h>
 #include <string.h>
 #include <sys/file.h>
+#include <sys/stat.h>
 #include <unistd.h>
 
 enum {
@@ -15,8 +16,12 @@ enum {
     MOST_BYTES = 4096 * BLOCK, /* of a file */
     WRITE_TRIES = 8,           /* of a block */
     LOWEST_FILE = 3,           /* behind the standard streams */
-    MODE = 0666                /* of a new file, less what the umask takes away */
+    MODE = 0666,               /* of a new file, less what the umask takes away */
+    NAMES = 64                 /* that are tried for a file that isn't whole yet */
 };
+
+/* How a file is called in its directory until it is whole, with two digits behind. */
+static const char BESIDE[] = "/.fstch-";
 
 /* Whether a call of the system has to be made again, since a signal ended it. */
 static bool is_interrupted(long answer) {
@@ -148,7 +153,7 @@ static bool give_room(int file, uint32_t blocks) {
     return error == 0;
 }
 
-/* Gives a new file its room and its first block, and closes it. */
+/* Gives a new file its room and its first block, lets it last, and closes it. */
 static bool finish_file(int file, uint32_t blocks, const uint8_t *first) {
     if (file < 0) {
         return false;
@@ -158,6 +163,13 @@ static bool finish_file(int file, uint32_t blocks, const uint8_t *first) {
     return is_finished;
 }
 
+/* Takes a name away, and leaves errno as it is. */
+static void remove_name(const char *path) {
+    int kept = errno;
+    unlink(path);
+    errno = kept;
+}
+
 /* Frees what was allocated, and leaves errno as it is. */
 static void free_bytes(void *bytes) {
     int kept = errno;
@@ -165,12 +177,12 @@ static void free_bytes(void *bytes) {
     errno = kept;
 }
 
-/* The directory of a path, to be freed. NULL where there is no memory. */
+/* The directory of a path, with room behind it for a name in it; to be freed. NULL where there is no memory. */
 static char *directory_of(const char *path) {
     const char *slash = strrchr(path, '/');
     const char *from = slash == NULL ? "." : path;
     size_t length = slash == NULL || slash == path ? 1 : (size_t)(slash - path);
-    char *directory = malloc(length + 1);
+    char *directory = malloc(length + sizeof BESIDE + 2);
     if (directory != NULL) {
         memcpy(directory, from, length);
         directory[length] = 0;
@@ -193,15 +205,66 @@ static bool sync_directory(const char *directory) {
     return is_synced;
 }
 
-static int32_t make_file(const char *path, const char *directory, uint32_t blocks, const uint8_t *first) {
+/* Whether there is something of this name; errno says so then. */
+static bool is_taken(const char *path) {
+    struct stat found;
+    if (lstat(path, &found) != 0) {
+        return false;
+    }
+    errno = EEXIST;
+    return true;
+}
+
+static bool make_in_place(const char *path, uint32_t blocks, const uint8_t *first) {
     int file = open_file(path, O_CREAT | O_EXCL);
     if (file < 0) {
+        return false;
+    }
+    if (!finish_file(above_streams(file), blocks, first)) {
+        remove_name(path);
+        return false;
+    }
+    return true;
+}
+
+/* Opens a new file by a name that nothing has, and puts the name behind the directory. */
+static int open_beside(char *directory) {
+    char *name = directory + strlen(directory);
+    int file = -1;
+    for (int number = 0; number < NAMES; number++) {
+        memcpy(name, BESIDE, sizeof BESIDE);
+        name[sizeof BESIDE - 1] = (char)('0' + number / 10);
+        name[sizeof BESIDE] = (char)('0' + number % 10);
+        name[sizeof BESIDE + 1] = 0;
+        file = open_file(directory, O_CREAT | O_EXCL);
+        if (file >= 0 || errno != EEXIST) {
+            break;
+        }
+    }
+    return file;
+}
+
+/* Makes a file under another name, and links it to its own when it is whole and lasts, so that a program that is killed leaves nothing of
+ * this name but a store. Where the file system has no links, it is made where it is to be. */
+static bool make_whole(const char *path, char *directory, uint32_t blocks, const uint8_t *first) {
+    size_t length = strlen(directory);
+    int file = open_beside(directory);
+    if (file < 0) {
+        return false;
+    }
+    bool is_whole = finish_file(above_streams(file), blocks, first);
+    bool is_linked = is_whole && link(directory, path) == 0;
+    remove_name(directory);
+    directory[length] = 0;
+    return is_linked || (is_whole && make_in_place(path, blocks, first));
+}
+
+static int32_t make_file(const char *path, char *directory, uint32_t blocks, const uint8_t *first) {
+    if (is_taken(path) || !make_whole(path, directory, blocks, first)) {
         return FSTCH_DISK;
     }
-    if (!finish_file(above_streams(file), blocks, first) || !sync_directory(directory)) {
-        int kept = errno;
-        unlink(path);
-        errno = kept;
+    if (!sync_directory(directory)) {
+        remove_name(path);
         return FSTCH_DISK;
     }
     return FSTCH_DONE;
@@ -254,6 +317,8 @@ static int32_t open_store(fstch_store *store, int file, bool has_barriers, uint3
 }
 
 int32_t fstch_open_with(fstch_store *store, const char *path, uint32_t flags, uint32_t *slot) {
+    uint32_t unasked = 0;
+    slot = slot == NULL ? &unasked : slot;
     if (fstch_is_open(store)) {
         return FSTCH_IS_OPEN;
     }

@@ -2,6 +2,7 @@
 
 import base64
 import hashlib
+import io
 import os
 import pathlib
 import re
@@ -12,6 +13,7 @@ import zipfile
 HERE = pathlib.Path(__file__).resolve().parent
 MODULE = HERE / "fstch"
 LIBRARY = "libfstch.so"
+README, LICENSE = "README.md", "LICENSE"
 PACKED = {".py", ".so", ".typed"}
 
 
@@ -31,10 +33,17 @@ def tag():
 
 
 def metadata():
+    """METADATA of a wheel, and PKG-INFO of what is packed as source."""
     return (
         f"Metadata-Version: 2.1\nName: {said('name')}\nVersion: {said('version')}\nSummary: {said('description')}\n"
-        f"License: MIT\nRequires-Python: {said('requires-python')}\n"
+        f"License: MIT\nLicense-File: LICENSE\nRequires-Python: {said('requires-python')}\n"
+        f"Description-Content-Type: text/markdown\n\n{(HERE / README).read_text(encoding='utf-8')}"
     )
+
+
+def license_text():
+    """The license, which stands beside this file where it was packed, and above it in the repository."""
+    return next(it for it in (HERE / LICENSE, HERE.parent / LICENSE) if it.exists()).read_bytes()
 
 
 def wheel_file():
@@ -58,7 +67,7 @@ def build_editable(wheel_directory, config_settings=None, metadata_directory=Non
 def write_wheel(folder, contents):
     title = f"{said('name')}-{said('version')}"
     about = f"{title}.dist-info"
-    contents = {**contents, f"{about}/METADATA": metadata().encode(), f"{about}/WHEEL": wheel_file().encode()}
+    contents = {**contents, f"{about}/METADATA": metadata().encode(), f"{about}/WHEEL": wheel_file().encode(), f"{about}/LICENSE": license_text()}
     record = "".join(row(name, content) for name, content in contents.items()) + f"{about}/RECORD,,\n"
     name = f"{title}-{tag()}.whl"
     with zipfile.ZipFile(os.path.join(folder, name), "w", zipfile.ZIP_DEFLATED) as wheel:
@@ -70,6 +79,10 @@ def write_wheel(folder, contents):
 def build_sdist(sdist_directory, config_settings=None):
     title = f"{said('name')}-{said('version')}"
     with tarfile.open(os.path.join(sdist_directory, f"{title}.tar.gz"), "w:gz") as packed:
-        for file in [HERE / "pyproject.toml", HERE / "packing.py", *files()]:
+        for file in [HERE / "pyproject.toml", HERE / "packing.py", HERE / README, *files()]:
             packed.add(file, f"{title}/{file.relative_to(HERE)}")
+        for name, content in (("PKG-INFO", metadata().encode()), (LICENSE, license_text())):
+            about = tarfile.TarInfo(f"{title}/{name}")
+            about.size = len(content)
+            packed.addfile(about, io.BytesIO(content))
     return f"{title}.tar.gz"

@@ -23,6 +23,9 @@ A refused call raises an exception of `Error`, with the library's text and its n
 from .errors import *
 from .errors import __all__ as _errors
 from .library import VERSION
-from .store import Counts, Group, Store, make, open
+from .store import MAX_KEY, MAX_VALUE, Counts, Extent, Group, Store, make, open
 
-__all__ = ["VERSION", "Counts", "Group", "Store", "make", "open", *_errors]
+__version__ = f"{VERSION // 10000}.{VERSION // 100 % 100}.{VERSION % 100}"
+
+# (without `open`, which is a name of Python's own)
+__all__ = ["MAX_KEY", "MAX_VALUE", "VERSION", "Counts", "Extent", "Group", "Store", "__version__", "make", *_errors]

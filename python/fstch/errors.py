@@ -40,13 +40,13 @@ __all__ = [
     "NumbersSpent",
     "OpenExtent",
     "OutOfMemory",
+    "ReadOnly",
     "SameGroup",
     "Sealed",
     "Started",
     "TooManyGroups",
     "TooManyLive",
     "ValueLength",
-    "WrongThread",
 ]
 
 
@@ -297,8 +297,8 @@ class BadWriter(Error, ValueError):
 # This module's own.
 
 
-class WrongThread(Error):
-    """The store was opened by another thread, or before a fork by the parent: it is used by the thread that opened it alone."""
+class ReadOnly(Error, OSError):
+    """The store was opened to be read."""
 
 
 _BY_NUMBER = {kind.number: kind for kind in Error.__subclasses__() if kind.number is not None}

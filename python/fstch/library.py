@@ -12,7 +12,7 @@ from . import errors
 
 __all__ = ["VERSION", "Handle", "calls", "refusal", "require_done", "text_of"]
 
-VERSION = 200
+VERSION = 300
 """The version of the interface that this module is written for: of its major and minor number the library has to be."""
 
 NAME = "libfstch.so"
@@ -44,6 +44,8 @@ _ANSWERING = {
     "reclaim": (_STORE, c_uint32),
     "check": (_STORE, _NUMBER, _NUMBER),
     "entry": (_STORE, c_uint32, *_ROOM, _SIZE, _SIZE),
+    "extent": (_STORE, c_uint32, _NUMBER, _NUMBER),
+    "unsynced": (_STORE, _NUMBER),
     "group": (_STORE, _NUMBER),
     "group_engage": (_STORE, c_uint32, c_uint32),
     "group_disengage": (_STORE, c_uint32, c_uint32),

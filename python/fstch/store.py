@@ -2,24 +2,31 @@
 
 from __future__ import annotations
 
+import contextlib
 import ctypes
+import itertools
 import os
 import threading
 import warnings
 import weakref
-from collections.abc import Iterable, Iterator, MutableMapping
+from collections.abc import Iterable, Iterator, Mapping, MutableMapping
 from ctypes import byref, c_size_t, c_uint32, c_uint8
 from types import TracebackType
-from typing import NamedTuple, NoReturn, Optional, Type, Union
+from typing import Any, Callable, NamedTuple, NoReturn, Optional, Type, Union
 
 from . import errors
 from .library import Handle, calls, refusal, require_done
 
-__all__ = ["Counts", "Group", "Store", "make", "open"]
+__all__ = ["MAX_KEY", "MAX_VALUE", "Counts", "Extent", "Group", "Store", "make", "open"]
 
 Path = Union[str, bytes, "os.PathLike[str]", "os.PathLike[bytes]"]
 
 MAX_KEY = 32
+"""The most bytes of a key, which has one at least."""
+
+MAX_VALUE = 131072
+"""The most bytes of a value of any store. One whose extents have 16 blocks has the lower limits of `make`."""
+
 # The writer of all changes: they belong to the groups that are entered.
 WRITER = 0
 # How much room a value is given at first.
@@ -28,8 +35,10 @@ ROOM = 4096
 NO_BARRIERS = 1
 # No slot of an index has this number.
 NO_SLOT = 2**32 - 1
+# How a file is divided that an open makes: the largest one.
+GEOMETRY = {"index_blocks": 16, "extents": 63, "extent_blocks": 64}
 
-# The stores that are open, of which a forked child has none: it would write to the same file.
+# The stores that are open. A forked child closes them: it would write to the same files.
 _opened: weakref.WeakValueDictionary[int, Store] = weakref.WeakValueDictionary()
 
 
@@ -46,15 +55,30 @@ def make(path: Path, *, index_blocks: int, extents: int, extent_blocks: int = 0)
     require_done(calls.fstch_make(_name(path), *numbers), path)
 
 
-def open(path: Path, *, barriers: bool = True) -> Store:
+def open(path: Path, flag: str = "w", *, barriers: bool = True, **geometry: int) -> Store:
     """Opens the store of a file, and locks the file until the store is closed.
+
+    The flag is as of the modules for dbm: "w" opens a file that there is; "c" makes one first where there is none, divided as `make` is
+    told by `index_blocks`, `extents` and `extent_blocks`, or without these as large as one can be, 16 MiB; "n" makes a new one in any
+    case, and takes away what has the name; "r" opens one that there is, and each change is refused with `ReadOnly`. It locks the file too.
 
     Without `barriers` a sync of the store is one sync of the file, behind all writes. Then the file opens again whenever the program ends
     and the system goes on; if the power is cut, or the system stops, during a sync, it may not.
 
-    Raises `Disk`, `InUse`, `FileSize`, `OutOfMemory`, `BadSuper`, `BadPointer`, `BadSlot`, `BadFrame` and `DuplicateKey`.
+    Raises `Disk`, `InUse`, `FileSize`, `OutOfMemory`, `BadSuper`, `BadPointer`, `BadSlot`, `BadFrame` and `DuplicateKey`, and, where it
+    makes a file, what `make` does.
     """
-    return Store(path, barriers=barriers)
+    if flag not in {"r", "w", "c", "n"}:
+        raise ValueError(f"a flag is 'r', 'w', 'c' or 'n', and not {flag!r}")
+    if geometry and flag not in {"c", "n"}:
+        raise ValueError(f"with the flag {flag!r} no file is made")
+    if flag == "n":
+        with contextlib.suppress(FileNotFoundError):
+            os.remove(path)
+    if flag == "n" or flag == "c" and not os.path.lexists(path):
+        with contextlib.suppress(errors.DiskTaken):
+            make(path, **(geometry or GEOMETRY))
+    return Store(path, barriers=barriers, read_only=flag == "r")
 
 
 class Counts(NamedTuple):
@@ -62,6 +86,14 @@ class Counts(NamedTuple):
 
     entries: int
     extents: int
+
+
+class Extent(NamedTuple):
+    """How full an extent is: how many of its bytes hold a key with the value that it has, and how many were appended to it since it was made
+    or won back. A reclaim copies the live ones, and frees the others."""
+
+    live: int
+    filled: int
 
 
 class Store(MutableMapping[bytes, bytes]):
@@ -74,17 +106,21 @@ class Store(MutableMapping[bytes, bytes]):
     Whenever the program ends or the power is cut, the file opens again. One premise is left to the system and its disk: what was
     written to the file before an fsync that succeeded is there, and of what was written since, each block of 4,096 bytes is old or new.
 
-    Keys have 1 to 32 bytes. A store can't be copied or pickled. It is used by the thread that opened it alone: other threads are refused with `WrongThread`, and so
-    is a child that is forked while it is open. Such a child holds the file's lock too, until it ends.
+    Keys have 1 to 32 bytes. Keys and values may be given as anything that holds bytes. Any thread may use a store: one waits while another
+    is in a call. A store can't be copied or pickled, and a child that is forked has it closed.
     """
 
-    def __init__(self, path: Path, *, barriers: bool = True) -> None:
+    def __init__(self, path: Path, *, barriers: bool = True, read_only: bool = False) -> None:
         if hasattr(self, "_handle"):
             raise TypeError("a store is opened once")
         self._handle = Handle()
-        self._thread: Optional[int] = threading.get_ident()
+        # (a signal's handler may call the store in the midst of a call)
+        self._lock = threading.RLock()
+        self._is_read_only = read_only
         # (what values are copied to, while no call has it)
         self._room: Optional[ctypes.Array[ctypes.c_char]] = None
+        # (those who go over the keys)
+        self._walks: weakref.WeakSet[_Walk] = weakref.WeakSet()
         self._path = path
         slot = c_uint32(NO_SLOT)
         answer = calls.fstch_open_with(self._handle, _name(path), 0 if barriers else NO_BARRIERS, byref(slot))
@@ -101,9 +137,10 @@ class Store(MutableMapping[bytes, bytes]):
 
     def close(self) -> None:
         """Closes the store, and lets go of the file's lock. It doesn't sync. Closing a closed store does nothing."""
-        if self._handle.is_open:
-            require_done(calls.fstch_close(self._own()))
-            _opened.pop(id(self), None)
+        with self._lock:
+            if self._handle.is_open:
+                require_done(calls.fstch_close(self._handle))
+                _opened.pop(id(self), None)
 
     def sync(self) -> None:
         """Brings all changes to the file, and waits until the system lets them last. Nothing is written before what it rests on lasts.
@@ -113,13 +150,26 @@ class Store(MutableMapping[bytes, bytes]):
 
         Raises `OutOfMemory`, `DeviceGaveUp` and `NoSync`.
         """
-        require_done(calls.fstch_sync(self._own()))
+        self._require(calls.fstch_sync)
+
+    @property
+    def unsynced(self) -> int:
+        """How many pieces of changes haven't reached the file: 0 where a sync has nothing to do. A put has several pieces."""
+        count = c_uint32()
+        self._require(calls.fstch_unsynced, byref(count))
+        return count.value
 
     def check(self) -> Counts:
         """Counts what the store holds. Raises `OutOfMemory`."""
         entries, extents = c_uint32(), c_uint32()
-        require_done(calls.fstch_check(self._own(), byref(entries), byref(extents)))
+        self._require(calls.fstch_check, byref(entries), byref(extents))
         return Counts(entries.value, extents.value)
+
+    def extent(self, number: int) -> Extent:
+        """How full an extent is. Extents are numbered from 0. Raises `NoSuchExtent`."""
+        live, filled = c_uint32(), c_uint32()
+        self._require(calls.fstch_extent, _number(number), byref(live), byref(filled), about=number)
+        return Extent(live.value, filled.value)
 
     def reclaim(self, extent: int) -> None:
         """Moves what is live in an extent elsewhere, and empties it. Extents are numbered from 0.
@@ -127,7 +177,7 @@ class Store(MutableMapping[bytes, bytes]):
         Raises `NoSuchExtent`, `EmptyExtent`, `OpenExtent`, `GenerationSpent`, `NoSpace`, `NumbersSpent`, `TooManyLive` and
         `OutOfMemory`.
         """
-        require_done(calls.fstch_reclaim(self._own(), _number(extent)), extent)
+        self._change(calls.fstch_reclaim, _number(extent), about=extent)
 
     def group(self, after: Union[None, Group, Iterable[Group]] = None) -> Group:
         """A new group, which goes to the file after one or some others.
@@ -137,7 +187,7 @@ class Store(MutableMapping[bytes, bytes]):
         Raises `TooManyGroups`, `OutOfMemory`, and what `Group.depend` raises.
         """
         number = c_uint32()
-        require_done(calls.fstch_group(self._own(), byref(number)))
+        self._require(calls.fstch_group, byref(number))
         made = Group(self, number.value)
         try:
             for earlier in (after,) if isinstance(after, Group) else after or ():
@@ -151,15 +201,16 @@ class Store(MutableMapping[bytes, bytes]):
 
     def __getitem__(self, key: bytes) -> bytes:
         """The value of a key. Raises `Absent`, which is a KeyError, and `KeyLength` and `OutOfMemory`."""
-        handle, name, length = self._own(), _bytes(key), c_size_t()
-        # (what reads the store in between, as a signal's handler may, finds no room here and takes one of its own)
-        room, self._room = self._room or ctypes.create_string_buffer(ROOM), None
-        answer = calls.fstch_get(handle, name, len(name), room, len(room), byref(length))
-        while answer == errors.BufferTooSmall.number:
-            room = ctypes.create_string_buffer(length.value)
-            answer = calls.fstch_get(handle, name, len(name), room, len(room), byref(length))
-        value = ctypes.string_at(room, length.value)
-        self._room = room
+        name, length = _bytes(key), c_size_t()
+        with self._lock:
+            # (what reads the store in between, as a signal's handler may, finds no room here and takes one of its own)
+            room, self._room = self._room or ctypes.create_string_buffer(ROOM), None
+            answer = calls.fstch_get(self._handle, name, len(name), room, len(room), byref(length))
+            while answer == errors.BufferTooSmall.number:
+                room = ctypes.create_string_buffer(length.value)
+                answer = calls.fstch_get(self._handle, name, len(name), room, len(room), byref(length))
+            value = ctypes.string_at(room, length.value)
+            self._room = room
         require_done(answer, name)
         return value
 
@@ -168,8 +219,8 @@ class Store(MutableMapping[bytes, bytes]):
 
         Raises `KeyLength`, `ValueLength`, `IndexFull`, `NoSpace`, `NumbersSpent`, `TooManyLive` and `OutOfMemory`.
         """
-        handle, name, content = self._own(), _bytes(key), _bytes(value)
-        answer = calls.fstch_put(handle, WRITER, name, len(name), content, len(content))
+        name, content = _bytes(key), _bytes(value)
+        answer = self._answer_changing(calls.fstch_put, WRITER, name, len(name), content, len(content))
         require_done(answer, content if answer == errors.ValueLength.number else name)
 
     def __delitem__(self, key: bytes) -> None:
@@ -177,16 +228,18 @@ class Store(MutableMapping[bytes, bytes]):
 
         Raises `NoKey`, which is a KeyError, and `KeyLength`, `NumbersSpent`, `TooManyLive` and `OutOfMemory`.
         """
-        handle, name = self._own(), _bytes(key)
-        require_done(calls.fstch_delete(handle, WRITER, name, len(name)), name)
+        name = _bytes(key)
+        self._change(calls.fstch_delete, WRITER, name, len(name), about=name)
 
     def __contains__(self, key: object) -> bool:
         """Whether a key has a value. No key of a wrong length or type has one."""
-        handle = self._own()
-        if not isinstance(key, (bytes, bytearray, memoryview)):
-            return False
-        name, length = bytes(key), c_size_t()
-        answer = calls.fstch_get(handle, name, len(name), None, 0, byref(length))
+        try:
+            name = _bytes(key)
+        except TypeError:
+            name = b""
+        length = c_size_t()
+        with self._lock:
+            answer = calls.fstch_get(self._handle, name, len(name), None, 0, byref(length))
         if answer in (errors.Absent.number, errors.KeyLength.number):
             return False
         if answer != errors.BufferTooSmall.number:
@@ -199,27 +252,68 @@ class Store(MutableMapping[bytes, bytes]):
 
     def __iter__(self) -> Iterator[bytes]:
         """The keys as they are now: what is put or deleted meanwhile doesn't change what is left of them."""
-        return iter([key for key, _ in self._entries()])
+        return _Walk(self, itertools.count())
+
+    def __reversed__(self) -> Iterator[bytes]:
+        """The same keys from the last one on."""
+        return _Walk(self, iter(range(len(self) - 1, -1, -1)))
+
+    def __or__(self, other: Mapping[Any, Any]) -> dict[Any, Any]:
+        """A dict of the keys and values of both; of a key that both have, with the other's value."""
+        return {**dict(self), **other} if isinstance(other, Mapping) else NotImplemented
+
+    def __ror__(self, other: Mapping[Any, Any]) -> dict[Any, Any]:
+        return {**other, **dict(self)} if isinstance(other, Mapping) else NotImplemented
+
+    def __ior__(self, other: Union[Mapping[bytes, bytes], Iterable[tuple[bytes, bytes]]]) -> Store:
+        self.update(other)
+        return self
 
     def lengths(self) -> dict[bytes, int]:
         """The keys, each with the length of its value."""
-        return dict(self._entries())
+        with self._lock:
+            return dict(it for it in map(self._entry, range(len(self))) if it is not None)
 
     def clear(self) -> None:
         """Takes all keys away."""
         for key in self:
             del self[key]
 
-    def _entries(self) -> Iterator[tuple[bytes, int]]:
+    def _entry(self, number: int) -> Optional[tuple[bytes, int]]:
+        """The key of this number, with the length of its value."""
         key, key_length, value_length = (c_uint8 * MAX_KEY)(), c_size_t(), c_size_t()
-        for number in range(len(self)):
-            require_done(calls.fstch_entry(self._own(), number, key, MAX_KEY, byref(key_length), byref(value_length)))
-            yield ctypes.string_at(key, key_length.value), value_length.value
+        with self._lock:
+            answer = calls.fstch_entry(self._handle, number, key, MAX_KEY, byref(key_length), byref(value_length))
+        if answer == errors.Absent.number:
+            return None
+        require_done(answer)
+        return ctypes.string_at(key, key_length.value), value_length.value
+
+    # Calls of the library, one at a time.
+
+    def _require(self, call: Callable[..., int], *given: object, about: object = None) -> None:
+        with self._lock:
+            answer = call(self._handle, *given)
+        require_done(answer, about)
+
+    def _change(self, call: Callable[..., int], *given: object, about: object = None) -> None:
+        require_done(self._answer_changing(call, *given), about)
+
+    def _answer_changing(self, call: Callable[..., int], *given: object) -> int:
+        """The answer of a call that changes keys: who goes over them has them all first."""
+        if self._is_read_only:
+            raise errors.ReadOnly(f"{self!r} was opened to be read")
+        with self._lock:
+            if self._walks:
+                for walk in list(self._walks):
+                    walk.finish()
+            return call(self._handle, *given)
 
     # Opening and closing.
 
     def __enter__(self) -> Store:
-        self._own()
+        if not self._handle.is_open:
+            require_done(errors.NotOpen.number)
         return self
 
     def __exit__(
@@ -228,11 +322,9 @@ class Store(MutableMapping[bytes, bytes]):
         error: Optional[BaseException],
         trace: Optional[TracebackType],
     ) -> None:
-        """Closes the store; where nothing was raised, after a sync. A forked child leaves it to its parent."""
-        if not self._handle.is_open or self._thread is None:
-            return
+        """Closes the store; where nothing was raised, after a sync. A forked child has it closed."""
         try:
-            if kind is None:
+            if kind is None and self._handle.is_open:
                 self.sync()
         finally:
             self.close()
@@ -240,7 +332,7 @@ class Store(MutableMapping[bytes, bytes]):
     def __del__(self) -> None:
         # (there is no handle where the path was no path)
         handle = getattr(self, "_handle", None)
-        if handle is not None and handle.is_open and self._thread == threading.get_ident():
+        if handle is not None and handle.is_open:
             warnings.warn(f"{self!r} was never closed", ResourceWarning, source=self)
             self.close()
 
@@ -256,11 +348,30 @@ class Store(MutableMapping[bytes, bytes]):
     def __repr__(self) -> str:
         return f"<fstch.Store {self._path!r}{'' if self._handle.is_open else ', closed'}>"
 
-    def _own(self) -> Handle:
-        """The handle, in the thread that has it."""
-        if self._thread != threading.get_ident():
-            raise errors.WrongThread(f"{self!r} was opened by another thread or process")
-        return self._handle
+
+class _Walk(Iterator[bytes]):
+    """The keys of a store that have these numbers, one after another. Before keys change, those that are left are read at once."""
+
+    def __init__(self, store: Store, numbers: Iterator[int]) -> None:
+        self._store = store
+        self._numbers = numbers
+        self._rest: Optional[Iterator[bytes]] = None
+        store._walks.add(self)
+
+    def __next__(self) -> bytes:
+        with self._store._lock:
+            return next(self._left() if self._rest is None else self._rest)
+
+    def _left(self) -> Iterator[bytes]:
+        for number in self._numbers:
+            entry = self._store._entry(number)
+            if entry is None:
+                return
+            yield entry[0]
+
+    def finish(self) -> None:
+        if self._rest is None:
+            self._rest = iter(list(self._left()))
 
 
 class Group:
@@ -282,22 +393,22 @@ class Group:
         """
         if earlier._store is not self._store:
             raise ValueError("a group goes after groups of its own store")
-        require_done(calls.fstch_group_depend(self._store._own(), self.number, earlier.number), earlier)
+        self._store._require(calls.fstch_group_depend, self.number, earlier.number, about=earlier)
 
     @property
     def pending(self) -> int:
         """How many pieces of the group's changes haven't reached the file; a put has several. Raises `NoSuchGroup`."""
         count = c_uint32()
-        require_done(calls.fstch_group_pending(self._store._own(), self.number, byref(count)), self)
+        self._store._require(calls.fstch_group_pending, self.number, byref(count), about=self)
         return count.value
 
     def close(self) -> None:
         """Ends the use of the group. Its changes stay, in their order. Raises `NoSuchGroup` and `Engaged`."""
-        require_done(calls.fstch_group_close(self._store._own(), self.number), self)
+        self._store._require(calls.fstch_group_close, self.number, about=self)
 
     def __enter__(self) -> Group:
         """Enters the group. Raises `NoSuchGroup`, `Sealed`, `Engaged` and `OutOfMemory`."""
-        require_done(calls.fstch_group_engage(self._store._own(), self.number, WRITER), self)
+        self._store._require(calls.fstch_group_engage, self.number, WRITER, about=self)
         return self
 
     def __exit__(
@@ -308,7 +419,7 @@ class Group:
     ) -> None:
         """Leaves the group. Where the store was closed inside, there is nothing to leave."""
         if self._store.is_open:
-            require_done(calls.fstch_group_disengage(self._store._own(), self.number, WRITER), self)
+            self._store._require(calls.fstch_group_disengage, self.number, WRITER, about=self)
 
     def __repr__(self) -> str:
         return f"<fstch.Group {self.number} of {self._store!r}>"
@@ -329,19 +440,37 @@ def _number(value: int) -> int:
     return value
 
 
-def _bytes(value: bytes) -> bytes:
+def _bytes(value: object) -> bytes:
     """A key or value, of anything that holds bytes."""
     if isinstance(value, bytes):
         return value
-    if isinstance(value, (bytearray, memoryview)):
-        return bytes(value)
-    raise TypeError(f"keys and values are bytes, and no {type(value).__name__}")
+    try:
+        return memoryview(value).tobytes()  # type: ignore[arg-type]
+    except TypeError:
+        raise TypeError(f"keys and values are bytes, and no {type(value).__name__}") from None
 
 
-def _disown() -> None:
+# A child is forked while no call is under way, and closes what its parent has open: the parent keeps its stores and their locks.
+
+_held: list[Store] = []
+
+
+def _hold() -> None:
     for store in list(_opened.values()):
-        store._thread = None
+        store._lock.acquire()
+        _held.append(store)
+
+
+def _let_go() -> None:
+    while _held:
+        _held.pop()._lock.release()
+
+
+def _close() -> None:
+    for store in _held:
+        store.close()
+    _let_go()
 
 
 if hasattr(os, "register_at_fork"):
-    os.register_at_fork(after_in_child=_disown)
+    os.register_at_fork(before=_hold, after_in_parent=_let_go, after_in_child=_close)

@@ -19,6 +19,8 @@ static void closed_stores_are_refused(void) {
     WANT(FSTCH_NOT_OPEN, fstch_reclaim(&store, 0));
     WANT(FSTCH_NOT_OPEN, fstch_check(&store, &number, &count));
     WANT(FSTCH_NOT_OPEN, fstch_entry(&store, 0, into, sizeof into, &length, &other));
+    WANT(FSTCH_NOT_OPEN, fstch_extent(&store, 0, &number, &count));
+    WANT(FSTCH_NOT_OPEN, fstch_unsynced(&store, &number));
     WANT(FSTCH_NOT_OPEN, fstch_group(&store, &number));
     WANT(FSTCH_NOT_OPEN, fstch_group_engage(&store, 0, 0));
     WANT(FSTCH_NOT_OPEN, fstch_group_disengage(&store, 0, 0));
@@ -242,6 +244,55 @@ static void entries_are_told(void) {
     WANT(FSTCH_DONE, fstch_close(&store));
 }
 
+/* A frame has 16 bytes beside its key and its value. */
+static void extents_are_measured(void) {
+    fstch_store store = new_store(1, 4);
+    uint32_t live = 777, filled = 777;
+    WANT(FSTCH_NO_SUCH_EXTENT, fstch_extent(&store, 4, &live, &filled));
+    WANT(777, live);
+    WANT(777, filled);
+    WANT(FSTCH_DONE, put(&store, "key", "value"));
+    WANT(FSTCH_DONE, put(&store, "key", "other"));
+    WANT(FSTCH_DONE, put(&store, "more", ""));
+    WANT(FSTCH_DONE, fstch_extent(&store, 0, &live, &filled));
+    WANT(24 + 20, live);
+    WANT(24 + 24 + 20, filled);
+    WANT(FSTCH_DONE, fstch_extent(&store, 3, &live, &filled));
+    WANT(0, live);
+    WANT(0, filled);
+    WANT(FSTCH_DONE, fstch_close(&store));
+}
+
+static void changes_are_unsynced(void) {
+    fstch_store store = new_store(1, 4);
+    uint32_t changes = 777;
+    WANT(FSTCH_DONE, fstch_unsynced(&store, &changes));
+    WANT(0, changes);
+    WANT(FSTCH_DONE, put(&store, "key", "value"));
+    WANT(FSTCH_DONE, fstch_unsynced(&store, &changes));
+    WANT(true, changes > 0);
+    WANT(FSTCH_DONE, fstch_sync(&store));
+    WANT(FSTCH_DONE, fstch_unsynced(&store, &changes));
+    WANT(0, changes);
+    WANT(FSTCH_DONE, fstch_close(&store));
+}
+
+/* What is read needs a store that is const alone, and an open no place for a slot. */
+static void reads_take_a_const_store(void) {
+    fstch_store store = new_store(1, 4);
+    WANT(FSTCH_DONE, put(&store, "key", "value"));
+    WANT(FSTCH_DONE, fstch_sync(&store));
+    WANT(FSTCH_DONE, fstch_close(&store));
+    WANT(FSTCH_DONE, fstch_open(&store, FILE_NAME, NULL));
+    WANT(FSTCH_IS_OPEN, fstch_open(&store, FILE_NAME, NULL));
+    const fstch_store *read = &store;
+    uint8_t into[8];
+    size_t length = 0;
+    WANT(FSTCH_DONE, fstch_get(read, "key", 3, into, sizeof into, &length));
+    WANT(5, length);
+    WANT(FSTCH_DONE, fstch_close(&store));
+}
+
 static void syncs_make_changes_last(void) {
     fstch_store store = new_store(1, 4);
     WANT(FSTCH_DONE, put(&store, "kept", "value"));
@@ -442,6 +493,9 @@ int main(void) {
     an_index_fills_up();
     extents_are_won_back();
     entries_are_told();
+    extents_are_measured();
+    changes_are_unsynced();
+    reads_take_a_const_store();
     syncs_make_changes_last();
     patches_in_memory_have_a_limit();
     groups_are_kept_in_order();

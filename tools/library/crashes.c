@@ -1,5 +1,5 @@
-/* Kills a child before each write of a sync. What it leaves opens, has each key with the value of before or after, has the order of
- * groups, and is a store like any other. */
+/* Kills a child before each write and each sync of the file in a sync: what it leaves opens, has each key with the value of before or after,
+ * has the order of groups, and is a store like any other. And before each change that a make does: its name is free, or has a store. */
 #define _GNU_SOURCE
 #include "system.h"
 #include "wanting.h"
@@ -8,7 +8,7 @@
 
 /* An index block has 64 keys. Writes go by rising blocks where nothing is said of their order: so those of the first keys are there
  * before those of the last, unless they are of a later group. */
-enum { LATER = 0, DELETED = 32, EARLIER = 64, KEYS = 96, LENGTH = 1000, MOST_WRITES = 1000 };
+enum { LATER = 0, DELETED = 32, EARLIER = 64, KEYS = 96, LENGTH = 1000, MOST_CHANGES = 1000 };
 
 static const char *key_of(int number) {
     static char key[16];
@@ -61,7 +61,7 @@ static void put_in_group(fstch_store *store, int first, int end) {
     MUST(fstch_group_disengage(store, group, 3) == FSTCH_DONE);
 }
 
-static void change_and_die(long writes) {
+static void change_and_die(long changes) {
     fstch_store store = FSTCH_CLOSED;
     MUST(open_path(&store, FILE_NAME) == FSTCH_DONE);
     put_in_group(&store, EARLIER, KEYS);
@@ -69,17 +69,23 @@ static void change_and_die(long writes) {
     for (int number = DELETED; number < EARLIER; number++) {
         MUST(delete_key(&store, key_of(number)) == FSTCH_DONE);
     }
-    writes_till_killed = writes;
+    changes_till_killed = changes;
     MUST(fstch_sync(&store) == FSTCH_DONE);
     _exit(0);
 }
 
-/* Whether the child was killed; it may not have failed. */
-static bool dies(long writes) {
+static void make_and_die(long changes) {
+    changes_till_killed = changes;
+    MUST(make(FILE_NAME, 1, 4) == FSTCH_DONE);
+    _exit(0);
+}
+
+/* Whether a child that does this was killed; it may not have failed. */
+static bool dies(void (*does)(long), long changes) {
     pid_t child = fork();
     MUST(child >= 0);
     if (child == 0) {
-        change_and_die(writes);
+        does(changes);
     }
     int status = 0;
     MUST(waitpid(child, &status, 0) == child);
@@ -118,12 +124,13 @@ static void go_on(fstch_store *store) {
     WANT(true, has(store, "one more", "value"));
 }
 
-int main(void) {
+/* Wherever syncs are cut short. */
+static void syncs_are_killed(void) {
     bool is_killed = true;
-    long writes = 0;
-    for (; is_killed && writes < MOST_WRITES; writes++) {
+    long changes = 0;
+    for (; is_killed && changes < MOST_CHANGES; changes++) {
         write_first();
-        is_killed = dies(writes);
+        is_killed = dies(change_and_die, changes);
         fstch_store store = FSTCH_CLOSED;
         WANT(FSTCH_DONE, open_path(&store, FILE_NAME));
         look(&store, !is_killed);
@@ -131,7 +138,31 @@ int main(void) {
         look(&store, !is_killed);
         WANT(FSTCH_DONE, fstch_close(&store));
     }
-    MUST(!is_killed && writes > 10);
-    printf("killed before each of %ld writes\n", writes - 1);
+    MUST(!is_killed && changes > 10);
+    printf("killed before each of %ld writes and syncs\n", changes - 1);
+}
+
+static void makes_are_killed(void) {
+    bool is_killed = true;
+    long changes = 0;
+    for (; is_killed && changes < MOST_CHANGES; changes++) {
+        fstch_store store = FSTCH_CLOSED;
+        remove(FILE_NAME);
+        is_killed = dies(make_and_die, changes);
+        if (access(FILE_NAME, F_OK) != 0) {
+            WANT(true, is_killed);
+            WANT(FSTCH_DONE, make(FILE_NAME, 1, 4));
+        }
+        WANT(FSTCH_DONE, open_path(&store, FILE_NAME));
+        go_on(&store);
+        WANT(FSTCH_DONE, fstch_close(&store));
+    }
+    MUST(!is_killed && changes > 5);
+    printf("killed before each of %ld changes of a make\n", changes - 1);
+}
+
+int main(void) {
+    syncs_are_killed();
+    makes_are_killed();
     return ended();
 }

@@ -179,25 +179,56 @@ static void a_file_is_not_settled(void) {
     wants_no_open_without(&syncs_till_refused);
 }
 
+/* What a make of the file has left. */
+static bool leaves_nothing(void) {
+    return access(FILE_NAME, F_OK) != 0 && access(".fstch-00", F_OK) != 0;
+}
+
 static void a_file_is_not_finished(void) {
     remove(FILE_NAME);
     writes_till_refused = 0;
     WANT(FSTCH_DISK, make(FILE_NAME, 1, 4));
     WANT(EIO, errno); /* and not what the removal of the file left there */
     writes_till_refused = -1;
-    MUST(access(FILE_NAME, F_OK) != 0);
+    MUST(leaves_nothing());
     for (long sync = 0; sync < 2; sync++) { /* of the file, and of its directory */
         syncs_till_refused = sync;
         WANT(FSTCH_DISK, make(FILE_NAME, 1, 4));
         WANT(EIO, errno);
         syncs_till_refused = -1;
-        MUST(access(FILE_NAME, F_OK) != 0);
+        MUST(leaves_nothing());
     }
     answer_to_room = ENOSPC;
     WANT(FSTCH_DISK, make(FILE_NAME, 1, 4));
     WANT(ENOSPC, errno);
     answer_to_room = 0;
-    MUST(access(FILE_NAME, F_OK) != 0);
+    MUST(leaves_nothing());
+}
+
+/* Where it is to be. */
+static void a_file_system_has_no_links(void) {
+    fstch_store store = FSTCH_CLOSED;
+    remove(FILE_NAME);
+    answer_to_link = EPERM;
+    WANT(FSTCH_DONE, make(FILE_NAME, 1, 4));
+    WANT(FSTCH_DISK, make(FILE_NAME, 1, 4));
+    WANT(EEXIST, errno);
+    answer_to_link = 0;
+    MUST(access(".fstch-00", F_OK) != 0);
+    WANT(FSTCH_DONE, open_path(&store, FILE_NAME));
+    WANT(FSTCH_DONE, fstch_close(&store));
+}
+
+/* The other name of a file that isn't whole yet is that of another one, as a make that was killed leaves it. */
+static void another_name_is_taken(void) {
+    fstch_store store = FSTCH_CLOSED;
+    int file = open(".fstch-00", O_CREAT | O_WRONLY, 0666);
+    MUST(file >= 0 && close(file) == 0);
+    remove(FILE_NAME);
+    WANT(FSTCH_DONE, make(FILE_NAME, 1, 4));
+    WANT(FSTCH_DONE, open_path(&store, FILE_NAME));
+    WANT(FSTCH_DONE, fstch_close(&store));
+    MUST(access(".fstch-01", F_OK) != 0 && remove(".fstch-00") == 0);
 }
 
 /* How long a file is and how much room it has, in blocks of 4,096 bytes. */
@@ -402,6 +433,8 @@ int main(void) {
     the_system_refuses_to_sync();
     a_file_is_not_settled();
     a_file_is_not_finished();
+    a_file_system_has_no_links();
+    another_name_is_taken();
     a_file_has_its_room();
     directories_are_synced();
     calls_are_taken_up_again();

@@ -1,5 +1,5 @@
 /* Two processes at one file: who opens it first has it, until it is closed or its process ends. A forked child has it, too, until it
- * runs another program. */
+ * closes it or runs another program. */
 #define _GNU_SOURCE
 #include "wanting.h"
 
@@ -119,6 +119,28 @@ static void forked_children_share_the_lock(void) {
     WANT(true, WIFSIGNALED(status_of(other)));
 }
 
+/* What a child closes the parent has as before, and its lock. */
+static void a_forked_child_closes(void) {
+    fstch_store store = FSTCH_CLOSED, other = FSTCH_CLOSED;
+    WANT(FSTCH_DONE, open_path(&store, FILE_NAME));
+    WANT(FSTCH_DONE, put(&store, "key", "the parent's"));
+    pid_t child = fork();
+    MUST(child >= 0);
+    if (child == 0) {
+        _exit(fstch_close(&store) == FSTCH_DONE && !fstch_is_open(&store) ? 0 : 1);
+    }
+    int status = 1;
+    MUST(waitpid(child, &status, 0) == child);
+    WANT(0, status);
+    WANT(FSTCH_IN_USE, open_path(&other, FILE_NAME));
+    WANT(FSTCH_DONE, fstch_sync(&store));
+    WANT(true, has(&store, "key", "the parent's"));
+    WANT(FSTCH_DONE, fstch_close(&store));
+    WANT(FSTCH_DONE, open_path(&store, FILE_NAME));
+    WANT(true, has(&store, "key", "the parent's"));
+    WANT(FSTCH_DONE, fstch_close(&store));
+}
+
 int main(void) {
     fstch_store store = new_store(1, 4);
     WANT(FSTCH_DONE, put(&store, "key", "value"));
@@ -127,5 +149,6 @@ int main(void) {
     the_lock_goes_from_one_to_the_other();
     the_lock_is_gone_with_its_process();
     forked_children_share_the_lock();
+    a_forked_child_closes();
     return ended();
 }

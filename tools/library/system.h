@@ -9,7 +9,7 @@
 #include <unistd.h>
 
 /* How many more calls go well; below 0 all do. */
-static long writes_till_killed = -1;
+static long changes_till_killed = -1; /* (calls that change something, or let it last) */
 static long writes_till_refused = -1;
 static long reads_till_refused = -1;
 static long syncs_till_refused = -1;
@@ -20,8 +20,9 @@ static long writes_to_refuse = -1;
 static int is_without_memory;
 /* Whether of all calls that a signal may end each other one is ended. */
 static int is_interrupting;
-/* What is answered where room is asked for; with 0 the system answers. */
+/* What is answered where room is asked for, and what errno says where a file is to have another name; with 0 the system answers. */
 static int answer_to_room;
+static int answer_to_link;
 /* The most bytes that a read or a write moves. */
 static size_t most_moved = (size_t)-1;
 /* How many calls there were. */
@@ -33,6 +34,8 @@ ssize_t __real_pread(int file, void *into, size_t length, off_t place);
 int __real_fsync(int file);
 int __real_fdatasync(int file);
 int __real_posix_fallocate(int file, off_t place, off_t length);
+int __real_link(const char *from, const char *to);
+int __real_unlink(const char *path);
 int __real_flock(int file, int how);
 void *__real_malloc(size_t length);
 void *__real_realloc(void *at, size_t length);
@@ -42,6 +45,8 @@ ssize_t __wrap_pread(int file, void *into, size_t length, off_t place);
 int __wrap_fsync(int file);
 int __wrap_fdatasync(int file);
 int __wrap_posix_fallocate(int file, off_t place, off_t length);
+int __wrap_link(const char *from, const char *to);
+int __wrap_unlink(const char *path);
 int __wrap_flock(int file, int how);
 void *__wrap_malloc(size_t length);
 void *__wrap_realloc(void *at, size_t length);
@@ -57,6 +62,14 @@ static void count(long *left) {
     }
 }
 
+/* Before something is changed: where the changes are used up the program is killed. */
+static void change(void) {
+    if (is_over(&changes_till_killed)) {
+        kill(getpid(), SIGKILL);
+    }
+    count(&changes_till_killed);
+}
+
 static int is_interrupted(void) {
     static int is_next;
     is_next = is_interrupting && !is_next;
@@ -69,9 +82,7 @@ static size_t moved(size_t length) {
 }
 
 ssize_t __wrap_pwrite(int file, const void *from, size_t length, off_t place) {
-    if (is_over(&writes_till_killed)) {
-        kill(getpid(), SIGKILL);
-    }
+    change();
     if (is_interrupted()) {
         return -1;
     }
@@ -80,7 +91,6 @@ ssize_t __wrap_pwrite(int file, const void *from, size_t length, off_t place) {
         errno = EIO;
         return -1;
     }
-    count(&writes_till_killed);
     count(&writes_till_refused);
     writes_made++;
     return __real_pwrite(file, from, moved(length), place);
@@ -99,10 +109,25 @@ ssize_t __wrap_pread(int file, void *into, size_t length, off_t place) {
 }
 
 int __wrap_posix_fallocate(int file, off_t place, off_t length) {
+    change();
     if (is_interrupted()) {
         return EINTR;
     }
     return answer_to_room != 0 ? answer_to_room : __real_posix_fallocate(file, place, length);
+}
+
+int __wrap_link(const char *from, const char *to) {
+    change();
+    if (answer_to_link == 0) {
+        return __real_link(from, to);
+    }
+    errno = answer_to_link;
+    return -1;
+}
+
+int __wrap_unlink(const char *path) {
+    change();
+    return __real_unlink(path);
 }
 
 int __wrap_flock(int file, int how) {
@@ -111,6 +136,7 @@ int __wrap_flock(int file, int how) {
 
 /* Whether a sync goes well so far. */
 static int is_syncing(void) {
+    change();
     if (is_interrupted()) {
         return 0;
     }

@@ -1,5 +1,6 @@
 """Tests the module `fstch`: run where it is found, in a folder of its own."""
 
+import array
 import copy
 import ctypes
 import errno
@@ -150,7 +151,101 @@ class Mapping(unittest.TestCase):
                     store.reclaim(wrong)
 
 
+    def test_anything_that_holds_bytes(self):
+        with new_store() as store:
+            numbers = array.array("i", [1, 2, 3])
+            store[b"array"] = numbers
+            store[memoryview(b"key")[::-1]] = memoryview(b"abcdef")[::2]
+            self.assertEqual(store, {b"array": numbers.tobytes(), b"yek": b"ace"})
+            self.assertIn(bytearray(b"array"), store)
+            self.assertEqual(store[array.array("b", b"yek")], b"ace")
+
+    def test_goes_over_keys_as_they_were(self):
+        with new_store() as store:
+            keys = [bytes([number + 1]) for number in range(30)]
+            store.update(dict.fromkeys(keys, b"value"))
+            self.assertEqual(list(reversed(store)), list(store)[::-1])
+            self.assertEqual(sorted(reversed(store)), keys)
+            first, other = iter(store), iter(store)
+            begun = [next(first), next(first)]
+            store.clear()
+            store[b"new"] = b"value"
+            self.assertEqual(sorted(begun + list(first)), keys)
+            self.assertEqual(sorted(other), keys)
+            self.assertEqual(list(first), [])
+            self.assertEqual(list(reversed(store)), [b"new"])
+            self.assertEqual(store.popitem(), (b"new", b"value"))
+            with self.assertRaises(KeyError):
+                store.popitem()
+
+    def test_walks_in_proportion(self):
+        with new_store(index_blocks=16, extents=16) as store:
+            names = [b"%d" % number for number in range(1000)]
+            store.update(dict.fromkeys(names, b"value"))
+            asked = mock.Mock(wraps=store._entry)
+            with mock.patch.object(store, "_entry", asked):
+                next(iter(store))
+                self.assertEqual(asked.call_count, 1)
+                self.assertEqual(sorted(store), sorted(names))
+                self.assertEqual(asked.call_count, 1002)
+                while store:
+                    store.popitem()
+                self.assertEqual(asked.call_count, 2002)
+
+    def test_unions(self):
+        with new_store() as store:
+            store.update({b"a": b"1", b"b": b"2"})
+            self.assertEqual(store | {b"b": b"3"}, {b"a": b"1", b"b": b"3"})
+            self.assertEqual({b"b": b"3", b"c": b"4"} | store, {b"a": b"1", b"b": b"2", b"c": b"4"})
+            same = store
+            same |= {b"c": b"5"}
+            same |= [(b"d", b"6")]
+            self.assertIs(same, store)
+            self.assertEqual(store, {b"a": b"1", b"b": b"2", b"c": b"5", b"d": b"6"})
+            with self.assertRaises(TypeError):
+                store | 1
+
+    def test_how_full_it_is(self):
+        with new_store() as store:
+            self.assertEqual(store.unsynced, 0)
+            store[b"key"] = b"value"
+            store[b"key"] = b"other"
+            self.assertGreater(store.unsynced, 0)
+            self.assertEqual(store.extent(0), fstch.Extent(live=24, filled=48))
+            self.assertEqual(store.extent(3), (0, 0))
+            store.sync()
+            self.assertEqual(store.unsynced, 0)
+            with self.assertRaises(fstch.NoSuchExtent):
+                store.extent(4)
+
+
 class Files(unittest.TestCase):
+    def test_flags(self):
+        Path(FILE).unlink(missing_ok=True)
+        for flag in ("w", "r"):
+            with self.assertRaises(FileNotFoundError):
+                fstch.open(FILE, flag)
+        with fstch.open(FILE, "c", index_blocks=1, extents=2) as store:
+            self.assertEqual(store.check(), (0, 2))
+            store[b"key"] = b"value"
+        with fstch.open(FILE, "c") as store:
+            self.assertEqual(store, {b"key": b"value"})
+        with fstch.open(FILE, "r") as store:
+            for change in (store.clear, lambda: store.update({b"key": b"other"}), lambda: store.reclaim(0), store.popitem):
+                with self.assertRaises(fstch.ReadOnly):
+                    change()
+            self.assertEqual(store, {b"key": b"value"})
+        with fstch.open(FILE, "n") as store:
+            self.assertEqual(store, {})
+            store[b"long"] = bytes(fstch.MAX_VALUE)
+            store[b"k" * fstch.MAX_KEY] = b""
+            self.assertEqual(store.check(), (2, 63))
+        for wrong in ({"flag": "x"}, {"flag": "w", "extents": 2}):
+            with self.assertRaises(ValueError):
+                fstch.open(FILE, **wrong)
+        with self.assertRaises(fstch.Geometry):
+            fstch.open("other.disk", "c", index_blocks=17, extents=2)
+
     def test_made_once(self):
         Path(FILE).unlink(missing_ok=True)
         for wrong in ({"index_blocks": 0, "extents": 4}, {"index_blocks": 1, "extents": 1}, {"index_blocks": 1, "extents": 2, "extent_blocks": 15}):
@@ -351,22 +446,52 @@ class Groups(unittest.TestCase):
 
 
 class Threads(unittest.TestCase):
-    def test_another_thread_is_refused(self):
-        with new_store() as store:
-            seen = []
+    def test_threads_share_a_store(self):
+        wrong = []
+        store = new_store()
 
-            def call():
-                for it in (store.sync, store.close, lambda: store[b"key"]):
-                    try:
-                        it()
-                    except fstch.WrongThread as error:
-                        seen.append(error)
+        def call(number):
+            key = b"%d" % number
+            for turn in range(200):
+                store[key] = b"%d" % turn
+                if store[key] != b"%d" % turn or key not in list(store):
+                    wrong.append((number, turn))
+                if turn % 50 == number:
+                    store.sync()
 
-            other = threading.Thread(target=call)
+        threads = [threading.Thread(target=call, args=(number,)) for number in range(5)]
+        for it in threads:
+            it.start()
+        for it in threads:
+            it.join()
+        self.assertEqual(wrong, [])
+        self.assertEqual(store, {b"%d" % number: b"199" for number in range(5)})
+        other = threading.Thread(target=store.close)
+        other.start()
+        other.join()
+        self.assertFalse(store.is_open)
+        fstch.open(FILE).close()
+
+    def test_a_store_of_a_thread_that_has_ended(self):
+        opened = []
+        new_store().close()
+        other = threading.Thread(target=lambda: opened.append(fstch.open(FILE)))
+        other.start()
+        other.join()
+        with opened[0] as store:
+            store[b"key"] = b"value"
+        with fstch.open(FILE) as store:
+            self.assertEqual(store, {b"key": b"value"})
+
+    def test_a_thread_of_a_small_stack(self):
+        before = threading.stack_size(65536)
+        try:
+            other = threading.Thread(target=lambda: new_store().close())
             other.start()
             other.join()
-            self.assertEqual(len(seen), 3)
-            store[b"key"] = b"value"
+        finally:
+            threading.stack_size(before)
+        fstch.open(FILE).close()
 
     def test_two_threads_with_a_store_each(self):
         wrong = []
@@ -395,29 +520,63 @@ class Threads(unittest.TestCase):
         self.assertEqual(wrong, [])
 
     @unittest.skipUnless(hasattr(os, "fork"), "there is no fork")
-    def test_a_child_is_refused(self):
+    def test_a_child_has_its_stores_closed(self):
         with new_store() as store:
             store[b"key"] = b"value"
             child = os.fork()
             if child == 0:
+                status = 1
                 try:
                     store.sync()
-                except fstch.WrongThread:
-                    os._exit(7)
-                os._exit(1)
+                except fstch.NotOpen:
+                    status = 8 if store.is_open else 7
+                os._exit(status)
             _, status = os.waitpid(child, 0)
             self.assertEqual(status >> 8, 7)
+            with self.assertRaises(fstch.InUse):
+                fstch.open(FILE)
+            store.sync()
+        with fstch.open(FILE) as store:
+            self.assertEqual(store, {b"key": b"value"})
+
+    @unittest.skipUnless(hasattr(os, "fork"), "there is no fork")
+    def test_forks_beside_calls(self):
+        store, ends = new_store(), threading.Event()
+
+        def call():
+            while not ends.is_set():
+                store[b"key"] = b"value" * 100
+                store.sync()
+
+        other = threading.Thread(target=call)
+        other.start()
+        with warnings.catch_warnings():
+            warnings.simplefilter("ignore", DeprecationWarning)  # (of newer Pythons: a process with threads is forked)
+            for _ in range(20):
+                child = os.fork()
+                if child == 0:
+                    os._exit(0 if not store.is_open else 1)
+                self.assertEqual(os.waitpid(child, 0)[1], 0)
+        ends.set()
+        other.join()
+        self.assertEqual(store[b"key"], b"value" * 100)
+        store.close()
 
 
 class Library(unittest.TestCase):
     def test_each_exception_has_a_number_and_the_librarys_text(self):
-        kinds = [kind for kind in fstch.Error.__subclasses__() if kind is not fstch.WrongThread]
+        kinds = [kind for kind in fstch.Error.__subclasses__() if kind is not fstch.ReadOnly]
         self.assertEqual(len({kind.number for kind in kinds}), len(kinds))
         for kind in kinds:
             self.assertIs(kind, type(fstch.errors.of(kind.number, "")))
             self.assertNotEqual(fstch.library.text_of(kind.number), "unknown answer")
             self.assertIn(kind.__name__, fstch.__all__)
         self.assertEqual(fstch.library.text_of(100), "unknown answer")
+
+    def test_version(self):
+        number = fstch.library.calls.fstch_version()
+        self.assertEqual(fstch.__version__, f"{number // 10000}.{number // 100 % 100}.{number % 100}")
+        self.assertNotIn("open", fstch.__all__)
         self.assertEqual(fstch.errors.of(100, "text").number, 100)
 
     def test_it_is_named_by_the_variable(self):

@@ -1,0 +1,141 @@
+"""A database as those of the package `dbm`, in the file of a store.
+
+    import fstch.dbm
+
+    with fstch.dbm.open("demo.disk", "c") as database:
+        database["key"] = "value"
+        print(database[b"key"])
+
+Keys and values are bytes, or texts, which are encoded in UTF-8. A close saves what was changed, and so does the end of a `with`. Where the
+file is full, room is won back from what was deleted or put anew. `shelve.Shelf(fstch.dbm.open(..))` is a shelf.
+"""
+
+from __future__ import annotations
+
+from collections.abc import Iterator, MutableMapping
+from types import TracebackType
+from typing import Optional, Type, Union
+
+from . import errors
+from . import store as stores
+
+__all__ = ["error", "open"]
+
+Text = Union[str, bytes]
+
+
+class error(OSError):
+    """A call was refused; its cause is the store's own exception. A key that isn't there is a KeyError."""
+
+
+def open(file: stores.Path, flag: str = "r", mode: int = 0o666) -> Database:
+    """Opens a database: with the flag "r" to be read alone, with "w" to be changed too; with "c" it is made where there is none, and with "n"
+    in any case. A new file's rights are those that the process gives new files: `mode` is taken, and says nothing."""
+    try:
+        return Database(stores.open(file, flag))
+    except (errors.Error, ValueError) as why:
+        raise error(str(why)) from why
+
+
+class Database(MutableMapping[Text, bytes]):
+    """The keys and values of a store, with what the modules for dbm promise."""
+
+    def __init__(self, store: stores.Store) -> None:
+        self._store = store
+
+    def __getitem__(self, key: Text) -> bytes:
+        try:
+            return self._store[_bytes(key)]
+        except errors.Absent:
+            raise KeyError(key) from None
+        except errors.Error as why:
+            raise error(str(why)) from why
+
+    def __setitem__(self, key: Text, value: Text) -> None:
+        try:
+            self._put(_bytes(key), _bytes(value))
+        except errors.Error as why:
+            raise error(str(why)) from why
+
+    def __delitem__(self, key: Text) -> None:
+        try:
+            del self._store[_bytes(key)]
+        except errors.NoKey:
+            raise KeyError(key) from None
+        except errors.Error as why:
+            raise error(str(why)) from why
+
+    def __contains__(self, key: object) -> bool:
+        try:
+            return (key.encode() if isinstance(key, str) else key) in self._store
+        except errors.Error as why:
+            raise error(str(why)) from why
+
+    def __iter__(self) -> Iterator[bytes]:
+        return iter(self.keys())
+
+    def __len__(self) -> int:
+        try:
+            return len(self._store)
+        except errors.Error as why:
+            raise error(str(why)) from why
+
+    def keys(self) -> list[bytes]:  # type: ignore[override]
+        """All keys, in a list."""
+        try:
+            return list(self._store)
+        except errors.Error as why:
+            raise error(str(why)) from why
+
+    def sync(self) -> None:
+        """Saves what was changed."""
+        try:
+            self._store.sync()
+        except errors.Error as why:
+            raise error(str(why)) from why
+
+    def close(self) -> None:
+        """Saves what was changed, and closes the file. Closing a closed database does nothing."""
+        if self._store.is_open:
+            try:
+                self.sync()
+            finally:
+                self._store.close()
+
+    def __enter__(self) -> Database:
+        return self
+
+    def __exit__(
+        self,
+        kind: Optional[Type[BaseException]],
+        raised: Optional[BaseException],
+        trace: Optional[TracebackType],
+    ) -> None:
+        self.close()
+
+    def _put(self, key: bytes, value: bytes) -> None:
+        while True:
+            try:
+                self._store[key] = value
+                return
+            except errors.TooManyLive:
+                self._store.sync()
+            except errors.NoSpace:
+                if not self._wins_room():
+                    raise
+
+    def _wins_room(self) -> bool:
+        """Whether room was won back: from the extent with the least that has to be kept."""
+        numbers = range(self._store.check().extents)
+        for extent, number in sorted(zip(map(self._store.extent, numbers), numbers)):
+            if extent.live < extent.filled:
+                try:
+                    self._store.reclaim(number)
+                    return True
+                except (errors.NoSpace, errors.OpenExtent):
+                    continue
+        return False
+
+
+def _bytes(it: Text) -> bytes:
+    return it.encode() if isinstance(it, str) else it
