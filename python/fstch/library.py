@@ -5,20 +5,25 @@ from __future__ import annotations
 import ctypes
 import ctypes.util
 import os
-from ctypes import POINTER, c_bool, c_char_p, c_int32, c_size_t, c_uint32, c_void_p
-from typing import Iterator, Optional
+from ctypes import POINTER, byref, c_bool, c_char_p, c_int32, c_size_t, c_uint32, c_void_p
+from typing import Any, Iterator, Optional, Union
 
 from . import errors
 
-__all__ = ["VERSION", "Handle", "calls", "refusal", "require_done", "text_of"]
+__all__ = ["MAX_KEY", "VERSION", "Handle", "calls", "delete", "entry", "get", "put", "refusal", "require_done", "text_of"]
 
 VERSION = 300
 """The version of the interface that this module is written for: of its major and minor number the library has to be."""
+
+MAX_KEY = 32
+"""The most bytes of a key, which has one at least."""
 
 NAME = "libfstch.so"
 VARIABLE = "FSTCH_LIBRARY"
 # How many bytes of a key an exception shows at most: of a longer one its length.
 SHOWN = 64
+# How much room a value is given at first.
+ROOM = 4096
 
 
 class Handle(ctypes.Structure):
@@ -27,7 +32,8 @@ class Handle(ctypes.Structure):
     _fields_ = [("is_open", c_bool), ("at", c_void_p)]
 
 
-_STORE, _NUMBER, _SIZE = POINTER(Handle), POINTER(c_uint32), POINTER(c_size_t)
+# (a store goes by its handle's address)
+_STORE, _NUMBER, _SIZE = c_void_p, POINTER(c_uint32), POINTER(c_size_t)
 _BYTES = (c_char_p, c_size_t)
 # A buffer that is written to.
 _ROOM = (c_void_p, c_size_t)
@@ -100,6 +106,61 @@ def _declared(library: ctypes.CDLL) -> ctypes.CDLL:
 
 
 calls = _load()
+
+
+# The calls that are made most often. What they copy values to is taken out of a list while a call has it: so a read in between, as of a
+# signal's handler or another thread, takes one of its own.
+
+_rooms: list[ctypes.Array[ctypes.c_char]] = []
+
+
+def _get(at: int, key: bytes) -> Union[bytes, int]:
+    try:
+        room = _rooms.pop()
+    except IndexError:
+        room = ctypes.create_string_buffer(ROOM)
+    length = c_size_t()
+    answer = calls.fstch_get(at, key, len(key), room, len(room), byref(length))
+    while answer == errors.BufferTooSmall.number:
+        room = ctypes.create_string_buffer(length.value)
+        answer = calls.fstch_get(at, key, len(key), room, len(room), byref(length))
+    value = ctypes.string_at(room, length.value)
+    if len(room) == ROOM:
+        _rooms.append(room)
+    return answer or value
+
+
+def _put(at: int, writer: int, key: bytes, value: bytes) -> int:
+    return calls.fstch_put(at, writer, key, len(key), value, len(value))
+
+
+def _delete(at: int, writer: int, key: bytes) -> int:
+    return calls.fstch_delete(at, writer, key, len(key))
+
+
+def _entry(at: int, number: int) -> Union[tuple[bytes, int], int]:
+    key, key_length, value_length = ctypes.create_string_buffer(MAX_KEY), c_size_t(), c_size_t()
+    answer = calls.fstch_entry(at, number, key, MAX_KEY, byref(key_length), byref(value_length))
+    return answer or (key.raw[: key_length.value], value_length.value)
+
+
+def _direct() -> Any:
+    """The module in C that makes these calls in a tenth of the time, where it is built; or None."""
+    try:
+        from . import _direct as made
+    except ImportError:
+        return None
+    if made.VERSION // 100 != VERSION // 100:
+        return None
+    bound = (calls.fstch_get, calls.fstch_put, calls.fstch_delete, calls.fstch_entry)
+    made.bind(*(ctypes.cast(it, c_void_p).value for it in bound))
+    return made
+
+
+get, put, delete, entry = _get, _put, _delete, _entry
+_made = _direct()
+if _made is not None:
+    get, put, delete, entry = _made.get, _made.put, _made.delete, _made.entry
 
 
 def text_of(answer: int) -> str:

@@ -10,27 +10,22 @@ import threading
 import warnings
 import weakref
 from collections.abc import Iterable, Iterator, Mapping, MutableMapping
-from ctypes import byref, c_size_t, c_uint32, c_uint8
+from ctypes import byref, c_size_t, c_uint32
 from types import TracebackType
 from typing import Any, Callable, NamedTuple, NoReturn, Optional, Type, Union
 
-from . import errors
-from .library import Handle, calls, refusal, require_done
+from . import errors, library
+from .library import MAX_KEY, Handle, calls, refusal, require_done
 
 __all__ = ["MAX_KEY", "MAX_VALUE", "Counts", "Extent", "Group", "Store", "make", "open"]
 
 Path = Union[str, bytes, "os.PathLike[str]", "os.PathLike[bytes]"]
-
-MAX_KEY = 32
-"""The most bytes of a key, which has one at least."""
 
 MAX_VALUE = 131072
 """The most bytes of a value of any store. One whose extents have 16 blocks has the lower limits of `make`."""
 
 # The writer of all changes: they belong to the groups that are entered.
 WRITER = 0
-# How much room a value is given at first.
-ROOM = 4096
 # The flag of a store whose syncs are one sync of the file each.
 NO_BARRIERS = 1
 # No slot of an index has this number.
@@ -117,13 +112,12 @@ class Store(MutableMapping[bytes, bytes]):
         # (a signal's handler may call the store in the midst of a call)
         self._lock = threading.RLock()
         self._is_read_only = read_only
-        # (what values are copied to, while no call has it)
-        self._room: Optional[ctypes.Array[ctypes.c_char]] = None
+        self._at = ctypes.addressof(self._handle)
         # (those who go over the keys)
         self._walks: weakref.WeakSet[_Walk] = weakref.WeakSet()
         self._path = path
         slot = c_uint32(NO_SLOT)
-        answer = calls.fstch_open_with(self._handle, _name(path), 0 if barriers else NO_BARRIERS, byref(slot))
+        answer = calls.fstch_open_with(self._at, _name(path), 0 if barriers else NO_BARRIERS, byref(slot))
         if answer:
             error = refusal(answer, path)
             error.slot = None if slot.value == NO_SLOT else slot.value
@@ -139,7 +133,7 @@ class Store(MutableMapping[bytes, bytes]):
         """Closes the store, and lets go of the file's lock. It doesn't sync. Closing a closed store does nothing."""
         with self._lock:
             if self._handle.is_open:
-                require_done(calls.fstch_close(self._handle))
+                require_done(calls.fstch_close(self._at))
                 _opened.pop(id(self), None)
 
     def sync(self) -> None:
@@ -201,18 +195,12 @@ class Store(MutableMapping[bytes, bytes]):
 
     def __getitem__(self, key: bytes) -> bytes:
         """The value of a key. Raises `Absent`, which is a KeyError, and `KeyLength` and `OutOfMemory`."""
-        name, length = _bytes(key), c_size_t()
+        name = _bytes(key)
         with self._lock:
-            # (what reads the store in between, as a signal's handler may, finds no room here and takes one of its own)
-            room, self._room = self._room or ctypes.create_string_buffer(ROOM), None
-            answer = calls.fstch_get(self._handle, name, len(name), room, len(room), byref(length))
-            while answer == errors.BufferTooSmall.number:
-                room = ctypes.create_string_buffer(length.value)
-                answer = calls.fstch_get(self._handle, name, len(name), room, len(room), byref(length))
-            value = ctypes.string_at(room, length.value)
-            self._room = room
-        require_done(answer, name)
-        return value
+            found = library.get(self._at, name)
+        if isinstance(found, bytes):
+            return found
+        raise refusal(found, name)
 
     def __setitem__(self, key: bytes, value: bytes) -> None:
         """Puts a value under a key, in place of the one that it had.
@@ -220,7 +208,7 @@ class Store(MutableMapping[bytes, bytes]):
         Raises `KeyLength`, `ValueLength`, `IndexFull`, `NoSpace`, `NumbersSpent`, `TooManyLive` and `OutOfMemory`.
         """
         name, content = _bytes(key), _bytes(value)
-        answer = self._answer_changing(calls.fstch_put, WRITER, name, len(name), content, len(content))
+        answer = self._answer_changing(library.put, WRITER, name, content)
         require_done(answer, content if answer == errors.ValueLength.number else name)
 
     def __delitem__(self, key: bytes) -> None:
@@ -229,7 +217,7 @@ class Store(MutableMapping[bytes, bytes]):
         Raises `NoKey`, which is a KeyError, and `KeyLength`, `NumbersSpent`, `TooManyLive` and `OutOfMemory`.
         """
         name = _bytes(key)
-        self._change(calls.fstch_delete, WRITER, name, len(name), about=name)
+        self._change(library.delete, WRITER, name, about=name)
 
     def __contains__(self, key: object) -> bool:
         """Whether a key has a value. No key of a wrong length or type has one."""
@@ -239,7 +227,7 @@ class Store(MutableMapping[bytes, bytes]):
             name = b""
         length = c_size_t()
         with self._lock:
-            answer = calls.fstch_get(self._handle, name, len(name), None, 0, byref(length))
+            answer = calls.fstch_get(self._at, name, len(name), None, 0, byref(length))
         if answer in (errors.Absent.number, errors.KeyLength.number):
             return False
         if answer != errors.BufferTooSmall.number:
@@ -281,19 +269,19 @@ class Store(MutableMapping[bytes, bytes]):
 
     def _entry(self, number: int) -> Optional[tuple[bytes, int]]:
         """The key of this number, with the length of its value."""
-        key, key_length, value_length = (c_uint8 * MAX_KEY)(), c_size_t(), c_size_t()
         with self._lock:
-            answer = calls.fstch_entry(self._handle, number, key, MAX_KEY, byref(key_length), byref(value_length))
-        if answer == errors.Absent.number:
-            return None
-        require_done(answer)
-        return ctypes.string_at(key, key_length.value), value_length.value
+            found = library.entry(self._at, number)
+        if isinstance(found, tuple):
+            return found
+        if found != errors.Absent.number:
+            raise refusal(found)
+        return None
 
     # Calls of the library, one at a time.
 
     def _require(self, call: Callable[..., int], *given: object, about: object = None) -> None:
         with self._lock:
-            answer = call(self._handle, *given)
+            answer = call(self._at, *given)
         require_done(answer, about)
 
     def _change(self, call: Callable[..., int], *given: object, about: object = None) -> None:
@@ -307,7 +295,7 @@ class Store(MutableMapping[bytes, bytes]):
             if self._walks:
                 for walk in list(self._walks):
                     walk.finish()
-            return call(self._handle, *given)
+            return call(self._at, *given)
 
     # Opening and closing.
 
