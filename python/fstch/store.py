@@ -348,18 +348,18 @@ class _Walk(Iterator[bytes]):
 
     def __next__(self) -> bytes:
         with self._store._lock:
-            return next(self._left() if self._rest is None else self._rest)
-
-    def _left(self) -> Iterator[bytes]:
-        for number in self._numbers:
-            entry = self._store._entry(number)
+            if self._rest is not None:
+                return next(self._rest)
+            entry = self._store._entry(next(self._numbers))
             if entry is None:
-                return
-            yield entry[0]
+                self._rest = iter(())
+                raise StopIteration
+            return entry[0]
 
     def finish(self) -> None:
         if self._rest is None:
-            self._rest = iter(list(self._left()))
+            entries = itertools.takewhile(lambda entry: entry is not None, map(self._store._entry, self._numbers))
+            self._rest = iter([entry[0] for entry in entries if entry])
 
 
 class Group:

@@ -181,9 +181,9 @@ const CALLS: u64 = 42;
 // How many calls go before the link.
 const LINK: u64 = 39;
 
-fn new_folder(files: &HostRuntime, folder: &str) {
-    let _old = fs::remove_dir_all(files, files.alloc(), folder);
-    fs::create_dir(files, folder).expect(files, "a folder that is made");
+fn new_folder(rt: &impl Abort, files: &HostRuntime, folder: &str) {
+    let _old = fs::remove_dir_all(files, folder);
+    fs::create_dir(files, folder).expect(rt, "a folder that is made");
 }
 
 fn make_by(files: &HostRuntime, path: &str, calls: &Calls) -> (Status, Vec<u8>) {
@@ -193,49 +193,38 @@ fn make_by(files: &HostRuntime, path: &str, calls: &Calls) -> (Status, Vec<u8>) 
     (status, out.into_inner())
 }
 
-// The make whose call behind so many fails by an error of this kind ends so.
-fn expect_make(files: &HostRuntime, well: u64, kind: ErrorKind, end: End) {
+// The make whose call behind so many fails by an error of this kind ends so, and nothing of another name is left.
+fn expect_make(rt: &impl Abort, files: &HostRuntime, well: u64, kind: ErrorKind, end: End) {
     let calls = Calls {
         left: AtomicU64::new(well),
         kind,
         kills: false,
     };
     let (status, written) = make_by(files, PATH, &calls);
-    expect_end(files, status, written.as_slice(), end);
+    expect_end(rt, status, written.as_slice(), end);
     let is_there = fs::metadata(files, PATH).is_ok();
-    expect_eq(files, &(well, is_there), &(well, end.1 == 0));
-    expect_eq(
-        files,
-        &(well, fs::metadata(files, OTHER).is_ok()),
-        &(well, false),
-    );
-}
-
-fn expect_made(files: &HostRuntime, well: u64, kind: ErrorKind) {
-    expect_make(files, well, kind, MADE);
-    follow(files, files.alloc(), PATH, &[(Deed::Check, EMPTY_STORE)]);
-    fs::remove_file(files, PATH).expect(files, "a file that is there");
+    let other_is_there = fs::metadata(files, OTHER).is_ok();
+    let wanted = (well, end.1 == 0, false);
+    expect_eq(rt, &(well, is_there, other_is_there), &wanted);
 }
 
 // A system that can't sync a directory says of that call alone that it is invalid: then the file is made. One that has no links says so, in
 // whatever way, and the file is made where it is to be.
 #[test]
 fn a_file_that_can_not_be_finished_is_removed(rt: HostRuntime) {
-    new_folder(&rt, FOLDER);
+    new_folder(&rt, &rt, FOLDER);
     for well in 0..CALLS {
         if well != LINK {
-            expect_make(&rt, well, ErrorKind::StorageFull, failed("fault Disk\n"));
+            let full = ErrorKind::StorageFull;
+            expect_make(&rt, &rt, well, full, failed("fault Disk\n"));
         }
     }
-    expect_make(
-        &rt,
-        CALLS - 2,
-        ErrorKind::InvalidInput,
-        failed("fault Disk\n"),
-    );
-    expect_made(&rt, LINK, ErrorKind::Unsupported);
-    for well in [CALLS - 1, CALLS] {
-        expect_made(&rt, well, ErrorKind::InvalidInput);
+    let invalid = ErrorKind::InvalidInput;
+    expect_make(&rt, &rt, CALLS - 2, invalid, failed("fault Disk\n"));
+    for well in [LINK, CALLS - 1, CALLS] {
+        expect_make(&rt, &rt, well, invalid, MADE);
+        follow(&rt, rt.alloc(), PATH, &[(Deed::Check, EMPTY_STORE)]);
+        fs::remove_file(&rt, PATH).expect(&rt, "a file that is there");
     }
     fs::remove_dir(&rt, FOLDER).expect(&rt, "a folder that is empty");
 }
@@ -245,7 +234,7 @@ fn a_file_that_can_not_be_finished_is_removed(rt: HostRuntime) {
 fn a_make_that_is_killed_leaves_nothing_but_a_store(rt: HostRuntime) {
     let mut made = 0;
     for well in 0..CALLS + 2 {
-        new_folder(&rt, FOLDER_OF_KILLED);
+        new_folder(&rt, &rt, FOLDER_OF_KILLED);
         let calls = Calls {
             left: AtomicU64::new(well),
             kind: ErrorKind::StorageFull,
@@ -255,22 +244,14 @@ fn a_make_that_is_killed_leaves_nothing_but_a_store(rt: HostRuntime) {
         if fs::metadata(&rt, PATH_OF_KILLED).is_ok() {
             made += 1;
         } else {
-            follow(
-                &rt,
-                rt.alloc(),
-                PATH_OF_KILLED,
-                &[(Deed::Make(SMALL), MADE)],
-            );
+            let turns = [(Deed::Make(SMALL), MADE)];
+            follow(&rt, rt.alloc(), PATH_OF_KILLED, &turns);
         }
-        follow(
-            &rt,
-            rt.alloc(),
-            PATH_OF_KILLED,
-            &[(Deed::Check, EMPTY_STORE)],
-        );
+        let turns = [(Deed::Check, EMPTY_STORE)];
+        follow(&rt, rt.alloc(), PATH_OF_KILLED, &turns);
     }
     expect_eq(&rt, &made, &(CALLS + 1 - LINK));
-    let _left = fs::remove_dir_all(&rt, rt.alloc(), FOLDER_OF_KILLED);
+    let _left = fs::remove_dir_all(&rt, FOLDER_OF_KILLED);
 }
 
 // The line that tells of it isn't taken.
