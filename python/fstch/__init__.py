@@ -8,9 +8,14 @@
         store.sync()
 
 A `Store` is a mapping of bytes to bytes. What is put or deleted lasts from a `sync` on, and a `with` that no exception ends syncs at
-its end. Whenever the program ends or the power is cut, the file opens again, and has of each key what it had after the last sync or
-after a later put or delete, as long as the disk keeps its word: what was written before an fsync that succeeded is there, and of what
-was written since, each block of 4,096 bytes is old or new. Groups bring changes to the file in an order, by one `sync` for all of them:
+its end.
+
+Whenever the program ends or the power is cut, the file opens again. It then has, of each key, what it had after the last sync or after
+one of the later puts and deletes; where a write had reached the file, all that it depends on had too. What was answered before a sync
+that succeeded is there. One premise is left to the system and its disk: what was written to the file before an fsync or fdatasync that
+succeeded is there, and of what was written since, each block of 4,096 bytes is old or new.
+
+Groups bring changes to the file in an order, by one `sync` for all of them:
 
     with store.group() as data:
         store[b"data"] = b"..."

@@ -98,8 +98,10 @@ class Store(MutableMapping[bytes, bytes]):
     sync: what was not synced is lost. A `with` syncs and closes at its end; where an exception ends it, it only closes, and the file
     has what the last sync left.
 
-    Whenever the program ends or the power is cut, the file opens again. One premise is left to the system and its disk: what was
-    written to the file before an fsync that succeeded is there, and of what was written since, each block of 4,096 bytes is old or new.
+    Whenever the program ends or the power is cut, the file opens again. It then has, of each key, what it had after the last sync or
+    after one of the later puts and deletes; where a write had reached the file, all that it depends on had too. What was answered
+    before a sync that succeeded is there. One premise is left to the system and its disk: what was written to the file before an fsync
+    or fdatasync that succeeded is there, and of what was written since, each block of 4,096 bytes is old or new.
 
     Keys have 1 to 32 bytes. Keys and values may be given as anything that holds bytes. Any thread may use a store: one waits while another
     is in a call. A store can't be copied or pickled, and a child that is forked has it closed.
