@@ -229,10 +229,9 @@ fn a_file_that_can_not_be_finished_is_removed(rt: HostRuntime) {
     fs::remove_dir(&rt, FOLDER).expect(&rt, "a folder that is empty");
 }
 
-// Wherever a make is killed, the name is free, or has the store.
+// Before the link the name is free, and behind it it has the store.
 #[test]
 fn a_make_that_is_killed_leaves_nothing_but_a_store(rt: HostRuntime) {
-    let mut made = 0;
     for well in 0..CALLS + 2 {
         new_folder(&rt, &rt, FOLDER_OF_KILLED);
         let calls = Calls {
@@ -241,16 +240,15 @@ fn a_make_that_is_killed_leaves_nothing_but_a_store(rt: HostRuntime) {
             kills: true,
         };
         let _end = make_by(&rt, PATH_OF_KILLED, &calls);
-        if fs::metadata(&rt, PATH_OF_KILLED).is_ok() {
-            made += 1;
-        } else {
+        let is_made = fs::metadata(&rt, PATH_OF_KILLED).is_ok();
+        expect_eq(&rt, &(well, is_made), &(well, well > LINK));
+        if !is_made {
             let turns = [(Deed::Make(SMALL), MADE)];
             follow(&rt, rt.alloc(), PATH_OF_KILLED, &turns);
         }
         let turns = [(Deed::Check, EMPTY_STORE)];
         follow(&rt, rt.alloc(), PATH_OF_KILLED, &turns);
     }
-    expect_eq(&rt, &made, &(CALLS + 1 - LINK));
     let _left = fs::remove_dir_all(&rt, FOLDER_OF_KILLED);
 }
 
