@@ -55,7 +55,8 @@ def open(path: Path, flag: str = "w", *, barriers: bool = True, **geometry: int)
 
     The flag is as of the modules for dbm: "w" opens a file that there is; "c" makes one first where there is none, divided as `make` is
     told by `index_blocks`, `extents` and `extent_blocks`, or without these as large as one can be, 16 MiB; "n" makes a new one in any
-    case, and takes away what has the name; "r" opens one that there is, and each change is refused with `ReadOnly`. It locks the file too.
+    case, and takes away what has the name but for a store that is open; "r" opens one that there is, and each change is refused with
+    `ReadOnly`. It locks the file too.
 
     Without `barriers` a sync of the store is one sync of the file, behind all writes. Then the file opens again whenever the program ends
     and the system goes on; if the power is cut, or the system stops, during a sync, it may not.
@@ -68,12 +69,23 @@ def open(path: Path, flag: str = "w", *, barriers: bool = True, **geometry: int)
     if geometry and flag not in {"c", "n"}:
         raise ValueError(f"with the flag {flag!r} no file is made")
     if flag == "n":
-        with contextlib.suppress(FileNotFoundError):
-            os.remove(path)
+        _take_away(path)
     if flag == "n" or flag == "c" and not os.path.lexists(path):
         with contextlib.suppress(errors.DiskTaken):
             make(path, **(geometry or GEOMETRY))
     return Store(path, barriers=barriers, read_only=flag == "r")
+
+
+def _take_away(path: Path) -> None:
+    """Removes a file, whatever it holds, but not one that another store has open."""
+    try:
+        Store(path).close()
+    except errors.InUse:
+        raise
+    except errors.Error:
+        pass
+    with contextlib.suppress(FileNotFoundError):
+        os.remove(path)
 
 
 class Counts(NamedTuple):

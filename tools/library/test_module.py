@@ -240,6 +240,10 @@ class Files(unittest.TestCase):
             store[b"long"] = bytes(fstch.MAX_VALUE)
             store[b"k" * fstch.MAX_KEY] = b""
             self.assertEqual(store.check(), (2, 63))
+            with self.assertRaises(fstch.InUse):
+                fstch.open(FILE, "n")
+        with fstch.open(FILE) as store:
+            self.assertEqual(len(store), 2)
         for wrong in ({"flag": "x"}, {"flag": "w", "extents": 2}):
             with self.assertRaises(ValueError):
                 fstch.open(FILE, **wrong)
