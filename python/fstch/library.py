@@ -145,7 +145,7 @@ def _entry(at: int, number: int) -> Union[tuple[bytes, int], int]:
 
 
 def _direct() -> Any:
-    """The module in C that makes these calls in a tenth of the time, where it is built; or None."""
+    """The module in C that makes these calls without the time that ctypes takes, where it is built; or None."""
     try:
         from . import _direct as made
     except ImportError:
