@@ -300,6 +300,20 @@ class Files(unittest.TestCase):
             os.chmod(FILE, 0o400)
             self.assertEqual(told(PermissionError, fstch.open, FILE), (errno.EACCES, FILE, True))
 
+    def test_a_limit_of_file_sizes(self):
+        new_store().close()
+        lines = f"""
+import errno, fstch, resource, signal
+signal.signal(signal.SIGXFSZ, signal.SIG_IGN)
+store = fstch.open({FILE!r})
+store[b"key"] = b"value"
+resource.setrlimit(resource.RLIMIT_FSIZE, (4096, 4096))
+try: store.sync()
+except fstch.DeviceGaveUp as error: print(error.errno == errno.EFBIG)
+store.close()
+"""
+        self.assertEqual(in_python(lines), "True\n")
+
     def test_long_ones_are_told_by_their_length(self):
         with new_store() as store:
             for kind, call in ((fstch.ValueLength, lambda: store.update({b"key": bytes(40000)})), (fstch.KeyLength, lambda: store[bytes(30000)])):
