@@ -12,6 +12,7 @@ file is full, room is won back from what was deleted or put anew. `shelve.Shelf(
 
 from __future__ import annotations
 
+import contextlib
 from collections.abc import Iterator, MutableMapping
 from types import TracebackType
 from typing import Optional, Type, Union
@@ -26,6 +27,17 @@ Text = Union[str, bytes]
 
 class error(OSError):
     """A call was refused; its cause is the store's own exception. A key that isn't there is a KeyError."""
+
+
+@contextlib.contextmanager
+def _told() -> Iterator[None]:
+    """What the store refuses inside is an error of this module, but for a key that isn't there, which is a KeyError already."""
+    try:
+        yield
+    except (errors.Absent, errors.NoKey):
+        raise
+    except errors.Error as why:
+        raise error(str(why)) from why
 
 
 def open(file: stores.Path, flag: str = "r", mode: int = 0o666) -> Database:
@@ -44,55 +56,37 @@ class Database(MutableMapping[Text, bytes]):
         self._store = store
 
     def __getitem__(self, key: Text) -> bytes:
-        try:
+        with _told():
             return self._store[_bytes(key)]
-        except errors.Absent:
-            raise KeyError(key) from None
-        except errors.Error as why:
-            raise error(str(why)) from why
 
     def __setitem__(self, key: Text, value: Text) -> None:
-        try:
+        with _told():
             self._put(_bytes(key), _bytes(value))
-        except errors.Error as why:
-            raise error(str(why)) from why
 
     def __delitem__(self, key: Text) -> None:
-        try:
+        with _told():
             del self._store[_bytes(key)]
-        except errors.NoKey:
-            raise KeyError(key) from None
-        except errors.Error as why:
-            raise error(str(why)) from why
 
     def __contains__(self, key: object) -> bool:
-        try:
+        with _told():
             return (key.encode() if isinstance(key, str) else key) in self._store
-        except errors.Error as why:
-            raise error(str(why)) from why
 
     def __iter__(self) -> Iterator[bytes]:
         return iter(self.keys())
 
     def __len__(self) -> int:
-        try:
+        with _told():
             return len(self._store)
-        except errors.Error as why:
-            raise error(str(why)) from why
 
     def keys(self) -> list[bytes]:  # type: ignore[override]
         """All keys, in a list."""
-        try:
+        with _told():
             return list(self._store)
-        except errors.Error as why:
-            raise error(str(why)) from why
 
     def sync(self) -> None:
         """Saves what was changed."""
-        try:
+        with _told():
             self._store.sync()
-        except errors.Error as why:
-            raise error(str(why)) from why
 
     def close(self) -> None:
         """Saves what was changed, and closes the file. Closing a closed database does nothing."""
