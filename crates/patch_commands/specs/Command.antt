@@ -2,7 +2,7 @@
 use Rattle.std.specs.Prelude.{ℕ, List, Option, Some, None, Result, option_map, if◌then◌else◌, codes, bytes_eq}
 use Rattle.serde_json.specs.Data.{Data}
 use Rattle.serde_json.specs.Find.{as_str}
-use Rattle.patch_script.specs.Field.{◌>>=◌, whole, writer_number, hex_bytes, needed, optional}
+use Rattle.patch_script.specs.Field.{◌>>=◌, whole, writer_number, hex_bytes, needed, optional, if_there}
 use Rattle.patch_script.specs.Kind.{lines_by}
 use Rattle.patch_commands.specs.declared.commands.CommandLine.{CommandLine}
 use Rattle.patch_commands.specs.declared.commands.CommandLine.TheVariants.{Put, Get, Delete, Reclaim, Group, Engage, Disengage, Depend, Close, Pending, Sync}
@@ -22,7 +22,7 @@ depend_line writer line = do
   on ← needed whole (codes "on") line
   Some (Depend writer group on)
 
--- the ops of groups by their names
+-- the ops of groups by their names; a sync may have none
 unfoldable pub group_command : ℕ → List ℕ → Data → Option CommandLine
 group_command writer op line =
     if bytes_eq op (codes "group") then Some (Group writer)
@@ -31,7 +31,7 @@ group_command writer op line =
     else if bytes_eq op (codes "depend") then depend_line writer line
     else if bytes_eq op (codes "close") then option_map (Close writer) (needed whole (codes "group") line)
     else if bytes_eq op (codes "pending") then option_map (Pending writer) (needed whole (codes "group") line)
-    else if bytes_eq op (codes "sync") then option_map (Sync writer) (needed whole (codes "group") line)
+    else if bytes_eq op (codes "sync") then option_map (Sync writer) (if_there whole (codes "group") line)
     else None
 
 -- each op by its name

@@ -69,10 +69,10 @@ pub enum CommandLine {
         writer: WriterNo,
         group: GroupNo,
     },
-    /// Bring all patches of the group to the disk.
+    /// Bring all patches to the disk, those of the group among them: where a group is named there has to be one.
     Sync {
         writer: WriterNo,
-        group: GroupNo,
+        group: Option<GroupNo>,
     },
 }
 

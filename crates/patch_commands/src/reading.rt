@@ -1,17 +1,18 @@
 //! The reading of a line of a store script.
-ghost use Rattle.std.specs.Prelude.{◌≤◌, length};
+ghost use Rattle.std.specs.Prelude.{◌≤◌, length, option_map, codes};
+ghost use Rattle.patch_script.specs.Field.{whole, if_there};
 ghost use Rattle.patch_script.specs.Gives.{Gives};
 ghost use Rattle.patch_script.specs.Object.{object_data};
 ghost use Rattle.patch_script.specs.Kind.{lines_of, Reads};
 ghost use Rattle.patch_script.specs.declared.scripts.TheConstants.{MAX_LINES};
 ghost use Rattle.patch_commands.specs.Command.{put_line, depend_line, group_command, writer_command, command_of, commands_of};
 ghost use Rattle.patch_commands.specs.Shared.{shared_command, shared_commands};
+ghost use Rattle.patch_commands.specs.declared.commands.CommandLine.TheVariants.{Sync};
 
 use crate::commands::{CommandLine, MAX_VALUE_TEXT};
 use crate::values::is_short_value;
 use patch_model::{GroupNo, WriterNo};
-use patch_script::fields::LineError;
-use patch_script::{Defect, Name, Object, ObjectReader, ScriptError, read_objects};
+use patch_script::{Defect, LineError, Name, Object, ObjectReader, ScriptError, read_objects};
 use std::alloc::Global;
 
 /// What makes a value too long: its piece alone, or how often that is repeated.
@@ -51,6 +52,16 @@ fn read_depend(writer: WriterNo, line: &Object<'_>) -> Result<CommandLine, LineE
     Ok(CommandLine::Depend { writer, group, on })
 }
 
+fn read_sync(writer: WriterNo, line: &Object<'_>) -> Result<CommandLine, LineError>
+    ensures { Gives result (option_map (Sync writer) (if_there whole (codes "group") (object_data line.now))) }
+{
+    let group = match line.number_if_there(Name::Group)? {
+        Some(number) => Some(GroupNo(number)),
+        None => None,
+    };
+    Ok(CommandLine::Sync { writer, group })
+}
+
 #[tactic(auto, unfolding(crate::specs::Command::group_command))]
 fn read_group_command(
     writer: WriterNo,
@@ -78,10 +89,7 @@ fn read_group_command(
             writer,
             group: GroupNo(line.number(Name::Group)?),
         }),
-        "sync" => Ok(CommandLine::Sync {
-            writer,
-            group: GroupNo(line.number(Name::Group)?),
-        }),
+        "sync" => read_sync(writer, line),
         _ => Err(LineError::Unreadable(Defect::NoCommand)),
     }
 }

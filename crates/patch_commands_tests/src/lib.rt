@@ -3,8 +3,6 @@
 #![tactic(auto)]
 
 #[cfg(test)]
-mod agreeing;
-#[cfg(test)]
 mod expecting;
 #[cfg(test)]
 mod history;
@@ -14,5 +12,3 @@ mod index;
 mod rows;
 #[cfg(test)]
 mod tests;
-#[cfg(test)]
-mod tree_lines;

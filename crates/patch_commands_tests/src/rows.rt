@@ -41,7 +41,9 @@ fn worked_lines_of_groups()
     ensures depend { line_by command_of (codes "{\"op\":\"depend\",\"group\":6,\"on\":2}") ≡ Some (Some (Depend 0 6 2)) }
     ensures close { line_by command_of (codes "{\"op\":\"close\",\"group\":8,\"writer\":3}") ≡ Some (Some (Close 3 8)) }
     ensures pending { line_by command_of (codes "{\"op\":\"pending\",\"group\":9}") ≡ Some (Some (Pending 0 9)) }
-    ensures sync { line_by command_of (codes "{\"op\":\"sync\",\"group\":4294967295}") ≡ Some (Some (Sync 0 4294967295)) }
+    ensures sync { line_by command_of (codes "{\"op\":\"sync\",\"group\":4294967295}") ≡ Some (Some (Sync 0 (Some 4294967295))) }
+    ensures sync_of_none { line_by command_of (codes "{\"op\":\"sync\",\"writer\":2}") ≡ Some (Some (Sync 2 None)) }
+    ensures sync_of_null { line_by command_of (codes "{\"op\":\"sync\",\"group\":null}") ≡ None }
     ensures ninth_writer { line_by command_of (codes "{\"op\":\"group\",\"writer\":8}") ≡ None }
     ensures depend_on_none { line_by command_of (codes "{\"op\":\"depend\",\"group\":6}") ≡ None }
     ensures sync_of_a_large_group { line_by command_of (codes "{\"op\":\"sync\",\"group\":4294967296}") ≡ None }

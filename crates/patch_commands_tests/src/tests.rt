@@ -29,6 +29,7 @@ const LINES: &str = r#"{"op":"put","key":"k","hex":"0aFF"}
 {"op":"close","group":8,"writer":6}
 {"op":"pending","group":4294967295}
 {"op":"sync","group":10,"writer":2}
+{"op":"sync","writer":1}
 "#;
 
 const FORMS: &str = "\
@@ -52,7 +53,8 @@ Depend { writer: WriterNo(0), group: GroupNo(6), on: GroupNo(2) }
 Depend { writer: WriterNo(4), group: GroupNo(8), on: GroupNo(7) }
 Close { writer: WriterNo(6), group: GroupNo(8) }
 Pending { writer: WriterNo(0), group: GroupNo(4294967295) }
-Sync { writer: WriterNo(2), group: GroupNo(10) }
+Sync { writer: WriterNo(2), group: Some(GroupNo(10)) }
+Sync { writer: WriterNo(1), group: None }
 ";
 
 fn push_forms(forms: &mut String, lines: &[CommandLine]) -> Result<(), AllocError> {
@@ -101,7 +103,11 @@ fn read(alloc: Global, text: &[u8]) -> Reading {
     }
 }
 
-const NOT_JSON: &str = "not JSON, or nested deeper than 127 levels";
+const CUT_SHORT: &str = "not JSON at column 6, or nested deeper than 127 levels";
+
+const MORE_BEHIND: &str = "not JSON at column 24, or nested deeper than 127 levels";
+
+const NO_NUMBER: &str = "not JSON at column 26, or nested deeper than 127 levels";
 
 const OPS: &str =
     "\"op\" is not one of put, get, delete, reclaim, group, engage, disengage, depend, close, pending and sync";
@@ -124,9 +130,9 @@ const MANY_TIMES: &str = "\"times\" makes a value of more than 1048576 bytes";
 
 // What is said of lines that aren't readable: of any op, and of puts.
 const UNREADABLE: [(&str, &str); 34] = [
-    (r#"{"op":"#, NOT_JSON),
-    (r#"{"op":"get","key":"k"} x"#, NOT_JSON),
-    (r#"{"op":"reclaim","extent":01}"#, NOT_JSON),
+    (r#"{"op":"#, CUT_SHORT),
+    (r#"{"op":"get","key":"k"} x"#, MORE_BEHIND),
+    (r#"{"op":"reclaim","extent":01}"#, NO_NUMBER),
     (r#"["get","k"]"#, "not a JSON object"),
     (r#"7"#, "not a JSON object"),
     (r#"{}"#, "\"op\" is missing"),
@@ -206,7 +212,7 @@ const UNREADABLE_OTHERS: [(&str, &str); 32] = [
     (r#"{"op":"close","group":"8"}"#, GROUP),
     (r#"{"op":"pending"}"#, "\"group\" is missing"),
     (r#"{"op":"pending","group":4294967296}"#, GROUP),
-    (r#"{"op":"sync"}"#, "\"group\" is missing"),
+    (r#"{"op":"sync","group":null}"#, GROUP),
     (r#"{"op":"sync","group":[0]}"#, GROUP),
     (r#"{"op":"sync","group":0,"writer":8}"#, WRITER),
 ];
@@ -226,9 +232,24 @@ fn expect_words(rt: &impl Abort, alloc: Global, line: &str, want: &str) -> Resul
     Ok(())
 }
 
+/// The line with one member more, which isn't plain, so that it is read as a tree of values.
+fn expect_words_in_a_tree(
+    rt: &impl Abort,
+    alloc: Global,
+    line: &str,
+    want: &str,
+) -> Result<(), Fail> {
+    let Some(front) = line.strip_suffix("}") else {
+        return Ok(());
+    };
+    let other = format!(in alloc; "{front},\"other\":{{}}}}")?;
+    expect_words(rt, alloc, other.as_str(), want)
+}
+
 fn expect_words_of_each(rt: &impl Abort, alloc: Global, rows: &[(&str, &str)]) -> Result<(), Fail> {
     for (line, want) in rows {
         expect_words(rt, alloc, *line, *want)?;
+        expect_words_in_a_tree(rt, alloc, *line, *want)?;
     }
     Ok(())
 }
@@ -252,7 +273,10 @@ const SCRIPTS: [(&[u8], Reading); 6] = [
         b"{\"op\":\"group\"}\r\n\n{\"op\":\"fly\"}\n{}\n",
         Reading::BadLine(3, Defect::NoCommand),
     ),
-    (b"\n\xff\n", Reading::BadLine(2, Defect::NotJson)),
+    (
+        b"\n\xff\n",
+        Reading::BadLine(2, Defect::NotJson { column: 1 }),
+    ),
 ];
 
 #[test]

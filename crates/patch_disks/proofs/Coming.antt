@@ -1,13 +1,13 @@
 -- How the answers grow, line by line.
 use Rattle.std.proofs.Common.{◌≡◌, ℕ, ◌∙◌, Bool, true, false, List, [], ◌∷◌, ◌++◌, Option, Some, None, refl, sym, ap, subst, append_assoc}
-use Rattle.std.specs.Prelude.{Result, Ok, Err, IfOk, IfSome, OnOk, String, string_bytes, MatchBool, if◌then◌else◌}
+use Rattle.std.specs.Prelude.{Result, Ok, Err, IfOk, IfSome, OnOk, String, string_bytes, MatchBool, MatchOption, if◌then◌else◌}
 use Rattle.std.specs.declared.alloc.Global.{Global}
 use Rattle.std.specs.Io.KnownBytes.{Appends}
 use Rattle.std.proofs.lemmas.List.{append-nil}
 use Rattle.patch_device.specs.SameDevice.{IsSameDevice}
 use Rattle.patch_device.specs.declared.devices.Device.{Ghosts}
 use Rattle.patch_cache.specs.Joining.{SafeJoin}
-use Rattle.patch_history.specs.Command.{Command, Reply, is_refused}
+use Rattle.patch_history.specs.Command.{Command, Pending, Reply, is_refused}
 use Rattle.patch_history.specs.History.{History, Call}
 use Rattle.patch_store.specs.Meaning.{Store}
 use Rattle.patch_store.specs.Opening.{IsOpened, at_opening}
@@ -16,7 +16,7 @@ use Rattle.patch_commands.specs.declared.commands.CommandLine.{CommandLine}
 use Rattle.patch_commands.specs.declared.commands.CommandLine.TheVariants as line
 use Rattle.patch_replay.specs.Growing.{twice, same}
 use Rattle.patch_disks.specs.declared.endings.Stop.{Stop}
-use Rattle.patch_disks.specs.Answering.{call_of, saves, with_call, IsSaved, IsAnswered, AreAnswered}
+use Rattle.patch_disks.specs.Answering.{call_of, saves, with_call, IsSaved, IsCallAnswered, IsAnswered, AreAnswered}
 use Rattle.patch_disks.specs.Ending.{IsDoneBehind}
 use Rattle.patch_disks.specs.Going.{GoesSafely, EndsSafely, StillLasts}
 use Rattle.patch_disks.specs.Reading.{HasLines}
@@ -42,56 +42,70 @@ pub goes_behind : {D : Type 0} (g : Ghosts D) (h : History) (call : ℕ × Comma
 goes_behind g h call reply store contents device called =
     goes_by_call g h (with_call h call reply called.steps) called.steps device (run_behind h (Call call.0 call.1 reply called.steps)) called.stays
 
+-- what is answered by the call that a line asks for
+by_call : (h : History) (asked : CommandLine) (call : ℕ × Command) (text : List ℕ) (next : History) → call_of asked ≡ Some call
+    → IsCallAnswered h asked call text next → IsAnswered h asked text next
+by_call h asked call text next is answered =
+    subst (λ c. MatchOption c ((text ≡ synced_line) × IsSaved h next) (λ x. IsCallAnswered h asked x text next)) (sym is) answered
+
 -- a line that saves nothing is answered by the reply to its call
-pub answered_by_reply : {D : Type 0} (g : Ghosts D) (h : History) (asked : CommandLine) (text : List ℕ) (store : Store) (device : D)
-    → ((reply : Reply) → saves asked reply ≡ false) → IsTold h (call_of asked) text store (g.contents device) → HasAnswered g h asked text store device device
-answered_by_reply g h asked text store device silent told =
-    let next = with_call h (call_of asked) told.reply told.called.steps in
+pub answered_by_reply : {D : Type 0} (g : Ghosts D) (h : History) (asked : CommandLine) (call : ℕ × Command) (text : List ℕ) (store : Store) (device : D)
+    → call_of asked ≡ Some call → ((reply : Reply) → saves asked reply ≡ false) → IsTold h call text store (g.contents device)
+    → HasAnswered g h asked text store device device
+answered_by_reply g h asked call text store device is silent told =
+    let next = with_call h call told.reply told.called.steps in
     let so = by_reply (saves asked told.reply) text (reply_line told.reply) synced_line (IsSaved next next) (next ≡ next) (silent told.reply) told.told refl in
     record {
       next = next;
-      answered = record { reply = told.reply; steps = told.called.steps; told = so.0; goes_on = so.1 };
+      answered = by_call h asked call text next is (record { reply = told.reply; steps = told.called.steps; told = so.0; goes_on = so.1 });
       stands = told.called.stands;
-      goes = goes_behind g h (call_of asked) told.reply store (g.contents device) device told.called;
+      goes = goes_behind g h call told.reply store (g.contents device) device told.called;
     }
 
-pub each_by_reply : {D E : Type 0} (g : Ghosts D) (h : History) (asked : CommandLine) (r : Result (String Global) E) (store : Store) (device : D)
-    → ((reply : Reply) → saves asked reply ≡ false) → IfOk r (λ text. IsTold h (call_of asked) (string_bytes text) store (g.contents device))
-    → IfOk r (λ text. HasAnswered g h asked (string_bytes text) store device device)
-each_by_reply g h asked (Ok text) store device silent told = answered_by_reply g h asked (string_bytes text) store device silent told
-each_by_reply g h asked (Err e) store device silent told = tt
+pub each_by_reply : {D E : Type 0} (g : Ghosts D) (h : History) (asked : CommandLine) (call : ℕ × Command) (r : Result (String Global) E) (store : Store)
+    (device : D) → call_of asked ≡ Some call → ((reply : Reply) → saves asked reply ≡ false)
+    → IfOk r (λ text. IsTold h call (string_bytes text) store (g.contents device)) → IfOk r (λ text. HasAnswered g h asked (string_bytes text) store device device)
+each_by_reply g h asked call (Ok text) store device is silent told = answered_by_reply g h asked call (string_bytes text) store device is silent told
+each_by_reply g h asked call (Err e) store device is silent told = tt
 
 -- a sync that is refused
 pub sync_refused : {D : Type 0} (g : Ghosts D) (h : History) (writer group : ℕ) (reply : Reply) (text : List ℕ) (store : Store) (device : D) → is_refused reply ≡ true
-    → text ≡ reply_line reply → IsCalled h (call_of (line.Sync writer group)) reply store (g.contents device)
-    → HasAnswered g h (line.Sync writer group) text store device device
+    → text ≡ reply_line reply → IsCalled h (writer, Pending group) reply store (g.contents device)
+    → HasAnswered g h (line.Sync writer (Some group)) text store device device
 sync_refused g h writer group reply text store device refused told called =
-    let asked = line.Sync writer group in
-    let next = with_call h (call_of asked) reply called.steps in
+    let asked = line.Sync writer (Some group) in
+    let next = with_call h (writer, Pending group) reply called.steps in
     let silent : saves asked reply ≡ false = rw refused refl in
     let so = by_reply (saves asked reply) text (reply_line reply) synced_line (IsSaved next next) (next ≡ next) silent told refl in
     record {
       next = next;
       answered = record { reply = reply; steps = called.steps; told = so.0; goes_on = so.1 };
       stands = called.stands;
-      goes = goes_behind g h (call_of asked) reply store (g.contents device) device called;
+      goes = goes_behind g h (writer, Pending group) reply store (g.contents device) device called;
     }
 
 -- and one that isn't
 pub sync_saved : {D : Type 0} (g : Ghosts D) → SafeJoin g → (h : History) (writer group : ℕ) (reply : Reply) (text : List ℕ) (mid store : Store) (before now : D)
-    → is_refused reply ≡ false → text ≡ synced_line → (called : IsCalled h (call_of (line.Sync writer group)) reply mid (g.contents before))
-    → HasSaved g (with_call h (call_of (line.Sync writer group)) reply called.steps) store before now → HasAnswered g h (line.Sync writer group) text store before now
+    → is_refused reply ≡ false → text ≡ synced_line → (called : IsCalled h (writer, Pending group) reply mid (g.contents before))
+    → HasSaved g (with_call h (writer, Pending group) reply called.steps) store before now
+    → HasAnswered g h (line.Sync writer (Some group)) text store before now
 sync_saved g join h writer group reply text mid store before now accepted told called saved =
-    let asked = line.Sync writer group in
-    let behind = with_call h (call_of asked) reply called.steps in
+    let asked = line.Sync writer (Some group) in
+    let behind = with_call h (writer, Pending group) reply called.steps in
     let loud : saves asked reply ≡ true = rw accepted refl in
     let so = by_save (saves asked reply) text (reply_line reply) synced_line (IsSaved behind saved.next) (saved.next ≡ behind) loud told saved.saved in
     record {
       next = saved.next;
       answered = record { reply = reply; steps = called.steps; told = so.0; goes_on = so.1 };
       stands = saved.stands;
-      goes = goes_both g join h behind saved.next before before now (goes_behind g h (call_of asked) reply mid (g.contents before) before called) saved.goes;
+      goes = goes_both g join h behind saved.next before before now (goes_behind g h (writer, Pending group) reply mid (g.contents before) before called) saved.goes;
     }
+
+-- one of no group
+pub all_saved : {D : Type 0} (g : Ghosts D) (h : History) (writer : ℕ) (text : List ℕ) (store : Store) (before now : D) → text ≡ synced_line
+    → HasSaved g h store before now → HasAnswered g h (line.Sync writer None) text store before now
+all_saved g h writer text store before now told saved =
+    record { next = saved.next; answered = (told, saved.saved); stands = saved.stands; goes = saved.goes }
 
 -- however its save ends
 pub sync_ends : {D : Type 0} (g : Ghosts D) → SafeJoin g → (h : History) (call : ℕ × Command) (reply : Reply) (mid : Store) (before now : D)

@@ -5,6 +5,7 @@ pub mod Resting
 pub mod Saving
 pub mod Unused
 pub mod Stopping
+pub mod Surveyed
 pub mod Upgraded
 pub mod Concluding
 pub mod Filed

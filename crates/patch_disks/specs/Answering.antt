@@ -1,5 +1,5 @@
 -- How the lines of a script are answered: each by a call of the store, some with writes behind it.
-use Rattle.std.specs.Prelude.{ℕ, Bool, false, ◌≡◌, ◌++◌, not, List, [], ◌∷◌, MatchBool, if◌then◌else◌}
+use Rattle.std.specs.Prelude.{ℕ, Bool, false, ◌≡◌, ◌++◌, not, List, [], ◌∷◌, Option, Some, None, MatchBool, MatchOption, if◌then◌else◌}
 use Rattle.patch_model.specs.Step.{Step}
 use Rattle.patch_cache.specs.Waves.{IsFlushed}
 use Rattle.patch_history.specs.Command.{Command, Put, Get, Delete, Reclaim, Group, Engage, Disengage, Depend, CloseGroup, Pending, Reply, is_refused}
@@ -10,21 +10,23 @@ use Rattle.patch_commands.specs.Value.{value_of}
 use Rattle.patch_commands.specs.declared.commands.CommandLine.{CommandLine}
 use Rattle.patch_commands.specs.declared.commands.CommandLine.TheVariants as line
 
--- The call that a line asks for: of which writer, and what. A sync asks how many patches of its group aren't on the disk yet.
-abbrev pub call_of : CommandLine → ℕ × Command
-call_of (line.Put writer key piece times) = (writer, Put key (value_of piece times))
-call_of (line.Get writer key) = (writer, Get key)
-call_of (line.Delete writer key) = (writer, Delete key)
-call_of (line.Reclaim writer extent) = (writer, Reclaim extent)
-call_of (line.Group writer) = (writer, Group)
-call_of (line.Engage writer group) = (writer, Engage group)
-call_of (line.Disengage writer group) = (writer, Disengage group)
-call_of (line.Depend writer group on) = (writer, Depend group on)
-call_of (line.Close writer group) = (writer, CloseGroup group)
-call_of (line.Pending writer group) = (writer, Pending group)
-call_of (line.Sync writer group) = (writer, Pending group)
+-- The call that a line asks for: of which writer, and what. A sync of a group asks how many of its patches aren't on the disk yet; a sync of
+-- none asks for no call.
+abbrev pub call_of : CommandLine → Option (ℕ × Command)
+call_of (line.Put writer key piece times) = Some (writer, Put key (value_of piece times))
+call_of (line.Get writer key) = Some (writer, Get key)
+call_of (line.Delete writer key) = Some (writer, Delete key)
+call_of (line.Reclaim writer extent) = Some (writer, Reclaim extent)
+call_of (line.Group writer) = Some (writer, Group)
+call_of (line.Engage writer group) = Some (writer, Engage group)
+call_of (line.Disengage writer group) = Some (writer, Disengage group)
+call_of (line.Depend writer group on) = Some (writer, Depend group on)
+call_of (line.Close writer group) = Some (writer, CloseGroup group)
+call_of (line.Pending writer group) = Some (writer, Pending group)
+call_of (line.Sync writer (Some group)) = Some (writer, Pending group)
+call_of (line.Sync writer None) = None
 
--- the line brings all patches to the disk: a sync whose group is there
+-- the line brings all patches to the disk behind its call: a sync whose group is there
 abbrev pub saves : CommandLine → Reply → Bool
 saves (line.Sync writer group) reply = not (is_refused reply)
 saves _ reply = false
@@ -43,12 +45,17 @@ pub record IsSaved (h new : History) : Type 0 where
   pub new_is : new ≡ with_writes h writes
   pub flushed : IsFlushed (execution_of new)
 
--- a line was answered: its call was made, and where it saves, all patches were brought to the disk
-pub record IsAnswered (h : History) (asked : CommandLine) (text : List ℕ) (new : History) : Type 0 where
+-- a line was answered by a call: it was made, and where the line saves, all patches were brought to the disk
+pub record IsCallAnswered (h : History) (asked : CommandLine) (call : ℕ × Command) (text : List ℕ) (new : History) : Type 0 where
   pub reply : Reply
   pub steps : List Step
   pub told : text ≡ text_of asked reply
-  pub goes_on : MatchBool (saves asked reply) (IsSaved (with_call h (call_of asked) reply steps) new) (new ≡ with_call h (call_of asked) reply steps)
+  pub goes_on : MatchBool (saves asked reply) (IsSaved (with_call h call reply steps) new) (new ≡ with_call h call reply steps)
+
+-- a line was answered: by its call, or, where it asks for none, all patches were brought to the disk
+abbrev pub IsAnswered : History → CommandLine → List ℕ → History → Type 0
+IsAnswered h asked text new =
+    MatchOption (call_of asked) ((text ≡ synced_line) × IsSaved h new) (λ call. IsCallAnswered h asked call text new)
 
 -- lines were answered, one after another
 abbrev pub AreAnswered : History → List CommandLine → List ℕ → History → Type 0

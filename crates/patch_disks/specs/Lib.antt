@@ -5,4 +5,5 @@ pub mod Opening
 pub mod Reading
 pub mod Running
 pub mod Stopping
+pub mod Surveying
 pub mod Upgrading

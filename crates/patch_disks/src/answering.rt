@@ -1,5 +1,5 @@
 //! How a line of a script is answered.
-ghost use Rattle.std.specs.Prelude.{ℕ, ◌≡◌, List, IfOk, IfErr, OnOk, string_bytes};
+ghost use Rattle.std.specs.Prelude.{ℕ, ◌≡◌, List, Some, None, IfOk, IfErr, OnOk, string_bytes};
 ghost use Rattle.patch_device.specs.Device.{HasRisen};
 ghost use Rattle.patch_device.specs.SameDevice.{IsSameDevice};
 ghost use Rattle.patch_history.specs.Command.{Put};
@@ -84,7 +84,7 @@ fn sync<D: Device>(
 ) -> Result<String, Stop>
     ensures device { IsSameDevice D.Device device.old device.new }
     ensures answered { D.is_honest device.old → (h : History) → StandsOn store.old h (D.contents device.old) → IfOk result (λ text.
-        HasAnswered D.Device h (Sync writer group) (string_bytes text) store.new device.old device.new) }
+        HasAnswered D.Device h (Sync writer (Some group)) (string_bytes text) store.new device.old device.new) }
     ensures lasts { D.is_honest device.old → OnOk result (StillLasts D.Device device.old device.new) }
     ensures safe { D.is_honest device.old → (h : History) → StandsOn store.old h (D.contents device.old)
         → EndsSafely D.Device h device.old device.new }
@@ -98,6 +98,44 @@ fn sync<D: Device>(
     }
     save(store, device)?;
     Ok(synced_line(alloc)?)
+}
+
+/// Brings all patches to the disk.
+fn sync_all<D: Device>(alloc: Global, store: &mut Store, device: &mut D) -> Result<String, Stop>
+    ensures device { IsSameDevice D.Device device.old device.new }
+    ensures answered { D.is_honest device.old → (h : History) (writer : ℕ) → StandsOn store.old h (D.contents device.old) → IfOk result (λ text.
+        HasAnswered D.Device h (Sync writer None) (string_bytes text) store.new device.old device.new) }
+    ensures lasts { D.is_honest device.old → OnOk result (StillLasts D.Device device.old device.new) }
+    ensures safe { D.is_honest device.old → (h : History) → StandsOn store.old h (D.contents device.old)
+        → EndsSafely D.Device h device.old device.new }
+    ensures stops { D.is_honest device.old → (h : History) → StandsOn store.old h (D.contents device.old)
+        → IfErr result (λ why. IsStop why (HasRisen (D.fault_count device.old) (D.fault_count device.new))) }
+{
+    save(store, device)?;
+    Ok(synced_line(alloc)?)
+}
+
+/// Brings all patches to the disk, those of the group among them where one is named.
+fn sync_line<D: Device>(
+    alloc: Global,
+    store: &mut Store,
+    device: &mut D,
+    writer: WriterNo,
+    group: Option<GroupNo>,
+) -> Result<String, Stop>
+    ensures device { IsSameDevice D.Device device.old device.new }
+    ensures answered { D.is_honest device.old → (h : History) → StandsOn store.old h (D.contents device.old) → IfOk result (λ text.
+        HasAnswered D.Device h (Sync writer group) (string_bytes text) store.new device.old device.new) }
+    ensures lasts { D.is_honest device.old → OnOk result (StillLasts D.Device device.old device.new) }
+    ensures safe { D.is_honest device.old → (h : History) → StandsOn store.old h (D.contents device.old)
+        → EndsSafely D.Device h device.old device.new }
+    ensures stops { D.is_honest device.old → (h : History) → StandsOn store.old h (D.contents device.old)
+        → IfErr result (λ why. IsStop why (HasRisen (D.fault_count device.old) (D.fault_count device.new))) }
+{
+    match group {
+        Some(group) => sync(alloc, store, device, writer, group),
+        None => sync_all(alloc, store, device),
+    }
 }
 
 /// Answers a line, by a line of text.
@@ -148,6 +186,6 @@ pub(crate) fn answer<D: Device>(
         CommandLine::Pending { writer, group } => {
             answer_command(alloc, store, writer, Command::Pending { group })
         }
-        CommandLine::Sync { writer, group } => sync(alloc, store, device, writer, group),
+        CommandLine::Sync { writer, group } => sync_line(alloc, store, device, writer, group),
     }
 }

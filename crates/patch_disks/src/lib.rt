@@ -15,6 +15,7 @@ mod progress;
 mod reading;
 mod reporting;
 mod running;
+mod surveying;
 mod upgrading;
 
 pub use checking::{check_disk, check_file};
@@ -24,4 +25,5 @@ pub use opening::{Barriers, finish_device, open_file, open_file_to_read, open_st
 pub use progress::{Progress, Quiet, Ticker};
 pub use reading::read_script;
 pub use running::{run_file, run_script};
+pub use surveying::{BadSlot, Survey, survey_blocks, survey_file};
 pub use upgrading::{upgrade_disk, upgrade_file};

@@ -1,10 +1,9 @@
 //! Makes files that hold an empty store.
 use crate::endings::{Status, Stop, conclude};
 use patch_device::{Device, FileDevice};
-use patch_frame::Geometry;
-use patch_model::{BlockBytes, MAX_BLOCKS, RefusalKind, Refuses};
+use patch_frame::{Geometry, write_superblock};
+use patch_model::{BlockBytes, RefusalKind, Refuses};
 use patch_replay::{Output, Sink};
-use patch_store::make;
 use std::alloc::Global;
 use std::fs::{File, OpenFile};
 use std::os::unix::fs::FileExt;
@@ -12,12 +11,13 @@ use std::path::Path;
 use std::rt::Files;
 use std::{fs, io};
 
-/// The blocks of a new disk.
-fn new_blocks(alloc: Global, geometry: Geometry) -> Result<Vec<BlockBytes>, Stop> {
-    match make(alloc, geometry) {
-        Ok(blocks) => Ok(blocks),
-        Err(refusal) => Err(Stop::Refused(refusal.refusal())),
+/// The first block of a new disk, the one that isn't zeros, and how many blocks the disk has.
+fn first_block(alloc: Global, geometry: Geometry) -> Result<(BlockBytes, u32), Stop> {
+    if !geometry.is_valid() {
+        return Err(Stop::Refused(RefusalKind::Geometry.bare()));
     }
+    let first = write_superblock(alloc, geometry)?;
+    Ok((first, geometry.block_count()))
 }
 
 /// How many names are tried for a file that isn't whole yet.
@@ -75,14 +75,9 @@ fn new_file_beside<F: FileExt + OpenFile + Drop, R: Files<File = F>>(
     Err(no_disk())
 }
 
-/// Writes the superblock, the one block of a new disk that isn't zeros, and answers whether that went well.
-fn write_first<D: Device>(device: &mut D, blocks: &[BlockBytes]) -> bool {
-    match blocks.first() {
-        Some(superblock) => {
-            device.write(0, superblock.as_slice()).is_ok() && device.sync().is_ok()
-        }
-        None => false,
-    }
+/// Writes the first block and syncs it, and answers whether that went well.
+fn write_first<D: Device>(device: &mut D, first: &BlockBytes) -> bool {
+    device.write(0, first.as_slice()).is_ok() && device.sync().is_ok()
 }
 
 /// Lets the name of a file last in the directory that it stands in, and answers whether that went well. A system that can't sync a
@@ -102,11 +97,11 @@ fn sync_directory<F: OpenFile + Drop, R: Files<File = F>>(rt: &R, path: &str) ->
 fn make_in_place<F: FileExt + OpenFile + Drop, R: Files<File = F>>(
     rt: &R,
     path: &str,
-    blocks: &[BlockBytes],
+    first: &BlockBytes,
     count: u32,
 ) -> Result<(), Stop> {
     let mut device = new_file(rt, path, count)?;
-    if write_first(&mut device, blocks) {
+    if write_first(&mut device, first) {
         return Ok(());
     }
     let _removed = fs::remove_file(rt, path);
@@ -119,20 +114,20 @@ fn make_whole<F: FileExt + OpenFile + Drop, R: Files<File = F>>(
     rt: &R,
     alloc: Global,
     path: &str,
-    blocks: &[BlockBytes],
+    first: &BlockBytes,
     count: u32,
 ) -> Result<(), Stop> {
     if is_there(rt, path) {
         return Err(no_disk());
     }
     let (mut device, other) = new_file_beside(rt, alloc, path, count)?;
-    let is_whole = write_first(&mut device, blocks);
+    let is_whole = write_first(&mut device, first);
     let is_linked = is_whole && fs::hard_link(rt, other.as_str(), path).is_ok();
     let _removed = fs::remove_file(rt, other.as_str());
     if is_linked {
         Ok(())
     } else if is_whole {
-        make_in_place(rt, path, blocks, count)
+        make_in_place(rt, path, first, count)
     } else {
         Err(no_disk())
     }
@@ -145,11 +140,9 @@ fn make_path<F: FileExt + OpenFile + Drop, R: Files<File = F>, W: Output>(
     path: &str,
     geometry: Geometry,
 ) -> Result<(), Stop> {
-    let blocks = new_blocks(alloc, geometry)?;
-    // A disk has no more.
-    let count = blocks.len().min(MAX_BLOCKS) as u32;
+    let (first, count) = first_block(alloc, geometry)?;
     let made = format!(in alloc; "made {count}\n")?;
-    make_whole(rt, alloc, path, blocks.as_slice(), count)?;
+    make_whole(rt, alloc, path, &first, count)?;
     if !sync_directory(rt, path) {
         let _removed = fs::remove_file(rt, path);
         return Err(no_disk());

@@ -36,7 +36,7 @@ fn cache_of(alloc: Global, blocks: Vec<BlockBytes>) -> Result<Cache, Stop>
 }
 
 /// The store that these blocks hold.
-fn store_of(alloc: Global, blocks: Vec<BlockBytes>) -> Result<Store, Stop>
+pub(crate) fn store_of(alloc: Global, blocks: Vec<BlockBytes>) -> Result<Store, Stop>
     ensures new { IfOk result IsUnused }
     ensures opened { IfOk result (IsOpened blocks.items) }
     ensures kind { IfErr result (TellsTest blocks.items) }
@@ -78,7 +78,7 @@ fn set_barriers<F: FileExt + OpenFile + Drop>(
 }
 
 /// The file of this name, as a device, and its blocks.
-fn open_blocks<F: FileExt + OpenFile + Drop, R: Files<File = F>>(
+pub(crate) fn open_blocks<F: FileExt + OpenFile + Drop, R: Files<File = F>>(
     rt: &R,
     alloc: Global,
     path: &str,

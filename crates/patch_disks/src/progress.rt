@@ -9,8 +9,8 @@ pub trait Progress {
     /// So many lines of all are answered.
     fn answered(&mut self, lines: usize, all: usize);
 
-    /// The script is at its end, or has stopped.
-    fn end(&mut self);
+    /// The script is at its end, and all that it changed is on the device; or it has stopped.
+    fn end(&mut self, is_saved: bool);
 }
 
 /// Nobody.
@@ -20,7 +20,7 @@ pub struct Quiet;
 impl Progress for Quiet {
     fn answered(&mut self, _lines: usize, _all: usize) {}
 
-    fn end(&mut self) {}
+    fn end(&mut self, _is_saved: bool) {}
 }
 
 /// Somebody at a terminal: one line there is written anew after each thousand lines, and is cleared at the end.
@@ -49,7 +49,7 @@ impl<E: Write> Progress for Ticker<E> {
         }
     }
 
-    fn end(&mut self) {
+    fn end(&mut self, _is_saved: bool) {
         if self.shown {
             let _ = self.terminal.write_all(b"\r\x1b[K");
             self.shown = false;

@@ -137,7 +137,7 @@ pub fn run_script<R: Read, W: Output, D: Device, P: Progress>(
         Err(Unread::Stopped(stop)) => return conclude(alloc, writer, Err(stop)),
     };
     let ran = run_lines(alloc, writer, device, lines, progress);
-    progress.end();
+    progress.end(ran.is_ok());
     conclude(alloc, writer, ran)
 }
 
@@ -190,6 +190,6 @@ where
         Err(Unread::Stopped(stop)) => return conclude(alloc, writer, Err(stop)),
     };
     let ran = run_lines_on_file(rt, alloc, writer, path, barriers, lines, progress);
-    progress.end();
+    progress.end(ran.is_ok());
     conclude(alloc, writer, ran)
 }

@@ -1,5 +1,5 @@
 -- A script of several writers, each served on a thread of its own.
-use Rattle.std.specs.Prelude.{ℕ, ◌≡◌, ◌==◌, List, Option, MatchOption, IfSome, length, map, filter, flat_map, sum_by}
+use Rattle.std.specs.Prelude.{ℕ, ◌≡◌, ◌==◌, List, Option, option_map, MatchOption, IfSome, length, map, filter, filter_map, flat_map, sum_by}
 use Rattle.std.specs.List.{range_with_len}
 use Rattle.std.specs.Io.KnownBytes.{Appends}
 use Rattle.patch_device.specs.SameDevice.{IsLasting}
@@ -16,9 +16,13 @@ use Rattle.patch_disks.specs.declared.endings.Status.TheVariants.{Done}
 use Rattle.patch_disks.specs.Answering.{call_of}
 use Rattle.patch_disks.specs.Reading.{HasLinesBy}
 
+-- the command that a line asks for, where it asks for one
+abbrev pub command_on : CommandLine → Option Command
+command_on line = option_map (λ call. call.1) (call_of line)
+
 -- the commands of one writer, in the order of its lines
 abbrev pub commands_by : ℕ → List CommandLine → List Command
-commands_by n lines = map (λ line. (call_of line).1) (filter (λ line. writer_of line == n) lines)
+commands_by n lines = filter_map command_on (filter (λ line. writer_of line == n) lines)
 
 -- those of each of so many writers
 abbrev pub jobs_by : ℕ → List CommandLine → List (List Command)

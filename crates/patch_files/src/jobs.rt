@@ -1,9 +1,8 @@
 //! What each of several writers asks for.
-ghost use Rattle.std.specs.Prelude.{◌≡◌, map, vec_len, IfOk};
+ghost use Rattle.std.specs.Prelude.{◌≡◌, map, option_map, vec_len, IfOk};
 ghost use Rattle.patch_history.specs.Commands.{command_of};
 ghost use Rattle.patch_shared.specs.Telling.{commands_in};
-ghost use Rattle.patch_disks.specs.Answering.{call_of};
-ghost use Rattle.patch_files.specs.Serving.{commands_by, jobs_by};
+ghost use Rattle.patch_files.specs.Serving.{command_on, commands_by, jobs_by};
 
 use patch_commands::{CommandLine, laid_out};
 use patch_history::Command;
@@ -16,11 +15,11 @@ fn copy_bytes(alloc: Global, bytes: &Bytes) -> Result<Bytes, OutOfMemory>
     Ok(Bytes::from_vec(Vec::from_slice(alloc, bytes.as_slice())?))
 }
 
-/// The command that a line asks for, its value laid out.
-fn command_on(alloc: Global, line: &CommandLine) -> Result<Command, OutOfMemory>
-    ensures { IfOk result (λ command. command_of command ≡ (call_of line.now).1) }
+/// The command that a line asks for, its value laid out, where it asks for one.
+fn command_on(alloc: Global, line: &CommandLine) -> Result<Option<Command>, OutOfMemory>
+    ensures { IfOk result (λ command. option_map command_of command ≡ command_on line.now) }
 {
-    Ok(match line {
+    Ok(Some(match line {
         CommandLine::Put {
             key,
             piece,
@@ -46,10 +45,12 @@ fn command_on(alloc: Global, line: &CommandLine) -> Result<Command, OutOfMemory>
             on: *on,
         },
         CommandLine::Close { group, .. } => Command::CloseGroup { group: *group },
-        CommandLine::Pending { group, .. } | CommandLine::Sync { group, .. } => {
-            Command::Pending { group: *group }
-        }
-    })
+        CommandLine::Pending { group, .. } => Command::Pending { group: *group },
+        CommandLine::Sync { group, .. } => match group {
+            Some(group) => Command::Pending { group: *group },
+            None => return Ok(None),
+        },
+    }))
 }
 
 /// The commands of one writer, in the order of its lines.
@@ -59,7 +60,9 @@ fn job_of(alloc: Global, lines: &[CommandLine], writer: u32) -> Result<Vec<Comma
     let mut job = Vec::new(alloc);
     for line in lines {
         if line.writer().0 as u32 == writer {
-            job.push(command_on(alloc, line)?)?;
+            if let Some(command) = command_on(alloc, line)? {
+                job.push(command)?;
+            }
         }
     }
     Ok(job)

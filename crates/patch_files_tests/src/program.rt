@@ -73,8 +73,20 @@ const HELD: &str = "entry 6b 2\nextent 0 0 38 19\nextent 1 0 0 0\nclean\n";
 
 /// Commands on one file, in their order.
 static ROWS_OF_FILES: [Row; 24] = [
-    Row("fstch check patch_tool_disk", "", 4, "fault Disk\n", ""),
-    Row("fstch run patch_tool_disk", PUT, 4, "fault Disk\n", ""),
+    Row(
+        "fstch check patch_tool_disk",
+        "",
+        4,
+        "fault Disk\n",
+        "fstch: patch_tool_disk: there is no such file\n",
+    ),
+    Row(
+        "fstch run patch_tool_disk",
+        PUT,
+        4,
+        "fault Disk\n",
+        "fstch: patch_tool_disk: there is no such file\n",
+    ),
     Row(
         "fstch make patch_tool_disk --index 1",
         "",
@@ -109,7 +121,7 @@ static ROWS_OF_FILES: [Row; 24] = [
         "",
         2,
         "fault Geometry\n",
-        "",
+        "fstch: this makes 4099 blocks, 4096 at most\n",
     ),
     Row(
         "fstch make patch_tool_disk --index 1 --extents 2",
@@ -123,7 +135,7 @@ static ROWS_OF_FILES: [Row; 24] = [
         "",
         4,
         "fault Disk\n",
-        "",
+        "fstch: patch_tool_disk: it is there already\n",
     ),
     Row(
         "fstch run patch_tool_disk --writers 0",
@@ -220,6 +232,7 @@ fn words_of(rt: &impl Abort, alloc: Global, text: &str) -> Vec<String> {
 fn expect_run<F: FileExt + OpenFile + Drop + Send, H: Files<File = F> + Threads + Wait + Sync>(
     rt: &impl Abort,
     files: &H,
+    notes: &Notes,
     alloc: Global,
     words: io::Result<Vec<String>>,
     row: &Row,
@@ -229,6 +242,7 @@ fn expect_run<F: FileExt + OpenFile + Drop + Send, H: Files<File = F> + Threads 
     let mut stream = Errors {
         stream: &mut errors,
         is_terminal: false,
+        notes,
     };
     let ended = run(
         files,
@@ -257,23 +271,24 @@ fn expect_run<F: FileExt + OpenFile + Drop + Send, H: Files<File = F> + Threads 
 fn expect_each<F: FileExt + OpenFile + Drop + Send, H: Files<File = F> + Threads + Wait + Sync>(
     rt: &impl Abort,
     files: &H,
+    notes: &Notes,
     alloc: Global,
     rows: &[Row],
 ) {
     for row in rows {
-        expect_run(rt, files, alloc, Ok(words_of(rt, alloc, row.0)), row);
+        expect_run(rt, files, notes, alloc, Ok(words_of(rt, alloc, row.0)), row);
     }
 }
 
 #[test]
 fn runs_end_as_they_should(rt: HostRuntime) {
-    expect_each(&rt, &rt, rt.alloc(), &ROWS);
+    expect_each(&rt, &rt, &Notes::new(), rt.alloc(), &ROWS);
 }
 
 #[test]
 fn a_store_is_made_run_checked_and_upgraded(rt: HostRuntime) {
     let _old = fs::remove_file(&rt, "patch_tool_disk");
-    expect_each(&rt, &rt, rt.alloc(), &ROWS_OF_FILES);
+    expect_each(&rt, &rt, &Notes::new(), rt.alloc(), &ROWS_OF_FILES);
     fs::remove_file(&rt, "patch_tool_disk").expect(&rt, "a file that is there");
 }
 
@@ -285,17 +300,47 @@ static TO_BE_LOCKED: [Row; 1] = [Row(
     "",
 )];
 
+static TO_BE_READ: [Row; 1] = [Row(
+    "fstch make patch_read_disk --index 1 --extents 2",
+    "",
+    0,
+    "made 35\n",
+    "",
+)];
+
+const USED: &str = "fstch: the file is in use\n";
+
 static IN_USE: [Row; 4] = [
-    Row("fstch check patch_locked_disk", "", 4, "fault Disk\n", ""),
-    Row("fstch run patch_locked_disk", PUT, 4, "fault Disk\n", ""),
+    Row("fstch check patch_locked_disk", "", 4, "fault Disk\n", USED),
+    Row("fstch run patch_locked_disk", PUT, 4, "fault Disk\n", USED),
     Row(
         "fstch run patch_locked_disk --writers 2",
         PUT,
         4,
         "fault Disk\n",
-        "",
+        USED,
     ),
-    Row("fstch upgrade patch_locked_disk", "", 4, "fault Disk\n", ""),
+    Row(
+        "fstch upgrade patch_locked_disk",
+        "",
+        4,
+        "fault Disk\n",
+        USED,
+    ),
+];
+
+/// What may be done while another reads the file.
+static BESIDE_A_READER: [Row; 1] = [Row(
+    "fstch check patch_read_disk",
+    "",
+    0,
+    "extent 0 0 0 0\nextent 1 0 0 0\nclean\n",
+    "",
+)];
+
+static NOT_BESIDE_A_READER: [Row; 2] = [
+    Row("fstch run patch_read_disk", PUT, 4, "fault Disk\n", USED),
+    Row("fstch upgrade patch_read_disk", "", 4, "fault Disk\n", USED),
 ];
 
 static LET_GO: [Row; 2] = [
@@ -309,17 +354,149 @@ fn a_file_in_use_is_refused(rt: HostRuntime) {
     let _old = fs::remove_file(&rt, path);
     let notes = Notes::new();
     let files = LockedFiles::new(&rt, &notes);
-    expect_each(&rt, &files, rt.alloc(), &TO_BE_LOCKED);
+    expect_each(&rt, &files, &notes, rt.alloc(), &TO_BE_LOCKED);
     assert!(rt; !notes.has_met_lock());
+    let held = OpenOptions::new()
+        .read(true)
+        .write(true)
+        .open(&files, path)
+        .expect(&rt, "a file that is opened");
+    expect_each(&rt, &files, &notes, rt.alloc(), &IN_USE);
+    assert!(rt; notes.has_met_lock());
+    assert!(rt; !notes.has_failed_sync());
+    drop(held);
+    expect_each(&rt, &rt, &Notes::new(), rt.alloc(), &LET_GO);
+    fs::remove_file(&rt, path).expect(&rt, "a file that is there");
+}
+
+#[test]
+fn a_file_that_is_read_is_checked_and_not_run_on(rt: HostRuntime) {
+    let path = "patch_read_disk";
+    let _old = fs::remove_file(&rt, path);
+    let notes = Notes::new();
+    let files = LockedFiles::new(&rt, &notes);
+    expect_each(&rt, &files, &notes, rt.alloc(), &TO_BE_READ);
     let held = OpenOptions::new()
         .read(true)
         .open(&files, path)
         .expect(&rt, "a file that is opened");
-    expect_each(&rt, &files, rt.alloc(), &IN_USE);
+    expect_each(&rt, &files, &notes, rt.alloc(), &BESIDE_A_READER);
+    assert!(rt; !notes.has_met_lock());
+    expect_each(&rt, &files, &notes, rt.alloc(), &NOT_BESIDE_A_READER);
     assert!(rt; notes.has_met_lock());
-    assert!(rt; !notes.has_failed_sync());
     drop(held);
-    expect_each(&rt, &files, rt.alloc(), &LET_GO);
+    fs::remove_file(&rt, path).expect(&rt, "a file that is there");
+}
+
+const MISSING: &str = "fstch: patch_no_disk: there is no such file\n";
+
+const A_DIRECTORY: &str = "fstch: .: it is a directory\n";
+
+/// Commands on files that the system refuses, and why.
+static REFUSED: [Row; 9] = [
+    Row("fstch check patch_no_disk", "", 4, "fault Disk\n", MISSING),
+    Row("fstch run patch_no_disk", PUT, 4, "fault Disk\n", MISSING),
+    Row(
+        "fstch run patch_no_disk --writers 2",
+        PUT,
+        4,
+        "fault Disk\n",
+        MISSING,
+    ),
+    Row(
+        "fstch upgrade patch_no_disk",
+        "",
+        4,
+        "fault Disk\n",
+        MISSING,
+    ),
+    Row("fstch check .", "", 4, "fault Disk\n", A_DIRECTORY),
+    Row("fstch run .", PUT, 4, "fault Disk\n", A_DIRECTORY),
+    Row(
+        "fstch make . --index 1 --extents 2",
+        "",
+        4,
+        "fault Disk\n",
+        "fstch: .: it is there already\n",
+    ),
+    Row(
+        "fstch make patch_no_folder/disk --index 1 --extents 2",
+        "",
+        4,
+        "fault Disk\n",
+        "fstch: patch_no_folder/disk: there is no such directory\n",
+    ),
+    Row(
+        "fstch check patch_no_folder/disk",
+        "",
+        4,
+        "fault Disk\n",
+        "fstch: patch_no_folder/disk: there is no such file\n",
+    ),
+];
+
+#[test]
+fn a_fault_of_a_file_says_why(rt: HostRuntime) {
+    let notes = Notes::new();
+    let files = LockedFiles::new(&rt, &notes);
+    expect_each(&rt, &files, &notes, rt.alloc(), &REFUSED);
+}
+
+const TO_SPOIL: &str = r#"{"op":"put","key":"k","hex":"0102"}
+{"op":"put","key":"l","hex":"03"}"#;
+
+static SPOILT: [Row; 3] = [
+    Row(
+        "fstch make patch_spoilt_disk --index 1 --extents 2",
+        "",
+        0,
+        "made 35\n",
+        "",
+    ),
+    Row("fstch run patch_spoilt_disk", TO_SPOIL, 0, "ok\nok\n", ""),
+    Row(
+        "fstch check patch_spoilt_disk",
+        "",
+        0,
+        "entry 6b 2\nentry 6c 1\nextent 0 0 37 37\nextent 1 0 0 0\nclean\n",
+        "",
+    ),
+];
+
+static FOUND: [Row; 2] = [
+    Row(
+        "fstch check patch_spoilt_disk",
+        "",
+        4,
+        "fault BadFrame 0\n",
+        "fstch: slot 0: BadFrame: key 6b can't be read\nfstch: key 6c can be read, length 1\n",
+    ),
+    // Nothing is said of a run.
+    Row(
+        "fstch run patch_spoilt_disk",
+        "",
+        4,
+        "fault BadFrame 0\n",
+        "",
+    ),
+];
+
+/// Where the key of the first frame is on a disk of one index block.
+const FIRST_KEY: u64 = 3 * 4096 + 12;
+
+#[test]
+fn a_check_goes_on_behind_a_slot_that_is_wrong(rt: HostRuntime) {
+    let path = "patch_spoilt_disk";
+    let _old = fs::remove_file(&rt, path);
+    expect_each(&rt, &rt, &Notes::new(), rt.alloc(), &SPOILT);
+    let file = OpenOptions::new()
+        .write(true)
+        .open(&rt, path)
+        .expect(&rt, "a file that is opened");
+    file.write_all_at(b"x", FIRST_KEY)
+        .expect(&rt, "a byte that is written");
+    drop(file);
+    expect_each(&rt, &rt, &Notes::new(), rt.alloc(), &FOUND);
     fs::remove_file(&rt, path).expect(&rt, "a file that is there");
 }
 
@@ -355,7 +532,7 @@ const ON_THREADS: &str = "fstch run patch_ticked_disk --writers 2";
 
 const TWICE_SHOWN: &str = "\rfstch: line 1000 of 2500\rfstch: line 2000 of 2500\r\x1b[K";
 
-static TICKINGS: [Ticking; 7] = [
+static TICKINGS: [Ticking; 12] = [
     Ticking(RUN, 999, true, usize::MAX, 0, ""),
     Ticking(
         RUN,
@@ -372,8 +549,28 @@ static TICKINGS: [Ticking; 7] = [
     // Of writers on threads nothing is shown.
     Ticking(ON_THREADS, 2_500, true, usize::MAX, 0, ""),
     // A run that stops clears the line.
-    Ticking(RUN, 2_500, true, 0, 4, "\rfstch: line 1000 of 2500\r\x1b[K"),
+    Ticking(RUN, 2_500, true, 0, 4, STOPPED_SHOWN),
+    // What the file has is told where answers can't be written: behind the end of the run, and before.
+    Ticking(RUN, 999, false, 0, 4, ENDED),
+    Ticking(RUN, 2_500, false, 0, 4, STOPPED),
+    Ticking(ON_THREADS, 999, false, 0, 4, ENDED_ON_THREADS),
+    Ticking("fstch check patch_ticked_disk", 0, false, 0, 4, UNWRITTEN),
+    Ticking("fstch replay", 0, false, 0, 0, ""),
 ];
+
+const UNWRITTEN: &str = "fstch: standard output can't be written\n";
+
+const ENDED: &str =
+    "fstch: standard output can't be written\nfstch: patch_ticked_disk has all that the script changed\n";
+
+const ENDED_ON_THREADS: &str =
+    "fstch: standard output can't be written\nfstch: what patch_ticked_disk has is told by fstch check patch_ticked_disk\n";
+
+const STOPPED: &str =
+    "fstch: standard output can't be written\nfstch: patch_ticked_disk has what the script changed before the last sync that was done, and maybe more\n";
+
+const STOPPED_SHOWN: &str =
+    "\rfstch: line 1000 of 2500\r\x1b[Kfstch: standard output can't be written\nfstch: patch_ticked_disk has what the script changed before the last sync that was done, and maybe more\n";
 
 fn script_of(rt: &impl Abort, alloc: Global, lines: usize) -> String {
     let mut script = String::new(alloc);
@@ -393,10 +590,11 @@ fn expect_ticking<F: FileExt + OpenFile + Drop + Send, H: Files<File = F> + Thre
 ) {
     let Ticking(name, lines, is_terminal, bytes, status, said) = *row;
     let script = script_of(rt, alloc, lines);
-    let mut errors = Vec::new(alloc);
+    let (mut errors, notes) = (Vec::new(alloc), Notes::new());
     let mut stream = Errors {
         stream: &mut errors,
         is_terminal,
+        notes: &notes,
     };
     let mut out = Narrow { left: bytes };
     let words = Ok(words_of(rt, alloc, name));
@@ -428,7 +626,7 @@ fn how_far_a_run_is_stands_at_a_terminal_alone(rt: HostRuntime) {
         "made 35\n",
         "",
     );
-    expect_each(&rt, &rt, rt.alloc(), &[made]);
+    expect_each(&rt, &rt, &Notes::new(), rt.alloc(), &[made]);
     for row in &TICKINGS {
         expect_ticking(&rt, &rt, rt.alloc(), row);
     }
@@ -471,11 +669,14 @@ fn an_argument_that_is_no_text_is_misuse(rt: HostRuntime) {
         "",
         "fstch: an argument is not UTF-8 text\n",
     );
-    expect_run(&rt, &rt, rt.alloc(), words(&(NoText, rt.alloc())), &misused);
+    let notes = Notes::new();
+    let no_text = words(&(NoText, rt.alloc()));
+    expect_run(&rt, &rt, &notes, rt.alloc(), no_text, &misused);
     let starved = Row("no memory", "", 5, "fault OutOfMemory\n", "");
     expect_run(
         &rt,
         &rt,
+        &notes,
         rt.alloc(),
         Err(io::Error::from(AllocError)),
         &starved,

@@ -3,8 +3,12 @@
 
 mod arguments;
 mod locking;
+mod reading_files;
 mod running;
+mod saying;
 
 pub use arguments::words;
-pub use locking::{LockedFile, LockedFiles, Notes};
-pub use running::{Errors, run};
+pub use locking::{LockedFile, LockedFiles, Notes, Trouble};
+pub use reading_files::ReadFiles;
+pub use running::run;
+pub use saying::Errors;

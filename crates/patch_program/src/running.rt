@@ -7,32 +7,27 @@ ghost use Rattle.patch_program.specs.Ending.{HasStarved, IsExitOf};
 
 use crate::arguments;
 use crate::arguments::Request;
+use crate::reading_files::ReadFiles;
+use crate::saying::{Errors, Left};
 use clap::error::ErrorKind;
 use patch_files::{
-    Barriers, Quiet, Status as FileStatus, Ticker, check_file, make_file, run_file, serve_file,
-    upgrade_file,
+    Barriers, Progress, Quiet, Status as FileStatus, Ticker, check_file, make_file, run_file,
+    serve_file, survey_file, upgrade_file,
 };
 use patch_frame::Geometry;
 use patch_model::MAX_BLOCKS;
-use patch_replay::{BadScript, Output, Sink, Source, Status, replay};
+use patch_replay::{Output, Sink, Source, Status, replay};
 use std::alloc::Global;
 use std::fs::OpenFile;
-use std::io;
 use std::io::{BufWriter, Read, Write};
 use std::os::unix::fs::FileExt;
 use std::rt::Files;
 use std::sync::Wait;
 use std::thread::Threads;
+use std::{fs, io};
 
 /// How the program ends where the command line is wrong, or asks for help.
 const MISUSED: u8 = 2;
-
-/// Standard error, and whether somebody reads it at a terminal.
-#[derive(Drop)]
-pub struct Errors<'a, E> {
-    pub stream: &'a mut E,
-    pub is_terminal: bool,
-}
 
 /// Does what the words of the command line ask for, where they could be read, and answers the exit status.
 pub fn run<F, H, R, W, E>(
@@ -53,7 +48,11 @@ where
     ensures starved { IfErr words (λ e. error_kind e ≢ InvalidData → HasStarved W.contents output.old output.new result) }
 {
     match words {
-        Ok(words) => run_words(files, alloc, words.as_slice(), input, output, errors),
+        Ok(words) => {
+            let status = run_words(files, alloc, words.as_slice(), input, output, errors);
+            errors.say_met();
+            status
+        }
         Err(e) if e.kind() == io::ErrorKind::InvalidData => {
             let _ = errors
                 .stream
@@ -133,7 +132,7 @@ where
     match request {
         Request::Replay { blocks } => run_replay(alloc, script, answers, errors, blocks),
         Request::Make { path, geometry } => {
-            make_file(files, alloc, answers, path, geometry).code()
+            run_make(files, alloc, answers, errors, path, geometry)
         }
         Request::Run {
             path,
@@ -147,14 +146,9 @@ where
         } => run_writers(
             files, alloc, script, answers, errors, path, barriers, writers,
         ),
-        Request::Check { path } => check_file(files, alloc, answers, path).code(),
-        Request::Upgrade { path } => upgrade_file(files, alloc, answers, path).code(),
+        Request::Check { path } => run_check(files, alloc, answers, errors, path),
+        Request::Upgrade { path } => run_upgrade(files, alloc, answers, errors, path),
     }
-}
-
-/// Says in words why no line of a script was answered.
-fn say<E: Write>(errors: &mut Errors<'_, E>, why: BadScript) {
-    let _ = writeln!(errors.stream, "fstch: {why}");
 }
 
 fn run_replay<R: Read, O: Output, E: Write>(
@@ -170,9 +164,152 @@ fn run_replay<R: Read, O: Output, E: Write>(
 {
     let status = replay(alloc, script, answers, blocks);
     if let Status::Unreadable(why) = status {
-        say(errors, why);
+        errors.say_script(why);
+    }
+    if answers.has_failed() {
+        errors.say_output();
     }
     status.code()
+}
+
+/// Says why a command on the file of this name failed, and what is left there where standard output can't be written.
+fn tell<O: Output, E: Write>(
+    answers: &Sink<O>,
+    errors: &mut Errors<'_, E>,
+    path: &str,
+    status: FileStatus,
+    left: Left,
+) {
+    match status {
+        FileStatus::Unreadable(why) => errors.say_script(why),
+        FileStatus::Failed => errors.say_why(path, "file"),
+        _ => {}
+    }
+    if answers.has_failed() {
+        errors.say_left(path, left);
+    }
+}
+
+fn run_make<F, H, O, E>(
+    files: &H,
+    alloc: Global,
+    answers: &mut Sink<O>,
+    errors: &mut Errors<'_, E>,
+    path: &str,
+    geometry: Geometry,
+) -> u8
+where
+    F: FileExt + OpenFile + Drop,
+    H: Files<File = F>,
+    O: Output,
+    E: Write,
+{
+    let was_there = fs::symlink_metadata(files, path).is_ok();
+    let status = make_file(files, alloc, answers, path, geometry);
+    match status {
+        FileStatus::Misused => errors.say_blocks(geometry),
+        FileStatus::Failed if was_there => errors.say_of(path, "it is there already"),
+        FileStatus::Failed => errors.say_why(path, "directory"),
+        _ => {}
+    }
+    if answers.has_failed() {
+        errors.say_left(path, Left::Unknown);
+    }
+    status.code()
+}
+
+/// Checks a file that is opened to be read alone, and says what can be read of it where slots of its index are wrong.
+fn run_check<F, H, O, E>(
+    files: &H,
+    alloc: Global,
+    answers: &mut Sink<O>,
+    errors: &mut Errors<'_, E>,
+    path: &str,
+) -> u8
+where
+    F: FileExt + OpenFile + Drop,
+    H: Files<File = F>,
+    O: Output,
+    E: Write,
+{
+    let files = ReadFiles::new(files, errors.notes);
+    let status = check_file(&files, alloc, answers, path);
+    if status == FileStatus::Failed {
+        errors.say_why(path, "file");
+        if let Ok(survey) = survey_file(&files, alloc, path) {
+            errors.say_survey(alloc, &survey);
+        }
+    }
+    if answers.has_failed() {
+        errors.say_output();
+    }
+    status.code()
+}
+
+fn run_upgrade<F, H, O, E>(
+    files: &H,
+    alloc: Global,
+    answers: &mut Sink<O>,
+    errors: &mut Errors<'_, E>,
+    path: &str,
+) -> u8
+where
+    F: FileExt + OpenFile + Drop,
+    H: Files<File = F>,
+    O: Output,
+    E: Write,
+{
+    let status = upgrade_file(files, alloc, answers, path);
+    tell(answers, errors, path, status, Left::Unknown);
+    status.code()
+}
+
+/// Somebody who is told how far a script is, and a note of how it ended.
+#[derive(Drop)]
+struct Watch<P> {
+    inner: P,
+    is_saved: bool,
+}
+
+impl<P: Progress> Progress for Watch<P> {
+    fn answered(&mut self, lines: usize, all: usize) {
+        self.inner.answered(lines, all);
+    }
+
+    fn end(&mut self, is_saved: bool) {
+        self.is_saved = is_saved;
+        self.inner.end(is_saved);
+    }
+}
+
+/// Runs a script, and answers whether all that it changed is in the file.
+fn run_watched<F, H, R, O, P>(
+    files: &H,
+    alloc: Global,
+    script: &mut Source<R>,
+    answers: &mut Sink<O>,
+    path: &str,
+    barriers: Barriers,
+    inner: P,
+) -> (FileStatus, Left)
+where
+    F: FileExt + OpenFile + Drop,
+    H: Files<File = F>,
+    R: Read,
+    O: Output,
+    P: Progress + Drop,
+{
+    let mut watch = Watch {
+        inner,
+        is_saved: false,
+    };
+    let status = run_file(files, alloc, script, answers, path, barriers, &mut watch);
+    let left = if watch.is_saved {
+        Left::All
+    } else {
+        Left::Synced
+    };
+    (status, left)
 }
 
 fn run_script<F, H, R, O, E>(
@@ -191,15 +328,13 @@ where
     O: Output,
     E: Write,
 {
-    let status = if errors.is_terminal {
-        let mut ticker = Ticker::new(&mut *errors.stream);
-        run_file(files, alloc, script, answers, path, barriers, &mut ticker)
+    let (status, left) = if errors.is_terminal {
+        let ticker = Ticker::new(&mut *errors.stream);
+        run_watched(files, alloc, script, answers, path, barriers, ticker)
     } else {
-        run_file(files, alloc, script, answers, path, barriers, &mut Quiet)
+        run_watched(files, alloc, script, answers, path, barriers, Quiet)
     };
-    if let FileStatus::Unreadable(why) = status {
-        say(errors, why);
-    }
+    tell(answers, errors, path, status, left);
     status.code()
 }
 
@@ -222,9 +357,7 @@ where
     requires { AreWriters writers }
 {
     let status = serve_file(files, alloc, script, answers, path, barriers, writers);
-    if let FileStatus::Unreadable(why) = status {
-        say(errors, why);
-    }
+    tell(answers, errors, path, status, Left::Unknown);
     status.code()
 }
 

@@ -1,5 +1,5 @@
 -- The fields of a line's object: what each kind of value is, and where a name may be missing.
-use Rattle.std.specs.Prelude.{ℕ, ◌^◌, ◌∷◌, ◌++◌, [], List, Option, Some, None, nat_lt, nat_le, if◌then◌else◌}
+use Rattle.std.specs.Prelude.{ℕ, ◌^◌, ◌∷◌, ◌++◌, [], List, Option, Some, None, option_map, nat_lt, nat_le, if◌then◌else◌}
 use Rattle.std.specs.Result.{result_ok}
 use Rattle.patch_model.specs.declared.limits.TheConstants.{MAX_WRITER}
 use Rattle.serde_json.specs.Data.{Data, Items, no_items, item}
@@ -46,6 +46,10 @@ given kind default (Some d) = kind d
 -- a field that may be missing
 abbrev pub optional : {A : Type 0} → (Data → Option A) → A → List ℕ → Data → Option A
 optional kind default name line = given kind default (get name line)
+
+-- the value of a field that may be missing, where it is there
+abbrev pub if_there : {A : Type 0} → (Data → Option A) → List ℕ → Data → Option (Option A)
+if_there kind name line = optional (λ d. option_map Some (kind d)) None name line
 
 -- what a writer's number may be
 abbrev pub writer_number : Data → Option ℕ

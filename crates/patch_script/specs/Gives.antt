@@ -1,7 +1,7 @@
 -- What a reader of the code answers, beside what a definition reads.
 use Rattle.std.specs.Prelude.{◌≡◌, Option, Some, None, Result, Ok, Err}
-use Rattle.patch_script.specs.declared.fields.LineError.{LineError}
-use Rattle.patch_script.specs.declared.fields.LineError.TheVariants.{Unreadable, OutOfMemory}
+use Rattle.patch_script.specs.declared.line_error.LineError.{LineError}
+use Rattle.patch_script.specs.declared.line_error.LineError.TheVariants.{Unreadable, OutOfMemory}
 
 -- unreadable where nothing is read, and no memory at any time
 abbrev pub Fails : {A : Type 0} → LineError → Option A → Type 0

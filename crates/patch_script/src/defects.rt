@@ -89,9 +89,15 @@ impl Display for Name {
 /// What is wrong with a line.
 #[derive(Clone, Copy, Debug, PartialEq, Eq, Error)]
 pub enum Defect {
-    /// The line is no JSON text, or one that nests deeper than the reader of JSON goes.
-    #[error("not JSON, or nested deeper than 127 levels")]
-    NotJson,
+    /// The line is no JSON text, or one that nests deeper than the reader of JSON goes. It is read up to this byte, counted from 1.
+    #[error("not JSON at column {column}, or nested deeper than 127 levels")]
+    NotJson { column: usize },
+    /// The line begins with the mark of UTF-8 that some editors write in front of a text.
+    #[error("it begins with a byte order mark, which is no JSON")]
+    ByteOrderMark,
+    /// Each byte of the line's text stands beside a zero.
+    #[error("it looks like UTF-16, and a script is UTF-8")]
+    Utf16,
     #[error("not a JSON object")]
     NotAnObject,
     /// What has to be there isn't.

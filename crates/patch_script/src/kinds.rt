@@ -7,7 +7,7 @@ ghost use Rattle.serde_json.specs.Data.{Data};
 ghost use Rattle.serde_json.specs.View.{view};
 
 use crate::defects::Defect;
-use crate::fields::{LineError, op};
+use crate::line_error::LineError;
 use crate::objects::Object;
 use crate::plain::read_plain_object;
 use json::Scratch;
@@ -21,24 +21,8 @@ const TREES: usize = 7;
 /// The bytes of a line from which on the room that plain lines are read in isn't kept beside its tree, which takes as much anew.
 const LONG: usize = 16_384;
 
-/// A reader of lines of one kind. Each is a JSON object with an op, which is a text.
-pub trait LineReader {
-    /// What a line asks for.
-    type Line: Drop;
-
-    // What an object with this op asks for, if it is readable.
-    ghost says: { Self → List ℕ → Data → Option Self.Line };
-
-    /// What is wrong with a line whose op isn't one of this kind.
-    const UNKNOWN_OP: Defect;
-
-    /// What the object with this op asks for.
-    fn read(&self, alloc: Global, op: &str, line: &Value) -> Result<Self::Line, LineError>
-        ensures { Gives result (says self.now op.now (view line.now)) };
-}
-
-/// A reader of lines of one kind, as [`LineReader`] is one, to which the object of each is given as it was read, mostly without
-/// a tree of values.
+/// A reader of lines of one kind. Each is a JSON object with an op, which is a text. It is given as it was read, mostly without a tree of
+/// values.
 pub trait ObjectReader {
     /// What a line asks for.
     type Line: Drop;
@@ -54,13 +38,13 @@ pub trait ObjectReader {
         ensures { Gives result (says self.now op.now (object_data line.now)) };
 }
 
-fn read_tree<K: LineReader>(alloc: Global, reader: &K, line: &Value) -> Result<K::Line, LineError>
-    ensures { Gives result (object_by (K.says reader.now) (view line.now)) }
-{
-    if !line.is_object() {
-        return Err(LineError::Unreadable(Defect::NotAnObject));
+/// Why bytes that are JSON up to this column alone are none.
+fn not_json(bytes: &[u8], column: usize) -> Defect {
+    match bytes {
+        [0xef, 0xbb, 0xbf, ..] => Defect::ByteOrderMark,
+        [0xff, 0xfe, ..] | [0xfe, 0xff, ..] | [0, ..] | [_, 0, ..] => Defect::Utf16,
+        _ => Defect::NotJson { column },
     }
-    reader.read(alloc, op(line, K::UNKNOWN_OP)?, line)
 }
 
 /// The JSON value of some bytes.
@@ -75,7 +59,7 @@ fn read_json(alloc: Global, bytes: &[u8]) -> Result<Value, LineError>
             if e.is_memory() {
                 Err(LineError::OutOfMemory)
             } else {
-                Err(LineError::Unreadable(Defect::NotJson))
+                Err(LineError::Unreadable(not_json(bytes, e.column())))
             }
         }
     }
@@ -87,23 +71,6 @@ fn is_blank_line(bytes: &[u8]) -> bool
     bytes
         .iter()
         .all(|b| *b == b' ' || *b == b'\t' || *b == b'\r')
-}
-
-/// What is on a line, nothing on a blank one.
-pub fn read_line<K: LineReader>(
-    alloc: Global,
-    reader: &K,
-    bytes: &[u8],
-) -> Result<Option<K::Line>, LineError>
-    ensures { Gives result (line_by (K.says reader.now) bytes.now) }
-{
-    if is_blank_line(bytes) {
-        return Ok(None);
-    }
-    let value = read_json(alloc, bytes)?;
-    let line = read_tree(alloc, reader, &value);
-    drop(value);
-    Ok(Some(line?))
 }
 
 fn read_object<K: ObjectReader>(

@@ -5,9 +5,9 @@
 mod answers;
 mod defects;
 mod digits;
-pub mod fields;
 mod forms;
 mod kinds;
+mod line_error;
 mod lines;
 mod objects;
 mod plain;
@@ -17,9 +17,9 @@ mod scripts;
 pub use answers::{Answer, answer_line, push_hex};
 pub use defects::{Defect, Name};
 pub use forms::{Line, Span};
-pub use kinds::{LineReader, ObjectReader};
+pub use kinds::ObjectReader;
+pub use line_error::LineError;
 pub use objects::Object;
 pub use scripts::{
-    MAX_BYTES, MAX_LINES, ScriptError, limits_are_numbers, passes_limit, read_lines, read_objects,
-    read_script,
+    MAX_BYTES, MAX_LINES, ScriptError, limits_are_numbers, passes_limit, read_objects, read_script,
 };

@@ -2,7 +2,7 @@
 //! such numbers, as those of nearly every line are. Any other is a tree of JSON values.
 ghost use Rattle.std.specs.Prelude.{IfOk, IfErr, OnOk, false, ◌≡◌, ◌≤◌, ◌++◌, ◌∷◌, length, [], Some, option_map};
 ghost use Rattle.patch_script.specs.Gives.{Gives, Fails};
-ghost use Rattle.patch_script.specs.Field.{whole, wholes, wholes_of, positive, writer_number, hex_bytes, needed, optional};
+ghost use Rattle.patch_script.specs.Field.{whole, wholes, wholes_of, positive, writer_number, hex_bytes, needed, optional, if_there};
 ghost use Rattle.patch_script.specs.Name.{name_of};
 ghost use Rattle.patch_script.specs.Object.{numbers_data, plain_data, entry_data, row_data, object_data};
 ghost use Rattle.patch_script.specs.declared.defects.Name.TheVariants.{Op, Writer};
@@ -12,7 +12,7 @@ ghost use Rattle.std.specs.Result.{result_ok};
 ghost use Rattle.hex.specs.Hex.{decode_of};
 
 use crate::defects::{Defect, Name};
-use crate::fields::{LineError, missing, wrong};
+use crate::line_error::{LineError, missing, wrong};
 use patch_model::{Bytes, Items, MAX_WRITER, Numbers, PatchNo, WriterNo};
 use serde_json::Value;
 use std::alloc::Global;
@@ -245,6 +245,16 @@ impl<'a> Object<'a> {
         match found_at(self, name) {
             Some(found) => as_whole(found, name),
             None => Ok(default),
+        }
+    }
+
+    /// A number, where there is something of its name.
+    pub fn number_if_there(&self, name: Name) -> Result<Option<u32>, LineError>
+        ensures { Gives result (if_there whole (name_of name) (object_data self.now)) }
+    {
+        match found_at(self, name) {
+            Some(found) => Ok(Some(as_whole(found, name)?)),
+            None => Ok(None),
         }
     }
 

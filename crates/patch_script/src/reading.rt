@@ -4,9 +4,9 @@ ghost use Rattle.patch_script.specs.Object.{object_data};
 ghost use Rattle.patch_script.specs.Form.{patch_line, merge_line, view_line, engage_line, disengage_line, depend_line, span_of, group_op_line, op_line};
 
 use crate::defects::{Defect, Name};
-use crate::fields::{LineError, wrong};
 use crate::forms::{Line, Span};
 use crate::kinds::ObjectReader;
+use crate::line_error::{LineError, wrong};
 use crate::objects::Object;
 use patch_model::{BlockNo, GroupNo, PatchNo, Undo};
 use std::alloc::Global;

@@ -5,9 +5,9 @@ ghost use Rattle.patch_script.specs.declared.scripts.TheConstants.{MAX_BYTES, MA
 ghost use Rattle.patch_script.specs.Script.{script_of, is_too_long};
 
 use crate::defects::Defect;
-use crate::fields::LineError;
 use crate::forms::Line;
-use crate::kinds::{LineReader, ObjectReader, read_line, read_object_line};
+use crate::kinds::{ObjectReader, read_object_line};
+use crate::line_error::LineError;
 use crate::lines::Lines;
 use crate::reading::ReplayLines;
 use json::Scratch;
@@ -38,44 +38,6 @@ pub fn passes_limit(text: &[u8]) -> bool
     ensures { result ≡ is_too_long text.now }
 {
     text.len() > MAX_BYTES || Lines::of(text).count() > MAX_LINES
-}
-
-/// What the lines of a script ask for as this reader reads them, blank ones nothing.
-pub fn read_lines<K: LineReader>(
-    alloc: Global,
-    reader: &K,
-    text: &[u8],
-) -> Result<Vec<K::Line>, ScriptError>
-    requires { length (lines_of text.now) ≤ MAX_LINES }
-    ensures { Reads result (lines_by (K.says reader.now) text.now) }
-{
-    let mut lines = Vec::new(alloc);
-    let mut number = 0;
-    for bytes in Lines::of(text) {
-        number += 1;
-        match read_line(alloc, reader, bytes) {
-            Ok(None) => {}
-            Ok(Some(line)) => {
-                if let Err(left) = lines.push(line) {
-                    drop(left);
-                    drop(lines);
-                    return Err(ScriptError::OutOfMemory);
-                }
-            }
-            Err(LineError::Unreadable(defect)) => {
-                drop(lines);
-                return Err(ScriptError::BadLine {
-                    line: number,
-                    defect,
-                });
-            }
-            Err(LineError::OutOfMemory) => {
-                drop(lines);
-                return Err(ScriptError::OutOfMemory);
-            }
-        }
-    }
-    Ok(lines)
 }
 
 /// What the lines of a script ask for as this reader reads their objects, blank ones nothing.

@@ -2,18 +2,8 @@
 #![tactic(auto)]
 
 #[cfg(test)]
-mod agreeing;
-#[cfg(test)]
-mod among;
-#[cfg(test)]
 mod expecting;
-#[cfg(test)]
-mod old_fields;
 #[cfg(test)]
 mod rows;
 #[cfg(test)]
 mod tests;
-#[cfg(test)]
-mod tree_fields;
-#[cfg(test)]
-mod tree_lines;

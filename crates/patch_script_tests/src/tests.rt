@@ -307,8 +307,23 @@ const OPS: &str =
 const WRITER: &str = "\"writer\" is not a whole number from 0 to 7";
 
 // What is said of an unreadable line.
-const WORDS: [(&str, &str); 25] = [
-    (r#"{"op":"#, "not JSON, or nested deeper than 127 levels"),
+const WORDS: [(&str, &str); 28] = [
+    (
+        r#"{"op":"#,
+        "not JSON at column 6, or nested deeper than 127 levels",
+    ),
+    (
+        r#"{"op":"send","block":0x1}"#,
+        "not JSON at column 22, or nested deeper than 127 levels",
+    ),
+    (
+        "\u{feff}{\"op\":\"send\",\"block\":0}",
+        "it begins with a byte order mark, which is no JSON",
+    ),
+    (
+        "{\0\"\0o\0p\0\"\0:\07\0}\0",
+        "it looks like UTF-16, and a script is UTF-8",
+    ),
     (r#"["op"]"#, "not a JSON object"),
     (r#"{"block":0}"#, "\"op\" is missing"),
     (r#"{"op":"send"}"#, "\"block\" is missing"),
@@ -395,10 +410,25 @@ fn expect_words(rt: &impl Abort, alloc: Global, line: &str, want: &str) -> Resul
     Ok(())
 }
 
+/// The line with one member more, which isn't plain, so that it is read as a tree of values.
+fn expect_words_in_a_tree(
+    rt: &impl Abort,
+    alloc: Global,
+    line: &str,
+    want: &str,
+) -> Result<(), Fail> {
+    let Some(front) = line.strip_suffix("}") else {
+        return Ok(());
+    };
+    let other = format!(in alloc; "{front},\"other\":{{}}}}")?;
+    expect_words(rt, alloc, other.as_str(), want)
+}
+
 #[test]
 fn says_what_is_wrong(rt: HostRuntime) -> Result<(), Fail> {
     for (line, want) in WORDS.iter() {
         expect_words(&rt, rt.alloc(), *line, *want)?;
+        expect_words_in_a_tree(&rt, rt.alloc(), *line, *want)?;
     }
     Ok(())
 }

@@ -17,11 +17,6 @@ use std::rt::Files;
 use std::sync::Wait;
 use std::thread::Threads;
 
-const AFTER_FAILED_SYNC: &[u8] = b"\
-fstch: a sync of the file failed, so the system may show what the disk doesn't have: have it read anew from the disk, as after a
-fstch: restart, before you open it again
-";
-
 /// Does what the words ask for, and gives its exit status to the system.
 fn end_of<F, H, R, W, E>(
     files: &H,
@@ -42,16 +37,6 @@ where
     ExitCode::from(run(files, alloc, words, input, output, errors))
 }
 
-/// Says what was met, where that isn't seen by the answers.
-fn tell<E: Write>(errors: &mut E, notes: &Notes) {
-    if notes.has_met_lock() {
-        let _ = errors.write_all(b"fstch: the file is in use\n");
-    }
-    if notes.has_failed_sync() {
-        let _ = errors.write_all(AFTER_FAILED_SYNC);
-    }
-}
-
 fn main(rt: HostRuntime) -> ExitCode {
     let (mut output, mut errors) = (rt.stdout(), rt.stderr());
     let is_terminal = errors.is_terminal();
@@ -61,15 +46,14 @@ fn main(rt: HostRuntime) -> ExitCode {
     let mut errors = Errors {
         stream: &mut errors,
         is_terminal,
+        notes: &notes,
     };
-    let ended = end_of(
+    end_of(
         &files,
         rt.alloc(),
         words,
         rt.reader(),
         &mut output,
         &mut errors,
-    );
-    tell(errors.stream, &notes);
-    ended
+    )
 }

@@ -1,7 +1,9 @@
 //! Files with damaged bytes, and what a check of each writes.
 use super::files::{HELD, LENGTH, MADE, OK, PUT, follow, lay};
 use super::*;
+use patch_files::{BadSlot, Survey, survey_file};
 use patch_model::BLOCK;
+use std::alloc::AllocError;
 use std::fs;
 use std::fs::OpenFile;
 use std::os::unix::fs::FileExt;
@@ -156,4 +158,133 @@ fn a_damaged_file_of_no_entries_is_refused(rt: HostRuntime) {
 #[test]
 fn each_damage_of_a_file_is_told(rt: HostRuntime) {
     expect_row(&rt, &rt, &ONE_PUT);
+}
+
+const THREE: &str = r#"{"op":"put","key":"k","hex":"0102"}
+{"op":"put","key":"l","hex":"03"}
+{"op":"put","key":"m","hex":""}"#;
+
+const THREE_OK: End = End(Status::Done, 0, "ok\nok\nok\n");
+
+// Damages of a file of three keys, and what is found: each slot that is wrong with the key that it names, and each key that can be read
+// with the length of its value. The frames of the keys begin at 0, 19 and 37 of the first extent, and in each the key is the 13th byte.
+static SURVEYS: [(&[Damage], &str); 6] = [
+    (&[], "6b 2\n6c 1\n6d 0\n"),
+    (
+        &[Damage::Changed(BLOCK + SLOT, 2)],
+        "BadSlot 1 ?\n6b 2\n6d 0\n",
+    ),
+    (
+        &[Damage::Changed(3 * BLOCK + 31, 0x78)],
+        "BadFrame 1 6c\n6b 2\n6d 0\n",
+    ),
+    (
+        &[Damage::Repeated(5)],
+        "DuplicateKey 5 6b\n6b 2\n6c 1\n6d 0\n",
+    ),
+    // The extent of the first slot isn't there.
+    (
+        &[Damage::Changed(BLOCK + 3, 9), Damage::Repeated(1)],
+        "BadSlot 0 6b\n6b 2\n6d 0\n",
+    ),
+    (
+        &[
+            Damage::Changed(BLOCK, 7),
+            Damage::Changed(3 * BLOCK + 31, 0x78),
+            Damage::Changed(3 * BLOCK + 49, 0x79),
+            Damage::Repeated(63),
+        ],
+        "BadSlot 0 ?\nBadFrame 1 6c\nBadFrame 2 6d\n6b 2\n",
+    ),
+];
+
+fn push_key(text: &mut String, key: &[u8]) -> Result<(), AllocError> {
+    for byte in key {
+        write!(text, "{byte:02x}")?;
+    }
+    Ok(())
+}
+
+fn push_bad(text: &mut String, bad: &BadSlot) -> Result<(), AllocError> {
+    write!(
+        text,
+        "{} {} ",
+        bad.why.kind.name(),
+        bad.why.number.unwrap_or(0)
+    )?;
+    match &bad.key {
+        Some(key) => push_key(text, key.as_slice())?,
+        None => text.push_str("?")?,
+    }
+    text.push_str("\n")
+}
+
+fn push_survey(text: &mut String, survey: &Survey) -> Result<(), AllocError> {
+    for bad in survey.bad.iter() {
+        push_bad(text, bad)?;
+    }
+    for entry in survey.entries.iter() {
+        push_key(text, entry.key.as_slice())?;
+        writeln!(text, " {}", entry.length)?;
+    }
+    Ok(())
+}
+
+fn expect_survey(
+    rt: &impl Abort,
+    files: &HostRuntime,
+    path: &str,
+    good: &[u8],
+    row: &(&[Damage], &str),
+) -> Result<(), AllocError> {
+    let mut bytes = Vec::from_slice(files.alloc(), good)?;
+    for damage in row.0 {
+        spoil(&mut bytes, good, *damage);
+    }
+    fs::write(files, path, bytes.as_slice()).expect(rt, "a file that is written");
+    let Ok(survey) = survey_file(files, files.alloc(), path) else {
+        panic!(rt; "slots alone are wrong");
+    };
+    let mut text = String::new(files.alloc());
+    push_survey(&mut text, &survey)?;
+    expect_eq(rt, &text.as_str(), &row.1);
+    Ok(())
+}
+
+#[test]
+fn keys_are_found_behind_slots_that_are_wrong(rt: HostRuntime) -> Result<(), Fail> {
+    let path = "patch_files_surveyed";
+    let turns = [(Deed::Make(SMALL), MADE), (Deed::Run(THREE), THREE_OK)];
+    let _old = fs::remove_file(&rt, path);
+    follow(&rt, rt.alloc(), path, &turns);
+    let good = fs::read(&rt, path).expect(&rt, "a file that is read");
+    for row in &SURVEYS {
+        expect_survey(&rt, &rt, path, good.as_slice(), row)?;
+    }
+    fs::remove_file(&rt, path).expect(&rt, "a file that is there");
+    Ok(())
+}
+
+// Where more than slots is wrong, nothing is found.
+#[test]
+fn no_keys_are_found_without_pointers(rt: HostRuntime) {
+    let path = "patch_files_unsurveyed";
+    let _old = fs::remove_file(&rt, path);
+    follow(&rt, rt.alloc(), path, ONE_PUT.turns);
+    let good = fs::read(&rt, path).expect(&rt, "a file that is read");
+    for damage in [
+        Damage::Zeroed(0),
+        Damage::Swapped(2, 3),
+        Damage::Cut(LENGTH - 1),
+        Damage::Cut(34 * BLOCK),
+    ] {
+        let mut bytes = Vec::from_slice(rt.alloc(), good.as_slice()).expect(
+            &rt,
+            "memory for bytes",
+        );
+        spoil(&mut bytes, good.as_slice(), damage);
+        fs::write(&rt, path, bytes.as_slice()).expect(&rt, "a file that is written");
+        assert!(rt; survey_file(&rt, rt.alloc(), path).is_err());
+    }
+    fs::remove_file(&rt, path).expect(&rt, "a file that is there");
 }

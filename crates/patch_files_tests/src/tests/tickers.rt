@@ -15,8 +15,8 @@ fn tick<P: Progress>(ticker: &mut P, lines: usize) {
     for line in 0..lines {
         ticker.answered(line.saturating_add(1), 2_500);
     }
-    ticker.end();
-    ticker.end();
+    ticker.end(true);
+    ticker.end(true);
 }
 
 #[test]
@@ -30,8 +30,15 @@ fn each_thousandth_line_is_shown_and_cleared(rt: HostRuntime) {
     );
 }
 
-/// What somebody hears of a script: how many lines of all are answered, or that it is at its end.
-type News = Option<(usize, usize)>;
+/// What somebody hears of a script.
+#[derive(Clone, Copy, Debug, PartialEq, Eq)]
+enum News {
+    /// So many lines of all are answered.
+    Answered(usize, usize),
+    /// It is at its end, and all is saved.
+    Saved,
+    Stopped,
+}
 
 /// Somebody who notes what is heard.
 #[derive(Drop)]
@@ -57,11 +64,11 @@ impl Listener {
 
 impl Progress for Listener {
     fn answered(&mut self, lines: usize, all: usize) {
-        self.hear(Some((lines, all)));
+        self.hear(News::Answered(lines, all));
     }
 
-    fn end(&mut self) {
-        self.hear(None);
+    fn end(&mut self, is_saved: bool) {
+        self.hear(if is_saved { News::Saved } else { News::Stopped });
     }
 }
 
@@ -72,9 +79,20 @@ const THREE_LINES: &str = r#"{"op":"put","key":"a","hex":"01"}
 
 // How many answers are taken, and what is heard: each line that was answered, and then the end.
 static ROWS: [(u64, &[News]); 3] = [
-    (u64::MAX, &[Some((1, 3)), Some((2, 3)), Some((3, 3)), None]),
-    (2, &[Some((1, 3)), Some((2, 3)), None]),
-    (0, &[None]),
+    (
+        u64::MAX,
+        &[
+            News::Answered(1, 3),
+            News::Answered(2, 3),
+            News::Answered(3, 3),
+            News::Saved,
+        ],
+    ),
+    (
+        2,
+        &[News::Answered(1, 3), News::Answered(2, 3), News::Stopped],
+    ),
+    (0, &[News::Stopped]),
 ];
 
 // Whether the script runs on a device or on a file, the same is heard.

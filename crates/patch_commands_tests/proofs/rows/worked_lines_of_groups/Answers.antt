@@ -44,3 +44,11 @@ returns-clause-depend_on_none c = refl
 pub returns-clause-sync_of_a_large_group : goal.returns-clause-sync_of_a_large_group
 unfolding serde_json_on_literals hex_on_literals is_utf8 chars command_of writer_command group_command depend_line
 returns-clause-sync_of_a_large_group c = refl
+
+pub returns-clause-sync_of_none : goal.returns-clause-sync_of_none
+unfolding serde_json_on_literals hex_on_literals is_utf8 chars command_of writer_command group_command depend_line
+returns-clause-sync_of_none c = refl
+
+pub returns-clause-sync_of_null : goal.returns-clause-sync_of_null
+unfolding serde_json_on_literals hex_on_literals is_utf8 chars command_of writer_command group_command depend_line
+returns-clause-sync_of_null c = refl

@@ -1,10 +1,8 @@
 use Rattle.std.proofs.Common.{◌∙◌, ap, sym}
 use Rattle.std.specs.Prelude.{string_bytes}
-use Rattle.patch_history.specs.Command.{is_refused}
+use Rattle.patch_history.specs.Command.{Pending, is_refused}
 use Rattle.patch_history.specs.Commands.{reply_told}
 use Rattle.patch_commands.specs.Reply.{reply_line}
-use Rattle.patch_commands.specs.declared.commands.CommandLine.TheVariants.{Sync}
-use Rattle.patch_disks.specs.Answering.{call_of}
 use Rattle.patch_disks.proofs.Calling.{not_refused}
 use Rattle.patch_disks.proofs.Coming.{sync_refused, sync_saved, sync_ends}
 use Rattle.patch_disks.proofs.Going.{ends_still}
@@ -28,7 +26,7 @@ returns-in_err-reply_line-clause-safe g c honest h stands = ends_still g.D.Devic
 pub returns-in_err-synced_line-clause-safe : goal.returns-in_err-synced_line-clause-safe
 returns-in_err-synced_line-clause-safe g c honest h stands =
     let called = c.reply_to-reply.ensures h (g.D.Device.contents c.args.device.now) stands in
-    sync_ends g.D.Device c.crashes_join.ensures.joined h (call_of (Sync c.args.writer c.args.group)) _ _ c.args.device.now c.save.new.device called
+    sync_ends g.D.Device c.crashes_join.ensures.joined h (c.args.writer, Pending c.args.group) _ _ c.args.device.now c.save.new.device called
     (c.save.ensures.safe honest _ called.stands)
 
 pub returns : goal.returns
@@ -44,7 +42,7 @@ returns g c = record {
   lasts = λ honest. c.in_ok-save.ensures.lasts honest;
   safe = λ honest h stands.
       let called = c.reply_to-reply.ensures h (g.D.Device.contents c.args.device.now) stands in
-      sync_ends g.D.Device c.crashes_join.ensures.joined h (call_of (Sync c.args.writer c.args.group)) _ _ c.args.device.now c.save.new.device called
+      sync_ends g.D.Device c.crashes_join.ensures.joined h (c.args.writer, Pending c.args.group) _ _ c.args.device.now c.save.new.device called
       (c.save.ensures.safe honest _ called.stands);
   stops = λ honest h stands. tt;
 }
@@ -52,7 +50,7 @@ returns g c = record {
 pub returns-in_err-save-clause-safe : goal.returns-in_err-save-clause-safe
 returns-in_err-save-clause-safe g c honest h stands =
     let called = c.reply_to-reply.ensures h (g.D.Device.contents c.args.device.now) stands in
-    sync_ends g.D.Device c.crashes_join.ensures.joined h (call_of (Sync c.args.writer c.args.group)) _ _ c.args.device.now c.save.new.device called
+    sync_ends g.D.Device c.crashes_join.ensures.joined h (c.args.writer, Pending c.args.group) _ _ c.args.device.now c.save.new.device called
     (c.save.ensures.safe honest _ called.stands)
 
 pub returns-in_err-save-clause-stops : goal.returns-in_err-save-clause-stops

@@ -1,4 +1,4 @@
-use Rattle.std.proofs.Common.{◌≡◌, ◌<◌, false, length, arith, sym, ap, ◌∙◌}
+use Rattle.std.proofs.Common.{◌<◌, false, length, arith, sym, ap, ◌∙◌}
 use Rattle.fast_float.specs.Text.{Parts, scan}
 use Rattle.serde_json.specs.Read.{number_of, number_from}
 use Rattle.patch_script.proofs.Numerals.{number_of_digits}
