@@ -42,7 +42,7 @@
 #include <stdint.h>
 
 /* The version of this interface: 10,000 for each major, 100 for each minor number, 1 for each patch. */
-#define FSTCH_VERSION 300
+#define FSTCH_VERSION 301
 
 #ifdef __cplusplus
 extern "C" {
@@ -145,13 +145,15 @@ enum fstch_answer {
     FSTCH_BUFFER_TOO_SMALL = -4,
     /* The key has no value, or there is no entry of this number. */
     FSTCH_ABSENT = -5,
-    /* Another store, of this program or another, has the file open. */
+    /* Another store, of this program or another, has the file open, and one of the two may change it. */
     FSTCH_IN_USE = -6,
     /* The system didn't let last what was written, and nothing was written behind that; or an earlier sync was refused. What the system
      * shows of the file then may be lost with the power. Close the store and open it again: the open reads what the disk has. */
     FSTCH_NO_SYNC = -7,
     /* The number of a writer is FSTCH_WRITERS or more. */
-    FSTCH_BAD_WRITER = -8
+    FSTCH_BAD_WRITER = -8,
+    /* The store was opened with FSTCH_READ_ONLY. */
+    FSTCH_IS_READ_ONLY = -9
 };
 
 /* Files. */
@@ -178,7 +180,7 @@ enum fstch_answer {
 int32_t fstch_make(const char *path, uint32_t index_blocks, uint32_t extents, uint32_t extent_blocks);
 
 /* Opens the store of a file into a closed fstch_store, and locks the file until it is closed or the program ends. The program fstch
- * takes the same lock. The file is synced, so that what it shows lasts, and then read whole from the disk. An open store takes as much
+ * takes such a lock too. The file is synced, so that what it shows lasts, and then read whole from the disk. An open store takes as much
  * memory as the file has bytes, and more for what is not synced; opening takes twice as much, and a sync as much again as it writes.
  *
  * `slot` is set with FSTCH_BAD_SLOT, FSTCH_BAD_FRAME and FSTCH_DUPLICATE_KEY alone: to the first slot of the index that is wrong. It may be
@@ -193,7 +195,19 @@ int32_t fstch_open(fstch_store *store, const char *path, uint32_t *slot);
  * again whenever the program ends and the system goes on; if the power is cut, or the system stops, during a fstch_sync, it may not. */
 #define FSTCH_NO_BARRIERS 1u
 
-/* As fstch_open, with flags: 0 or FSTCH_NO_BARRIERS. All other bits are 0. */
+/* A flag of fstch_open_with: the file is opened to be read alone. So it may be one that the program has no right to write, or stand on a
+ * read-only file system; and several stores, of one program or of several, may have it open with this flag at once, while none has it open
+ * without: else the one that comes later is answered FSTCH_IN_USE.
+ *
+ * Puts, deletes, reclaims and groups are answered as by any store, and change this one in memory alone. fstch_sync answers
+ * FSTCH_IS_READ_ONLY, and the store goes on.
+ *
+ * The open syncs the file as without the flag. Where the file system is read-only and has no sync (EINVAL), the file is taken as it is. Each
+ * other refusal of the sync is answered FSTCH_DISK: so is that of a file system which became read-only behind a fault of its disk (EROFS),
+ * and may show what the disk hasn't. */
+#define FSTCH_READ_ONLY 2u
+
+/* As fstch_open, with flags: 0, or FSTCH_NO_BARRIERS, FSTCH_READ_ONLY or both. All other bits are 0. */
 int32_t fstch_open_with(fstch_store *store, const char *path, uint32_t flags, uint32_t *slot);
 
 /* Closes a store. It does not sync: what was not synced is lost. The store is FSTCH_CLOSED then, so that a second close is refused and
@@ -210,7 +224,7 @@ bool fstch_is_open(const fstch_store *store);
  * order. From then on the store answers each sync with FSTCH_NO_SYNC: close it and open it again. The open reads what the disk has,
  * and not what the system still shows of a sync that failed.
  *
- * FSTCH_OUT_OF_MEMORY, FSTCH_DEVICE_GAVE_UP, FSTCH_NO_SYNC.
+ * FSTCH_IS_READ_ONLY, FSTCH_OUT_OF_MEMORY, FSTCH_DEVICE_GAVE_UP, FSTCH_NO_SYNC.
  */
 int32_t fstch_sync(fstch_store *store);
 

@@ -9,6 +9,7 @@
 #include <string.h>
 #include <sys/file.h>
 #include <sys/stat.h>
+#include <sys/statvfs.h>
 #include <unistd.h>
 
 enum {
@@ -31,7 +32,7 @@ static bool is_interrupted(long answer) {
 static int open_file(const char *path, int flags) {
     int file;
     do {
-        file = open(path, flags | O_RDWR | O_CLOEXEC | O_NOCTTY, MODE);
+        file = open(path, flags | O_CLOEXEC | O_NOCTTY, MODE);
     } while (is_interrupted(file));
     return file;
 }
@@ -53,10 +54,11 @@ static int above_streams(int file) {
     return above;
 }
 
-static int32_t lock_file(int file) {
+/* Takes this lock of the file: LOCK_EX, which one store has alone, or LOCK_SH, which several may have. */
+static int32_t lock_file(int file, int lock) {
     int answer;
     do {
-        answer = flock(file, LOCK_EX | LOCK_NB);
+        answer = flock(file, lock | LOCK_NB);
     } while (is_interrupted(answer));
     if (answer == 0) {
         return FSTCH_DONE;
@@ -216,7 +218,7 @@ static bool is_taken(const char *path) {
 }
 
 static bool make_in_place(const char *path, uint32_t blocks, const uint8_t *first) {
-    int file = open_file(path, O_CREAT | O_EXCL);
+    int file = open_file(path, O_RDWR | O_CREAT | O_EXCL);
     if (file < 0) {
         return false;
     }
@@ -236,7 +238,7 @@ static int open_beside(char *directory) {
         name[sizeof BESIDE - 1] = (char)('0' + number / 10);
         name[sizeof BESIDE] = (char)('0' + number % 10);
         name[sizeof BESIDE + 1] = 0;
-        file = open_file(directory, O_CREAT | O_EXCL);
+        file = open_file(directory, O_RDWR | O_CREAT | O_EXCL);
         if (file >= 0 || errno != EEXIST) {
             break;
         }
@@ -286,9 +288,34 @@ int32_t fstch_make(const char *path, uint32_t index_blocks, uint32_t extents, ui
     return answer;
 }
 
+/* Opens a file to be read alone. A pipe isn't waited for, and a directory is refused, as it is where it is to be written to. */
+static int open_to_read(const char *path) {
+    struct stat found;
+    int file = open_file(path, O_RDONLY | O_NONBLOCK);
+    if (file >= 0 && fstat(file, &found) == 0 && S_ISDIR(found.st_mode)) {
+        close(file);
+        errno = EISDIR;
+        return -1;
+    }
+    return file;
+}
+
+/* Whether a file was opened to be read alone. */
+static bool is_read_only(int file) {
+    int flags = file < 0 ? -1 : fcntl(file, F_GETFL);
+    return flags >= 0 && (flags & O_ACCMODE) == O_RDONLY;
+}
+
+/* Whether a sync that was refused had nothing to do: the file system is read-only, and has no syncs. One that has some, and refuses this one
+ * as it is read-only now, may show what it couldn't write. */
+static bool is_synced_as_it_is(int file) {
+    struct statvfs found;
+    return errno == EINVAL && fstatvfs(file, &found) == 0 && (found.f_flag & ST_RDONLY) != 0;
+}
+
 /* Lets all that the file shows last, and has it read from the disk: behind a sync that failed the system may show what isn't there. */
 static bool settle_file(int file) {
-    if (!sync_all(file)) {
+    if (!sync_all(file) && !is_synced_as_it_is(file)) {
         return false;
     }
     posix_fadvise(file, 0, 0, POSIX_FADV_DONTNEED); /* (a system that keeps no pages has none to let go) */
@@ -322,11 +349,12 @@ int32_t fstch_open_with(fstch_store *store, const char *path, uint32_t flags, ui
     if (fstch_is_open(store)) {
         return FSTCH_IS_OPEN;
     }
-    int file = above_streams(open_file(path, 0));
+    bool is_to_be_read = (flags & FSTCH_READ_ONLY) != 0;
+    int file = above_streams(is_to_be_read ? open_to_read(path) : open_file(path, O_RDWR));
     if (file < 0) {
         return FSTCH_DISK;
     }
-    int32_t answer = lock_file(file);
+    int32_t answer = lock_file(file, is_to_be_read ? LOCK_SH : LOCK_EX);
     if (answer == FSTCH_DONE) {
         answer = open_store(store, file, (flags & FSTCH_NO_BARRIERS) == 0, slot);
     }
@@ -368,9 +396,13 @@ static int32_t write_tape(fstch_store *store, int file, bool has_barriers) {
 }
 
 int32_t fstch_sync(fstch_store *store) {
+    int file = fstch_core_file(store);
+    if (is_read_only(file)) {
+        return FSTCH_IS_READ_ONLY;
+    }
     int32_t answer = fstch_core_sync(store);
     if (answer == FSTCH_DONE) {
-        answer = write_tape(store, fstch_core_file(store), fstch_core_barriers(store));
+        answer = write_tape(store, file, fstch_core_barriers(store));
     }
     int kept = errno; /* (the core asks for memory) */
     fstch_core_synced(store, answer == FSTCH_DONE);

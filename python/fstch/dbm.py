@@ -41,8 +41,8 @@ def _told() -> Iterator[None]:
 
 
 def open(file: stores.Path, flag: str = "r", mode: int = 0o666) -> Database:
-    """Opens a database: with the flag "r" to be read alone, with "w" to be changed too; with "c" it is made where there is none, and with "n"
-    in any case. A new file's rights are those that the process gives new files: `mode` is taken, and says nothing."""
+    """Opens a database: with the flag "r" to be read alone, by several at once; with "w" to be changed too; with "c" it is made where there is
+    none, and with "n" in any case. A new file's rights are those that the process gives new files: `mode` is taken, and says nothing."""
     try:
         return Database(stores.open(file, flag))
     except (errors.Error, ValueError) as why:

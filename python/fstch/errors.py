@@ -276,7 +276,7 @@ class Absent(Error, KeyError):
 
 
 class InUse(Error, OSError):
-    """Another store, of this program or another, has the file open."""
+    """Another store, of this program or another, has the file open, and one of the two may change it."""
 
     number = -6
 
@@ -294,11 +294,10 @@ class BadWriter(Error, ValueError):
     number = -8
 
 
-# This module's own.
-
-
 class ReadOnly(Error, OSError):
     """The store was opened to be read."""
+
+    number = -9
 
 
 _BY_NUMBER = {kind.number: kind for kind in Error.__subclasses__() if kind.number is not None}

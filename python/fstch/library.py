@@ -12,7 +12,7 @@ from . import errors
 
 __all__ = ["MAX_KEY", "VERSION", "Handle", "calls", "delete", "entry", "get", "put", "refusal", "require_done", "text_of"]
 
-VERSION = 300
+VERSION = 301
 """The version of the interface that this module is written for: of its major and minor number the library has to be."""
 
 MAX_KEY = 32

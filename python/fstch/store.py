@@ -26,8 +26,9 @@ MAX_VALUE = 131072
 
 # The writer of all changes: they belong to the groups that are entered.
 WRITER = 0
-# The flag of a store whose syncs are one sync of the file each.
+# The flag of a store whose syncs are one sync of the file each, and that of one that is to be read alone.
 NO_BARRIERS = 1
+READ_ONLY = 2
 # No slot of an index has this number.
 NO_SLOT = 2**32 - 1
 # How a file is divided that an open makes: the largest one.
@@ -55,8 +56,9 @@ def open(path: Path, flag: str = "w", *, barriers: bool = True, **geometry: int)
 
     The flag is as of the modules for dbm: "w" opens a file that there is; "c" makes one first where there is none, divided as `make` is
     told by `index_blocks`, `extents` and `extent_blocks`, or without these as large as one can be, 16 MiB; "n" makes a new one in any
-    case, and takes away what has the name but for a store that is open; "r" opens one that there is, and each change is refused with
-    `ReadOnly`. It locks the file too.
+    case, and takes away what has the name but for a store that is open and a file that may not be written; "r" opens one that there is,
+    whoever may write it, and each change is refused with `ReadOnly`. Several stores may have a file open with "r" at once, while none has it
+    open without.
 
     Without `barriers` a sync of the store is one sync of the file, behind all writes. Then the file opens again whenever the program ends
     and the system goes on; if the power is cut, or the system stops, during a sync, it may not.
@@ -77,10 +79,10 @@ def open(path: Path, flag: str = "w", *, barriers: bool = True, **geometry: int)
 
 
 def _take_away(path: Path) -> None:
-    """Removes a file, whatever it holds, but not one that another store has open."""
+    """Removes a file, whatever it holds, but not one that another store has open, or of which that can't be told."""
     try:
         Store(path).close()
-    except errors.InUse:
+    except (errors.InUse, errors.DiskForbidden):
         raise
     except errors.Error:
         pass
@@ -131,7 +133,8 @@ class Store(MutableMapping[bytes, bytes]):
         self._walks: weakref.WeakSet[_Walk] = weakref.WeakSet()
         self._path = path
         slot = c_uint32(NO_SLOT)
-        answer = calls.fstch_open_with(self._at, _name(path), 0 if barriers else NO_BARRIERS, byref(slot))
+        flags = (0 if barriers else NO_BARRIERS) | (READ_ONLY if read_only else 0)
+        answer = calls.fstch_open_with(self._at, _name(path), flags, byref(slot))
         if answer:
             error = refusal(answer, path)
             error.slot = None if slot.value == NO_SLOT else slot.value
@@ -155,10 +158,14 @@ class Store(MutableMapping[bytes, bytes]):
 
         Where it is refused, some changes may have reached the file, in their order, and each later sync is refused with `NoSync`:
         close the store and open it again. The open reads what the disk has, and not what the system still shows of a sync that failed.
+        With "r" there is nothing to be brought.
 
         Raises `OutOfMemory`, `DeviceGaveUp` and `NoSync`.
         """
-        self._require(calls.fstch_sync)
+        with self._lock:
+            answer = calls.fstch_sync(self._at)
+        if answer != errors.ReadOnly.number:
+            require_done(answer)
 
     @property
     def unsynced(self) -> int:

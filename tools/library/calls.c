@@ -455,7 +455,7 @@ static void damaged_files_are_refused(void) {
 
 static void answers_have_texts(void) {
     static const int answers[] = {0,  1,  4,  5,  17, 18, 27, 28, 29, 30, 31, 32, 33, 34, 38, 39, 40, 41, 42, 43, 44, 45, 46,
-                                  47, 48, 49, 50, 51, 57, -1, -2, -4, -5, -6, -7, -8};
+                                  47, 48, 49, 50, 51, 57, -1, -2, -4, -5, -6, -7, -8, -9};
     char text[64], cut[5] = "xxxx";
     for (size_t number = 0; number < sizeof answers / sizeof *answers; number++) {
         memset(text, 'x', sizeof text);

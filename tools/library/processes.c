@@ -1,5 +1,5 @@
-/* Two processes at one file: who opens it first has it, until it is closed or its process ends. A forked child has it, too, until it
- * closes it or runs another program. */
+/* Two processes at one file: who opens it first has it, until it is closed or its process ends; both have it where they read it alone. A
+ * forked child has it, too, until it closes it or runs another program. */
 #define _GNU_SOURCE
 #include "wanting.h"
 
@@ -38,13 +38,23 @@ static void hold(int told, int tells) {
     _exit(0);
 }
 
-static holder begin(void) {
+static void hold_to_read(int told, int tells) {
+    fstch_store store = FSTCH_CLOSED;
+    MUST(open_to_read(&store, FILE_NAME) == FSTCH_DONE);
+    MUST(has(&store, "key", "value"));
+    tell(tells);
+    wait_for(told);
+    MUST(fstch_close(&store) == FSTCH_DONE);
+    _exit(0);
+}
+
+static holder begin(void (*holds)(int told, int tells)) {
     int down[2], up[2];
     MUST(pipe(down) == 0 && pipe(up) == 0);
     holder child = {fork(), down[1], up[0]};
     MUST(child.process >= 0);
     if (child.process == 0) {
-        hold(down[0], up[1]);
+        holds(down[0], up[1]);
     }
     close(down[0]);
     close(up[1]);
@@ -59,9 +69,10 @@ static int status_of(holder child) {
 
 static void the_lock_goes_from_one_to_the_other(void) {
     fstch_store store = FSTCH_CLOSED;
-    holder child = begin();
+    holder child = begin(hold);
     wait_for(child.tells);
     WANT(FSTCH_IN_USE, open_path(&store, FILE_NAME));
+    WANT(FSTCH_IN_USE, open_to_read(&store, FILE_NAME));
     WANT(false, fstch_is_open(&store));
     tell(child.told);
     wait_for(child.tells);
@@ -76,7 +87,7 @@ static void the_lock_goes_from_one_to_the_other(void) {
 
 static void the_lock_is_gone_with_its_process(void) {
     fstch_store store = FSTCH_CLOSED;
-    holder child = begin();
+    holder child = begin(hold);
     wait_for(child.tells);
     WANT(FSTCH_IN_USE, open_path(&store, FILE_NAME));
     MUST(kill(child.process, SIGKILL) == 0);
@@ -119,25 +130,61 @@ static void forked_children_share_the_lock(void) {
     WANT(true, WIFSIGNALED(status_of(other)));
 }
 
+/* How a forked child ends that closes the store. */
+static int status_of_closing(fstch_store *store) {
+    int status = 1;
+    pid_t child = fork();
+    MUST(child >= 0);
+    if (child == 0) {
+        _exit(fstch_close(store) == FSTCH_DONE && !fstch_is_open(store) ? 0 : 1);
+    }
+    MUST(waitpid(child, &status, 0) == child);
+    return status;
+}
+
 /* What a child closes the parent has as before, and its lock. */
 static void a_forked_child_closes(void) {
     fstch_store store = FSTCH_CLOSED, other = FSTCH_CLOSED;
     WANT(FSTCH_DONE, open_path(&store, FILE_NAME));
     WANT(FSTCH_DONE, put(&store, "key", "the parent's"));
-    pid_t child = fork();
-    MUST(child >= 0);
-    if (child == 0) {
-        _exit(fstch_close(&store) == FSTCH_DONE && !fstch_is_open(&store) ? 0 : 1);
-    }
-    int status = 1;
-    MUST(waitpid(child, &status, 0) == child);
-    WANT(0, status);
+    WANT(0, status_of_closing(&store));
     WANT(FSTCH_IN_USE, open_path(&other, FILE_NAME));
     WANT(FSTCH_DONE, fstch_sync(&store));
     WANT(true, has(&store, "key", "the parent's"));
     WANT(FSTCH_DONE, fstch_close(&store));
     WANT(FSTCH_DONE, open_path(&store, FILE_NAME));
     WANT(true, has(&store, "key", "the parent's"));
+    WANT(FSTCH_DONE, fstch_close(&store));
+}
+
+/* The lock of those who read is gone with the last of them. */
+static void several_processes_read(void) {
+    fstch_store store = FSTCH_CLOSED, other = FSTCH_CLOSED;
+    holder closes = begin(hold_to_read), ends = begin(hold_to_read);
+    wait_for(closes.tells);
+    wait_for(ends.tells);
+    WANT(FSTCH_DONE, open_to_read(&store, FILE_NAME));
+    WANT(FSTCH_IN_USE, open_path(&other, FILE_NAME));
+    WANT(FSTCH_DONE, fstch_close(&store));
+    tell(closes.told);
+    WANT(0, status_of(closes));
+    WANT(FSTCH_IN_USE, open_path(&other, FILE_NAME));
+    MUST(kill(ends.process, SIGKILL) == 0);
+    WANT(true, WIFSIGNALED(status_of(ends)));
+    WANT(FSTCH_DONE, open_path(&other, FILE_NAME));
+    WANT(FSTCH_DONE, fstch_close(&other));
+}
+
+static void a_forked_child_closes_what_is_read(void) {
+    fstch_store store = FSTCH_CLOSED, other = FSTCH_CLOSED;
+    WANT(FSTCH_DONE, open_to_read(&store, FILE_NAME));
+    WANT(0, status_of_closing(&store));
+    WANT(FSTCH_IN_USE, open_path(&other, FILE_NAME));
+    WANT(true, has(&store, "key", "value"));
+    WANT(FSTCH_DONE, open_to_read(&other, FILE_NAME));
+    WANT(FSTCH_DONE, fstch_close(&store));
+    WANT(FSTCH_DONE, fstch_close(&other));
+    WANT(FSTCH_DONE, open_path(&store, FILE_NAME));
     WANT(FSTCH_DONE, fstch_close(&store));
 }
 
@@ -148,7 +195,9 @@ int main(void) {
     WANT(FSTCH_DONE, fstch_close(&store));
     the_lock_goes_from_one_to_the_other();
     the_lock_is_gone_with_its_process();
+    several_processes_read();
     forked_children_share_the_lock();
+    a_forked_child_closes_what_is_read();
     a_forked_child_closes();
     return ended();
 }

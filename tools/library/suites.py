@@ -73,6 +73,15 @@ class Room(unittest.TestCase):
             with self.assertRaises(fstch.dbm.error):
                 database["key"] = "other"
 
+    def test_read_at_once(self):
+        with fstch.dbm.open("read.disk", "n") as database:
+            database["key"] = "value"
+        with fstch.dbm.open("read.disk") as first, fstch.dbm.open("read.disk", "r") as second:
+            self.assertEqual((first["key"], dict(second)), (b"value", {b"key": b"value"}))
+            with self.assertRaises(fstch.dbm.error):
+                fstch.dbm.open("read.disk", "w")
+        fstch.dbm.open("read.disk", "w").close()
+
     def test_a_full_file(self):
         fstch.make("full.disk", index_blocks=1, extents=2)
         with fstch.dbm.open("full.disk", "w") as database:

@@ -5,6 +5,7 @@
 #include <errno.h>
 #include <signal.h>
 #include <stddef.h>
+#include <sys/statvfs.h>
 #include <sys/types.h>
 #include <unistd.h>
 
@@ -23,6 +24,10 @@ static int is_interrupting;
 /* What is answered where room is asked for, and what errno says where a file is to have another name; with 0 the system answers. */
 static int answer_to_room;
 static int answer_to_link;
+/* What errno says where a sync is refused. */
+static int answer_to_sync = EIO;
+/* Whether all file systems are said to be read-only. */
+static int is_said_to_be_read_only;
 /* The most bytes that a read or a write moves. */
 static size_t most_moved = (size_t)-1;
 /* How many calls there were. */
@@ -37,6 +42,7 @@ int __real_posix_fallocate(int file, off_t place, off_t length);
 int __real_link(const char *from, const char *to);
 int __real_unlink(const char *path);
 int __real_flock(int file, int how);
+int __real_fstatvfs(int file, struct statvfs *found);
 void *__real_malloc(size_t length);
 void *__real_realloc(void *at, size_t length);
 
@@ -48,6 +54,7 @@ int __wrap_posix_fallocate(int file, off_t place, off_t length);
 int __wrap_link(const char *from, const char *to);
 int __wrap_unlink(const char *path);
 int __wrap_flock(int file, int how);
+int __wrap_fstatvfs(int file, struct statvfs *found);
 void *__wrap_malloc(size_t length);
 void *__wrap_realloc(void *at, size_t length);
 
@@ -134,6 +141,12 @@ int __wrap_flock(int file, int how) {
     return is_interrupted() ? -1 : __real_flock(file, how);
 }
 
+int __wrap_fstatvfs(int file, struct statvfs *found) {
+    int answer = __real_fstatvfs(file, found);
+    found->f_flag |= is_said_to_be_read_only ? ST_RDONLY : 0;
+    return answer;
+}
+
 /* Whether a sync goes well so far. */
 static int is_syncing(void) {
     change();
@@ -141,7 +154,7 @@ static int is_syncing(void) {
         return 0;
     }
     if (is_over(&syncs_till_refused)) {
-        errno = EIO;
+        errno = answer_to_sync;
         return 0;
     }
     count(&syncs_till_refused);

@@ -1,9 +1,11 @@
 """Tests the module `fstch`: run where it is found, in a folder of its own."""
 
 import array
+import contextlib
 import copy
 import ctypes
 import errno
+import fcntl
 import gc
 import os
 import pickle
@@ -19,6 +21,8 @@ from unittest import mock
 import fstch
 
 FILE = "test.disk"
+# A user that has no right but those that all have.
+NOBODY = 65534
 
 
 def new_store(index_blocks=1, extents=4):
@@ -30,6 +34,28 @@ def new_store(index_blocks=1, extents=4):
 def in_python(lines):
     """What another process answers that runs these lines."""
     return subprocess.run([sys.executable, "-c", lines], stdout=subprocess.PIPE, text=True, check=True).stdout
+
+
+def accesses():
+    """How this process has the file open: the access mode of each of its descriptors."""
+    modes = []
+    for number in range(64):
+        with contextlib.suppress(OSError):
+            if os.path.samestat(os.fstat(number), os.stat(FILE)):
+                modes.append(fcntl.fcntl(number, fcntl.F_GETFL) & (os.O_RDONLY | os.O_WRONLY | os.O_RDWR))
+    return modes
+
+
+def status_of_child(call):
+    """What a call answers that a forked child makes, or 255."""
+    child = os.fork()
+    if child == 0:
+        status = 255
+        try:
+            status = call()
+        finally:
+            os._exit(status)
+    return os.waitpid(child, 0)[1] >> 8
 
 
 class Mapping(unittest.TestCase):
@@ -408,6 +434,83 @@ store.close()
         fstch.open(FILE).close()
 
 
+def refused(kind, call, *given):
+    with contextlib.suppress(kind):
+        call(*given).close()
+        return False
+    return True
+
+
+def reads_without_a_right():
+    """Whether who may not write the file reads it, and leaves it there: 0, or the number of what went wrong."""
+    if os.geteuid() == 0:
+        os.setgid(NOBODY)
+        os.setuid(NOBODY)
+    with fstch.open(FILE, "r") as store, fstch.Store(FILE, read_only=True) as other:
+        if store != {b"key": b"value"} or store != other:
+            return 1
+    for number, flag in enumerate("wcn"):
+        if not refused(PermissionError, fstch.open, FILE, flag):
+            return 2 + number
+    return 0 if os.path.exists(FILE) else 5
+
+
+class Reading(unittest.TestCase):
+    def setUp(self):
+        with new_store() as store:
+            store[b"key"] = b"value"
+
+    def test_several_read_at_once(self):
+        lines = f"import fstch\ntry:\n with fstch.open({FILE!r}, 'r') as store: print(store[b'key'])\nexcept fstch.InUse: print('in use')"
+        with fstch.open(FILE, "r") as first:
+            with fstch.Store(FILE, read_only=True, barriers=False) as second:
+                self.assertEqual(accesses(), [os.O_RDONLY] * 2)
+                self.assertEqual(first, {b"key": b"value"})
+                self.assertEqual(first, second)
+                self.assertEqual(in_python(lines), "b'value'\n")
+            for flag in "wcn":
+                with self.assertRaises(fstch.InUse):
+                    fstch.open(FILE, flag)
+            self.assertEqual(first[b"key"], b"value")
+        with fstch.open(FILE, "w"):
+            self.assertEqual(accesses(), [os.O_RDWR])
+            with self.assertRaises(fstch.InUse):
+                fstch.open(FILE, "r")
+            self.assertEqual(in_python(lines), "in use\n")
+        self.assertEqual(accesses(), [])
+
+    def test_nothing_is_to_be_synced(self):
+        content = Path(FILE).read_bytes()
+        with fstch.open(FILE, "r") as store:
+            store.sync()
+            with store.group() as group:
+                with self.assertRaises(fstch.ReadOnly) as raised:
+                    store[b"key"] = b"other"
+            self.assertIn("was opened to be read", str(raised.exception))
+            store.sync()
+            self.assertEqual((store.unsynced, group.pending), (0, 0))
+            self.assertEqual(fstch.library.calls.fstch_sync(store._at), fstch.ReadOnly.number)
+            self.assertEqual(store, {b"key": b"value"})
+        with self.assertRaises(fstch.NotOpen):
+            store.sync()
+        self.assertEqual(Path(FILE).read_bytes(), content)
+
+    @unittest.skipUnless(hasattr(os, "fork"), "there is no fork")
+    def test_who_may_not_write(self):
+        os.chmod(FILE, 0o444)
+        os.chmod(".", 0o777)
+        self.assertEqual(status_of_child(reads_without_a_right), 0)
+
+    @unittest.skipUnless(hasattr(os, "fork"), "there is no fork")
+    def test_a_child_leaves_the_lock(self):
+        with fstch.open(FILE, "r") as store:
+            self.assertEqual(status_of_child(lambda: int(store.is_open)), 0)
+            with self.assertRaises(fstch.InUse):
+                fstch.open(FILE)
+            self.assertEqual(store, {b"key": b"value"})
+        fstch.open(FILE).close()
+
+
 class Groups(unittest.TestCase):
     def test_order(self):
         with new_store() as store:
@@ -583,7 +686,7 @@ class Threads(unittest.TestCase):
 
 class Library(unittest.TestCase):
     def test_each_exception_has_a_number_and_the_librarys_text(self):
-        kinds = [kind for kind in fstch.Error.__subclasses__() if kind is not fstch.ReadOnly]
+        kinds = fstch.Error.__subclasses__()
         self.assertEqual(len({kind.number for kind in kinds}), len(kinds))
         for kind in kinds:
             self.assertIs(kind, type(fstch.errors.of(kind.number, "")))

@@ -77,6 +77,10 @@ static void call_open(void) {
     WANT(FSTCH_DONE, fstch_open(&store, FILE_NAME, NULL));
 }
 
+static void call_open_to_read(void) {
+    WANT(FSTCH_DONE, open_to_read(&store, FILE_NAME));
+}
+
 static void call_put(void) {
     WANT(FSTCH_DONE, fstch_put(&store, 0, "key", 3, bytes, sizeof bytes));
 }
@@ -134,7 +138,7 @@ static const measured CALLS[] = {
     {"get", call_get},         {"entry", call_entry},   {"check", call_check},   {"extent", call_extent},
     {"unsynced", call_unsynced}, {"groups", call_groups}, {"sync", call_sync},   {"reclaim", call_reclaim},
     {"delete", call_delete},   {"sync again", call_sync}, {"close", call_close}, {"open again", call_open},
-    {"close again", call_close},
+    {"close again", call_close}, {"open to read", call_open_to_read}, {"close what was read", call_close},
 };
 
 /* Where the stack stands as a call begins. */

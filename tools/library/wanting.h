@@ -47,6 +47,10 @@ static inline int32_t open_path(fstch_store *store, const char *path) {
     return fstch_open(store, path, &slot);
 }
 
+static inline int32_t open_to_read(fstch_store *store, const char *path) {
+    return fstch_open_with(store, path, FSTCH_READ_ONLY, NULL);
+}
+
 /* Makes a new file, and opens it. */
 static inline fstch_store new_store(uint32_t index_blocks, uint32_t extents) {
     fstch_store store = FSTCH_CLOSED;

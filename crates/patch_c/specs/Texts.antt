@@ -15,6 +15,10 @@ refusal why = number_of (Refused why)
 abbrev pub in_use : ℤ
 in_use = negsuc 5
 
+-- the store was opened to be read alone, which C alone answers
+abbrev pub is_read_only : ℤ
+is_read_only = negsuc 8
+
 -- the numbers that are answered, each with what it means
 abbrev pub texts : List (ℤ × List ℕ)
 texts =
@@ -54,6 +58,7 @@ texts =
     ∷ (in_use, codes "the file is in use")
     ∷ (number_of NoSync, codes "not synced: close the store and open it again")
     ∷ (number_of BadWriter, codes "there is no such writer")
+    ∷ (is_read_only, codes "the store was opened to be read")
     ∷ []
 
 -- what an answer of this number means

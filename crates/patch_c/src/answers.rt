@@ -15,7 +15,7 @@ pub const NOT_OPEN: i32 = -1;
 /// `FSTCH_IS_OPEN`.
 pub const IS_OPEN: i32 = -2;
 
-/// What a call answers beside whether the store is open. The number -6 is an answer about files, which C gives.
+/// What a call answers beside whether the store is open. The numbers -6 and -9 are answers about files, which C gives.
 #[derive(Clone, Copy, Debug, PartialEq, Eq)]
 pub enum Answer {
     Done,

@@ -10,7 +10,7 @@ use crate::opening::{geometry_for, make_first, open_bytes};
 use std::alloc::Global;
 
 /// `FSTCH_VERSION`.
-const VERSION: u32 = 300;
+const VERSION: u32 = 301;
 
 /// What `fstch_core_file` answers where no store is open.
 const NO_FILE: i32 = -1;

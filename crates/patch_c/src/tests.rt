@@ -478,11 +478,12 @@ fn a_store_is_spent_where_its_writes_are_lost(rt: HostRuntime) {
 }
 
 // How long a text is, and what a buffer of so much room has then.
-const TEXTS: [(i32, usize, usize, &[u8]); 5] = [
+const TEXTS: [(i32, usize, usize, &[u8]); 6] = [
     (0, 8, 4, b"done\0..."),
     (1, 8, 13, b"out of \0"),
     (-6, 8, 18, b"the fil\0"),
     (-5, 8, 22, b"there i\0"),
+    (-9, 8, 31, b"the sto\0"),
     (99, 0, 14, b"...."),
 ];
 
@@ -493,5 +494,5 @@ fn texts_end(rt: HostRuntime) {
         expect_eq(&rt, &fstch_error_text(*answer, part(&mut into, *room)), len);
         expect_eq(&rt, &shows(&into, shown), &told(1));
     }
-    expect_eq(&rt, &fstch_version(), &300);
+    expect_eq(&rt, &fstch_version(), &301);
 }

@@ -44,6 +44,7 @@ fn text_of(answer: i32) -> &'static str
         -6 => "the file is in use",
         -7 => "not synced: close the store and open it again",
         -8 => "there is no such writer",
+        -9 => "the store was opened to be read",
         _ => "unknown answer",
     }
 }
