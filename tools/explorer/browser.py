@@ -23,7 +23,8 @@ FLAGS = (
     "--hide-scrollbars",
 )
 SECONDS = 60
-KEYS = {"Tab": 9, "Enter": 13, " ": 32, "End": 35, "Home": 36, "ArrowLeft": 37, "ArrowRight": 39, "c": 67}
+KEYS = {"Tab": 9, "Enter": 13, " ": 32, "PageUp": 33, "PageDown": 34, "End": 35, "Home": 36, "ArrowLeft": 37}
+KEYS |= {"ArrowUp": 38, "ArrowRight": 39, "ArrowDown": 40, "b": 66, "c": 67, "p": 80, "[": 219, "]": 221}
 TEXTS = {"Enter": "\r", " ": " "}
 # A page unpacks what it shows, and then shows it.
 IS_SHOWN = "typeof shown === 'undefined' || shown.then(() => true)"

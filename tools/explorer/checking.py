@@ -2,22 +2,28 @@
 
 import re
 
+from explorer.writes import Crashes
+from plain_disk import Disk, Fault
 from plain_model import BLOCK, depends_directly, pile
 
 LONGEST_SHOWN = 400  # characters of an answer; the page cuts longer ones
 KEPT = 380
+BROKEN = re.compile(r"✕Broken: patch (\d+) \(.*\) is there, and patch (\d+) \(.*\), on which it depends, isn't", re.S)
 
 
 class Looked:
     """What a page showed at each moment, to be compared with a script and the program's answers to it.
 
-    The patches are those that the model has made in the end. Bytes of a store aren't compared here: its page says what
-    they mean, and the program says so too.
+    The patches are those that the model has made in the end, `writes` says how the writes stand at each moment, and
+    `first` has the blocks of a store's disk before. Rows of a store aren't compared: its page says what they mean, and
+    the program says so too.
     """
 
-    def __init__(self, lines, answers, seen, patches, is_store=False):
+    def __init__(self, lines, answers, seen, patches, writes, first=None):
         self.lines, self.answers, self.seen = lines, answers, seen
-        self.patches, self.is_store = patches, is_store
+        self.patches, self.writes, self.first = patches, writes, first
+        self.is_store = first is not None
+        self.needs = [{other.number for other in patches if depends_directly(patch, other)} for patch in patches]
         self.faults = []
 
     def expect(self, what, shown, wanted):
@@ -34,8 +40,9 @@ class Looked:
                 self.expect(f"line {number}", moment["asked"], shown_text(text))
             if moments:
                 self.compare_answer(f"line {number}", line, answer, moments[-1])
-        for moment in self.seen:
-            self.compare_moment(moment)
+        self.expect("the moments", len(self.seen), len(self.writes))
+        for moment, writes in zip(self.seen, self.writes):
+            self.compare_moment(moment, Crashes(writes, self.patches))
         return self.faults
 
     def moments_of(self, name):
@@ -112,29 +119,66 @@ class Looked:
     def marked(self, moment, mark, block):
         return sorted(n for n, had in marks(moment).items() if had == mark and self.patches[n].block == block)
 
-    def compare_moment(self, moment):
+    def compare_moment(self, moment, crashes):
         name = moment["where"]
         self.expect(f"{name}, that words are said", bool(moment["words"]), True)
+        self.expect(f"{name}, how many implied arrows are drawn", moment["implied"], 0)
+        durable = crashes.writes.durable
+        for number, mark in marks(moment).items():
+            self.expect(f"{name}, whether patch {number} is durable", mark == "durable", number in durable)
         for crash in moment["crashes"]:
-            self.compare_crash(f"{name}, a crash with the writes of {crash['landed']}", moment, crash)
+            self.compare_crash(f"{name}, a crash, {crash['kind']}, with {crash['chosen']}", crashes, crash)
 
-    def compare_crash(self, name, moment, crash):
-        """What is there is closed, and the page says so. The durable patches are there, and those that landed."""
-        there = set(crash["there"])
-        self.expect(name, crash["closed"][:8], "✓Closed.")
-        self.expect(f"{name}, what is missing", [n for n in there if not self.has_with_it(n, there)], [])
+    def compare_crash(self, name, crashes, crash):
+        """What the page says is there, is there, and it says whether that is closed."""
+        kind, chosen, there = crash["kind"], crash["chosen"], set(crash["there"])
+        self.expect(f"{name}, the choices", crash["choices"], crashes.choices(kind))
+        self.expect(f"{name}, what is there", there, crashes.there(kind, chosen))
+        self.expect(f"{name}, what is lost", crash["lost"], [n for n in range(len(crashes.patches)) if n not in there])
+        if not crash["isChosen"]:
+            breaking = self.breaking(crashes, kind)
+            self.expect(f"{name}, what is chosen first", chosen, breaking)
+            self.expect(f"{name}, whether it is told to break", kind in crash["breaks"], bool(breaking))
+        self.compare_closed(name, crash["closed"], there)
+        if kind == "kept":
+            self.expect(name, crash["closed"][:8], "✓Closed:")
         if self.is_store:
-            self.expect(name, crash["opens"][:15], "✓The disk opens")
+            self.compare_opening(name, crash)
         for shown in crash["tables"] if not self.is_store else ():
             self.compare_pile(name, shown["block"], there, shown["bytes"])
-        for number, mark in marks(moment).items():
-            landed = mark == "flight" and self.patches[number].block in crash["landed"]
-            self.expect(f"{name}, whether patch {number} is there", number in there, mark == "durable" or landed)
 
-    def has_with_it(self, number, there):
-        """All that a patch depends on directly is there."""
-        earlier = (other for other in self.patches if depends_directly(self.patches[number], other))
-        return all(other.number in there for other in earlier)
+    def compare_closed(self, name, said, there):
+        """It is closed as the page says, or the first patch is told that is there without one on which it depends."""
+        first, told = self.first_broken(there), BROKEN.match(said)
+        if first is None or not told:
+            self.expect(name, said[:8], "✓Closed:" if first is None else f"✕Broken: patch {first}")
+            return
+        self.expect(f"{name}, what is broken", int(told[1]), first)
+        self.expect(f"{name}, that it lacks patch {told[2]}", int(told[2]) in self.needs[first] - there, True)
+
+    def breaking(self, crashes, kind):
+        """The first choice that breaks something, where the order isn't kept."""
+        ones = ([choice] for choice in crashes.choices(kind) if kind != "kept")
+        return next((one for one in ones if self.first_broken(crashes.there(kind, one)) is not None), [])
+
+    def first_broken(self, there):
+        """The first patch that is there without something on which it depends."""
+        return next((number for number in sorted(there) if not self.needs[number] <= there), None)
+
+    def compare_opening(self, name, crash):
+        """The disk opens by the plain rules, or doesn't, as the page says; and it has these keys."""
+        content = bytearray(b"".join(self.first))
+        for number in crash["there"]:
+            patch = self.patches[number]
+            place = BLOCK * patch.block + patch.start
+            content[place : place + len(patch.content)] = patch.content
+        try:
+            keys = {entry.key.decode("utf-8", "replace") for _, entry in Disk.read(bytes(content)).used_slots()}
+            self.expect(name, crash["opens"][:15], "✓The disk opens")
+            self.expect(name, set(crash["keys"]), keys)
+        except Fault as fault:
+            slot = str(fault).rpartition(" ")[2]
+            self.expect(name, crash["opens"].partition(", for ")[0], f"✕The disk doesn't open: slot {slot}")
 
 
 def compare_report(looked, report):

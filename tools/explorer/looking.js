@@ -19,27 +19,39 @@
   const tablesShown = (selector) =>
     all(`${selector} table.bytes`).map((table) => ({ block: Number(table.dataset.block), bytes: single([...table.querySelectorAll("[data-from]")]) }));
 
-  const crashShown = (landed) => ({
-    landed,
+  const crashShown = (kind, chosen) => ({
+    kind,
+    chosen: chosen ?? all("[data-choice]:checked").map((box) => Number(box.dataset.choice)),
+    isChosen: chosen !== null,
+    breaks: all("[data-kind]").filter((mark) => !mark.hidden).map((mark) => mark.dataset.kind),
+    choices: all("[data-choice]").map((box) => Number(box.dataset.choice)),
     there: numbers("#there"),
     lost: numbers("#lost"),
     closed: text("#closed"),
     opens: text("#opens"),
+    keys: all("#left .keys b").map((key) => key.textContent),
     tables: tablesShown("#crash"),
   });
 
-  const choose = (blocks) => {
-    for (const box of all("[data-flight]").map((found) => found.dataset.flight)) {
-      const now = document.querySelector(`[data-flight="${box}"]`);
-      if (now.checked !== blocks.includes(box)) now.click();
-    }
-    return crashShown(blocks.map(Number));
+  // The crash of a kind that a choice leaves, or that is shown where nobody has chosen.
+  const crashOf = (kind, chosen) => {
+    Object.assign(state, { kind, landed: chosen && new Set(chosen) });
+    const now = standingAt(state.index);
+    now.crash = crashAt(now);
+    showCrash(now);
+    return crashShown(kind, chosen);
   };
 
-  // Crashes that leave no write on the disk, one of the first few alone, and all.
+  // Of each kind: none of the choices, one of the first few alone, and all.
   const crashesShown = () => {
-    const flights = all("[data-flight]").map((box) => box.dataset.flight);
-    return [[], ...flights.slice(0, 4).map((flight) => [flight]), flights].map(choose);
+    const found = ["kept", "without", "reorders"].flatMap((kind) => {
+      const first = crashOf(kind, null);
+      const few = [[], ...first.choices.slice(0, 4).map((id) => [id]), first.choices];
+      return [first, ...few.map((chosen) => crashOf(kind, chosen))];
+    });
+    Object.assign(state, { kind: "kept", landed: null });
+    show();
+    return found;
   };
 
   const shown = () => ({
@@ -50,6 +62,7 @@
     bars: all("#drawing .bar").map((bar) => [Number(bar.dataset.patch), bar.dataset.mark, bar.dataset.look]),
     classes: all("#drawing .class").map((frame) => Number(frame.dataset.class)),
     arrows: all("#drawing .arrow").map((arrow) => [Number(arrow.dataset.from), Number(arrow.dataset.to)]),
+    implied: all("#drawing .arrow.implied").length,
     notes: text("#notes"),
     rows: rowsShown(),
     block: Number(document.querySelector("#write-block")?.value ?? -1),
@@ -63,7 +76,6 @@
   });
 
   const seen = [];
-  press("Home");
   for (;;) {
     seen.push(shown());
     if (document.querySelector("#on").disabled) return seen;

@@ -3,13 +3,11 @@
 import pathlib
 
 from explorer.changes import all_of, escaped, hole, shortened, term
-from explorer.strips import counted
+from explorer.words import placed
 
 GUIDE = (pathlib.Path(__file__).parent / "page" / "guide.html").read_text(encoding="utf-8")
 MOST_CHAINS = 4
-MOST_NAMED = 6
 NOTHING_TO_WRITE = '<p class="words">No block has anything to be written now.</p>'
-NO_FLIGHT = '<p class="words">No write is under way, so a crash leaves what the last writes left.</p>'
 UNCHOSEN = '<p class="words">Choose a patch: click its bar, or go to it with Tab and press Enter.</p>'
 UNTOUCHED = '<p class="words">No block is touched yet.</p>'
 LOOKS = {
@@ -18,6 +16,24 @@ LOOKS = {
     "taken": "taken back",
     "flight": "in flight",
     "durable": "durable",
+}
+# What a page says of each kind of crash: of it, of what one chooses, and where there is nothing to choose.
+CRASHES = {
+    "kept": {
+        "words": "A patch is written with what it depends on, or after it. What is under way may be there or not.",
+        "legend": "Which writes had landed?",
+        "none": "No write is under way: a crash leaves what the last writes left.",
+    },
+    "without": {
+        "words": "A cache without the order writes a block whole, whatever its patches wait for.",
+        "legend": "Which blocks had been written?",
+        "none": "No block has anything to be written now.",
+    },
+    "reorders": {
+        "words": "A disk that keeps writes back: of those since the last sync, ended or not, any may be there.",
+        "legend": "Which writes are there?",
+        "none": "No write was begun since the last sync.",
+    },
 }
 
 
@@ -33,6 +49,11 @@ def is_end(line):
     return line.text == ""
 
 
+def is_synced(line):
+    """Behind it, all writes that were begun last."""
+    return is_end(line) or line.answer == "synced"
+
+
 def where(line, part):
     """Which moment it is."""
     name = "the end" if is_end(line) else f"line {line.number}"
@@ -46,7 +67,8 @@ def line_panel(line, part, last):
     parts, words = len(line.moments), line.moments[part - 1].words
     step = f'<p class="part">Part {part} of {parts}: {escaped(words)}</p>' if parts > 1 else ""
     asked = f'<p class="asked"><code>{escaped(shortened(line.text))}</code></p>{answer_of(line)}'
-    return f'<h2>{title}</h2>{"" if is_end(line) else asked}{step}<p class="words">{escaped(line.words)}</p>'
+    note = f'<p class="note">{escaped(line.note)}</p>' if line.note else ""
+    return f'<h2>{title}</h2>{"" if is_end(line) else asked}{note}{step}<p class="words">{escaped(line.words)}</p>'
 
 
 def answer_of(line):
@@ -57,7 +79,7 @@ def answer_of(line):
 
 def script_list(lines):
     """The script. A hidden item stands for what is before the first line."""
-    return '<li data-line="0" hidden></li>' + "".join(script_item(*each) for each in enumerate(lines, 1))
+    return "<li hidden></li>" + "".join(script_item(*each) for each in enumerate(lines, 1))
 
 
 def script_item(index, line):
@@ -65,7 +87,8 @@ def script_item(index, line):
     number, text = ("", "the end") if is_end(line) else (line.number, shortened(line.text, 120))
     asked = f'<span class="no">{number}</span><code>{escaped(text)}</code>'
     said = f'<code class="said">{mark}{escaped(shortened(line.answer, 60))}</code>'
-    return f'<li data-line="{index}" class="{"refused" if is_refused(line) else ""}">{asked}{said}</li>'
+    button = f'<button type="button" data-line="{index}">{asked}{said}</button>'
+    return f'<li class="{"refused" if is_refused(line) else ""}">{button}</li>'
 
 
 # A write.
@@ -76,7 +99,7 @@ def block_choice(strips, blocks):
     if not blocks:
         return NOTHING_TO_WRITE
     options = "".join(f'<option value="{block}">{strips.block_name(block)}</option>' for block in blocks)
-    return f'<label>Block <select id="write-block">{options}</select></label>'
+    return f'<label class="check">Block <select id="write-block">{options}</select></label>'
 
 
 def write_panel(standing, block):
@@ -110,28 +133,6 @@ def chains(standing, waiting):
     return f'<h3>What keeps them</h3><ul class="chains">{shown}</ul>{more}'
 
 
-# A crash.
-
-
-def flight_choices(standing):
-    """Which of the writes under way had landed."""
-    if not standing.flights:
-        return NO_FLIGHT
-    choices = "".join(flight_choice(standing, block) for block in sorted(standing.flights))
-    return f"<fieldset><legend>Which writes had landed?</legend>{choices}</fieldset>"
-
-
-def flight_choice(standing, block):
-    said = f'<span class="where">with {in_words(standing.having(block, "flight"))}</span>'
-    return f'<label><input type="checkbox" data-flight="{block}"> block {block} {said}</label>'
-
-
-def in_words(numbers):
-    if len(numbers) > MOST_NAMED:
-        return counted(numbers)
-    return f"{'patch' if len(numbers) == 1 else 'patches'} {counted(numbers)}"
-
-
 # Groups.
 
 
@@ -163,8 +164,8 @@ def patch_panel(patch, made, role, over):
     number = patch.number
     parts = [
         term("patch", all_of([number], "")),
-        term("for", escaped(role)) if role else "",
-        term("where", f"block {patch.block}, bytes {patch.start} to {patch.end - 1}, line {made.line}"),
+        term("for", escaped(role or made.name)) if role or made.name else "",
+        term("where", f"{placed(patch)}, line {made.line}"),
         term("writes", f"<code>{shortened(patch.content.hex(), 80)}</code>"),
         term("over", f"<code>{shortened(over.hex(), 80)}</code>"),
         term("state", '<span id="patch-state"></span>'),
@@ -179,8 +180,8 @@ def patch_panel(patch, made, role, over):
 
 def about_patch(patch, made, role, is_hard):
     """What is said of a patch before its look, and behind it."""
-    words = [f"Patch {patch.number}", f"bytes {patch.start} to {patch.end - 1} of block {patch.block}"]
+    words = [f"Patch {patch.number}", placed(patch), made.name]
     behind = [", hard"] if is_hard else []
     if made.groups:
         behind.append(f", of group {', '.join(map(str, made.groups))}")
-    return [", ".join([*words, *filter(None, [role])]) + ", ", "".join(behind)]
+    return [", ".join(filter(None, [*words, role])) + ", ", "".join(behind)]

@@ -1,8 +1,8 @@
 """The story of a script of patches, which `fstch replay` answers."""
 
-from explorer import words
+from explorer import narration, words
 from explorer.stories import Line, Made, WatchedModel, told_of_groups
-from plain_model import Complete, Send, engaged_by, listed, numbers_of, writer_of
+from plain_model import Complete, Send, engaged_by, writer_of
 
 LOOKS = ("view", "show", "disk")
 
@@ -20,11 +20,13 @@ class Replay(WatchedModel):
         before, groups = self.entries, self.groups
         answer = self.answer(line)
         if answer.startswith("patch"):
-            self.made.append(Made(number, tuple(sorted(engaged_by(groups, writer_of(line))))))
+            engaged = tuple(sorted(engaged_by(groups, writer_of(line))))
+            self.made.append(Made(number, engaged, name=narration.told(line, "name")))
         if told := told_of_groups(line, answer):
             self.tell(*told)
         said = words.of_replay(self, before, line, answer)
-        return Line(number, text, answer, said, self.take_moments(), look_of(line, answer))
+        note = narration.told(line, "note")
+        return Line(number, text, answer, said, self.take_moments(), look_of(line, answer), note)
 
     def sync(self, line):
         """Each write that begins or ends is a moment of its own."""

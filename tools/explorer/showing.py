@@ -1,12 +1,13 @@
-"""What the page's script reads: patches, moments, and for all that changes from which moment on it is what."""
+"""What the page's script reads: patches, writes, moments, and for all that changes from which moment on it is what."""
 
 import collections
 import json
 
 from explorer import panels, store_panels
 from explorer.changes import Changes, Texts
-from explorer.standing import DURABLE, FLIGHT, Standing, directs, leading
+from explorer.standing import Standing, directs, leading
 from explorer.strips import Strips, span_of_look
+from explorer.words import placed
 
 MOST_DRAWN = 60  # patches
 MOST_NEEDED = 10  # of what a patch that is drawn depends on
@@ -30,7 +31,8 @@ class Showing:
         self.texts, self.moments = Texts(), []
         self.looks, self.names, self.keepers = ([Changes() for _ in entries] for _ in range(3))
         self.writes = collections.defaultdict(Changes)
-        self.flights, self.writable, self.groups, self.holds, self.found = (Changes() for _ in range(5))
+        self.flights, self.writable, self.groups, self.holds, self.lasting = (Changes() for _ in range(5))
+        self.sends, self.send_of = [], {}
         self.follow()
 
     @property
@@ -42,15 +44,25 @@ class Showing:
 
     def follow(self):
         self.note_all()
+        self.lasting.note(0, 0)
         self.moments.append(self.before_all())
         last = next((line.number for line in reversed(self.lines) if not panels.is_end(line)), 0)
         for index, line in enumerate(self.lines, 1):
             for part, moment in enumerate(line.moments, 1):
                 self.standing.follow(moment)
+                self.note_sends(moment)
+                if part == len(line.moments) and panels.is_synced(line):
+                    self.lasting.note(len(self.moments), len(self.sends))
                 self.note_all()
                 said = {"where": panels.where(line, part), "said": panels.line_panel(line, part, last), "line": index}
                 self.moments.append({**said, **self.moment_of(line, moment)})
         self.note_neighbours()
+
+    def note_sends(self, moment):
+        """The writes that begin, and which patches go with which."""
+        for block, numbers in (done[1:] for done in moment.done if done[0] == "send"):
+            self.send_of.update(dict.fromkeys(numbers, len(self.sends)))
+            self.sends.append({"block": block, "from": len(self.moments)})
 
     def before_all(self):
         said = {"where": "before the first line", "said": panels.GUIDE, "line": 0, "block": None}
@@ -114,7 +126,7 @@ class Showing:
         for block in standing.touched.intersection(blocks):
             self.writes[block].note(now, panels.write_panel(standing, block))
         self.writable.note(now, {"blocks": blocks, "html": panels.block_choice(self.strips, blocks)})
-        self.flights.note(now, {"blocks": sorted(standing.flights), "html": panels.flight_choices(standing)})
+        self.flights.note(now, sorted(standing.flights))
         self.groups.note(now, panels.groups_panel(standing, self.groups_patches))
         if self.geometry:
             self.note_store(now)
@@ -138,8 +150,6 @@ class Showing:
         standing = self.standing
         disk = store_panels.read(standing.disk)
         self.holds.note(now, store_panels.store_panel(self.texts, store_panels.read(standing.cached), disk))
-        behind = {block: standing.pile(block, (FLIGHT, DURABLE)) for block in standing.flights}
-        self.found.note(now, store_panels.Crash(self.geometry, standing.disk, behind).found(self.texts))
 
     # All of it.
 
@@ -148,7 +158,9 @@ class Showing:
         spans = [self.strips.span(*span) for span in (*self.looked, *((p.block, p.start, p.end) for p in self.patches))]
         return {
             "isStore": self.geometry is not None,
+            "geometry": store_panels.places(self.geometry) if self.geometry else None,
             "lookWords": panels.LOOKS,
+            "crashes": panels.CRASHES,
             "unchosen": panels.UNCHOSEN,
             "untouched": panels.UNTOUCHED,
             "script": panels.script_list(self.lines),
@@ -161,7 +173,8 @@ class Showing:
             "flights": self.flights.listed,
             "groups": self.groups.listed,
             "holds": self.holds.listed,
-            "found": self.found.listed,
+            "sends": self.sends,
+            "lasting": self.lasting.listed,
             "texts": self.texts.listed(),
         }
 
@@ -173,12 +186,14 @@ class Showing:
             "block": patch.block,
             **self.strips.span(patch.block, patch.start, patch.end),
             "hex": patch.content.hex(),
-            "needs": self.direct[number],
+            "named": sorted(patch.after),
             "led": led,
+            "send": self.send_of.get(number, len(self.sends)),
             "isHard": is_hard,
             "groups": list(made.groups),
             "role": store_panels.short_role(made.role) if made.role else "",
             "text": store_panels.text_of(made.role, patch.content) if made.role else "",
+            "said": role or made.name or placed(patch),
             "about": panels.about_patch(patch, made, role, is_hard),
             "html": panels.patch_panel(patch, made, role, self.standing.over[number]),
             "looks": self.looks[number].listed,

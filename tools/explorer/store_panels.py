@@ -1,8 +1,7 @@
-"""What a page says of a store: what its patches are for, what it holds, and what is found on the disk of a crash."""
+"""What a page says of a store: what its patches are for, and what it holds."""
 
 from explorer.changes import escaped
-from plain_disk import FRAME_BEGINS, FRAME_ENDS, RECORD, SLOT, Disk, frame, number_in, part
-from plain_model import BLOCK
+from plain_disk import FRAME_BEGINS, FRAME_ENDS, Disk, number_in
 
 MOST_FRAMES = 24
 NONE = '<span class="none">none</span>'
@@ -137,70 +136,16 @@ def frame_length_at(content, offset):
     return length if content[offset + length - 4 : offset + length] == FRAME_ENDS else 0
 
 
-# What a crash leaves: pieces by whether the writes of their blocks had landed.
-
-
-class Crash:
-    """The blocks of a store's disk, as they are and as the writes under way would leave them."""
-
-    def __init__(self, geometry, disk, behind):
-        self.geometry, self.disk, self.behind = geometry, disk, behind
-        self.whole = b"".join(disk)
-        self.landed = b"".join(behind.get(block, content) for block, content in enumerate(disk))
-
-    def found(self, texts):
-        """What slots and pointers say: each with the block in whose write it is, or not, where that matters."""
-        slots = (self.pieces(SLOT, self.geometry.place_of_slot(slot)) for slot in range(self.geometry.slots))
-        keys = [self.key_piece(texts, *piece) for pieces in slots for piece in pieces if any(piece[0])]
-        places = map(self.geometry.place_of_record, range(self.geometry.extents))
-        records = [(extent, *piece) for extent, place in enumerate(places) for piece in self.pieces(RECORD, place)]
-        pointers = [self.pointer_piece(texts, *record) for record in records if any(record[1])]
-        return sorted(keys, key=lambda piece: piece["key"]) + pointers
-
-    def pieces(self, size, place):
-        """The bytes there, before the write of their block and behind it where they differ then."""
-        before, behind, block = part(self.whole, place, size), part(self.landed, place, size), place // BLOCK
-        if before == behind:
-            return [(before, {})]
-        return [(before, {"block": block, "isBehind": False}), (behind, {"block": block, "isBehind": True})]
-
-    def pointer_piece(self, texts, extent, record, when):
-        said = f"pointer {number_in(record, 4, 8):,}, generation {number_in(record, 0, 4)}"
-        return {**when, "html": texts.put(f"<li>extent {extent}: {said}</li>"), "fits": []}
-
-    def key_piece(self, texts, slot, when):
-        key = slot[16 : 16 + slot[1]].decode("utf-8", "replace")
-        value, fits = self.frame_fits(slot)
-        head = f"<li><b>{escaped(key)}</b> "
-        html, without = texts.put(f"{head}{value_text(value)}</li>"), texts.put(f"{head}no frame</li>")
-        return {**when, "key": key, "html": html, "without": without, "fits": fits}
-
-    def frame_fits(self, slot):
-        """The value that a slot names, and whether each block that may lack some of it has it, before and behind."""
-        extent, generation, offset, length = (number_in(slot, *span) for span in ((2, 4), (4, 8), (8, 12), (12, 16)))
-        place, key = self.geometry.place_of_extent(extent) + offset, slot[16 : 16 + slot[1]]
-        frames = [part(content, place, length) for content in (self.landed, self.whole)]
-        wanted = next(filter(is_frame_of(key, length), frames), None)
-        if wanted is None:
-            return b"", [[place // BLOCK, False, False]]
-        fits = [self.fit_of_pointer(extent, generation, offset + length)]
-        end = place + length
-        for block in range(place // BLOCK, (end - 1) // BLOCK + 1):
-            span = slice(max(place, BLOCK * block), min(end, BLOCK * (block + 1)))
-            there = wanted[span.start - place : span.stop - place]
-            fits.append([block, self.whole[span] == there, self.landed[span] == there])
-        return wanted[12 + len(key) : -4], [fit for fit in fits if not all(fit[1:])]
-
-    def fit_of_pointer(self, extent, generation, end):
-        """Whether the extent's pointer is of this generation, and behind this place."""
-        place = self.geometry.place_of_record(extent)
-        records = [part(content, place, RECORD) for content in (self.whole, self.landed)]
-        return [place // BLOCK, *(number_in(r, 0, 4) == generation and end <= number_in(r, 4, 8) for r in records)]
-
-
-def is_frame_of(key, length):
-    """Whether bytes are a frame of this key and length."""
-    return lambda content: len(content) == length and content == frame(key, content[12 + len(key) : -4])
+def places(geometry):
+    """Where slots, pointers and extents of a disk stand, for who reads its bytes."""
+    return {
+        "blocks": geometry.blocks,
+        "slots": geometry.slots,
+        "extents": geometry.extents,
+        "extentBytes": geometry.extent_bytes,
+        "records": geometry.place_of_record(0),
+        "frames": geometry.place_of_extent(0),
+    }
 
 
 def read(blocks):

@@ -11,7 +11,7 @@ import collections
 from dataclasses import dataclass
 from typing import Optional
 
-from explorer import store_words, words
+from explorer import narration, store_words, words
 from explorer.stories import Line, Made, WatchedModel, told_of_groups
 from plain_disk import Disk
 from plain_model import BLOCK, Complete, Create, Merge, Refused, Send, after_of, engaged_by, patches_of, writer_of
@@ -103,7 +103,8 @@ class PatchedStore(Store):
         if told := told_of_groups(line, answer):
             self.cache.tell(*told)
         said = store_words.of_store(self, line, answer, range(count, len(self.made_patches)))
-        return Line(number, text, answer, said, self.cache.take_moments())
+        note = narration.told(line, "note")
+        return Line(number, text, answer, said, self.cache.take_moments(), note=note)
 
     # Patches.
 

@@ -22,7 +22,7 @@ class Moment:
 
 @dataclass
 class Line:
-    """A line of the script by its number, its answer, what these say in words, and its moments."""
+    """A line of the script by its number, its answer, what these say in words, and its moments; what it is for."""
 
     number: int
     text: str
@@ -30,15 +30,17 @@ class Line:
     words: str = ""
     moments: list = field(default_factory=list)
     look: dict = field(default_factory=dict)
+    note: str = ""
 
 
 @dataclass
 class Made:
-    """What the page says of a patch beside the patch: its line, its groups, and what it is for."""
+    """What the page says of a patch beside the patch: its line, its groups, what it is for, and what it is called."""
 
     line: int
     groups: tuple = ()
     role: tuple = ()
+    name: str = ""
 
 
 class WatchedModel(QuickModel):

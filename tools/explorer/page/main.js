@@ -1,43 +1,74 @@
 // Goes through the moments: slider, keys and buttons.
 
-const STEPS = { ArrowRight: 1, ArrowDown: 1, ArrowLeft: -1, ArrowUp: -1, Home: -Infinity, End: Infinity };
-const LINES = { PageDown: "next", PageUp: "previous" };
+const SECONDS = 1.8; // between two steps that go by themselves
+const STEPS = { ArrowRight: 1, ArrowLeft: -1 };
+const LINES = { "]": "next", "[": "previous" };
 
 // What these keys lead to.
-const PLACES = { b: "#drawing .bar", w: "#write-block", c: "[data-flight]" };
+const PLACES = { b: "#drawing .bar", w: "#write-block", c: "#kinds :checked" };
 
 function goTo(index) {
   const place = Math.min(Math.max(index, 0), story.moments.length - 1);
-  if (place !== state.index) state.landed = new Set();
+  if (place !== state.index) state.landed = null;
   state.index = place;
   show();
+}
+
+const isAtEnd = () => state.index === story.moments.length - 1;
+
+// By hand one stops what goes by itself.
+function leadTo(index) {
+  stop();
+  goTo(index);
+}
+
+function play() {
+  if (state.timer) return stop();
+  if (isAtEnd()) goTo(0);
+  state.timer = setInterval(() => (goTo(state.index + 1), isAtEnd() && stop()), 1000 * SECONDS);
+  showPlaying();
+}
+
+function stop() {
+  clearInterval(state.timer);
+  state.timer = null;
+  showPlaying();
+}
+
+function showPlaying() {
+  at("play").textContent = state.timer ? "❚❚ Pause" : "▶ Play";
+  at("line").setAttribute("aria-live", state.timer ? "off" : "polite");
 }
 
 function choose(number) {
   state.chosen = state.chosen === number ? null : number;
   show();
   focusBar(number);
+  if (state.chosen !== null) at("patch-part").scrollIntoView({ block: "nearest" });
 }
 
-const focusBar = (number) => document.querySelector(`.bar[data-patch="${number}"]`)?.focus({ preventScroll: true });
+const barOf = (number) => document.querySelector(`.bar[data-patch="${number}"]`);
+const focusBar = (number) => barOf(number)?.focus({ preventScroll: true });
 
 // Showing.
 
 function show() {
   const now = standingAt(state.index);
+  now.crash = crashAt(now);
   at("slider").value = now.index;
   at("slider").setAttribute("aria-valuetext", now.where);
   at("where").textContent = now.where;
   at("back").disabled = now.index === 0;
-  at("on").disabled = now.index === story.moments.length - 1;
+  at("on").disabled = isAtEnd();
   at("line").innerHTML = now.said;
   put(now, "groups", now.held(story.groups));
   at("groups-part").hidden = now.held(story.groups) === "";
   if (story.isStore) at("store").innerHTML = joined(now.held(story.holds));
   showWrite(now);
   showCrash(now);
-  showPatch(now);
   showPicture(now);
+  showPatch(now);
+  placePatch();
   showScript(now);
   history.replaceState(null, "", `#${state.index}`);
 }
@@ -62,33 +93,46 @@ function bringIntoSight(box) {
   if (!isInSight) box.scrollLeft += inner.left - outer.left - WIDE.labels - 2 * WIDE.cell;
 }
 
+// Where there is no room beside the picture, what is said of the chosen patch stands under its bar.
+function placePatch() {
+  const bar = barOf(state.chosen);
+  if (!bar) return;
+  const top = bar.getBoundingClientRect().bottom - document.querySelector("main").getBoundingClientRect().top;
+  at("patch-part").style.setProperty("--under", `${top + 4}px`);
+}
+
 function showScript(now) {
   const list = at("script");
   list.querySelector(".current")?.classList.remove("current");
+  list.querySelector("[aria-current]")?.removeAttribute("aria-current");
   const current = list.children[now.line];
   current.classList.add("current");
+  current.firstChild?.setAttribute("aria-current", "step");
   list.scrollTop = current.offsetTop - list.clientHeight / 2;
 }
 
 // Listening.
 
-// The keys are those of a list of choices, or of what is being scrolled.
-const hasOwnKeys = (target) =>
-  target.matches("select") || (target.matches(".scroll") && target.scrollWidth > target.clientWidth);
+// The keys are those of the slider, of a list of choices, or of what is being scrolled.
+const isScrolled = (target) => target.matches(".scroll") && target.scrollWidth > target.clientWidth;
+const hasOwnKeys = (target) => target.matches("select, [type=range], [type=radio]") || isScrolled(target);
 
 function leave() {
   document.activeElement.blur();
   choose(state.chosen);
 }
 
+// Keys that the page has no use for, among them those that scroll it, stay the browser's.
 function onKey(event) {
-  if (event.altKey || event.ctrlKey || event.metaKey) return;
+  const isHeld = event.metaKey || ((event.altKey || event.ctrlKey) && !LINES[event.key]);
+  if (isHeld || (STEPS[event.key] && hasOwnKeys(event.target))) return;
   const bar = event.target.closest(".bar");
   if (event.key === "Escape") leave();
-  else if (hasOwnKeys(event.target)) return;
   else if (bar && [" ", "Enter"].includes(event.key)) choose(Number(bar.dataset.patch));
-  else if (STEPS[event.key]) goTo(state.index + STEPS[event.key]);
-  else if (LINES[event.key]) goTo(story.moments[state.index][LINES[event.key]]);
+  else if (STEPS[event.key]) leadTo(state.index + STEPS[event.key]);
+  else if (LINES[event.key]) leadTo(story.moments[state.index][LINES[event.key]]);
+  else if (event.target.matches("select")) return;
+  else if (event.key === "p") play();
   else if (PLACES[event.key]) document.querySelector(PLACES[event.key])?.focus();
   else return;
   event.preventDefault();
@@ -97,34 +141,37 @@ function onKey(event) {
 function onClick(event) {
   const patch = event.target.closest("[data-patch]");
   if (patch) choose(Number(patch.dataset.patch));
-  const item = event.target.closest("#script li");
-  if (item) goTo(story.moments.findLastIndex((moment) => moment.line === Number(item.dataset.line)));
+  const item = event.target.closest("[data-line]");
+  if (item) leadTo(story.moments.findLastIndex((moment) => moment.line === Number(item.dataset.line)));
 }
 
 function onChange({ target }) {
-  const { flight } = target.dataset;
+  const { choice } = target.dataset;
   if (target.id === "durable") state.showsDurable = target.checked;
   else if (target.id === "write-block") state.picked = Number(target.value);
-  else if (flight === undefined) return;
-  else if (target.checked) state.landed.add(Number(flight));
-  else state.landed.delete(Number(flight));
-  if (flight === undefined) show();
-  else showCrash(standingAt(state.index));
-  document.querySelector(flight === undefined ? `#${target.id}` : `[data-flight="${flight}"]`).focus();
+  else if (target.name === "kind") Object.assign(state, { kind: target.value, landed: null });
+  else if (choice) state.landed = chosenIn(at("choices"));
+  else return;
+  show();
+  document.querySelector(choice ? `[data-choice="${choice}"]` : target.id ? `#${target.id}` : PLACES.c).focus();
 }
 
-const goToAddress = () => goTo(Number(location.hash.slice(1)) || 0);
+const chosenIn = (part) => new Set([...part.querySelectorAll(":checked")].map((box) => Number(box.dataset.choice)));
+const goToAddress = () => leadTo(Number(location.hash.slice(1)) || 0);
 
 function begin() {
   state.showsDurable = at("durable").checked;
   at("script").innerHTML = story.script;
-  at("slider").addEventListener("input", () => goTo(Number(at("slider").value)));
-  at("back").addEventListener("click", () => goTo(state.index - 1));
-  at("on").addEventListener("click", () => goTo(state.index + 1));
+  at("slider").addEventListener("input", () => leadTo(Number(at("slider").value)));
+  at("back").addEventListener("click", () => leadTo(state.index - 1));
+  at("on").addEventListener("click", () => leadTo(state.index + 1));
+  at("play").addEventListener("click", play);
+  at("leave").addEventListener("click", leave);
   document.addEventListener("keydown", onKey);
   document.addEventListener("click", onClick);
   document.addEventListener("change", onChange);
   window.addEventListener("hashchange", goToAddress);
+  window.addEventListener("resize", placePatch);
   goToAddress();
 }
 

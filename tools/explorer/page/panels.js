@@ -66,57 +66,12 @@ function showWrite(now) {
 function showPatch(now) {
   const patch = now.made[state.chosen];
   put(now, "patch", patch?.html ?? story.unchosen);
+  at("patch-part").classList.toggle("chosen", Boolean(patch));
   if (!patch) return;
   const hardness = patch.isHard ? ", hard: never taken back" : "";
   at("patch-state").textContent = story.lookWords[lookOf(now, patch.number)] + hardness;
   at("patch-class").textContent = now.names[patch.number];
-  put(now, "patch-needs", chips(now, patch.needs, "nothing"));
-  put(now, "patch-needing", chips(now, numbersOf(now, ({ needs }) => needs.includes(patch.number)), "nothing"));
+  put(now, "patch-needs", chips(now, numbersOf(now, (other) => dependsOn(patch, other)), "nothing"));
+  put(now, "patch-needing", chips(now, numbersOf(now, (other) => dependsOn(other, patch)), "nothing"));
   if (chainOf(now, patch.number).length === 1) at("patch-waits").remove();
-}
-
-// A crash that leaves the writes that were chosen on the disk.
-
-function showCrash(now) {
-  const isThere = (patch) => ROWS.crash(now, patch);
-  const there = numbersOf(now, isThere);
-  put(now, "flights", now.held(story.flights).html);
-  for (const box of at("flights").querySelectorAll("input")) box.checked = state.landed.has(Number(box.dataset.flight));
-  put(now, "there", chips(now, there));
-  put(now, "lost", chips(now, numbersOf(now, (patch) => !isThere(patch))));
-  showWhetherClosed(now, there);
-  if (story.isStore) showWhatOpens(now);
-  else put(now, "left", now.touched.map((block) => bytesTable(now, block, ["crash"])).join(""));
-}
-
-function showVerdict(id, isRight, words) {
-  at(id).className = isRight ? "verdict" : "verdict broken";
-  at(id).innerHTML = shape("verdict", { sign: isRight ? "✓" : "✕", words });
-}
-
-// Patches that are there without something on which they depend are told; there are none.
-function showWhetherClosed(now, there) {
-  const found = new Set(there);
-  const missing = (number) => now.made[number].needs.filter((other) => !found.has(other));
-  const count = there.reduce((sum, number) => sum + now.made[number].needs.length, 0);
-  const arrows = `${grouped(count)} ${count === 1 ? "arrow leads" : "arrows lead"} to what is there`;
-  const none = there.length > 0 ? "None of them depends on another one." : "No patch is there.";
-  const closed = `Closed. ${count > 0 ? `Each has with it what it depends on: ${arrows}.` : none}`;
-  const broken = there.filter((number) => missing(number).length > 0);
-  const open = broken.map((number) => `patch ${number} without ${missing(number).join(", ")}`).join("; ");
-  showVerdict("closed", open === "", open === "" ? closed : `Not closed: ${open}.`);
-}
-
-// What a store finds when it opens this disk: slots, each with whether the frame is there that it names, and pointers.
-function showWhatOpens(now) {
-  const hasLanded = (block) => state.landed.has(block);
-  const isThere = ({ block, isBehind }) => isBehind === undefined || isBehind === hasLanded(block);
-  const entries = now.held(story.found).filter(isThere);
-  const isSound = ({ fits }) => fits.every(([block, before, behind]) => (hasLanded(block) ? behind : before));
-  const keys = entries.filter(({ key }) => key !== undefined).map(({ key }) => key);
-  const isOpen = entries.every(isSound) && new Set(keys).size === keys.length;
-  const words = `The disk opens, and has ${keys.length > 0 ? "these keys" : "no key"}.`;
-  showVerdict("opens", isOpen, isOpen ? words : "The disk doesn't open.");
-  const items = entries.map((entry) => joined(isSound(entry) ? entry.html : entry.without));
-  put(now, "left", `<ul class="keys">${items.join("")}</ul>`);
 }

@@ -2,7 +2,7 @@
 
 const HIGH = { head: 58, row: 24, unequal: 11, bar: 36, lane: 24, between: 34 };
 const WIDE = { labels: 62, cell: 30, gap: 18, byte: 150, slot: 112, pointer: 104, frame: 52, margin: 10, letter: 6.1 };
-const MOST = { cells: 12, drawn: 60, beside: 30, needed: 10, arrows: 90, chips: 40 };
+const MOST = { cells: 12, drawn: 60, beside: 30, needed: 10, arrows: 90, chips: 40, loose: 12, named: 6 };
 
 const namesIn = (names) => names.filter(Boolean).join(" ");
 
@@ -16,8 +16,9 @@ function fitted(text, width, letter = WIDE.letter) {
 // All patches where they are few; or else those that the moment is about, and the last ones beside them.
 function drawnAt(now) {
   const chosen = now.made[state.chosen];
-  const needed = (chosen?.needs ?? []).slice(-MOST.needed).filter((number) => isLive(now, number));
-  const about = new Set([...now.about, ...needed, chosen?.number]);
+  const needed = (chosen?.led ?? []).slice(-MOST.needed).filter((number) => isLive(now, number));
+  const broken = now.crash.missing.slice(0, 1).flatMap(({ from, to }) => [from, to]);
+  const about = new Set([...now.about, ...needed, ...broken, chosen?.number]);
   const all = now.made.filter(({ number }) => state.showsDurable || isLive(now, number) || about.has(number));
   if (all.length <= MOST.drawn) return { drawn: all, left: 0 };
   const first = all.filter(({ number }) => about.has(number)).slice(-MOST.drawn);
@@ -100,14 +101,21 @@ function cellsOf(now, strip, row, { other = row, kind = "svg", y = 0 } = {}) {
 }
 
 function stripAt(now, strip) {
-  const copy = now.view === strip.first ? "view" : "written";
+  const copy = copyOf(now, strip);
   const row = (name, y, other) =>
     shape("row", { row: name, block: strip.first, y, cells: cellsOf(now, strip, name, { other, y }) });
   const axis = strip.columns.filter((column) => !column.isGap).map((column) =>
     shape("axis", { ...column, y: strip.cached, text: grouped(column.from) }));
+  return [...axis, row("cached", strip.cached), row(copy, strip.written, "cached"), row("disk", strip.disk)].join("");
+}
+
+const copyOf = (now, strip) => (now.view === strip.first ? "view" : "written");
+
+// The names of a strip and of its rows, which stay in sight.
+function namesAt(now, strip) {
+  const label = (row, y) => shape("label", { row, y });
   const head = shape("head", { ...strip, status: now.held(strip.status) });
-  const rows = [row("cached", strip.cached), row(copy, strip.written, "cached"), row("disk", strip.disk)];
-  return [head, ...axis, ...rows].join("");
+  return head + label("cached", strip.cached) + label(copyOf(now, strip), strip.written) + label("disk", strip.disk);
 }
 
 // Bars.
@@ -173,21 +181,29 @@ function nameOfBand(bar, index, all) {
 
 // Arrows.
 
-// All of them, or where they are too many those of the moment and of what is chosen. An arrow is implied where another
-// patch between the two leads there as well, and met where its end is durable.
+// An arrow is met where its end is durable, and broken where a crash leaves its beginning without its end. It is
+// implied where another patch between the two leads there as well.
+function arrowAt(now, bars, from, to) {
+  const [isMet, isChosen, { there }] = [!isLive(now, to), [from, to].includes(state.chosen), now.crash];
+  const [isImplied, isBroken] = [!now.made[from].led.includes(to), there.has(from) && !there.has(to)];
+  const names = namesIn(["arrow", isImplied && "implied", isMet && "met", isChosen && "chosen", isBroken && "broken"]);
+  const path = pathBetween(bars.get(from), bars.get(to));
+  return { from, to, isMet, isAsked: isChosen || isBroken, names, path, tip: isBroken ? "tip-broken" : "tip" };
+}
+
+// All of them, but the implied ones of the chosen patch alone. Where they are too many, those of the moment and of what
+// is chosen or broken.
 function arrowsOf(now, bars) {
-  const arrow = ({ number: from, led }, to) => {
-    const [isImplied, isMet, isChosen] = [!led.includes(to), !isLive(now, to), [from, to].includes(state.chosen)];
-    const names = namesIn(["arrow", isImplied && "implied", isMet && "met", isChosen && "chosen"]);
-    return { from, to, isImplied, isMet, isChosen, names, path: pathBetween(bars.get(from), bars.get(to)) };
-  };
-  const arrowsFrom = ({ patch }) => patch.needs.filter((to) => bars.has(to)).map((to) => arrow(patch, to));
-  const isHistory = ({ from, isMet, isImplied }) => story.isStore && isMet && (isImplied || !isLive(now, from));
-  const all = [...bars.values()].flatMap(arrowsFrom).filter((one) => one.isChosen || !isHistory(one));
-  if (all.length <= MOST.arrows) return { arrows: all, arrowsLeft: 0 };
-  const isAsked = ({ from, isMet, isChosen }) => isChosen || now.changed.includes(from) || !isMet;
-  const few = all.filter((one) => !one.isImplied && isAsked(one)).slice(-MOST.arrows);
-  return { arrows: few, arrowsLeft: all.length - few.length };
+  const all = [...bars.values()].map(({ patch }) => patch);
+  const isChosen = (patch, other) => [patch, other].includes(now.made[state.chosen]) && dependsOn(patch, other);
+  const endsOf = (patch) => all.filter((other) => patch.led.includes(other.number) || isChosen(patch, other));
+  const arrows = all.flatMap((patch) => endsOf(patch).map((other) => arrowAt(now, bars, patch.number, other.number)));
+  const isHistory = ({ from, isMet }) => story.isStore && isMet && !isLive(now, from);
+  const some = arrows.filter((arrow) => arrow.isAsked || !isHistory(arrow));
+  if (some.length <= MOST.arrows) return { arrows: some, arrowsLeft: 0 };
+  const isNear = ({ from, isMet, isAsked }) => isAsked || now.changed.includes(from) || !isMet;
+  const few = some.filter(isNear).slice(-MOST.arrows);
+  return { arrows: few, arrowsLeft: some.length - few.length };
 }
 
 const nearest = (bar, x) => Math.min(Math.max(x, bar.x + 9), bar.right - 9);
@@ -228,6 +244,8 @@ function pictureOf(now) {
     all.map((bar) => barAt(now, bar)),
   ];
   const ends = strips.flatMap((strip) => [strip.right, WIDE.letter * now.held(strip.status).length]);
-  const html = shape("picture", { width: Math.max(...ends) + WIDE.margin, height, layers: layers.flat().join("") });
+  const names = strips.map((strip) => namesAt(now, strip)).join("");
+  const width = Math.max(...ends) + WIDE.margin;
+  const html = shape("picture", { width, height, layers: layers.flat().join(""), names });
   return { html, left, arrowsLeft };
 }

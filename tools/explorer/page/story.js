@@ -3,7 +3,7 @@
 // What the page was given: patches, moments, and for all that changes a list of the moments at which it does.
 
 const BLOCK = 4096;
-const state = { index: 0, chosen: null, picked: null, landed: new Set(), showsDurable: false };
+const state = { index: 0, chosen: null, picked: null, kind: "kept", landed: null, showsDurable: false, timer: null };
 let story;
 
 const at = (id) => document.getElementById(id);
@@ -41,8 +41,13 @@ function standingAt(index) {
 }
 
 const isLive = (now, number) => now.looks[number] !== "durable";
-const isFlying = (now, block) => now.held(story.flights).blocks.includes(block);
+const isFlying = (now, block) => now.held(story.flights).includes(block);
 const numbersOf = (now, passes) => now.made.filter(passes).map((patch) => patch.number);
+
+// A patch depends directly on those that it names, and on the earlier ones under it.
+const sharesByte = (patch, { block, from, to }) => patch.block === block && patch.from < to && from < patch.to;
+const dependsOn = (patch, other) =>
+  other.number < patch.number && (patch.named.includes(other.number) || sharesByte(patch, other));
 
 // Which patches a row of bytes is piled up of. What is written goes with the write under way, or one that began now.
 const ROWS = {
@@ -51,8 +56,7 @@ const ROWS = {
     ["flight", "durable"].includes(now.looks[number]) || (now.looks[number] === "memory" && !isFlying(now, block)),
   view: (now, { number }) => !now.taken.includes(number),
   disk: (now, { number }) => !isLive(now, number),
-  crash: (now, { number, block }) =>
-    !isLive(now, number) || (now.looks[number] === "flight" && state.landed.has(block)),
+  crash: (now, { number }) => now.crash.there.has(number),
 };
 
 const pileOf = (now, strip, row) => now.made.filter((patch) => patch.strip === strip.number && ROWS[row](now, patch));
