@@ -52,8 +52,10 @@ NEEDED = {
     "depend": ("group", "on"),
     "close": ("group",),
     "pending": ("group",),
-    "sync": ("group",),
+    "sync": (),
 }
+# Those that it may have beside a writer.
+OPTIONAL = {"put": ("times",), "sync": ("group",)}
 MAX_VALUE_OF_LINE = 1_048_576
 MAX_WRITER = 7
 HEX = re.compile("(?:[0-9a-fA-F]{2})*")
@@ -63,7 +65,7 @@ def is_readable(line):
     """A line of this op has these names, and each has a value of its kind. Other names may have any."""
     if not isinstance(line.get("op"), str) or line["op"] not in NEEDED:
         return False
-    needed, may_have = NEEDED[line["op"]], {"writer", *(["times"] if line["op"] == "put" else [])}
+    needed, may_have = NEEDED[line["op"]], {"writer", *OPTIONAL.get(line["op"], ())}
     if not all(name in line for name in needed):
         return False
     if not all(is_of_kind(name, line[name]) for name in line if name in may_have.union(needed)):
@@ -155,7 +157,8 @@ class Store(LineModel):
         return f"pending {self.waiting[line['group']]}"
 
     def sync(self, line):
-        plain_model.check_open(self.groups, line["group"])
+        if "group" in line:
+            plain_model.check_open(self.groups, line["group"])
         self.flush()
         return "synced"
 
