@@ -1,10 +1,21 @@
-//! Tests of the crates below the views: words of the cache, orders, skylines, lists of numbers, devices, and what tests share.
+//! Tests of the crates beside the cache: words of the cache, orders, skylines, lists of numbers, links, devices, frames, scripts,
+//! histories, the index, commands, and what tests share.
 #![tactic(auto)]
 
+#[cfg(test)]
+mod commands;
 #[cfg(test)]
 mod device;
 #[cfg(test)]
 mod expecting;
+#[cfg(test)]
+mod frame;
+#[cfg(test)]
+mod history;
+#[cfg(test)]
+mod index;
+#[cfg(test)]
+mod links;
 #[cfg(test)]
 mod model;
 #[cfg(test)]
@@ -13,6 +24,8 @@ mod numbers;
 mod order;
 #[cfg(test)]
 mod rows;
+#[cfg(test)]
+mod script;
 #[cfg(test)]
 mod skyline;
 #[cfg(test)]

@@ -1,5 +1,5 @@
 //! Lines of each form, what is wrong with those that aren't readable, limits, and the texts of replies.
-use crate::expecting::expect_eq;
+use crate::expecting::{expect_eq, in_a_tree};
 use patch_commands::*;
 use patch_history::Reply;
 use patch_model::{Bytes, GroupNo, Items, OutOfMemory, Refusal, RefusalKind};
@@ -7,6 +7,8 @@ use patch_script::{Defect, Name, passes_limit};
 use std::alloc::{AllocError, Global};
 use std::process::Abort;
 use std::test::Fail;
+
+mod rows;
 
 const LINES: &str = r#"{"op":"put","key":"k","hex":"0aFF"}
 {"op":"put","writer":7,"key":"","hex":"","times":4294967295}
@@ -232,24 +234,12 @@ fn expect_words(rt: &impl Abort, alloc: Global, line: &str, want: &str) -> Resul
     Ok(())
 }
 
-/// The line with one member more, which isn't plain, so that it is read as a tree of values.
-fn expect_words_in_a_tree(
-    rt: &impl Abort,
-    alloc: Global,
-    line: &str,
-    want: &str,
-) -> Result<(), Fail> {
-    let Some(front) = line.strip_suffix("}") else {
-        return Ok(());
-    };
-    let other = format!(in alloc; "{front},\"other\":{{}}}}")?;
-    expect_words(rt, alloc, other.as_str(), want)
-}
-
 fn expect_words_of_each(rt: &impl Abort, alloc: Global, rows: &[(&str, &str)]) -> Result<(), Fail> {
     for (line, want) in rows {
         expect_words(rt, alloc, *line, *want)?;
-        expect_words_in_a_tree(rt, alloc, *line, *want)?;
+        if let Some(other) = in_a_tree(alloc, *line)? {
+            expect_words(rt, alloc, other.as_str(), *want)?;
+        }
     }
     Ok(())
 }

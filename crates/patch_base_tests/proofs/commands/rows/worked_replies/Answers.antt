@@ -1,7 +1,7 @@
 use Rattle.std.proofs.Common.{refl}
 use Rattle.hex.proofs.OnLiterals.{hex_on_literals}
 use Rattle.std.specs.Fmt.{digits}
-use Rattle.patch_commands_tests.proofs.rows.worked_replies.Goals as goal
+use Rattle.patch_base_tests.proofs.commands.rows.worked_replies.Goals as goal
 
 pub returns-clause-done : goal.returns-clause-done
 unfolding hex_on_literals digits

@@ -1,18 +1,14 @@
 //! What no contract says: the bytes of worked examples, each refusal, and refused memory.
+use crate::expecting::expect_eq;
 use linked_list_allocator::LocalHeap;
 use patch_frame::*;
 use patch_model::{BlockBytes, OutOfMemory, RefusalKind, Refuses};
 use std::alloc::{Allocator, Global};
-use std::fmt::{Debug, Display};
+use std::fmt::Display;
 use std::process::Abort;
 use std::test::Fail;
 
 mod damaged;
-
-// Ends the test, telling both, unless what came is what is wanted. A call takes the prover less than `assert_eq!` where it stands.
-fn expect_eq<T: PartialEq + Debug>(rt: &impl Abort, got: &T, want: &T) {
-    assert_eq!(rt; *got, *want);
-}
 
 // The frame of the key `k` with the empty value.
 const EMPTY: [u8; 17] = *b"FCH1\x01\0\0\0\0\0\0\0k1HCF";

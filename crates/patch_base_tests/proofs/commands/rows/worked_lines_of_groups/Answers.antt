@@ -3,7 +3,7 @@ use Rattle.std.specs.Str.{is_utf8, chars}
 use Rattle.serde_json.proofs.OnLiterals.{serde_json_on_literals}
 use Rattle.hex.proofs.OnLiterals.{hex_on_literals}
 use Rattle.patch_commands.specs.Command.{command_of, writer_command, group_command, depend_line}
-use Rattle.patch_commands_tests.proofs.rows.worked_lines_of_groups.Goals as goal
+use Rattle.patch_base_tests.proofs.commands.rows.worked_lines_of_groups.Goals as goal
 
 pub returns-clause-group : goal.returns-clause-group
 unfolding serde_json_on_literals hex_on_literals is_utf8 chars command_of writer_command group_command depend_line

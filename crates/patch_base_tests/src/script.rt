@@ -1,10 +1,12 @@
 //! Scripts of every kind, and the texts of answers.
-use crate::expecting::expect_eq;
+use crate::expecting::{expect_eq, in_a_tree};
 use patch_model::{BlockNo, Bytes, GroupNo, Items, Numbers, PatchNo, Refusal, RefusalKind};
 use patch_script::*;
 use std::alloc::{AllocError, Global};
 use std::process::Abort;
 use std::test::Fail;
+
+mod rows;
 
 // How a script is read.
 #[derive(Clone, Copy, Debug, PartialEq, Eq)]
@@ -410,25 +412,13 @@ fn expect_words(rt: &impl Abort, alloc: Global, line: &str, want: &str) -> Resul
     Ok(())
 }
 
-/// The line with one member more, which isn't plain, so that it is read as a tree of values.
-fn expect_words_in_a_tree(
-    rt: &impl Abort,
-    alloc: Global,
-    line: &str,
-    want: &str,
-) -> Result<(), Fail> {
-    let Some(front) = line.strip_suffix("}") else {
-        return Ok(());
-    };
-    let other = format!(in alloc; "{front},\"other\":{{}}}}")?;
-    expect_words(rt, alloc, other.as_str(), want)
-}
-
 #[test]
 fn says_what_is_wrong(rt: HostRuntime) -> Result<(), Fail> {
     for (line, want) in WORDS.iter() {
         expect_words(&rt, rt.alloc(), *line, *want)?;
-        expect_words_in_a_tree(&rt, rt.alloc(), *line, *want)?;
+        if let Some(other) = in_a_tree(rt.alloc(), *line)? {
+            expect_words(&rt, rt.alloc(), other.as_str(), *want)?;
+        }
     }
     Ok(())
 }

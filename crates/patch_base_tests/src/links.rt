@@ -1,18 +1,16 @@
 //! Walks through the calls against a slow model.
-use crate::model::Slow;
+use crate::expecting::expect_eq;
 use linked_list_allocator::LocalHeap;
 use patch_links::{Class, Links, Reach};
 use patch_model::{BlockNo, Mark, PatchNo};
 use patch_numbers::NumberList;
 use std::alloc::{AllocError, Global};
-use std::fmt::Debug;
 use std::process::Abort;
 use std::test::Fail;
 
-// Ends the test, telling both, unless what came is what is wanted. A call takes the prover less than `assert_eq!` where it stands.
-fn expect_eq<T: PartialEq + Debug>(rt: &impl Abort, got: &T, want: &T) {
-    assert_eq!(rt; *got, *want);
-}
+mod model;
+
+use model::Slow;
 
 // How many blocks the walks go over.
 const BLOCKS: u32 = 4;
