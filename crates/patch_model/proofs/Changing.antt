@@ -12,7 +12,7 @@ use Rattle.patch_model.specs.State.{fresh, joined, sent, landed, class_of, entri
 use Rattle.patch_model.specs.History.{of_block, history_of, History}
 use Rattle.patch_model.specs.Legal.{IsLegal, IsLegalMerge, block_of_patch}
 use Rattle.patch_model.specs.Member.{In, Contains-from_In}
-use Rattle.patch_model.specs.Kept.{patch-joined, patch-landed, patch-sent}
+use Rattle.patch_model.specs.Unchanged.{patch-joined, patch-landed, patch-sent}
 use Rattle.patch_model.proofs.Numbering.{state_of-extended, AreApart-run}
 use Rattle.patch_model.proofs.Marks.{sent_from}
 use Rattle.patch_model.proofs.Orders.{member, of_block-In}

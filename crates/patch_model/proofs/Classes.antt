@@ -13,7 +13,7 @@ use Rattle.patch_model.specs.State.{State, fresh, joined, sent, landed, class_of
 use Rattle.patch_model.specs.Legal.{IsLegal, IsLegalStep, AreLegal, block_of_patch}
 use Rattle.patch_model.specs.Crash.{AreWhole, crash_set}
 use Rattle.patch_model.specs.Member.{In, In-from_Contains, Contains-from_In, map-In}
-use Rattle.patch_model.specs.Kept.{class-landed, class-sent, patch-landed, patch-sent}
+use Rattle.patch_model.specs.Unchanged.{class-landed, class-sent, patch-landed, patch-sent}
 use Rattle.patch_model.proofs.Striking.{ready-largest, ready-In}
 use Rattle.patch_model.proofs.Numbering.{Numbered, Numbered-after_step, apart-from_Numbered}
 use Rattle.patch_model.proofs.Crashes.{In-push, Numbered-below}

@@ -17,7 +17,7 @@ use Rattle.patch_model.specs.State.{State, fresh, joined, sent, landed, class_of
 use Rattle.patch_model.specs.Legal.{IsLegal, IsLegalStep, AreLegal}
 use Rattle.patch_model.specs.Crash.{IsClosed, crash_set}
 use Rattle.patch_model.specs.Member.{In, In-from_Contains, Contains-from_In, map-In}
-use Rattle.patch_model.specs.Kept.{patch-joined, patch-landed, patch-sent}
+use Rattle.patch_model.specs.Unchanged.{patch-joined, patch-landed, patch-sent}
 use Rattle.patch_model.proofs.Striking.{ready-largest, ready-In, or_last}
 use Rattle.patch_model.proofs.Numbering.{Numbered, Numbered-after_step, apart-from_Numbered}
 

@@ -12,7 +12,7 @@ use Rattle.patch_model.specs.Ready.{has, ready}
 use Rattle.patch_model.specs.State.{State, joined, sent, landed, class_of, after_step, after_steps, at_first, state_of, entries_of, has_flight}
 use Rattle.patch_model.specs.Legal.{IsLegal, IsLegalStep, AreLegal}
 use Rattle.patch_model.specs.Member.{In, In-from_Contains, filter-In, list_any-at, list_any-from, In-map}
-use Rattle.patch_model.specs.Kept.{mark-joined, patch-joined, patch-landed, patch-sent}
+use Rattle.patch_model.specs.Unchanged.{mark-joined, patch-joined, patch-landed, patch-sent}
 use Rattle.patch_model.proofs.Striking.{ready-In}
 use Rattle.patch_model.proofs.Numbering.{apart-from_Numbered}
 use Rattle.patch_model.proofs.Marks.{IsSettled, IsSettled-after_step, settled_first}

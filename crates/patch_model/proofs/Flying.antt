@@ -13,7 +13,7 @@ use Rattle.patch_model.specs.Ready.{has, ready}
 use Rattle.patch_model.specs.State.{fresh, joined, sent, landed, class_of, after_step, state_of, entries_of, has_flight, next_patch, flying_of, numbers_of}
 use Rattle.patch_model.specs.Legal.{IsLegal}
 use Rattle.patch_model.specs.Member.{In, In-filter, filter-In}
-use Rattle.patch_model.specs.Kept.{mark-joined, patch-joined, patch-landed, patch-sent}
+use Rattle.patch_model.specs.Unchanged.{mark-joined, patch-joined, patch-landed, patch-sent}
 use Rattle.patch_model.proofs.Counting.{count-cons, count-push, count-map_same}
 use Rattle.patch_model.proofs.Leaving.{entries_on, kept_same, filter-last}
 use Rattle.patch_model.proofs.Marks.{sent_from}

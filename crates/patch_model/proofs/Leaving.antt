@@ -15,7 +15,7 @@ use Rattle.patch_model.specs.History.{without, image, HoldsDependents, history_o
 use Rattle.patch_model.specs.Legal.{IsLegal}
 use Rattle.patch_model.specs.Orderly.{left_behind}
 use Rattle.patch_model.specs.Member.{In, In-from_Contains, Contains-from_In, In-filter, filter-In, filter-same}
-use Rattle.patch_model.specs.Kept.{mark-joined, patch-joined, patch-landed, patch-sent}
+use Rattle.patch_model.specs.Unchanged.{mark-joined, patch-joined, patch-landed, patch-sent}
 use Rattle.patch_model.proofs.Among.{among_map-at, among_map-from}
 use Rattle.patch_model.proofs.Striking.{ready-In}
 use Rattle.patch_model.proofs.Numbering.{AreApart-run, ready_is_largest, state_of-extended}

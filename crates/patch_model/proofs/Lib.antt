@@ -14,7 +14,7 @@ pub mod Spans
 pub mod Sizes
 pub mod Orders
 pub mod Changing
-pub mod Holding
+pub mod HeldDependents
 pub mod Leaving
 pub mod Flights
 pub mod Taken
@@ -26,3 +26,4 @@ pub mod Sending
 pub mod Flying
 pub mod Naming
 pub mod Ranging
+pub mod Unmade

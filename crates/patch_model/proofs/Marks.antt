@@ -17,7 +17,7 @@ use Rattle.patch_model.specs.State.{State, is_made_hard, fresh, joined, sent, la
 use Rattle.patch_model.specs.Legal.{IsLegal, IsLegalStep, AreLegal}
 use Rattle.patch_model.specs.Orderly.{IsUnder}
 use Rattle.patch_model.specs.Member.{In, In-from_Contains, In-filter, list_all-at, list_any-at, list_any-from, map-In}
-use Rattle.patch_model.specs.Kept.{hard-joined, hard-landed, hard-sent, mark-joined, patch-joined, patch-landed, patch-sent}
+use Rattle.patch_model.specs.Unchanged.{hard-joined, hard-landed, hard-sent, mark-joined, patch-joined, patch-landed, patch-sent}
 use Rattle.patch_model.proofs.Striking.{ready-In}
 use Rattle.patch_model.proofs.Numbering.{Numbered, Numbered-after_step, apart-from_Numbered}
 use Rattle.patch_model.proofs.Crashes.{IsOrdered, IsOrdered-after_step, In-push, Numbered-below, depends-earlier, not_both}

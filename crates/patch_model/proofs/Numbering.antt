@@ -8,7 +8,7 @@ use Rattle.patch_model.specs.Entry.{Entry}
 use Rattle.patch_model.specs.Ready.{ready, IsLargestWritable}
 use Rattle.patch_model.specs.State.{State, joined, sent, landed, class_of, after_step, after_steps, at_first, state_of, entries_of}
 use Rattle.patch_model.specs.Member.{In}
-use Rattle.patch_model.specs.Kept.{patch-joined, patch-landed, patch-sent}
+use Rattle.patch_model.specs.Unchanged.{patch-joined, patch-landed, patch-sent}
 use Rattle.patch_model.proofs.Striking.{ready-largest}
 
 -- the patches are numbered from n on

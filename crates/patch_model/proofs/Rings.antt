@@ -16,7 +16,7 @@ use Rattle.patch_model.specs.State.{State, fresh, joined, sent, landed, class_of
 use Rattle.patch_model.specs.Legal.{IsLegal, IsLegalStep, AreLegal, IsLegalMerge, is_undoable_at}
 use Rattle.patch_model.specs.Orderly.{MeetAt, IsClassUnder, IsUnder, IsLike}
 use Rattle.patch_model.specs.Member.{In, In-from_Contains, list_any-at, list_any-from, map-In}
-use Rattle.patch_model.specs.Kept.{class-landed, class-sent, patch-joined, patch-landed, patch-sent}
+use Rattle.patch_model.specs.Unchanged.{class-landed, class-sent, patch-joined, patch-landed, patch-sent}
 use Rattle.patch_model.proofs.Numbering.{Numbered}
 use Rattle.patch_model.proofs.Crashes.{IsOrdered, In-push, Numbered-below, depends-earlier}
 use Rattle.patch_model.proofs.Classes.{AreClasses, at_number}

@@ -11,7 +11,7 @@ use Rattle.patch_model.specs.Entry.{Entry, is_memory, is_flight}
 use Rattle.patch_model.specs.Ready.{has, ready}
 use Rattle.patch_model.specs.State.{State, at_first, fresh, joined, sent, landed, class_of, after_step, after_steps, state_of, entries_of}
 use Rattle.patch_model.specs.Legal.{IsLegal, IsLegalStep, AreLegal}
-use Rattle.patch_model.specs.Kept.{mark-joined}
+use Rattle.patch_model.specs.Unchanged.{mark-joined}
 use Rattle.patch_model.proofs.Counting.{count-push, count-map_le, count-map_lt}
 use Rattle.patch_model.proofs.Flights.{first_of_some}
 use Rattle.patch_model.proofs.Marks.{never}

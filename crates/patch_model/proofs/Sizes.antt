@@ -15,7 +15,7 @@ use Rattle.patch_model.specs.Ready.{has, ready}
 use Rattle.patch_model.specs.State.{State, at_first, fresh, joined, sent, landed, class_of, after_step, after_steps, entries_of}
 use Rattle.patch_model.specs.Legal.{IsLegal, IsLegalStep, AreLegal}
 use Rattle.patch_model.specs.Member.{In, map-In}
-use Rattle.patch_model.specs.Kept.{mark-joined, patch-joined, patch-landed, patch-sent}
+use Rattle.patch_model.specs.Unchanged.{mark-joined, patch-joined, patch-landed, patch-sent}
 use Rattle.patch_model.proofs.Numbering.{Numbered, Numbered-after_step, apart-from_Numbered}
 use Rattle.patch_model.proofs.Counting.{count-push, count-map_le}
 use Rattle.patch_model.proofs.Crashes.{In-push}

@@ -14,7 +14,7 @@ use Rattle.patch_model.specs.State.{State, fresh, joined, sent, landed, class_of
 use Rattle.patch_model.specs.Legal.{IsLegal, IsLegalStep, AreLegal, touch}
 use Rattle.patch_model.specs.Orderly.{NamesIt, CoversIt}
 use Rattle.patch_model.specs.Member.{In, In-from_Contains, Contains-from_In, list_any-at, list_any-from, In-map, map-In}
-use Rattle.patch_model.specs.Kept.{class-landed, class-sent, patch-joined, patch-landed, patch-sent}
+use Rattle.patch_model.specs.Unchanged.{class-landed, class-sent, patch-joined, patch-landed, patch-sent}
 use Rattle.patch_model.proofs.Numbering.{Numbered}
 use Rattle.patch_model.proofs.Crashes.{In-push, Numbered-below}
 use Rattle.patch_model.proofs.Classes.{AreClasses}

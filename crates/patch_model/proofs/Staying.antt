@@ -19,7 +19,7 @@ use Rattle.patch_model.specs.History.{pile_of, image, history_of}
 use Rattle.patch_model.specs.Legal.{IsLegal, IsLegalStep}
 use Rattle.patch_model.specs.Crash.{crash_set, disk_of, MayLeave}
 use Rattle.patch_model.specs.Member.{In}
-use Rattle.patch_model.specs.Kept.{mark-joined, patch-joined, patch-landed, patch-sent}
+use Rattle.patch_model.specs.Unchanged.{mark-joined, patch-joined, patch-landed, patch-sent}
 use Rattle.patch_model.proofs.Numbering.{AreApart-run}
 use Rattle.patch_model.proofs.Marks.{sent_from}
 use Rattle.patch_model.proofs.Waiting.{no_flying}

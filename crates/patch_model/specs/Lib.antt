@@ -19,7 +19,7 @@ pub mod Piles
 pub mod Laws
 pub mod Member
 pub mod Laying
-pub mod Kept
+pub mod Unchanged
 pub mod Marked
 pub mod Link
 pub mod Entries

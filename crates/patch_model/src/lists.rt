@@ -1,7 +1,8 @@
 //! Lists whose items contracts see in order, and nothing else of them.
-ghost use Rattle.std.specs.Prelude.{◌≡◌};
+ghost use Rattle.std.specs.Prelude.{◌≡◌, IfOk};
 
 use crate::numbers::PatchNo;
+use crate::refusals::OutOfMemory;
 use std::alloc::{Allocator, Global};
 use std::marker::Model;
 
@@ -46,5 +47,15 @@ impl<T, A: Allocator> Items<T, A> {
         ensures { result.now ≡ self.now }
     {
         &self.items
+    }
+}
+
+impl<T: Copy, A: Allocator> Items<T, A> {
+    /// A list with a copy of these items.
+    pub fn from_slice(alloc: A, items: &[T]) -> Result<Items<T, A>, OutOfMemory>
+        ensures { IfOk result (λ list. list ≡ items.now) }
+    {
+        let items = Vec::from_slice(alloc, items)?;
+        Ok(Items { items })
     }
 }

@@ -1,1 +1,4 @@
 pub mod BlockSets
+pub mod Searching
+pub mod Interleaving
+pub mod Ranges

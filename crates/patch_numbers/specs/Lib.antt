@@ -1,2 +1,4 @@
 pub mod BlockSets
 pub mod NumberList
+pub mod Rising
+pub mod Runs

@@ -8,5 +8,5 @@ pub record NumberList : Type 0 where
 
 -- the room of a list of which so many lie in it and so many in memory, where there is so much of that
 abbrev pub room_of : ℕ → ℕ → ℕ → ℕ
-room_of few zero capacity = max (2 - few) (capacity - few)
+room_of few zero capacity = max (3 - few) (capacity - few)
 room_of few (suc many) capacity = capacity - suc many

@@ -1,4 +1,4 @@
-use Rattle.patch_model.proofs.Holding as holding
+use Rattle.patch_model.proofs.HeldDependents as holding
 use Rattle.patch_model.proofs.laws.holding_is_tested.Goals as goal
 
 pub returns : goal.returns
