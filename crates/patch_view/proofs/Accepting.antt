@@ -13,11 +13,11 @@ use Rattle.patch_model.specs.Dependency.{class_depends}
 use Rattle.patch_model.specs.Member.{In, In-from_Contains, list_any-from}
 use Rattle.patch_model.specs.History.{History, HoldsDependents, Back, moved}
 use Rattle.patch_model.specs.Refusing.{bare, least, applied_dependents, taken_dependencies, hindered_by, why_class_not_taken}
-use Rattle.patch_view.specs.declared.refusals.TakeRefusal.{TakeRefusal}
-use Rattle.patch_view.specs.declared.refusals.PutBackRefusal.{PutBackRefusal}
-use Rattle.patch_view.specs.State.{Block}
+use Rattle.patch_stacks.specs.declared.refusals.TakeRefusal.{TakeRefusal}
+use Rattle.patch_stacks.specs.declared.refusals.PutBackRefusal.{PutBackRefusal}
+use Rattle.patch_stacks.specs.State.{Block}
 use Rattle.patch_view.specs.History.{IsCoherent}
-use Rattle.patch_view.specs.Meaning.{Represents}
+use Rattle.patch_view.specs.Meaning.{IsBlockOf}
 use Rattle.patch_view.specs.Answers.{IsPatch, MayTake, MayPutBack, IsTakeAnswer, IsPutBackAnswer}
 use Rattle.patch_view.specs.Laws.{TakenWithoutCause, PutBackWithoutCause}
 use Rattle.patch_view.proofs.Steps.{among-filter, among-left}
@@ -88,7 +88,7 @@ taken_without_cause h names number r holds = (
   λ may. take_done h names number may.patch r may.named may.undoable may.applied may.holds,
 )
 
-pub take_accepted : (b new : Block) (taken : List ℕ) (h : History) (number : ℕ) (result : Result (Unit {0}) TakeRefusal) → Represents b taken h
+pub take_accepted : (b new : Block) (taken : List ℕ) (h : History) (number : ℕ) (result : Result (Unit {0}) TakeRefusal) → IsBlockOf b taken h
     → IsTakeAnswer h taken number new result → IsOk result ↔ MayTake h taken number
 take_accepted b new taken h number (Ok done) r t = ((λ is. (taken_without_cause h taken number r.coherent r.holds).0 t.none), (λ may. refl))
 take_accepted b new taken h number (Err refusal) r why =
@@ -132,7 +132,7 @@ put_back_without_cause h names number r holds = (
   λ may. back_done h names number may.patch r holds may.named may.is_taken may.holds,
 )
 
-pub put_back_accepted : (b new : Block) (taken : List ℕ) (h : History) (number : ℕ) (result : Result (Unit {0}) PutBackRefusal) → Represents b taken h
+pub put_back_accepted : (b new : Block) (taken : List ℕ) (h : History) (number : ℕ) (result : Result (Unit {0}) PutBackRefusal) → IsBlockOf b taken h
     → IsPutBackAnswer h taken number new result → IsOk result ↔ MayPutBack h taken number
 put_back_accepted b new taken h number (Ok done) r t = ((λ is. (put_back_without_cause h taken number r.coherent r.holds).0 t.none), (λ may. refl))
 put_back_accepted b new taken h number (Err refusal) r why =

@@ -14,10 +14,12 @@ use Rattle.patch_model.specs.Member.{In, list_any-at, list_any-from}
 use Rattle.patch_model.specs.History.{History, without}
 use Rattle.patch_view.proofs.Sets.{class_depends_on, none-held, never-from, ordered_on}
 use Rattle.patch_view.specs.History.{IsCoherent, IsNext, laid, class_covers, class_names, comes_before, below}
-use Rattle.patch_view.specs.State.{Class, Block, class_at, no_class, new_class, with_laid, KeepsNames}
-use Rattle.patch_view.specs.Meaning.{IsClassOf, NamesLive, Represents}
+use Rattle.patch_records.specs.Records.{Class, no_class}
+use Rattle.patch_stacks.specs.State.{Block, class_at, new_class, with_laid, KeepsNames}
+use Rattle.patch_view.specs.Meaning.{IsClassOf, NamesLive, IsBlockOf}
 use Rattle.patch_model.specs.Laying.{covers-from}
-use Rattle.patch_view.proofs.Chain.{same_byte, covering, before-at, before-from, range-at, length-by}
+use Rattle.patch_view.proofs.Chain.{same_byte, covering, before-at, before-from, length-by}
+use Rattle.patch_records.proofs.Bytes.{range-at}
 
 pub In-left : {X : Type 0} → (xs ys : List X) (x : X) → In xs x → In (xs ++ ys) x
 In-left [] ys x i = absurd i
@@ -146,7 +148,7 @@ covers-new h e x next own = same_bool _ _
     (λ t. list_any-from (λ f. f.class == e.patch.no && covers f.patch x) (laid h e).entries e (In-last h.entries e) (and_from _ _ (eq-eqb _ _ own) t))
 
 -- the new class's record
-pub own-class : (b : Block) (h : History) (e : Entry) → Represents b [] h → IsNext h e → e.class ≡ e.patch.no → is_memory e ≡ true
+pub own-class : (b : Block) (h : History) (e : Entry) → IsBlockOf b [] h → IsNext h e → e.class ≡ e.patch.no → is_memory e ≡ true
     → (all : List ℕ) → KeepsNames b e.patch.after all
     → (c : Class) → c ≡ new_class b e.patch.no e.patch.start e.patch.bytes all e.hard → IsClassOf (laid h e) [] c
 own-class b h e r next own memory all names c is =
@@ -241,7 +243,7 @@ never-named h e c n next is t =
     ]
 
 -- the records know what they have to of the numbers
-lays-named : (b : Block) (h : History) (e : Entry) (c : Class) → Represents b [] h → IsNext h e → e.class ≡ e.patch.no → KeepsNames b e.patch.after c.after
+lays-named : (b : Block) (h : History) (e : Entry) (c : Class) → IsBlockOf b [] h → IsNext h e → e.class ≡ e.patch.no → KeepsNames b e.patch.after c.after
     → c.name ≡ e.patch.no → c.members ≡ e.patch.no ∷ [] → (new : Block) → new.classes ≡ b.classes ++ c ∷ [] → NamesLive new (laid h e)
 lays-named b h e c r next own names name members new is i j n h_i h_j on goes =
     let w_i : i < length (b.classes ++ c ∷ []) = rw is at h_i in
@@ -266,9 +268,9 @@ lays-named b h e c r next own names name members new is i j n h_i h_j on goes =
           ]
     ]
 
-pub lays : (b : Block) (h : History) (e : Entry) → Represents b [] h → IsNext h e → e.class ≡ e.patch.no → is_memory e ≡ true
+pub lays : (b : Block) (h : History) (e : Entry) → IsBlockOf b [] h → IsNext h e → e.class ≡ e.patch.no → is_memory e ≡ true
     → (all : List ℕ) → KeepsNames b e.patch.after all
-    → Represents (with_laid b e.patch.no e.patch.start e.patch.bytes all e.hard) [] (laid h e)
+    → IsBlockOf (with_laid b e.patch.no e.patch.start e.patch.bytes all e.hard) [] (laid h e)
 lays b h e r next own memory all names =
     let c : Class = new_class b e.patch.no e.patch.start e.patch.bytes all e.hard in
     let apart : (i : ℕ) → i < length b.classes → e.class ≢ (class_at b i).name = (λ i w q.

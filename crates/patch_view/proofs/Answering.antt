@@ -1,10 +1,9 @@
 -- What the calls of a view answer.
-use Rattle.std.proofs.Common.{◌≡◌, ℕ, ◌<◌, ◌≤◌, ◌∙◌, true, false, not, inl, inr, Bool, List, ◌∷◌, length, get_or, refl, sym, ap, arith, subst}
+use Rattle.std.proofs.Common.{◌≡◌, ℕ, ◌<◌, ◌≤◌, ◌∙◌, true, false, not, List, ◌∷◌, length, refl, sym, ap, subst}
 use Rattle.std.specs.Prelude.{◌==◌, ◌&&◌, ◌≢◌, Some, None}
-use Rattle.std.specs.List.{list_any, position, position_or_len}
-use Rattle.std.proofs.lemmas.Bool.{cases_lt, and_parts, and_from, both_ways, eqb-true, eq-eqb, not_from_false, not-true, true_from_ne_false, false_from_ne_true, lt-ltb}
+use Rattle.std.specs.List.{list_any}
+use Rattle.std.proofs.lemmas.Bool.{and_parts, and_from, both_ways, eqb-true, eq-eqb, not_from_false, not-true, true_from_ne_false, false_from_ne_true}
 use Rattle.std.proofs.lemmas.List.Quantifiers.{position-Some}
-use Rattle.std.proofs.lemmas.List.Sums.{fails_before_first}
 use Rattle.patch_model.specs.declared.patches.Mark.{Mark}
 use Rattle.patch_model.specs.declared.patches.Mark.TheVariants.{Memory, Flight, Durable}
 use Rattle.patch_model.specs.Entry.{Entry, is_durable, is_memory, is_among, marks_memory, marks_durable, marks_flight, is_undoable, is_live}
@@ -12,26 +11,21 @@ use Rattle.patch_model.specs.Dependency.{class_depends}
 use Rattle.patch_model.specs.Member.{list_any-at, list_any-from}
 use Rattle.patch_model.specs.History.{History, moved, Back}
 use Rattle.patch_model.specs.Refusing.{why_not_taken, why_not_put_back}
-use Rattle.patch_view.specs.declared.classes.Turn.TheVariants.{Take, PutBack}
+use Rattle.patch_records.specs.declared.classes.Turn.TheVariants.{Take, PutBack}
 use Rattle.patch_view.proofs.Sets.{upper}
 use Rattle.patch_view.proofs.Resting.{linked_as, follows-apart}
-use Rattle.patch_view.specs.State.{Block, class_at, no_class, may_be_taken, follows, hinders, place_of, IsLeast, exchanged_at}
-use Rattle.patch_view.specs.Meaning.{Represents}
+use Rattle.patch_stacks.specs.State.{Block, class_at, follows, hinders, place_of, IsLeast, exchanged_at}
+use Rattle.patch_records.specs.Records.{no_class, may_be_taken}
+use Rattle.patch_view.specs.Meaning.{IsBlockOf}
 use Rattle.patch_view.specs.Answers.{IsPatch, IsTaken, IsPutBack}
-use Rattle.patch_view.specs.Refusal.{take_cause, put_back_cause}
+use Rattle.patch_stacks.specs.Refusal.{take_cause, put_back_cause}
 use Rattle.patch_view.proofs.Causes.{IsAppliedDependent, IsTakenDependency, depends-another, class_is, take_done, back_done, is_unknown, is_in_flight, is_hard, is_taken, is_depended_on, is_not_taken, is_dependent}
-use Rattle.patch_view.specs.declared.refusals.TakeRefusal.TheVariants.{Unknown, InFlight, Hard, AlreadyTaken, DependentApplied}
-use Rattle.patch_view.specs.declared.refusals.PutBackRefusal.TheVariants.{NotTaken, DependencyTaken}
+use Rattle.patch_stacks.specs.declared.refusals.TakeRefusal.TheVariants.{Unknown, InFlight, Hard, AlreadyTaken, DependentApplied}
+use Rattle.patch_stacks.specs.declared.refusals.PutBackRefusal.TheVariants.{NotTaken, DependencyTaken}
 use Rattle.patch_view.proofs.Chain.{undoable-not_durable}
 use Rattle.patch_view.proofs.Steps.{record_of, taking, putting_back}
 use Rattle.patch_view.proofs.Exchange.{exchanged-represents, take-exchange, back-exchange}
-
--- no element passes where the search for one finds none
-pub position-None : {X : Type 0} (p : X → Bool) (xs : List X) (k : ℕ) (d : X) → position p xs ≡ None → k < length xs → p (get_or xs k d) ≡ false
-position-None p xs k d e h = elim (cases_lt (position_or_len p xs) (length xs)) [
-  | inl within ↦ let t = lt-ltb _ _ within in absurd (let f = rw t at e in cc)
-  | inr past ↦ fails_before_first p xs k d (omega arith)
-]
+use Rattle.patch_stacks.proofs.ClassPlaces.{position-None}
 
 -- what is known of the patch whose class stands at a place
 pub record IsAt (b : Block) (taken : List ℕ) (h : History) (number at : ℕ) : Type 0 where
@@ -44,7 +38,7 @@ pub record IsAt (b : Block) (taken : List ℕ) (h : History) (number at : ℕ) :
   pub hard : patch.hard ≡ (class_at b at).hard
   pub flag : (class_at b at).taken ≡ is_among taken patch.class
 
-pub found : (b : Block) (taken : List ℕ) (h : History) (number at : ℕ) → Represents b taken h → place_of b number ≡ Some at → IsAt b taken h number at
+pub found : (b : Block) (taken : List ℕ) (h : History) (number at : ℕ) → IsBlockOf b taken h → place_of b number ≡ Some at → IsAt b taken h number at
 found b taken h number at r e =
     let p = position-Some _ b.classes at no_class e in
     let c = r.classes at p.0 in
@@ -64,7 +58,7 @@ found b taken h number at r e =
     }
 
 -- the live patch of a number has a place
-pub no_place : (b : Block) (taken : List ℕ) (h : History) (number : ℕ) → Represents b taken h → place_of b number ≡ None
+pub no_place : (b : Block) (taken : List ℕ) (h : History) (number : ℕ) → IsBlockOf b taken h → place_of b number ≡ None
     → (e : Entry) → IsPatch h number e → is_durable e ≡ true
 no_place b taken h number r none e is = true_from_ne_false _ (λ low.
     let j = record_of b taken h e r is.is_in low in
@@ -73,7 +67,7 @@ no_place b taken h number r none e is = true_from_ne_false _ (λ low.
     list_any-from (λ f. f.patch.no == number && f.class == (class_at b j.0).name) h.entries e is.is_in (and_from _ _ (eq-eqb _ _ is.number) (eq-eqb _ _ (sym j.2))) in
     both_ways _ off ((r.classes j.0 j.1).members number ∙ on))
 
-pub why_unknown : (b : Block) (taken : List ℕ) (h : History) (number : ℕ) → Represents b taken h → place_of b number ≡ None
+pub why_unknown : (b : Block) (taken : List ℕ) (h : History) (number : ℕ) → IsBlockOf b taken h → place_of b number ≡ None
     → why_not_taken h taken number ≡ Some (take_cause Unknown)
 why_unknown b taken h number r none = is_unknown h taken number (false_from_ne_true _ (λ t.
     let q = list_any-at _ h.entries t in
@@ -85,13 +79,13 @@ neither Memory low u = absurd (cc)
 neither Flight low u = refl
 neither Durable low u = absurd (cc)
 
-pub why_in_flight : (b : Block) (taken : List ℕ) (h : History) (number at : ℕ) → Represents b taken h → place_of b number ≡ Some at
+pub why_in_flight : (b : Block) (taken : List ℕ) (h : History) (number at : ℕ) → IsBlockOf b taken h → place_of b number ≡ Some at
     → (class_at b at).flying ≡ true → why_not_taken h taken number ≡ Some (take_cause InFlight)
 why_in_flight b taken h number at r e flying =
     let f = found b taken h number at r e in
     is_in_flight h taken number f.patch r.coherent f.named (neither f.patch.mark f.live (f.memory ∙ ap not flying))
 
-pub why_hard : (b : Block) (taken : List ℕ) (h : History) (number at : ℕ) → Represents b taken h → place_of b number ≡ Some at
+pub why_hard : (b : Block) (taken : List ℕ) (h : History) (number at : ℕ) → IsBlockOf b taken h → place_of b number ≡ Some at
     → (class_at b at).flying ≡ false → (class_at b at).hard ≡ true → why_not_taken h taken number ≡ Some (take_cause Hard)
 why_hard b taken h number at r e low hard =
     let f = found b taken h number at r e in
@@ -101,14 +95,14 @@ undoable-from : (b : Block) (taken : List ℕ) (h : History) (number at : ℕ) �
     → (class_at b at).hard ≡ false → is_undoable f.patch ≡ true
 undoable-from b taken h number at f low soft = and_from _ _ (f.memory ∙ ap not low) (not_from_false _ (f.hard ∙ soft))
 
-pub why_taken : (b : Block) (taken : List ℕ) (h : History) (number at : ℕ) → Represents b taken h → place_of b number ≡ Some at
+pub why_taken : (b : Block) (taken : List ℕ) (h : History) (number at : ℕ) → IsBlockOf b taken h → place_of b number ≡ Some at
     → (class_at b at).flying ≡ false → (class_at b at).hard ≡ false → (class_at b at).taken ≡ true → why_not_taken h taken number ≡ Some (take_cause AlreadyTaken)
 why_taken b taken h number at r e low soft was =
     let f = found b taken h number at r e in
     is_taken h taken number f.patch r.coherent f.named (undoable-from b taken h number at f low soft) (sym f.flag ∙ was)
 
 -- a class's record is that of a live class of the block
-live-name : (b : Block) (taken : List ℕ) (h : History) (k : ℕ) → Represents b taken h → k < length b.classes
+live-name : (b : Block) (taken : List ℕ) (h : History) (k : ℕ) → IsBlockOf b taken h → k < length b.classes
     → list_any (λ e. e.class == (class_at b k).name && is_live e) h.entries ≡ true
 live-name b taken h k r within =
     let c = r.classes k within in
@@ -116,7 +110,7 @@ live-name b taken h k r within =
     let m = c.marked q.0 q.1 (eqb-true _ _ q.2) in
     list_any-from (λ e. e.class == (class_at b k).name && is_live e) h.entries q.0 q.1 (and_from _ _ q.2 (not_from_false _ m.0))
 
-hinders-dependent : (b : Block) (taken : List ℕ) (h : History) (at k : ℕ) → Represents b taken h → at < length b.classes → k < length b.classes
+hinders-dependent : (b : Block) (taken : List ℕ) (h : History) (at k : ℕ) → IsBlockOf b taken h → at < length b.classes → k < length b.classes
     → hinders Take b at k ≡ true → IsAppliedDependent h taken (class_at b at).name (class_at b k).name
 hinders-dependent b taken h at k r within w_k t =
     let p = and_parts (not (class_at b k).taken) (follows b k at) t in
@@ -126,7 +120,7 @@ hinders-dependent b taken h at k r within w_k t =
       applied = sym (r.classes k w_k).flag ∙ not-true _ p.0;
     }
 
-dependent-hinders : (b : Block) (taken : List ℕ) (h : History) (at m : ℕ) → Represents b taken h → at < length b.classes
+dependent-hinders : (b : Block) (taken : List ℕ) (h : History) (at m : ℕ) → IsBlockOf b taken h → at < length b.classes
     → IsAppliedDependent h taken (class_at b at).name m
     → (k : ℕ) × (k < length b.classes) × ((class_at b k).name ≡ m) × (hinders Take b at k ≡ true)
 dependent-hinders b taken h at m r within d =
@@ -140,7 +134,7 @@ dependent-hinders b taken h at m r within d =
     linked_as r j.0 at j.1 within apart ∙ ap (λ n. class_depends h.entries n (class_at b at).name) name ∙ d.depends in
     (j.0, j.1, name, and_from _ _ (not_from_false _ off) goes)
 
-pub why_dependent : (b : Block) (taken : List ℕ) (h : History) (number at n : ℕ) → Represents b taken h → place_of b number ≡ Some at
+pub why_dependent : (b : Block) (taken : List ℕ) (h : History) (number at n : ℕ) → IsBlockOf b taken h → place_of b number ≡ Some at
     → (class_at b at).flying ≡ false → (class_at b at).hard ≡ false → (class_at b at).taken ≡ false
     → IsLeast (hinders Take b at) b (Some n) → why_not_taken h taken number ≡ Some (take_cause (DependentApplied n))
 why_dependent b taken h number at n r e low soft off least =
@@ -153,34 +147,34 @@ why_dependent b taken h number at n r e low soft off least =
     let k = dependent-hinders b taken h at m r f.within (subst (λ c. IsAppliedDependent h taken c m) f.class d) in
     subst (λ q. n ≤ q) k.2 (least.1 k.0 k.1 k.3))
 
-pub takes : (b : Block) (taken : List ℕ) (h : History) (number at : ℕ) → Represents b taken h → place_of b number ≡ Some at
+pub takes : (b : Block) (taken : List ℕ) (h : History) (number at : ℕ) → IsBlockOf b taken h → place_of b number ≡ Some at
     → (class_at b at).flying ≡ false → (class_at b at).hard ≡ false → (class_at b at).taken ≡ false
     → IsLeast (hinders Take b at) b None → IsTaken h taken number (exchanged_at b at Take)
 takes b taken h number at r e low soft off none =
     let f = found b taken h number at r e in
     let may : may_be_taken (class_at b at) ≡ true = and_from _ _ (not_from_false _ low) (not_from_false _ soft) in
     let step = taking b taken h at r f.within may off none in
-    let now : Represents (exchanged_at b at Take) (f.patch.class ∷ taken) h =
-    subst (λ c. Represents (exchanged_at b at Take) (c ∷ taken) h) (sym f.class)
+    let now : IsBlockOf (exchanged_at b at Take) (f.patch.class ∷ taken) h =
+    subst (λ c. IsBlockOf (exchanged_at b at Take) (c ∷ taken) h) (sym f.class)
     (exchanged-represents b taken ((class_at b at).name ∷ taken) h at Take r f.within may (take-exchange h (class_at b at).name taken ((class_at b at).name ∷ taken) r.coherent step)) in
     record {
       none = take_done h taken number f.patch r.coherent f.named (undoable-from b taken h number at f low soft) (sym f.flag ∙ off) now.holds;
-      represents = subst (λ (c : ℕ). Represents (exchanged_at b at Take) (c ∷ taken) h) (sym (class_is h number f.patch r.coherent f.named)) now;
+      represents = subst (λ (c : ℕ). IsBlockOf (exchanged_at b at Take) (c ∷ taken) h) (sym (class_is h number f.patch r.coherent f.named)) now;
     }
 
-pub why_nowhere : (b : Block) (taken : List ℕ) (h : History) (number : ℕ) → Represents b taken h → place_of b number ≡ None
+pub why_nowhere : (b : Block) (taken : List ℕ) (h : History) (number : ℕ) → IsBlockOf b taken h → place_of b number ≡ None
     → why_not_put_back h taken number ≡ Some (put_back_cause NotTaken)
 why_nowhere b taken h number r none = is_not_taken h taken number (λ e is. false_from_ne_true _ (λ t.
     both_ways _ (undoable-not_durable e ((upper r).undoable e is.is_in t)) (no_place b taken h number r none e is)))
 
-pub why_applied : (b : Block) (taken : List ℕ) (h : History) (number at : ℕ) → Represents b taken h → place_of b number ≡ Some at
+pub why_applied : (b : Block) (taken : List ℕ) (h : History) (number at : ℕ) → IsBlockOf b taken h → place_of b number ≡ Some at
     → (class_at b at).taken ≡ false → why_not_put_back h taken number ≡ Some (put_back_cause NotTaken)
 why_applied b taken h number at r e off = is_not_taken h taken number (λ g is.
     let f = found b taken h number at r e in
     let same : f.patch ≡ g = r.coherent.numbers f.patch g f.named.is_in is.is_in (f.named.number ∙ sym is.number) in
     ap (λ z. is_among taken z.class) (sym same) ∙ sym f.flag ∙ off)
 
-hinders-dependency : (b : Block) (taken : List ℕ) (h : History) (at k : ℕ) → Represents b taken h → at < length b.classes → k < length b.classes
+hinders-dependency : (b : Block) (taken : List ℕ) (h : History) (at k : ℕ) → IsBlockOf b taken h → at < length b.classes → k < length b.classes
     → hinders PutBack b at k ≡ true → IsTakenDependency h taken (class_at b at).name (class_at b k).name
 hinders-dependency b taken h at k r within w_k t =
     let p = and_parts (class_at b k).taken (follows b at k) t in
@@ -189,7 +183,7 @@ hinders-dependency b taken h at k r within w_k t =
       is_taken = sym (r.classes k w_k).flag ∙ p.0;
     }
 
-dependency-hinders : (b : Block) (taken : List ℕ) (h : History) (at m : ℕ) → Represents b taken h → at < length b.classes
+dependency-hinders : (b : Block) (taken : List ℕ) (h : History) (at m : ℕ) → IsBlockOf b taken h → at < length b.classes
     → IsTakenDependency h taken (class_at b at).name m
     → (k : ℕ) × (k < length b.classes) × ((class_at b k).name ≡ m) × (hinders PutBack b at k ≡ true)
 dependency-hinders b taken h at m r within d =
@@ -204,7 +198,7 @@ dependency-hinders b taken h at m r within d =
     linked_as r at j.0 within j.1 (λ e. apart (sym e)) ∙ ap (λ n. class_depends h.entries (class_at b at).name n) name ∙ d.depends in
     (j.0, j.1, name, and_from _ _ on goes)
 
-pub why_dependency : (b : Block) (taken : List ℕ) (h : History) (number at n : ℕ) → Represents b taken h → place_of b number ≡ Some at
+pub why_dependency : (b : Block) (taken : List ℕ) (h : History) (number at n : ℕ) → IsBlockOf b taken h → place_of b number ≡ Some at
     → (class_at b at).taken ≡ true
     → IsLeast (hinders PutBack b at) b (Some n) → why_not_put_back h taken number ≡ Some (put_back_cause (DependencyTaken n))
 why_dependency b taken h number at n r e on least =
@@ -217,7 +211,7 @@ why_dependency b taken h number at n r e on least =
     let k = dependency-hinders b taken h at m r f.within (subst (λ c. IsTakenDependency h taken c m) f.class d) in
     subst (λ q. n ≤ q) k.2 (least.1 k.0 k.1 k.3))
 
-pub puts_back : (b : Block) (taken : List ℕ) (h : History) (number at : ℕ) → Represents b taken h → place_of b number ≡ Some at
+pub puts_back : (b : Block) (taken : List ℕ) (h : History) (number at : ℕ) → IsBlockOf b taken h → place_of b number ≡ Some at
     → (class_at b at).taken ≡ true
     → IsLeast (hinders PutBack b at) b None → IsPutBack h taken number (exchanged_at b at PutBack)
 puts_back b taken h number at r e on none =
@@ -227,10 +221,10 @@ puts_back b taken h number at r e on none =
     let undoable : is_undoable f.patch ≡ true = (upper r).undoable f.patch f.named.is_in (sym f.flag ∙ on) in
     let may : may_be_taken (class_at b at) ≡ true =
     ap (λ z. z && not (class_at b at).hard) (sym f.memory) ∙ ap (λ z. is_memory f.patch && not z) (sym f.hard) ∙ undoable in
-    let now : Represents (exchanged_at b at PutBack) (moved taken (Back f.patch.class)) h =
-    subst (λ c. Represents (exchanged_at b at PutBack) (moved taken (Back c)) h) (sym f.class)
+    let now : IsBlockOf (exchanged_at b at PutBack) (moved taken (Back f.patch.class)) h =
+    subst (λ c. IsBlockOf (exchanged_at b at PutBack) (moved taken (Back c)) h) (sym f.class)
     (exchanged-represents b taken (moved taken (Back (class_at b at).name)) h at PutBack r f.within may (back-exchange h (class_at b at).name (moved taken (Back (class_at b at).name)) taken r.coherent step)) in
     record {
       none = back_done h taken number f.patch r.coherent r.holds f.named (sym f.flag ∙ on) now.holds;
-      represents = subst (λ (c : ℕ). Represents (exchanged_at b at PutBack) (moved taken (Back c)) h) (sym (class_is h number f.patch r.coherent f.named)) now;
+      represents = subst (λ (c : ℕ). IsBlockOf (exchanged_at b at PutBack) (moved taken (Back c)) h) (sym (class_is h number f.patch r.coherent f.named)) now;
     }

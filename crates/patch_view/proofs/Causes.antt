@@ -13,11 +13,11 @@ use Rattle.patch_model.specs.Dependency.{class_depends, has_live}
 use Rattle.patch_model.specs.Member.{In, In-from_Contains, Contains-from_In, In-filter, filter-In, list_any-at, list_any-from, In-map, map-In, among-In, In-among}
 use Rattle.patch_model.specs.History.{History, HoldsDependents, Back, moved}
 use Rattle.patch_model.specs.Refusing.{least, applied_dependents, taken_dependencies, hindered_by, why_class_not_taken, why_not_taken, why_not_put_back, class_named}
-use Rattle.patch_view.specs.declared.refusals.TakeRefusal.TheVariants.{Unknown, InFlight, Hard, AlreadyTaken, DependentApplied}
-use Rattle.patch_view.specs.declared.refusals.PutBackRefusal.TheVariants.{NotTaken, DependencyTaken}
+use Rattle.patch_stacks.specs.declared.refusals.TakeRefusal.TheVariants.{Unknown, InFlight, Hard, AlreadyTaken, DependentApplied}
+use Rattle.patch_stacks.specs.declared.refusals.PutBackRefusal.TheVariants.{NotTaken, DependencyTaken}
 use Rattle.patch_view.specs.History.{IsCoherent}
 use Rattle.patch_view.specs.Answers.{IsPatch}
-use Rattle.patch_view.specs.Refusal.{take_cause, put_back_cause}
+use Rattle.patch_stacks.specs.Refusal.{take_cause, put_back_cause}
 use Rattle.patch_view.proofs.Finding.{find_is, find_none, least_is, least_of_none}
 use Rattle.patch_view.proofs.Steps.{among-filter, among-filtered}
 

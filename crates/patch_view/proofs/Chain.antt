@@ -1,6 +1,6 @@
 -- At each byte the classes lie one over another: what a set of the uppermost ones leaves there.
 use Rattle.std.proofs.Common.{◌≡◌, ℕ, ◌+◌, ◌-◌, ◌<◌, ◌≤◌, ◌⊎◌, ◌∙◌, true, false, not, inl, inr, Bool, List, [], ◌∷◌, ◌++◌, take, drop, length, map, get_or, refl, sym, ap, arith, subst, min, max}
-use Rattle.std.specs.Prelude.{◌==◌, ◌&&◌, ◌||◌, ◌≢◌, nat_lt, filter, slice_range}
+use Rattle.std.specs.Prelude.{◌==◌, ◌&&◌, ◌||◌, ◌≢◌, nat_lt, filter}
 use Rattle.std.proofs.lemmas.Bool.{cases_Bool, and_parts, and_from, or_left, or_right, both_ways, eqb-true, eq-eqb, ne_eqb, ltb-true, lt-ltb, not_from_false, cases_eq, cases_lt, cases_order, false_from_ne_true}
 use Rattle.std.proofs.lemmas.List.{places, ext_get_or}
 use Rattle.patch_model.specs.Marked.{memory-not_durable}
@@ -12,6 +12,7 @@ use Rattle.patch_model.specs.History.{History, pile_of, without}
 use Rattle.patch_view.proofs.Sets.{IsUpper}
 use Rattle.patch_view.specs.History.{IsCoherent, class_covers, comes_before, top, below}
 use Rattle.patch_model.specs.Laying.{length-lay, lay-covered, lay-uncovered, covers-from}
+use Rattle.patch_records.proofs.Bytes.{laid-before, laid-behind, laid-inside}
 
 -- two sets that agree on the patches of a byte leave the same there
 pub pile-agree : (es : List Entry) (a b : List ℕ) (k l : Entry → Bool) (x n : ℕ) → length a ≡ n → length b ≡ n
@@ -184,23 +185,6 @@ off-without h c less more x o step off = same_byte h _ _ x o (λ e i on_e. elim 
   | inl is_c ↦ absurd (both_ways _ off (list_any-from _ h.entries e i (and_from _ _ (eq-eqb _ _ is_c) on_e)))
   | inr not_c ↦ ap not (step.others e.class not_c)
 ])
-
--- the bytes of a list with others laid on it
-pub laid-before : (bytes saved : List ℕ) (start x : ℕ) → x < start → start + length saved ≤ length bytes
-    → get_or (take start bytes ++ saved ++ drop (start + length saved) bytes) x 0 ≡ get_or bytes x 0
-laid-before bytes saved start x before fits = grind (arith, places)
-
-pub laid-inside : (bytes saved : List ℕ) (start x : ℕ) → start ≤ x → x < start + length saved → start + length saved ≤ length bytes
-    → get_or (take start bytes ++ saved ++ drop (start + length saved) bytes) x 0 ≡ get_or saved (x - start) 0
-laid-inside bytes saved start x from to fits = grind (arith, places)
-
-pub laid-behind : (bytes saved : List ℕ) (start x : ℕ) → start + length saved ≤ x → start + length saved ≤ length bytes
-    → get_or (take start bytes ++ saved ++ drop (start + length saved) bytes) x 0 ≡ get_or bytes x 0
-laid-behind bytes saved start x behind fits = grind (arith, places)
-
-pub range-at : (bytes : List ℕ) (start stop x : ℕ) → start ≤ x → x < stop → stop ≤ length bytes
-    → get_or (slice_range bytes start stop) (x - start) 0 ≡ get_or bytes x 0
-range-at bytes start stop x from to fits = grind (arith, places)
 
 -- One class exchanged: bytes that are what the one set leaves, with the other set's laid on the class's span, are what that leaves.
 pub exchanged-bytes : (h : History) (c : ℕ) (k l : Entry → Bool) (start stop : ℕ) (bytes saved : List ℕ) → IsCoherent h

@@ -1,47 +1,22 @@
 -- One class exchanged.
-use Rattle.std.proofs.Common.{◌≡◌, ℕ, zero, suc, ◌+◌, ◌<◌, ◌≤◌, ◌⊎◌, ◌∙◌, true, false, inl, inr, Bool, List, [], ◌∷◌, length, get_or, refl, sym, ap, arith, get_or-set_same, get_or-set_other}
-use Rattle.std.specs.Prelude.{◌==◌, ◌||◌, ◌≢◌, slice_index_or, slice_set, slice_range, nat_le, nat_lt, if◌then◌else◌}
-use Rattle.std.specs.List.{list_any}
-use Rattle.std.proofs.lemmas.Bool.{and_parts, and_from, both_ways, cases_eq, ltb-true, leb-true, lt-ltb, le-leb, le-ltb, lt-leb, and_left, and_right}
+use Rattle.std.proofs.Common.{◌≡◌, ℕ, ◌+◌, ◌<◌, ◌≤◌, ◌∙◌, true, false, inl, inr, Bool, List, length, get_or, refl, sym, ap, arith, get_or-set_same, get_or-set_other}
+use Rattle.std.specs.Prelude.{◌≢◌, slice_range, if◌then◌else◌}
+use Rattle.std.proofs.lemmas.Bool.{both_ways, cases_eq}
 use Rattle.std.proofs.lemmas.List.{length-set, places}
 use Rattle.patch_model.specs.Entry.{is_among}
 use Rattle.patch_model.specs.History.{History, without}
-use Rattle.patch_view.specs.declared.classes.Turn.{Turn}
+use Rattle.patch_records.specs.declared.classes.Turn.{Turn}
 use Rattle.patch_view.proofs.Sets.{IsUpper, holds-from}
 use Rattle.patch_model.specs.Dependency.{class_depends}
 use Rattle.patch_view.specs.History.{IsCoherent, class_covers, top, below}
-use Rattle.patch_view.specs.State.{Class, Block, class_at, no_class, spans, may_be_taken, exchanged_with, exchanged_at, leaves_taken}
+use Rattle.patch_records.specs.Records.{Class, no_class, spans, may_be_taken}
+use Rattle.patch_stacks.specs.State.{Block, class_at, exchanged_at}
+use Rattle.patch_records.specs.Exchanges.{exchanged_with, leaves_taken}
 use Rattle.patch_view.proofs.Naming.{like_named}
-use Rattle.patch_view.specs.Meaning.{IsClassOf, Represents}
-use Rattle.patch_view.proofs.Chain.{IsStep, below-without, top-without, off-without, exchanged-bytes, range-at, length-by}
-
--- what does not look at a class's saved bytes or flag
-pub kept-at : {X : Type 0} (F : Class → X) (b : Block) (at i : ℕ) (turn : Turn) → at < length b.classes
-    → F (exchanged_with (class_at b at) b.bytes turn) ≡ F (class_at b at)
-    → F (class_at (exchanged_at b at turn) i) ≡ F (class_at b i)
-kept-at F b at i turn within same = elim (cases_eq i at) [
-  | inl e ↦ rw e (ap F (get_or-set_same b.classes at (exchanged_with (class_at b at) b.bytes turn) no_class within) ∙ same)
-  | inr ne ↦ ap F (get_or-set_other b.classes at i (exchanged_with (class_at b at) b.bytes turn) no_class ne)
-]
-
-pub name-kept : (b : Block) (at i : ℕ) (turn : Turn) → at < length b.classes → (class_at (exchanged_at b at turn) i).name ≡ (class_at b i).name
-name-kept b at i turn within = kept-at (λ c. c.name) b at i turn within refl
-
-names-set : (cs : List Class) (at n : ℕ) (c : Class) → at < length cs → c.name ≡ (slice_index_or cs at no_class).name
-    → list_any (λ d. d.name == n) (slice_set cs at c) ≡ list_any (λ d. d.name == n) cs
-names-set [] at n c within e = refl
-names-set (d ∷ ds) zero n c within e = ap (λ m. (m == n) || list_any (λ d. d.name == n) ds) e
-names-set (d ∷ ds) (suc at) n c within e = ap (λ z. (d.name == n) || z) (names-set ds at n c (omega arith) e)
-
-pub spans-from : (c : Class) (x : ℕ) → c.start ≤ x → x < c.stop → spans c x ≡ true
-spans-from c x from to = and_from _ _ (le-leb _ _ from) (lt-ltb _ _ to)
-
-pub spans-at : (c : Class) (x : ℕ) → spans c x ≡ true → (c.start ≤ x) × (x < c.stop)
-spans-at c x t = let p = and_parts _ _ t in (leb-true _ _ p.0, ltb-true _ _ p.1)
-
-pub spans-not : (c : Class) (x : ℕ) → (x < c.start) ⊎ (c.stop ≤ x) → spans c x ≡ false
-spans-not c x (inl before) = and_left _ (nat_lt x c.stop) (lt-leb _ _ before)
-spans-not c x (inr behind) = and_right (nat_le c.start x) _ (le-ltb _ _ behind)
+use Rattle.patch_view.specs.Meaning.{IsClassOf, IsBlockOf}
+use Rattle.patch_view.proofs.Chain.{IsStep, below-without, top-without, off-without, exchanged-bytes, length-by}
+use Rattle.patch_records.proofs.Bytes.{range-at, spans-from, spans-at, spans-not}
+use Rattle.patch_stacks.proofs.ClassFields.{kept-at, name-kept, names-set}
 
 -- what an exchange of the class c does, from one set to another: the bytes that it saves and those that it gives
 pub record IsExchange (h : History) (c : ℕ) (from to : List ℕ) (mark : Bool) : Type 0 where
@@ -112,19 +87,10 @@ own-kept h from to turn bytes c r step is size may =
           ∙ ap (λ z. get_or z x 0) is ∙ step.saves x (sym (r.span x) ∙ on);
     }
 
--- a field that an exchange keeps
-field-kept : {X : Type 0} (f : Class → X) (b : Block) (at i : ℕ) (turn : Turn) → at < length b.classes
-    → f (exchanged_with (class_at b at) b.bytes turn) ≡ f (class_at b at) → f (class_at (exchanged_at b at turn) i) ≡ f (class_at b i)
-field-kept f b at i turn within same = elim (cases_eq i at) [
-  | inl e ↦ ap (λ (k : ℕ). f (class_at (exchanged_at b at turn) k)) e ∙ ap f (get_or-set_same b.classes at (exchanged_with (class_at b at) b.bytes turn) no_class within)
-      ∙ same ∙ ap (λ (k : ℕ). f (class_at b k)) (sym e)
-  | inr ne ↦ ap f (get_or-set_other b.classes at i (exchanged_with (class_at b at) b.bytes turn) no_class ne)
-]
-
 -- one class exchanged: bytes and records are those of the other set
-pub exchanged-represents : (b : Block) (from to : List ℕ) (h : History) (at : ℕ) (turn : Turn) → Represents b from h → at < length b.classes
+pub exchanged-represents : (b : Block) (from to : List ℕ) (h : History) (at : ℕ) (turn : Turn) → IsBlockOf b from h → at < length b.classes
     → may_be_taken (class_at b at) ≡ true → IsExchange h (class_at b at).name from to (leaves_taken turn)
-    → Represents (exchanged_at b at turn) to h
+    → IsBlockOf (exchanged_at b at turn) to h
 exchanged-represents b from to h at turn r within may step =
     let c = r.classes at within in
     let size : length b.bytes ≡ 4096 = ap length r.bytes ∙ length-by h _ r.coherent in
@@ -150,9 +116,9 @@ exchanged-represents b from to h at turn r within may step =
       named = like_named b (exchanged_at b at turn) h h (λ i h_i. (
         i,
         rw same_length at h_i,
-        field-kept (λ c. c.name) b at i turn within refl,
-        field-kept (λ c. c.members) b at i turn within refl,
-        field-kept (λ c. c.after) b at i turn within refl,
+        kept-at (λ c. c.name) b at i turn within refl,
+        kept-at (λ c. c.members) b at i turn within refl,
+        kept-at (λ c. c.after) b at i turn within refl,
       )) (λ c n. refl) r.named;
       ordered = λ i j less h_j.
           ap (λ n. class_depends h.entries n (class_at (exchanged_at b at turn) j).name) (name-kept b at i turn within)

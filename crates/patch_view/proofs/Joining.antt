@@ -1,13 +1,10 @@
 -- Two classes made one.
 use Rattle.std.proofs.Common.{◌≡◌, ℕ, ◌+◌, ◌-◌, ◌<◌, ◌≤◌, ◌⊎◌, ◌∙◌, true, false, not, inl, inr, Bool, List, [], ◌∷◌, ◌++◌, length, map, get_or, refl, sym, ap, arith, subst, get_or-set_same, get_or-set_other, min, max, replicate}
-use Rattle.std.specs.Prelude.{◌==◌, ◌&&◌, ◌||◌, ◌≢◌, nat_lt, slice_index_or, slice_set, IsPermutation}
+use Rattle.std.specs.Prelude.{◌==◌, ◌&&◌, ◌||◌, ◌≢◌, nat_lt, slice_set, IsPermutation}
 use Rattle.std.specs.List.{list_any, list_all}
 use Rattle.std.proofs.lemmas.Bool.{cases_Bool, cases_eq, cases_lt, cases_order, and_parts, and_from, or_left, or_right, or_from, or_cases, both_ways, eqb-true, eq-eqb, ne_eqb, not-true, cond-false}
-use Rattle.std.proofs.lemmas.List.{length-set, length-replicate, places}
-use Rattle.std.proofs.lemmas.List.Folds.{list_any-append}
-use Rattle.std.proofs.lemmas.List.Sorted.{list_any-IsPermutation}
+use Rattle.std.proofs.lemmas.List.{length-set, length-replicate}
 use Rattle.std.proofs.lemmas.List.Edits.{length-remove}
-use Rattle.std.specs.Cmp.{both_ways as same_bool}
 use Rattle.patch_model.specs.Marked.{only_memory}
 use Rattle.patch_model.specs.Pile.{end, covers, pile}
 use Rattle.patch_model.specs.Entry.{Entry, is_durable, is_memory, is_among, marks_memory, marks_durable}
@@ -15,15 +12,21 @@ use Rattle.patch_model.specs.Dependency.{depends_directly, class_depends}
 use Rattle.patch_model.specs.State.{joined}
 use Rattle.patch_model.specs.Member.{In, list_any-from, map-In}
 use Rattle.patch_model.specs.History.{History, pile_of, without}
-use Rattle.patch_model.specs.Kept.{hard-joined, mark-joined, patch-joined}
+use Rattle.patch_model.specs.Unchanged.{hard-joined, mark-joined, patch-joined}
 use Rattle.patch_view.proofs.Sets.{class_depends_on, class_depends-apart, none-held, never-from, ordered_on}
 use Rattle.patch_view.specs.History.{IsCoherent, with_joined, class_covers, class_names, comes_before, below, top}
-use Rattle.patch_view.specs.State.{Class, Block, class_at, no_class, spans, may_be_taken, merged, IsMerged, settled_at, laid_over}
-use Rattle.patch_view.specs.Meaning.{IsClassOf, Represents}
-use Rattle.patch_view.proofs.Chain.{same_byte, covering, before-at, before-from, later_depends, laid-before, laid-inside, laid-behind}
+use Rattle.patch_records.specs.Records.{Class, no_class, spans, may_be_taken}
+use Rattle.patch_stacks.specs.State.{Block, class_at, settled_at}
+use Rattle.patch_records.specs.Merged.{merged, IsMerged}
+use Rattle.patch_records.specs.Exchanges.{laid_over}
+use Rattle.patch_view.specs.Meaning.{IsClassOf, IsBlockOf}
+use Rattle.patch_view.proofs.Chain.{same_byte, covering, before-at, before-from, later_depends}
+use Rattle.patch_records.proofs.Bytes.{laid-inside, spans-at, spans-from, length-laid_over, outside-low}
 use Rattle.patch_view.proofs.Steps.{record_of, depends-from}
-use Rattle.patch_view.proofs.Exchange.{spans-at, spans-from}
-use Rattle.patch_view.proofs.Marking.{any-map, all-map, kept-patches, stood, stood_is, at_stood, named-remove}
+use Rattle.patch_view.proofs.Marking.{any-map, all-map, kept-patches}
+use Rattle.patch_stacks.proofs.ClassFields.{named-remove}
+use Rattle.patch_stacks.proofs.ClassPlaces.{stood, stood_is}
+use Rattle.patch_stacks.proofs.MergedClasses.{among-merged, spans-merged, merged-long, after-merged, joined_place, was-member}
 
 shuffle_or : (a b u v : Bool) → ((a || b) || (u || v)) ≡ ((a || u) || (b || v))
 shuffle_or true b u v = refl
@@ -64,10 +67,6 @@ all-both : {X : Type 0} (p q r : X → Bool) (xs : List X) → ((x : X) → p x 
 all-both p q r [] same = refl
 all-both p q r (x ∷ xs) same = let e = same x in let i = all-both p q r xs same in
     rw (e, i) (shuffle_and (q x) (r x) (list_all q xs) (list_all r xs))
-
-and_true : (a : Bool) → (a && true) ≡ a
-and_true true = refl
-and_true false = refl
 
 pub joined-in : (c d : ℕ) (e : Entry) → (e.class ≡ c) ⊎ (e.class ≡ d) → (joined c d e).class ≡ min c d
 joined-in c d e (inl is) = let t : (e.class == c || e.class == d) ≡ true = or_left _ (e.class == d) (eq-eqb _ _ is) in rw t refl
@@ -154,9 +153,6 @@ below-both h c d x = ap (λ ps. get_or (pile h.first ps) x 0)
 before-off : (h : History) (d x : ℕ) (e : Entry) → class_covers h d x ≡ false → comes_before h d x e ≡ true
 before-off h d x e off = before-from h d x e (λ f i is on. absurd (both_ways _ off (list_any-from (λ g. g.class == d && covers g.patch x) h.entries f i (and_from _ _ (eq-eqb _ _ is) on))))
 
-pub below-one : (h : History) (c d x : ℕ) → IsCoherent h → class_covers h d x ≡ false → below (with_joined h c d) (min c d) x ≡ below h c x
-below-one h c d x o off = below-both h c d x ∙ same_byte h _ _ x o (λ e i on. let t = before-off h d x e off in rw t (and_true (comes_before h c x e)))
-
 pub below-second : (h : History) (c d x : ℕ) → IsCoherent h → class_covers h c x ≡ false → below (with_joined h c d) (min c d) x ≡ below h d x
 below-second h c d x o off = below-both h c d x ∙ same_byte h _ _ x o (λ e i on. let t = before-off h c x e off in rw t refl)
 
@@ -230,35 +226,6 @@ depends-on_merged h c d a not_c not_d =
     (λ e. e.class == a && list_any (λ g. g.class == c && depends_directly e.patch g.patch) h.entries)
     (λ e. e.class == a && list_any (λ g. g.class == d && depends_directly e.patch g.patch) h.entries) h.entries
     (λ e. and_or (e.class == a) (list_any (λ g. g.class == c && depends_directly e.patch g.patch) h.entries) (list_any (λ g. g.class == d && depends_directly e.patch g.patch) h.entries))
-
-pub among-merged : (low high : Class) (ms : List ℕ) (n : ℕ) → IsPermutation (low.members ++ high.members) ms
-    → is_among ms n ≡ (is_among low.members n || is_among high.members n)
-among-merged low high ms n same = sym (list_any-IsPermutation (λ k. k == n) (low.members ++ high.members) ms same)
-    ∙ list_any-append (λ k. k == n) low.members high.members
-
--- the spans of two classes that overlap or touch
-spans-merged : (low high : Class) (ms us : List ℕ) (space : ℕ) (x : ℕ) → low.start ≤ high.stop → high.start ≤ low.stop → low.start < low.stop → high.start < high.stop
-    → spans (merged low high ms us space) x ≡ (spans low x || spans high x)
-spans-merged low high ms us space x near_a near_b some_a some_b = same_bool (spans (merged low high ms us space) x) (spans low x || spans high x)
-    (λ t. let p = spans-at (merged low high ms us space) x t in
-    let f : min low.start high.start ≤ x = p.0 in let g : x < max low.stop high.stop = p.1 in
-    elim (cases_Bool (spans low x)) [
-      | inl u ↦ or_left _ (spans high x) u
-      | inr u ↦ or_right (spans low x) _ (elim (cases_lt x low.start) [
-        | inl before ↦ spans-from high x (omega arith) (omega arith)
-        | inr from ↦ elim (cases_lt x low.stop) [
-          | inl to ↦ absurd (both_ways _ u (spans-from low x from to))
-          | inr behind ↦ spans-from high x (omega arith) (omega arith)
-        ]
-      ])
-    ])
-    (λ t. elim (or_cases (spans low x) (spans high x) t) [
-      | inl u ↦ let p = spans-at low x u in let f : low.start ≤ x = p.0 in let g : x < low.stop = p.1 in spans-from (merged low high ms us space) x (omega arith) (omega arith)
-      | inr u ↦ let p = spans-at high x u in let f : high.start ≤ x = p.0 in let g : x < high.stop = p.1 in spans-from (merged low high ms us space) x (omega arith) (omega arith)
-    ])
-
-pub length-laid_over : (place : ℕ) (over bytes : List ℕ) → place + length over ≤ length bytes → length (laid_over place over bytes) ≡ length bytes
-length-laid_over place over bytes fits = grind (arith, places)
 
 -- the history afterwards
 pub orderly-joined : (h : History) (c d : ℕ) → IsCoherent h
@@ -347,23 +314,6 @@ soft-of : (h : History) (k : Class) → IsClassOf h [] k → may_be_taken k ≡ 
     → (is_durable e ≡ false) × (is_memory e ≡ true) × (e.hard ≡ false)
 soft-of h k r may e i is = let old = r.marked e i is in let p = and_parts (not k.flying) (not k.hard) may in (old.0, old.1 ∙ p.0, old.2 ∙ not-true _ p.1)
 
-pub outside-low : (over bytes : List ℕ) (place i : ℕ) → place + length over ≤ length bytes → (i < place) ⊎ (place + length over ≤ i)
-    → get_or (laid_over place over bytes) i 0 ≡ get_or bytes i 0
-outside-low over bytes place i fits (inl before) = laid-before bytes over place i before fits
-outside-low over bytes place i fits (inr behind) = laid-behind bytes over place i behind fits
-
-merged-long : (low high : Class) (ms us : List ℕ) (space : ℕ) → low.start + length low.saved ≡ low.stop → high.start + length high.saved ≡ high.stop → low.start < low.stop → high.start < high.stop
-    → (merged low high ms us space).start + length (merged low high ms us space).saved ≡ (merged low high ms us space).stop
-merged-long low high ms us space long_l long_h some_l some_h =
-    let z : length (replicate (max low.stop high.stop - min low.start high.start) 0) ≡ max low.stop high.stop - min low.start high.start = length-replicate {A = ℕ} (max low.stop high.stop - min low.start high.start) 0 in
-    let fits_h : high.start - min low.start high.start + length high.saved ≤ length (replicate (max low.stop high.stop - min low.start high.start) 0) = omega (arith, z) in
-    let inner : length (laid_over (high.start - min low.start high.start) high.saved (replicate (max low.stop high.stop - min low.start high.start) 0)) ≡ max low.stop high.stop - min low.start high.start =
-    length-laid_over (high.start - min low.start high.start) high.saved (replicate (max low.stop high.stop - min low.start high.start) 0) fits_h ∙ z in
-    let fits_l : low.start - min low.start high.start + length low.saved ≤ length (laid_over (high.start - min low.start high.start) high.saved (replicate (max low.stop high.stop - min low.start high.start) 0)) = omega (arith, inner) in
-    let outer : length (merged low high ms us space).saved ≡ max low.stop high.stop - min low.start high.start =
-    length-laid_over (low.start - min low.start high.start) low.saved (laid_over (high.start - min low.start high.start) high.saved (replicate (max low.stop high.stop - min low.start high.start) 0)) fits_l ∙ inner in
-    omega (arith, outer)
-
 -- the merged class's saved bytes
 merged-saved : (h : History) (low high : Class) (ms us : List ℕ) (space : ℕ) (x : ℕ) → IsCoherent h → IsClassOf h [] low → IsClassOf h [] high → may_be_taken low ≡ true → may_be_taken high ≡ true
     → low.name ≢ high.name → class_depends_on h low.name high.name ≡ false → (spans low x || spans high x) ≡ true
@@ -401,9 +351,6 @@ merged-saved h low high ms us space x o rl rh may_l may_h two none on =
           ∙ rh.saved may_h x v ∙ cond-false high.taken (top h high.name x) (below h high.name x) off
           ∙ sym (below-second h low.name high.name x o (sym (rl.span x) ∙ u))
     ]
-
-after-merged : (low high : Class) (us : List ℕ) (n : ℕ) → IsPermutation (low.after ++ high.after) us → is_among us n ≡ (is_among low.after n || is_among high.after n)
-after-merged low high us n pa = sym (list_any-IsPermutation (λ k. k == n) (low.after ++ high.after) us pa) ∙ list_any-append (λ k. k == n) low.after high.after
 
 -- the merged class's record
 merged-class_of : (h : History) (low high : Class) (ms us : List ℕ) (space : ℕ) → IsPermutation (low.members ++ high.members) ms → IsPermutation (low.after ++ high.after) us → IsCoherent h → IsClassOf h [] low → IsClassOf h [] high → may_be_taken low ≡ true → may_be_taken high ≡ true
@@ -469,45 +416,9 @@ pub record MayJoinAt (b : Block) (h : History) (low high : ℕ) : Type 0 where
   pub near_b : (class_at b high).start ≤ (class_at b low).stop
   pub free : (k : ℕ) → low < k → k < high → class_depends h.entries (class_at b high).name (class_at b k).name ≡ false
 
--- what stands at a place afterwards
-joined_place : (b : Block) (low high i : ℕ) (c : Class) → low < high → high < length b.classes
-    → ((i ≡ low) × (stood high i ≡ low) × (class_at (settled_at b low high c) i ≡ c))
-    ⊎ ((stood high i ≢ low) × (i ≢ low) × (class_at (settled_at b low high c) i ≡ class_at b (stood high i)))
-joined_place b low high i c less within =
-    let l : length (slice_set b.classes low c) ≡ length b.classes = length-set b.classes low c in
-    let w : high < length (slice_set b.classes low c) = omega arith in
-    let at_ = at_stood (slice_set b.classes low c) high i w in
-    elim (cases_eq i low) [
-      | inl e ↦ let s : stood high i ≡ low = elim (stood_is high i) [ inl t ↦ omega arith | inr t ↦ omega arith ] in
-          inl (e, s, at_ ∙ ap (λ k. slice_index_or (slice_set b.classes low c) k no_class) s ∙ get_or-set_same b.classes low c no_class (omega arith))
-      | inr ne ↦ let s : stood high i ≢ low = (λ q. elim (stood_is high i) [ inl t ↦ omega arith | inr t ↦ omega arith ]) in
-          inr (s, ne, at_ ∙ get_or-set_other b.classes low (stood high i) c no_class s)
-    ]
-
--- a member of a class was one of a class before
-was-member : (b : Block) (low high j n : ℕ) (ms us : List ℕ) (space : ℕ) → low < high → high < length b.classes
-    → IsPermutation ((class_at b low).members ++ (class_at b high).members) ms
-    → j < length (settled_at b low high (merged (class_at b low) (class_at b high) ms us space)).classes
-    → is_among (class_at (settled_at b low high (merged (class_at b low) (class_at b high) ms us space)) j).members n ≡ true
-    → (k : ℕ) × (k < length b.classes) × (is_among (class_at b k).members n ≡ true)
-was-member b low high j n ms us space less within pm h_j on =
-    let c : Class = merged (class_at b low) (class_at b high) ms us space in
-    let l : length (slice_set b.classes low c) ≡ length b.classes = length-set b.classes low c in
-    let w_set : high < length (slice_set b.classes low c) = omega arith in
-    let lr : length (settled_at b low high c).classes + 1 ≡ length (slice_set b.classes low c) = length-remove (slice_set b.classes low c) high w_set in
-    elim (joined_place b low high j c less within) [
-      | inl s ↦
-          let both : is_among ms n ≡ true = ap (λ d. is_among d.members n) (sym s.2) ∙ on in
-          elim (or_cases (is_among (class_at b low).members n) (is_among (class_at b high).members n) (sym (among-merged (class_at b low) (class_at b high) ms n pm) ∙ both)) [
-            | inl u ↦ (low, omega arith, u)
-            | inr u ↦ (high, within, u)
-          ]
-      | inr s ↦ (stood high j, elim (stood_is high j) [ inl u ↦ omega arith | inr u ↦ omega arith ], ap (λ d. is_among d.members n) (sym s.2) ∙ on)
-    ]
-
-joins_of : (b : Block) (h : History) (low high : ℕ) (ms us : List ℕ) (space : ℕ) → Represents b [] h → MayJoinAt b h low high
+joins_of : (b : Block) (h : History) (low high : ℕ) (ms us : List ℕ) (space : ℕ) → IsBlockOf b [] h → MayJoinAt b h low high
     → IsPermutation ((class_at b low).members ++ (class_at b high).members) ms → IsPermutation ((class_at b low).after ++ (class_at b high).after) us
-    → Represents (settled_at b low high (merged (class_at b low) (class_at b high) ms us space)) [] (with_joined h (class_at b low).name (class_at b high).name)
+    → IsBlockOf (settled_at b low high (merged (class_at b low) (class_at b high) ms us space)) [] (with_joined h (class_at b low).name (class_at b high).name)
 joins_of b h low high ms us space r m pm pa =
     let c : Class = merged (class_at b low) (class_at b high) ms us space in
     let is_c : IsMerged (class_at b low) (class_at b high) (merged (class_at b low) (class_at b high) ms us space) = record { members = pm; after = pa; is = refl } in
@@ -618,7 +529,7 @@ joins_of b h low high ms us space r m pm pa =
           ];
     }
 
-pub joins : (b : Block) (h : History) (low high : ℕ) (c : Class) → Represents b [] h → MayJoinAt b h low high → IsMerged (class_at b low) (class_at b high) c
-    → Represents (settled_at b low high c) [] (with_joined h (class_at b low).name (class_at b high).name)
-joins b h low high c r m is_c = subst (λ z. Represents (settled_at b low high z) [] (with_joined h (class_at b low).name (class_at b high).name)) (sym is_c.is)
+pub joins : (b : Block) (h : History) (low high : ℕ) (c : Class) → IsBlockOf b [] h → MayJoinAt b h low high → IsMerged (class_at b low) (class_at b high) c
+    → IsBlockOf (settled_at b low high c) [] (with_joined h (class_at b low).name (class_at b high).name)
+joins b h low high c r m is_c = subst (λ z. IsBlockOf (settled_at b low high z) [] (with_joined h (class_at b low).name (class_at b high).name)) (sym is_c.is)
     (joins_of b h low high c.members c.after c.room r m is_c.members is_c.after)

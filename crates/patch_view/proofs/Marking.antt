@@ -1,11 +1,10 @@
 -- A class put in flight, and one made durable.
-use Rattle.std.proofs.Common.{◌≡◌, ℕ, zero, suc, ◌+◌, ◌-◌, ◌<◌, ◌≤◌, ◌⊎◌, ◌∙◌, true, false, not, inl, inr, Bool, List, [], ◌∷◌, length, map, get_or, refl, sym, ap, arith, subst, get_or-set_same, get_or-set_other}
-use Rattle.std.specs.Prelude.{◌==◌, ◌&&◌, ◌||◌, ◌≢◌, nat_lt, filter, slice_index_or, slice_set, Some, None, if◌then◌else◌}
-use Rattle.std.specs.List.{list_any, list_all, remove}
-use Rattle.std.proofs.lemmas.Bool.{cases_Bool, cases_eq, cases_lt, both_ways, eq-eqb, ne_eqb, cond-false, lt-ltb, le-ltb}
+use Rattle.std.proofs.Common.{◌≡◌, ℕ, ◌+◌, ◌-◌, ◌<◌, ◌≤◌, ◌∙◌, true, false, not, inl, inr, Bool, List, [], ◌∷◌, length, map, get_or, refl, sym, ap, arith, subst, get_or-set_same, get_or-set_other}
+use Rattle.std.specs.Prelude.{◌==◌, ◌&&◌, ◌||◌, ◌≢◌, nat_lt, filter, Some, None}
+use Rattle.std.specs.List.{list_any, list_all}
+use Rattle.std.proofs.lemmas.Bool.{cases_Bool, cases_eq, both_ways, eq-eqb, ne_eqb, cond-false}
 use Rattle.std.proofs.lemmas.List.{length-set}
-use Rattle.std.proofs.lemmas.List.Folds.{list_any_at}
-use Rattle.std.proofs.lemmas.List.Edits.{length-remove, get_or-remove_below, get_or-remove_above}
+use Rattle.std.proofs.lemmas.List.Edits.{length-remove}
 use Rattle.patch_model.specs.Marked.{memory-not_durable}
 use Rattle.patch_model.specs.declared.patches.Mark.{Mark}
 use Rattle.patch_model.specs.declared.patches.Mark.TheVariants.{Memory, Flight, Durable}
@@ -16,12 +15,16 @@ use Rattle.patch_model.specs.Member.{In, map-In}
 use Rattle.patch_model.specs.History.{History, without}
 use Rattle.patch_view.proofs.Sets.{class_depends_on, none-held, never-from, ordered_on}
 use Rattle.patch_view.specs.History.{IsCoherent, MayLand, re_marked, with_mark, class_covers, class_names, comes_before, below, top}
-use Rattle.patch_view.specs.State.{Class, Block, class_at, no_class, may_be_taken, place_of, departed, departed_at, landed_at}
+use Rattle.patch_records.specs.Records.{Class, no_class, may_be_taken, departed}
+use Rattle.patch_stacks.specs.State.{Block, class_at, place_of, departed_at, landed_at}
 use Rattle.patch_view.proofs.Naming.{like_named}
-use Rattle.patch_view.specs.Meaning.{IsClassOf, Represents}
+use Rattle.patch_stacks.proofs.ClassFields.{names-set}
+use Rattle.patch_view.specs.Meaning.{IsClassOf, IsBlockOf}
 use Rattle.patch_view.specs.Answers.{IsPatch}
 use Rattle.patch_view.proofs.Steps.{record_of}
 use Rattle.patch_view.proofs.Answering.{found, no_place}
+use Rattle.patch_stacks.proofs.ClassPlaces.{at_stood, stood, stood_is}
+use Rattle.patch_stacks.proofs.ClassFields.{named-remove}
 
 -- a change of patches that leaves all but the marks
 pub record IsMarking (f : Entry → Entry) : Type 0 where
@@ -209,17 +212,8 @@ kept-flown F b at i within same = elim (cases_eq i at) [
   | inr ne ↦ ap F (get_or-set_other b.classes at i (departed (class_at b at)) no_class ne)
 ]
 
-names-set : (cs : List Class) (at n : ℕ) (c : Class) → at < length cs → c.name ≡ (slice_index_or cs at no_class).name
-    → list_any (λ d. d.name == n) (slice_set cs at c) ≡ list_any (λ d. d.name == n) cs
-names-set [] at n c within e = refl
-names-set (d ∷ ds) zero n c within e = ap (λ m. (m == n) || list_any (λ d. d.name == n) ds) e
-names-set (d ∷ ds) (suc at) n c within e = ap (λ z. (d.name == n) || z) (names-set ds at n c (omega arith) e)
-
-low-before : (m : Mark) (n : ℕ) (e : Entry) → marks_durable m ≡ false → is_durable (re_marked m n e) ≡ false → e.class ≢ n → is_durable e ≡ false
-low-before m n e low t out = ap is_durable (sym (marked-out m n e out)) ∙ t
-
-pub departs : (b : Block) (h : History) (at : ℕ) → Represents b [] h → at < length b.classes
-    → Represents (departed_at b at) [] (with_mark h Flight (class_at b at).name)
+pub departs : (b : Block) (h : History) (at : ℕ) → IsBlockOf b [] h → at < length b.classes
+    → IsBlockOf (departed_at b at) [] (with_mark h Flight (class_at b at).name)
 departs b h at r within =
     let n : ℕ = (class_at b at).name in
     let H : History = with_mark h Flight (class_at b at).name in
@@ -255,36 +249,8 @@ departs b h at r within =
           ∙ ordered_on r i j less w_j);
     }
 
--- where the class at a place of the shorter list stood
-abbrev pub stood : ℕ → ℕ → ℕ
-stood at i = if nat_lt i at then i else i + 1
-
-pub at_stood : (cs : List Class) (at i : ℕ) → at < length cs → slice_index_or (remove cs at) i no_class ≡ slice_index_or cs (stood at i) no_class
-at_stood cs at i within = elim (cases_lt i at) [
-  | inl before ↦ let t : nat_lt i at ≡ true = lt-ltb _ _ before in rw t (get_or-remove_below cs at no_class i before within)
-  | inr behind ↦ let t : nat_lt i at ≡ false = le-ltb _ _ behind in rw t (get_or-remove_above cs at no_class i behind within)
-]
-
-pub stood_is : (at i : ℕ) → ((i < at) × (stood at i ≡ i)) ⊎ ((at ≤ i) × (stood at i ≡ i + 1))
-stood_is at i = elim (cases_lt i at) [
-  | inl before ↦ let t : nat_lt i at ≡ true = lt-ltb _ _ before in inl (before, rw t refl)
-  | inr behind ↦ let t : nat_lt i at ≡ false = le-ltb _ _ behind in inr (behind, rw t refl)
-]
-
-pub named-remove : (cs : List Class) (at n k : ℕ) → at < length cs → k < length cs → k ≢ at → (slice_index_or cs k no_class).name ≡ n
-    → list_any (λ d. d.name == n) (remove cs at) ≡ true
-named-remove cs at n k within w ne is =
-    let l = length-remove cs at within in
-    elim (cases_lt k at) [
-      | inl before ↦ list_any_at (λ d. d.name == n) (remove cs at) k no_class (omega arith)
-          (eq-eqb _ _ (ap (λ c. c.name) (get_or-remove_below cs at no_class k before within) ∙ is))
-      | inr behind ↦ list_any_at (λ d. d.name == n) (remove cs at) (k - 1) no_class (omega arith)
-          (let e : k - 1 + 1 ≡ k = omega arith in
-          eq-eqb _ _ (ap (λ c. c.name) (get_or-remove_above cs at no_class (k - 1) (omega arith) within) ∙ ap (λ z. (slice_index_or cs z no_class).name) e ∙ is))
-    ]
-
-pub lands : (b : Block) (h : History) (at : ℕ) → Represents b [] h → at < length b.classes → MayLand h (class_at b at).name
-    → Represents (landed_at b at) [] (with_mark h Durable (class_at b at).name)
+pub lands : (b : Block) (h : History) (at : ℕ) → IsBlockOf b [] h → at < length b.classes → MayLand h (class_at b at).name
+    → IsBlockOf (landed_at b at) [] (with_mark h Durable (class_at b at).name)
 lands b h at r within may =
     let m = is_marking Durable (class_at b at).name in
     let l = length-remove b.classes at within in
@@ -319,29 +285,29 @@ lands b h at r within may =
           ∙ ordered_on r (stood at i) (stood at j) lt (w j h_j)));
     }
 
-pub named_place : (b : Block) (h : History) (number at : ℕ) (e : Entry) → Represents b [] h → place_of b number ≡ Some at → IsPatch h number e
+pub named_place : (b : Block) (h : History) (number at : ℕ) (e : Entry) → IsBlockOf b [] h → place_of b number ≡ Some at → IsPatch h number e
     → (at < length b.classes) × ((class_at b at).name ≡ e.class)
 named_place b h number at e r is p =
     let f = found b [] h number at r is in
     (f.within, sym f.class ∙ ap (λ z. z.class) (r.coherent.numbers f.patch e f.named.is_in p.is_in (f.named.number ∙ sym p.number)))
 
-pub departs_named : (b : Block) (h : History) (number at : ℕ) (e : Entry) → Represents b [] h → place_of b number ≡ Some at → IsPatch h number e
-    → Represents (departed_at b at) [] (with_mark h Flight e.class)
+pub departs_named : (b : Block) (h : History) (number at : ℕ) (e : Entry) → IsBlockOf b [] h → place_of b number ≡ Some at → IsPatch h number e
+    → IsBlockOf (departed_at b at) [] (with_mark h Flight e.class)
 departs_named b h number at e r is p = let q = named_place b h number at e r is p in
-    subst (λ n. Represents (departed_at b at) [] (with_mark h Flight n)) q.1 (departs b h at r q.0)
+    subst (λ n. IsBlockOf (departed_at b at) [] (with_mark h Flight n)) q.1 (departs b h at r q.0)
 
-pub lands_named : (b : Block) (h : History) (number at : ℕ) (e : Entry) → Represents b [] h → place_of b number ≡ Some at → IsPatch h number e → MayLand h e.class
-    → Represents (landed_at b at) [] (with_mark h Durable e.class)
+pub lands_named : (b : Block) (h : History) (number at : ℕ) (e : Entry) → IsBlockOf b [] h → place_of b number ≡ Some at → IsPatch h number e → MayLand h e.class
+    → IsBlockOf (landed_at b at) [] (with_mark h Durable e.class)
 lands_named b h number at e r is p may = let q = named_place b h number at e r is p in
-    subst (λ n. Represents (landed_at b at) [] (with_mark h Durable n)) q.1 (lands b h at r q.0 (subst (λ n. MayLand h n) (sym q.1) may))
+    subst (λ n. IsBlockOf (landed_at b at) [] (with_mark h Durable n)) q.1 (lands b h at r q.0 (subst (λ n. MayLand h n) (sym q.1) may))
 
 flight-not_durable : (m : Mark) → marks_flight m ≡ true → marks_durable m ≡ false
 flight-not_durable Memory u = refl
 flight-not_durable Flight u = refl
 flight-not_durable Durable u = absurd (cc)
 
-pub placed_memory : (b : Block) (h : History) (number : ℕ) (e : Entry) → Represents b [] h → place_of b number ≡ None → IsPatch h number e → is_memory e ≡ true → ⊥
+pub placed_memory : (b : Block) (h : History) (number : ℕ) (e : Entry) → IsBlockOf b [] h → place_of b number ≡ None → IsPatch h number e → is_memory e ≡ true → ⊥
 placed_memory b h number e r none p m = both_ways _ (memory-not_durable e.mark m) (no_place b [] h number r none e p)
 
-pub placed_flight : (b : Block) (h : History) (number : ℕ) (e : Entry) → Represents b [] h → place_of b number ≡ None → IsPatch h number e → MayLand h e.class → ⊥
+pub placed_flight : (b : Block) (h : History) (number : ℕ) (e : Entry) → IsBlockOf b [] h → place_of b number ≡ None → IsPatch h number e → MayLand h e.class → ⊥
 placed_flight b h number e r none p m = both_ways _ (flight-not_durable e.mark (m.flying e p.is_in refl)) (no_place b [] h number r none e p)

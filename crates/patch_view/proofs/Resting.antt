@@ -10,12 +10,13 @@ use Rattle.patch_model.specs.Dependency.{shares_byte, class_depends}
 use Rattle.patch_model.specs.Member.{list_any-at, list_any-from}
 use Rattle.patch_model.specs.History.{History}
 use Rattle.patch_view.specs.History.{IsCoherent, class_names}
-use Rattle.patch_view.specs.State.{Class, Block, class_at, names, meets, follows}
-use Rattle.patch_view.specs.Meaning.{IsClassOf, Represents}
+use Rattle.patch_records.specs.Records.{Class, names, meets}
+use Rattle.patch_stacks.specs.State.{Block, class_at, follows}
+use Rattle.patch_view.specs.Meaning.{IsClassOf, IsBlockOf}
 use Rattle.patch_view.proofs.Sets.{class_depends_on, class_depends-apart, ordered_on}
 use Rattle.patch_model.specs.Laying.{covers-to}
 use Rattle.patch_view.proofs.Chain.{later_depends, covering}
-use Rattle.patch_view.proofs.Exchange.{spans-at, spans-from}
+use Rattle.patch_records.proofs.Bytes.{spans-at, spans-from}
 
 -- a class depends on one of which it names a member
 pub names-depends : (h : History) (t u : List ℕ) (c d : Class) → IsClassOf h t c → IsClassOf h u d → names c d ≡ true → class_depends_on h c.name d.name ≡ true
@@ -87,7 +88,7 @@ rests-depends h t u c d o r s named apart never = elim (cases_Bool (class_depend
 ]
 
 -- which record rests on which
-pub linked : {b : Block} {taken : List ℕ} {h : History} → Represents b taken h → (i j : ℕ) → i < length b.classes → j < length b.classes
+pub linked : {b : Block} {taken : List ℕ} {h : History} → IsBlockOf b taken h → (i j : ℕ) → i < length b.classes → j < length b.classes
     → (class_at b i).name ≢ (class_at b j).name → follows b i j ≡ class_depends_on h (class_at b i).name (class_at b j).name
 linked {b} {taken} {h} r i j h_i h_j apart = elim (cases_order j i) [
   | inl same ↦ absurd (apart (ap (λ k. (class_at b k).name) (sym same)))
@@ -98,12 +99,12 @@ linked {b} {taken} {h} r i j h_i h_j apart = elim (cases_order j i) [
   ]
 ]
 
-pub linked_as : {b : Block} {taken : List ℕ} {h : History} → Represents b taken h → (i j : ℕ) → i < length b.classes → j < length b.classes
+pub linked_as : {b : Block} {taken : List ℕ} {h : History} → IsBlockOf b taken h → (i j : ℕ) → i < length b.classes → j < length b.classes
     → (class_at b i).name ≢ (class_at b j).name → follows b i j ≡ class_depends h.entries (class_at b i).name (class_at b j).name
 linked_as {b} {taken} {h} r i j h_i h_j apart = linked r i j h_i h_j apart ∙ sym (class_depends-apart h (class_at b i).name (class_at b j).name apart)
 
 -- what a record rests on is another class
-pub follows-apart : {b : Block} {taken : List ℕ} {h : History} → Represents b taken h → (i j : ℕ) → i < length b.classes → j < length b.classes
+pub follows-apart : {b : Block} {taken : List ℕ} {h : History} → IsBlockOf b taken h → (i j : ℕ) → i < length b.classes → j < length b.classes
     → follows b i j ≡ true → (class_at b i).name ≢ (class_at b j).name
 follows-apart {b} {taken} {h} r i j h_i h_j on q =
     let less : j < i = ltb-true _ _ (and_parts (nat_lt j i) (meets (class_at b i) (class_at b j) || names (class_at b i) (class_at b j)) on).0 in

@@ -1,46 +1,24 @@
 -- Putting every class back, the lowest place first.
-use Rattle.std.proofs.Common.{◌≡◌, ℕ, zero, suc, ◌<◌, ◌≤◌, ◌∙◌, true, false, not, inl, inr, List, [], ◌∷◌, length, map, refl, sym, ap, arith, subst, get_or-set_same, get_or-set_other}
-use Rattle.std.specs.Prelude.{◌&&◌, ◌||◌, ◌≢◌, slice_index_or, slice_set}
+use Rattle.std.proofs.Common.{◌≡◌, ℕ, zero, suc, ◌<◌, ◌≤◌, ◌∙◌, true, false, not, inl, inr, List, [], ◌∷◌, length, refl, sym, ap, arith, subst, get_or-set_same, get_or-set_other}
+use Rattle.std.specs.Prelude.{◌&&◌, ◌||◌, ◌≢◌}
 use Rattle.std.proofs.lemmas.Bool.{cases_Bool, cases_lt, le-ltb, and_left, and_right, or_left, both_ways, eqb-true, eq-eqb, false_from_ne_true}
-use Rattle.std.proofs.lemmas.List.{length-set}
 use Rattle.patch_model.specs.Entry.{is_durable, is_memory, is_among, is_undoable}
 use Rattle.patch_model.specs.Member.{list_any-at}
 use Rattle.patch_model.specs.History.{History, moved, Back}
-use Rattle.patch_view.specs.declared.classes.Turn.{Turn}
-use Rattle.patch_view.specs.declared.classes.Turn.TheVariants.{PutBack}
+use Rattle.patch_records.specs.declared.classes.Turn.TheVariants.{PutBack}
 use Rattle.patch_view.proofs.Sets.{upper, none-held}
 use Rattle.patch_view.specs.History.{unpatched}
-use Rattle.patch_view.specs.State.{Class, Block, class_at, no_class, may_be_taken, follows, meets, names, hinders, exchanged_at, exchanged_with, restored_to, outline, outline_of}
-use Rattle.patch_view.specs.Meaning.{Represents}
+use Rattle.patch_records.specs.Records.{no_class, may_be_taken, meets, names}
+use Rattle.patch_stacks.specs.State.{Block, class_at, follows, hinders, exchanged_at, restored_to}
+use Rattle.patch_records.specs.Exchanges.{exchanged_with}
+use Rattle.patch_view.specs.Meaning.{IsBlockOf}
 use Rattle.patch_view.proofs.Chain.{undoable-not_durable}
 use Rattle.patch_view.proofs.Steps.{record_of, putting_back}
 use Rattle.patch_view.proofs.Exchange.{exchanged-represents, back-exchange}
-
-outline-set : (cs : List Class) (at : ℕ) (c : Class) → at < length cs → outline_of c ≡ outline_of (slice_index_or cs at no_class)
-    → map outline_of (slice_set cs at c) ≡ map outline_of cs
-outline-set [] at c within e = refl
-outline-set (d ∷ ds) zero c within e = ap (λ z. z ∷ map outline_of ds) e
-outline-set (d ∷ ds) (suc at) c within e = ap (λ z. outline_of d ∷ z) (outline-set ds at c (omega arith) e)
-
-pub outline-exchanged : (b : Block) (at : ℕ) (turn : Turn) → at < length b.classes → outline (exchanged_at b at turn) ≡ outline b
-outline-exchanged b at turn within = outline-set b.classes at (exchanged_with (class_at b at) b.bytes turn) within refl
-
-pub length-restored_to : (n : ℕ) (b : Block) → length (restored_to n b).classes ≡ length b.classes
-length-restored_to zero b = refl
-length-restored_to (suc n) b = elim (cases_Bool (class_at (restored_to n b) n).taken) [
-  | inl on ↦ rw on (length-set (restored_to n b).classes n _ ∙ length-restored_to n b)
-  | inr off ↦ rw off (length-restored_to n b)
-]
-
-pub outline-restored_to : (n : ℕ) (b : Block) → n ≤ length b.classes → outline (restored_to n b) ≡ outline b
-outline-restored_to zero b fits = refl
-outline-restored_to (suc n) b fits = elim (cases_Bool (class_at (restored_to n b) n).taken) [
-  | inl on ↦ let l = length-restored_to n b in rw on (outline-exchanged (restored_to n b) n PutBack (omega arith) ∙ outline-restored_to n b (omega arith))
-  | inr off ↦ rw off (outline-restored_to n b (omega arith))
-]
+use Rattle.patch_stacks.proofs.Outlines.{length-restored_to}
 
 -- a class that is taken may be taken
-pub taken-may : (b : Block) (taken : List ℕ) (h : History) (at : ℕ) → Represents b taken h → at < length b.classes
+pub taken-may : (b : Block) (taken : List ℕ) (h : History) (at : ℕ) → IsBlockOf b taken h → at < length b.classes
     → (class_at b at).taken ≡ true → may_be_taken (class_at b at) ≡ true
 taken-may b taken h at r within on =
     let c = r.classes at within in
@@ -52,11 +30,11 @@ taken-may b taken h at r within on =
 
 pub record IsRestoredTo (n : ℕ) (b : Block) (h : History) : Type 0 where
   pub taken : List ℕ
-  pub represents : Represents b taken h
+  pub represents : IsBlockOf b taken h
   pub applied : (i : ℕ) → i < n → (class_at b i).taken ≡ false
 
 -- nothing keeps the lowest class that is taken from going back
-lowest-free : (b : Block) (taken : List ℕ) (h : History) (n : ℕ) → Represents b taken h → n < length b.classes
+lowest-free : (b : Block) (taken : List ℕ) (h : History) (n : ℕ) → IsBlockOf b taken h → n < length b.classes
     → ((i : ℕ) → i < n → (class_at b i).taken ≡ false)
     → (k : ℕ) → k < length b.classes → hinders PutBack b n k ≡ false
 lowest-free b taken h n r within applied k w_k = elim (cases_lt k n) [
@@ -88,7 +66,7 @@ keep_step n b h r off = record {
   applied = λ i lt. elim (cases_lt i n) [ inl before ↦ r.applied i before | inr here ↦ let e : i ≡ n = omega arith in rw e off ];
 }
 
-pub restored-represents : (n : ℕ) (b : Block) (taken : List ℕ) (h : History) → Represents b taken h → n ≤ length b.classes
+pub restored-represents : (n : ℕ) (b : Block) (taken : List ℕ) (h : History) → IsBlockOf b taken h → n ≤ length b.classes
     → IsRestoredTo n (restored_to n b) h
 restored-represents zero b taken h r fits = record { taken = taken; represents = r; applied = λ i lt. absurd (omega arith) }
 restored-represents (suc n) b taken h r fits =
@@ -103,7 +81,7 @@ none-among : (xs : List ℕ) → ((n : ℕ) → is_among xs n ≡ false) → xs 
 none-among [] f = refl
 none-among (x ∷ xs) f = absurd (both_ways _ (f x) (or_left _ (is_among xs x) (eq-eqb x x refl)))
 
-pub all_restored : (b : Block) (taken : List ℕ) (h : History) → Represents b taken h → Represents (restored_to (length b.classes) b) [] h
+pub all_restored : (b : Block) (taken : List ℕ) (h : History) → IsBlockOf b taken h → IsBlockOf (restored_to (length b.classes) b) [] h
 all_restored b taken h r =
     let s = restored-represents (length b.classes) b taken h r (omega arith) in
     let l = length-restored_to (length b.classes) b in
@@ -116,10 +94,10 @@ all_restored b taken h r =
     let off : (class_at (restored_to (length b.classes) b) j.0).taken ≡ false = s.applied j.0 before in
     let flag = (s.represents.classes j.0 j.1).flag in
     both_ways _ off (flag ∙ ap (is_among s.taken) (j.2 ∙ of_n) ∙ t))) in
-    subst (λ t. Represents (restored_to (length b.classes) b) t h) nil s.represents
+    subst (λ t. IsBlockOf (restored_to (length b.classes) b) t h) nil s.represents
 
 -- a block of these bytes with no patches
-pub opens : (first : List ℕ) → length first ≡ 4096 → Represents (record { bytes = first; classes = [] }) [] (unpatched first)
+pub opens : (first : List ℕ) → length first ≡ 4096 → IsBlockOf (record { bytes = first; classes = [] }) [] (unpatched first)
 opens first long = record {
   coherent = record {
     long = long;

@@ -9,10 +9,11 @@ use Rattle.patch_model.specs.Entry.{Entry, is_among, is_undoable, is_memory, mar
 use Rattle.patch_model.specs.Member.{In, In-filter, filter-In}
 use Rattle.patch_model.specs.History.{History, without}
 use Rattle.patch_view.specs.History.{IsCoherent, below, top, undoable_classes}
-use Rattle.patch_view.specs.State.{Class, Block, class_at, no_class, spans, may_be_taken, outline_of}
+use Rattle.patch_records.specs.Records.{Class, no_class, spans, may_be_taken, outline_of}
+use Rattle.patch_stacks.specs.State.{Block, class_at}
 use Rattle.patch_view.specs.Meaning.{IsClassOf}
 use Rattle.patch_view.specs.Laws.{NameTheSame, OneValue, ImageIsWithout}
-use Rattle.patch_view.proofs.Exchange.{spans-from}
+use Rattle.patch_records.proofs.Bytes.{spans-from}
 
 pub filter-same : {X : Type 0} (p q : X → Bool) (xs : List X) → ((x : X) → In xs x → p x ≡ q x) → filter p xs ≡ filter q xs
 filter-same p q [] same = refl

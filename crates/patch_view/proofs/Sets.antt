@@ -9,8 +9,8 @@ use Rattle.patch_model.specs.Dependency.{depends_directly, class_depends}
 use Rattle.patch_model.specs.Member.{In, In-from_Contains, Contains-from_In, list_any-at, list_any-from}
 use Rattle.patch_model.specs.History.{History, HoldsDependents}
 use Rattle.patch_view.specs.History.{IsCoherent}
-use Rattle.patch_view.specs.State.{Block, class_at}
-use Rattle.patch_view.specs.Meaning.{Represents}
+use Rattle.patch_stacks.specs.State.{Block, class_at}
+use Rattle.patch_view.specs.Meaning.{IsBlockOf}
 
 -- whole undoable classes, in which stands each class that isn't durable and depends directly on one of them
 pub record IsUpper (h : History) (names : List ℕ) : Type 0 where
@@ -36,7 +36,7 @@ holds-from h names u = record {
   dependents = λ e f i j low d t. u.dependents e f (In-from_Contains h.entries e i) (In-from_Contains h.entries f j) d (not-true _ low) t;
 }
 
-pub upper : {b : Block} {taken : List ℕ} {h : History} → Represents b taken h → IsUpper h taken
+pub upper : {b : Block} {taken : List ℕ} {h : History} → IsBlockOf b taken h → IsUpper h taken
 upper {b} {taken} {h} r = upper-from h taken r.coherent r.holds
 
 -- a patch of the class a depends directly on one of the class c
@@ -46,7 +46,7 @@ class_depends_on h a c = some_depends h.entries a c
 pub class_depends-apart : (h : History) (a c : ℕ) → a ≢ c → class_depends h.entries a c ≡ class_depends_on h a c
 class_depends-apart h a c apart = ap (λ z. not z && class_depends_on h a c) (ne_eqb a c apart)
 
-pub ordered_on : {b : Block} {taken : List ℕ} {h : History} → Represents b taken h → (i j : ℕ) → i < j → j < length b.classes
+pub ordered_on : {b : Block} {taken : List ℕ} {h : History} → IsBlockOf b taken h → (i j : ℕ) → i < j → j < length b.classes
     → class_depends_on h (class_at b i).name (class_at b j).name ≡ false
 ordered_on {b} {taken} {h} r i j less w =
     sym (class_depends-apart h (class_at b i).name (class_at b j).name (λ q. let e : i ≡ j = r.distinct i j (omega arith) w q in absurd (omega arith)))

@@ -8,11 +8,12 @@ use Rattle.patch_model.specs.Entry.{Entry, is_durable, is_among}
 use Rattle.patch_model.specs.Dependency.{depends_directly}
 use Rattle.patch_model.specs.Member.{In}
 use Rattle.patch_model.specs.History.{History}
-use Rattle.patch_view.specs.declared.classes.Turn.TheVariants.{Take, PutBack}
+use Rattle.patch_records.specs.declared.classes.Turn.TheVariants.{Take, PutBack}
 use Rattle.patch_view.proofs.Sets.{upper, class_depends_on}
 use Rattle.patch_view.proofs.Resting.{linked}
-use Rattle.patch_view.specs.State.{Class, Block, class_at, no_class, may_be_taken, follows, hinders}
-use Rattle.patch_view.specs.Meaning.{Represents}
+use Rattle.patch_records.specs.Records.{Class, no_class, may_be_taken}
+use Rattle.patch_stacks.specs.State.{Block, class_at, follows, hinders}
+use Rattle.patch_view.specs.Meaning.{IsBlockOf}
 use Rattle.patch_view.proofs.Chain.{IsStep, undoable-not_durable}
 
 -- the place of the record of a name
@@ -29,12 +30,12 @@ pub depends-from : (h : History) (e f : Entry) → In h.entries e → In h.entri
 depends-from h e f i j d = some-Link h.entries e.class f.class e f i j refl refl d
 
 -- each of these is one of the block's live classes: its record
-pub record_of : (b : Block) (taken : List ℕ) (h : History) (e : Entry) → Represents b taken h → In h.entries e → is_durable e ≡ false
+pub record_of : (b : Block) (taken : List ℕ) (h : History) (e : Entry) → IsBlockOf b taken h → In h.entries e → is_durable e ≡ false
     → (j : ℕ) × (j < length b.classes) × ((class_at b j).name ≡ e.class)
 record_of b taken h e r i low = record_named b.classes e.class (r.complete e i low)
 
 -- taking the class of a record that nothing keeps from it
-pub taking : (b : Block) (taken : List ℕ) (h : History) (at : ℕ) → Represents b taken h → at < length b.classes
+pub taking : (b : Block) (taken : List ℕ) (h : History) (at : ℕ) → IsBlockOf b taken h → at < length b.classes
     → may_be_taken (class_at b at) ≡ true → (class_at b at).taken ≡ false
     → ((k : ℕ) → k < length b.classes → hinders Take b at k ≡ false)
     → IsStep h (class_at b at).name taken ((class_at b at).name ∷ taken)
@@ -95,7 +96,7 @@ among-left n c xs t =
     (sym (among-filter n c xs apart) ∙ t, apart)
 
 -- putting back the class of a record that nothing keeps from it
-pub putting_back : (b : Block) (taken : List ℕ) (h : History) (at : ℕ) → Represents b taken h → at < length b.classes
+pub putting_back : (b : Block) (taken : List ℕ) (h : History) (at : ℕ) → IsBlockOf b taken h → at < length b.classes
     → (class_at b at).taken ≡ true
     → ((k : ℕ) → k < length b.classes → hinders PutBack b at k ≡ false)
     → IsStep h (class_at b at).name (filter (λ n. not (n == (class_at b at).name)) taken) taken

@@ -8,20 +8,22 @@ use Rattle.patch_model.specs.Link.{Link-at}
 use Rattle.patch_model.specs.Entry.{Entry, is_durable, is_memory, is_among, is_undoable}
 use Rattle.patch_model.specs.Member.{In, In-from_Contains, Contains-from_In, filter-In}
 use Rattle.patch_model.specs.History.{History, HoldsDependents}
-use Rattle.patch_view.specs.declared.classes.Turn.TheVariants.{Take}
+use Rattle.patch_records.specs.declared.classes.Turn.TheVariants.{Take}
 use Rattle.patch_view.specs.History.{undoable_classes}
-use Rattle.patch_view.specs.State.{Block, class_at, no_class, may_be_taken, is_takeable, follows, meets, names, hinders, exchanged_at, exchanged_with, swept_to, outline}
-use Rattle.patch_view.specs.Meaning.{Represents}
+use Rattle.patch_stacks.specs.State.{Block, class_at, follows, hinders, exchanged_at, swept_to}
+use Rattle.patch_records.specs.Records.{no_class, may_be_taken, is_takeable, meets, names}
+use Rattle.patch_records.specs.Exchanges.{exchanged_with}
+use Rattle.patch_view.specs.Meaning.{IsBlockOf}
 use Rattle.patch_view.specs.Laws.{NameTheSame}
 use Rattle.patch_view.proofs.Chain.{undoable-not_durable}
 use Rattle.patch_view.proofs.Steps.{record_of, taking}
 use Rattle.patch_view.proofs.Exchange.{exchanged-represents, take-exchange, others-kept}
 use Rattle.patch_view.proofs.Resting.{linked_as, follows-apart}
 use Rattle.patch_view.proofs.Same.{same_names_same_bytes, among-undoable, map-among}
-use Rattle.patch_view.proofs.Restoring.{outline-exchanged}
+use Rattle.patch_stacks.proofs.Outlines.{length-swept_to}
 
 -- the same records, with the same classes under another list
-pub renamed : (b : Block) (names others : List ℕ) (h : History) → Represents b names h → NameTheSame names others → Represents b others h
+pub renamed : (b : Block) (names others : List ℕ) (h : History) → IsBlockOf b names h → NameTheSame names others → IsBlockOf b others h
 renamed b names others h r same = record {
   coherent = r.coherent;
   holds = record {
@@ -39,17 +41,17 @@ renamed b names others h r same = record {
 -- the records of classes from the place n on that may be taken are taken
 pub record IsSweptTo (n : ℕ) (b : Block) (h : History) : Type 0 where
   pub taken : List ℕ
-  pub represents : Represents b taken h
+  pub represents : IsBlockOf b taken h
   pub swept : (i : ℕ) → n ≤ i → i < length b.classes → may_be_taken (class_at b i) ≡ true → (class_at b i).taken ≡ true
 
 -- a record whose class has an undoable patch
-soft_record : (b : Block) (taken : List ℕ) (h : History) (k : ℕ) (e : Entry) → Represents b taken h → k < length b.classes → In h.entries e
+soft_record : (b : Block) (taken : List ℕ) (h : History) (k : ℕ) (e : Entry) → IsBlockOf b taken h → k < length b.classes → In h.entries e
     → e.class ≡ (class_at b k).name → is_undoable e ≡ true → may_be_taken (class_at b k) ≡ true
 soft_record b taken h k e r w i is soft =
     let m = (r.classes k w).marked e i is in
     ap (λ z. z && not (class_at b k).hard) (sym m.1) ∙ ap (λ z. is_memory e && not z) (sym m.2) ∙ soft
 
-record_soft : (b : Block) (taken : List ℕ) (h : History) (k : ℕ) (e : Entry) → Represents b taken h → k < length b.classes → In h.entries e
+record_soft : (b : Block) (taken : List ℕ) (h : History) (k : ℕ) (e : Entry) → IsBlockOf b taken h → k < length b.classes → In h.entries e
     → e.class ≡ (class_at b k).name → may_be_taken (class_at b k) ≡ true → is_undoable e ≡ true
 record_soft b taken h k e r w i is may =
     let m = (r.classes k w).marked e i is in
@@ -108,22 +110,7 @@ skip_step n b h s off = record {
   ];
 }
 
-pub length-swept_to : (n : ℕ) (b : Block) → length (swept_to n b).classes ≡ length b.classes
-length-swept_to zero b = refl
-length-swept_to (suc n) b = elim (cases_Bool (is_takeable (class_at (swept_to n b) (length b.classes - suc n)))) [
-  | inl on ↦ rw on (length-set (swept_to n b).classes (length b.classes - suc n) _ ∙ length-swept_to n b)
-  | inr off ↦ rw off (length-swept_to n b)
-]
-
-pub outline-swept_to : (n : ℕ) (b : Block) → n ≤ length b.classes → outline (swept_to n b) ≡ outline b
-outline-swept_to zero b fits = refl
-outline-swept_to (suc n) b fits = elim (cases_Bool (is_takeable (class_at (swept_to n b) (length b.classes - suc n)))) [
-  | inl on ↦ let l = length-swept_to n b in
-      rw on (outline-exchanged (swept_to n b) (length b.classes - suc n) Take (omega arith) ∙ outline-swept_to n b (omega arith))
-  | inr off ↦ rw off (outline-swept_to n b (omega arith))
-]
-
-swept-represents : (n : ℕ) (b : Block) (taken : List ℕ) (h : History) → Represents b taken h → HoldsDependents h (undoable_classes h) → n ≤ length b.classes
+swept-represents : (n : ℕ) (b : Block) (taken : List ℕ) (h : History) → IsBlockOf b taken h → HoldsDependents h (undoable_classes h) → n ≤ length b.classes
     → IsSweptTo (length b.classes - n) (swept_to n b) h
 swept-represents zero b taken h r holds fits = record { taken = taken; represents = r; swept = λ i from w. absurd (omega arith) }
 swept-represents (suc n) b taken h r holds fits =
@@ -149,8 +136,8 @@ all-named b h s n = same_bool _ _
     let on = s.swept j.0 (omega arith) j.1 (soft_record b s.taken h j.0 q.0 s.represents j.1 p.0 (sym j.2) p.1) in
     ap (is_among s.taken) (sym q.2 ∙ sym j.2) ∙ sym (s.represents.classes j.0 j.1).flag ∙ on)
 
-pub all_swept : (b : Block) (taken : List ℕ) (h : History) → Represents b taken h → HoldsDependents h (undoable_classes h)
-    → Represents (swept_to (length b.classes) b) (undoable_classes h) h
+pub all_swept : (b : Block) (taken : List ℕ) (h : History) → IsBlockOf b taken h → HoldsDependents h (undoable_classes h)
+    → IsBlockOf (swept_to (length b.classes) b) (undoable_classes h) h
 all_swept b taken h r holds =
     let none : length b.classes - length b.classes ≡ 0 = omega arith in
     let s : IsSweptTo 0 (swept_to (length b.classes) b) h =

@@ -1,9 +1,9 @@
 -- Classes put in flight together, and those in flight made durable.
-use Rattle.std.proofs.Common.{◌≡◌, ◌≢◌, ℕ, ◌+◌, ◌<◌, ◌≤◌, ◌∙◌, true, false, not, inl, inr, List, [], length, filter, get_or, set, get_or-set_same, get_or-set_other, refl, sym, ap, arith, subst, Bool}
+use Rattle.std.proofs.Common.{◌≡◌, ◌≢◌, ℕ, ◌<◌, ◌∙◌, true, false, not, inl, inr, List, [], length, filter, get_or, set, refl, sym, ap, arith, subst, Bool}
 use Rattle.std.specs.Prelude.{◌==◌, ◌&&◌}
 use Rattle.std.specs.List.{list_any, All, AllPairs}
 use Rattle.std.proofs.lemmas.Bool.{cases_Bool, cases_eq, cases_lt, both_ways, eq-eqb}
-use Rattle.std.proofs.lemmas.List.{length-map, length-set, get_or-map, get_or_default}
+use Rattle.std.proofs.lemmas.List.{length-map, get_or-map, get_or_default}
 use Rattle.std.proofs.lemmas.List.Elements.{All-filter, filter_passes, Contains-get_or}
 use Rattle.std.proofs.lemmas.List.Kept.{AllPairs-filter}
 use Rattle.patch_model.specs.Marked.{memory-not_durable}
@@ -16,52 +16,17 @@ use Rattle.patch_model.specs.Orderly.{IsOrderlyBlock}
 use Rattle.patch_model.specs.Ready.{has}
 use Rattle.patch_model.specs.State.{sent, landed}
 use Rattle.patch_view.specs.History.{IsCoherent, MayDepart}
-use Rattle.patch_view.specs.State.{Class, Block, class_at, no_class, departed_among, MayHaveDeparted, HasDeparted, with_departed, with_landed}
-use Rattle.patch_view.specs.Meaning.{IsClassOf, Represents}
+use Rattle.patch_records.specs.Records.{Class, no_class, departed_among}
+use Rattle.patch_stacks.specs.State.{Block, class_at, with_departed, with_landed}
+use Rattle.patch_view.specs.Meaning.{IsClassOf, IsBlockOf}
 use Rattle.patch_view.proofs.Sets.{class_depends_on, none-held, never-from, ordered_on}
 use Rattle.patch_view.proofs.Steps.{record_of}
 use Rattle.patch_view.proofs.Lawful.{flight_may_land}
 use Rattle.patch_view.proofs.Marking.{IsMarking, AreMarks, changed, any-map, depends-changed, without-changed, orderly-changed, names-changed, re-class}
 use Rattle.patch_view.proofs.Naming.{like_named}
+use Rattle.patch_stacks.proofs.Departed.{same-name}
 
 -- Put in flight.
-
--- each class before the place k as it was, or in flight under one of these names; all others as they were
-pub record HaveDeparted (numbers : List ℕ) (first now : List Class) (k : ℕ) : Type 0 where
-  pub long : length now ≡ length first
-  pub rest : (i : ℕ) → k ≤ i → get_or now i no_class ≡ get_or first i no_class
-  pub each : (i : ℕ) → MayHaveDeparted numbers (get_or first i no_class) (get_or now i no_class)
-
--- one place more
-pub more_departed : (numbers : List ℕ) (first now : List Class) (k : ℕ) (old new : Class) → k < length first
-    → MayHaveDeparted numbers (get_or now k old) new → HaveDeparted numbers first now k → HaveDeparted numbers first (set now k new) (k + 1)
-more_departed numbers first now k old new within may d =
-    let long = d.long in
-    let w : k < length now = omega arith in
-    let was : get_or now k old ≡ get_or first k no_class = get_or_default now k old no_class w ∙ d.rest k (omega arith) in
-    record {
-      long = length-set now k new ∙ d.long;
-      rest = λ i up. get_or-set_other now k i new no_class (λ e. absurd (omega arith)) ∙ d.rest i (omega arith);
-      each = λ i. elim (cases_eq i k) [
-        | inl e ↦
-            subst (λ (j : ℕ). MayHaveDeparted numbers (get_or first j no_class) (get_or (set now k new) j no_class)) (sym e)
-            (subst (λ c. MayHaveDeparted numbers c (get_or (set now k new) k no_class)) was
-            (subst (MayHaveDeparted numbers (get_or now k old)) (sym (get_or-set_same now k new no_class w)) may))
-        | inr ne ↦ subst (MayHaveDeparted numbers (get_or first i no_class)) (sym (get_or-set_other now k i new no_class ne)) (d.each i)
-      ];
-    }
-
--- as the block has it
-pub has_departed : (numbers : List ℕ) (old : Block) (bytes : List ℕ) (was first now kept : List Class) (k : ℕ)
-    → record { bytes = bytes; classes = was } ≡ old → first ≡ was → kept ≡ now → HaveDeparted numbers first now k
-    → HasDeparted numbers old (record { bytes = bytes; classes = kept })
-has_departed numbers old bytes was first now kept k v f n d = record {
-  bytes = ap (λ (b : Block). b.bytes) v;
-  long = ap length n ∙ d.long ∙ ap length f ∙ ap (λ (b : Block). length b.classes) v;
-  each = λ i.
-      subst (λ (cs : List Class). MayHaveDeparted numbers (get_or cs i no_class) (get_or kept i no_class)) (f ∙ ap (λ (b : Block). b.classes) v)
-      (subst (λ (cs : List Class). MayHaveDeparted numbers (get_or first i no_class) (get_or cs i no_class)) (sym n) (d.each i));
-}
 
 pub sent-marking : (set : List Entry) → IsMarking (sent set)
 sent-marking set = record {
@@ -106,17 +71,14 @@ departed-class h numbers set c may r = elim (cases_Bool (is_among numbers c.name
       ((λ u. (refl, refl)), r.no_saved))
 ]
 
-pub same-name : (numbers : List ℕ) (c : Class) → (departed_among numbers c).name ≡ c.name
-same-name numbers c = elim (cases_Bool (is_among numbers c.name)) [ inl t ↦ rw t refl | inr t ↦ rw t refl ]
-
 same-members : (numbers : List ℕ) (c : Class) → (departed_among numbers c).members ≡ c.members
 same-members numbers c = elim (cases_Bool (is_among numbers c.name)) [ inl t ↦ rw t refl | inr t ↦ rw t refl ]
 
 same-after : (numbers : List ℕ) (c : Class) → (departed_among numbers c).after ≡ c.after
 same-after numbers c = elim (cases_Bool (is_among numbers c.name)) [ inl t ↦ rw t refl | inr t ↦ rw t refl ]
 
-pub departs_together : (b : Block) (h : History) (numbers : List ℕ) (set : List Entry) → Represents b [] h → MayDepart h numbers set
-    → Represents (with_departed b numbers) [] (changed (sent set) h)
+pub departs_together : (b : Block) (h : History) (numbers : List ℕ) (set : List Entry) → IsBlockOf b [] h → MayDepart h numbers set
+    → IsBlockOf (with_departed b numbers) [] (changed (sent set) h)
 departs_together b h numbers set r may =
     let m = sent-marking set in
     let H : History = changed (sent set) h in
@@ -207,8 +169,8 @@ unflown-class h block c on r = re-class (landed block) h c c.flying c.saved (lan
     let out = landed-out block e (memory-not_flight e.mark (old.1 ∙ on)) in (ap is_durable out ∙ old.0, ap is_memory out ∙ old.1))
     ((λ t. (refl, refl)), r.no_saved)
 
-pub lands_together : (b : Block) (h : History) (block : ℕ) → Represents b [] h → IsOrderlyBlock h block
-    → Represents (with_landed b) [] (changed (landed block) h)
+pub lands_together : (b : Block) (h : History) (block : ℕ) → IsBlockOf b [] h → IsOrderlyBlock h block
+    → IsBlockOf (with_landed b) [] (changed (landed block) h)
 lands_together b h block r o =
     let m = landed-marking block in
     let H : History = changed (landed block) h in

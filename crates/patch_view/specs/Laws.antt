@@ -10,8 +10,8 @@ use Rattle.patch_model.specs.Orderly.{IsOrderlyBlock, left_behind}
 use Rattle.patch_model.specs.Member.{In}
 use Rattle.patch_model.specs.Refusing.{why_not_taken, why_not_put_back, class_named}
 use Rattle.patch_view.specs.History.{IsCoherent, IsNext, MayLand, laid, undoable_classes}
-use Rattle.patch_view.specs.State.{Block, outline}
-use Rattle.patch_view.specs.Meaning.{Represents}
+use Rattle.patch_stacks.specs.State.{Block, outline}
+use Rattle.patch_view.specs.Meaning.{IsBlockOf}
 use Rattle.patch_view.specs.Answers.{IsPatch, MayTake, MayPutBack}
 
 -- the two lists name the same classes
@@ -58,7 +58,7 @@ NumberNamesClass = (h : History) (number : ℕ) (e : Entry) → IsCoherent h →
 abbrev pub OneValue : Type 0
 OneValue =
     (h : History) (names others : List ℕ) (a b : Block)
-    → Represents a names h → Represents b others h → NameTheSame names others → outline a ≡ outline b → a ≡ b
+    → IsBlockOf a names h → IsBlockOf b others h → NameTheSame names others → outline a ≡ outline b → a ≡ b
 
 -- where all that is in memory may be taken back, the block without it is the image
 abbrev pub ImageIsWithout : Type 0

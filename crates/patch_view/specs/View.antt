@@ -1,6 +1,6 @@
 -- What a view sees.
 use Rattle.std.specs.Borrow.{GName}
-use Rattle.patch_view.specs.State.{Block}
+use Rattle.patch_stacks.specs.State.{Block}
 use Rattle.patch_view.specs.declared.views.BlockView.{BlockView}
 
 -- the records that it lends

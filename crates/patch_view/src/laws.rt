@@ -1,6 +1,5 @@
 //! Laws of the definitions, each the contract of a function that does nothing.
-ghost use Rattle.patch_view.specs.Laws.{OrderlyIsCoherent, LastIsNext, FlightMayLand, UppermostMayBeTaken, TakenWithoutCause};
-ghost use Rattle.patch_view.specs.Laws.{PutBackWithoutCause, NumberNamesClass, OneValue, ImageIsWithout, SendLeavesTheImage};
+ghost use Rattle.patch_view.specs.Laws.{OrderlyIsCoherent, LastIsNext, FlightMayLand, UppermostMayBeTaken, TakenWithoutCause, PutBackWithoutCause, NumberNamesClass, OneValue, ImageIsWithout, SendLeavesTheImage};
 
 /// What the calls ask of a block's history is true of each block of an execution.
 pub fn blocks_are_coherent()

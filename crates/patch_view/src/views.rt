@@ -1,12 +1,12 @@
 //! A block lent with classes to be taken back, which has to be put right again.
 ghost use Rattle.std.specs.Prelude.{◌≡◌, length, OnErr};
-ghost use Rattle.patch_view.specs.State.{outline};
+ghost use Rattle.patch_stacks.specs.State.{outline};
 ghost use Rattle.patch_view.specs.View.{seen_by, borrow_of};
 ghost use Rattle.patch_view.specs.Answers.{AnswersTake, AcceptsTake, AnswersPutBack, AcceptsPutBack, TakesAll, PutsAllBack, IsAsBefore, Shows};
 
-use crate::refusals::{PutBackRefusal, TakeRefusal};
 use crate::states::BlockState;
 use patch_model::{BLOCK, Ending, PatchNo};
+use patch_stacks::{PutBackRefusal, TakeRefusal};
 use std::alloc::{Allocator, Global};
 
 /// A view of a block, of which classes are taken back for a while. [`restore`](BlockView::restore) alone spends it: a view

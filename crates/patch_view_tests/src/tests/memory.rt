@@ -83,7 +83,7 @@ fn lay_hard(
     block.lay(PatchNo(no), 0, &[1; 500], after, true)
 }
 
-// The lists of a patch with no more than two names take no memory, and those of one with three do.
+// The lists of a patch with no more than three names take no memory, and those of one with four do.
 fn keep_few_numbers(
     rt: &impl Abort,
     heap: &LocalHeap,
@@ -91,11 +91,12 @@ fn keep_few_numbers(
 ) -> Result<(), Fail> {
     lay_hard(block, 0, &[])?;
     lay_hard(block, 1, &[PatchNo(0)])?;
-    let two = heap.used();
+    let one = heap.used();
     lay_hard(block, 2, &[PatchNo(1), PatchNo(0)])?;
-    expect_eq(rt, &heap.used(), &two);
     lay_hard(block, 3, &[PatchNo(2), PatchNo(1), PatchNo(0)])?;
-    assert!(rt; two < heap.used());
+    expect_eq(rt, &heap.used(), &one);
+    lay_hard(block, 4, &[PatchNo(3), PatchNo(2), PatchNo(1), PatchNo(0)])?;
+    assert!(rt; one < heap.used());
     Ok(())
 }
 

@@ -1,10 +1,10 @@
-use Rattle.std.proofs.Common.{sym}
-use Rattle.patch_view.proofs.Marking.{departs_named, placed_memory}
+use Rattle.std.proofs.Common.{[], sym, subst}
+use Rattle.patch_stacks.specs.State.{Block}
+use Rattle.patch_view.specs.Meaning.{IsBlockOf}
+use Rattle.patch_view.proofs.StackAnswers.{departs_one}
 use Rattle.patch_view.proofs.states.BlockState.depart.Goals as goal
 
-pub returns-in-Some-clause-answer : goal.returns-in-Some-clause-answer
-returns-in-Some-clause-answer g c h e r p m = let is = c.depart_at.ensures in
-    rw is (departs_named c.args.self.now h c.args.no c.in-Some.at e r (sym c.in-Some.ensures) p)
-
-pub returns-in_default-clause-answer : goal.returns-in_default-clause-answer
-returns-in_default-clause-answer g c h e r p m = absurd (placed_memory c.args.self.now h c.args.no e r (sym c.in_default.ensures) p m)
+pub returns-clause-answer : goal.returns-clause-answer
+returns-clause-answer g c h e r p m =
+    let is = c.depart.ensures in
+    rw is (departs_one c.self.inside.stack h c.args.no e (subst (λ (b : Block). IsBlockOf b [] h) (sym c.self.view_is) r) p m)

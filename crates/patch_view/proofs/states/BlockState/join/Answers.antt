@@ -1,6 +1,6 @@
 use Rattle.std.proofs.Common.{ap}
-use Rattle.patch_view.specs.State.{has_places}
-use Rattle.patch_view.proofs.Gathering.{one_class}
+use Rattle.patch_stacks.specs.State.{has_places}
+use Rattle.patch_stacks.proofs.Joints.{one_class}
 use Rattle.patch_view.proofs.states.BlockState.join.Goals as goal
 
 pub returns-clause-answer : goal.returns-clause-answer

@@ -1,28 +1,13 @@
-use Rattle.std.proofs.Common.{◌≡◌, ◌∙◌, ◌+◌, ◌≤◌, length, refl, sym, ap, subst}
+use Rattle.std.proofs.Common.{subst}
 use Rattle.patch_model.specs.Names.{numbers_named}
-use Rattle.patch_view.specs.State.{Class, IsLaid, unlaid_class, with_laid}
+use Rattle.patch_stacks.specs.State.{Block}
+use Rattle.patch_stacks.proofs.Outcomes.{done-then}
+use Rattle.patch_view.specs.Changes.{Lays}
 use Rattle.patch_view.proofs.Newest.{laid_represents}
 use Rattle.patch_view.proofs.states.BlockState.lay_if.Goals as goal
 
-pub lay_with-requires-clause-fits : goal.lay_with-requires-clause-fits
-lay_with-requires-clause-fits g c = subst (λ (k : Class). k.start + length c.args.bytes.now ≤ 4096) (sym c.in_ok-class.ensures) c.requires.fits
-
-pub lay_with-requires-clause-unlaid : goal.lay_with-requires-clause-unlaid
-lay_with-requires-clause-unlaid g c =
-    subst (λ (k : Class). k ≡ unlaid_class k.name k.start c.args.bytes.now k.after k.hard) (sym c.in_ok-class.ensures) refl
-
-pub returns-clause-laid : goal.returns-clause-laid
-returns-clause-laid g c = record {
-  all = c.in_ok-named.named.items;
-  names = c.in_ok-named.ensures.kept;
-  is = c.in_ok-lay_with.ensures.done ∙ ap (λ (k : Class). with_laid c.args.self.now k.name k.start c.args.bytes.now k.after k.hard) c.in_ok-class.ensures;
-}
-
 pub returns-clause-answer : goal.returns-clause-answer
-returns-clause-answer g c h block undo r next =
-    let laid : IsLaid c.args.self.now c.args.no c.args.start c.args.bytes.now (numbers_named c.args.after) c.args.hard c.lay_with.new.self = record {
-      all = c.in_ok-named.named.items;
-      names = c.in_ok-named.ensures.kept;
-      is = c.in_ok-lay_with.ensures.done ∙ ap (λ (k : Class). with_laid c.args.self.now k.name k.start c.args.bytes.now k.after k.hard) c.in_ok-class.ensures;
-    } in
-    laid_represents c.args.self.now c.lay_with.new.self h c.args.no block c.args.start c.args.bytes.now (numbers_named c.args.after) undo c.args.hard laid r next
+returns-clause-answer g c =
+    subst (λ (b : Block). Lays b c.args.no c.args.start c.args.bytes.now (numbers_named c.args.after) c.args.hard c.lay_if.result c.lay_if.new.self) c.self.view_is (λ h block undo r next.
+    done-then c.lay_if.result _ _ (λ laid.
+    laid_represents c.self.inside.stack c.lay_if.new.self h c.args.no block c.args.start c.args.bytes.now (numbers_named c.args.after) undo c.args.hard laid r next) c.lay_if.ensures.laid)

@@ -1,0 +1,2 @@
+pub mod Baring
+pub mod Gapping

@@ -1,5 +1,0 @@
-use Rattle.patch_view.specs.Images.{IsAloneBelow}
-use Rattle.patch_view.proofs.gaps.are_others_elsewhere.Given as goal
-
-abbrev pub invariant-loop-other : goal.invariant-loop-other
-invariant-loop-other g l = IsAloneBelow l.classes l.at l.other

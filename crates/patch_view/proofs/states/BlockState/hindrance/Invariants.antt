@@ -1,5 +1,0 @@
-use Rattle.patch_view.specs.State.{hinders, IsLeastBelow}
-use Rattle.patch_view.proofs.states.BlockState.hindrance.Given as goal
-
-abbrev pub invariant-loop-other : goal.invariant-loop-other
-invariant-loop-other g l = IsLeastBelow (hinders l.turn l.self l.at) l.self l.other l.least

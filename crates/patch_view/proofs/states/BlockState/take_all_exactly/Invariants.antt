@@ -1,6 +1,0 @@
-use Rattle.std.proofs.Common.{◌≡◌, length}
-use Rattle.patch_view.specs.State.{swept_to}
-use Rattle.patch_view.proofs.states.BlockState.take_all_exactly.Given as goal
-
-abbrev pub invariant-loop-passed : goal.invariant-loop-passed
-invariant-loop-passed g l = (l.self ≡ swept_to l.passed l.initial.self) × (length l.self.classes ≡ length l.initial.self.classes)
