@@ -78,6 +78,48 @@ def waiting(count):
         yield from written(0)
 
 
+def merges_level(count):
+    """Pairs of patches side by side, of which the second one waits for a patch of another block, each made one when all are laid."""
+    yield patch(1, 0, "aa")
+    for pair in range(count):
+        yield patch(0, 2 * pair, "bb")
+        yield patch(0, 2 * pair + 1, "cc", [0])
+    for pair in range(count):
+        yield {"op": "merge", "a": 2 * pair + 1, "b": 2 * pair + 2}
+
+
+def merges_over(count):
+    """Patches of a byte, and behind them one of two bytes beside each, over the next one, with which it is made one."""
+    for number in range(count):
+        yield patch(0, 2 * number, "bb")
+    for pair in range(count - 1):
+        yield patch(0, 2 * pair + 1, "cccc")
+    for pair in range(count - 1):
+        yield {"op": "merge", "a": pair, "b": count + pair}
+
+
+def merges_naming(count):
+    """The same where the later one names the next one."""
+    for number in range(count):
+        yield patch(0, 2 * number, "bb")
+    for pair in range(count - 1):
+        yield patch(0, 2 * pair + 1, "cc", [pair + 1])
+    for pair in range(count - 1):
+        yield {"op": "merge", "a": pair, "b": count + pair}
+
+
+def merges_between(count):
+    """The same where what the later one is over is over another one between the two."""
+    for number in range(count):
+        yield patch(0, 2 * number, "bb")
+    for pair in range(count - 1):
+        yield patch(0, 2 * pair + 2, "cc")
+    for pair in range(count - 1):
+        yield patch(0, 2 * pair + 1, "dddd")
+    for pair in range(count - 1):
+        yield {"op": "merge", "a": pair, "b": 2 * count - 1 + pair}
+
+
 def puts(count):
     """What a store asks of its cache for so many puts of 100 bytes: a frame behind the last one, the pointer to its end, which
     becomes one with the pointer before, and a slot. At the end data, pointer and slots are written, each wave after the one before."""
@@ -155,7 +197,8 @@ def mixed(count):
             yield SYNC
 
 
-OF_REPLAY = {f.__name__: f for f in (apart, overlap, hot, views, elsewhere, waiting, puts)}
+MERGES = merges_level, merges_over, merges_naming, merges_between
+OF_REPLAY = {f.__name__: f for f in (apart, overlap, hot, views, elsewhere, waiting, *MERGES, puts)}
 OF_RUN = {
     "small": lambda count: keys(count, 100),
     "synced": lambda count: keys(count, 100, behind_each=[SYNC]),

@@ -5,8 +5,8 @@ ghost use Rattle.patch_model.specs.Pile.{end};
 use crate::expecting::expect_eq;
 use linked_list_allocator::LocalHeap;
 use patch_model::{
-    BLOCK, BlockBytes, BlockNo, Items, Numbers, OutOfMemory, Patch, PatchNo, RefusalKind, Refuses,
-    Step, Steps, Undo, pile,
+    BLOCK, BlockBytes, BlockNo, Items, Names, Numbers, OutOfMemory, Patch, PatchNo, RefusalKind,
+    Refuses, Run, Step, Steps, Undo, pile,
 };
 use std::alloc::{AllocError, Allocator, Global};
 use std::process::Abort;
@@ -170,5 +170,56 @@ fn refusals_have_numbers_and_names(rt: HostRuntime) -> Result<(), Fail> {
         &format!(in rt.alloc(); "{} {} {OutOfMemory}", PatchNo(12), BlockNo(4095))?.as_str(),
         &"12 4095 OutOfMemory",
     );
+    Ok(())
+}
+
+const NUMBERS: [PatchNo; 4] = [PatchNo(9), PatchNo(3), PatchNo(7), PatchNo(1)];
+
+// The numbers of some names, in memory of the heap's owner.
+fn numbers_of(alloc: Global, names: &Names<&LocalHeap>) -> Result<Vec<PatchNo>, OutOfMemory> {
+    names.lend().to_vec(alloc)
+}
+
+// Three names at most take no memory, and neither does a copy of them; four do.
+fn name_some(rt: &impl Abort, alloc: Global, heap: &LocalHeap) -> Result<(), OutOfMemory> {
+    let none = heap.used();
+    let some = Names::of_some(Some(PatchNo(9)), None, Some(PatchNo(7)));
+    expect_eq(
+        rt,
+        &numbers_of(alloc, &some)?.as_slice(),
+        &[PatchNo(9), PatchNo(7)].as_slice(),
+    );
+    let first_three = [PatchNo(9), PatchNo(3), PatchNo(7)];
+    let few = Names::from_slice(heap, &first_three)?.copied(heap)?;
+    expect_eq(
+        rt,
+        &numbers_of(alloc, &few)?.as_slice(),
+        &first_three.as_slice(),
+    );
+    expect_eq(rt, &heap.used(), &none);
+    let many = Names::from_slice(heap, &NUMBERS)?;
+    assert!(rt; none < heap.used());
+    expect_eq(
+        rt,
+        &numbers_of(alloc, &many.copied(heap)?)?.as_slice(),
+        &NUMBERS.as_slice(),
+    );
+    Ok(())
+}
+
+#[test]
+fn few_names_take_no_memory(rt: HostRuntime) -> Result<(), Fail> {
+    let heap = LocalHeap::new(rt.alloc(), 4_096)?;
+    name_some(&rt, rt.alloc(), &heap)?;
+    Ok(())
+}
+
+#[test]
+fn names_in_runs_are_copied(rt: HostRuntime) -> Result<(), Fail> {
+    let runs = Vec::from_slice(rt.alloc(), &[Run { first: 3, last: 5 }])?;
+    let names = Names::in_runs(runs).copied(rt.alloc())?;
+    let wanted = [PatchNo(3), PatchNo(4), PatchNo(5)];
+    let numbers = names.lend().to_vec(rt.alloc())?;
+    expect_eq(&rt, &numbers.as_slice(), &wanted.as_slice());
     Ok(())
 }

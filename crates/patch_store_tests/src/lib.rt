@@ -1,5 +1,11 @@
-//! Tests of `patch_store`: the blocks of new disks, and opening.
+//! Tests of `patch_store`, and of the groups and extents that it stands on.
 #![tactic(auto)]
 
 #[cfg(test)]
-mod tests;
+mod expecting;
+#[cfg(test)]
+mod extent;
+#[cfg(test)]
+mod group;
+#[cfg(test)]
+mod store;

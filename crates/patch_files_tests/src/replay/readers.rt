@@ -1,5 +1,6 @@
 //! Readers that fail in the middle, by an error of each kind: the replay ends there, and the error that is noted is the reader's own.
-use crate::tests::{ANSWERS, End, SCRIPT, done, end_of, expect_eq, unread};
+use super::{ANSWERS, End, SCRIPT, done, end_of, unread};
+use crate::tests::expect_eq;
 use patch_replay::{Sink, Source};
 use std::alloc::Global;
 use std::io;

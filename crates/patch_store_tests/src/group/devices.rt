@@ -1,8 +1,9 @@
 //! Syncs over devices that fail.
 use super::lines::asks_in;
 use super::*;
+use crate::expecting::fails_still;
 use patch_device::{Device, FaultyDevice, MemDevice, load};
-use patch_model::{BLOCK, Mark};
+use patch_model::Mark;
 use patch_testing::StubbornDevice;
 use std::alloc::Global;
 
@@ -282,16 +283,6 @@ fn expect_letters<D: Device>(
         expect_equal(rt, "letter", block.as_slice().first(), Some(letter));
     }
     Ok(())
-}
-
-// Whether one of so many calls more of the device fails, and the next one.
-fn fails_still<D: Device>(device: &mut D, calls: u64) -> bool {
-    for _ in 0..calls.saturating_add(1) {
-        if device.read(0, &mut [0; BLOCK]).is_err() {
-            return true;
-        }
-    }
-    false
 }
 
 // This call of a sync of the second group fails, landing or not: it is tried again. Whether it was met.

@@ -1,5 +1,6 @@
 //! Lists of calls, with what each of them answers and which steps they leave in the trace.
 use super::*;
+use std::fmt::Debug;
 
 // A call, or a look at the trace.
 #[derive(Clone, Copy)]

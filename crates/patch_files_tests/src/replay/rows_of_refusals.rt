@@ -1,5 +1,5 @@
 //! Worked scripts of what is refused, and of what then is as before.
-use crate::rows::{DEFAULT_BLOCKS, Row};
+use super::rows::{DEFAULT_BLOCKS, Row};
 use patch_replay::Status;
 
 pub static ROWS_OF_REFUSALS: [Row; 5] = [

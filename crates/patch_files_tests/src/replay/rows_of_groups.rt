@@ -1,5 +1,5 @@
 //! Worked scripts of groups.
-use crate::rows::{DEFAULT_BLOCKS, Row};
+use super::rows::{DEFAULT_BLOCKS, Row};
 use patch_replay::Status;
 
 pub const ROWS_OF_GROUPS: [Row; 12] = [

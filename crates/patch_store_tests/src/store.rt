@@ -1,5 +1,6 @@
 //! New disks: how many blocks they have, what their superblocks begin with, and which are refused; and what the tests of stores
 //! share.
+use crate::expecting::{Said, expect_eq};
 use patch_cache::Cache;
 use patch_frame::{Format, Geometry};
 use patch_history::{MakeRefusal, OpenFault};
@@ -8,7 +9,6 @@ use patch_model::{
 };
 use patch_store::{Store, make};
 use std::alloc::{Allocator, Global};
-use std::fmt::Debug;
 use std::process::Abort;
 use std::test::Fail;
 
@@ -21,11 +21,6 @@ mod opening;
 mod walks;
 
 use Ask::{Delete, Get, Put, Reclaim, Upgrade};
-
-// Ends the test, telling both, unless what came is what is wanted. A call takes the prover less than `assert_eq!` where it stands.
-fn expect_eq<T: PartialEq + Debug>(rt: &impl Abort, got: &T, want: &T) {
-    assert_eq!(rt; *got, *want);
-}
 
 const WRITER: WriterNo = WriterNo(0);
 
@@ -137,9 +132,6 @@ enum Ask<'a> {
     Reclaim(u32),
     Upgrade,
 }
-
-// Whether it is done, or of which kind the refusal is.
-type Said = Result<(), RefusalKind>;
 
 // What is asked, and what is wanted to be said to it.
 type Turn<'a> = (Ask<'a>, Said);

@@ -1,5 +1,5 @@
 //! Worked scripts of several blocks: writes and completions.
-use crate::rows::{DEFAULT_BLOCKS, Row};
+use super::rows::{DEFAULT_BLOCKS, Row};
 use patch_replay::Status;
 
 pub const ROWS_OF_WRITES: [Row; 14] = [

@@ -1,27 +1,31 @@
-//! Worked scripts, and replays whose reader, writer or memory fails.
+//! Replays: worked scripts, and those whose reader, writer or memory fails.
 ghost use Rattle.std.specs.Prelude.{◌<◌, ◌≤◌, ⊤};
 
-use crate::rows::{DEFAULT_BLOCKS, ROWS, Row};
-use crate::rows_of_groups::ROWS_OF_GROUPS;
-use crate::rows_of_merges::ROWS_OF_MERGES;
-use crate::rows_of_refusals::ROWS_OF_REFUSALS;
-use crate::rows_of_writes::ROWS_OF_WRITES;
+use crate::tests::expect_eq;
 use patch_model::{BLOCK, MAX_BLOCKS, MAX_LIVE, OutOfMemory};
 use patch_replay::{
     BadScript, CachedDisk, Core, MAX_READS, Output, Sink, Source, Status, replay, replay_over,
 };
 use patch_script::{Answer, Defect, Line, Name};
 use std::alloc::{AllocError, Global};
-use std::fmt::Debug;
 use std::io;
 use std::io::{BufWriter, ErrorKind, Read, Write};
 use std::process::Abort;
 use std::test::Fail;
 
-// Ends the test, telling both, unless what came is what is wanted. A call takes the prover less than `assert_eq!` where it stands.
-pub(crate) fn expect_eq<T: PartialEq + Debug>(rt: &impl Abort, got: &T, want: &T) {
-    assert_eq!(rt; *got, *want);
-}
+mod laws;
+mod readers;
+mod rows;
+mod rows_of_groups;
+mod rows_of_merges;
+mod rows_of_refusals;
+mod rows_of_writes;
+
+use rows::{DEFAULT_BLOCKS, ROWS, Row};
+use rows_of_groups::ROWS_OF_GROUPS;
+use rows_of_merges::ROWS_OF_MERGES;
+use rows_of_refusals::ROWS_OF_REFUSALS;
+use rows_of_writes::ROWS_OF_WRITES;
 
 pub(crate) const SCRIPT: &str = r#"{"op":"patch","block":0,"start":0,"hex":"a1a2a3a4"}
 

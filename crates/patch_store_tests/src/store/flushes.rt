@@ -1,5 +1,6 @@
 //! Flushes: what the disk holds then, and devices that fail.
 use super::*;
+use crate::expecting::fails_still;
 use patch_device::{Device, FaultyDevice, MemDevice, load};
 use patch_store::flush;
 
@@ -79,16 +80,6 @@ fn a_flushed_disk_is_opened_again(rt: HostRuntime) -> Result<(), Fail> {
     let ended = expect_written(&rt, rt.alloc(), &mut device);
     drop(device);
     ended
-}
-
-// Whether one of so many calls more of the device fails, and the next one.
-fn fails_still<D: Device>(device: &mut D, calls: u64) -> bool {
-    for _ in 0..calls.saturating_add(1) {
-        if device.read(0, &mut [0; BLOCK]).is_err() {
-            return true;
-        }
-    }
-    false
 }
 
 // Flushes the commands to the device, of which this call fails: it is tried again. Whether it was met.

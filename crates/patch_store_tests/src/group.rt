@@ -1,10 +1,10 @@
-//! Worked scripts, syncs over devices that fail, want of memory, and the texts of refusals.
+//! Groups: worked scripts, syncs over devices that fail, want of memory, and the texts of refusals.
+use crate::expecting::expect_equal;
 use patch_cache::*;
 use patch_group::*;
 use patch_model::{BlockNo, MAX_BLOCKS, OutOfMemory, PatchNo, Undo, WriterNo};
 use patch_testing::zeros;
 use std::alloc::Allocator;
-use std::fmt::Debug;
 use std::process::Abort;
 use std::test::Fail;
 
@@ -13,11 +13,6 @@ mod lines;
 mod memory;
 mod names;
 mod scripts;
-
-// Asserts of what is named.
-fn expect_equal<T: Copy + Debug + PartialEq>(rt: &impl Abort, what: &str, got: T, want: T) {
-    assert_eq!(rt; got, want, "{what}");
-}
 
 // A cache of so many blocks of zeros.
 fn open_zeros<A: Allocator + Copy>(

@@ -1,4 +1,5 @@
-//! Worked appends, resets and reads in both versions, the limit of live patches, want of memory, and the texts of refusals.
+//! Extents: worked appends, resets and reads in both versions, the limit of live patches, want of memory, and the texts of refusals.
+use crate::expecting::{Said, expect_equal};
 use patch_cache::Cache;
 use patch_extent::{
     AppendRefusal, Appended, Extents, ExtentsFault, MergeOutcome, Place, ReadRefusal, ResetRefusal,
@@ -11,7 +12,6 @@ use patch_model::{
 };
 use patch_testing::zeros;
 use std::alloc::{AllocError, Allocator, Global};
-use std::fmt::Debug;
 use std::process::Abort;
 use std::test::Fail;
 
@@ -19,11 +19,6 @@ mod limits;
 mod memory;
 mod names;
 mod walks;
-
-// Asserts of what is named.
-fn expect_equal<T: Copy + Debug + PartialEq>(rt: &impl Abort, what: &str, got: T, want: T) {
-    assert_eq!(rt; got, want, "{what}");
-}
 
 fn write_records<A: Allocator + Copy>(blocks: &mut [BlockBytes<A>], records: &[u8]) {
     if let Some(third) = blocks.get_mut(2) {
@@ -136,9 +131,6 @@ fn reset<A: Allocator + Copy>(bench: &mut Bench<A>, extent: u32) -> Result<Patch
     let Bench { cache, extents, .. } = bench;
     extents.reset(cache, extent, &[])
 }
-
-// Whether a call is done, or of which kind the refusal is.
-type Said = Result<(), RefusalKind>;
 
 fn kind_of<T: Copy, R: Refuses>(answer: Result<T, R>) -> Said {
     match answer {
