@@ -25,7 +25,7 @@ use Rattle.patch_cache.specs.Running.{IsCrashSafe}
 use Rattle.patch_cache.specs.Waves.{HoldImages, HasKept}
 use Rattle.patch_history.specs.History.{History, execution_of, steps_of}
 use Rattle.patch_store.specs.Flushing.{HasWritten, with_writes}
-use Rattle.patch_store.specs.Meaning.{Store, Represents}
+use Rattle.patch_store.specs.Meaning.{Store, IsStoreOf}
 use Rattle.patch_disks.specs.Running.{StandsOn}
 use Rattle.patch_c.specs.declared.tape.Tape.{Tape}
 use Rattle.patch_device.specs.Cuts.{cached_behind}
@@ -85,7 +85,7 @@ resting_left run blocks none holds =
 
 -- So what a flush keeps of them is kept of a store that stands on its blocks, which last.
 pub kept_so : {D : Type 0} (g : Ghosts D) (h : History) (steps : List Step) (old flushed new : Store) (before now : D) → StandsOn old h (g.contents before) → IsLasting g before
-    → HasWritten h steps flushed → HasKept g (execution_of h) steps before now → ((h : History) → Represents flushed h → Represents new h) → HasKeptSafe g h new before now
+    → HasWritten h steps flushed → HasKept g (execution_of h) steps before now → ((h : History) → IsStoreOf flushed h → IsStoreOf new h) → HasKeptSafe g h new before now
 kept_so g h steps old flushed new before now stands lasting written kept drained =
     let blocks = g.contents before in
     let rests = resting_left (execution_of h) blocks stands.still.no_flight stands.images in
@@ -142,7 +142,7 @@ empty_stands h store tape none stands = subst (StandsOn store h) (sym (empty_hol
 
 -- and behind a sync the file may hold what a crash may leave.
 pub lands_so : (h : History) (old new : Store) (before after : Tape) (steps : List Step) (counts : List ℕ) → events_of before ≡ [] → StandsOn old h (file_of before)
-    → Represents new (with_writes h steps) → Elapses (moment_of before) (moment_of after) (left_at_of before) (left_at_of after)
+    → IsStoreOf new (with_writes h steps) → Elapses (moment_of before) (moment_of after) (left_at_of before) (left_at_of after)
     → moment_of after ≡ moment_of before + length counts
     → HasTrail (execution_of (with_writes h steps)) (left_at_of after) (suc (moment_of before)) (length (steps_of h)) counts → LandsSafely h new before after
 lands_so h old new before after steps counts none stands represents time moments trail =

@@ -9,6 +9,6 @@ pub mod Refused
 pub mod Reported
 pub mod Staying
 pub mod Synced
-pub mod Telling
+pub mod CallNumbers
 pub mod Walks
 pub mod Writing

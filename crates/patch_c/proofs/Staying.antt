@@ -5,9 +5,9 @@ use Rattle.std.specs.Prelude.{IsFalse}
 use Rattle.patch_device.specs.Blocks.{AreWhole}
 use Rattle.patch_history.specs.Command.{Command, Reply}
 use Rattle.patch_history.specs.History.{History, Call, with_event}
-use Rattle.patch_history.specs.Standing.{at_opening}
+use Rattle.patch_history.specs.StoreState.{at_opening}
 use Rattle.patch_store.specs.Flushing.{with_writes}
-use Rattle.patch_store.specs.Meaning.{Store, Represents, HasAnswered}
+use Rattle.patch_store.specs.Meaning.{Store, IsStoreOf, HasAnswered}
 use Rattle.patch_store.specs.Opening.{IsOpened, at_opening as at_first}
 use Rattle.patch_disks.proofs.Calling.{opened_so}
 use Rattle.patch_disks.specs.Running.{StandsOn}
@@ -18,7 +18,7 @@ use Rattle.patch_c.specs.declared.tape.Tape.{Tape}
 use Rattle.patch_device.specs.Cuts.{written_behind}
 use Rattle.patch_c.specs.Saving.{HasSaved, HasWrittenOn}
 use Rattle.patch_c.specs.Tape.{file_of, contents_of, events_of}
-use Rattle.patch_c.specs.Standing.{StandsSomewhere, CallsStay}
+use Rattle.patch_c.specs.LegalStores.{StandsSomewhere, CallsStay}
 
 pub stays_on : StatesExtend → ImagesStay → (h : History) (writer : ℕ) (command : Command) (reply : Reply) (old new : Store) (blocks : List (List ℕ)) → StandsOn old h blocks
     → (answered : HasAnswered h writer command reply old new) → StandsOn new (with_event h (Call writer command reply answered.steps)) blocks
@@ -72,6 +72,6 @@ after_sync answer false h new blocks saved written done =
 
 pub synced_stands : (answer : Answer) (before after : Bool) (old new : Store) (blocks blocks_now : List (List ℕ)) → IsFalse before
     → ∥ StandsSomewhere before old blocks ∥₁ → ((h : History) → StandsOn old h blocks → answer ≡ Done → HasSaved h new blocks_now)
-    → ((h : History) → Represents old h → HasWrittenOn h new) → (IsFalse after → answer ≡ Done) → ∥ StandsSomewhere after new blocks_now ∥₁
+    → ((h : History) → IsStoreOf old h → HasWrittenOn h new) → (IsFalse after → answer ≡ Done) → ∥ StandsSomewhere after new blocks_now ∥₁
 synced_stands answer before after old new blocks blocks_now unspent stands saved written done =
     ∥∥₁_map stands (λ w. after_sync answer after w.0 new blocks_now (saved w.0 (w.1.on unspent)) (written w.0 w.1.represents) done)

@@ -7,7 +7,7 @@ use Rattle.patch_model.specs.Execution.{followed_by}
 use Rattle.patch_cache.specs.Waves.{HoldImages, IsFlushed}
 use Rattle.patch_history.specs.History.{History, Moved, steps_in, execution_of}
 use Rattle.patch_store.specs.Flushing.{HoldCached, HasWritten, with_writes}
-use Rattle.patch_store.specs.Meaning.{Store, Represents}
+use Rattle.patch_store.specs.Meaning.{Store, IsStoreOf}
 use Rattle.patch_c.specs.Saving.{IsSynced, HasSaved, HasWrittenOn}
 
 steps_of_writes : (steps : List Step) → flat_map steps_in (map Moved steps) ≡ steps
@@ -22,7 +22,7 @@ writes_behind h steps =
 
 -- nothing is left to be written
 pub synced_so : (h : History) (steps : List Step) (flushed new : Store) → HasWritten h steps flushed → IsFlushed (followed_by (execution_of h) steps)
-    → ((h : History) → Represents flushed h → Represents new h) → IsSynced h new
+    → ((h : History) → IsStoreOf flushed h → IsStoreOf new h) → IsSynced h new
 synced_so h steps flushed new written none kept =
     let now = subst IsFlushed (writes_behind h steps) none in
     record {
@@ -34,7 +34,7 @@ synced_so h steps flushed new written none kept =
 -- and the blocks are the cached ones
 pub saved_so : (h : History) (steps : List Step) (flushed new : Store) (blocks : List (List ℕ)) → HasWritten h steps flushed
     → IsFlushed (followed_by (execution_of h) steps) → HoldImages (followed_by (execution_of h) steps) blocks
-    → HoldCached (followed_by (execution_of h) steps) blocks → ((h : History) → Represents flushed h → Represents new h) → HasSaved h new blocks
+    → HoldCached (followed_by (execution_of h) steps) blocks → ((h : History) → IsStoreOf flushed h → IsStoreOf new h) → HasSaved h new blocks
 saved_so h steps flushed new blocks written none images cached kept =
     let is = writes_behind h steps in
     let now = subst IsFlushed is none in
@@ -50,5 +50,5 @@ saved_so h steps flushed new blocks written none images cached kept =
 
 -- or some writes were made
 pub written_so : (h : History) (steps : List Step) (flushed new : Store) → HasWritten h steps flushed
-    → ((h : History) → Represents flushed h → Represents new h) → HasWrittenOn h new
+    → ((h : History) → IsStoreOf flushed h → IsStoreOf new h) → HasWrittenOn h new
 written_so h steps flushed new written kept = record { writes = steps; represents = kept _ written.represents }

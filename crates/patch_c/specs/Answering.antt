@@ -4,7 +4,7 @@ use Rattle.patch_model.specs.Refusal.{code_of}
 use Rattle.patch_history.specs.Command.{Command, Reply}
 use Rattle.patch_history.specs.Command as reply
 use Rattle.patch_history.specs.History.{History}
-use Rattle.patch_store.specs.Meaning.{Store, Represents, HasAnswered}
+use Rattle.patch_store.specs.Meaning.{Store, IsStoreOf, HasAnswered}
 use Rattle.patch_c.specs.declared.answers.Answer.{Answer}
 use Rattle.patch_c.specs.declared.answers.Answer.TheVariants.{Done, Refused, BufferTooSmall, Absent, NoSync, BadWriter}
 
@@ -44,7 +44,7 @@ pub record HasTold (h : History) (writer : ℕ) (command : Command) (number : �
 
 -- so it was, behind each history that the store represented
 abbrev pub Tells : (writer : ℕ) → Command → (number : ℤ) → (old new : Store) → Type 0
-Tells writer command number old new = (h : History) → Represents old h → HasTold h writer command number old new
+Tells writer command number old new = (h : History) → IsStoreOf old h → HasTold h writer command number old new
 
 -- and the reply carries what then stands here, where it carries a number
 pub record HasTellingOf (h : History) (writer : ℕ) (command : Command) (number : ℤ) (before now : ℕ) (old new : Store) : Type 0 where
@@ -55,7 +55,7 @@ pub record HasTellingOf (h : History) (writer : ℕ) (command : Command) (number
 
 abbrev pub TellsOf : (writer : ℕ) → Command → (number : ℤ) → (before now : ℕ) → (old new : Store) → Type 0
 TellsOf writer command number before now old new =
-    (h : History) → Represents old h → HasTellingOf h writer command number before now old new
+    (h : History) → IsStoreOf old h → HasTellingOf h writer command number before now old new
 
 -- the writers that may engage groups have the numbers 0 to 6
 abbrev pub engaging_writer : ℕ → Option ℕ

@@ -1,10 +1,10 @@
 pub mod Answering
 pub mod Handle
-pub mod Holding
+pub mod CodedBlocks
 pub mod Opening
 pub mod Reading
 pub mod Saving
 pub mod Sealed
-pub mod Standing
+pub mod LegalStores
 pub mod Tape
 pub mod Texts

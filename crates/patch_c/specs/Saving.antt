@@ -9,7 +9,7 @@ use Rattle.patch_device.specs.declared.devices.Device.{Ghosts}
 use Rattle.patch_cache.specs.Running.{IsCrashSafe}
 use Rattle.patch_history.specs.History.{History, execution_of}
 use Rattle.patch_store.specs.Flushing.{StandsStill, HoldCached, with_writes}
-use Rattle.patch_store.specs.Meaning.{Store, Represents}
+use Rattle.patch_store.specs.Meaning.{Store, IsStoreOf}
 use Rattle.patch_disks.specs.Answering.{IsSaved}
 use Rattle.patch_disks.specs.Running.{StandsOn}
 use Rattle.patch_c.specs.declared.answers.Answer.{Answer}
@@ -34,12 +34,12 @@ pub record HasSaved (h : History) (store : Store) (blocks : List (List ℕ)) : T
 -- some writes were begun, and some of them ended
 pub record HasWrittenOn (h : History) (store : Store) : Type 0 where
   pub writes : List Step
-  pub represents : Represents store (with_writes h writes)
+  pub represents : IsStoreOf store (with_writes h writes)
 
 -- at each moment on the way a cut left only such blocks as a crash may leave, behind the history and the writes that were made by then
 pub record HasKeptSafe {D : Type 0} (g : Ghosts D) (h : History) (store : Store) (before now : D) : Type 0 where
   pub writes : List Step
-  pub represents : Represents store (with_writes h writes)
+  pub represents : IsStoreOf store (with_writes h writes)
   pub safe : IsCrashSafe g (execution_of h) (execution_of (with_writes h writes)) before now
 
 -- these blocks may be left by a crash behind the history and some first ones of these steps
@@ -52,7 +52,7 @@ MayBeLeft h steps blocks = (n : ℕ) × MayLeave (execution_of (with_writes h (t
 pub record LandsSafely (h : History) (store : Store) (before after : Tape) : Type 0 where
   pub file : file_of after ≡ file_of before
   pub steps : List Step
-  pub represents : Represents store (with_writes h steps)
+  pub represents : IsStoreOf store (with_writes h steps)
   pub lands : (t : ℕ) (disk : List (List ℕ)) → t ≤ moment_of after → left_at_of after t disk → MayBeLeft h steps disk
 
 -- once all events are done a cut leaves of the file what it holds

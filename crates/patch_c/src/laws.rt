@@ -1,5 +1,5 @@
 //! What stays of a store that is open.
-ghost use Rattle.patch_c.specs.Standing.{CallsStay};
+ghost use Rattle.patch_c.specs.LegalStores.{CallsStay};
 
 use patch_model::laws as model_laws;
 

@@ -8,18 +8,18 @@
 //!
 //! A handle is two words that C may see. What it stands for is a ghost field, and the memory is a box's: `sealed` and `raw_box` turn
 //! the one into the other. `saving` brings a store to its device, which is a `tape`: no file is opened, read or written here. The
-//! functions of C that do so call the exports that are named `fstch_core_..`, and `given` takes the bytes that they have read. What the
-//! file holds is `holding`, which proofs alone see.
+//! functions of C that do so call the exports that are named `fstch_core_..`, and `file_blocks` takes the bytes that they have read. What the
+//! file holds is `held_blocks`, which proofs alone see.
 #![tactic(auto)]
 
 mod answers;
 mod copying;
 mod deleting;
+mod file_blocks;
 mod files;
-mod given;
 mod groups;
 mod handle;
-mod holding;
+mod held_blocks;
 mod laws;
 mod listing;
 mod opened;

@@ -1,7 +1,7 @@
 //! What a store holds: how entries are counted, and listed, how full extents are, and what is to be synced.
 ghost use Rattle.std.specs.Prelude.{◌≡◌, ◌↔◌, IsTrue, IsFalse, IfSome};
 ghost use Rattle.patch_history.specs.History.{History};
-ghost use Rattle.patch_store.specs.Meaning.{Represents};
+ghost use Rattle.patch_store.specs.Meaning.{IsStoreOf};
 ghost use Rattle.patch_c.specs.Answering.{number_of};
 ghost use Rattle.patch_c.specs.Handle.{StaysClosed};
 ghost use Rattle.patch_c.specs.Reading.{HasListed, HasCounted, HasMeasured, unsynced};
@@ -17,13 +17,13 @@ const NO_MEMORY: Answer = Answer::Refused(RefusalKind::OutOfMemory);
 
 impl Opened {
     fn count(&self, entries: &mut u32, extents: &mut u32) -> Answer
-        ensures { (h : History) → Represents self.now.store h →
+        ensures { (h : History) → IsStoreOf self.now.store h →
             HasCounted h entries.old extents.old (number_of result, entries.new, extents.new) }
     {
         let Ok(report) = self.store.check() else {
             return NO_MEMORY;
         };
-        // Never too many: a disk has few slots, and fewer extents.
+        // Never so: a disk has few slots, and fewer extents. The numbers are those of vectors, whose types don't say so.
         let Ok(keys) = u32::try_from(report.entries.len()) else {
             return NO_MEMORY;
         };
@@ -42,7 +42,7 @@ impl Opened {
         key_len: &mut usize,
         value_len: &mut usize,
     ) -> Answer
-        ensures { (h : History) → Represents self.now.store h →
+        ensures { (h : History) → IsStoreOf self.now.store h →
             HasListed h number key.old key_len.old value_len.old (number_of result, key.new, key_len.new, value_len.new) }
     {
         let Some(entry) = self.store.entry(number) else {
@@ -53,7 +53,7 @@ impl Opened {
     }
 
     fn extent(&self, extent: u32, live: &mut u32, filled: &mut u32) -> Answer
-        ensures { (h : History) → Represents self.now.store h →
+        ensures { (h : History) → IsStoreOf self.now.store h →
             HasMeasured h extent live.old filled.old (number_of result, live.new, filled.new) }
     {
         let Some(report) = self.store.extent(extent) else {
@@ -65,7 +65,7 @@ impl Opened {
     }
 
     fn unsynced(&self) -> u32
-        ensures { (h : History) → Represents self.now.store h → result ≡ unsynced h }
+        ensures { (h : History) → IsStoreOf self.now.store h → result ≡ unsynced h }
     {
         self.store.cache().live()
     }
@@ -82,7 +82,7 @@ pub extern "C" fn fstch_check(
     ensures same { handle.new.sealed.opened ≡ handle.old.sealed.opened }
     ensures not_open { (result ≡ NOT_OPEN) ↔ IsFalse handle.old.is_open }
     ensures closed { StaysClosed handle.old handle.new }
-    ensures counted { IfSome handle.old.sealed.opened (λ opened. (h : History) → Represents opened.store h →
+    ensures counted { IfSome handle.old.sealed.opened (λ opened. (h : History) → IsStoreOf opened.store h →
         HasCounted h entries.old extents.old (result, entries.new, extents.new)) }
     ensures refused { IsFalse handle.old.is_open → (entries.new ≡ entries.old) × (extents.new ≡ extents.old) }
 {
@@ -107,7 +107,7 @@ pub extern "C" fn fstch_entry(
     ensures same { handle.new.sealed.opened ≡ handle.old.sealed.opened }
     ensures not_open { (result ≡ NOT_OPEN) ↔ IsFalse handle.old.is_open }
     ensures closed { StaysClosed handle.old handle.new }
-    ensures listed { IfSome handle.old.sealed.opened (λ opened. (h : History) → Represents opened.store h →
+    ensures listed { IfSome handle.old.sealed.opened (λ opened. (h : History) → IsStoreOf opened.store h →
         HasListed h number key.old key_len.old value_len.old (result, key.new, key_len.new, value_len.new)) }
     ensures refused { IsFalse handle.old.is_open
         → (key.new ≡ key.old) × (key_len.new ≡ key_len.old) × (value_len.new ≡ value_len.old) }
@@ -132,7 +132,7 @@ pub extern "C" fn fstch_extent(
     ensures same { handle.new.sealed.opened ≡ handle.old.sealed.opened }
     ensures not_open { (result ≡ NOT_OPEN) ↔ IsFalse handle.old.is_open }
     ensures closed { StaysClosed handle.old handle.new }
-    ensures measured { IfSome handle.old.sealed.opened (λ opened. (h : History) → Represents opened.store h →
+    ensures measured { IfSome handle.old.sealed.opened (λ opened. (h : History) → IsStoreOf opened.store h →
         HasMeasured h extent live.old filled.old (result, live.new, filled.new)) }
     ensures refused { IsFalse handle.old.is_open → (live.new ≡ live.old) × (filled.new ≡ filled.old) }
 {
@@ -151,7 +151,7 @@ pub extern "C" fn fstch_unsynced(handle: &mut Handle, alloc: Global, changes: &m
     ensures not_open { (result ≡ NOT_OPEN) ↔ IsFalse handle.old.is_open }
     ensures done { (result ≡ DONE) ↔ IsTrue handle.old.is_open }
     ensures closed { StaysClosed handle.old handle.new }
-    ensures counted { IfSome handle.old.sealed.opened (λ opened. (h : History) → Represents opened.store h →
+    ensures counted { IfSome handle.old.sealed.opened (λ opened. (h : History) → IsStoreOf opened.store h →
         changes.new ≡ unsynced h) }
     ensures refused { IsFalse handle.old.is_open → changes.new ≡ changes.old }
 {

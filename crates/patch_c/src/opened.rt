@@ -1,5 +1,5 @@
 //! A store that is open.
-ghost use Rattle.patch_c.specs.Standing.{StandsSomewhere};
+ghost use Rattle.patch_c.specs.LegalStores.{StandsSomewhere};
 ghost use Rattle.patch_c.specs.Tape.{contents_of};
 
 use crate::tape::Tape;

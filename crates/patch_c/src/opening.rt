@@ -6,8 +6,8 @@ ghost use Rattle.patch_c.specs.Opening.{IsFresh, IsTested, IsWhyNot, AnswersMaki
 
 use crate::answers::Answer;
 use crate::copying::copy_out;
-use crate::given::{Given, blocks_in};
-use crate::holding::Holding;
+use crate::file_blocks::{Given, blocks_in};
+use crate::held_blocks::HeldBlocks;
 use crate::opened::Opened;
 use crate::tape::Tape;
 use crate::unopened::Unopened;
@@ -46,7 +46,7 @@ pub fn open_bytes(
     let blocks = blocks_in(alloc, bytes)?;
     let count = blocks.len() as u32;
     let given = Given { blocks };
-    let holding = Holding::of(&given);
+    let holding = HeldBlocks::of(&given);
     let Given { blocks } = given;
     let store = open_store(alloc, blocks)?;
     let device = Tape::new(alloc, holding, count);

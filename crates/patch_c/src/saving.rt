@@ -3,7 +3,7 @@ ghost use Rattle.std.specs.Prelude.{◌≡◌, length};
 ghost use Rattle.patch_device.specs.SameDevice.{IsSameDevice, IsLasting};
 ghost use Rattle.patch_history.specs.History.{History};
 ghost use Rattle.patch_store.specs.Flushing.{StandsStill};
-ghost use Rattle.patch_store.specs.Meaning.{Represents};
+ghost use Rattle.patch_store.specs.Meaning.{IsStoreOf};
 ghost use Rattle.patch_disks.specs.Running.{StandsOn};
 ghost use Rattle.patch_c.specs.Saving.{IsSynced, HasSaved, HasWrittenOn, HasKeptSafe, HasCause};
 
@@ -22,8 +22,8 @@ pub fn save<D: Device>(store: &mut Store, device: &mut D) -> Answer
     ensures lasts { D.is_honest device.old → result ≡ Answer.Done
         → IsLasting D.Device device.old → IsLasting D.Device device.new }
     ensures synced { (h : History) → StandsStill store.old h → result ≡ Answer.Done → IsSynced h store.new }
-    ensures written { (h : History) → Represents store.old h → HasWrittenOn h store.new }
-    ensures cause { (h : History) → Represents store.old h → D.block_count device.old ≡ length h.opening
+    ensures written { (h : History) → IsStoreOf store.old h → HasWrittenOn h store.new }
+    ensures cause { (h : History) → IsStoreOf store.old h → D.block_count device.old ≡ length h.opening
         → HasCause result (D.fault_count device.old) (D.fault_count device.new) }
 {
     if let Err(refusal) = flush(store, device) {

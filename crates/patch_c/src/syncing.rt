@@ -3,7 +3,7 @@ ghost use Rattle.std.specs.Prelude.{◌≡◌, ◌≢◌, ◌↔◌, ℕ, [], �
 ghost use Rattle.patch_model.specs.declared.refusals.RefusalKind.TheVariants as kind;
 ghost use Rattle.patch_history.specs.History.{History};
 ghost use Rattle.patch_store.specs.Flushing.{StandsStill};
-ghost use Rattle.patch_store.specs.Meaning.{Represents};
+ghost use Rattle.patch_store.specs.Meaning.{IsStoreOf};
 ghost use Rattle.patch_disks.specs.Running.{StandsOn};
 ghost use Rattle.patch_c.specs.Answering.{number_of, IsOf};
 ghost use Rattle.patch_c.specs.Handle.{Between, StaysClosed};
@@ -45,11 +45,11 @@ impl Opened {
             → StandsOn self.old.store h (file_of self.old.device) → LandsSafely h self.new.store self.old.device self.new.device }
         ensures lasts { events_of self.old.device ≡ [] → result ≡ Answer.Done → LastsOnceDone self.new.device }
         ensures synced { (h : History) → StandsStill self.old.store h → result ≡ Answer.Done → IsSynced h self.new.store }
-        ensures written { IsFalse self.old.is_spent → (h : History) → Represents self.old.store h → HasWrittenOn h self.new.store }
+        ensures written { IsFalse self.old.is_spent → (h : History) → IsStoreOf self.old.store h → HasWrittenOn h self.new.store }
         ensures fails { IsFalse self.new.is_spent ↔ (result ≡ Answer.Done) }
         ensures gave_up { result ≢ Answer.Refused kind.DeviceGaveUp }
         ensures sync_failed { result ≢ Answer.Refused kind.SyncFailed }
-        ensures cause { IsFalse self.old.is_spent → (h : History) → Represents self.old.store h
+        ensures cause { IsFalse self.old.is_spent → (h : History) → IsStoreOf self.old.store h
             → block_count_of self.old.device ≡ length h.opening
             → HasCause result (fault_count_of self.old.device) (fault_count_of self.new.device) }
     {
@@ -110,7 +110,7 @@ pub extern "C" fn fstch_core_sync(handle: &mut Handle, alloc: Global) -> i32
     ensures synced { Between handle.old handle.new (λ before after. (h : History) → StandsStill before.store h
         → result ≡ DONE → IsSynced h after.store) }
     ensures written { Between handle.old handle.new (λ before after. IsFalse before.is_spent
-        → (h : History) → Represents before.store h → HasWrittenOn h after.store) }
+        → (h : History) → IsStoreOf before.store h → HasWrittenOn h after.store) }
     ensures spent { Between handle.old handle.new (λ before after. IsTrue before.is_spent
         → (result ≡ number_of Answer.NoSync) × (after.store ≡ before.store) × (after.device ≡ before.device)) }
     ensures number { Between handle.old handle.new (λ before after. after.file ≡ before.file) }
@@ -118,7 +118,7 @@ pub extern "C" fn fstch_core_sync(handle: &mut Handle, alloc: Global) -> i32
     ensures fails { Between handle.old handle.new (λ before after. IsFalse after.is_spent ↔ (result ≡ DONE)) }
     ensures gave_up { result ≢ number_of (Answer.Refused kind.DeviceGaveUp) }
     ensures sync_failed { result ≢ number_of (Answer.Refused kind.SyncFailed) }
-    ensures cause { Between handle.old handle.new (λ before after. IsFalse before.is_spent → (h : History) → Represents before.store h
+    ensures cause { Between handle.old handle.new (λ before after. IsFalse before.is_spent → (h : History) → IsStoreOf before.store h
         → block_count_of before.device ≡ length h.opening
         → IsOf result (λ answer. HasCause answer (fault_count_of before.device) (fault_count_of after.device))) }
 {

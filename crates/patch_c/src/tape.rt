@@ -4,7 +4,7 @@ ghost use Rattle.patch_device.specs.Blocks.{AreWhole};
 ghost use Rattle.patch_device.specs.Device.{most_faults, HasRisen, CountsFault, Elapses, LandsOrNot, LeavesNoMore, LeavesJust};
 ghost use Rattle.patch_device.specs.Cuts.{written_behind};
 
-use crate::holding::Holding;
+use crate::held_blocks::HeldBlocks;
 use patch_device::{Device, DeviceRefusal};
 use patch_model::{BLOCK, BlockBytes};
 use std::alloc::Global;
@@ -15,7 +15,7 @@ use std::alloc::Global;
 /// is synced at each barrier before anything behind it is written.
 #[derive(Drop)]
 pub struct Tape {
-    file: Holding,
+    file: HeldBlocks,
     count: u32,
     /// Each write, a block's number and its bytes, and as nothing each barrier.
     events: Vec<Option<(u32, BlockBytes)>>,
@@ -31,7 +31,7 @@ impl Tape {
     ghost use Rattle.patch_c.specs.Tape.{file_of, contents_of, block_count_of, fault_count_of, events_of, loose_of, IsSpent};
 
     /// The tape of a file that holds so many blocks, with no event.
-    pub fn new(alloc: Global, file: Holding, count: u32) -> Tape
+    pub fn new(alloc: Global, file: HeldBlocks, count: u32) -> Tape
         requires counted { length file.blocks ≡ count }
         requires whole { AreWhole file.blocks }
         ensures file { file_of result ≡ file.blocks }
@@ -57,10 +57,10 @@ impl Tape {
     }
 
     /// What the file holds once all is done.
-    fn landed(&self) -> Holding
+    fn landed(&self) -> HeldBlocks
         ensures { result.blocks ≡ contents_of self.now }
     {
-        Holding {}
+        HeldBlocks {}
     }
 
     /// Lets go of all events: they are done.

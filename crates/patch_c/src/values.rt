@@ -2,7 +2,7 @@
 ghost use Rattle.std.specs.Prelude.{◌≡◌, ◌↔◌, IsTrue, IsFalse, IfSome, IsNone};
 ghost use Rattle.patch_history.specs.Command.{Put};
 ghost use Rattle.patch_history.specs.History.{History};
-ghost use Rattle.patch_store.specs.Meaning.{Represents};
+ghost use Rattle.patch_store.specs.Meaning.{IsStoreOf};
 ghost use Rattle.patch_c.specs.Answering.{number_of, writer_of as writer_for, Tells, KeepsIfRefused};
 ghost use Rattle.patch_c.specs.Handle.{Between, KeepsRest, StaysClosed};
 ghost use Rattle.patch_c.specs.Reading.{HasGot};
@@ -32,7 +32,7 @@ impl Opened {
     }
 
     fn get(&self, key: &[u8], into: &mut [u8], len: &mut usize) -> Answer
-        ensures { (h : History) → Represents self.now.store h →
+        ensures { (h : History) → IsStoreOf self.now.store h →
             HasGot h key.now into.old len.old (number_of result, into.new, len.new) }
     {
         match self.store.get(key) {
@@ -81,7 +81,7 @@ pub extern "C" fn fstch_get(
     ensures same { handle.new.sealed.opened ≡ handle.old.sealed.opened }
     ensures not_open { (result ≡ NOT_OPEN) ↔ IsFalse handle.old.is_open }
     ensures closed { StaysClosed handle.old handle.new }
-    ensures got { IfSome handle.old.sealed.opened (λ opened. (h : History) → Represents opened.store h →
+    ensures got { IfSome handle.old.sealed.opened (λ opened. (h : History) → IsStoreOf opened.store h →
         HasGot h key.now into.old len.old (result, into.new, len.new)) }
     ensures refused { IsFalse handle.old.is_open → (into.new ≡ into.old) × (len.new ≡ len.old) }
 {

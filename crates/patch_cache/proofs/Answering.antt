@@ -13,7 +13,7 @@ use Rattle.patch_model.specs.Legal.{IsLegal}
 use Rattle.patch_model.specs.Refusing.{bare, why_not_sent}
 use Rattle.patch_model.specs.Ready.{ready}
 use Rattle.patch_model.specs.History.{history_of, image}
-use Rattle.patch_cache.specs.Meaning.{Represents}
+use Rattle.patch_cache.specs.Meaning.{IsCacheOf}
 use Rattle.patch_model.specs.Member.{In}
 use Rattle.patch_cache.specs.Contents.{Contents}
 use Rattle.patch_cache.specs.Flights.{IsFlightOf, AreFlightsOf}
@@ -22,7 +22,7 @@ use Rattle.patch_device.specs.Device.{IsOldOrNew}
 use Rattle.patch_cache.specs.Running.{Runs, IsAnswered, HasWritten, held_by}
 use Rattle.patch_cache.specs.declared.flights.Flight.{Flight}
 use Rattle.patch_cache.specs.declared.flights.Flights.{Flights}
-use Rattle.patch_cache.proofs.Holding.{stands_at, get_in, held_flies, flying_known}
+use Rattle.patch_cache.proofs.HeldFlights.{stands_at, get_in, held_flies, flying_known}
 
 -- what a clause says of the variant that a test found
 pub on_err : {T E : Type 0} (r : Result T E) (P : Type 0) → is_err r ≡ true → OnErr r P → P
@@ -131,4 +131,4 @@ send_given_up run block cause cache flights why is runs = record {
 pub runs_same : {A : Type 0} (run : Execution) (cache now : Contents) (flights flights_now : Flights A) → now ≡ cache → held_by flights_now ≡ held_by flights → Runs cache flights run
     → Runs now flights_now run
 runs_same run cache now flights flights_now same held runs =
-    record { cache_is = subst (λ (c : Contents). Represents c run) (sym same) runs.cache_is; flights_are = subst (AreFlightsOf run) (sym held) runs.flights_are }
+    record { cache_is = subst (λ (c : Contents). IsCacheOf c run) (sym same) runs.cache_is; flights_are = subst (AreFlightsOf run) (sym held) runs.flights_are }

@@ -2,13 +2,13 @@ pub mod Shut
 pub mod Opening
 pub mod GivingUp
 pub mod Permitting
-pub mod Telling
+pub mod LookAnswers
 pub mod Asking
 pub mod Accepting
 pub mod Plain
 pub mod Faultless
 pub mod Runs
-pub mod Standing
+pub mod SameExecution
 pub mod Showing
 pub mod Moving
 pub mod Crashing
@@ -19,7 +19,7 @@ pub mod Departing
 pub mod Writing
 pub mod Refusing
 pub mod Underway
-pub mod Holding
+pub mod HeldFlights
 pub mod Answering
 pub mod Serving
 pub mod Single
@@ -27,5 +27,4 @@ pub mod Counting
 pub mod Waving
 pub mod GivenUp
 pub mod Passing
-pub mod Unmade
 pub mod Tries

@@ -7,13 +7,13 @@ use Rattle.std.proofs.lemmas.List.Elements.{All-from_recursion}
 use Rattle.patch_model.specs.declared.blocks.TheConstants.{BLOCK}
 use Rattle.patch_model.specs.declared.limits.TheConstants.{MAX_BLOCKS}
 use Rattle.patch_model.specs.Step.{Step}
-use Rattle.patch_view.specs.State.{Block}
+use Rattle.patch_stacks.specs.State.{Block}
 use Rattle.patch_view.specs.History.{unpatched}
-use Rattle.patch_view.specs.Meaning.{Represents as IsBlockOf}
+use Rattle.patch_view.specs.Meaning.{IsBlockOf}
 use Rattle.patch_graph.specs.State.{Graph}
-use Rattle.patch_graph.specs.Meaning.{Represents as IsGraphOf}
+use Rattle.patch_graph.specs.Meaning.{IsGraphOf}
 use Rattle.patch_cache.specs.Contents.{Write, no_block}
-use Rattle.patch_cache.specs.Meaning.{Represents}
+use Rattle.patch_cache.specs.Meaning.{IsCacheOf}
 use Rattle.patch_cache.specs.Opening.{AreUnpatched}
 
 pub one_more : (blocks : List Block) (bytes : List (List ℕ)) (b : Block) (f : List ℕ) → AreUnpatched blocks bytes → IsBlockOf b [] (unpatched f)
@@ -46,7 +46,7 @@ lengths (c ∷ cs) (g ∷ gs) all = (all.0.coherent.long, lengths cs gs all.1)
 -- a cache of these blocks, with nothing made, sent or in flight
 pub opened : (blocks : List Block) (bytes : List (List ℕ)) (writes : List (Option Write)) (n : ℕ) (g : Graph) (trace : List Step) → AreUnpatched blocks bytes → IsGraphOf g []
     → writes ≡ replicate n None → n ≡ length bytes → 0 < length bytes → length bytes ≤ MAX_BLOCKS
-    → Represents (record { blocks = blocks; writes = writes; graph = g; sends = 0; live = 0; trace = trace }) (record { first = bytes; steps = [] })
+    → IsCacheOf (record { blocks = blocks; writes = writes; graph = g; sends = 0; live = 0; trace = trace }) (record { first = bytes; steps = [] })
 opened blocks bytes writes n g trace all empty none long some few = record {
   legal = record { some = some; few = few; blocks = All-from_recursion (λ b. length b ≡ BLOCK) bytes (lengths blocks bytes all); steps = tt };
   count = as_many blocks bytes all;

@@ -20,7 +20,7 @@ use Rattle.patch_model.specs.Pile.{pile}
 use Rattle.patch_model.specs.History.{history_of, image, cached}
 use Rattle.patch_device.specs.declared.devices.Device.{Ghosts}
 use Rattle.patch_graph.specs.Between.{HasNoRing}
-use Rattle.patch_graph.specs.Meaning.{Represents as IsGraphOf}
+use Rattle.patch_graph.specs.Meaning.{IsGraphOf}
 use Rattle.patch_graph.specs.Ready.{IsShut}
 use Rattle.patch_cache.specs.Contents.{Contents}
 use Rattle.patch_cache.specs.Running.{Runs, RunsBeside, held_by}
@@ -29,7 +29,7 @@ use Rattle.patch_cache.specs.Waves.{is_send, steps_since, classes_in_memory, liv
 use Rattle.patch_cache.specs.declared.flights.Flights.{Flights}
 use Rattle.patch_cache.specs.declared.flights.Flight.{Flight as Held}
 use Rattle.patch_cache.proofs.Crashing.{DisksStay, legal_last}
-use Rattle.patch_cache.proofs.Holding.{StatesExtend, ImagesStay}
+use Rattle.patch_cache.proofs.HeldFlights.{StatesExtend, ImagesStay}
 use Rattle.patch_cache.proofs.Counting.{count_le, count-append}
 use Rattle.patch_cache.proofs.Shut.{FlyingLaw, RingLaw, none_between}
 use Rattle.patch_cache.proofs.Waving.{since_is, since_both, sends_since, continues, gone_still, gone_send, gone_both, kept_aside, stayed_still, stayed_both, went_by, keeps_by, fewer_sent, images_sent}

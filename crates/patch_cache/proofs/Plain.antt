@@ -7,7 +7,7 @@ use Rattle.patch_cache.specs.Asks.{Ask, Answer, Create, Merge, View, is_refused,
 use Rattle.patch_cache.specs.Flights.{AreFlightsOf}
 use Rattle.patch_cache.specs.declared.asks.Move.{Move}
 use Rattle.patch_cache.specs.declared.flights.Flight.{Flight}
-use Rattle.patch_cache.proofs.Holding.{StatesExtend, StayMade, StayMerged, ImagesStay, held_create, held_merge}
+use Rattle.patch_cache.proofs.HeldFlights.{StatesExtend, StayMade, StayMerged, ImagesStay, held_create, held_merge}
 
 -- what holds of the execution, and with the ask's step, holds after the ask
 either : (P : Execution → Type 0) (run : Execution) (ask : Ask) (b : Bool) → P run → P (extended_by run (step_for ask)) → P (if b then run else extended_by run (step_for ask))

@@ -16,15 +16,15 @@ use Rattle.patch_model.specs.Member.{In, Contains-from_In, filter-In}
 use Rattle.patch_model.specs.Orderly.{IsOrderly, IsNumbered}
 use Rattle.patch_model.specs.Ready.{IsRising}
 use Rattle.patch_model.specs.Refusing.{bare, why_not_taken, why_not_put_back, class_named}
-use Rattle.patch_view.specs.State.{Block, outline}
-use Rattle.patch_view.specs.Meaning.{Represents as IsBlockOf}
+use Rattle.patch_stacks.specs.State.{Block, outline}
+use Rattle.patch_view.specs.Meaning.{IsBlockOf}
 use Rattle.patch_view.specs.Answers.{MayTake, IsTaken, IsPutBack}
-use Rattle.patch_view.specs.declared.refusals.TakeRefusal.{TakeRefusal as ViewTakeRefusal}
-use Rattle.patch_view.specs.declared.refusals.PutBackRefusal.{PutBackRefusal}
+use Rattle.patch_stacks.specs.declared.refusals.TakeRefusal.{TakeRefusal as ViewTakeRefusal}
+use Rattle.patch_stacks.specs.declared.refusals.PutBackRefusal.{PutBackRefusal}
 use Rattle.patch_graph.specs.Meaning.{HasMark}
 use Rattle.patch_cache.specs.Contents.{Contents, no_block, block_at, with_block}
-use Rattle.patch_cache.specs.Meaning.{Shows, Represents, ShowsWithout, only_of}
-use Rattle.patch_view.specs.Refusal.{take_cause as view_take_cause, put_back_cause}
+use Rattle.patch_cache.specs.Meaning.{Shows, IsCacheOf, ShowsWithout, only_of}
+use Rattle.patch_stacks.specs.Refusal.{take_cause as view_take_cause, put_back_cause}
 use Rattle.patch_cache.specs.Viewing.{with_move, why_not_taken_of, IsViewOf}
 use Rattle.patch_cache.specs.declared.asks.Move.TheVariants.{Take, Back}
 
@@ -51,10 +51,10 @@ nothing : (block n : ℕ) → only_of block [] n ≡ []
 nothing block n = elim (cases_Bool (n == block)) [ inl t ↦ rw t refl | inr f ↦ rw f refl ]
 
 -- with nothing taken of the block nothing is taken at all
-pub all_back : (c : Contents) (block : ℕ) (run : Execution) → ShowsWithout c block [] run → Represents c run
+pub all_back : (c : Contents) (block : ℕ) (run : Execution) → ShowsWithout c block [] run → IsCacheOf c run
 all_back c block run r = shows_alike c (only_of block []) (λ n. []) run (nothing block) r
 
-pub none_yet : (c : Contents) (block : ℕ) (run : Execution) → Represents c run → ShowsWithout c block [] run
+pub none_yet : (c : Contents) (block : ℕ) (run : Execution) → IsCacheOf c run → ShowsWithout c block [] run
 none_yet c block run r = shows_alike c (λ n. []) (only_of block []) run (λ n. sym (nothing block n)) r
 
 -- One block.
@@ -155,7 +155,7 @@ still_a_view before now c block place b after l same v =
 
 -- where all is put back the cache is the one from before
 pub back_again : (before now c : Contents) (block place : ℕ) (b after : Block) (names : List ℕ) (run : Execution) → Lent now c block place b → ShowsWithout now block names run
-    → Represents before run → IsViewOf before block now
+    → IsCacheOf before run → IsViewOf before block now
     → ((h : History) (taken : List ℕ) (was : Block) → IsBlockOf b taken h → IsBlockOf was [] h → outline was ≡ outline b → after ≡ was)
     → with_block c place after ≡ before
 back_again before now c block place b after names run l r r0 v back =
@@ -297,7 +297,7 @@ put_back_is_refused now c block place number b names run refusal l r why =
     rw (some, with_move) refl
 
 pub restored : (now c : Contents) (block place : ℕ) (b after : Block) (names : List ℕ) (run : Execution) → Lent now c block place b
-    → ShowsWithout now block names run → ((h : History) (taken : List ℕ) → IsBlockOf b taken h → IsBlockOf after [] h) → Represents (with_block c place after) run
+    → ShowsWithout now block names run → ((h : History) (taken : List ℕ) → IsBlockOf b taken h → IsBlockOf after [] h) → IsCacheOf (with_block c place after) run
 restored now c block place b after names run l r back =
     all_back (with_block c place after) block run
     (ended now c block place b after names [] run l r (back (history_of run block) names (started now c block place b names run l r)))

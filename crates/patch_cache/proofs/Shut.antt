@@ -12,7 +12,7 @@ use Rattle.patch_model.specs.Ready.{ready, IsLargestWritable}
 use Rattle.patch_model.specs.Refusing.{why_not_sent}
 use Rattle.patch_model.specs.State.{state_of, entries_of, has_flight}
 use Rattle.patch_graph.specs.State.{Graph}
-use Rattle.patch_graph.specs.Meaning.{Represents as IsGraphOf}
+use Rattle.patch_graph.specs.Meaning.{IsGraphOf}
 use Rattle.patch_graph.specs.Ready.{IsOpen, IsShut, IsNextOpen, TellsNextOpen}
 use Rattle.patch_cache.specs.Flights.{IsLeastReady}
 use Rattle.patch_cache.proofs.Refusing.{already, nothing, something}

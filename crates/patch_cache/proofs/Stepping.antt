@@ -13,12 +13,12 @@ use Rattle.patch_model.specs.Execution.{Execution, extended}
 use Rattle.patch_model.specs.State.{entries_of, state_of, flying_of, numbers_of}
 use Rattle.patch_model.specs.History.{history_of}
 use Rattle.patch_model.specs.Legal.{IsLegal}
-use Rattle.patch_view.specs.State.{Block}
-use Rattle.patch_view.specs.Meaning.{Represents as IsBlockOf}
+use Rattle.patch_stacks.specs.State.{Block}
+use Rattle.patch_view.specs.Meaning.{IsBlockOf}
 use Rattle.patch_graph.specs.State.{Graph}
-use Rattle.patch_graph.specs.Meaning.{Represents as IsGraphOf}
+use Rattle.patch_graph.specs.Meaning.{IsGraphOf}
 use Rattle.patch_cache.specs.Contents.{Contents, Write, no_block}
-use Rattle.patch_cache.specs.Meaning.{Represents, IsWriteOf}
+use Rattle.patch_cache.specs.Meaning.{IsCacheOf, IsWriteOf}
 
 -- the step lets the writes be, and the blocks but for one
 pub record StepsOn (run : Execution) (step : Step) (block : ℕ) : Type 0 where
@@ -45,9 +45,9 @@ block_stays blocks block state run next b h elsewhere here was = elim (cases_eq 
 ]
 
 -- the cache after it
-pub stepped : (c : Contents) (run : Execution) (step : Step) (block place : ℕ) (state : Block) (graph : Graph) (live : ℕ) (trace : List Step) → place ≡ block → Represents c run → StepsOn run step block
+pub stepped : (c : Contents) (run : Execution) (step : Step) (block place : ℕ) (state : Block) (graph : Graph) (live : ℕ) (trace : List Step) → place ≡ block → IsCacheOf c run → StepsOn run step block
     → block < length run.first → IsBlockOf state [] (history_of (extended run step) block) → IsGraphOf graph (entries_of (extended run step)) → live ≡ count_by is_live (entries_of (extended run step))
-    → Represents (record { blocks = slice_set c.blocks place state; writes = c.writes; graph = graph; sends = c.sends; live = live; trace = trace }) (extended run step)
+    → IsCacheOf (record { blocks = slice_set c.blocks place state; writes = c.writes; graph = graph; sends = c.sends; live = live; trace = trace }) (extended run step)
 stepped c run step block place state graph live trace there was on h here holds counted = record {
   legal = on.legal;
   count = length-set c.blocks place state ∙ was.count;
@@ -61,7 +61,7 @@ stepped c run step block place state graph live trace there was on h here holds 
 }
 
 -- the block at a place, as it is lent
-pub lent : (c : Contents) (block place : ℕ) (state : Block) (run : Execution) → place ≡ block → state ≡ get_or c.blocks place state → Represents c run → block < length run.first
+pub lent : (c : Contents) (block place : ℕ) (state : Block) (run : Execution) → place ≡ block → state ≡ get_or c.blocks place state → IsCacheOf c run → block < length run.first
     → IsBlockOf state [] (history_of run block)
 lent c block place state run there is was h =
     let here : state ≡ get_or c.blocks block state = subst (λ (n : ℕ). state ≡ get_or c.blocks n state) there is in

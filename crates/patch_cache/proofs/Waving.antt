@@ -22,7 +22,7 @@ use Rattle.patch_device.specs.Device.{HasRisen, IsOldOrNew, Elapses, LeavesNoMor
 use Rattle.patch_device.specs.SameDevice.{LeavesOnly, IsLasting, may_leave}
 use Rattle.patch_device.specs.declared.devices.Device.{Ghosts}
 use Rattle.patch_cache.specs.Contents.{Contents}
-use Rattle.patch_cache.specs.Meaning.{Represents}
+use Rattle.patch_cache.specs.Meaning.{IsCacheOf}
 use Rattle.patch_cache.specs.Running.{RunsBeside, IsCrashSafe, held_by}
 use Rattle.patch_cache.specs.Waves.{is_send, is_write, steps_since, Continues, classes_in_memory, HasRisenBy, HoldImages, HasGoneOnBeside, HasKept, HasStayed, KeepsDiskBeside, StaysBeside, HoldFlights, AreImages, AreOnDevice, with_flights, EndsFirst, EndsOne}
 use Rattle.patch_cache.specs.Refused.{IsRefused, AreRefused, HasRefusedHeld, IfGivenUp}
@@ -31,7 +31,7 @@ use Rattle.patch_cache.specs.declared.flights.Flights.{Flights}
 use Rattle.patch_cache.specs.declared.refusals.FlushRefusal.{FlushRefusal}
 use Rattle.patch_cache.specs.declared.refusals.FlushRefusal.TheVariants as flush
 use Rattle.patch_cache.proofs.Crashing.{WritesEnd, joined, unmoved, unmoved_steps, synced}
-use Rattle.patch_cache.proofs.Holding.{StatesExtend, ImagesStay, in_get, held_flies, flying_known}
+use Rattle.patch_cache.proofs.HeldFlights.{StatesExtend, ImagesStay, in_get, held_flies, flying_known}
 use Rattle.patch_cache.proofs.Answering.{Stands}
 use Rattle.patch_cache.specs.Flights.{AreFlightsBeside}
 use Rattle.patch_cache.specs.declared.flights.Flight.{Flight}
@@ -245,7 +245,7 @@ since_more old mid now steps one added = since_both old mid now one (continues m
 -- where the cache and the flights are as before
 pub runs_same : {A : Type 0} {others : Bool} (run : Execution) (old now : Contents) (flights flights_now : Flights A) → now ≡ old → held_by flights_now ≡ held_by flights → RunsBeside others old flights run → RunsBeside others now flights_now run
 runs_same {others = others} run old now flights flights_now same held runs =
-    record { cache_is = subst (λ (x : Contents). Represents x run) (sym same) runs.cache_is; flights_are = subst (AreFlightsBeside others run) (sym held) runs.flights_are }
+    record { cache_is = subst (λ (x : Contents). IsCacheOf x run) (sym same) runs.cache_is; flights_are = subst (AreFlightsBeside others run) (sym held) runs.flights_are }
 
 pub gone_same : {A : Type 0} {others : Bool} (run : Execution) (old mid now : Contents) (flights flights_now : Flights A) → now ≡ mid → held_by flights_now ≡ held_by flights
     → HasGoneOnBeside others run (steps_since old mid) mid flights → HasGoneOnBeside others run (steps_since old now) now flights_now

@@ -13,12 +13,12 @@ use Rattle.patch_model.specs.Legal.{IsLegal}
 use Rattle.patch_model.specs.Member.{In, In-from_Contains, Contains-from_In, In-filter}
 use Rattle.patch_model.specs.State.{entries_of, state_of, after_step, has_flight, flying_of, numbers_of}
 use Rattle.patch_model.specs.Step.{Step, Send, Complete}
-use Rattle.patch_view.specs.State.{Block}
-use Rattle.patch_view.specs.Meaning.{Represents as IsBlockOf}
+use Rattle.patch_stacks.specs.State.{Block}
+use Rattle.patch_view.specs.Meaning.{IsBlockOf}
 use Rattle.patch_graph.specs.State.{Graph}
-use Rattle.patch_graph.specs.Meaning.{Represents as IsGraphOf}
+use Rattle.patch_graph.specs.Meaning.{IsGraphOf}
 use Rattle.patch_cache.specs.Contents.{Contents, Write, no_block}
-use Rattle.patch_cache.specs.Meaning.{Represents, IsWriteOf}
+use Rattle.patch_cache.specs.Meaning.{IsCacheOf, IsWriteOf}
 
 -- what is known of an execution's new step, which is of the one block
 pub record IsStepOf (run : Execution) (step : Step) (block : ℕ) : Type 0 where
@@ -28,10 +28,10 @@ pub record IsStepOf (run : Execution) (step : Step) (block : ℕ) : Type 0 where
   pub writes : (other : ℕ) (w : Option Write) → other ≢ block → IsWriteOf run other w → IsWriteOf (extended run step) other w
 
 pub stepped : (run : Execution) (step : Step) (c : Contents) (i block : ℕ) (b : Block) (w : Option Write) (g : Graph) (sends live : ℕ) (trace : List Step)
-    → i ≡ block → Represents c run → length c.writes ≡ length c.blocks → IsStepOf run step block
+    → i ≡ block → IsCacheOf c run → length c.writes ≡ length c.blocks → IsStepOf run step block
     → IsBlockOf b [] (history_of (extended run step) block) → IsWriteOf (extended run step) block w → IsGraphOf g (entries_of (extended run step))
     → sends ≡ (state_of (extended run step)).sends → live ≡ count_by is_live (entries_of (extended run step))
-    → Represents (record { blocks = set c.blocks i b; writes = set c.writes i w; graph = g; sends = sends; live = live; trace = trace }) (extended run step)
+    → IsCacheOf (record { blocks = set c.blocks i b; writes = set c.writes i w; graph = g; sends = sends; live = live; trace = trace }) (extended run step)
 stepped run step c i block b w g sends live trace place at long is new write graph same_sends same_live = record {
   legal = is.legal;
   count = length-set c.blocks i b ∙ at.count;

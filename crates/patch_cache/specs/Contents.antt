@@ -1,7 +1,7 @@
 -- What a cache holds.
 use Rattle.std.specs.Prelude.{ℕ, List, [], Option, None, slice_index_or, slice_set}
 use Rattle.patch_model.specs.Step.{Step}
-use Rattle.patch_view.specs.State.{Block}
+use Rattle.patch_stacks.specs.State.{Block}
 use Rattle.patch_graph.specs.State.{Graph}
 
 -- a write under way: how many began before it, and the numbers of the patches in it

@@ -8,12 +8,12 @@ use Rattle.patch_model.specs.History.{history_of}
 use Rattle.patch_model.specs.Legal.{IsLegal, IsLegalCreate}
 use Rattle.patch_model.specs.Refusing.{why_not_made}
 use Rattle.patch_model.specs.declared.refusals.Refusal.{Refusal}
-use Rattle.patch_view.specs.State.{Block}
-use Rattle.patch_view.specs.Meaning.{Represents as IsBlockOf}
+use Rattle.patch_stacks.specs.State.{Block}
+use Rattle.patch_view.specs.Meaning.{IsBlockOf}
 use Rattle.patch_graph.specs.State.{Graph}
-use Rattle.patch_graph.specs.Meaning.{Represents as IsGraphOf}
+use Rattle.patch_graph.specs.Meaning.{IsGraphOf}
 use Rattle.patch_cache.specs.Contents.{Contents}
-use Rattle.patch_cache.specs.Meaning.{Represents}
+use Rattle.patch_cache.specs.Meaning.{IsCacheOf}
 
 -- why a patch isn't made
 abbrev pub why_not_created : Execution → (block start : ℕ) (bytes after : List ℕ) → Option Refusal
@@ -26,7 +26,7 @@ MayBeMade run block start bytes after = why_not_created run block start bytes af
 -- the patch that no cause stands against has the next number, and the cache holds it
 abbrev pub IsMade : Execution → (block start : ℕ) (bytes after : List ℕ) → Undo → (number : ℕ) → Contents → Type 0
 IsMade run block start bytes after undo number c =
-    MayBeMade run block start bytes after × (number ≡ length (entries_of run)) × Represents c (extended run (Create block start bytes after undo))
+    MayBeMade run block start bytes after × (number ≡ length (entries_of run)) × IsCacheOf c (extended run (Create block start bytes after undo))
 
 -- the patch may be laid on its block, whose state this is, and added to the graph
 pub record MayLay (run : Execution) (block start : ℕ) (bytes after : List ℕ) (state : Block) (graph : Graph) : Type 0 where

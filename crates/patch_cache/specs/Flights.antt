@@ -8,7 +8,7 @@ use Rattle.patch_model.specs.History.{history_of, image}
 use Rattle.patch_model.specs.Refusing.{why_not_sent}
 use Rattle.patch_model.specs.Member.{In}
 use Rattle.patch_cache.specs.Contents.{Contents, Write}
-use Rattle.patch_cache.specs.Meaning.{Represents}
+use Rattle.patch_cache.specs.Meaning.{IsCacheOf}
 use Rattle.patch_cache.specs.declared.flights.Flight.{Flight}
 use Rattle.patch_cache.specs.declared.flights.Landed.{Landed}
 use Rattle.patch_cache.specs.declared.writes.Done.{Done}
@@ -31,7 +31,7 @@ MaySend run block numbers = (why_not_sent run block ≡ None) × (numbers ≡ nu
 
 -- it is begun, and the cache has it under way
 abbrev pub IsBegun : {A : Type 0} → Execution → (block : ℕ) → Flight A → Contents → Type 0
-IsBegun run block flight c = IsSent run block flight × Represents c (extended run (Send block))
+IsBegun run block flight c = IsSent run block flight × IsCacheOf c (extended run (Send block))
 
 -- a write that was begun and not completed, with what is in flight of its block, and the block's image
 pub record IsFlightOf {A : Type 0} (run : Execution) (flight : Flight A) : Type 0 where
@@ -57,7 +57,7 @@ IsEnded run landed done c =
     Contains (state_of run).flights (landed.block, landed.sequence)
     × (done.block ≡ landed.block)
     × (done.numbers ≡ numbers_of (flying_of (entries_of run) landed.block))
-    × Represents c (extended run (Complete landed.block))
+    × IsCacheOf c (extended run (Complete landed.block))
 
 -- the block's write, if it has this number, was taken out of the writes
 abbrev pub IsWithdrawn : List (Option Write) → ℕ → ℕ → Option Write → List (Option Write) → Type 0

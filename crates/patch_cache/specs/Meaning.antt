@@ -5,8 +5,8 @@ use Rattle.patch_model.specs.Execution.{Execution}
 use Rattle.patch_model.specs.State.{entries_of, state_of, has_flight, flying_of, numbers_of}
 use Rattle.patch_model.specs.Legal.{IsLegal}
 use Rattle.patch_model.specs.History.{history_of}
-use Rattle.patch_view.specs.Meaning.{Represents as IsBlockOf}
-use Rattle.patch_graph.specs.Meaning.{Represents as IsGraphOf}
+use Rattle.patch_view.specs.Meaning.{IsBlockOf}
+use Rattle.patch_graph.specs.Meaning.{IsGraphOf}
 use Rattle.patch_cache.specs.Contents.{Contents, Write, block_at, write_at}
 
 -- the block's write under way, or that it has none
@@ -26,8 +26,8 @@ pub record Shows (c : Contents) (taken : ℕ → List ℕ) (run : Execution) : T
   pub live : c.live ≡ count_by is_live (entries_of run)
 
 -- with nothing taken back
-abbrev pub Represents : Contents → Execution → Type 0
-Represents c run = Shows c (λ _. []) run
+abbrev pub IsCacheOf : Contents → Execution → Type 0
+IsCacheOf c run = Shows c (λ _. []) run
 
 -- the classes that are taken back are these, and all of one block
 abbrev pub only_of : ℕ → List ℕ → ℕ → List ℕ

@@ -10,13 +10,13 @@ use Rattle.patch_model.specs.State.{entries_of, class_of}
 use Rattle.patch_model.specs.Legal.{IsLegal, IsLegalMerge, block_of_patch}
 use Rattle.patch_model.specs.Refusing.{bare, with_number, why_no_pair, IsBetween, IsLeastThird}
 use Rattle.patch_model.specs.History.{history_of}
-use Rattle.patch_view.specs.State.{Block}
-use Rattle.patch_view.specs.Meaning.{Represents as IsBlockOf}
+use Rattle.patch_stacks.specs.State.{Block}
+use Rattle.patch_view.specs.Meaning.{IsBlockOf}
 use Rattle.patch_graph.specs.State.{Graph}
-use Rattle.patch_graph.specs.Meaning.{Represents as IsGraphOf}
+use Rattle.patch_graph.specs.Meaning.{IsGraphOf}
 use Rattle.patch_graph.specs.Showing.{IsShown}
 use Rattle.patch_cache.specs.Contents.{Contents}
-use Rattle.patch_cache.specs.Meaning.{Represents}
+use Rattle.patch_cache.specs.Meaning.{IsCacheOf}
 use Rattle.patch_graph.specs.declared.classes.LiveClass.{LiveClass}
 
 -- the class of the patch of this number, which is in memory
@@ -53,7 +53,7 @@ MayMerge run a b block = IsLegalMerge (entries_of run) a b × (block ≡ block_o
 -- the class of the merge has the lesser name, and the cache holds it
 abbrev pub IsMerged : Execution → (a b name : ℕ) → Contents → Type 0
 IsMerged run a b name c =
-    IsLegalMerge (entries_of run) a b × (name ≡ min (class_of (entries_of run) a) (class_of (entries_of run) b)) × Represents c (extended run (Merge a b))
+    IsLegalMerge (entries_of run) a b × (name ≡ min (class_of (entries_of run) a) (class_of (entries_of run) b)) × IsCacheOf c (extended run (Merge a b))
 
 -- the classes may be merged on their block, whose state this is, and in the graph
 pub record MayMergeOn (run : Execution) (a b : ℕ) (state : Block) (graph : Graph) : Type 0 where

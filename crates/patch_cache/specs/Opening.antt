@@ -1,8 +1,8 @@
 -- Blocks as a cache begins with them.
 use Rattle.std.specs.Prelude.{ℕ, List, [], ◌∷◌}
-use Rattle.patch_view.specs.State.{Block}
+use Rattle.patch_stacks.specs.State.{Block}
 use Rattle.patch_view.specs.History.{unpatched}
-use Rattle.patch_view.specs.Meaning.{Represents as IsBlockOf}
+use Rattle.patch_view.specs.Meaning.{IsBlockOf}
 
 -- each is one of these, with no patch yet
 abbrev pub AreUnpatched : List Block → List (List ℕ) → Type 0

@@ -8,7 +8,7 @@ use Rattle.patch_device.specs.Device.{HasRisen, Elapses}
 use Rattle.patch_device.specs.SameDevice.{LeavesOnly}
 use Rattle.patch_device.specs.declared.devices.Device.{Ghosts}
 use Rattle.patch_cache.specs.Contents.{Contents}
-use Rattle.patch_cache.specs.Meaning.{Represents}
+use Rattle.patch_cache.specs.Meaning.{IsCacheOf}
 use Rattle.patch_cache.specs.Flights.{AreFlightsBeside}
 use Rattle.patch_cache.specs.Asks.{Ask, Answer, Create, Merge, Send, Complete, View, IsFault, IsAnswer, IsGivenUp, AreAnswers, answer_of, is_refused, after, after_all}
 use Rattle.patch_cache.specs.declared.asks.Answer.{Answer as CodeAnswer}
@@ -26,7 +26,7 @@ held_by flights = flights.held.items
 
 -- The cache represents the execution, and the held flights are of it; others may be held elsewhere, or none are.
 pub record RunsBeside {A : Type 0} (others : Bool) (cache : Contents) (flights : Flights A) (run : Execution) : Type 0 where
-  pub cache_is : Represents cache run
+  pub cache_is : IsCacheOf cache run
   pub flights_are : AreFlightsBeside others run (held_by flights)
 
 -- the cache represents the execution, and its flights are the held ones
@@ -45,7 +45,7 @@ RunsOn g cache flights device run = RunsOnBeside g false cache flights device ru
 -- the ask is answered right or given up, and the cache stands after its step
 pub record IsDone (run : Execution) (ask : Ask) (answer : Answer) (cache : Contents) : Type 0 where
   pub right : IsAnswer run ask answer ⊎ IsGivenUp run ask answer
-  pub cache_is : Represents cache (after run ask answer)
+  pub cache_is : IsCacheOf cache (after run ask answer)
 
 -- and so do the flights that are held
 pub record IsAnswered {A : Type 0} (run : Execution) (ask : Ask) (answer : Answer) (cache : Contents) (flights : Flights A) : Type 0 where

@@ -8,7 +8,7 @@ use Rattle.patch_model.specs.Execution.{Execution}
 use Rattle.patch_model.specs.State.{entries_of}
 use Rattle.patch_model.specs.History.{history_of, cached}
 use Rattle.patch_model.specs.Refusing.{bare, why_not_taken, why_not_put_back, why_not_shown, class_named}
-use Rattle.patch_view.specs.State.{outline as the_outline}
+use Rattle.patch_stacks.specs.State.{outline as the_outline}
 use Rattle.patch_cache.specs.Contents.{Contents, block_at, with_block}
 use Rattle.patch_cache.specs.Meaning.{ShowsWithout}
 use Rattle.patch_cache.specs.declared.asks.Move.{Move}

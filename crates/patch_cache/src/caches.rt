@@ -7,7 +7,7 @@ ghost use Rattle.patch_model.specs.StepOf.{step_of};
 ghost use Rattle.patch_model.specs.declared.patches.Mark.TheVariants.{Durable};
 ghost use Rattle.patch_graph.specs.Meaning.{HasMark};
 ghost use Rattle.patch_cache.specs.Contents.{drained};
-ghost use Rattle.patch_cache.specs.Meaning.{Represents};
+ghost use Rattle.patch_cache.specs.Meaning.{IsCacheOf};
 ghost use Rattle.patch_cache.specs.Flights.{IsLeastReady};
 ghost use Rattle.patch_cache.specs.Opening.{AreUnpatched};
 
@@ -66,7 +66,7 @@ impl<A: Allocator + Copy> Cache<A> {
     pub fn open(alloc: A, blocks: Vec<BlockBytes<A>, A>) -> Result<Cache<A>, OutOfMemory>
         requires some { 0 < length blocks.items }
         requires few { length blocks.items ≤ MAX_BLOCKS }
-        ensures answer { IfOk result (λ cache. Represents cache (record { first = blocks.items; steps = [] })) }
+        ensures answer { IfOk result (λ cache. IsCacheOf cache (record { first = blocks.items; steps = [] })) }
         ensures trace { IfOk result (λ cache. cache.trace ≡ []) }
     {
         let count = blocks.len();
@@ -86,7 +86,7 @@ impl<A: Allocator + Copy> Cache<A> {
     /// How many blocks there are.
     pub fn blocks(&self) -> u32
         ensures value { result ≡ length self.now.blocks }
-        ensures answer { (run : Execution) → Represents self.now run → result ≡ length run.first }
+        ensures answer { (run : Execution) → IsCacheOf self.now run → result ≡ length run.first }
     {
         self.blocks.len() as u32
     }
@@ -94,7 +94,7 @@ impl<A: Allocator + Copy> Cache<A> {
     /// How many patches were made.
     pub fn made(&self) -> u32
         ensures value { result ≡ self.now.graph.made }
-        ensures answer { (run : Execution) → Represents self.now run → result ≡ length (entries_of run) }
+        ensures answer { (run : Execution) → IsCacheOf self.now run → result ≡ length (entries_of run) }
     {
         self.graph.made()
     }
@@ -102,29 +102,29 @@ impl<A: Allocator + Copy> Cache<A> {
     /// How many patches are in memory or in flight.
     pub fn live(&self) -> u32
         ensures value { result ≡ self.now.live }
-        ensures answer { (run : Execution) → Represents self.now run → result ≡ count_by is_live (entries_of run) }
+        ensures answer { (run : Execution) → IsCacheOf self.now run → result ≡ count_by is_live (entries_of run) }
     {
         self.live
     }
 
     /// How far a patch has come. None for one that wasn't made.
     pub fn mark_of(&self, no: PatchNo) -> Option<Mark>
-        ensures { (run : Execution) → Represents self.now run → MatchOption result (length (entries_of run) ≤ no) (HasMark (entries_of run) no) }
+        ensures { (run : Execution) → IsCacheOf self.now run → MatchOption result (length (entries_of run) ≤ no) (HasMark (entries_of run) no) }
     {
         self.graph.mark_of(no)
     }
 
     /// A number below which every patch is durable: who asks for the marks of many patches may pass over those below it.
     pub fn durable_below(&self) -> u32
-        ensures { (run : Execution) → Represents self.now run → (n : ℕ) → n < result → HasMark (entries_of run) n Durable }
+        ensures { (run : Execution) → IsCacheOf self.now run → (n : ℕ) → n < result → HasMark (entries_of run) n Durable }
     {
         self.graph.durable_below()
     }
 
     /// The least block of which a write can begin. It takes no memory.
     pub fn next_ready(&mut self) -> Option<BlockNo>
-        ensures answer { (run : Execution) → Represents self.old run → IsLeastReady run result }
-        ensures some { (run : Execution) (e : Entry) → Represents self.old run → (state_of run).flights ≡ []
+        ensures answer { (run : Execution) → IsCacheOf self.old run → IsLeastReady run result }
+        ensures some { (run : Execution) (e : Entry) → IsCacheOf self.old run → (state_of run).flights ≡ []
             → Contains (entries_of run) e → IsTrue (is_memory e) → IsSome result }
         ensures same { self.new ≡ self.old }
     {
@@ -148,7 +148,7 @@ impl<A: Allocator + Copy> Cache<A> {
     pub fn drain_trace(&mut self) -> Result<Vec<Step<A>, A>, OutOfMemory>
         ensures steps { IfOk result (λ steps. map step_of steps.items ≡ self.old.trace) }
         ensures drained { OnOk result (self.new ≡ drained self.old) }
-        ensures same { (run : Execution) → Represents self.old run → Represents self.new run }
+        ensures same { (run : Execution) → IsCacheOf self.old run → IsCacheOf self.new run }
         ensures refused { OnErr result (self.new ≡ self.old) }
     {
         let kept = Vec::with_capacity(self.alloc, self.under_way)?;

@@ -3,7 +3,7 @@ ghost use Rattle.std.specs.Prelude.{◌≡◌, ◌<◌, ◌++◌, ◌∷◌, [],
 ghost use Rattle.patch_model.specs.Execution.{Execution};
 ghost use Rattle.patch_model.specs.Step.{Complete};
 ghost use Rattle.patch_model.specs.State.{state_of};
-ghost use Rattle.patch_cache.specs.Meaning.{Represents};
+ghost use Rattle.patch_cache.specs.Meaning.{IsCacheOf};
 ghost use Rattle.patch_cache.specs.Flights.{IsEnded, IsWithdrawn};
 
 use crate::caches::Cache;
@@ -16,8 +16,8 @@ impl<A: Allocator + Copy> Cache<A> {
     /// Ends a write that the device has done: what was in it is durable. A write that isn't this cache's, or was completed
     /// before, is a stranger and comes back. It takes no memory.
     pub fn complete(&mut self, landed: Landed) -> Result<Done<A>, Landed>
-        ensures done { (run : Execution) → Represents self.old run → IfOk result (λ done. IsEnded run landed done self.new) }
-        ensures stranger { (run : Execution) → Represents self.old run
+        ensures done { (run : Execution) → IsCacheOf self.old run → IfOk result (λ done. IsEnded run landed done self.new) }
+        ensures stranger { (run : Execution) → IsCacheOf self.old run
             → OnErr result (Contains (state_of run).flights (landed.block, landed.sequence) → ⊥) }
         ensures back { IfErr result (λ back. back ≡ landed) }
         ensures trace { OnOk result (self.new.trace ≡ self.old.trace ++ Complete landed.block ∷ []) }

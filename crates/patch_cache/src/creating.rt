@@ -1,20 +1,19 @@
 //! How a patch is made.
-ghost use Rattle.std.specs.Prelude.{◌≡◌, ◌+◌, ◌<◌, ◌≤◌, ◌++◌, ◌∷◌, [], Some, None, length, nat_le, option_map, IfOk, IfErr, IsNone, OnOk, OnErr};
-ghost use Rattle.std.specs.List.{list_any};
+ghost use Rattle.std.specs.Prelude.{◌≡◌, ◌+◌, ◌<◌, ◌≤◌, ◌++◌, ◌∷◌, [], Some, None, length, option_map, IfOk, IfErr, IsNone, OnOk, OnErr};
 ghost use Rattle.patch_model.specs.Execution.{Execution};
 ghost use Rattle.patch_model.specs.Names.{numbers_named};
 ghost use Rattle.patch_model.specs.Step.{Create};
 ghost use Rattle.patch_graph.specs.Adding.{MayBePutIn, PutsIn};
 ghost use Rattle.patch_cache.specs.Creating.{why_not_created, MayBeMade, IsMade, MayLay, IsLaid};
-ghost use Rattle.patch_cache.specs.Meaning.{Represents};
+ghost use Rattle.patch_cache.specs.Meaning.{IsCacheOf};
 ghost use Rattle.patch_cache.specs.Refusals.{create_cause, IsCause};
 
 use crate::caches::Cache;
 use crate::refusals::CreateRefusal;
 use patch_graph::Graph;
 use patch_model::{
-    BLOCK, BlockNo, Bytes, Items, MAX_LIVE, MAX_PATCHES, Named, Names, OutOfMemory, PatchNo, Run,
-    Step, Undo, laws as model_laws,
+    BLOCK, BlockNo, Bytes, MAX_LIVE, MAX_PATCHES, Named, Names, OutOfMemory, PatchNo, Step, Undo,
+    laws as model_laws,
 };
 use patch_view::{BlockState, laws as view_laws};
 use std::alloc::Allocator;
@@ -32,9 +31,9 @@ impl<A: Allocator + Copy> Cache<A> {
         after: &[PatchNo],
         undo: Undo,
     ) -> Result<PatchNo, CreateRefusal>
-        ensures made { (run : Execution) → Represents self.old run → IfOk result (λ no.
+        ensures made { (run : Execution) → IsCacheOf self.old run → IfOk result (λ no.
             IsMade run block start bytes.now after.now undo no self.new) }
-        ensures cause { (run : Execution) → Represents self.old run → IfErr result (λ refusal.
+        ensures cause { (run : Execution) → IsCacheOf self.old run → IfErr result (λ refusal.
             IsCause (why_not_created run block start bytes.now after.now) (create_cause refusal)) }
         ensures trace { OnOk result (self.new.trace ≡ self.old.trace ++ Create block start bytes.now after.now undo ∷ []) }
         ensures refused { OnErr result (self.new ≡ self.old) }
@@ -42,9 +41,9 @@ impl<A: Allocator + Copy> Cache<A> {
         match self.why_not_made(block, start, bytes, Named::Listed(after)) {
             Some(refusal) => Err(refusal),
             None => {
-                let bytes = copied(self.alloc, bytes)?;
-                let after = copied(self.alloc, after)?;
-                self.create_owned(block, start, bytes, Names::listed(after), undo)
+                let bytes = Bytes::from_slice(self.alloc, bytes)?;
+                let after = Names::from_slice(self.alloc, after)?;
+                self.create_owned(block, start, bytes, after, undo)
             }
         }
     }
@@ -59,9 +58,9 @@ impl<A: Allocator + Copy> Cache<A> {
         after: Names<A>,
         undo: Undo,
     ) -> Result<PatchNo, CreateRefusal>
-        ensures made { (run : Execution) → Represents self.old run → IfOk result (λ no.
+        ensures made { (run : Execution) → IsCacheOf self.old run → IfOk result (λ no.
             IsMade run block start bytes after undo no self.new) }
-        ensures cause { (run : Execution) → Represents self.old run → IfErr result (λ refusal.
+        ensures cause { (run : Execution) → IsCacheOf self.old run → IfErr result (λ refusal.
             IsCause (why_not_created run block start bytes after) (create_cause refusal)) }
         ensures trace { OnOk result (self.new.trace ≡ self.old.trace ++ Create block start bytes after undo ∷ []) }
         ensures refused { OnErr result (self.new ≡ self.old) }
@@ -80,7 +79,7 @@ impl<A: Allocator + Copy> Cache<A> {
         bytes: &[u8],
         after: Named<'_>,
     ) -> Option<CreateRefusal>
-        ensures cause { (run : Execution) → Represents self.now run
+        ensures cause { (run : Execution) → IsCacheOf self.now run
             → option_map create_cause result ≡ why_not_created run block start bytes.now (numbers_named after.entry) }
         ensures known { IsNone result → block < length self.now.blocks }
         ensures some { IsNone result → 0 < length bytes.now }
@@ -94,7 +93,7 @@ impl<A: Allocator + Copy> Cache<A> {
             CreateRefusal::EmptyPatch
         } else if bytes.len() > BLOCK || start > BLOCK - bytes.len() {
             CreateRefusal::OutOfBlock
-        } else if names_unmade(self.graph.made(), after) {
+        } else if after.has_unmade(self.graph.made()) {
             CreateRefusal::UnknownDependency
         } else if self.graph.made() >= MAX_PATCHES {
             CreateRefusal::NumbersSpent
@@ -120,7 +119,7 @@ impl<A: Allocator + Copy> Cache<A> {
         requires fits { start + length bytes ≤ BLOCK }
         requires numbers_left { self.old.graph.made < MAX_PATCHES }
         requires live_left { self.old.live < MAX_LIVE }
-        ensures made { (run : Execution) → Represents self.old run
+        ensures made { (run : Execution) → IsCacheOf self.old run
             → MayBeMade run block start bytes after
             → IfOk result (λ no. IsMade run block start bytes after undo no self.new) }
         ensures trace { OnOk result (self.new.trace ≡ self.old.trace ++ Create block start bytes after undo ∷ []) }
@@ -188,28 +187,4 @@ fn lay_on<A: Allocator + Copy>(
     { graph.put_in(newcomer) };
     state.lay_if(no, start, bytes, after, hard, graph, enter)?;
     Ok(no)
-}
-
-/// Whether one of the numbers isn't that of a patch, where so many were made.
-fn names_unmade(made: u32, numbers: Named<'_>) -> bool
-    ensures { result ≡ list_any (λ n. nat_le made n) (numbers_named numbers.entry) }
-{
-    match numbers {
-        Named::Listed(numbers) => numbers.iter().any(|no| no.0 >= made),
-        Named::InRuns(runs) => end_unmade(made, runs),
-    }
-}
-
-/// Whether one of the runs ends with such a number: then it has one, and else it has none.
-fn end_unmade(made: u32, runs: &[Run]) -> bool
-    ensures { result ≡ list_any (λ run. nat_le made run.last) runs.now }
-{
-    runs.iter().any(|run| run.last >= made)
-}
-
-/// The same items again.
-fn copied<T: Copy, A: Allocator>(alloc: A, items: &[T]) -> Result<Items<T, A>, OutOfMemory>
-    ensures { IfOk result (λ copy. copy ≡ items.now) }
-{
-    Ok(Items::from_vec(Vec::from_slice(alloc, items)?))
 }

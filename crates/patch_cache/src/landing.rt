@@ -1,5 +1,5 @@
 //! How the flights that are held are written out, made to last, and completed.
-ghost use Rattle.std.specs.Prelude.{Bool, ◌≡◌, ◌≢◌, ◌+◌, ◌*◌, ◌<◌, ◌≤◌, ◌↔◌, List, ℕ, [], Err, length, count_by, slice_set, IfErr, OnOk, OnErr};
+ghost use Rattle.std.specs.Prelude.{Bool, ◌≡◌, ◌≢◌, ◌+◌, ◌*◌, ◌<◌, ◌≤◌, ◌↔◌, List, ℕ, [], Err, length, count_by, slice_set, IfOk, IfErr, OnOk, OnErr};
 ghost use Rattle.patch_model.specs.Execution.{Execution};
 ghost use Rattle.patch_device.specs.SameDevice.{IsSameDevice, IsLasting};
 ghost use Rattle.patch_device.specs.Device.{IsOldOrNew};
@@ -10,7 +10,7 @@ ghost use Rattle.patch_cache.specs.Tries.{AreTried, IsWave, NoneLost};
 ghost use Rattle.patch_cache.specs.declared.refusals.FlushRefusal.TheVariants as flush;
 
 use crate::caches::Cache;
-use crate::flights::{Flight, Flights};
+use crate::flights::{Flight, Flights, Landed};
 use crate::refusals::{DeviceGaveUp, Fault, FlushRefusal};
 use crate::writes::write_image;
 use patch_device::Device;
@@ -42,6 +42,25 @@ fn write_tried<A: Allocator, D: Device>(device: &mut D, flight: &Flight<A>) -> R
         }
     }
     Err(Fault)
+}
+
+/// Writes a flight out as [`write_out`](crate::write_out) does, and again each time that the device refuses it, at most [`TRIES`] times in
+/// all. Where the device is given up the flight comes back.
+pub fn write_out_tried<A: Allocator, D: Device>(
+    device: &mut D,
+    flight: Flight<A>,
+) -> Result<Landed, Flight<A>>
+    requires { flight.block < D.block_count device.old }
+    ensures landed { IfOk result (λ landed. (landed.block ≡ flight.block) × (landed.sequence ≡ flight.sequence)) }
+    ensures back { IfErr result (λ back. back ≡ flight) }
+    ensures device { IsSameDevice D.Device device.old device.new }
+    ensures gave_up { OnErr result (HasGivenUp (D.fault_count device.old) (D.fault_count device.new)) }
+    ensures refused { OnErr result (AreRefused D.Device flight.block flight.image TRIES device.old device.new) }
+{
+    match write_tried(device, &flight) {
+        Ok(()) => Ok(flight.landed()),
+        Err(_) => Err(flight),
+    }
 }
 
 /// Writes the images of all these flights, in their order, each tried at most [`TRIES`] times.

@@ -25,7 +25,7 @@ mod writes;
 pub use asks::{Answer, Ask, Move};
 pub use caches::Cache;
 pub use flights::{Flight, Flights, Landed};
-pub use landing::TRIES;
+pub use landing::{TRIES, write_out_tried};
 pub use patch_view::PutBackRefusal;
 pub use refusals::{
     CreateRefusal, DeviceGaveUp, Fault, FlushRefusal, MergeRefusal, NoSuchBlock, ReadRefusal,

@@ -6,7 +6,7 @@ ghost use Rattle.patch_model.specs.Execution.{Execution};
 ghost use Rattle.patch_model.specs.History.{history_of, without};
 ghost use Rattle.patch_model.specs.Refusing.{bare};
 ghost use Rattle.patch_cache.specs.Contents.{Contents};
-ghost use Rattle.patch_cache.specs.Meaning.{Represents, ShowsWithout};
+ghost use Rattle.patch_cache.specs.Meaning.{IsCacheOf, ShowsWithout};
 ghost use Rattle.patch_cache.specs.Viewing.{with_move, with_moves, bytes_at, Stands, IsViewOf};
 ghost use Rattle.patch_cache.specs.Asks.{IsAnswer, IsGivenUp, View, answer_of};
 ghost use Rattle.patch_cache.specs.Looking.{HasLooked, HasMoved};
@@ -25,10 +25,10 @@ impl<A: Allocator + Copy> Cache<A> {
         start: usize,
         len: usize,
     ) -> Answer<A>
-        ensures answer { (run : Execution) → Represents self.old run
+        ensures answer { (run : Execution) → IsCacheOf self.old run
             → IsAnswer run (View block moves.now start len) (answer_of result) ⊎ IsGivenUp run (View block moves.now start len) (answer_of result) }
-        ensures restored { (run : Execution) → Represents self.old run → Represents self.new run }
-        ensures same { (run : Execution) → Represents self.old run → self.new ≡ self.old }
+        ensures restored { (run : Execution) → IsCacheOf self.old run → IsCacheOf self.new run }
+        ensures same { (run : Execution) → IsCacheOf self.old run → self.new ≡ self.old }
         ensures trace { self.new.trace ≡ self.old.trace }
     {
         if let Some(refusal) = self.why_not_shown(block, start, len) {
@@ -56,8 +56,8 @@ impl<A: Allocator + Copy> Cache<A> {
     ) -> Result<Bytes<A>, Refusal>
         requires known { block < length self.old.blocks }
         requires fits { start + len ≤ BLOCK }
-        ensures answer { (run : Execution) → Represents self.old run → HasLooked run block moves.now start len result }
-        ensures stands { (run : Execution) → Represents self.old run → Stands run block self.new }
+        ensures answer { (run : Execution) → IsCacheOf self.old run → HasLooked run block moves.now start len result }
+        ensures stands { (run : Execution) → IsCacheOf self.old run → Stands run block self.new }
         ensures view { (before : Contents) → IsViewOf before block self.old → IsViewOf before block self.new }
         ensures count { length self.new.blocks ≡ length self.old.blocks }
         ensures trace { self.new.trace ≡ self.old.trace }
@@ -105,8 +105,8 @@ impl<A: Allocator + Copy> Cache<A> {
         ensures refusal { IfErr result (λ refusal. refusal ≡ bare kind.OutOfMemory) }
     {
         let bytes = self.bytes_of(block);
-        match Vec::from_slice(self.alloc, &bytes[start..start + len]) {
-            Ok(copy) => Ok(Bytes::from_vec(copy)),
+        match Bytes::from_slice(self.alloc, &bytes[start..start + len]) {
+            Ok(copy) => Ok(copy),
             Err(_) => Err(RefusalKind::OutOfMemory.bare()),
         }
     }

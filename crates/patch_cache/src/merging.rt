@@ -5,8 +5,8 @@ ghost use Rattle.patch_model.specs.Execution.{Execution};
 ghost use Rattle.patch_model.specs.Refusing.{why_no_pair, is_memory_at};
 ghost use Rattle.patch_model.specs.Step.{Merge};
 ghost use Rattle.patch_model.specs.State.{entries_of};
-ghost use Rattle.patch_graph.specs.Meaning.{Represents as IsGraphOf};
-ghost use Rattle.patch_cache.specs.Meaning.{Represents};
+ghost use Rattle.patch_graph.specs.Meaning.{IsGraphOf};
+ghost use Rattle.patch_cache.specs.Meaning.{IsCacheOf};
 ghost use Rattle.patch_cache.specs.Merging.{IsInMemory, ArePaired, IsThird, MayMerge, IsMerged, MayMergeOn, IsMergedOn, why_apart};
 ghost use Rattle.patch_cache.specs.Refusals.{merge_cause, IsMergeCause};
 
@@ -20,8 +20,8 @@ use std::alloc::Allocator;
 impl<A: Allocator + Copy> Cache<A> {
     /// Makes one class of the classes of two patches, whose numbers are any members'. Its name is the lesser of theirs.
     pub fn merge(&mut self, a: PatchNo, b: PatchNo) -> Result<PatchNo, MergeRefusal>
-        ensures merged { (run : Execution) → Represents self.old run → IfOk result (λ name. IsMerged run a b name self.new) }
-        ensures cause { (run : Execution) → Represents self.old run → IfErr result (λ refusal.
+        ensures merged { (run : Execution) → IsCacheOf self.old run → IfOk result (λ name. IsMerged run a b name self.new) }
+        ensures cause { (run : Execution) → IsCacheOf self.old run → IfErr result (λ refusal.
             IsMergeCause (entries_of run) a b (merge_cause refusal)) }
         ensures trace { OnOk result (self.new.trace ≡ self.old.trace ++ Merge a b ∷ []) }
         ensures refused { OnErr result (self.new ≡ self.old) }
@@ -36,7 +36,7 @@ impl<A: Allocator + Copy> Cache<A> {
 
     /// The block of both classes, or the first cause against the merge, but for a third class between them.
     fn block_of_both(&self, a: PatchNo, b: PatchNo) -> Result<BlockNo, MergeRefusal>
-        ensures answer { (run : Execution) → Represents self.now run → MatchResult result
+        ensures answer { (run : Execution) → IsCacheOf self.now run → MatchResult result
             (ArePaired run a b)
             (λ refusal. why_no_pair (entries_of run) a b ≡ Some (merge_cause refusal)) }
         ensures known { IfOk result (λ block. block < length self.now.blocks) }
@@ -56,7 +56,7 @@ impl<A: Allocator + Copy> Cache<A> {
         if let Some(refusal) = pair_refusal(a, &first, b, &second) {
             return Err(refusal);
         }
-        // Never so: each patch is of a block of the cache.
+        // Never so in a cache that represents an execution: each patch is of a block of it. Of no other is anything promised.
         if first.block.0 as usize >= self.blocks.len() {
             return Err(MergeRefusal::OtherBlock);
         }
@@ -78,7 +78,7 @@ impl<A: Allocator + Copy> Cache<A> {
 
     /// The least name of a third class between those of two live patches, one way or the other.
     fn third(&mut self, a: PatchNo, b: PatchNo) -> Option<PatchNo>
-        ensures answer { (run : Execution) → Represents self.old run → why_no_pair (entries_of run) a b ≡ None
+        ensures answer { (run : Execution) → IsCacheOf self.old run → why_no_pair (entries_of run) a b ≡ None
             → IsThird run a b result }
         ensures same { self.new ≡ self.old }
     {
@@ -92,7 +92,7 @@ impl<A: Allocator + Copy> Cache<A> {
     /// Makes one class of two that may be merged.
     fn make_one(&mut self, a: PatchNo, b: PatchNo, block: BlockNo) -> Result<PatchNo, OutOfMemory>
         requires known { block < length self.old.blocks }
-        ensures merged { (run : Execution) → Represents self.old run → MayMerge run a b block
+        ensures merged { (run : Execution) → IsCacheOf self.old run → MayMerge run a b block
             → IfOk result (λ name. IsMerged run a b name self.new) }
         ensures trace { OnOk result (self.new.trace ≡ self.old.trace ++ Merge a b ∷ []) }
         ensures refused { OnErr result (self.new ≡ self.old) }

@@ -2,7 +2,7 @@
 ghost use Rattle.std.specs.Prelude.{◌≡◌, ◌+◌, ◌<◌, ◌≤◌, Some, None, Ok, Err, length, MatchResult, IsNone, option_map};
 ghost use Rattle.patch_model.specs.declared.blocks.TheConstants.{BLOCK};
 ghost use Rattle.patch_model.specs.Execution.{Execution};
-ghost use Rattle.patch_cache.specs.Meaning.{Represents};
+ghost use Rattle.patch_cache.specs.Meaning.{IsCacheOf};
 ghost use Rattle.patch_cache.specs.Refusals.{read_cause};
 ghost use Rattle.patch_cache.specs.Viewing.{why_not_read, IsRead};
 
@@ -14,7 +14,7 @@ use std::alloc::Allocator;
 impl<A: Allocator + Copy> Cache<A> {
     /// The `len` bytes of a block from `start` on, with all its patches. It takes no memory.
     pub fn read(&self, block: BlockNo, start: usize, len: usize) -> Result<&[u8], ReadRefusal>
-        ensures { (run : Execution) → Represents self.now run → MatchResult result
+        ensures { (run : Execution) → IsCacheOf self.now run → MatchResult result
             (λ bytes. IsRead run block start len bytes.now)
             (λ refusal. why_not_read run block start len ≡ Some (read_cause refusal)) }
     {
@@ -31,7 +31,7 @@ impl<A: Allocator + Copy> Cache<A> {
         start: usize,
         len: usize,
     ) -> Option<ReadRefusal>
-        ensures cause { (run : Execution) → Represents self.now run → option_map read_cause result ≡ why_not_read run block start len }
+        ensures cause { (run : Execution) → IsCacheOf self.now run → option_map read_cause result ≡ why_not_read run block start len }
         ensures known { IsNone result → block < length self.now.blocks }
         ensures fits { IsNone result → start + len ≤ BLOCK }
     {

@@ -3,7 +3,7 @@ ghost use Rattle.std.specs.Prelude.{◌≡◌};
 ghost use Rattle.patch_model.specs.declared.refusals.RefusalKind.TheVariants as kind;
 ghost use Rattle.patch_model.specs.Refusing.{bare};
 ghost use Rattle.patch_cache.specs.Refusals.{read_cause, create_cause, merge_cause, send_cause, take_cause, flush_cause, gave_up_cause};
-ghost use Rattle.patch_view.specs.Refusal.{take_cause as view_take_cause};
+ghost use Rattle.patch_stacks.specs.Refusal.{take_cause as view_take_cause};
 
 use patch_model::{BlockNo, OutOfMemory, PatchNo, Refusal, RefusalKind, Refuses};
 use thiserror::Error;

@@ -4,7 +4,7 @@ ghost use Rattle.patch_model.specs.Execution.{Execution};
 ghost use Rattle.patch_model.specs.Refusing.{why_not_sent};
 ghost use Rattle.patch_device.specs.SameDevice.{IsSameDevice};
 ghost use Rattle.patch_cache.specs.Contents.{write_at};
-ghost use Rattle.patch_cache.specs.Meaning.{Represents};
+ghost use Rattle.patch_cache.specs.Meaning.{IsCacheOf};
 ghost use Rattle.patch_cache.specs.Asks.{Create, Merge, Send, Complete, IsFault, ask_of, answer_of, step_added, steps_added, is_complete, after, after_all};
 ghost use Rattle.patch_cache.specs.Promise.{TakingBack, MovesArePermitted, LooksShow, ImagesSent, CrashesClosed};
 ghost use Rattle.patch_cache.specs.Running.{Runs, RunsOn, IsDone, IsAnswered, IsServed, LeavesSafe, HasRun, CountFaults, HaveAllWritten, answers_in};
@@ -117,7 +117,7 @@ impl<A: Allocator + Copy> Cache<A> {
         after: &[PatchNo],
         undo: Undo,
     ) -> Answer<A>
-        ensures answer { (run : Execution) → Represents self.old run
+        ensures answer { (run : Execution) → IsCacheOf self.old run
             → IsDone run (Create block start bytes.now after.now undo) (answer_of result) self.new }
         ensures trace { self.new.trace ≡ self.old.trace ++ step_added (Create block start bytes.now after.now undo) (answer_of result) }
         ensures no_fault { IsFault (answer_of result) → ⊥ }
@@ -130,7 +130,7 @@ impl<A: Allocator + Copy> Cache<A> {
 
     /// Makes one class of two.
     fn answer_merge(&mut self, a: PatchNo, b: PatchNo) -> Answer<A>
-        ensures answer { (run : Execution) → Represents self.old run → IsDone run (Merge a b) (answer_of result) self.new }
+        ensures answer { (run : Execution) → IsCacheOf self.old run → IsDone run (Merge a b) (answer_of result) self.new }
         ensures trace { self.new.trace ≡ self.old.trace ++ step_added (Merge a b) (answer_of result) }
         ensures no_fault { IsFault (answer_of result) → ⊥ }
     {
@@ -224,7 +224,7 @@ impl<A: Allocator + Copy> Cache<A> {
                 block: done.block,
                 numbers: done.numbers,
             },
-            // Never so: a held flight is one of the cache's.
+            // Never so in a cache that represents an execution and whose flights these are. Of no other is anything promised.
             Err(stranger) => {
                 stranger.abandon();
                 Answer::Refused(RefusalKind::Stranger.bare())

@@ -6,9 +6,9 @@ ghost use Rattle.patch_model.specs.Refusing.{why_not_sent};
 ghost use Rattle.patch_model.specs.Step.{Send};
 ghost use Rattle.patch_model.specs.History.{History, HoldsDependents, without};
 ghost use Rattle.patch_view.specs.History.{undoable_classes};
-ghost use Rattle.patch_view.specs.Meaning.{Represents as IsBlockOf};
+ghost use Rattle.patch_view.specs.Meaning.{IsBlockOf};
 ghost use Rattle.patch_cache.specs.Contents.{write_at};
-ghost use Rattle.patch_cache.specs.Meaning.{Represents};
+ghost use Rattle.patch_cache.specs.Meaning.{IsCacheOf};
 ghost use Rattle.patch_cache.specs.Flights.{MaySend, IsBegun};
 ghost use Rattle.patch_cache.specs.Refusals.{send_cause, IsCause};
 
@@ -26,9 +26,9 @@ impl<A: Allocator + Copy> Cache<A> {
     /// Begins a write of the block: takes all of its classes that may go to the disk together, which is the largest such
     /// set, and gives their image. What stays behind in memory is reverted in the image and in nothing else.
     pub fn send(&mut self, block: BlockNo) -> Result<Flight<A>, SendRefusal>
-        ensures sent { (run : Execution) → Represents self.old run → IfOk result (λ flight.
+        ensures sent { (run : Execution) → IsCacheOf self.old run → IfOk result (λ flight.
             (why_not_sent run block ≡ None) × IsBegun run block flight self.new) }
-        ensures cause { (run : Execution) → Represents self.old run → IfErr result (λ refusal. IsCause (why_not_sent run block) (send_cause refusal)) }
+        ensures cause { (run : Execution) → IsCacheOf self.old run → IfErr result (λ refusal. IsCause (why_not_sent run block) (send_cause refusal)) }
         ensures trace { OnOk result (self.new.trace ≡ self.old.trace ++ Send block ∷ []) }
         ensures refused { OnErr result (self.new ≡ self.old) }
     {
@@ -44,7 +44,7 @@ impl<A: Allocator + Copy> Cache<A> {
 
     /// The first cause against a write of the block.
     pub(crate) fn why_not_sent(&mut self, block: BlockNo) -> Option<SendRefusal>
-        ensures cause { (run : Execution) → Represents self.old run → option_map send_cause result ≡ why_not_sent run block }
+        ensures cause { (run : Execution) → IsCacheOf self.old run → option_map send_cause result ≡ why_not_sent run block }
         ensures known { IsNone result → block < length self.old.blocks }
         ensures not_under_way { IsNone result → write_at self.old block ≡ None }
         ensures same { self.new ≡ self.old }
@@ -77,7 +77,7 @@ impl<A: Allocator + Copy> Cache<A> {
     ) -> Result<Flight<A>, OutOfMemory>
         requires known { block < length self.old.blocks }
         requires not_under_way { write_at self.old block ≡ None }
-        ensures begun { (run : Execution) → Represents self.old run → MaySend run block numbers.items
+        ensures begun { (run : Execution) → IsCacheOf self.old run → MaySend run block numbers.items
             → IfOk result (λ flight. IsBegun run block flight self.new) }
         ensures trace { OnOk result (self.new.trace ≡ self.old.trace ++ Send block ∷ []) }
         ensures refused { OnErr result (self.new ≡ self.old) }
@@ -95,7 +95,7 @@ impl<A: Allocator + Copy> Cache<A> {
         model_laws::paths_form_no_ring();
         view_laws::blocks_are_coherent();
         view_laws::image_is_without();
-        let noted = Numbers::from_vec(Vec::from_slice(self.alloc, numbers.as_slice())?);
+        let noted = Numbers::from_slice(self.alloc, numbers.as_slice())?;
         let mut image = Vec::with_capacity(self.alloc, BLOCK)?;
         self.trace.reserve(self.under_way + 2)?;
         let at = block.0 as usize;

@@ -5,9 +5,9 @@ ghost use Rattle.patch_model.specs.declared.blocks.TheConstants.{BLOCK};
 ghost use Rattle.patch_model.specs.Execution.{Execution};
 ghost use Rattle.patch_model.specs.History.{history_of, without};
 ghost use Rattle.patch_view.specs.Answers.{MayTake, MayPutBack};
-ghost use Rattle.patch_view.specs.Refusal.{put_back_cause};
+ghost use Rattle.patch_stacks.specs.Refusal.{put_back_cause};
 ghost use Rattle.patch_cache.specs.Contents.{Contents, block_at, with_block};
-ghost use Rattle.patch_cache.specs.Meaning.{Represents, ShowsWithout};
+ghost use Rattle.patch_cache.specs.Meaning.{IsCacheOf, ShowsWithout};
 ghost use Rattle.patch_cache.specs.Refusals.{take_cause};
 ghost use Rattle.patch_cache.specs.declared.asks.Move.TheVariants.{Take, Back};
 
@@ -89,8 +89,8 @@ impl<A: Allocator + Copy> Cache<A> {
     /// Puts everything back that is taken of the block.
     pub(crate) fn restore_of(&mut self, block: BlockNo)
         requires { block < length self.old.blocks }
-        ensures answer { (run : Execution) (names : List ℕ) → ShowsWithout self.old block names run → Represents self.new run }
-        ensures as_before { (run : Execution) (names : List ℕ) (before : Contents) → ShowsWithout self.old block names run → Represents before run
+        ensures answer { (run : Execution) (names : List ℕ) → ShowsWithout self.old block names run → IsCacheOf self.new run }
+        ensures as_before { (run : Execution) (names : List ℕ) (before : Contents) → ShowsWithout self.old block names run → IsCacheOf before run
             → IsViewOf before block self.old → self.new ≡ before }
         ensures others { self.new ≡ with_block self.old block (block_at self.new block) }
     {
@@ -145,9 +145,9 @@ impl<'a, A: Allocator + Copy> CacheView<'a, A> {
 
     /// Puts every class back, and spends the view. The cache is then as it was before the view.
     pub fn restore(self)
-        ensures answer { (run : Execution) (names : List ℕ) → HasTaken self.entry names run → Represents self.exit.0.now run }
+        ensures answer { (run : Execution) (names : List ℕ) → HasTaken self.entry names run → IsCacheOf self.exit.0.now run }
         ensures as_before { (run : Execution) (names : List ℕ) (before : Contents) → HasTaken self.entry names run
-            → Represents before run → IsLentOf before self.entry → self.exit.0.now ≡ before }
+            → IsCacheOf before run → IsLentOf before self.entry → self.exit.0.now ≡ before }
         ensures others { self.exit.0.now ≡ with_block (seen_by self.entry) (block_of self.entry) (block_at self.exit.0.now (block_of self.entry)) }
     {
         let CacheView { cache, block } = self;

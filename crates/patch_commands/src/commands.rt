@@ -1,9 +1,14 @@
 //! The forms of lines.
-ghost use Rattle.std.specs.Prelude.{◌≡◌};
+ghost use Rattle.std.specs.Prelude.{◌≡◌, option_map, IfOk};
+ghost use Rattle.patch_history.specs.Commands.{command_of};
 ghost use Rattle.patch_commands.specs.declared.commands.TheConstants.{MAX_VALUE_TEXT};
+ghost use Rattle.patch_commands.specs.Asking.{command_on};
 ghost use Rattle.patch_commands.specs.Shared.{writer_of, is_sync as the_is_sync};
 
-use patch_model::{Bytes, GroupNo, WriterNo};
+use crate::values::value;
+use patch_history::Command;
+use patch_model::{Bytes, GroupNo, OutOfMemory, WriterNo};
+use std::alloc::Global;
 
 /// The most bytes of the value that a line puts.
 pub const MAX_VALUE_TEXT: usize = 1_048_576;
@@ -101,5 +106,36 @@ impl CommandLine {
         ensures { result ≡ the_is_sync self.now }
     {
         matches!(self, CommandLine::Sync { .. })
+    }
+
+    /// The command that it asks a store for, with its value laid out. A sync of a group asks how many of its patches aren't on the disk
+    /// yet, and one of no group asks for nothing.
+    pub fn into_command(self, alloc: Global) -> Result<Option<Command>, OutOfMemory>
+        ensures { IfOk result (λ command. option_map command_of command ≡ command_on self) }
+    {
+        Ok(Some(match self {
+            CommandLine::Put {
+                key,
+                piece,
+                times,
+                ..
+            } => {
+                let value = value(alloc, piece, times)?;
+                Command::Put { key, value }
+            }
+            CommandLine::Get { key, .. } => Command::Get { key },
+            CommandLine::Delete { key, .. } => Command::Delete { key },
+            CommandLine::Reclaim { extent, .. } => Command::Reclaim { extent },
+            CommandLine::Group { .. } => Command::Group,
+            CommandLine::Engage { group, .. } => Command::Engage { group },
+            CommandLine::Disengage { group, .. } => Command::Disengage { group },
+            CommandLine::Depend { group, on, .. } => Command::Depend { group, on },
+            CommandLine::Close { group, .. } => Command::CloseGroup { group },
+            CommandLine::Pending { group, .. } => Command::Pending { group },
+            CommandLine::Sync { group, .. } => match group {
+                Some(group) => Command::Pending { group },
+                None => return Ok(None),
+            },
+        }))
     }
 }

@@ -57,3 +57,13 @@ pub fn laid_out(alloc: Global, piece: &[u8], times: u32) -> Result<Bytes, OutOfM
     lay(value.as_mut_slice(), piece, times as usize);
     Ok(Items::from_vec(value))
 }
+
+/// The value that a line puts: its piece itself, where that stands once.
+pub fn value(alloc: Global, piece: Bytes, times: u32) -> Result<Bytes, OutOfMemory>
+    ensures { IfOk result (λ value. value ≡ value_of piece times) }
+{
+    if times == 1 {
+        return Ok(piece);
+    }
+    laid_out(alloc, piece.as_slice(), times)
+}

@@ -1,5 +1,5 @@
 //! A device over a file.
-ghost use Rattle.std.specs.Prelude.{◌≡◌, ℕ, ◌+◌, ◌*◌, ◌≤◌, ◌<◌, ◌↔◌, ◌⊎◌, [], ◌∷◌, ◌++◌, length, Some, None, Err, Ok, IfOk, IfErr, OnOk, OnErr, IfSome, IsNone, IsSome, MatchOption, IsTrue, IsFalse, IsErr, IsErrOf, true, false, slice_get, slice_set};
+ghost use Rattle.std.specs.Prelude.{◌≡◌, ℕ, ◌+◌, ◌*◌, ◌/◌, ◌≤◌, ◌<◌, ◌↔◌, ◌⊎◌, [], ◌∷◌, ◌++◌, length, Some, None, Err, Ok, IfOk, IfErr, OnOk, OnErr, IfSome, IfNone, IsNone, IsSome, MatchOption, IsTrue, IsFalse, IsErr, IsErrOf, true, false, slice_get, slice_set};
 ghost use Rattle.std.specs.Option.{ForSome};
 ghost use Rattle.patch_device.specs.Blocks.{FitsFile, AreWhole, zeros};
 ghost use Rattle.patch_device.specs.Cuts.{written_behind};
@@ -55,9 +55,11 @@ fn place_of(n: u32) -> u64
 }
 
 /// How many blocks a file of this length has, if they are whole and as many as there may be.
-fn whole_blocks(length: u64) -> Option<u32>
-    ensures some { IfSome result (λ count. (length ≡ count * BLOCK) × FitsFile count) }
-    ensures none { IsNone result → (count : ℕ) → length ≡ count * BLOCK → FitsFile count → ⊥ }
+pub fn whole_blocks(length: u64) -> Option<u32>
+    ensures whole { IfSome result (λ count. length ≡ count * BLOCK) }
+    ensures count { IfSome result (λ count. count ≡ length / BLOCK) }
+    ensures fits { IfSome result FitsFile }
+    ensures none { IfNone result ((count : ℕ) → length ≡ count * BLOCK → FitsFile count → ⊥) }
 {
     let blocks = length / BLOCK as u64;
     if length % BLOCK as u64 != 0 || blocks == 0 || blocks > MAX_BLOCKS as u64 {
@@ -103,7 +105,7 @@ fn read_blocks<F: FileExt>(
 }
 
 /// A copy of these blocks.
-fn copies(alloc: Global, blocks: &[BlockBytes]) -> Result<Vec<BlockBytes>, OutOfMemory>
+pub fn copy_blocks(alloc: Global, blocks: &[BlockBytes]) -> Result<Vec<BlockBytes>, OutOfMemory>
     ensures { IfOk result (λ copied. copied.items ≡ blocks.now) }
 {
     let mut copied = Vec::with_capacity(alloc, blocks.len())?;
@@ -261,7 +263,7 @@ impl<F: FileExt + OpenFile + Drop> FileDevice<F> {
         ensures spent { IfOk result (λ d. IsSpent d ↔ IsSpent self) }
     {
         let mut device = self;
-        device.remembered = Some(copies(alloc, blocks)?);
+        device.remembered = Some(copy_blocks(alloc, blocks)?);
         Ok(device)
     }
 

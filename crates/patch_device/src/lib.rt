@@ -14,7 +14,7 @@ mod volatile;
 pub use devices::Device;
 pub use failing::UnsyncedDevice;
 pub use faulty::FaultyDevice;
-pub use files::FileDevice;
+pub use files::{FileDevice, copy_blocks, whole_blocks};
 pub use loading::load;
 pub use memory::MemDevice;
 pub use refusals::{DeviceRefusal, FileRefusal, LoadFault};

@@ -5,7 +5,7 @@ use Rattle.patch_history.specs.declared.commands.Reply.{Reply as CodeReply}
 use Rattle.patch_history.specs.declared.commands.Reply.TheVariants as answered
 use Rattle.patch_history.specs.Command.{Command, Reply, is_refused}
 use Rattle.patch_history.specs.Commands.{reply_told}
-use Rattle.patch_history.specs.Standing.{at_opening}
+use Rattle.patch_history.specs.StoreState.{at_opening}
 use Rattle.patch_history.specs.History.{History}
 use Rattle.patch_store.specs.Meaning.{Store, Answers}
 use Rattle.patch_store.specs.Opening as opening

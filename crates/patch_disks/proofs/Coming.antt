@@ -1,22 +1,24 @@
 -- How the answers grow, line by line.
 use Rattle.std.proofs.Common.{◌≡◌, ℕ, ◌∙◌, Bool, true, false, List, [], ◌∷◌, ◌++◌, Option, Some, None, refl, sym, ap, subst, append_assoc}
-use Rattle.std.specs.Prelude.{Result, Ok, Err, IfOk, IfSome, OnOk, String, string_bytes, MatchBool, MatchOption, if◌then◌else◌}
+use Rattle.std.specs.Prelude.{not, ◌&&◌, Result, Ok, Err, IfOk, IfSome, OnOk, String, string_bytes, MatchBool, MatchOption, if◌then◌else◌}
 use Rattle.std.specs.declared.alloc.Global.{Global}
 use Rattle.std.specs.Io.KnownBytes.{Appends}
 use Rattle.std.proofs.lemmas.List.{append-nil}
 use Rattle.patch_device.specs.SameDevice.{IsSameDevice}
 use Rattle.patch_device.specs.declared.devices.Device.{Ghosts}
 use Rattle.patch_cache.specs.Joining.{SafeJoin}
-use Rattle.patch_history.specs.Command.{Command, Pending, Reply, is_refused}
+use Rattle.patch_history.specs.Command.{Command, Reply, is_refused}
 use Rattle.patch_history.specs.History.{History, Call}
 use Rattle.patch_store.specs.Meaning.{Store}
 use Rattle.patch_store.specs.Opening.{IsOpened, at_opening}
+use Rattle.patch_commands.specs.Asking.{call_of}
 use Rattle.patch_commands.specs.Reply.{reply_line, synced_line}
+use Rattle.patch_commands.specs.Shared.{is_sync}
 use Rattle.patch_commands.specs.declared.commands.CommandLine.{CommandLine}
 use Rattle.patch_commands.specs.declared.commands.CommandLine.TheVariants as line
 use Rattle.patch_replay.specs.Growing.{twice, same}
 use Rattle.patch_disks.specs.declared.endings.Stop.{Stop}
-use Rattle.patch_disks.specs.Answering.{call_of, saves, with_call, IsSaved, IsCallAnswered, IsAnswered, AreAnswered}
+use Rattle.patch_disks.specs.Answering.{saves, with_call, IsSaved, IsCallAnswered, IsAnswered, AreAnswered}
 use Rattle.patch_disks.specs.Ending.{IsDoneBehind}
 use Rattle.patch_disks.specs.Going.{GoesSafely, EndsSafely, StillLasts}
 use Rattle.patch_disks.specs.Reading.{HasLines}
@@ -68,40 +70,52 @@ pub each_by_reply : {D E : Type 0} (g : Ghosts D) (h : History) (asked : Command
 each_by_reply g h asked call (Ok text) store device is silent told = answered_by_reply g h asked call (string_bytes text) store device is silent told
 each_by_reply g h asked call (Err e) store device is silent told = tt
 
--- a sync that is refused
-pub sync_refused : {D : Type 0} (g : Ghosts D) (h : History) (writer group : ℕ) (reply : Reply) (text : List ℕ) (store : Store) (device : D) → is_refused reply ≡ true
-    → text ≡ reply_line reply → IsCalled h (writer, Pending group) reply store (g.contents device)
-    → HasAnswered g h (line.Sync writer (Some group)) text store device device
-sync_refused g h writer group reply text store device refused told called =
-    let asked = line.Sync writer (Some group) in
-    let next = with_call h (writer, Pending group) reply called.steps in
-    let silent : saves asked reply ≡ false = rw refused refl in
+-- whether a line saves, by what it is and by its reply
+saves_none : (s r : Bool) → r ≡ true → (s && not r) ≡ false
+saves_none true true refused = refl
+saves_none true false refused = absurd (cc)
+saves_none false r refused = refl
+
+saves_all : (s r : Bool) → s ≡ true → r ≡ false → (s && not r) ≡ true
+saves_all true true sync accepted = absurd (cc)
+saves_all true false sync accepted = refl
+saves_all false r sync accepted = absurd (cc)
+
+pub saves_never : (asked : CommandLine) → is_sync asked ≡ false → (reply : Reply) → saves asked reply ≡ false
+saves_never asked none reply = ap (λ s. s && not (is_refused reply)) none
+
+-- a line that is refused
+pub sync_refused : {D : Type 0} (g : Ghosts D) (h : History) (asked : CommandLine) (call : ℕ × Command) (reply : Reply) (text : List ℕ) (store : Store) (device : D)
+    → call_of asked ≡ Some call → is_refused reply ≡ true → text ≡ reply_line reply → IsCalled h call reply store (g.contents device)
+    → HasAnswered g h asked text store device device
+sync_refused g h asked call reply text store device is refused told called =
+    let next = with_call h call reply called.steps in
+    let silent : saves asked reply ≡ false = saves_none (is_sync asked) (is_refused reply) refused in
     let so = by_reply (saves asked reply) text (reply_line reply) synced_line (IsSaved next next) (next ≡ next) silent told refl in
     record {
       next = next;
-      answered = record { reply = reply; steps = called.steps; told = so.0; goes_on = so.1 };
+      answered = by_call h asked call text next is (record { reply = reply; steps = called.steps; told = so.0; goes_on = so.1 });
       stands = called.stands;
-      goes = goes_behind g h (writer, Pending group) reply store (g.contents device) device called;
+      goes = goes_behind g h call reply store (g.contents device) device called;
     }
 
--- and one that isn't
-pub sync_saved : {D : Type 0} (g : Ghosts D) → SafeJoin g → (h : History) (writer group : ℕ) (reply : Reply) (text : List ℕ) (mid store : Store) (before now : D)
-    → is_refused reply ≡ false → text ≡ synced_line → (called : IsCalled h (writer, Pending group) reply mid (g.contents before))
-    → HasSaved g (with_call h (writer, Pending group) reply called.steps) store before now
-    → HasAnswered g h (line.Sync writer (Some group)) text store before now
-sync_saved g join h writer group reply text mid store before now accepted told called saved =
-    let asked = line.Sync writer (Some group) in
-    let behind = with_call h (writer, Pending group) reply called.steps in
-    let loud : saves asked reply ≡ true = rw accepted refl in
+-- and a sync that isn't
+pub sync_saved : {D : Type 0} (g : Ghosts D) → SafeJoin g → (h : History) (asked : CommandLine) (call : ℕ × Command) (reply : Reply) (text : List ℕ) (mid store : Store)
+    (before now : D) → call_of asked ≡ Some call → is_sync asked ≡ true → is_refused reply ≡ false → text ≡ synced_line
+    → (called : IsCalled h call reply mid (g.contents before)) → HasSaved g (with_call h call reply called.steps) store before now
+    → HasAnswered g h asked text store before now
+sync_saved g join h asked call reply text mid store before now is sync accepted told called saved =
+    let behind = with_call h call reply called.steps in
+    let loud : saves asked reply ≡ true = saves_all (is_sync asked) (is_refused reply) sync accepted in
     let so = by_save (saves asked reply) text (reply_line reply) synced_line (IsSaved behind saved.next) (saved.next ≡ behind) loud told saved.saved in
     record {
       next = saved.next;
-      answered = record { reply = reply; steps = called.steps; told = so.0; goes_on = so.1 };
+      answered = by_call h asked call text saved.next is (record { reply = reply; steps = called.steps; told = so.0; goes_on = so.1 });
       stands = saved.stands;
-      goes = goes_both g join h behind saved.next before before now (goes_behind g h (writer, Pending group) reply mid (g.contents before) before called) saved.goes;
+      goes = goes_both g join h behind saved.next before before now (goes_behind g h call reply mid (g.contents before) before called) saved.goes;
     }
 
--- one of no group
+-- one that asks for no call
 pub all_saved : {D : Type 0} (g : Ghosts D) (h : History) (writer : ℕ) (text : List ℕ) (store : Store) (before now : D) → text ≡ synced_line
     → HasSaved g h store before now → HasAnswered g h (line.Sync writer None) text store before now
 all_saved g h writer text store before now told saved =

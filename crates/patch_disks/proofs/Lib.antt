@@ -1,3 +1,4 @@
+mod Asking
 pub mod Calling
 pub mod Coming
 pub mod Going

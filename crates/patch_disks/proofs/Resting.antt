@@ -15,7 +15,7 @@ use Rattle.patch_recovery.specs.Change.{Change, Data, Point, Fill, Clear, Widen,
 use Rattle.patch_plans.specs.Extents.{Extents, extent_at}
 use Rattle.patch_plans.specs.Writing.{after_change, merge_behind, merge_with, written, steps_by}
 use Rattle.patch_history.specs.Command.{Command, Reply, is_refused, may_be_cut}
-use Rattle.patch_history.specs.Standing.{Standing, plan_of, made_by}
+use Rattle.patch_history.specs.StoreState.{Standing, plan_of, made_by}
 use Rattle.patch_history.specs.History.{History, Event, Call, IsWhole, IsCut, IsRight, AreRight, after_event, steps_in, execution_of, with_event}
 
 -- patches and merges

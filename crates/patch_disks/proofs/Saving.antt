@@ -8,7 +8,7 @@ use Rattle.patch_cache.specs.Joining.{SafeJoin}
 use Rattle.patch_cache.specs.Waves.{HasKept, HoldImages, IsFlushed}
 use Rattle.patch_history.specs.History.{History, execution_of}
 use Rattle.patch_store.specs.Flushing.{HoldCached, HasWritten, with_writes}
-use Rattle.patch_store.specs.Meaning.{Store, Represents}
+use Rattle.patch_store.specs.Meaning.{Store, IsStoreOf}
 use Rattle.patch_disks.specs.Going.{GoesSafely, EndsSafely}
 use Rattle.patch_disks.specs.Running.{StandsOn, HasSaved}
 use Rattle.patch_disks.proofs.Going.{goes_alike, goes_both, goes_by_writes, writes_behind}
@@ -27,7 +27,7 @@ flushed_ends g h steps flushed before now written goes = record { last = with_wr
 -- and the trace was let go
 pub saved_so : {D : Type 0} (g : Ghosts D) (h : History) (steps : List Step) (flushed new : Store) (before mid now : D) → StandsOn flushed (with_writes h steps) (g.contents mid)
     → IsFlushed (execution_of (with_writes h steps)) → HoldCached (execution_of (with_writes h steps)) (g.contents mid) → g.contents now ≡ g.contents mid
-    → ((h : History) → Represents flushed h → Represents new h) → GoesSafely g h (with_writes h steps) before now → HasSaved g h new before now
+    → ((h : History) → IsStoreOf flushed h → IsStoreOf new h) → GoesSafely g h (with_writes h steps) before now → HasSaved g h new before now
 saved_so g h steps flushed new before mid now stands none cached same drained goes =
     let run = execution_of (with_writes h steps) in
     record {

@@ -1,35 +1,18 @@
 -- How the lines of a script are answered: each by a call of the store, some with writes behind it.
-use Rattle.std.specs.Prelude.{ℕ, Bool, false, ◌≡◌, ◌++◌, not, List, [], ◌∷◌, Option, Some, None, MatchBool, MatchOption, if◌then◌else◌}
+use Rattle.std.specs.Prelude.{ℕ, Bool, ◌≡◌, ◌++◌, ◌&&◌, not, List, [], ◌∷◌, MatchBool, MatchOption, if◌then◌else◌}
 use Rattle.patch_model.specs.Step.{Step}
 use Rattle.patch_cache.specs.Waves.{IsFlushed}
-use Rattle.patch_history.specs.Command.{Command, Put, Get, Delete, Reclaim, Group, Engage, Disengage, Depend, CloseGroup, Pending, Reply, is_refused}
+use Rattle.patch_history.specs.Command.{Command, Reply, is_refused}
 use Rattle.patch_history.specs.History.{History, Call, execution_of, with_event}
 use Rattle.patch_store.specs.Flushing.{with_writes}
+use Rattle.patch_commands.specs.Asking.{call_of}
 use Rattle.patch_commands.specs.Reply.{reply_line, synced_line}
-use Rattle.patch_commands.specs.Value.{value_of}
+use Rattle.patch_commands.specs.Shared.{is_sync}
 use Rattle.patch_commands.specs.declared.commands.CommandLine.{CommandLine}
-use Rattle.patch_commands.specs.declared.commands.CommandLine.TheVariants as line
-
--- The call that a line asks for: of which writer, and what. A sync of a group asks how many of its patches aren't on the disk yet; a sync of
--- none asks for no call.
-abbrev pub call_of : CommandLine → Option (ℕ × Command)
-call_of (line.Put writer key piece times) = Some (writer, Put key (value_of piece times))
-call_of (line.Get writer key) = Some (writer, Get key)
-call_of (line.Delete writer key) = Some (writer, Delete key)
-call_of (line.Reclaim writer extent) = Some (writer, Reclaim extent)
-call_of (line.Group writer) = Some (writer, Group)
-call_of (line.Engage writer group) = Some (writer, Engage group)
-call_of (line.Disengage writer group) = Some (writer, Disengage group)
-call_of (line.Depend writer group on) = Some (writer, Depend group on)
-call_of (line.Close writer group) = Some (writer, CloseGroup group)
-call_of (line.Pending writer group) = Some (writer, Pending group)
-call_of (line.Sync writer (Some group)) = Some (writer, Pending group)
-call_of (line.Sync writer None) = None
 
 -- the line brings all patches to the disk behind its call: a sync whose group is there
 abbrev pub saves : CommandLine → Reply → Bool
-saves (line.Sync writer group) reply = not (is_refused reply)
-saves _ reply = false
+saves asked reply = is_sync asked && not (is_refused reply)
 
 -- the text of its answer
 abbrev pub text_of : CommandLine → Reply → List ℕ

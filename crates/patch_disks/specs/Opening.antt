@@ -3,7 +3,7 @@ use Rattle.std.specs.Prelude.{ℕ, ◌≡◌, List, [], IsTrue, IsFalse}
 use Rattle.patch_device.specs.FileDevice.{has_barriers}
 use Rattle.patch_device.specs.declared.files.FileDevice.{FileDevice}
 use Rattle.patch_cache.specs.Contents.{Contents}
-use Rattle.patch_cache.specs.Meaning.{Represents as IsCacheOf}
+use Rattle.patch_cache.specs.Meaning.{IsCacheOf}
 use Rattle.patch_store.specs.Meaning.{Store}
 use Rattle.patch_store.specs.Opening.{unchanged, IsOpened}
 use Rattle.patch_disks.specs.declared.opening.Barriers.{Barriers}

@@ -2,6 +2,7 @@
 use Rattle.std.specs.Prelude.{ℕ, ◌≡◌, ◌+◌, ◌++◌, List, [], ◌∷◌, Option, Some, None, Result, Ok, Err, length, map, option_map, option_and_then, replicate, take, drop, slice_get, slice_set, slice_range}
 use Rattle.patch_frame.specs.declared.faults.FrameFault.{FrameFault}
 use Rattle.patch_frame.specs.declared.geometries.Geometry.{Geometry}
+use Rattle.patch_frame.specs.declared.slots.TheConstants.{SLOT_BYTES}
 use Rattle.patch_frame.specs.Geometry.{slot_block, slot_start, longest_frame}
 use Rattle.patch_frame.specs.Slot.{slot_at}
 use Rattle.patch_frame.specs.Superblock.{superblock_at}
@@ -24,7 +25,7 @@ slot_in (DuplicateKey slot) = Some slot
 
 -- the key of a slot that begins there in its block, on a disk that is divided so
 abbrev pub key_under : Result Geometry FrameFault → (start : ℕ) → List ℕ → Option (List ℕ)
-key_under (Ok g) start block = option_map (λ s. s.key) (read_as (slot_at (longest_frame g.format) (slice_range block start (start + 64))))
+key_under (Ok g) start block = option_map (λ s. s.key) (read_as (slot_at (longest_frame g.format) (slice_range block start (start + SLOT_BYTES))))
 key_under (Err fault) start block = None
 
 -- the key that a slot of the blocks names, if it says what a slot may say
@@ -35,7 +36,7 @@ key_named blocks slot =
 
 -- a block with zeros in place of the slot that begins there
 abbrev pub cleared : List ℕ → ℕ → List ℕ
-cleared block start = take start block ++ replicate 64 0 ++ drop (start + 64) block
+cleared block start = take start block ++ replicate SLOT_BYTES 0 ++ drop (start + SLOT_BYTES) block
 
 -- the blocks without a slot: it is empty
 abbrev pub without_slot : List (List ℕ) → ℕ → List (List ℕ)

@@ -3,7 +3,7 @@ ghost use Rattle.std.specs.Prelude.{◌≡◌, IfOk, IfErr, OnOk, IsTrue};
 ghost use Rattle.patch_device.specs.Device.{HasRisen};
 ghost use Rattle.patch_device.specs.FileDevice.{contents_of, has_barriers, Remembers};
 ghost use Rattle.patch_device.specs.SameDevice.{IsSameDevice, IsLasting};
-ghost use Rattle.patch_cache.specs.Meaning.{Represents as IsCacheOf};
+ghost use Rattle.patch_cache.specs.Meaning.{IsCacheOf};
 ghost use Rattle.patch_history.specs.History.{History};
 ghost use Rattle.patch_store.specs.Opening.{unchanged, IsOpened};
 ghost use Rattle.patch_disks.specs.Going.{EndsSafely, StillLasts};

@@ -10,18 +10,17 @@ ghost use Rattle.patch_disks.specs.declared.endings.Stop.TheVariants.{Refused};
 
 use crate::endings::Stop;
 use crate::opening::{Barriers, open_blocks, store_of};
+use patch_device::copy_blocks;
 use patch_frame::{
     SLOT_BYTES, SlotState, read_slot_within, read_superblock, slot_block, slot_start,
 };
+use patch_index::MAX_SLOTS;
 use patch_model::{BLOCK, BlockBytes, Bytes, OutOfMemory, Refusal, RefusalKind};
 use patch_store::EntryReport;
 use std::alloc::Global;
 use std::fs::OpenFile;
 use std::os::unix::fs::FileExt;
 use std::rt::Files;
-
-/// The most slots that an index has.
-const MOST_SLOTS: u32 = 1_024;
 
 /// A slot of the index that is wrong.
 #[derive(Drop)]
@@ -39,17 +38,6 @@ pub struct Survey {
     pub bad: Vec<BadSlot>,
     /// The keys that can be read, in the order of the slots, with the lengths of their values.
     pub entries: Vec<EntryReport>,
-}
-
-/// A copy of these blocks.
-fn copies(alloc: Global, blocks: &[BlockBytes]) -> Result<Vec<BlockBytes>, OutOfMemory>
-    ensures { IfOk result (λ copied. copied.items ≡ blocks.now) }
-{
-    let mut copied = Vec::with_capacity(alloc, blocks.len())?;
-    for block in blocks {
-        copied.push(BlockBytes::from_slice(alloc, block.as_slice())?)?;
-    }
-    Ok(copied)
 }
 
 /// The slot that a disk is refused for, if it is one.
@@ -82,7 +70,7 @@ fn key_at(
     let SlotState::Used(named) = state else {
         return Ok(None);
     };
-    Ok(Some(Bytes::from_vec(Vec::from_slice(alloc, named.key)?)))
+    Ok(Some(Bytes::from_slice(alloc, named.key)?))
 }
 
 /// The key that a slot names, if it says what a slot may say.
@@ -139,8 +127,8 @@ pub fn survey_blocks(alloc: Global, blocks: Vec<BlockBytes>) -> Result<Survey, S
 {
     let mut left = blocks;
     let mut bad = Vec::new(alloc);
-    for _ in 0..=MOST_SLOTS {
-        match entries_on(alloc, copies(alloc, left.as_slice())?) {
+    for _ in 0..=MAX_SLOTS {
+        match entries_on(alloc, copy_blocks(alloc, left.as_slice())?) {
             Ok(entries) => return Ok(Survey { bad, entries }),
             Err(Stop::Refused(why)) => bad.push(take_out(alloc, &mut left, why)?)?,
             Err(stop) => return Err(stop),

@@ -18,7 +18,7 @@ use Rattle.patch_recovery.specs.Reading.{block_on}
 use Rattle.patch_plans.specs.declared.records.Extent.{Extent}
 use Rattle.patch_plans.specs.Extents.{no_extent}
 use Rattle.patch_extent.specs.Opening.{IsRecord, AreRecords, record_in, is_bad_record}
-use Rattle.patch_plans.specs.Meaning.{Represents, is_point, is_reset, patches_of, last_of}
+use Rattle.patch_plans.specs.Meaning.{AreExtentsOf, is_point, is_reset, patches_of, last_of}
 use Rattle.patch_extent.specs.Answers.{HasNoPoints}
 use Rattle.patch_extent.proofs.Patches.{on_block, of_entries, cached_on}
 
@@ -46,7 +46,12 @@ none_bad p n f = none_from p 0 n (λ k low high. f k (omega (arith, high)))
 pub good_record : (g : Geometry) (block : List ℕ) (e : ℕ) (k : Extent) → IsRecord g block e k → is_bad_record g block e ≡ false
 good_record g block e k is = ap is_err is.read
 
--- where neither holds, there are zeros behind the last record
+-- where neither holds, each record can be read
+pub each_read : (x y : Bool) → (x || not y) ≡ false → x ≡ false
+each_read true y h = absurd (cc)
+each_read false y h = refl
+
+-- and there are zeros behind the last one
 pub zeros_behind : (x y : Bool) → (x || not y) ≡ false → y ≡ true
 zeros_behind true y h = absurd (cc)
 zeros_behind false true h = refl
@@ -63,7 +68,7 @@ last_none test b (p ∷ ps) none off = elim (cases_Bool (p.block == b)) [
 -- What was opened represents the execution.
 pub records_represent : (g : Geometry) (run : Execution) (block : List ℕ) (each : List Extent) → IsGeometry g → length run.first ≡ block_count g
     → HasNoPoints g run → block ≡ block_on (cached_blocks run) (pointer_block g) → AreRecords g block each g.extents
-    → are_zeros (slice_range block (pointer_start g.extents) 4096) ≡ true → Represents (record { geometry = g; each = each }) run
+    → are_zeros (slice_range block (pointer_start g.extents) 4096) ≡ true → AreExtentsOf (record { geometry = g; each = each }) run
 records_represent g run block each geometry blocks none is records rest =
     let empty : on_block (pointer_block g) (patches_of run) ≡ [] = sym (of_entries (pointer_block g) (entries_of run)) ∙ ap (map (λ e. e.patch)) none in
     record {

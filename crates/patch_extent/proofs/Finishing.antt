@@ -22,7 +22,7 @@ use Rattle.patch_frame.specs.declared.pointers.Pointer.{Pointer}
 use Rattle.patch_frame.specs.Geometry.{first_block, largest_pointer, pointer_block, pointer_start}
 use Rattle.patch_frame.specs.Pointer.{Fits, spelling}
 use Rattle.patch_cache.specs.Contents.{Contents}
-use Rattle.patch_cache.specs.Meaning.{Represents as IsCacheOf}
+use Rattle.patch_cache.specs.Meaning.{IsCacheOf}
 use Rattle.patch_cache.specs.Creating.{IsMade}
 use Rattle.patch_cache.specs.Refusals.{IsCause}
 use Rattle.patch_plans.specs.Groups.{Groups, named, with_patch}
@@ -32,13 +32,13 @@ use Rattle.patch_plans.specs.declared.records.Extent.{Extent}
 use Rattle.patch_plans.specs.Extents.{Extents, extent_at, generation_at, offset_at, pointed, after_point}
 use Rattle.patch_plans.specs.Planning.{touched, part_start, part_end, part, parts, names_behind, reset_plan}
 use Rattle.patch_plans.specs.Writing.{merge_with, merge_behind}
-use Rattle.patch_plans.specs.Meaning.{Represents}
+use Rattle.patch_plans.specs.Meaning.{AreExtentsOf}
 use Rattle.patch_extent.specs.Answers.{Setting, setting, asked, IsSettingOf, AreMade, IsWritten, IsBegun, Append, plan_of, place_for, plan_steps, before_merge}
 use Rattle.patch_extent.specs.Appending.{IsPatched, LaysPatch, MergesBehind, IsDone, parts_of}
 use Rattle.patch_extent.specs.Merging.{IsOutcome, is_made}
 use Rattle.patch_extent.specs.declared.places.MergeOutcome.{MergeOutcome}
 use Rattle.patch_extent.proofs.Patches.{StateLaw, patches_made, entries_made, entries_stay, cached_long}
-use Rattle.patch_extent.proofs.Standing.{PointerLaw, data_kept, others_kept, point_made, pointer_block_there}
+use Rattle.patch_extent.proofs.NextStep.{PointerLaw, data_kept, others_kept, point_made, pointer_block_there}
 use Rattle.patch_extent.proofs.Making.{merges, create_of, patch_made, steps_more, last_made, nothing_made, followed_both, followed_none, parts_more, length-parts, take_parts}
 
 -- what patch_model says of each block
@@ -134,9 +134,9 @@ pub none_begun : (run : Execution) (a : Append) (old : Setting) → IsSettingOf 
 none_begun run a old h = append_begun run a old old.groups old.cache 0 (names_behind old.extents a.extent a.after) refl (omega arith) (nothing_made run a.writer old h)
 
 -- A merge keeps the extents, and so does none.
-merges_kept : StateLaw → (s : Extents) (run : Execution) (before : Option ℕ) (num : ℕ) (chosen : Bool) → Represents s run → Represents s (followed_by run (merges chosen (merge_with num before)))
-merges_kept law s run before num false r = subst (Represents s) (sym (followed_none run)) r
-merges_kept law s run None num true r = subst (Represents s) (sym (followed_none run)) r
+merges_kept : StateLaw → (s : Extents) (run : Execution) (before : Option ℕ) (num : ℕ) (chosen : Bool) → AreExtentsOf s run → AreExtentsOf s (followed_by run (merges chosen (merge_with num before)))
+merges_kept law s run before num false r = subst (AreExtentsOf s) (sym (followed_none run)) r
+merges_kept law s run None num true r = subst (AreExtentsOf s) (sym (followed_none run)) r
 merges_kept law s run (Some b) num true r = others_kept law s run (Merge b num) refl r
 
 merges_counted : StateLaw → (run : Execution) (before : Option ℕ) (num : ℕ) (chosen : Bool) → length (entries_of (followed_by run (merges chosen (merge_with num before)))) ≡ length (entries_of run)
@@ -221,7 +221,7 @@ append_done law pl bl run a old gs1 gs2 c1 c2 c3 num outcome appended known some
         made = last_made run a.writer plan m old mid new chosen (merge_with num (extent_at s a.extent).point) made behind
             (record {
               cache_is = told.stands run2 cache2;
-              represents = merges_kept law (after_point s num e gen to) run2 point num chosen (subst (λ k. Represents (after_point s k e gen to) run2) (sym number) rep2);
+              represents = merges_kept law (after_point s num e gen to) run2 point num chosen (subst (λ k. AreExtentsOf (after_point s k e gen to) run2) (sym number) rep2);
             })
             (merges_counted law run2 point num chosen ∙ entries_made law run1 _ _ _ _ _)
             (told.trace_is ∙ ap (λ t. t ++ merges chosen (merge_with num point)) patched.trace_is)
@@ -273,7 +273,7 @@ reset_done law pl bl run extent after old c2 num known fits stands patched trace
         made = last_made run None [] m old old new false None made refl
             (record {
               cache_is = subst (IsCacheOf c2) (sym (followed_none run2)) told.2;
-              represents = subst (Represents (after_point s num extent gen 0)) (sym (followed_none run2)) (subst (λ k. Represents (after_point s k extent gen 0) run2) (sym number) rep2);
+              represents = subst (AreExtentsOf (after_point s num extent gen 0)) (sym (followed_none run2)) (subst (λ k. AreExtentsOf (after_point s k extent gen 0) run2) (sym number) rep2);
             })
             (ap (λ r. length (entries_of r)) (followed_none run2) ∙ entries_made law run1 _ _ _ _ _)
             (trace ∙ sym (append-nil _))

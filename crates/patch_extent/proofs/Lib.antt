@@ -1,5 +1,5 @@
 pub mod Patches
-pub mod Standing
+pub mod NextStep
 pub mod Making
 pub mod Spans
 pub mod Beginning

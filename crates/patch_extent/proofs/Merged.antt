@@ -11,7 +11,7 @@ use Rattle.patch_model.specs.State.{entries_of}
 use Rattle.patch_model.specs.Legal.{IsLegalMerge}
 use Rattle.patch_model.specs.Refusing.{bare, why_no_pair, IsBetween}
 use Rattle.patch_cache.specs.Contents.{Contents}
-use Rattle.patch_cache.specs.Meaning.{Represents as IsCacheOf}
+use Rattle.patch_cache.specs.Meaning.{IsCacheOf}
 use Rattle.patch_cache.specs.Merging.{IsMerged}
 use Rattle.patch_cache.specs.Refusals.{merge_cause, IsWhyNotMerged, sooner, between, IsMergeCause, against, no_memory}
 use Rattle.patch_cache.specs.declared.refusals.MergeRefusal.{MergeRefusal}

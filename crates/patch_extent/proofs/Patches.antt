@@ -15,7 +15,7 @@ use Rattle.patch_model.specs.State.{state_of, entries_of, after_step, class_of, 
 use Rattle.patch_model.specs.Ready.{ready}
 use Rattle.patch_model.specs.History.{history_of, cached}
 use Rattle.patch_model.specs.Orderly.{IsOrderlyBlock}
-use Rattle.patch_model.specs.Kept.{patch-joined, patch-sent, patch-landed}
+use Rattle.patch_model.specs.Unchanged.{patch-joined, patch-sent, patch-landed}
 use Rattle.patch_model.specs.Laying.{length-lay}
 use Rattle.patch_model.specs.Member.{In, Contains-from_In}
 use Rattle.patch_recovery.specs.Closed.{cached_blocks}

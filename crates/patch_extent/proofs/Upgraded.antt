@@ -11,13 +11,13 @@ use Rattle.patch_frame.specs.declared.geometries.Geometry.{Geometry}
 use Rattle.patch_frame.specs.Superblock.{spelling}
 use Rattle.patch_cache.specs.Contents.{Contents}
 use Rattle.patch_cache.specs.Creating.{IsMade}
-use Rattle.patch_cache.specs.Meaning.{Represents as IsCacheOf}
+use Rattle.patch_cache.specs.Meaning.{IsCacheOf}
 use Rattle.patch_recovery.specs.Change.{Widen, bytes_of, widened}
 use Rattle.patch_plans.specs.Extents.{Extents}
-use Rattle.patch_plans.specs.Meaning.{Represents}
+use Rattle.patch_plans.specs.Meaning.{AreExtentsOf}
 use Rattle.patch_extent.specs.Upgrading.{IsStepped, IsUpgraded, upgrade_step, version_step}
 use Rattle.patch_extent.proofs.Patches.{StateLaw, patches_made}
-use Rattle.patch_extent.proofs.Standing.{data_kept}
+use Rattle.patch_extent.proofs.NextStep.{data_kept}
 
 -- the patch of these bytes is that of the fields
 pub stepped_so : (g : Geometry) (old new : Contents) (made : ℕ) (bytes : List ℕ) → bytes ≡ slice_range (spelling g) 8 24
@@ -34,7 +34,7 @@ stepped_so g old new made bytes is created trace = subst (λ b. IsStepped (Creat
 abbrev of_format : Extents → Format → Extents
 of_format s f = record s { geometry = record s.geometry { format = f } }
 
-wide_one : (s : Extents) (run : Execution) → Represents (of_format s One) run → Represents (record s { geometry = widened s.geometry }) run
+wide_one : (s : Extents) (run : Execution) → AreExtentsOf (of_format s One) run → AreExtentsOf (record s { geometry = widened s.geometry }) run
 wide_one s run r =
     let g = r.whole.geometry in
     record {
@@ -57,12 +57,12 @@ wide_one s run r =
       points = r.points;
     }
 
-wide : (s : Extents) (run : Execution) → s.geometry.format ≡ One → Represents s run → Represents (record s { geometry = widened s.geometry }) run
-wide s run narrow r = wide_one s run (subst (λ f. Represents (of_format s f) run) narrow r)
+wide : (s : Extents) (run : Execution) → s.geometry.format ≡ One → AreExtentsOf s run → AreExtentsOf (record s { geometry = widened s.geometry }) run
+wide s run narrow r = wide_one s run (subst (λ f. AreExtentsOf (of_format s f) run) narrow r)
 
 -- and the patch is of another block than the pointers
-upgraded_kept : StateLaw → (s : Extents) (run : Execution) → s.geometry.format ≡ One → Represents s run
-    → Represents (record s { geometry = widened s.geometry }) (extended run (upgrade_step s))
+upgraded_kept : StateLaw → (s : Extents) (run : Execution) → s.geometry.format ≡ One → AreExtentsOf s run
+    → AreExtentsOf (record s { geometry = widened s.geometry }) (extended run (upgrade_step s))
 upgraded_kept law s run narrow r =
     let bytes = bytes_of s.geometry Widen in
     let next = extended run (upgrade_step s) in
@@ -76,5 +76,5 @@ upgraded_view law to s t now old new made is narrow same stepped kept =
     record {
       stepped = subst (λ g. IsStepped (version_step g) old new made) same stepped;
       extents_are = extents;
-      represents = λ run r. subst (λ (x : Extents). Represents x (extended run (upgrade_step t))) (sym extents) (upgraded_kept law t run narrow r);
+      represents = λ run r. subst (λ (x : Extents). AreExtentsOf x (extended run (upgrade_step t))) (sym extents) (upgraded_kept law t run narrow r);
     }

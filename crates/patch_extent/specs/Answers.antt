@@ -8,7 +8,7 @@ use Rattle.patch_model.specs.History.{of_block}
 use Rattle.patch_frame.specs.declared.geometries.Geometry.{Geometry}
 use Rattle.patch_frame.specs.Geometry.{pointer_block}
 use Rattle.patch_cache.specs.Contents.{Contents}
-use Rattle.patch_cache.specs.Meaning.{Represents as IsCacheOf}
+use Rattle.patch_cache.specs.Meaning.{IsCacheOf}
 use Rattle.patch_cache.specs.Refusals.{IsCause}
 use Rattle.patch_plans.specs.Groups.{Groups}
 use Rattle.patch_recovery.specs.Change.{Made}
@@ -18,7 +18,7 @@ use Rattle.patch_recovery.specs.Reading.{bad_pointers, block_on, ledger_in}
 use Rattle.patch_plans.specs.Extents.{Extents, extent_at, generation_at, offset_at}
 use Rattle.patch_plans.specs.Planning.{append_plan, reset_plan, touched}
 use Rattle.patch_plans.specs.Writing.{after_plan, with_patches, steps_of}
-use Rattle.patch_plans.specs.Meaning.{Represents}
+use Rattle.patch_plans.specs.Meaning.{AreExtentsOf}
 use Rattle.patch_extent.specs.Refusing.{why_not_appended, why_not_reset}
 use Rattle.patch_extent.specs.Merging.{IsOutcome, is_made}
 use Rattle.patch_extent.specs.Opening.{AreRecords}
@@ -42,7 +42,7 @@ setting extents groups cache = record { extents = extents; groups = groups; cach
 -- cache and extents represent the execution
 pub record IsSettingOf (s : Setting) (run : Execution) : Type 0 where
   pub cache_is : IsCacheOf s.cache run
-  pub represents : Represents s.extents run
+  pub represents : AreExtentsOf s.extents run
 
 -- the steps of a plan
 abbrev pub plan_steps : Execution → Setting → Option ℕ → List Bool → List Made → List Step
@@ -147,7 +147,7 @@ pub record AreOpened (g : Geometry) (run : Execution) (s : Extents) : Type 0 whe
   pub good : bad_pointers g (cached_blocks run) ≡ false
   pub divided : s.geometry ≡ g
   pub records : AreRecords g (block_on (cached_blocks run) (pointer_block g)) s.each g.extents
-  pub represents : HasNoPoints g run → Represents s run
+  pub represents : HasNoPoints g run → AreExtentsOf s run
 
 -- the pointers are bad, and not that there was no memory
 abbrev pub tells_bad : ExtentsFault → Bool

@@ -5,7 +5,7 @@ use Rattle.patch_model.specs.declared.refusals.OutOfMemory.{OutOfMemory}
 use Rattle.patch_model.specs.Execution.{Execution, extended, followed_by}
 use Rattle.patch_model.specs.State.{entries_of}
 use Rattle.patch_cache.specs.Contents.{Contents}
-use Rattle.patch_cache.specs.Meaning.{Represents as IsCacheOf}
+use Rattle.patch_cache.specs.Meaning.{IsCacheOf}
 use Rattle.patch_plans.specs.Groups.{Groups, patch_of, with_patch}
 use Rattle.patch_extent.specs.declared.places.Appended.{Appended}
 use Rattle.patch_plans.specs.Extents.{offset_at}

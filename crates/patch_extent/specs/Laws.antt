@@ -14,13 +14,13 @@ use Rattle.patch_recovery.specs.Store.{makes_nothing}
 use Rattle.patch_plans.specs.Extents.{Extents, offset_at}
 use Rattle.patch_plans.specs.Planning.{reset_plan}
 use Rattle.patch_plans.specs.Writing.{with_patches, steps_of}
-use Rattle.patch_plans.specs.Meaning.{Represents}
+use Rattle.patch_plans.specs.Meaning.{AreExtentsOf}
 use Rattle.patch_extent.specs.Answers.{Setting, IsSettingOf, Append, plan_of, plan_steps, cached_bytes}
 
 -- a merge, a send or a completion leaves the extents as they are
 abbrev pub OtherStepsLeaveExtents : Type 0
 OtherStepsLeaveExtents =
-    (s : Extents) (run : Execution) (step : Step) → IsTrue (makes_nothing step) → Represents s run → Represents s (extended run step)
+    (s : Extents) (run : Execution) (step : Step) → IsTrue (makes_nothing step) → AreExtentsOf s run → AreExtentsOf s (extended run step)
 
 -- groups of an execution are those of the execution after a plan, with its patches
 abbrev pub PlansKeepGroups : Type 0

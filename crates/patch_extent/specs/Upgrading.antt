@@ -8,10 +8,10 @@ use Rattle.patch_model.specs.State.{entries_of}
 use Rattle.patch_frame.specs.declared.geometries.Geometry.{Geometry}
 use Rattle.patch_frame.specs.Superblock.{spelling}
 use Rattle.patch_cache.specs.Contents.{Contents}
-use Rattle.patch_cache.specs.Meaning.{Represents as IsCacheOf}
+use Rattle.patch_cache.specs.Meaning.{IsCacheOf}
 use Rattle.patch_recovery.specs.Change.{Widen, step_of, widened}
 use Rattle.patch_plans.specs.Extents.{Extents}
-use Rattle.patch_plans.specs.Meaning.{Represents}
+use Rattle.patch_plans.specs.Meaning.{AreExtentsOf}
 
 -- the step was made, and its patch has this number, which is the next one
 pub record IsStepped (step : Step) (old new : Contents) (made : ℕ) : Type 0 where
@@ -35,7 +35,7 @@ upgrade_step s = step_of s.geometry (record { change = Widen; after = [] })
 pub record IsUpgraded (s : Extents) (old : Contents) (now : Extents) (new : Contents) (made : ℕ) : Type 0 where
   pub stepped : IsStepped (upgrade_step s) old new made
   pub extents_are : now ≡ record s { geometry = widened s.geometry }
-  pub represents : (run : Execution) → Represents s run → Represents now (extended run (upgrade_step s))
+  pub represents : (run : Execution) → AreExtentsOf s run → AreExtentsOf now (extended run (upgrade_step s))
 
 -- or there was no memory, and nothing has changed
 abbrev pub AnswersUpgrade : Result ℕ OutOfMemory → (s : Extents) (old : Contents) (now : Extents) (new : Contents) → Type 0

@@ -4,7 +4,7 @@ ghost use Rattle.patch_model.specs.Execution.{Execution};
 ghost use Rattle.patch_model.specs.State.{entries_of};
 ghost use Rattle.patch_frame.specs.Geometry.{largest_pointer, pointer_block, pointer_start};
 ghost use Rattle.patch_frame.specs.Pointer.{Fits, spelling};
-ghost use Rattle.patch_cache.specs.Meaning.{Represents as IsCacheOf};
+ghost use Rattle.patch_cache.specs.Meaning.{IsCacheOf};
 ghost use Rattle.patch_extent.specs.declared.refusals.AppendRefusal.TheVariants as append;
 ghost use Rattle.patch_plans.specs.Extents.{offset_at};
 ghost use Rattle.patch_plans.specs.Planning.{touched};
@@ -16,14 +16,14 @@ ghost use Rattle.patch_extent.specs.Merging.{outcome_of};
 
 use crate::counting::count_patches;
 use crate::extents::Extents;
-use crate::parting::{copied, numbers_from, part_end, part_start, touched, with_one_more};
+use crate::parting::{numbers_from, part_end, part_start, touched, with_one_more};
 use crate::places::{Appended, MergeOutcome, Place};
 use crate::refusals::AppendRefusal;
 use patch_cache::{Cache, MergeRefusal};
 use patch_frame::{Pointer, laws as frame_laws, pointer_start, write_pointer};
 use patch_group::Groups;
 use patch_model::{
-    BLOCK, BlockNo, Bytes, Numbers, OutOfMemory, PatchNo, Undo, WriterNo, laws as model_laws,
+    BLOCK, BlockNo, Bytes, Names, OutOfMemory, PatchNo, Undo, WriterNo, laws as model_laws,
 };
 use std::alloc::Allocator;
 
@@ -54,7 +54,7 @@ impl<A: Allocator + Copy> Extents<A> {
         ensures refused_cache { IfErr result (λ refusal. refusal ≢ append.OutOfMemory → cache.new ≡ cache.old) }
     {
         self.why_not_appended(cache, extent, bytes.len(), after)?;
-        let bytes = copied(self.alloc, bytes)?;
+        let bytes = Bytes::from_slice(self.alloc, bytes)?;
         Ok(self.append_counted(cache, groups, writer, extent, bytes, after)?)
     }
 
@@ -168,7 +168,7 @@ impl<A: Allocator + Copy> Extents<A> {
         writer: &Option<WriterNo>,
         extent: u32,
         bytes: Bytes<A>,
-        names: Numbers<A>,
+        names: Names<A>,
     ) -> Result<(), OutOfMemory>
         requires some { 0 < length bytes }
         requires known { extent < self.now.geometry.extents }
@@ -202,7 +202,7 @@ impl<A: Allocator + Copy> Extents<A> {
         writer: &Option<WriterNo>,
         extent: u32,
         bytes: &[u8],
-        names: Numbers<A>,
+        names: Names<A>,
     ) -> Result<(), OutOfMemory>
         requires some { 0 < length bytes.now }
         requires known { extent < self.now.geometry.extents }
@@ -214,7 +214,7 @@ impl<A: Allocator + Copy> Extents<A> {
         let offset = self.each[extent as usize].pointer.offset;
         let last = touched(offset, bytes.len() as u32) - 1;
         for k in 0..last {
-            let same = copied(self.alloc, names.as_slice())?;
+            let same = names.copied(self.alloc)?;
             self.lay_part(cache, groups, writer, extent, bytes, k, same)?;
         }
         self.lay_part(cache, groups, writer, extent, bytes, last, names)?;
@@ -230,7 +230,7 @@ impl<A: Allocator + Copy> Extents<A> {
         extent: u32,
         bytes: &[u8],
         k: u32,
-        names: Numbers<A>,
+        names: Names<A>,
     ) -> Result<PatchNo, OutOfMemory>
         requires some { 0 < length bytes.now }
         requires known { extent < self.now.geometry.extents }
@@ -243,7 +243,7 @@ impl<A: Allocator + Copy> Extents<A> {
         let start = part_start(offset, k);
         let end = part_end(offset, bytes.len() as u32, k);
         let block = BlockNo(self.geometry.first_block(extent) + start / BLOCK as u32);
-        let part = copied(
+        let part = Bytes::from_slice(
             self.alloc,
             &bytes[(start - offset) as usize..(end - offset) as usize],
         )?;
@@ -266,7 +266,7 @@ impl<A: Allocator + Copy> Extents<A> {
         writer: &Option<WriterNo>,
         extent: u32,
         pointer: Pointer,
-        after: Numbers<A>,
+        after: Names<A>,
     ) -> Result<PatchNo, OutOfMemory>
         requires known { extent < self.now.geometry.extents }
         requires fits { Fits (largest_pointer self.now.geometry.format) pointer }
@@ -275,7 +275,7 @@ impl<A: Allocator + Copy> Extents<A> {
     {
         let block = BlockNo(self.geometry.pointer_block());
         let record = write_pointer(pointer);
-        let bytes = copied(self.alloc, &record)?;
+        let bytes = Bytes::from_slice(self.alloc, &record)?;
         let start = pointer_start(extent);
         lay(cache, groups, writer, block, start, bytes, after)
     }
@@ -290,7 +290,7 @@ fn lay<A: Allocator + Copy>(
     block: BlockNo,
     start: usize,
     bytes: Bytes<A>,
-    after: Numbers<A>,
+    after: Names<A>,
 ) -> Result<PatchNo, OutOfMemory>
     ensures { LaysPatch block start bytes writer.now after result groups.old cache.old groups.new cache.new }
 {

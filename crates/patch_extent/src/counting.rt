@@ -1,11 +1,10 @@
 //! The patches of a plan are counted before the first of them is made.
-ghost use Rattle.std.specs.Prelude.{◌≡◌, ◌<◌, Some, None, MatchResult, nat_le};
-ghost use Rattle.std.specs.List.{list_any};
+ghost use Rattle.std.specs.Prelude.{◌≡◌, ◌<◌, Some, None, MatchResult};
 ghost use Rattle.patch_extent.specs.Refusals.{count_cause};
 ghost use Rattle.patch_extent.specs.Refusing.{why_not_held};
 
 use patch_cache::Cache;
-use patch_model::{MAX_LIVE, MAX_PATCHES, PatchNo};
+use patch_model::{MAX_LIVE, MAX_PATCHES, Named, PatchNo};
 use std::alloc::Allocator;
 
 /// Why the patches of a plan can't all be made. The causes are tested in this order.
@@ -27,7 +26,7 @@ pub(crate) fn count_patches<A: Allocator + Copy>(
         (λ _. why_not_held cache.now after.now count ≡ None)
         (λ refusal. why_not_held cache.now after.now count ≡ Some (count_cause refusal)) }
 {
-    if names_unmade(cache.made(), after) {
+    if Named::Listed(after).has_unmade(cache.made()) {
         return Err(CountRefusal::UnknownDependency);
     }
     if cache.made() > MAX_PATCHES - count {
@@ -37,11 +36,4 @@ pub(crate) fn count_patches<A: Allocator + Copy>(
         return Err(CountRefusal::TooManyLive);
     }
     Ok(())
-}
-
-/// Whether one of the numbers isn't that of a patch, where so many were made.
-fn names_unmade(made: u32, numbers: &[PatchNo]) -> bool
-    ensures { result ≡ list_any (λ n. nat_le made n) numbers.now }
-{
-    numbers.iter().any(|no| no.0 >= made)
 }

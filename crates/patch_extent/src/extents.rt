@@ -1,8 +1,7 @@
 //! The extents of a disk, and how they are opened.
-ghost use Rattle.std.specs.Prelude.{true, ◌≡◌, ◌<◌, ◌≤◌, length, IfOk, MatchOption};
+ghost use Rattle.std.specs.Prelude.{true, false, ◌≡◌, ◌<◌, ◌≤◌, length, IfOk, MatchOption};
 ghost use Rattle.patch_frame.specs.Geometry.{IsGeometry, block_count};
 ghost use Rattle.patch_plans.specs.Extents.{generation_at, offset_at, empty_extents as the_empty_extents};
-ghost use Rattle.patch_frame.specs.Field.{are_zeros};
 ghost use Rattle.patch_recovery.specs.Change.{widened};
 ghost use Rattle.patch_extent.specs.Opening.{AreRecords, IsRecord, is_bad_record, has_bad_record, has_bad_pointers};
 ghost use Rattle.patch_extent.specs.Answers.{IsOpened};
@@ -10,7 +9,9 @@ ghost use Rattle.patch_extent.specs.Answers.{IsOpened};
 use crate::empties::EmptyExtents;
 use crate::refusals::ExtentsFault;
 use patch_cache::Cache;
-use patch_frame::{Format, Geometry, POINTER_BYTES, Pointer, pointer_start, read_pointer_within};
+use patch_frame::{
+    Format, Geometry, POINTER_BYTES, Pointer, is_zeros, pointer_start, read_pointer_within,
+};
 use patch_model::{BLOCK, BlockNo, OutOfMemory, laws as model_laws};
 use patch_plans::Extent;
 use std::alloc::{Allocator, Global};
@@ -30,9 +31,9 @@ pub struct Extents<A: Allocator + Copy = Global> {
 
 impl<A: Allocator + Copy> Model for Extents<A> {
     ghost use Rattle.std.specs.Prelude.{◌≡◌};
-    ghost use Rattle.patch_plans.specs.Extents.{Extents as Kept, AreWhole, empty_extents as the_empty_extents};
+    ghost use Rattle.patch_plans.specs.Extents.{Extents as ExtentsValue, AreWhole, empty_extents as the_empty_extents};
 
-    ghost Value = { Kept };
+    ghost Value = { ExtentsValue };
 
     ghost view = { λ s. record { geometry = s.geometry; each = s.each.items } };
 
@@ -51,10 +52,10 @@ impl<A: Allocator + Copy> Extents<A> {
     {
         model_laws::executions_are_orderly();
         let Ok(block) = cache.read(BlockNo(geometry.pointer_block()), 0, BLOCK) else {
-            // Never so: the disk has that block.
+            // Never so in a cache that represents an execution: the disk has that block. Of no other is anything promised.
             return Err(ExtentsFault::BadPointer);
         };
-        // Never so: a block has all its bytes.
+        // Nor is this ever so in such a cache, whose blocks have all their bytes.
         if block.len() < BLOCK {
             return Err(ExtentsFault::BadPointer);
         }
@@ -132,7 +133,7 @@ fn has_bad_record(block: &[u8], geometry: Geometry) -> bool
     false
 }
 
-/// The record of each extent, of which no patch is known. They were looked at before.
+/// The record of each extent, of which no patch is known. Each of them can be read, as was looked at before.
 fn read_records<A: Allocator>(
     alloc: A,
     block: &[u8],
@@ -140,13 +141,13 @@ fn read_records<A: Allocator>(
 ) -> Result<Vec<Extent, A>, OutOfMemory>
     requires geometry { IsGeometry geometry }
     requires long { BLOCK ≤ length block.now }
+    requires read { has_bad_record geometry block.now ≡ false }
     ensures { IfOk result (λ each. AreRecords geometry block.now each.items geometry.extents) }
 {
     let mut each = Vec::with_capacity(alloc, geometry.extents as usize)?;
     for extent in 0..geometry.extents {
         let Some(record) = read_record(block, geometry, extent) else {
-            // Never so: each of them can be read.
-            return Err(OutOfMemory);
+            unreachable!()
         };
         each.push(record)?;
     }
@@ -170,11 +171,4 @@ fn read_record(block: &[u8], geometry: Geometry, extent: u32) -> Option<Extent>
         }),
         Err(_) => None,
     }
-}
-
-/// Whether each of the bytes is zero.
-fn is_zeros(bytes: &[u8]) -> bool
-    ensures { result ≡ are_zeros bytes.now }
-{
-    bytes.iter().all(|byte| *byte == 0)
 }

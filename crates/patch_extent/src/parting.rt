@@ -3,7 +3,7 @@ ghost use Rattle.std.specs.Prelude.{◌≡◌, ◌+◌, ◌<◌, ◌≤◌, ◌^
 ghost use Rattle.std.specs.List.{range_with_len};
 ghost use Rattle.patch_plans.specs.Planning.{touched, part_start, part_end};
 
-use patch_model::{BLOCK, Items, Numbers, OutOfMemory, PatchNo};
+use patch_model::{BLOCK, Names, Numbers, OutOfMemory, PatchNo};
 use std::alloc::Allocator;
 
 const BLOCK_BYTES: u32 = BLOCK as u32;
@@ -41,15 +41,18 @@ pub(crate) fn with_one_more<A: Allocator>(
     alloc: A,
     numbers: &[PatchNo],
     last: &Option<PatchNo>,
-) -> Result<Numbers<A>, OutOfMemory>
+) -> Result<Names<A>, OutOfMemory>
     ensures { IfOk result (λ all. all ≡ numbers.now ++ option_to_list last.now) }
 {
+    if numbers.is_empty() {
+        return Ok(Names::of_some(*last, None, None));
+    }
     let mut all = Vec::with_capacity(alloc, numbers.len())?;
     all.extend_from_slice(numbers)?;
     if let Some(no) = last {
         all.push(*no)?;
     }
-    Ok(Numbers::from_vec(all))
+    Ok(Names::listed(Numbers::from_vec(all)))
 }
 
 /// So many numbers from this one on.
@@ -57,23 +60,16 @@ pub(crate) fn numbers_from<A: Allocator>(
     alloc: A,
     first: u32,
     count: u32,
-) -> Result<Numbers<A>, OutOfMemory>
+) -> Result<Names<A>, OutOfMemory>
     requires { first + count < 2 ^ 32 }
     ensures { IfOk result (λ all. all ≡ range_with_len first count) }
 {
+    if count == 1 {
+        return Ok(Names::of_some(Some(PatchNo(first)), None, None));
+    }
     let mut all = Vec::with_capacity(alloc, count as usize)?;
     for k in 0..count {
         all.push(PatchNo(first + k))?;
     }
-    Ok(Numbers::from_vec(all))
-}
-
-/// The same items again.
-pub(crate) fn copied<T: Copy, A: Allocator>(
-    alloc: A,
-    items: &[T],
-) -> Result<Items<T, A>, OutOfMemory>
-    ensures { IfOk result (λ copy. copy ≡ items.now) }
-{
-    Ok(Items::from_vec(Vec::from_slice(alloc, items)?))
+    Ok(Names::listed(Numbers::from_vec(all)))
 }

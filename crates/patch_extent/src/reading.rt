@@ -2,11 +2,11 @@
 ghost use Rattle.std.specs.Prelude.{◌≡◌, ◌+◌, ◌<◌, ◌≤◌, Some, None, OnOk, IfOk, IfErr};
 ghost use Rattle.patch_model.specs.Execution.{Execution};
 ghost use Rattle.patch_frame.specs.Geometry.{largest_pointer};
-ghost use Rattle.patch_cache.specs.Meaning.{Represents as IsCacheOf};
+ghost use Rattle.patch_cache.specs.Meaning.{IsCacheOf};
 ghost use Rattle.patch_cache.specs.Refusals.{IsCause};
 ghost use Rattle.patch_extent.specs.Refusals.{read_cause};
 ghost use Rattle.patch_extent.specs.Refusing.{why_not_read};
-ghost use Rattle.patch_plans.specs.Meaning.{Represents};
+ghost use Rattle.patch_plans.specs.Meaning.{AreExtentsOf};
 ghost use Rattle.patch_extent.specs.Answers.{cached_bytes};
 
 use crate::extents::Extents;
@@ -20,7 +20,7 @@ use std::alloc::Allocator;
 impl<A: Allocator + Copy> Extents<A> {
     /// The bytes of a place, as they are cached.
     pub fn read(&self, cache: &Cache<A>, place: Place) -> Result<Vec<u8, A>, ReadRefusal>
-        ensures bytes { (run : Execution) → IsCacheOf cache.now run → Represents self.now run → IfOk result (λ bytes.
+        ensures bytes { (run : Execution) → IsCacheOf cache.now run → AreExtentsOf self.now run → IfOk result (λ bytes.
             bytes.items ≡ cached_bytes self.now.geometry run place.extent place.offset place.len) }
         ensures allowed { OnOk result (why_not_read self.now place ≡ None) }
         ensures cause { IfErr result (λ refusal. IsCause (why_not_read self.now place) (read_cause refusal)) }
@@ -53,7 +53,7 @@ impl<A: Allocator + Copy> Extents<A> {
     fn read_span(&self, cache: &Cache<A>, place: Place) -> Result<Vec<u8, A>, OutOfMemory>
         requires known { place.extent < self.now.geometry.extents }
         requires within { place.offset + place.len ≤ largest_pointer self.now.geometry.format }
-        ensures { (run : Execution) → IsCacheOf cache.now run → Represents self.now run → IfOk result (λ bytes.
+        ensures { (run : Execution) → IsCacheOf cache.now run → AreExtentsOf self.now run → IfOk result (λ bytes.
             bytes.items ≡ cached_bytes self.now.geometry run place.extent place.offset place.len) }
     {
         model_laws::executions_are_orderly();
@@ -68,7 +68,7 @@ impl<A: Allocator + Copy> Extents<A> {
             let block = BlockNo(first + start / BLOCK as u32);
             match cache.read(block, start as usize % BLOCK, len as usize) {
                 Ok(part) => bytes.extend_from_slice(part)?,
-                // Never so: the extent lies on the disk.
+                // Never so in a cache of the same disk: the extent lies on it. Of no other is anything promised.
                 Err(_) => return Ok(bytes),
             }
         }

@@ -7,7 +7,7 @@ ghost use Rattle.patch_model.specs.State.{entries_of};
 ghost use Rattle.patch_frame.specs.Geometry.{largest_pointer, pointer_block, pointer_start};
 ghost use Rattle.patch_frame.specs.Pointer.{Fits, spelling};
 ghost use Rattle.patch_cache.specs.Creating.{IsMade};
-ghost use Rattle.patch_cache.specs.Meaning.{Represents as IsCacheOf};
+ghost use Rattle.patch_cache.specs.Meaning.{IsCacheOf};
 ghost use Rattle.patch_plans.specs.Groups.{Groups as TheGroups};
 ghost use Rattle.patch_plans.specs.Extents.{generation_at};
 ghost use Rattle.patch_extent.specs.Refusals.{reset_cause};

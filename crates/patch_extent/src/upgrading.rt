@@ -5,7 +5,7 @@ ghost use Rattle.patch_model.specs.Execution.{Execution};
 ghost use Rattle.patch_model.specs.State.{entries_of};
 ghost use Rattle.patch_frame.specs.declared.geometries.Format.TheVariants.{One};
 ghost use Rattle.patch_frame.specs.Geometry.{IsGeometry};
-ghost use Rattle.patch_cache.specs.Meaning.{Represents as IsCacheOf};
+ghost use Rattle.patch_cache.specs.Meaning.{IsCacheOf};
 ghost use Rattle.patch_plans.specs.Room.{why_no_room};
 ghost use Rattle.patch_extent.specs.Upgrading.{AnswersUpgrade, LaysVersion};
 

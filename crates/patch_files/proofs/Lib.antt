@@ -1,3 +1,4 @@
 pub mod Writers
+pub mod LineByLine
 pub mod Sending
 pub mod Unserved

@@ -18,9 +18,9 @@ use Rattle.patch_history.specs.Commands.{command_of, reply_told}
 use Rattle.patch_store.specs.Flushing.{HoldCached}
 use Rattle.patch_store.specs.Meaning.{Store}
 use Rattle.patch_store.specs.Opening.{IsOpened}
-use Rattle.patch_shared.specs.Kept.{IsKept, IsFresh, IsNew, run_of}
+use Rattle.patch_shared.specs.Books.{IsKept, IsFresh, IsNew, run_of}
 use Rattle.patch_shared.specs.Serving.{book_of}
-use Rattle.patch_shared.specs.Telling.{AreTold, IsSettled, commands_in, replies_in}
+use Rattle.patch_shared.specs.Conversations.{AreTold, IsSettled, commands_in, replies_in}
 use Rattle.patch_shared.specs.declared.serving.Finished.{Finished}
 use Rattle.patch_commands.specs.declared.commands.CommandLine.{CommandLine}
 use Rattle.patch_commands.specs.Reply.{reply_line}

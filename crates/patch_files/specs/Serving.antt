@@ -1,24 +1,20 @@
 -- A script of several writers, each served on a thread of its own.
-use Rattle.std.specs.Prelude.{ℕ, ◌≡◌, ◌==◌, List, Option, option_map, MatchOption, IfSome, length, map, filter, filter_map, flat_map, sum_by}
+use Rattle.std.specs.Prelude.{ℕ, ◌≡◌, ◌==◌, ◌++◌, ◌∷◌, [], List, Option, MatchOption, IfSome, length, map, filter, filter_map, flat_map, sum_by}
 use Rattle.std.specs.List.{range_with_len}
 use Rattle.std.specs.Io.KnownBytes.{Appends}
 use Rattle.patch_device.specs.SameDevice.{IsLasting}
 use Rattle.patch_device.specs.declared.devices.Device.{Ghosts}
 use Rattle.patch_history.specs.Command.{Command, Reply}
 use Rattle.patch_store.specs.Flushing.{HoldCached}
-use Rattle.patch_shared.specs.Kept.{Book, IsKept, run_of}
-use Rattle.patch_shared.specs.Telling.{AreTold, IsSettled}
+use Rattle.patch_shared.specs.Books.{Book, IsKept, run_of}
+use Rattle.patch_shared.specs.Conversations.{AreTold, IsSettled}
+use Rattle.patch_commands.specs.Asking.{command_on}
 use Rattle.patch_commands.specs.Reply.{reply_line}
 use Rattle.patch_commands.specs.Shared.{writer_of, shared_commands}
 use Rattle.patch_commands.specs.declared.commands.CommandLine.{CommandLine}
 use Rattle.patch_disks.specs.declared.endings.Status.{Status}
 use Rattle.patch_disks.specs.declared.endings.Status.TheVariants.{Done}
-use Rattle.patch_disks.specs.Answering.{call_of}
 use Rattle.patch_disks.specs.Reading.{HasLinesBy}
-
--- the command that a line asks for, where it asks for one
-abbrev pub command_on : CommandLine → Option Command
-command_on line = option_map (λ call. call.1) (call_of line)
 
 -- the commands of one writer, in the order of its lines
 abbrev pub commands_by : ℕ → List CommandLine → List Command
@@ -27,6 +23,11 @@ commands_by n lines = filter_map command_on (filter (λ line. writer_of line == 
 -- those of each of so many writers
 abbrev pub jobs_by : ℕ → List CommandLine → List (List Command)
 jobs_by writers lines = map (λ n. commands_by n lines) (range_with_len 0 writers)
+
+-- so many writers have the commands of these lines: with one line more they have those of all of them
+abbrev pub GainsLine : CommandLine → List (List Command) → List (List Command) → Type 0
+GainsLine line old new =
+    (lines : List CommandLine) → old ≡ jobs_by (length old) lines → new ≡ jobs_by (length old) (lines ++ line ∷ [])
 
 -- a line for each of a writer's replies
 abbrev pub replies_text : List Reply → List ℕ

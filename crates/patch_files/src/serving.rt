@@ -3,8 +3,8 @@ ghost use Rattle.std.specs.Prelude.{◌≡◌, ◌<◌, ◌≤◌, ℕ, List, ma
 ghost use Rattle.std.specs.Io.KnownBytes.{Appends};
 ghost use Rattle.patch_device.specs.SameDevice.{IsSameDevice};
 ghost use Rattle.patch_history.specs.Commands.{reply_told};
-ghost use Rattle.patch_shared.specs.Kept.{IsFresh, IsNew};
-ghost use Rattle.patch_shared.specs.Telling.{commands_in, replies_in};
+ghost use Rattle.patch_shared.specs.Books.{IsFresh, IsNew};
+ghost use Rattle.patch_shared.specs.Conversations.{commands_in, replies_in};
 ghost use Rattle.patch_commands.specs.Shared.{shared_commands};
 ghost use Rattle.patch_commands.specs.declared.commands.CommandLine.{CommandLine as TheLine};
 ghost use Rattle.patch_disks.specs.Going.{StillLasts};
@@ -144,7 +144,7 @@ fn finish<W: Output, D: Device + Drop>(
 fn prepare<D: Device>(
     alloc: Global,
     device: &mut D,
-    lines: &[CommandLine],
+    lines: Vec<CommandLine>,
     writers: u32,
 ) -> Result<(Store, Vec<Vec<Command>>), Stop>
     ensures device { IsSameDevice D.Device device.old device.new }
@@ -152,7 +152,7 @@ fn prepare<D: Device>(
     ensures no_moment { D.moment device.new ≡ D.moment device.old }
     ensures new { IfOk result (λ ready. IsNew ready.0) }
     ensures opened { D.is_honest device.old → IfOk result (λ ready. IsFresh ready.0 (D.contents device.old)) }
-    ensures jobs { IfOk result (λ ready. commands_in ready.1.items ≡ jobs_by writers lines.now) }
+    ensures jobs { IfOk result (λ ready. commands_in ready.1.items ≡ jobs_by writers lines.items) }
     ensures count { IfOk result (λ ready. vec_len ready.1 ≡ writers) }
 {
     let jobs = jobs_of(alloc, lines, writers)?;
@@ -198,7 +198,7 @@ fn serve_lines<W: Output, D: Device + Drop + Send, T: Threads + Wait + Sync>(
         HasServed writers lines.items (W.contents writer.old.inner) (W.contents writer.new.inner) (D.contents device) (D.contents now)) }
     ensures back { IfErr result (IsUnserved D.Device device) }
 {
-    match prepare(alloc, &mut device, lines.as_slice(), writers) {
+    match prepare(alloc, &mut device, lines, writers) {
         Ok((store, jobs)) => serve_jobs(rt, alloc, writer, store, device, jobs),
         Err(why) => Err(Unserved {
             why,
@@ -278,7 +278,7 @@ where
     ensures served { OnOk result (HasServedOnOne ⟦<FileDevice<F> as Device>⟧ writers lines.items
         (W.contents writer.old.inner) (W.contents writer.new.inner)) }
 {
-    let jobs = jobs_of(alloc, lines.as_slice(), writers)?;
+    let jobs = jobs_of(alloc, lines, writers)?;
     let (device, store) = open_file_to_read(rt, alloc, path, barriers)?;
     match serve_jobs(rt, alloc, writer, store, device, jobs) {
         Ok(device) => {

@@ -3,9 +3,11 @@ use Rattle.std.specs.Prelude.{ℕ, ◌+◌, ◌-◌, ◌<◌, ◌≤◌, ◌^◌
 use Rattle.std.specs.Int.{w16, w32, to_be_bytes, from_be_bytes}
 use Rattle.patch_frame.specs.declared.faults.FrameFault.{FrameFault}
 use Rattle.patch_frame.specs.declared.faults.FrameFault.TheVariants.{BadMagic, BadKey, BadValue, NotZero}
+use Rattle.patch_frame.specs.declared.framing.TheConstants.{MAX_KEY, MIN_FRAME}
 use Rattle.patch_frame.specs.declared.slots.Slot.{Slot}
 use Rattle.patch_frame.specs.declared.slots.SlotState.{SlotState}
 use Rattle.patch_frame.specs.declared.slots.SlotState.TheVariants.{Empty, Used}
+use Rattle.patch_frame.specs.declared.slots.TheConstants.{SLOT_BYTES, SLOT_KEY_START}
 use Rattle.patch_frame.specs.Field.{zeros, are_zeros, outcome}
 
 -- what a used slot says
@@ -27,11 +29,11 @@ fields (Used slot) = Some (used_fields slot)
 -- a key has 1 to 32 bytes, and a frame 17 to longest
 pub record FitsUsed (longest : ℕ) (s : SlotFields) : Type 0 where
   pub some_key : 0 < length s.key
-  pub short_key : length s.key ≤ 32
+  pub short_key : length s.key ≤ MAX_KEY
   pub extent : s.extent < 2 ^ 16
   pub generation : s.generation < 2 ^ 32
   pub offset : s.offset < 2 ^ 32
-  pub some_frame : 17 ≤ s.length
+  pub some_frame : MIN_FRAME ≤ s.length
   pub short_frame : s.length ≤ longest
 
 abbrev pub Fits : ℕ → Option SlotFields → Type 0
@@ -47,10 +49,10 @@ used_spelling s =
     ++ to_be_bytes w32 s.offset
     ++ to_be_bytes w32 s.length
     ++ s.key
-    ++ zeros (48 - length s.key)
+    ++ zeros (SLOT_BYTES - SLOT_KEY_START - length s.key)
 
 abbrev pub spelling : Option SlotFields → List ℕ
-spelling None = zeros 64
+spelling None = zeros SLOT_BYTES
 spelling (Some s) = used_spelling s
 
 -- The same the other way: what stands where.
@@ -61,14 +63,14 @@ abbrev pub key_length : List ℕ → ℕ
 key_length bytes = slice_index bytes 1
 
 abbrev pub key_end : List ℕ → ℕ
-key_end bytes = 16 + key_length bytes
+key_end bytes = SLOT_KEY_START + key_length bytes
 
 abbrev pub frame_length : List ℕ → ℕ
 frame_length bytes = from_be_bytes w32 (slice_range bytes 12 16)
 
 abbrev pub fields_of : List ℕ → SlotFields
 fields_of bytes = record {
-  key = slice_range bytes 16 (key_end bytes);
+  key = slice_range bytes SLOT_KEY_START (key_end bytes);
   extent = from_be_bytes w16 (slice_range bytes 2 4);
   generation = from_be_bytes w32 (slice_range bytes 4 8);
   offset = from_be_bytes w32 (slice_range bytes 8 12);
@@ -83,9 +85,9 @@ empty_tests bytes = (not (are_zeros bytes), NotZero) ∷ []
 abbrev pub used_tests : ℕ → List ℕ → List (Bool × FrameFault)
 used_tests longest bytes =
     (nat_lt 1 (state bytes), BadMagic)
-    ∷ (key_length bytes == 0 || nat_lt 32 (key_length bytes), BadKey)
-    ∷ (not (are_zeros (slice_range bytes (key_end bytes) 64)), NotZero)
-    ∷ (nat_lt (frame_length bytes) 17 || nat_lt longest (frame_length bytes), BadValue)
+    ∷ (key_length bytes == 0 || nat_lt MAX_KEY (key_length bytes), BadKey)
+    ∷ (not (are_zeros (slice_range bytes (key_end bytes) SLOT_BYTES)), NotZero)
+    ∷ (nat_lt (frame_length bytes) MIN_FRAME || nat_lt longest (frame_length bytes), BadValue)
     ∷ []
 
 -- what the 64 bytes are, with a frame of at most longest bytes

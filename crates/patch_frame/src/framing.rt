@@ -17,6 +17,15 @@ pub const MAX_KEY: usize = 32;
 /// The most bytes of a value, on whatever disk. How many may be put on a given one is said by its format.
 pub const MAX_VALUE: u32 = 131_072;
 
+/// How many bytes of a frame stand before its key: a mark, the length of the key, zeros, and the length of the value.
+pub const KEY_START: u32 = 12;
+
+/// How many bytes a frame has beside its key and its value.
+pub const OVERHEAD: u32 = 16;
+
+/// How many bytes the shortest frames have, those of a key of one byte and of no value.
+pub const MIN_FRAME: u32 = 17;
+
 const BEGIN: [u8; 4] = *b"FCH1";
 
 const END: [u8; 4] = *b"1HCF";
@@ -35,7 +44,7 @@ pub fn encode<A: Allocator>(alloc: A, key: &[u8], value: &[u8]) -> Result<Vec<u8
     requires { Fits MAX_VALUE (record { key = key.now; value = value.now }) }
     ensures { IfOk result (λ bytes. bytes.items ≡ spelling (record { key = key.now; value = value.now })) }
 {
-    let mut out = Vec::with_capacity(alloc, 16 + key.len() + value.len())?;
+    let mut out = Vec::with_capacity(alloc, OVERHEAD as usize + key.len() + value.len())?;
     out.extend_from_slice(&BEGIN)?;
     out.push(key.len() as u8)?;
     push_zeros(&mut out, 3)?;
@@ -84,7 +93,8 @@ fn frame_of(bytes: &[u8], limit: u32) -> Result<Frame<'_>, FrameFault>
     ensures within { IfOk result (λ frame. frame.length ≤ length bytes.now) }
     ensures exact { Gives content result (frame_at limit bytes.now) }
 {
-    if bytes.len() < 12 {
+    let start = KEY_START as usize;
+    if bytes.len() < start {
         return Err(FrameFault::Short);
     }
     if &bytes[..4] != BEGIN.as_slice() {
@@ -101,7 +111,7 @@ fn frame_of(bytes: &[u8], limit: u32) -> Result<Frame<'_>, FrameFault>
     if value > limit {
         return Err(FrameFault::BadValue);
     }
-    let end = 12 + key + value as usize;
+    let end = start + key + value as usize;
     if bytes.len() < end + 4 {
         return Err(FrameFault::Short);
     }
@@ -109,8 +119,8 @@ fn frame_of(bytes: &[u8], limit: u32) -> Result<Frame<'_>, FrameFault>
         return Err(FrameFault::BadMagic);
     }
     Ok(Frame {
-        key: &bytes[12..12 + key],
-        value: &bytes[12 + key..end],
+        key: &bytes[start..start + key],
+        value: &bytes[start + key..end],
         length: end + 4,
     })
 }

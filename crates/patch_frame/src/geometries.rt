@@ -3,7 +3,7 @@ ghost use Rattle.std.specs.Prelude.{◌≡◌, ◌↔◌, ◌+◌, ◌<◌, ◌�
 ghost use Rattle.patch_frame.specs.Geometry.{version_of, extent_blocks, largest_pointer, value_limit, longest_frame, slot_count, slot_block, slot_start};
 ghost use Rattle.patch_frame.specs.Geometry.{pointer_block, pointer_start, first_block, block_count, is_format, is_geometry, IsFormat, IsGeometry};
 
-use crate::framing::MAX_VALUE;
+use crate::framing::{MAX_KEY, MAX_VALUE, OVERHEAD};
 use crate::pointers::POINTER_BYTES;
 use crate::slots::{MAX_FRAME, SLOT_BYTES};
 use patch_model::{BLOCK, MAX_BLOCKS};
@@ -20,7 +20,7 @@ const MAX_EXTENTS: u32 = 254;
 const SLOTS_PER_BLOCK: u32 = 64;
 
 // How many bytes a frame has beside its value, where its key is a longest one.
-const MAX_OVERHEAD: u32 = 48;
+const MAX_OVERHEAD: u32 = OVERHEAD + MAX_KEY as u32;
 
 /// The version of a disk, with what only that version says.
 #[derive(Clone, Copy, Debug, PartialEq, Eq)]

@@ -15,8 +15,11 @@ mod runs;
 mod slots;
 mod superblock;
 
+pub use bytes::is_zeros;
 pub use faults::FrameFault;
-pub use framing::{Frame, MAX_KEY, MAX_VALUE, decode, decode_within, encode};
+pub use framing::{
+    Frame, KEY_START, MAX_KEY, MAX_VALUE, MIN_FRAME, OVERHEAD, decode, decode_within, encode,
+};
 pub use geometries::{Format, Geometry, pointer_start, slot_block, slot_start};
 pub use pointers::{
     MAX_POINTER, POINTER_BYTES, Pointer, read_pointer, read_pointer_within, write_pointer,

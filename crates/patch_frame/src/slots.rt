@@ -7,7 +7,7 @@ ghost use Rattle.patch_frame.specs.Slot.{SlotFields, fields, used_fields, Fits, 
 
 use crate::bytes::{is_zeros, push_zeros, u16_at, u32_at};
 use crate::faults::FrameFault;
-use crate::framing::MAX_KEY;
+use crate::framing::{MAX_KEY, MIN_FRAME};
 use crate::geometries::Format;
 use patch_model::OutOfMemory;
 use std::alloc::Allocator;
@@ -18,11 +18,8 @@ pub const SLOT_BYTES: usize = 64;
 /// The longest frame that any slot names, on whatever disk.
 pub const MAX_FRAME: u32 = 131_120;
 
-// A frame has a key of one byte at least.
-const MIN_FRAME: u32 = 17;
-
-// Where in a slot its key begins.
-const KEY_START: usize = 16;
+/// How many bytes of a slot stand before its key.
+pub const SLOT_KEY_START: usize = 16;
 
 /// What a used slot says: the frame with the key's value is there.
 #[derive(Clone, Copy, Debug, PartialEq, Eq)]
@@ -88,7 +85,7 @@ fn slot_of(bytes: &[u8], longest: u32) -> Result<SlotState<'_>, FrameFault>
     if key == 0 || key > MAX_KEY {
         return Err(FrameFault::BadKey);
     }
-    if !is_zeros(&bytes[KEY_START + key..SLOT_BYTES]) {
+    if !is_zeros(&bytes[SLOT_KEY_START + key..SLOT_BYTES]) {
         return Err(FrameFault::NotZero);
     }
     let length = u32_at(bytes, 12);
@@ -96,7 +93,7 @@ fn slot_of(bytes: &[u8], longest: u32) -> Result<SlotState<'_>, FrameFault>
         return Err(FrameFault::BadValue);
     }
     Ok(SlotState::Used(Slot {
-        key: &bytes[KEY_START..KEY_START + key],
+        key: &bytes[SLOT_KEY_START..SLOT_KEY_START + key],
         extent: u16_at(bytes, 2),
         generation: u32_at(bytes, 4),
         offset: u32_at(bytes, 8),
@@ -117,7 +114,7 @@ pub fn write_slot<A: Allocator>(alloc: A, slot: &SlotState<'_>) -> Result<Vec<u8
 }
 
 fn empty_bytes<A: Allocator>(alloc: A) -> Result<Vec<u8, A>, OutOfMemory>
-    ensures { IfOk result (λ bytes. bytes.items ≡ zeros 64) }
+    ensures { IfOk result (λ bytes. bytes.items ≡ zeros SLOT_BYTES) }
 {
     let mut out = Vec::with_capacity(alloc, SLOT_BYTES)?;
     push_zeros(&mut out, SLOT_BYTES)?;
@@ -135,6 +132,6 @@ fn used_bytes<A: Allocator>(alloc: A, slot: &Slot<'_>) -> Result<Vec<u8, A>, Out
     out.extend_from_slice(&slot.offset.to_be_bytes())?;
     out.extend_from_slice(&slot.length.to_be_bytes())?;
     out.extend_from_slice(slot.key)?;
-    push_zeros(&mut out, SLOT_BYTES - KEY_START - slot.key.len())?;
+    push_zeros(&mut out, SLOT_BYTES - SLOT_KEY_START - slot.key.len())?;
     Ok(out)
 }

@@ -1,9 +1,9 @@
 -- A graph of no patches.
 use Rattle.std.proofs.Common.{[], refl, arith}
-use Rattle.patch_graph.specs.Meaning.{Represents}
+use Rattle.patch_graph.specs.Meaning.{IsGraphOf}
 use Rattle.patch_graph.specs.State.{KeysFit}
 
-pub begins : Represents (record { made = 0; slots = []; numbers = []; tops = [] }) []
+pub begins : IsGraphOf (record { made = 0; slots = []; numbers = []; tops = [] }) []
 begins = record {
   orderly = record {
     rising = tt;

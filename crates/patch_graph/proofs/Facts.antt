@@ -7,7 +7,7 @@ use Rattle.patch_model.specs.Ready.{IsRising}
 use Rattle.patch_model.specs.Orderly.{IsOrderly, IsNumbered}
 use Rattle.patch_model.specs.Member.{In, In-from_Contains, Contains-from_In}
 use Rattle.patch_graph.specs.State.{Graph}
-use Rattle.patch_graph.specs.Meaning.{Represents}
+use Rattle.patch_graph.specs.Meaning.{IsGraphOf}
 
 pub record IsOrdered (all : List Entry) : Type 0 where
   pub numbers : (e f : Entry) → In all e → In all f → e.patch.no ≡ f.patch.no → e ≡ f
@@ -38,5 +38,5 @@ ordered all o n = record {
   flight = λ e f i j d t. (o.under e f (Contains-from_In all e i) (Contains-from_In all f j) d).flight t;
 }
 
-pub known : (g : Graph) (all : List Entry) → Represents g all → IsOrdered all
+pub known : (g : Graph) (all : List Entry) → IsGraphOf g all → IsOrdered all
 known g all r = ordered all r.orderly r.numbered

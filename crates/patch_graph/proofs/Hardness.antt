@@ -5,7 +5,7 @@ use Rattle.patch_model.specs.Entry.{Entry}
 use Rattle.patch_model.specs.Member.{Contains-from_In}
 use Rattle.patch_links.specs.State.{Class, class_at, leads}
 use Rattle.patch_graph.specs.State.{Graph}
-use Rattle.patch_graph.specs.Meaning.{Leads, one, onward, Represents}
+use Rattle.patch_graph.specs.Meaning.{Leads, one, onward, IsGraphOf}
 use Rattle.patch_graph.proofs.ReadySet.{class_same}
 use Rattle.patch_graph.proofs.Reaching.{target, one-key}
 
@@ -13,7 +13,7 @@ use Rattle.patch_graph.proofs.Reaching.{target, one-key}
 abbrev pub IsHardOf : ℕ → Class → Type 0
 IsHardOf block c = (c.hard ≡ true) × (c.block ≡ block)
 
-module _ (g : Graph) (all : List Entry) (r : Represents g all) (block : ℕ) where
+module _ (g : Graph) (all : List Entry) (r : IsGraphOf g all) (block : ℕ) where
   hard-below : (k j : ℕ) (c d : Class) → class_at g.slots k ≡ Some c → class_at g.slots j ≡ Some d → leads g.numbers c j ≡ true → IsHardOf block c → IsHardOf block d
   hard-below k j c d at at2 led h =
       let w = target g all r c j led in

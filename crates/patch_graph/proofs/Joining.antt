@@ -8,7 +8,7 @@ use Rattle.patch_model.specs.Member.{In}
 use Rattle.patch_links.specs.State.{Class, Links, Slots, Numbers, find, class_at}
 use Rattle.patch_links.specs.Merging.{HasJoined, may_join, may_join_at}
 use Rattle.patch_graph.specs.State.{Graph, KeysFit}
-use Rattle.patch_graph.specs.Meaning.{Represents}
+use Rattle.patch_graph.specs.Meaning.{IsGraphOf}
 use Rattle.patch_graph.specs.Merging.{AreOfOneBlock, CantBeOne, may_be_one}
 
 -- a class that passes the test
@@ -81,7 +81,7 @@ pair-of all a b m n same e f = record {
 }
 
 -- so it is where its class is at the key
-in-memory : (g : Graph) (all : List Entry) → Represents g all → (n key : ℕ) (c : Class) → find g.numbers n ≡ Some key → class_at g.slots key ≡ Some c → marks_memory c.mark ≡ true → IsInMemory all n c.block
+in-memory : (g : Graph) (all : List Entry) → IsGraphOf g all → (n key : ℕ) (c : Class) → find g.numbers n ≡ Some key → class_at g.slots key ≡ Some c → marks_memory c.mark ≡ true → IsInMemory all n c.block
 in-memory g all r n key c at here memory =
     let l = r.live n key at in
     let f = r.found l.0 l.1 l.3 in
@@ -93,14 +93,14 @@ in-memory g all r n key c at here memory =
     (l.0, l.1, l.2, ap marks_memory looks.0 ∙ memory, looks.1)
 
 -- numbers whose keys are of two such classes are of patches in memory, of one block
-of-classes : (g : Graph) (all : List Entry) (a b k j : ℕ) (c d : Class) → Represents g all → find g.numbers a ≡ Some k → find g.numbers b ≡ Some j
+of-classes : (g : Graph) (all : List Entry) (a b k j : ℕ) (c d : Class) → IsGraphOf g all → find g.numbers a ≡ Some k → find g.numbers b ≡ Some j
     → class_at g.slots k ≡ Some c → class_at g.slots j ≡ Some d → may_join c d ≡ true → AreOfOneBlock all a b
 of-classes g all a b k j c d r fa fb at there t =
     let outer = and_parts (marks_memory c.mark && marks_memory d.mark) (c.block == d.block) t in
     let inner = and_parts (marks_memory c.mark) (marks_memory d.mark) outer.0 in
     pair-of all a b c.block d.block (eqb-true c.block d.block outer.1) (in-memory g all r a k c fa at inner.0) (in-memory g all r b j d fb there inner.1)
 
-of-keys : (g : Graph) (all : List Entry) (a b k j : ℕ) → Represents g all → find g.numbers a ≡ Some k → find g.numbers b ≡ Some j → may_join_at k j g.slots ≡ true → AreOfOneBlock all a b
+of-keys : (g : Graph) (all : List Entry) (a b k j : ℕ) → IsGraphOf g all → find g.numbers a ≡ Some k → find g.numbers b ≡ Some j → may_join_at k j g.slots ≡ true → AreOfOneBlock all a b
 of-keys g all a b k j r fa fb t =
     let parts = and_parts (not (k == j)) (option_map_or (λ c. option_map_or (may_join c) (class_at g.slots j) false) (class_at g.slots k) false) t in
     let c = at-test g.slots k (λ c. option_map_or (may_join c) (class_at g.slots j) false) parts.1 in
@@ -113,11 +113,11 @@ led numbers n test h = elim (find numbers n) as (λ o. option_map_or test o fals
   | None ↦ λ u. absurd (cc)
 ] h
 
-one-block : (g : Graph) (all : List Entry) (a b : ℕ) → Represents g all → may_be_one g.slots g.numbers a b ≡ true → AreOfOneBlock all a b
+one-block : (g : Graph) (all : List Entry) (a b : ℕ) → IsGraphOf g all → may_be_one g.slots g.numbers a b ≡ true → AreOfOneBlock all a b
 one-block g all a b r t =
     let k = led g.numbers a (λ k. option_map_or (λ j. may_join_at k j g.slots) (find g.numbers b) false) t in
     let j = led g.numbers b (λ j. may_join_at k.0 j g.slots) k.2 in
     of-keys g all a b k.0 j.0 r k.1 j.1 j.2
 
-pub none-to-join : (g : Graph) (all : List Entry) (a b : ℕ) → Represents g all → CantBeOne all a b → may_be_one g.slots g.numbers a b ≡ false
+pub none-to-join : (g : Graph) (all : List Entry) (a b : ℕ) → IsGraphOf g all → CantBeOne all a b → may_be_one g.slots g.numbers a b ≡ false
 none-to-join g all a b r off = false_from_ne_true _ (λ t. off (one-block g all a b r t))

@@ -9,7 +9,7 @@ use Rattle.patch_model.proofs.Rings.{Path-append}
 use Rattle.patch_links.specs.State.{Class, find, class_at}
 use Rattle.patch_graph.specs.State.{Graph, KeysFit}
 use Rattle.patch_graph.specs.Marks.{is_marked, AreClear, HoldsMarked}
-use Rattle.patch_graph.specs.Meaning.{Leads, one, onward, IsLiveClass, Represents}
+use Rattle.patch_graph.specs.Meaning.{Leads, one, onward, IsLiveClass, IsGraphOf}
 use Rattle.patch_graph.specs.Search.{depends_at, steps, IsReachable}
 use Rattle.patch_graph.specs.declared.searching.Way.TheVariants.{Up, Among}
 use Rattle.patch_graph.specs.Between.{lies, IsLeastOf, HasNoRing, IsLeastBetween}
@@ -28,7 +28,7 @@ lies-parts met dead from to k t =
 lies-from : (met dead : List Bool) (from to k : ℕ) → AreClear dead → is_marked met k ≡ true → (not (k == from) && not (k == to)) ≡ true → lies met dead from to k ≡ true
 lies-from met dead from to k none t u = and_from _ _ (and_from _ _ t (ap not (none k))) u
 
-module _ (g : Graph) (all : List Entry) (r : Represents g all) where
+module _ (g : Graph) (all : List Entry) (r : IsGraphOf g all) where
   -- no two classes lead to each other
   apart : HasNoRing all → (k j : ℕ) (c d : Class) → class_at g.slots k ≡ Some c → class_at g.slots j ≡ Some d → k ≢ j → Leads g.slots g.numbers k j → Leads g.slots g.numbers j k → ⊥
   apart no_ring k j c d at at2 other out back =
@@ -113,7 +113,7 @@ module _ (g : Graph) (all : List Entry) (r : Represents g all) where
           let e = k.4 in omega arith,
     )
 
-pub above_is : (g : Graph) (all : List Entry) (a b x y from to : ℕ) (keys : List ℕ) (marks : Bor (List Bool)) (met dead : List Bool) (o : Option ℕ) → AreClear dead → Represents g all → HasNoRing all → KeysFit g.slots (length marks.now) → KeysFit g.slots (length met)
+pub above_is : (g : Graph) (all : List Entry) (a b x y from to : ℕ) (keys : List ℕ) (marks : Bor (List Bool)) (met dead : List Bool) (o : Option ℕ) → AreClear dead → IsGraphOf g all → HasNoRing all → KeysFit g.slots (length marks.now) → KeysFit g.slots (length met)
     → IsLiveClass all a x → IsLiveClass all b y → find g.numbers a ≡ Some from → find g.numbers b ≡ Some to → HoldsMarked met keys
     → IsReachable (steps g.slots g.numbers Up) to (length marks.now) marks.now → IsReachable (steps g.slots g.numbers (Among marks)) from to met
     → IsLeastOf g.slots (lies met dead from to) keys (length keys) o → IsLeastBetween all x y o
@@ -123,7 +123,7 @@ above_is g all a b x y from to keys marks met dead o none r no_ring low wide la 
     least-lies g all r x y from to qa.0 qb.0 keys marks met dead none low wide no_ring held qa.1 qb.1 (qa.2 ∙ la.4) (qb.2 ∙ lb.4) up down o least
 
 -- where no path leads from the one class to the other, nothing lies between
-pub never_reached : (g : Graph) (all : List Entry) (a b x y from to : ℕ) (marks : List Bool) → Represents g all → KeysFit g.slots (length marks) → IsLiveClass all a x → IsLiveClass all b y
+pub never_reached : (g : Graph) (all : List Entry) (a b x y from to : ℕ) (marks : List Bool) → IsGraphOf g all → KeysFit g.slots (length marks) → IsLiveClass all a x → IsLiveClass all b y
     → find g.numbers a ≡ Some from → find g.numbers b ≡ Some to → IsReachable (steps g.slots g.numbers Up) to (length marks) marks → is_marked marks from ≡ false → IsLeastBetween all x y None
 never_reached g all a b x y from to marks r low la lb fa fb up off m between =
     let qa = placed g all r la.0 from la.1 (ap (find g.numbers) la.2 ∙ fa) in

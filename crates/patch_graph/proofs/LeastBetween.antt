@@ -12,7 +12,7 @@ use Rattle.patch_links.specs.State.{Class, Slots, find, class_at}
 use Rattle.patch_graph.specs.State.{Graph, KeysFit}
 use Rattle.patch_graph.specs.Marks.{is_marked, AreClear, HoldsMarked}
 use Rattle.patch_links.specs.Ready.{Escapes, out, on, IsLargestMet}
-use Rattle.patch_graph.specs.Meaning.{Leads, one, onward, DependsOn, IsLiveClass, Represents}
+use Rattle.patch_graph.specs.Meaning.{Leads, one, onward, DependsOn, IsLiveClass, IsGraphOf}
 use Rattle.patch_graph.specs.Search.{steps, IsReachable}
 use Rattle.patch_graph.specs.declared.searching.Way.TheVariants.{Down}
 use Rattle.patch_graph.specs.Between.{lies, lesser, name_if, IsLeastOf, AreWithout, HasNoRing, is_newest, IsLeastBetween}
@@ -29,7 +29,7 @@ pub record IsPartWithout (to : ℕ) (marks : List Bool) (keys : List ℕ) (old r
   pub long : length rest ≡ length old
 
 -- what escapes from the marks without one key leads to that key
-pub escapes-leads : (g : Graph) (all : List Entry) (r : Represents g all) (from to : ℕ) (marks : List Bool) (start : ℕ → Bool) → IsReachable (steps g.slots g.numbers Down) from to marks → KeysFit g.slots (length marks)
+pub escapes-leads : (g : Graph) (all : List Entry) (r : IsGraphOf g all) (from to : ℕ) (marks : List Bool) (start : ℕ → Bool) → IsReachable (steps g.slots g.numbers Down) from to marks → KeysFit g.slots (length marks)
     → ((key : ℕ) → start key ≡ (is_marked marks key && not (key == to))) → (k : ℕ) → start k ≡ true → Escapes g.slots g.numbers start k → Leads g.slots g.numbers k to
 escapes-leads g all r from to marks start s low is k m (out {j = j} c at t u) =
     let m1 = and_parts (is_marked marks k) (not (k == to)) (sym (is k) ∙ m) in
@@ -175,7 +175,7 @@ without-all to marks keys old rest upto all held p key = elim (cases_Bool (is_ma
 pub without-held : (to : ℕ) (marks : List Bool) (keys : List ℕ) (rest : List Bool) → HoldsMarked marks keys → AreWithout to marks rest → HoldsMarked rest keys
 without-held to marks keys rest held w key t = held key (and_parts (is_marked marks key) (not (key == to)) (sym (w key) ∙ t)).0
 
-module _ (g : Graph) (all : List Entry) (r : Represents g all) where
+module _ (g : Graph) (all : List Entry) (r : IsGraphOf g all) where
   module _ (x y from to : ℕ) (cx cy : Class) (keys : List ℕ) (marks old rest : List Bool) (low : KeysFit g.slots (length marks)) (no_ring : HasNoRing all) (held : HoldsMarked marks keys)
       (ax : class_at g.slots from ≡ Some cx) (ay : class_at g.slots to ≡ Some cy) (nx : cx.name ≡ x) (ny : cy.name ≡ y)
       (s : IsReachable (steps g.slots g.numbers Down) from to marks) (w : AreWithout to marks old) (l : IsLargestMet g.slots g.numbers (is_marked old) (is_marked rest)) where
@@ -240,7 +240,7 @@ module _ (g : Graph) (all : List Entry) (r : Represents g all) where
           let e = k.4 in omega arith,
     )
 
-pub between_is : (g : Graph) (all : List Entry) (a b x y from to : ℕ) (keys : List ℕ) (marks old rest : List Bool) (o : Option ℕ) → Represents g all → HasNoRing all → KeysFit g.slots (length marks)
+pub between_is : (g : Graph) (all : List Entry) (a b x y from to : ℕ) (keys : List ℕ) (marks old rest : List Bool) (o : Option ℕ) → IsGraphOf g all → HasNoRing all → KeysFit g.slots (length marks)
     → IsLiveClass all a x → IsLiveClass all b y → find g.numbers a ≡ Some from → find g.numbers b ≡ Some to → HoldsMarked marks keys
     → IsReachable (steps g.slots g.numbers Down) from to marks → AreWithout to marks old → IsLargestMet g.slots g.numbers (is_marked old) (is_marked rest)
     → IsLeastOf g.slots (lies marks rest from to) keys (length keys) o → IsLeastBetween all x y o
@@ -250,7 +250,7 @@ between_is g all a b x y from to keys marks old rest o r no_ring low la lb fa fb
     least-lies g all r x y from to qa.0 qb.0 keys marks old rest low no_ring held qa.1 qb.1 (qa.2 ∙ la.4) (qb.2 ∙ lb.4) s w l o least
 
 -- where the one class isn't reached from the other, nothing lies between
-pub unreached_is : (g : Graph) (all : List Entry) (a b x y from to : ℕ) (marks : List Bool) → Represents g all → KeysFit g.slots (length marks) → IsLiveClass all a x → IsLiveClass all b y
+pub unreached_is : (g : Graph) (all : List Entry) (a b x y from to : ℕ) (marks : List Bool) → IsGraphOf g all → KeysFit g.slots (length marks) → IsLiveClass all a x → IsLiveClass all b y
     → find g.numbers a ≡ Some from → find g.numbers b ≡ Some to → IsReachable (steps g.slots g.numbers Down) from to marks → is_marked marks to ≡ false → IsLeastBetween all x y None
 unreached_is g all a b x y from to marks r low la lb fa fb s off m between =
     let qa = placed g all r la.0 from la.1 (ap (find g.numbers) la.2 ∙ fa) in
@@ -265,7 +265,7 @@ last-step all a b (one_path t) = (a, from-depends all a b t)
 last-step all a b (onward_path {b = m} t p) = last-step all m b p
 
 -- nothing depends on the class of the last number
-pub newest_is : (g : Graph) (all : List Entry) (b x y to : ℕ) → Represents g all → IsLiveClass all b y → find g.numbers b ≡ Some to → is_newest g.slots to g.made ≡ true → IsLeastBetween all x y None
+pub newest_is : (g : Graph) (all : List Entry) (b x y to : ℕ) → IsGraphOf g all → IsLiveClass all b y → find g.numbers b ≡ Some to → is_newest g.slots to g.made ≡ true → IsLeastBetween all x y None
 newest_is g all b x y to r lb fb t m between =
     let q = placed g all r lb.0 to lb.1 (ap (find g.numbers) lb.2 ∙ fb) in
     let t2 : (q.0.name + 1 == g.made) ≡ true = sym (ap (λ o. option_map_or (λ c. c.name + 1 == g.made) o false) q.1) ∙ t in

@@ -9,7 +9,7 @@ use Rattle.patch_model.specs.Dependency.{Path}
 use Rattle.patch_model.specs.Member.{list_any-at, list_all-at}
 use Rattle.patch_links.specs.State.{Class, Slots, Numbers, find, class_at, leads, leads_at}
 use Rattle.patch_graph.specs.State.{Graph}
-use Rattle.patch_graph.specs.Meaning.{Leads, one, onward, IsLiveClass, Represents}
+use Rattle.patch_graph.specs.Meaning.{Leads, one, onward, IsLiveClass, IsGraphOf}
 use Rattle.patch_graph.specs.Between.{are_gone, is_leaf, ends_at, rests_on_leaves, HasNoRing, IsLeastBetween}
 use Rattle.patch_graph.proofs.ReadySet.{placed, class_same}
 use Rattle.patch_graph.proofs.Searches.{found-lead}
@@ -59,7 +59,7 @@ first-ends slots numbers from to k t f =
       | inr u ↦ elim (or_cases (key == to) (is_leaf slots numbers key) u) [ inl v ↦ inl (eqb-true key to v) | inr v ↦ inr v ]
     ]
 
-pub leaves_is : (g : Graph) (all : List Entry) (a b x y from to : ℕ) → Represents g all → HasNoRing all → IsLiveClass all a x → IsLiveClass all b y
+pub leaves_is : (g : Graph) (all : List Entry) (a b x y from to : ℕ) → IsGraphOf g all → HasNoRing all → IsLiveClass all a x → IsLiveClass all b y
     → find g.numbers a ≡ Some from → find g.numbers b ≡ Some to → rests_on_leaves g.slots g.numbers from to ≡ true → IsLeastBetween all x y None
 leaves_is g all a b x y from to r no_ring la lb fa fb leaves m between =
     let qa = placed g all r la.0 from la.1 (ap (find g.numbers) la.2 ∙ fa) in

@@ -15,7 +15,7 @@ use Rattle.patch_model.specs.Orderly.{IsOrderly}
 use Rattle.patch_model.specs.Member.{In, list_any-at, list_any-from}
 use Rattle.patch_links.specs.State.{Class, find, class_at}
 use Rattle.patch_graph.specs.State.{Graph}
-use Rattle.patch_graph.specs.Meaning.{Represents}
+use Rattle.patch_graph.specs.Meaning.{IsGraphOf}
 use Rattle.patch_graph.specs.Merging.{merged, merged_name, HasJoined}
 use Rattle.patch_graph.proofs.Facts.{known}
 use Rattle.patch_model.specs.Entries.{all-In}
@@ -99,7 +99,7 @@ map-swap : (x y : ℕ) (es : List Entry) → map (joined x y) es ≡ map (joined
 map-swap x y [] = refl
 map-swap x y (e ∷ es) = let h = joined-swap x y e in let t = map-swap x y es in ap (λ z. z ∷ map (joined x y) es) h ∙ ap (λ zs. joined y x e ∷ zs) t
 
-module _ (g : Graph) (all : List Entry) (r : Represents g all) where
+module _ (g : Graph) (all : List Entry) (r : IsGraphOf g all) where
   -- the class of an undoable patch
   undoable : (n key : ℕ) → is_undoable_at all n ≡ true → find g.numbers n ≡ Some key
       → (c : Class) × (class_at g.slots key ≡ Some c) × (c.name ≡ class_of all n) × (c.mark ≡ Memory) × (c.hard ≡ false) × (c.block ≡ block_of_patch all n)
@@ -146,7 +146,7 @@ module _ (g : Graph) (all : List Entry) (r : Represents g all) where
   module _ (new : Graph) (made : new.made ≡ g.made) (tops : new.tops ≡ g.tops) where
     pub merges-to : (keep gone a b : ℕ) (name : Option ℕ) → IsLegalMerge all a b → find g.numbers a ≡ Some keep → find g.numbers b ≡ Some gone → HasJoined keep gone g new
         → name ≡ option_map (λ c. c.name) (class_at new.slots keep) → IsOrderly (merged all a b)
-        → Represents new (merged all a b) × (name ≡ Some (merged_name all a b))
+        → IsGraphOf new (merged all a b) × (name ≡ Some (merged_name all a b))
     merges-to keep gone a b name l fa fb j named o =
         let x = undoable a keep l.undoable_a fa in
         let y = undoable b gone l.undoable_b fb in
@@ -173,8 +173,8 @@ module _ (g : Graph) (all : List Entry) (r : Represents g all) where
         } in
         let lists : map (joined x.0.name y.0.name) all ≡ map (joined (class_of all a) (class_of all b)) all = ap (λ n. map (joined n y.0.name) all) x.2 ∙ ap (λ n. map (joined (class_of all a) n) all) y.2 in
         let m = merges g.made g.tops keep gone x.0 y.0 g.slots new.slots g.numbers new.numbers all r differ x.1 y.1 may is (subst IsOrderly (sym lists) o) in (
-          subst (Represents new) lists (subst (λ n. Represents (record { made = n; slots = new.slots; numbers = new.numbers; tops = new.tops }) (map (joined x.0.name y.0.name) all)) (sym made)
-              (subst (λ t. Represents (record { made = g.made; slots = new.slots; numbers = new.numbers; tops = t }) (map (joined x.0.name y.0.name) all)) (sym tops) m)),
+          subst (IsGraphOf new) lists (subst (λ n. IsGraphOf (record { made = n; slots = new.slots; numbers = new.numbers; tops = new.tops }) (map (joined x.0.name y.0.name) all)) (sym made)
+              (subst (λ t. IsGraphOf (record { made = g.made; slots = new.slots; numbers = new.numbers; tops = t }) (map (joined x.0.name y.0.name) all)) (sym tops) m)),
           named ∙ ap (option_map (λ c. c.name)) is.here ∙ ap (λ n. Some (min n y.0.name)) x.2 ∙ ap (λ n. Some (min (class_of all a) n)) y.2,
         )
       where
@@ -183,9 +183,9 @@ module _ (g : Graph) (all : List Entry) (r : Represents g all) where
 
     pub merges-swapped : (keep gone a b : ℕ) (name : Option ℕ) → IsLegalMerge all a b → find g.numbers a ≡ Some gone → find g.numbers b ≡ Some keep → HasJoined keep gone g new
         → name ≡ option_map (λ c. c.name) (class_at new.slots keep) → IsOrderly (merged all a b)
-        → Represents new (merged all a b) × (name ≡ Some (merged_name all a b))
+        → IsGraphOf new (merged all a b) × (name ≡ Some (merged_name all a b))
     merges-swapped keep gone a b name l fa fb j named o =
         let lists = map-swap (class_of all b) (class_of all a) all in
         let m = merges-to keep gone b a name (legal-swap all a b l) fb fa j named (subst IsOrderly (sym lists) o) in
         let least : min (class_of all b) (class_of all a) ≡ min (class_of all a) (class_of all b) = omega arith in
-        (subst (Represents new) lists m.0, m.1 ∙ ap (λ n. Some n) least)
+        (subst (IsGraphOf new) lists m.0, m.1 ∙ ap (λ n. Some n) least)

@@ -15,7 +15,7 @@ use Rattle.patch_graph.specs.State.{Graph, KeysFit}
 use Rattle.patch_graph.specs.Skyline.{Skylines, spans_of}
 use Rattle.patch_skyline.specs.Skyline.{top_at}
 use Rattle.patch_graph.proofs.Tops.{tops-kept}
-use Rattle.patch_graph.specs.Meaning.{Leads, one, onward, DependsOn, IsClassOf, Represents}
+use Rattle.patch_graph.specs.Meaning.{Leads, one, onward, DependsOn, IsClassOf, IsGraphOf}
 use Rattle.patch_links.specs.MarkDurable.{lands, lands_at, AreLanded}
 use Rattle.patch_graph.proofs.Facts.{known}
 use Rattle.patch_graph.proofs.Steps.{patch-landed, In-map, map-In, length-map, numbered-map}
@@ -56,7 +56,7 @@ pub landed-fit : (old new : Slots) (numbers rest : Numbers) (block room : ℕ) (
 landed-fit old new numbers rest block room set a fit key d at = fit key d (was-there old new numbers rest block set a key d at)
 
 module _ (made : ℕ) (tops : Skylines) (block : ℕ) (old new : Slots) (numbers rest : Numbers) (all : List Entry) (set : ℕ → Bool)
-    (r : Represents (record { made = made; slots = old; numbers = numbers; tops = tops }) all)
+    (r : IsGraphOf (record { made = made; slots = old; numbers = numbers; tops = tops }) all)
     (a : AreLanded old new numbers rest block set) (whole : HasLanding old block set) where
   abbrev g : Graph
   g = record { made = made; slots = old; numbers = numbers; tops = tops }
@@ -233,7 +233,7 @@ module _ (made : ℕ) (tops : Skylines) (block : ℕ) (old new : Slots) (numbers
     | inr t ↦ (ap is_durable (sym (stays-same block e t)) ∙ alive, t)
   ]
 
-  pub lands-all : IsOrderly (map f all) → Represents (record { made = made; slots = new; numbers = rest; tops = tops }) (map f all)
+  pub lands-all : IsOrderly (map f all) → IsGraphOf (record { made = made; slots = new; numbers = rest; tops = tops }) (map f all)
   lands-all o = record {
     orderly = o;
     numbered = numbered-map f all (patch-landed block) r.numbered;

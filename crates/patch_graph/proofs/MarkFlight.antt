@@ -20,7 +20,7 @@ use Rattle.patch_graph.proofs.Facts.{known}
 use Rattle.patch_graph.specs.Skyline.{Skylines, spans_of}
 use Rattle.patch_skyline.specs.Skyline.{top_at}
 use Rattle.patch_graph.proofs.Tops.{tops-kept}
-use Rattle.patch_graph.specs.Meaning.{Leads, one, onward, DependsOn, IsClassOf, Represents}
+use Rattle.patch_graph.specs.Meaning.{Leads, one, onward, DependsOn, IsClassOf, IsGraphOf}
 use Rattle.patch_links.specs.Ready.{picks, IsLargestMet}
 use Rattle.patch_links.specs.MarkFlight.{flown, AreFlown}
 use Rattle.patch_graph.proofs.ReadySet.{placed, chosen, chosen_set, chosen-ready, chosen-at, at-chosen, some_same, class_same}
@@ -42,7 +42,7 @@ hard-sent : (set : List Entry) (e : Entry) → (sent set e).hard ≡ e.hard
 hard-sent set e = elim (cases_Bool (has set e)) [ inl u ↦ rw u refl | inr u ↦ rw u refl ]
 
 module _ (made : ℕ) (tops : Skylines) (old new : Slots) (numbers : Numbers) (all : List Entry) (block : ℕ) (taken : ℕ → Bool)
-    (r : Represents (record { made = made; slots = old; numbers = numbers; tops = tops }) all)
+    (r : IsGraphOf (record { made = made; slots = old; numbers = numbers; tops = tops }) all)
     (l : IsLargestMet old numbers (picks old block) taken) (a : AreFlown taken old new) where
   abbrev g : Graph
   g = record { made = made; slots = old; numbers = numbers; tops = tops }
@@ -187,7 +187,7 @@ module _ (made : ℕ) (tops : Skylines) (old new : Slots) (numbers : Numbers) (a
         reaches = λ n j i there. elim (w.reaches n j (turned-reach key c n i) there) [ inl e ↦ inl e | inr way ↦ inr (Leads-now key j way) ];
       }
 
-  represents : IsOrderly (map f all) → Represents (record { made = made; slots = new; numbers = numbers; tops = tops }) (map f all)
+  represents : IsOrderly (map f all) → IsGraphOf (record { made = made; slots = new; numbers = numbers; tops = tops }) (map f all)
   represents o = record {
     orderly = o;
     numbered = numbered-map f all (patch-sent set) r.numbered;
@@ -201,11 +201,11 @@ module _ (made : ℕ) (tops : Skylines) (old new : Slots) (numbers : Numbers) (a
     tops = λ b x. tops-kept f all b x (top_at (spans_of tops b) x) (patch-sent set) (λ e i d. sent-live e d i) (r.tops b x);
   }
 
-  represents-ready : ReadyIsOnly → IsOrderly (map (sent (ready all block)) all) → Represents (record { made = made; slots = new; numbers = numbers; tops = tops }) (map (sent (ready all block)) all)
+  represents-ready : ReadyIsOnly → IsOrderly (map (sent (ready all block)) all) → IsGraphOf (record { made = made; slots = new; numbers = numbers; tops = tops }) (map (sent (ready all block)) all)
   represents-ready only = let is = chosen-ready g all r block taken l only in
-      subst (λ s. IsOrderly (map (sent s) all) → Represents (record { made = made; slots = new; numbers = numbers; tops = tops }) (map (sent s) all)) is represents
+      subst (λ s. IsOrderly (map (sent s) all) → IsGraphOf (record { made = made; slots = new; numbers = numbers; tops = tops }) (map (sent s) all)) is represents
 
 pub flies : ReadyIsOnly → (made : ℕ) (tops : Skylines) (old new : Slots) (numbers : Numbers) (all : List Entry) (block : ℕ) (taken : ℕ → Bool)
-    → Represents (record { made = made; slots = old; numbers = numbers; tops = tops }) all → IsLargestMet old numbers (picks old block) taken → AreFlown taken old new
-    → IsOrderly (map (sent (ready all block)) all) → Represents (record { made = made; slots = new; numbers = numbers; tops = tops }) (map (sent (ready all block)) all)
+    → IsGraphOf (record { made = made; slots = old; numbers = numbers; tops = tops }) all → IsLargestMet old numbers (picks old block) taken → AreFlown taken old new
+    → IsOrderly (map (sent (ready all block)) all) → IsGraphOf (record { made = made; slots = new; numbers = numbers; tops = tops }) (map (sent (ready all block)) all)
 flies only made tops old new numbers all block taken r l a o = represents-ready made tops old new numbers all block taken r l a only o

@@ -14,7 +14,7 @@ use Rattle.patch_graph.specs.State.{Graph, spans}
 use Rattle.patch_graph.specs.Skyline.{Skylines, spans_of}
 use Rattle.patch_skyline.specs.Skyline.{top_at}
 use Rattle.patch_graph.proofs.Tops.{tops-kept}
-use Rattle.patch_graph.specs.Meaning.{Leads, one, onward, DependsOn, IsClassOf, Represents}
+use Rattle.patch_graph.specs.Meaning.{Leads, one, onward, DependsOn, IsClassOf, IsGraphOf}
 use Rattle.patch_links.specs.Merging.{joined_class, IsJoined}
 use Rattle.patch_graph.proofs.Facts.{known}
 use Rattle.patch_graph.proofs.Steps.{patch-joined, In-map, map-In, length-map, numbered-map}
@@ -97,7 +97,7 @@ pub record MayMerge (all : List Entry) (c d : Class) : Type 0 where
   pub f_begins : f.patch.start ≤ end e.patch
 
 module _ (made : ℕ) (tops : Skylines) (keep gone : ℕ) (c d : Class) (old new : Slots) (numbers rest : Numbers) (all : List Entry)
-    (r : Represents (record { made = made; slots = old; numbers = numbers; tops = tops }) all)
+    (r : IsGraphOf (record { made = made; slots = old; numbers = numbers; tops = tops }) all)
     (differ : keep ≢ gone) (at_c : class_at old keep ≡ Some c) (at_d : class_at old gone ≡ Some d)
     (may : MayMerge all c d) (a : IsJoined keep gone c d old new numbers rest) where
   abbrev g : Graph
@@ -439,7 +439,7 @@ module _ (made : ℕ) (tops : Skylines) (keep gone : ℕ) (c d : Class) (old new
         | inr q ↦ inr (subst (λ v. spans v p ≡ true) (class_same z d (sym o.0 ∙ ap (class_at old) (one-key g all r k gone z d o.0 at_d q) ∙ at_d)) t)
       ]
 
-  pub merges : IsOrderly (map f all) → Represents (record { made = made; slots = new; numbers = rest; tops = tops }) (map f all)
+  pub merges : IsOrderly (map f all) → IsGraphOf (record { made = made; slots = new; numbers = rest; tops = tops }) (map f all)
   merges o = record {
     orderly = o;
     numbered = numbered-map f all (patch-joined x y) r.numbered;

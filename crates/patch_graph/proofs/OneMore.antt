@@ -23,7 +23,7 @@ use Rattle.patch_graph.proofs.Facts.{IsOrdered, ordered, known}
 use Rattle.patch_skyline.specs.declared.skylines.Span.{Span}
 use Rattle.patch_graph.specs.Skyline.{spans_of, IsLaidOn}
 use Rattle.patch_skyline.specs.Skyline.{has_byte, top_at, IsTopWithin}
-use Rattle.patch_graph.specs.Meaning.{Leads, one, onward, DependsOn, IsClassOf, wrote, IsLast, IsTop, Represents}
+use Rattle.patch_graph.specs.Meaning.{Leads, one, onward, DependsOn, IsClassOf, wrote, IsLast, IsTop, IsGraphOf}
 use Rattle.patch_graph.specs.Adding.{AreDependencies, lets_drop, is_hard, new_class, IsAdded, IsDrawnUp, IsPatch}
 use Rattle.patch_graph.proofs.ReadySet.{placed, cases_found, some_same, class_same, In-left, In-right, In-parts, is_among-In, In-is_among}
 
@@ -56,7 +56,7 @@ or-nothing false = refl
 single : (m n : ℕ) → is_among (m ∷ []) n ≡ true → m ≡ n
 single m n t = elim (or_cases (m == n) false t) [ inl s ↦ eqb-true m n s | inr s ↦ absurd (cc) ]
 
-module _ (g : Graph) (all : List Entry) (p : Patch) (r : Represents g all) (no : p.no ≡ g.made) (orderly : IsOrderly (all ++ fresh all p ∷ [])) where
+module _ (g : Graph) (all : List Entry) (p : Patch) (r : IsGraphOf g all) (no : p.no ≡ g.made) (orderly : IsOrderly (all ++ fresh all p ∷ [])) where
   abbrev e : Entry
   e = fresh all p
 
@@ -467,7 +467,7 @@ module _ (g : Graph) (all : List Entry) (p : Patch) (r : Represents g all) (no :
           ])
         ]
 
-        represents : Represents h more
+        represents : IsGraphOf h more
         represents = record {
           orderly = orderly;
           numbered = numbered;
@@ -491,7 +491,7 @@ module _ (g : Graph) (all : List Entry) (p : Patch) (r : Represents g all) (no :
 
 -- what is told of a patch that is drawn up
 pub tells : (g : Graph) (all : List Entry) (p : Patch) (block start stop : ℕ) (after : List ℕ) (undo : Undo) (c : Class)
-    → Represents g all → IsPatch p g.made block start stop after undo → IsOrderly (all ++ fresh all p ∷ []) → IsDrawnUp g block start stop undo after c
+    → IsGraphOf g all → IsPatch p g.made block start stop after undo → IsOrderly (all ++ fresh all p ∷ []) → IsDrawnUp g block start stop undo after c
     → (c.name ≡ p.no) × (c.hard ≡ is_made_hard all p)
 tells g all p block start stop after undo c r is o d = (
   ap (λ (z : Class). z.name) d.is ∙ sym is.no,
@@ -500,8 +500,8 @@ tells g all p block start stop after undo c r is o d = (
 
 -- the graph with that patch put in
 pub puts-in : (g h : Graph) (all : List Entry) (p : Patch) (block start stop : ℕ) (after : List ℕ) (undo : Undo) (key : ℕ) (c : Class)
-    → Represents g all → IsPatch p g.made block start stop after undo → IsOrderly (all ++ fresh all p ∷ []) → IsDrawnUp g block start stop undo after c → IsAdded g h key c
-    → Represents h (all ++ fresh all p ∷ [])
+    → IsGraphOf g all → IsPatch p g.made block start stop after undo → IsOrderly (all ++ fresh all p ∷ []) → IsDrawnUp g block start stop undo after c → IsAdded g h key c
+    → IsGraphOf h (all ++ fresh all p ∷ [])
 puts-in g h all p block start stop after undo key c r is o d a =
     let hard : Bool = is_hard g.slots g.numbers block undo d.deps in
     represents g all p r is.no o block start stop d.deps after undo d.reach hard is d.are h key c a refl d.is d.reached

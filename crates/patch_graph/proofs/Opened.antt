@@ -11,7 +11,7 @@ use Rattle.patch_model.specs.Ready.{ready, ReadyIsOnly}
 use Rattle.patch_links.specs.State.{Slots, Numbers}
 use Rattle.patch_links.specs.Ready.{TellsReady, HasNoRing as HasNoChain, IsOpen as IsOpenOf, IsShut as IsShutOf, IsNextOpen as IsNextOpenOf}
 use Rattle.patch_graph.specs.State.{Graph}
-use Rattle.patch_graph.specs.Meaning.{Represents}
+use Rattle.patch_graph.specs.Meaning.{IsGraphOf}
 use Rattle.patch_graph.specs.Ready.{IsOpen, IsShut, IsNextOpen}
 use Rattle.patch_graph.proofs.ReadySet.{any_is_ready}
 
@@ -28,7 +28,7 @@ none_or : {A : Type 0} (xs : List A) → (xs ≢ [] → ⊥) → xs ≡ []
 none_or [] h = refl
 none_or (x ∷ xs) h = absurd (h (λ e. cc))
 
-module _ (only : ReadyIsOnly) (g : Graph) (all : List Entry) (r : Represents g all) (ring : HasNoChain g.slots g.numbers) where
+module _ (only : ReadyIsOnly) (g : Graph) (all : List Entry) (r : IsGraphOf g all) (ring : HasNoChain g.slots g.numbers) where
   tells : (block : ℕ) (any : Bool) → TellsReady g.slots g.numbers block any → IsTrue any ↔ (ready all block ≢ [])
   tells block any t = any_is_ready only g all block t.set any r (t.is.largest ring) t.none t.some
 

@@ -10,7 +10,7 @@ use Rattle.patch_links.specs.State.{Class, Slots, Numbers, find, class_at, leads
 use Rattle.patch_graph.specs.State.{Graph, KeysFit}
 use Rattle.patch_graph.specs.Marks.{is_marked}
 use Rattle.patch_graph.proofs.Facts.{known}
-use Rattle.patch_graph.specs.Meaning.{Leads, one, onward, DependsOn, Represents, IsLiveClass, IsNotLive}
+use Rattle.patch_graph.specs.Meaning.{Leads, one, onward, DependsOn, IsGraphOf, IsLiveClass, IsNotLive}
 use Rattle.patch_graph.specs.Between.{ReachesOther, LacksAnEnd, LacksAKey}
 use Rattle.patch_graph.specs.Search.{depends_at, Chain, once, further, Reaches, steps, IsReachable}
 use Rattle.patch_graph.specs.declared.searching.Way.TheVariants.{Down, Up, Among}
@@ -73,7 +73,7 @@ pub reached-among : (slots : Slots) (numbers : Numbers) (marks : Bor (List Bool)
 reached-among slots numbers marks from key (inl e) = inl e
 reached-among slots numbers marks from key (inr chain) = inr (chain-among slots numbers marks from key chain)
 
-module _ (g : Graph) (all : List Entry) (r : Represents g all) where
+module _ (g : Graph) (all : List Entry) (r : IsGraphOf g all) where
   -- the class that a number leads to
   pub target : (c : Class) (j : ℕ) → leads g.numbers c j ≡ true → (n : ℕ) × (d : Class) × (is_among c.after n ≡ true) × (find g.numbers n ≡ Some j) × (class_at g.slots j ≡ Some d)
   target c j t =
@@ -179,7 +179,7 @@ module _ (g : Graph) (all : List Entry) (r : Represents g all) where
     ]
 
 -- two classes at two keys, of which the first is where a search began
-pub reaches_is : (g : Graph) (all : List Entry) (a b x y from to : ℕ) (marks : List Bool) → Represents g all → KeysFit g.slots (length marks)
+pub reaches_is : (g : Graph) (all : List Entry) (a b x y from to : ℕ) (marks : List Bool) → IsGraphOf g all → KeysFit g.slots (length marks)
     → IsLiveClass all a x → IsLiveClass all b y → from ≢ to → find g.numbers a ≡ Some from → find g.numbers b ≡ Some to
     → IsReachable (steps g.slots g.numbers Down) from to marks → IsTrue (is_marked marks to) ↔ ReachesOther all x y
 reaches_is g all a b x y from to marks r low la lb apart fa fb s =
@@ -202,7 +202,7 @@ reaches_is g all a b x y from to marks r low la lb apart fa fb s =
     )
 
 -- two live patches at one key are of one class, which doesn't reach itself
-pub reaches-not : (g : Graph) (all : List Entry) (a b x y from to : ℕ) → Represents g all → IsLiveClass all a x → IsLiveClass all b y
+pub reaches-not : (g : Graph) (all : List Entry) (a b x y from to : ℕ) → IsGraphOf g all → IsLiveClass all a x → IsLiveClass all b y
     → find g.numbers a ≡ Some from → find g.numbers b ≡ Some to → from ≡ to → ReachesOther all x y → ⊥
 reaches-not g all a b x y from to r la lb fa fb e p =
     let qa = placed g all r la.0 from la.1 (ap (find g.numbers) la.2 ∙ fa) in
@@ -211,31 +211,31 @@ reaches-not g all a b x y from to r la lb fa fb e p =
     p.0 (sym (qa.2 ∙ la.4) ∙ ap (λ z. z.name) same ∙ qb.2 ∙ lb.4)
 
 -- a number that isn't live has no key
-not_found : (g : Graph) (all : List Entry) (n : ℕ) → Represents g all → IsNotLive all n → find g.numbers n ≡ None
+not_found : (g : Graph) (all : List Entry) (n : ℕ) → IsGraphOf g all → IsNotLive all n → find g.numbers n ≡ None
 not_found g all n r off = by (find g.numbers n) refl
   where
     by : (found : Option ℕ) → find g.numbers n ≡ found → found ≡ None
     by None at = refl
     by (Some key) at = let l = r.live n key at in absurd (both_ways _ l.3 (off l.0 l.1 l.2))
 
-pub lacks-key : (g : Graph) (all : List Entry) (a b : ℕ) → Represents g all → LacksAnEnd all a b → LacksAKey g.numbers a b
+pub lacks-key : (g : Graph) (all : List Entry) (a b : ℕ) → IsGraphOf g all → LacksAnEnd all a b → LacksAKey g.numbers a b
 lacks-key g all a b r off = elim off [ inl x ↦ inl (not_found g all a r x) | inr x ↦ inr (not_found g all b r x) ]
 
 -- where both have one, none is lacking
 pub has-keys : (numbers : Numbers) (a b from to : ℕ) → find numbers a ≡ Some from → find numbers b ≡ Some to → LacksAKey numbers a b → ⊥
 has-keys numbers a b from to fa fb off = elim off [ inl x ↦ cc | inr x ↦ cc ]
 
-pub is_found : (g : Graph) (all : List Entry) (n x : ℕ) → Represents g all → IsLiveClass all n x → find g.numbers n ≡ None → ⊥
+pub is_found : (g : Graph) (all : List Entry) (n x : ℕ) → IsGraphOf g all → IsLiveClass all n x → find g.numbers n ≡ None → ⊥
 is_found g all n x r l none =
     let f = r.found l.0 l.1 l.3 in
     let hit : find g.numbers n ≡ Some f.0 = subst (λ m. find g.numbers m ≡ Some f.0) l.2 f.2 in
     cc
 
-pub is_low : (g : Graph) (all : List Entry) (n x k room : ℕ) → Represents g all → KeysFit g.slots room → IsLiveClass all n x → find g.numbers n ≡ Some k → k < room
+pub is_low : (g : Graph) (all : List Entry) (n x k room : ℕ) → IsGraphOf g all → KeysFit g.slots room → IsLiveClass all n x → find g.numbers n ≡ Some k → k < room
 is_low g all n x k room r fit l at =
     let q = placed g all r l.0 k l.1 (ap (find g.numbers) l.2 ∙ at) in
     fit k q.0 q.1
 
 -- a live class has a key for which there is room
-pub beyond : (g : Graph) (all : List Entry) (n x k room : ℕ) → Represents g all → KeysFit g.slots room → IsLiveClass all n x → find g.numbers n ≡ Some k → room ≤ k → ⊥
+pub beyond : (g : Graph) (all : List Entry) (n x k room : ℕ) → IsGraphOf g all → KeysFit g.slots room → IsLiveClass all n x → find g.numbers n ≡ Some k → room ≤ k → ⊥
 beyond g all n x k room r fit l at far = let low = is_low g all n x k room r fit l at in omega arith

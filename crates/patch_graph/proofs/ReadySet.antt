@@ -19,7 +19,7 @@ use Rattle.patch_graph.specs.Ready.{gathered, members_at}
 use Rattle.patch_graph.proofs.Facts.{known}
 use Rattle.patch_graph.specs.declared.classes.LiveClass.{LiveClass}
 use Rattle.patch_graph.specs.Showing.{shown, IsShown}
-use Rattle.patch_graph.specs.Meaning.{Leads, one, onward, Represents, IsNotLive, IsLiveClass, HasMark}
+use Rattle.patch_graph.specs.Meaning.{Leads, one, onward, IsGraphOf, IsNotLive, IsLiveClass, HasMark}
 use Rattle.patch_graph.proofs.Arranging.{rising_same as numbers_same}
 
 pub some_same : (a b : ℕ) → ◌≡◌ {A = Option ℕ} (Some a) (Some b) → a ≡ b
@@ -50,7 +50,7 @@ pub closed : (slots : Slots) (numbers : Numbers) (set : ℕ → Bool) → AreMet
 closed slots numbers set met k j (one c at t) h = met-leads slots numbers set met k c j at t h
 closed slots numbers set met k l (onward {j = j} c at t rest) h = closed slots numbers set met j l rest (met-leads slots numbers set met k c j at t h)
 
-module _ (g : Graph) (all : List Entry) (r : Represents g all) where
+module _ (g : Graph) (all : List Entry) (r : IsGraphOf g all) where
   -- a live number's entry, and its class
   pub placed : (e : Entry) (key : ℕ) → In all e → find g.numbers e.patch.no ≡ Some key → (c : Class) × (class_at g.slots key ≡ Some c) × (c.name ≡ e.class) × (is_durable e ≡ false)
   placed e key i at =
@@ -275,7 +275,7 @@ is_among-In ns n t = let r = list_any-at (λ m. m == n) ns t in subst (λ m. In 
 pub In-is_among : (ns : List ℕ) (n : ℕ) → In ns n → is_among ns n ≡ true
 In-is_among ns n i = list_any-from (λ m. m == n) ns n i (eq-eqb n n refl)
 
-pub ready_numbers : ReadyIsOnly → (g : Graph) (all : List Entry) (block : ℕ) (keys : List ℕ) (marks : List Bool) (taken : ℕ → Bool) (ns : List ℕ) → Represents g all → ((key : ℕ) → In keys key → is_marked marks key ≡ taken key)
+pub ready_numbers : ReadyIsOnly → (g : Graph) (all : List Entry) (block : ℕ) (keys : List ℕ) (marks : List Bool) (taken : ℕ → Bool) (ns : List ℕ) → IsGraphOf g all → ((key : ℕ) → In keys key → is_marked marks key ≡ taken key)
     → ((key : ℕ) → taken key ≡ true → In keys key) → IsLargestMet g.slots g.numbers (picks g.slots block) taken
     → IsArranged (gathered g.slots marks keys) ns → ns ≡ map (λ e. e.patch.no) (ready all block)
 ready_numbers only g all block keys marks taken ns r same held l a =
@@ -314,7 +314,7 @@ picked_class slots block key = elim (class_at slots key) as (λ o. option_map_or
 ]
 
 -- where some class is taken, some patch is ready
-pub any_is_ready : ReadyIsOnly → (g : Graph) (all : List Entry) (block : ℕ) (taken : ℕ → Bool) (any : Bool) → Represents g all → IsLargestMet g.slots g.numbers (picks g.slots block) taken
+pub any_is_ready : ReadyIsOnly → (g : Graph) (all : List Entry) (block : ℕ) (taken : ℕ → Bool) (any : Bool) → IsGraphOf g all → IsLargestMet g.slots g.numbers (picks g.slots block) taken
     → (any ≡ false → (key : ℕ) → taken key ≡ false) → (any ≡ true → (key : ℕ) × (taken key ≡ true)) → IsTrue any ↔ (ready all block ≢ [])
 any_is_ready only g all block taken any r l none some =
     let set = chosen_set g all r block taken l in
@@ -340,7 +340,7 @@ found-in numbers set n t = elim (find numbers n) as (λ o. option_map_or set o f
 ] t
 
 -- the numbers that lead to what is taken are those of the patches that are ready
-pub taken_numbers : ReadyIsOnly → (g : Graph) (all : List Entry) (block : ℕ) (taken : ℕ → Bool) (ns : List ℕ) → Represents g all → IsLargestMet g.slots g.numbers (picks g.slots block) taken
+pub taken_numbers : ReadyIsOnly → (g : Graph) (all : List Entry) (block : ℕ) (taken : ℕ → Bool) (ns : List ℕ) → IsGraphOf g all → IsLargestMet g.slots g.numbers (picks g.slots block) taken
     → AreRising ns → ((n : ℕ) → is_among ns n ≡ option_map_or taken (find g.numbers n) false) → ns ≡ map (λ e. e.patch.no) (ready all block)
 taken_numbers only g all block taken ns r l rising just =
     let set = chosen_set g all r block taken l in
@@ -358,7 +358,7 @@ taken_numbers only g all block taken ns r l rising just =
     is_among-In ns n (just n ∙ ap (λ m. option_map_or taken (find g.numbers m) false) (sym e.2) ∙ f.1)))
 
 -- a number that isn't live
-pub not_live : (g : Graph) (all : List Entry) (n : ℕ) → Represents g all → find g.numbers n ≡ None → IsNotLive all n
+pub not_live : (g : Graph) (all : List Entry) (n : ℕ) → IsGraphOf g all → find g.numbers n ≡ None → IsNotLive all n
 not_live g all n r none e i same = elim (cases_Bool (is_durable e)) [
   | inl d ↦ d
   | inr d ↦
@@ -372,13 +372,13 @@ durable-mark Memory e same t = let u : is_durable e ≡ false = ap (λ k. elim k
 durable-mark Flight e same t = let u : is_durable e ≡ false = ap (λ k. elim k [ Memory ↦ false | Flight ↦ false | Durable ↦ true ]) same in absurd (both_ways _ u t)
 durable-mark Durable e same t = refl
 
-pub mark_not_live : (g : Graph) (all : List Entry) (n : ℕ) → Represents g all → find g.numbers n ≡ None → n < g.made → HasMark all n Durable
+pub mark_not_live : (g : Graph) (all : List Entry) (n : ℕ) → IsGraphOf g all → find g.numbers n ≡ None → n < g.made → HasMark all n Durable
 mark_not_live g all n r none h =
     let many = r.made in
     let e = (known g all r).made n (omega arith) in
     (e.0, e.1, e.2, durable-mark e.0.mark e.0 refl (not_live g all n r none e.0 e.1 e.2))
 
-pub class_live : (g : Graph) (all : List Entry) (n key : ℕ) → Represents g all → find g.numbers n ≡ Some key
+pub class_live : (g : Graph) (all : List Entry) (n key : ℕ) → IsGraphOf g all → find g.numbers n ≡ Some key
     → (c : Class) × (class_at g.slots key ≡ Some c) × IsLiveClass all n c.name × HasMark all n c.mark
 class_live g all n key r at =
     let l = r.live n key at in
@@ -386,21 +386,21 @@ class_live g all n key r at =
     let looks = (r.classes key p.0 p.1).looks l.0 l.1 (sym p.2) in
     (p.0, p.1, (l.0, l.1, l.2, l.3, sym p.2), (l.0, l.1, l.2, looks.0))
 
-pub class_answer : (g : Graph) (all : List Entry) (n key : ℕ) (o : Option ℕ) → Represents g all → find g.numbers n ≡ Some key
+pub class_answer : (g : Graph) (all : List Entry) (n key : ℕ) (o : Option ℕ) → IsGraphOf g all → find g.numbers n ≡ Some key
     → o ≡ option_map (λ c. c.name) (class_at g.slots key) → MatchOption o (IsNotLive all n) (IsLiveClass all n)
 class_answer g all n key o r at is =
     let c = class_live g all n key r at in
     let e : o ≡ Some c.0.name = is ∙ ap (option_map (λ c. c.name)) c.1 in
     rw e c.2
 
-pub mark_answer : (g : Graph) (all : List Entry) (n key : ℕ) (o : Option Mark) → Represents g all → find g.numbers n ≡ Some key
+pub mark_answer : (g : Graph) (all : List Entry) (n key : ℕ) (o : Option Mark) → IsGraphOf g all → find g.numbers n ≡ Some key
     → o ≡ option_map (λ c. c.mark) (class_at g.slots key) → MatchOption o (length all ≤ n) (HasMark all n)
 mark_answer g all n key o r at is =
     let c = class_live g all n key r at in
     let e : o ≡ Some c.0.mark = is ∙ ap (option_map (λ c. c.mark)) c.1 in
     rw e c.3
 
-pub shown_answer : (g : Graph) (all : List Entry) (n key : ℕ) (o : Option LiveClass) → Represents g all → find g.numbers n ≡ Some key
+pub shown_answer : (g : Graph) (all : List Entry) (n key : ℕ) (o : Option LiveClass) → IsGraphOf g all → find g.numbers n ≡ Some key
     → o ≡ option_map shown (class_at g.slots key) → MatchOption o (IsNotLive all n) (IsShown all n)
 shown_answer g all n key o r at is =
     let e = r.live n key at in

@@ -6,12 +6,12 @@ use Rattle.patch_model.specs.Dependency.{Path}
 use Rattle.patch_links.specs.State.{Class, class_at, leads}
 use Rattle.patch_links.specs.Ready.{Chain, one, onward, HasNoRing as HasNoChain}
 use Rattle.patch_graph.specs.State.{Graph}
-use Rattle.patch_graph.specs.Meaning.{Represents}
+use Rattle.patch_graph.specs.Meaning.{IsGraphOf}
 use Rattle.patch_graph.specs.Between.{HasNoRing}
 use Rattle.patch_graph.proofs.ReadySet.{class_same}
 use Rattle.patch_graph.proofs.Reaching.{joined-path, one-key, step-path, target}
 
-module _ (g : Graph) (all : List Entry) (r : Represents g all) where
+module _ (g : Graph) (all : List Entry) (r : IsGraphOf g all) where
   apart-path : (k j : ℕ) (c d : Class) → class_at g.slots k ≡ Some c → class_at g.slots j ≡ Some d → k ≢ j → leads g.numbers c j ≡ true → Path all c.name d.name
   apart-path k j c d at at2 apart t = elim (step-path g all r k j c d at at2 t) [ inl e ↦ absurd (apart (one-key g all r k j c d at at2 e)) | inr p ↦ p ]
 

@@ -8,7 +8,7 @@ use Rattle.patch_model.specs.Member.{In}
 use Rattle.patch_links.specs.State.{Class, Slots, Numbers, class_at}
 use Rattle.patch_graph.specs.Skyline.{Skylines, spans_of, IsEmptied}
 use Rattle.patch_skyline.specs.Skyline.{top_at}
-use Rattle.patch_graph.specs.Meaning.{IsTop, Represents}
+use Rattle.patch_graph.specs.Meaning.{IsTop, IsGraphOf}
 use Rattle.patch_graph.proofs.Steps.{In-map, map-In}
 
 -- a step that leaves the patches, and what is durable, leaves who wrote a byte last
@@ -33,7 +33,7 @@ tops-kept f all block x None same live t = λ g i w.
 -- the skyline of a block with no live class may be empty
 pub tops-emptied : (made : ℕ) (slots : Slots) (numbers : Numbers) (old new : Skylines) (all : List Entry) (block : ℕ) → IsEmptied old new block
     → ((key : ℕ) (c : Class) → class_at slots key ≡ Some c → c.block ≢ block)
-    → Represents (record { made = made; slots = slots; numbers = numbers; tops = old }) all → Represents (record { made = made; slots = slots; numbers = numbers; tops = new }) all
+    → IsGraphOf (record { made = made; slots = slots; numbers = numbers; tops = old }) all → IsGraphOf (record { made = made; slots = slots; numbers = numbers; tops = new }) all
 tops-emptied made slots numbers old new all block e none r = record {
   orderly = r.orderly;
   numbered = r.numbered;

@@ -14,7 +14,7 @@ use Rattle.patch_model.specs.Member.{In}
 use Rattle.patch_graph.specs.Skyline.{IsLaidOn, spans_of}
 use Rattle.patch_skyline.specs.Skyline.{IsTopWithin}
 use Rattle.patch_graph.specs.declared.graphs.Added.{Added}
-use Rattle.patch_graph.specs.Meaning.{Represents}
+use Rattle.patch_graph.specs.Meaning.{IsGraphOf}
 use Rattle.patch_graph.specs.Naming.{IsCovered, IsNamedBelow}
 use Rattle.patch_links.specs.declared.nodes.Reach.{Reach}
 use Rattle.patch_links.specs.State.{Class, Slots, Numbers, IsInReach, find, class_at}
@@ -81,18 +81,18 @@ with_patch all p = all ++ fresh all p ∷ []
 -- the one graph's patches are the other's and one more, of which this is told
 abbrev pub Adds : Graph → Graph → ℕ → ℕ → ℕ → List ℕ → Undo → Added → Type 0
 Adds old new block start stop after undo added = (all : List Entry) (p : Patch)
-    → Represents old all → IsPatch p old.made block start stop after undo → IsOrderly (with_patch all p)
-    → Represents new (with_patch all p) × (added.no ≡ p.no) × (added.hard ≡ (fresh all p).hard)
+    → IsGraphOf old all → IsPatch p old.made block start stop after undo → IsOrderly (with_patch all p)
+    → IsGraphOf new (with_patch all p) × (added.no ≡ p.no) × (added.hard ≡ (fresh all p).hard)
 
 -- of a patch that was drawn up as this class its number is told, and whether it is hard
 abbrev pub Tells : Graph → ℕ → ℕ → ℕ → List ℕ → Undo → Class → Type 0
 Tells g block start stop after undo c = (all : List Entry) (p : Patch)
-    → Represents g all → IsPatch p g.made block start stop after undo → IsOrderly (with_patch all p)
+    → IsGraphOf g all → IsPatch p g.made block start stop after undo → IsOrderly (with_patch all p)
     → (c.name ≡ p.no) × (c.hard ≡ (fresh all p).hard)
 
 -- the one graph's patches are the other's and the one that was drawn up as this class
 abbrev pub PutsIn : Graph → Graph → Class → Type 0
 PutsIn old new c = (all : List Entry) (p : Patch) (block start stop : ℕ) (after : List ℕ) (undo : Undo)
     → IsDrawnUp old block start stop undo after c
-    → Represents old all → IsPatch p old.made block start stop after undo → IsOrderly (with_patch all p)
-    → Represents new (with_patch all p)
+    → IsGraphOf old all → IsPatch p old.made block start stop after undo → IsOrderly (with_patch all p)
+    → IsGraphOf new (with_patch all p)

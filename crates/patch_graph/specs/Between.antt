@@ -7,7 +7,7 @@ use Rattle.patch_model.specs.Dependency.{Path, LiesBetween}
 use Rattle.patch_links.specs.State.{Class, Slots, Numbers, find, class_at}
 use Rattle.patch_graph.specs.State.{Graph}
 use Rattle.patch_graph.specs.Marks.{is_marked}
-use Rattle.patch_graph.specs.Meaning.{Represents, IsLiveClass, IsNotLive}
+use Rattle.patch_graph.specs.Meaning.{IsGraphOf, IsLiveClass, IsNotLive}
 
 -- reached, no dead end, and neither end
 abbrev pub lies : List Bool → List Bool → ℕ → ℕ → ℕ → Bool
@@ -74,7 +74,7 @@ LacksAKey numbers a b = (find numbers a ≡ None) ⊎ (find numbers b ≡ None)
 
 -- of the classes of a graph's two live patches: the least name of a third one between them
 abbrev pub TellsLeastBetween : Graph → ℕ → ℕ → Option ℕ → Type 0
-TellsLeastBetween g a b least = (all : List Entry) (x y : ℕ) → Represents g all → HasNoRing all → IsLiveClass all a x → IsLiveClass all b y → IsLeastBetween all x y least
+TellsLeastBetween g a b least = (all : List Entry) (x y : ℕ) → IsGraphOf g all → HasNoRing all → IsLiveClass all a x → IsLiveClass all b y → IsLeastBetween all x y least
 
 -- the same of any two patches that are of the classes at these keys
 abbrev pub TellsBetweenKeys : Graph → ℕ → ℕ → Option ℕ → Type 0
@@ -82,4 +82,4 @@ TellsBetweenKeys g from to least = (a b : ℕ) → find g.numbers a ≡ Some fro
 
 -- of the classes of a graph's two live patches: whether a path leads from the one to the other
 abbrev pub TellsReach : Graph → ℕ → ℕ → Bool → Type 0
-TellsReach g a b reaches = (all : List Entry) (x y : ℕ) → Represents g all → IsLiveClass all a x → IsLiveClass all b y → IsTrue reaches ↔ ReachesOther all x y
+TellsReach g a b reaches = (all : List Entry) (x y : ℕ) → IsGraphOf g all → IsLiveClass all a x → IsLiveClass all b y → IsTrue reaches ↔ ReachesOther all x y

@@ -4,7 +4,7 @@ use Rattle.patch_model.specs.Entry.{Entry}
 use Rattle.patch_model.specs.Orderly.{IsOrderly}
 use Rattle.patch_model.specs.Ready.{ready}
 use Rattle.patch_model.specs.State.{sent}
-use Rattle.patch_graph.specs.Meaning.{Represents}
+use Rattle.patch_graph.specs.Meaning.{IsGraphOf}
 use Rattle.patch_graph.specs.State.{Graph}
 use Rattle.patch_graph.specs.Between.{HasNoRing}
 
@@ -14,4 +14,4 @@ with_sent all block = map (sent (ready all block)) all
 
 -- the one graph's patches are the other's, with what a send of the block takes in flight
 abbrev pub PutsInFlight : Graph → Graph → ℕ → Type 0
-PutsInFlight old new block = (all : List Entry) → Represents old all → HasNoRing all → IsOrderly (with_sent all block) → Represents new (with_sent all block)
+PutsInFlight old new block = (all : List Entry) → IsGraphOf old all → HasNoRing all → IsOrderly (with_sent all block) → IsGraphOf new (with_sent all block)

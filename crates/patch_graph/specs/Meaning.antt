@@ -61,7 +61,7 @@ IsTop all block x (Some n) = IsLast all block x n
 IsTop all block x None = (f : Entry) → In all f → wrote block x f ≡ true → is_durable f ≡ true
 
 -- the graph's classes are the live ones of the patches, and its skylines show who wrote each byte last
-pub record Represents (g : Graph) (all : List Entry) : Type 0 where
+pub record IsGraphOf (g : Graph) (all : List Entry) : Type 0 where
   pub orderly : IsOrderly all
   pub numbered : IsNumbered all
   pub made : g.made ≡ length all
@@ -72,7 +72,7 @@ pub record Represents (g : Graph) (all : List Entry) : Type 0 where
 
 -- all patches that the one graph represents are those of the other
 abbrev pub StandsForSame : Graph → Graph → Type 0
-StandsForSame old new = (all : List Entry) → Represents old all → Represents new all
+StandsForSame old new = (all : List Entry) → IsGraphOf old all → IsGraphOf new all
 
 -- the patch of this number is durable, or wasn't made
 abbrev pub IsNotLive : List Entry → ℕ → Type 0

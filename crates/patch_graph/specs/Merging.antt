@@ -6,7 +6,7 @@ use Rattle.patch_model.specs.Member.{In}
 use Rattle.patch_model.specs.Legal.{IsLegalMerge}
 use Rattle.patch_model.specs.Orderly.{IsOrderly}
 use Rattle.patch_model.specs.State.{class_of, joined}
-use Rattle.patch_graph.specs.Meaning.{Represents}
+use Rattle.patch_graph.specs.Meaning.{IsGraphOf}
 use Rattle.patch_links.specs.State.{Class, Slots, Numbers, find, class_at}
 use Rattle.patch_links.specs.Merging.{IsJoined, may_join, may_join_at}
 use Rattle.patch_graph.specs.State.{Graph}
@@ -26,8 +26,8 @@ merged_name all a b = min (class_of all a) (class_of all b)
 
 -- the one graph's patches are the other's after a legal merge, and their class has this name
 abbrev pub Merges : Graph → Graph → ℕ → ℕ → ℕ → Type 0
-Merges old new a b name = (all : List Entry) → Represents old all → IsLegalMerge all a b → IsOrderly (merged all a b)
-    → Represents new (merged all a b) × (name ≡ merged_name all a b)
+Merges old new a b name = (all : List Entry) → IsGraphOf old all → IsLegalMerge all a b → IsOrderly (merged all a b)
+    → IsGraphOf new (merged all a b) × (name ≡ merged_name all a b)
 
 -- the two numbers are of patches in memory, of one block
 pub record AreOfOneBlock (all : List Entry) (a b : ℕ) : Type 0 where

@@ -11,15 +11,15 @@ use Rattle.patch_links.specs.Ready.{picks, is_met, AreMet, IsWithin, IsStruck, I
 use Rattle.patch_graph.specs.State.{Graph}
 use Rattle.patch_graph.specs.Between.{HasNoRing}
 use Rattle.patch_graph.specs.Marks.{is_marked, marked_count}
-use Rattle.patch_graph.specs.Meaning.{Represents}
+use Rattle.patch_graph.specs.Meaning.{IsGraphOf}
 
 -- these are the numbers that a send of the block takes, rising
 abbrev pub AreReady : Graph → ℕ → List ℕ → Type 0
-AreReady g block numbers = (all : List Entry) → Represents g all → HasNoRing all → numbers ≡ numbers_of (ready all block)
+AreReady g block numbers = (all : List Entry) → IsGraphOf g all → HasNoRing all → numbers ≡ numbers_of (ready all block)
 
 -- whether a send of the block takes any patch
 abbrev pub TellsReady : Graph → ℕ → Bool → Type 0
-TellsReady g block any = (all : List Entry) → Represents g all → HasNoRing all → IsTrue any ↔ (ready all block ≢ [])
+TellsReady g block any = (all : List Entry) → IsGraphOf g all → HasNoRing all → IsTrue any ↔ (ready all block ≢ [])
 
 -- a write of the block can begin: something of it is ready, and nothing in flight
 pub record IsOpen (all : List Entry) (block : ℕ) : Type 0 where
@@ -36,7 +36,7 @@ IsNextOpen all from None = (block : ℕ) → from ≤ block → block < MAX_BLOC
 IsNextOpen all from (Some least) = (from ≤ least) × (least < MAX_BLOCKS) × IsOpen all least × ((block : ℕ) → from ≤ block → block < least → IsShut all block)
 
 abbrev pub TellsNextOpen : Graph → ℕ → Option ℕ → Type 0
-TellsNextOpen g from found = (all : List Entry) → Represents g all → HasNoRing all → IsNextOpen all from found
+TellsNextOpen g from found = (all : List Entry) → IsGraphOf g all → HasNoRing all → IsNextOpen all from found
 
 -- the keys of the block's classes are among these
 abbrev pub HoldsKeys : Slots → ℕ → List ℕ → Type 0

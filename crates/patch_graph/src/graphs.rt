@@ -4,7 +4,7 @@ ghost use Rattle.patch_model.specs.declared.limits.TheConstants.{MAX_BLOCKS};
 ghost use Rattle.patch_model.specs.Names.{numbers_named};
 ghost use Rattle.patch_model.specs.Entry.{Entry};
 ghost use Rattle.patch_model.specs.declared.patches.Mark.TheVariants.{Durable};
-ghost use Rattle.patch_graph.specs.Meaning.{Represents, IsNotLive, IsLiveClass, HasMark};
+ghost use Rattle.patch_graph.specs.Meaning.{IsGraphOf, IsNotLive, IsLiveClass, HasMark};
 ghost use Rattle.patch_graph.specs.Showing.{IsShown};
 ghost use Rattle.patch_graph.specs.Between.{LacksAnEnd, TellsLeastBetween, TellsReach};
 ghost use Rattle.patch_graph.specs.Ready.{AreReady, TellsReady, TellsNextOpen};
@@ -59,7 +59,7 @@ impl<A: Allocator + Copy> Model for Graph<A> {
 impl<A: Allocator + Copy> Graph<A> {
     /// No patch yet.
     pub fn new(alloc: A) -> Graph<A>
-        ensures { Represents result [] }
+        ensures { IsGraphOf result [] }
     {
         Graph {
             alloc,
@@ -184,7 +184,7 @@ impl<A: Allocator + Copy> Graph<A> {
     /// Makes one class of the classes of two patches, where that is legal. Its name.
     pub fn merge(&mut self, a: PatchNo, b: PatchNo) -> Result<PatchNo, OutOfMemory>
         ensures answer { IfOk result (Merges self.old self.new a b) }
-        ensures idle { (all : List Entry) → Represents self.old all → CantBeOne all a b → self.new ≡ self.old }
+        ensures idle { (all : List Entry) → IsGraphOf self.old all → CantBeOne all a b → self.new ≡ self.old }
         ensures made { self.new.made ≡ self.old.made }
         ensures refused { OnErr result (self.new ≡ self.old) }
     {
@@ -196,7 +196,7 @@ impl<A: Allocator + Copy> Graph<A> {
     /// none, too, where one of the two numbers is durable or wasn't made: it names no live class.
     pub fn between(&mut self, a: PatchNo, b: PatchNo) -> Option<PatchNo>
         ensures answer { TellsLeastBetween self.old a b result }
-        ensures absent { (all : List Entry) → Represents self.old all → LacksAnEnd all a b → result ≡ None }
+        ensures absent { (all : List Entry) → IsGraphOf self.old all → LacksAnEnd all a b → result ≡ None }
         ensures same { self.new ≡ self.old }
     {
         between(&self.register, a, b, &mut self.scratch)
@@ -222,7 +222,7 @@ impl<A: Allocator + Copy> Graph<A> {
     /// itself, and a number that is durable or wasn't made reaches nothing and isn't reached.
     pub fn reaches(&mut self, a: PatchNo, b: PatchNo) -> bool
         ensures answer { TellsReach self.old a b result }
-        ensures absent { (all : List Entry) → Represents self.old all → LacksAnEnd all a b → result ≡ false }
+        ensures absent { (all : List Entry) → IsGraphOf self.old all → LacksAnEnd all a b → result ≡ false }
         ensures same { self.new ≡ self.old }
     {
         reaches(&self.register, a, b, &mut self.scratch)
@@ -230,7 +230,7 @@ impl<A: Allocator + Copy> Graph<A> {
 
     /// The name of a live patch's class.
     pub fn class_of(&self, no: PatchNo) -> Option<PatchNo>
-        ensures { (all : List Entry) → Represents self.now all → MatchOption result (IsNotLive all no) (IsLiveClass all no) }
+        ensures { (all : List Entry) → IsGraphOf self.now all → MatchOption result (IsNotLive all no) (IsLiveClass all no) }
     {
         let key = self.register.find(no)?;
         self.register.name_at(key)
@@ -238,7 +238,7 @@ impl<A: Allocator + Copy> Graph<A> {
 
     /// The class of a live patch.
     pub fn live_class(&self, no: PatchNo) -> Option<LiveClass>
-        ensures { (all : List Entry) → Represents self.now all → MatchOption result (IsNotLive all no) (IsShown all no) }
+        ensures { (all : List Entry) → IsGraphOf self.now all → MatchOption result (IsNotLive all no) (IsShown all no) }
     {
         match self.register.find(no) {
             Some(key) => self.register.shown_at(key),
@@ -248,7 +248,7 @@ impl<A: Allocator + Copy> Graph<A> {
 
     /// How far a patch has come. None for one that wasn't made.
     pub fn mark_of(&self, no: PatchNo) -> Option<Mark>
-        ensures { (all : List Entry) → Represents self.now all → MatchOption result (length all ≤ no) (HasMark all no) }
+        ensures { (all : List Entry) → IsGraphOf self.now all → MatchOption result (length all ≤ no) (HasMark all no) }
     {
         if no.0 >= self.register.made() {
             return None;
@@ -262,7 +262,7 @@ impl<A: Allocator + Copy> Graph<A> {
     /// A number below which every patch is durable: who asks for the marks of many patches may pass over those below it. As a
     /// completion leaves it, the first that is live has this number, or the next one to be made.
     pub fn durable_below(&self) -> u32
-        ensures { (all : List Entry) → Represents self.now all → (n : ℕ) → n < result → HasMark all n Durable }
+        ensures { (all : List Entry) → IsGraphOf self.now all → (n : ℕ) → n < result → HasMark all n Durable }
     {
         self.register.lowest().min(self.register.made())
     }

@@ -1,9 +1,7 @@
 -- What one ask leaves: a patch of a writer, an ask of the cache, and a call of groups.
 use Rattle.std.proofs.Common.{◌≡◌, ◌≢◌, ℕ, ◌+◌, ◌≤◌, ◌⊎◌, ◌∙◌, inl, inr, Bool, true, false, Some, List, [], ◌∷◌, ◌++◌, length, refl, sym, ap, subst, arith, length-append}
 use Rattle.std.specs.Prelude.{IsTrue, Contains, if◌then◌else◌}
-use Rattle.std.proofs.lemmas.List.{append-nil}
 use Rattle.patch_model.specs.declared.patches.Undo.{Undo}
-use Rattle.patch_model.specs.declared.refusals.RefusalKind.TheVariants as kind
 use Rattle.patch_model.specs.Execution.{Execution, extended}
 use Rattle.patch_model.specs.Step.{Step}
 use Rattle.patch_model.specs.Step as the
@@ -11,7 +9,6 @@ use Rattle.patch_model.specs.State.{State, state_of, after_step, after_steps, at
 use Rattle.patch_model.specs.Orderly.{IsNumbered}
 use Rattle.patch_model.specs.Legal.{IsLegal, IsLegalStep, AreLegal}
 use Rattle.patch_model.specs.History.{history_of, image}
-use Rattle.patch_model.specs.Refusing.{bare}
 use Rattle.patch_model.specs.Crash.{MayLeave}
 use Rattle.patch_device.specs.Device.{elapses_still}
 use Rattle.patch_device.specs.SameDevice.{LeavesOnly}

@@ -1,5 +1,5 @@
 -- Groups as the code keeps them.
-use Rattle.std.specs.Prelude.{ℕ, true, false, ◌+◌, ◌-◌, ◌++◌, ◌<◌, ◌==◌, min, max, List, [], ◌∷◌, map, filter, length, slice_index_or, vec_len, vec_capacity, All, Contains, ◌≡◌}
+use Rattle.std.specs.Prelude.{ℕ, true, false, ◌+◌, ◌-◌, ◌<◌, ◌==◌, min, max, List, map, filter, length, slice_index_or, vec_len, vec_capacity, All, Contains, ◌≡◌}
 use Rattle.std.specs.List.{flat_map, range_with_len}
 use Rattle.patch_model.specs.Runs.{numbers_in}
 use Rattle.patch_plans.specs.Rising.{rising}

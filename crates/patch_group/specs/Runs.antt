@@ -1,12 +1,10 @@
 -- A list of asks of a cache with groups, answered one after another.
-use Rattle.std.specs.Prelude.{◌≡◌, ◌≢◌, ◌⊎◌, List, [], ◌++◌, map, Vec, Result, Ok, Err}
+use Rattle.std.specs.Prelude.{◌≡◌, ◌⊎◌, List, [], ◌++◌, map, Vec, Result, Ok, Err}
 use Rattle.patch_model.specs.declared.refusals.OutOfMemory.{OutOfMemory}
-use Rattle.patch_model.specs.declared.refusals.RefusalKind.TheVariants as kind
 use Rattle.patch_model.specs.Step.{Step}
 use Rattle.patch_model.specs.Execution.{Execution}
-use Rattle.patch_model.specs.Refusing.{bare}
 use Rattle.patch_device.specs.declared.devices.Device.{Ghosts}
-use Rattle.patch_cache.specs.Meaning.{Represents}
+use Rattle.patch_cache.specs.Meaning.{IsCacheOf}
 use Rattle.patch_cache.specs.Contents.{Contents}
 use Rattle.patch_cache.specs.Asks.{ask_of, answer_of}
 use Rattle.patch_cache.specs.Asks as cache
@@ -88,7 +86,7 @@ pub record IsCalled (gs : Groups) (ask : Ask) (answer : Answer) (now : Groups) :
 -- a patch is made as the definitions say, or given up
 pub record IsPatched (run : Execution) (gs : Groups) (ask : Ask) (answer : Answer) (contents : Contents) : Type 0 where
   pub right : IsGroupAnswer run gs ask answer ⊎ IsGroupGivenUp run gs ask answer
-  pub cache_is : Represents contents (run_after run gs ask answer)
+  pub cache_is : IsCacheOf contents (run_after run gs ask answer)
 
 -- The patches of a writer change the groups and the trace, and meet no fault, whatever the cache represents.
 pub record HasPatched (gs : Groups) (ask : Ask) (answer : Answer) (now : Groups) (trace trace_now : List Step) : Type 0 where

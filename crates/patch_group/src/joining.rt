@@ -1,11 +1,12 @@
 //! How patches are made, and join groups.
 ghost use Rattle.std.specs.Prelude.{◌≡◌, ◌≢◌, ◌<◌, ◌++◌, ◌∷◌, ℕ, [], Some, None, length, map, IfOk, IfErr, OnOk, OnErr, IsTrue};
 ghost use Rattle.patch_model.specs.Execution.{Execution, extended};
+ghost use Rattle.patch_model.specs.Names.{numbers_named};
 ghost use Rattle.patch_model.specs.Refusing.{why_not_made};
 ghost use Rattle.patch_model.specs.Runs.{numbers_in};
 ghost use Rattle.patch_model.specs.State.{entries_of};
 ghost use Rattle.patch_model.specs.Step.{Create};
-ghost use Rattle.patch_cache.specs.Meaning.{Represents};
+ghost use Rattle.patch_cache.specs.Meaning.{IsCacheOf};
 ghost use Rattle.patch_cache.specs.Refusals.{create_cause};
 ghost use Rattle.patch_group.specs.Refusals.{IsCauseOf};
 ghost use Rattle.patch_plans.specs.Groups.{AreApart, with_patch, after_of, entered, patch_of, why_not_patched};
@@ -16,7 +17,7 @@ use crate::records::Record;
 use crate::runs::{add, add_each};
 use patch_cache::{Cache, CreateRefusal};
 use patch_model::{
-    BlockNo, Bytes, GroupNo, Items, Names, Numbers, OutOfMemory, PatchNo, Run, Undo, WriterNo,
+    BlockNo, Bytes, GroupNo, Named, Names, OutOfMemory, PatchNo, Run, Undo, WriterNo,
 };
 use std::alloc::Allocator;
 
@@ -34,13 +35,13 @@ impl<A: Allocator + Copy> Groups<A> {
         after: &[PatchNo],
         undo: Undo,
     ) -> Result<PatchNo, CreateRefusal>
-        ensures made { (run : Execution) → Represents cache.old run → OnOk result
-            (Represents cache.new (extended run (patch_of self.old writer block start bytes.now after.now undo))) }
-        ensures number { (run : Execution) → Represents cache.old run → IfOk result (λ no. no ≡ length (entries_of run)) }
-        ensures allowed { (run : Execution) → Represents cache.old run
+        ensures made { (run : Execution) → IsCacheOf cache.old run → OnOk result
+            (IsCacheOf cache.new (extended run (patch_of self.old writer block start bytes.now after.now undo))) }
+        ensures number { (run : Execution) → IsCacheOf cache.old run → IfOk result (λ no. no ≡ length (entries_of run)) }
+        ensures allowed { (run : Execution) → IsCacheOf cache.old run
             → OnOk result (why_not_patched run self.old writer block start bytes.now after.now ≡ None) }
         ensures joined { IfOk result (λ no. self.new ≡ with_patch self.old writer no) }
-        ensures cause { (run : Execution) → Represents cache.old run → IfErr result (λ refusal.
+        ensures cause { (run : Execution) → IsCacheOf cache.old run → IfErr result (λ refusal.
             IsCauseOf (why_not_patched run self.old writer block start bytes.now after.now) (create_cause refusal)) }
         ensures trace { OnOk result (cache.new.trace ≡ cache.old.trace ++ patch_of self.old writer block start bytes.now after.now undo ∷ []) }
         ensures refused { OnErr result (self.new ≡ self.old) }
@@ -48,8 +49,8 @@ impl<A: Allocator + Copy> Groups<A> {
     {
         match writer {
             Some(writer) => {
-                let bytes = copied(self.alloc, bytes)?;
-                let after = copied(self.alloc, after)?;
+                let bytes = Bytes::from_slice(self.alloc, bytes)?;
+                let after = Names::from_slice(self.alloc, after)?;
                 self.create_owned(cache, writer, block, start, bytes, after, undo)
             }
             None => cache.create(block, start, bytes, after, undo),
@@ -65,16 +66,16 @@ impl<A: Allocator + Copy> Groups<A> {
         block: BlockNo,
         start: usize,
         bytes: Bytes<A>,
-        after: Numbers<A>,
+        after: Names<A>,
         undo: Undo,
     ) -> Result<PatchNo, CreateRefusal>
-        ensures made { (run : Execution) → Represents cache.old run → OnOk result
-            (Represents cache.new (extended run (patch_of self.old writer block start bytes after undo))) }
-        ensures number { (run : Execution) → Represents cache.old run → IfOk result (λ no. no ≡ length (entries_of run)) }
-        ensures allowed { (run : Execution) → Represents cache.old run
+        ensures made { (run : Execution) → IsCacheOf cache.old run → OnOk result
+            (IsCacheOf cache.new (extended run (patch_of self.old writer block start bytes after undo))) }
+        ensures number { (run : Execution) → IsCacheOf cache.old run → IfOk result (λ no. no ≡ length (entries_of run)) }
+        ensures allowed { (run : Execution) → IsCacheOf cache.old run
             → OnOk result (why_not_patched run self.old writer block start bytes after ≡ None) }
         ensures joined { IfOk result (λ no. self.new ≡ with_patch self.old writer no) }
-        ensures cause { (run : Execution) → Represents cache.old run → IfErr result (λ refusal.
+        ensures cause { (run : Execution) → IsCacheOf cache.old run → IfErr result (λ refusal.
             IsCauseOf (why_not_patched run self.old writer block start bytes after) (create_cause refusal)) }
         ensures trace { OnOk result (cache.new.trace ≡ cache.old.trace ++ patch_of self.old writer block start bytes after undo ∷ []) }
         ensures refused { OnErr result (self.new ≡ self.old) }
@@ -82,7 +83,7 @@ impl<A: Allocator + Copy> Groups<A> {
     {
         match writer {
             Some(writer) => self.create_owned(cache, writer, block, start, bytes, after, undo),
-            None => cache.create_owned(block, start, bytes, Names::listed(after), undo),
+            None => cache.create_owned(block, start, bytes, after, undo),
         }
     }
 
@@ -95,16 +96,16 @@ impl<A: Allocator + Copy> Groups<A> {
         block: BlockNo,
         start: usize,
         bytes: Bytes<A>,
-        after: Numbers<A>,
+        after: Names<A>,
         undo: Undo,
     ) -> Result<PatchNo, CreateRefusal>
-        ensures made { (run : Execution) → Represents cache.old run → OnOk result
-            (Represents cache.new (extended run (patch_of self.old (Some writer) block start bytes after undo))) }
-        ensures number { (run : Execution) → Represents cache.old run → IfOk result (λ no. no ≡ length (entries_of run)) }
-        ensures allowed { (run : Execution) → Represents cache.old run
+        ensures made { (run : Execution) → IsCacheOf cache.old run → OnOk result
+            (IsCacheOf cache.new (extended run (patch_of self.old (Some writer) block start bytes after undo))) }
+        ensures number { (run : Execution) → IsCacheOf cache.old run → IfOk result (λ no. no ≡ length (entries_of run)) }
+        ensures allowed { (run : Execution) → IsCacheOf cache.old run
             → OnOk result (why_not_patched run self.old (Some writer) block start bytes after ≡ None) }
         ensures joined { IfOk result (λ no. self.new ≡ with_patch self.old (Some writer) no) }
-        ensures cause { (run : Execution) → Represents cache.old run → IfErr result (λ refusal.
+        ensures cause { (run : Execution) → IsCacheOf cache.old run → IfErr result (λ refusal.
             IsCauseOf (why_not_patched run self.old (Some writer) block start bytes after) (create_cause refusal)) }
         ensures trace { OnOk result (cache.new.trace ≡ cache.old.trace ++ patch_of self.old (Some writer) block start bytes after undo ∷ []) }
         ensures refused { OnErr result (self.new ≡ self.old) }
@@ -115,18 +116,18 @@ impl<A: Allocator + Copy> Groups<A> {
     }
 
     /// What a patch of this writer names: the numbers that it is given, and behind them all patches of the groups before.
-    fn names_behind(&mut self, writer: WriterNo, after: Numbers<A>) -> Result<Names<A>, OutOfMemory>
+    fn names_behind(&mut self, writer: WriterNo, after: Names<A>) -> Result<Names<A>, OutOfMemory>
         ensures names { IfOk result (λ names. names ≡ after ++ after_of self.old writer) }
         ensures same { self.new ≡ self.old }
     {
         if self.engages_none() {
-            return Ok(Names::listed(after));
+            return Ok(after);
         }
         let before = self.runs_before_next(writer)?;
         if before.is_empty() {
-            return Ok(Names::listed(after));
+            return Ok(after);
         }
-        let runs = self.both(after.as_slice(), before)?;
+        let runs = self.both(after.lend(), before)?;
         Ok(Names::in_runs(runs))
     }
 
@@ -141,13 +142,13 @@ impl<A: Allocator + Copy> Groups<A> {
         names: Names<A>,
         undo: Undo,
     ) -> Result<PatchNo, CreateRefusal>
-        ensures made { (run : Execution) → Represents cache.old run → OnOk result
-            (Represents cache.new (extended run (Create block start bytes names undo))) }
-        ensures number { (run : Execution) → Represents cache.old run → IfOk result (λ no. no ≡ length (entries_of run)) }
-        ensures allowed { (run : Execution) → Represents cache.old run
+        ensures made { (run : Execution) → IsCacheOf cache.old run → OnOk result
+            (IsCacheOf cache.new (extended run (Create block start bytes names undo))) }
+        ensures number { (run : Execution) → IsCacheOf cache.old run → IfOk result (λ no. no ≡ length (entries_of run)) }
+        ensures allowed { (run : Execution) → IsCacheOf cache.old run
             → OnOk result (why_not_made (length run.first) (entries_of run) block start bytes names ≡ None) }
         ensures joined { IfOk result (λ no. self.new ≡ with_patch self.old (Some writer) no) }
-        ensures cause { (run : Execution) → Represents cache.old run → IfErr result (λ refusal.
+        ensures cause { (run : Execution) → IsCacheOf cache.old run → IfErr result (λ refusal.
             IsCauseOf (why_not_made (length run.first) (entries_of run) block start bytes names) (create_cause refusal)) }
         ensures trace { OnOk result (cache.new.trace ≡ cache.old.trace ++ Create block start bytes names undo ∷ []) }
         ensures refused { OnErr result (self.new ≡ self.old) }
@@ -168,7 +169,31 @@ impl<A: Allocator + Copy> Groups<A> {
     }
 
     /// The numbers, in runs, and the runs behind them.
-    fn both(&self, these: &[PatchNo], those: Vec<Run, A>) -> Result<Vec<Run, A>, OutOfMemory>
+    fn both(&self, these: Named<'_>, those: Vec<Run, A>) -> Result<Vec<Run, A>, OutOfMemory>
+        ensures { IfOk result (λ all. numbers_in all.items ≡ numbers_named these.entry ++ numbers_in those.items) }
+    {
+        match these {
+            Named::Listed(numbers) => self.numbers_and_runs(numbers, those),
+            Named::InRuns(runs) => self.runs_and_runs(runs, those),
+        }
+    }
+
+    /// The same, where the numbers lie in runs.
+    fn runs_and_runs(&self, these: &[Run], those: Vec<Run, A>) -> Result<Vec<Run, A>, OutOfMemory>
+        ensures { IfOk result (λ all. numbers_in all.items ≡ numbers_in these.now ++ numbers_in those.items) }
+    {
+        let mut all = Vec::with_capacity(self.alloc, these.len().saturating_add(those.len()))?;
+        all.extend_from_slice(these)?;
+        all.extend_from_slice(those.as_slice())?;
+        Ok(all)
+    }
+
+    /// The same, where each number is by itself.
+    fn numbers_and_runs(
+        &self,
+        these: &[PatchNo],
+        those: Vec<Run, A>,
+    ) -> Result<Vec<Run, A>, OutOfMemory>
         ensures { IfOk result (λ all. numbers_in all.items ≡ these.now ++ numbers_in those.items) }
     {
         if these.is_empty() {
@@ -240,11 +265,4 @@ fn enter_into<A: Allocator>(groups: &mut Vec<Record<A>, A>, group: GroupNo, no: 
     if let Some(record) = groups.get_mut(group.0 as usize) {
         add(&mut record.runs, no);
     }
-}
-
-/// The same items again.
-fn copied<T: Copy, A: Allocator>(alloc: A, items: &[T]) -> Result<Items<T, A>, OutOfMemory>
-    ensures { IfOk result (λ copy. copy ≡ items.now) }
-{
-    Ok(Items::from_vec(Vec::from_slice(alloc, items)?))
 }

@@ -2,7 +2,7 @@
 ghost use Rattle.std.specs.Prelude.{◌≡◌, ◌<◌, ◌++◌, [], length, OnOk, OnErr};
 ghost use Rattle.patch_model.specs.Execution.{Execution};
 ghost use Rattle.patch_device.specs.SameDevice.{IsSameDevice};
-ghost use Rattle.patch_cache.specs.Meaning.{Represents};
+ghost use Rattle.patch_cache.specs.Meaning.{IsCacheOf};
 ghost use Rattle.patch_cache.specs.Promise.{TakingBack, MovesArePermitted, LooksShow, ImagesSent, CrashesClosed};
 ghost use Rattle.patch_group.specs.Asks.{Patch, Group, Engage, Disengage, Depend, Close, Pending, IsGroupAnswer, parts, part_of, steps_of, groups_after, groups_after_all};
 ghost use Rattle.patch_plans.specs.Order.{AreGroupsOf, ClosedSetsHoldBefore};
@@ -15,7 +15,7 @@ use crate::laws;
 use patch_cache::{Answer, Cache, Flights, laws as cache_laws};
 use patch_device::Device;
 use patch_model::{
-    BlockNo, Bytes, GroupNo, Numbers, OutOfMemory, PatchNo, Refuses, Undo, WriterNo,
+    BlockNo, Bytes, GroupNo, Names, Numbers, OutOfMemory, PatchNo, Refuses, Undo, WriterNo,
     laws as model_laws,
 };
 use std::alloc::Allocator;
@@ -156,10 +156,11 @@ impl<A: Allocator + Copy> Groups<A> {
         after: Numbers<A>,
         undo: Undo,
     ) -> GroupAnswer<A>
-        ensures answer { (run : Execution) → Represents cache.old run
+        ensures answer { (run : Execution) → IsCacheOf cache.old run
             → IsPatched run self.old (Patch writer block start bytes after undo) (group_answer_of result) cache.new }
         ensures patched { HasPatched self.old (Patch writer block start bytes after undo) (group_answer_of result) self.new cache.old.trace cache.new.trace }
     {
+        let after = Names::listed(after);
         match self.create_owned(cache, writer, block, start, bytes, after, undo) {
             Ok(no) => GroupAnswer::Plain(Answer::Made(no)),
             Err(refusal) => GroupAnswer::Plain(Answer::Refused(refusal.refusal())),
@@ -177,7 +178,7 @@ impl<A: Allocator + Copy> Groups<A> {
         after: &[PatchNo],
         undo: Undo,
     ) -> GroupAnswer<A>
-        ensures answer { (run : Execution) → Represents cache.old run
+        ensures answer { (run : Execution) → IsCacheOf cache.old run
             → IsPatched run self.old (Patch writer block start bytes.now after.now undo) (group_answer_of result) cache.new }
         ensures patched { HasPatched self.old (Patch writer block start bytes.now after.now undo) (group_answer_of result) self.new cache.old.trace cache.new.trace }
     {
@@ -239,7 +240,7 @@ impl<A: Allocator + Copy> Groups<A> {
 
     /// Counts what is pending of a group.
     fn answer_pending(&self, group: GroupNo, cache: &Cache<A>) -> GroupAnswer<A>
-        ensures answer { (run : Execution) → Represents cache.now run → AreGroupsOf run self.now
+        ensures answer { (run : Execution) → IsCacheOf cache.now run → AreGroupsOf run self.now
             → IsGroupAnswer run self.now (Pending group) (group_answer_of result) }
         ensures groups { self.now ≡ groups_after self.now (Pending group) (group_answer_of result) }
         ensures no_part { part_of self.now (Pending group) (group_answer_of result) ≡ [] }

@@ -5,7 +5,7 @@ ghost use Rattle.patch_model.specs.Execution.{Execution, followed_by};
 ghost use Rattle.patch_model.specs.State.{entries_of};
 ghost use Rattle.patch_model.specs.Refusing.{bare};
 ghost use Rattle.patch_device.specs.SameDevice.{IsSameDevice, IsLasting};
-ghost use Rattle.patch_cache.specs.Meaning.{Represents};
+ghost use Rattle.patch_cache.specs.Meaning.{IsCacheOf};
 ghost use Rattle.patch_cache.specs.Running.{Runs, RunsOn, held_by};
 ghost use Rattle.patch_cache.specs.Refused.{IfGivenUp};
 ghost use Rattle.patch_cache.specs.declared.landing.TheConstants.{TRIES};
@@ -128,9 +128,9 @@ fn write_all_of<A: Allocator + Copy, D: Device>(
 fn first_pending<A: Allocator + Copy>(cache: &Cache<A>, numbers: &[PatchNo], from: usize) -> usize
     requires within { from ≤ length numbers.now }
     ensures within { result ≤ length numbers.now }
-    ensures past { (run : Execution) → Represents cache.now run
+    ensures past { (run : Execution) → IsCacheOf cache.now run
         → NonePending run (take from numbers.now) → NonePending run (take result numbers.now) }
-    ensures found { (run : Execution) → Represents cache.now run
+    ensures found { (run : Execution) → IsCacheOf cache.now run
         → result < length numbers.now → SomePending run numbers.now }
 {
     for at in from..numbers.len() {

@@ -2,7 +2,7 @@
 ghost use Rattle.std.specs.Prelude.{◌≡◌, ◌++◌, ◌∷◌, [], filter, IfOk, OnOk};
 ghost use Rattle.patch_model.specs.Execution.{Execution};
 ghost use Rattle.patch_model.specs.State.{entries_of};
-ghost use Rattle.patch_cache.specs.Meaning.{Represents};
+ghost use Rattle.patch_cache.specs.Meaning.{IsCacheOf};
 ghost use Rattle.patch_plans.specs.Groups.{patches_of};
 ghost use Rattle.patch_plans.specs.Groups as groups;
 ghost use Rattle.patch_model.specs.Runs.{numbers_of, numbers_in};
@@ -21,7 +21,7 @@ impl<A: Allocator + Copy> Groups<A> {
         group: GroupNo,
         cache: &Cache<A>,
     ) -> Result<Vec<PatchNo, A>, OutOfMemory>
-        ensures { (run : Execution) → Represents cache.now run
+        ensures { (run : Execution) → IsCacheOf cache.now run
             → IfOk result (λ waiting. waiting.items ≡ filter (groups.is_pending (entries_of run)) (patches_of self.now group)) }
     {
         let mut waiting = Vec::new(self.alloc);
@@ -38,7 +38,7 @@ fn wait_for_each<A: Allocator + Copy>(
     runs: &[Run],
     waiting: &mut Vec<PatchNo, A>,
 ) -> Result<(), OutOfMemory>
-    ensures { (run : Execution) → Represents cache.now run
+    ensures { (run : Execution) → IsCacheOf cache.now run
         → OnOk result (waiting.new.items ≡ waiting.old.items ++ filter (groups.is_pending (entries_of run)) (numbers_in runs.now)) }
 {
     let from = none_pending_below(cache);
@@ -55,8 +55,8 @@ fn wait_for_run<A: Allocator + Copy>(
     from: u32,
     waiting: &mut Vec<PatchNo, A>,
 ) -> Result<(), OutOfMemory>
-    requires { (run : Execution) → Represents cache.now run → NonePendingBelow run from }
-    ensures { (run : Execution) → Represents cache.now run
+    requires { (run : Execution) → IsCacheOf cache.now run → NonePendingBelow run from }
+    ensures { (run : Execution) → IsCacheOf cache.now run
         → OnOk result (waiting.new.items ≡ waiting.old.items ++ filter (groups.is_pending (entries_of run)) (numbers_of numbers.now)) }
 {
     if numbers.last < from {
@@ -75,7 +75,7 @@ fn wait_if_pending<A: Allocator + Copy>(
     no: PatchNo,
     waiting: &mut Vec<PatchNo, A>,
 ) -> Result<(), OutOfMemory>
-    ensures { (run : Execution) → Represents cache.now run
+    ensures { (run : Execution) → IsCacheOf cache.now run
         → OnOk result (waiting.new.items ≡ waiting.old.items ++ filter (groups.is_pending (entries_of run)) (no ∷ [])) }
 {
     if is_pending(cache, no) {

@@ -5,7 +5,7 @@ use Rattle.std.proofs.lemmas.Grind.{flat_map-append}
 use Rattle.patch_model.specs.Step.{Step}
 use Rattle.patch_model.specs.State.{State, after_step, at_first}
 use Rattle.patch_model.specs.Legal.{AreLegal}
-use Rattle.patch_history.specs.Standing.{Standing, at_opening}
+use Rattle.patch_history.specs.StoreState.{Standing, at_opening}
 use Rattle.patch_history.specs.History.{Event, steps_in, steps_of, AreRight, after_event}
 use Rattle.patch_history.specs.Laws.{HistoriesBegin}
 

@@ -15,9 +15,9 @@ use Rattle.patch_recovery.specs.Store.{IsOfStore}
 use Rattle.patch_recovery.specs.Lasting.{IsReadAs}
 use Rattle.patch_history.specs.History.{History, Event, AreRight, IsLegalHistory, after_event, standing_of}
 use Rattle.patch_history.specs.Shelf.{may_be_current}
-use Rattle.patch_history.specs.Standing.{Standing, at_opening}
+use Rattle.patch_history.specs.StoreState.{Standing, at_opening}
 use Rattle.patch_history.specs.Laws.{HistoriesAreOfStores, MapsAreSaid}
-use Rattle.patch_history.specs.Given.{Given}
+use Rattle.patch_history.specs.LawsBelow.{Given}
 use Rattle.patch_history.proofs.Members.{from_range}
 use Rattle.patch_history.proofs.Calls.{event_stood}
 use Rattle.patch_history.proofs.Events.{Stood}
@@ -28,7 +28,7 @@ use Rattle.std.proofs.lemmas.List.{append_assoc, append-nil, length-append, leng
 use Rattle.patch_recovery.specs.Said.{AreMoves}
 use Rattle.patch_history.specs.Closed.{HistoriesMove, marks_in, marks_from, moves_entry}
 use Rattle.patch_history.specs.History.{Call, Moved, IsRight}
-use Rattle.patch_history.specs.Standing.{creates, plan_of}
+use Rattle.patch_history.specs.StoreState.{creates, plan_of}
 use Rattle.patch_history.proofs.Calls.{call_marked}
 use Rattle.patch_history.proofs.Going.{onto_length}
 use Rattle.patch_history.proofs.Moved.{HasStores, has_stores, marked, marked_plan}

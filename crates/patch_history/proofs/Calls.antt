@@ -17,7 +17,7 @@ use Rattle.patch_recovery.specs.Orders.{IsWellMade, AreWellMade}
 use Rattle.patch_recovery.specs.Said.{last_said}
 use Rattle.patch_recovery.specs.Store.{makes_nothing}
 use Rattle.patch_recovery.specs.Reading.{has_key}
-use Rattle.patch_history.specs.Given.{Given}
+use Rattle.patch_history.specs.LawsBelow.{Given}
 use Rattle.patch_plans.specs.Extents.{generation_at}
 use Rattle.patch_plans.specs.Planning.{append_plan}
 use Rattle.patch_plans.specs.Writing.{written, steps_by, named_plan}
@@ -30,7 +30,7 @@ use Rattle.patch_history.specs.Planning.{frame_plan, fill_plan, moves, emptied}
 use Rattle.patch_history.specs.Refusing.{reply_of, is_current, why_not_put, why_not_deleted, why_not_reclaimed}
 use Rattle.patch_history.specs.Refusing.{why_not_upgraded}
 use Rattle.patch_history.specs.Shelf.{left_of, after_plan}
-use Rattle.patch_history.specs.Standing.{creates, Standing, made_by, plan_for, plan_of, after_call, onto}
+use Rattle.patch_history.specs.StoreState.{creates, Standing, made_by, plan_for, plan_of, after_call, onto}
 use Rattle.patch_history.proofs.Cutting.{cuts_are_first}
 use Rattle.patch_history.proofs.Framing.{FrameFits, frame_is, frame_well, put_of, put_geometry}
 use Rattle.patch_history.proofs.Going.{onto-++}

@@ -12,7 +12,7 @@ use Rattle.patch_plans.specs.Ordering.{get_or-push}
 use Rattle.patch_plans.specs.Writing.{with_patches}
 use Rattle.patch_history.specs.Command.{Command, Reply, Put, Get, Delete, Reclaim, Upgrade, Group, Engage, Disengage, Depend}
 use Rattle.patch_history.specs.Command.{CloseGroup, Pending, Done, is_refused}
-use Rattle.patch_history.specs.Standing.{Standing, at_opening, made_by, maker_of, plan_of, creates, groups_after}
+use Rattle.patch_history.specs.StoreState.{Standing, at_opening, made_by, maker_of, plan_of, creates, groups_after}
 use Rattle.patch_history.specs.Refusing.{reply_of}
 use Rattle.patch_history.specs.History.{Event, Call, Moved, IsRight, AreRight, IsWhole, after_event}
 use Rattle.patch_history.specs.Laws.{GroupsAreKept}

@@ -11,7 +11,7 @@ use Rattle.patch_plans.specs.Laws.{PlansJoin}
 use Rattle.patch_plans.specs.Writing.{after_plan, with_patches, Written, written, steps_by, steps_of}
 use Rattle.patch_plans.specs.Writing as extents
 use Rattle.patch_history.specs.Shelf.{Shelf, after_change}
-use Rattle.patch_history.specs.Standing.{made_by}
+use Rattle.patch_history.specs.StoreState.{made_by}
 use Rattle.patch_history.specs.Steps.{ShelvesGoOn, WholesJoin, CutsJoin, WholesAreCuts}
 use Rattle.patch_history.proofs.Stepping.{named_none, length-written}
 

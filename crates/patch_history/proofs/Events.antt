@@ -21,12 +21,12 @@ use Rattle.patch_history.specs.Map.{Map, after_reply, after_done}
 use Rattle.patch_history.specs.Planning.{moves, emptied}
 use Rattle.patch_history.specs.Refusing.{is_current}
 use Rattle.patch_history.specs.Shelf.{Shelf, after_plan}
-use Rattle.patch_history.specs.Standing.{creates, Standing, made_by, plan_of, after_call, onto}
+use Rattle.patch_history.specs.StoreState.{creates, Standing, made_by, plan_of, after_call, onto}
 use Rattle.patch_history.proofs.Going.{Good, good-plan}
 use Rattle.patch_history.proofs.Quiet.{AllQuiet, quiet_said, quiet_geometry}
 use Rattle.patch_history.proofs.Stepping.{creates_by, take_written, store_after}
 use Rattle.patch_history.proofs.Members.{some_plan}
-use Rattle.patch_history.specs.Given.{Given}
+use Rattle.patch_history.specs.LawsBelow.{Given}
 use Rattle.patch_recovery.specs.Right.{IsSound}
 
 -- The run is that of a store, the shelf goes with its changes, and the map has what they say.

@@ -14,7 +14,7 @@ use Rattle.patch_plans.specs.Extents.{no_extent, AreWhole}
 use Rattle.patch_plans.specs.Meaning as extents
 use Rattle.patch_history.specs.History.{History, IsLegalHistory, execution_of, standing_of, ledger_of}
 use Rattle.patch_history.specs.Laws.{HistoriesAreRead, ExtentsAreKept}
-use Rattle.patch_history.specs.Given.{Given}
+use Rattle.patch_history.specs.LawsBelow.{Given}
 use Rattle.patch_history.proofs.Bridging.{stood_all, opened_by, histories_are_of_stores}
 use Rattle.patch_history.proofs.Lengths.{blocks_long}
 use Rattle.patch_history.proofs.Pointing.{last_points, last_resets}

@@ -4,7 +4,7 @@ use Rattle.std.proofs.lemmas.List.{append_assoc, append-nil}
 use Rattle.std.specs.Prelude.{fold, flat_map}
 use Rattle.patch_model.specs.Execution.{followed_by}
 use Rattle.patch_model.specs.Legal.{IsLegal}
-use Rattle.patch_history.specs.Standing.{Standing, at_opening}
+use Rattle.patch_history.specs.StoreState.{Standing, at_opening}
 use Rattle.patch_history.specs.History.{History, Event, Call, Moved, steps_in, IsLegalHistory, IsRight, AreRight}
 use Rattle.patch_history.specs.History.{after_event, execution_of, standing_of, with_event}
 

@@ -13,11 +13,11 @@ use Rattle.patch_history.specs.Command.{Done}
 use Rattle.patch_history.specs.Choosing.{current_for, extent_for_move, live_frames}
 use Rattle.patch_history.specs.Planning.{moves}
 use Rattle.patch_history.specs.Shelf.{Shelf}
-use Rattle.patch_history.specs.Standing.{made_by, onto}
+use Rattle.patch_history.specs.StoreState.{made_by, onto}
 use Rattle.patch_history.specs.Refusing.{why_not_reclaimed}
 use Rattle.patch_history.specs.History.{standing_of}
 use Rattle.patch_history.specs.Fitting.{HasPlace, PutsFit, FramesAreThere, ReclaimsGoOn, shelf_behind, next_behind}
-use Rattle.patch_history.specs.Given.{Given}
+use Rattle.patch_history.specs.LawsBelow.{Given}
 use Rattle.patch_history.proofs.Bridging.{stood_all, opened_by, stores_of}
 use Rattle.patch_history.proofs.Calls.{put_ready, reclaim_start}
 use Rattle.patch_history.proofs.Events.{emptying}

@@ -18,12 +18,12 @@ use Rattle.patch_recovery.specs.Change.{Change, Data, Point, Fill, Made}
 use Rattle.patch_recovery.specs.Ledger.{Ledger, after_all}
 use Rattle.patch_recovery.specs.Putting.{pieces_within, pieces, made_in_order, Put, fields_put, bytes_put, slot_put}
 use Rattle.patch_recovery.specs.Putting.{IsRightPut, IsPutWell}
-use Rattle.patch_history.specs.Given.{Given}
+use Rattle.patch_history.specs.LawsBelow.{Given}
 use Rattle.patch_plans.specs.Extents.{extent_at, generation_at, offset_at}
 use Rattle.patch_plans.specs.Planning.{touched, part, parts}
 use Rattle.patch_history.specs.Planning.{frame_plan, fill_plan}
 use Rattle.patch_history.specs.Shelf.{Shelf, slot_at}
-use Rattle.patch_history.specs.Standing.{onto}
+use Rattle.patch_history.specs.StoreState.{onto}
 use Rattle.patch_history.proofs.Going.{Good, onto-++}
 use Rattle.patch_history.proofs.Parts.{named, parts_are_pieces}
 

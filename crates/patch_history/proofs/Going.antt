@@ -9,7 +9,7 @@ use Rattle.patch_recovery.specs.Ledger.{Ledger, after, after_all}
 use Rattle.patch_recovery.specs.Right.{IsRight}
 use Rattle.patch_recovery.specs.Orders.{IsWellMade, AreWellMade}
 use Rattle.patch_history.specs.Shelf.{Shelf, not_current, after_change, after_plan}
-use Rattle.patch_history.specs.Standing.{onto}
+use Rattle.patch_history.specs.StoreState.{onto}
 use Rattle.patch_history.proofs.Keeping.{Holds, holds-change}
 use Rattle.patch_history.proofs.Members.{some_number}
 

@@ -16,7 +16,7 @@ use Rattle.patch_plans.specs.Extents.{Extents, extent_at}
 use Rattle.patch_plans.specs.Writing.{after_change, with_patches, named_plan, merge_behind, merge_with, written, steps_by}
 use Rattle.patch_history.specs.Command.{Command, Reply, Put, Get, Delete, Reclaim, Upgrade, Group, Engage, Disengage, Depend}
 use Rattle.patch_history.specs.Command.{CloseGroup, Pending, Done, is_refused, may_be_cut}
-use Rattle.patch_history.specs.Standing.{Standing, at_opening, made_by, maker_of, plan_for, plan_of, creates, onto, after_call, groups_after}
+use Rattle.patch_history.specs.StoreState.{Standing, at_opening, made_by, maker_of, plan_for, plan_of, creates, onto, after_call, groups_after}
 use Rattle.patch_history.specs.Refusing.{reply_of}
 use Rattle.patch_history.specs.History.{Event, Call, Moved, IsRight, AreRight, IsWhole, is_write}
 use Rattle.patch_history.specs.History.{after_event, standing_of}
@@ -66,7 +66,7 @@ behind_merge s n (Clear slot) = tt
 behind_merge s n Widen = tt
 
 -- some first steps of a plan: these groups are the execution's, and so many patches were made
-record Kept (run : Execution) (steps : List Step) (gs : Groups) (w : Option ℕ) (n : ℕ) (plan : List Made) : Type 0 where
+record KeptPlan (run : Execution) (steps : List Step) (gs : Groups) (w : Option ℕ) (n : ℕ) (plan : List Made) : Type 0 where
   groups : AreGroupsOf (followed_by run steps) (with_patches gs w n (creates steps))
   count : length (entries_of (followed_by run steps)) ≡ n + creates steps
   few : creates steps ≤ length plan
@@ -82,7 +82,7 @@ followed_none run = ap (λ steps. record run { steps = steps }) (sym (append-nil
 followed_first : (run : Execution) (step : Step) (steps : List Step) → followed_by (extended run step) steps ≡ followed_by run (step ∷ steps)
 followed_first run step steps = ap (λ all. record run { steps = all }) (append_assoc run.steps (step ∷ []) steps)
 
-kept_none : (run : Execution) (gs : Groups) (w : Option ℕ) (n : ℕ) (plan : List Made) → Stands run gs n → Kept run [] gs w n plan
+kept_none : (run : Execution) (gs : Groups) (w : Option ℕ) (n : ℕ) (plan : List Made) → Stands run gs n → KeptPlan run [] gs w n plan
 kept_none run gs w n plan stands = record {
   groups = subst (λ r. AreGroupsOf r gs) (followed_none run) stands.groups;
   count = ap (λ r. length (entries_of r)) (sym (followed_none run)) ∙ stands.count ∙ omega arith;
@@ -92,7 +92,7 @@ kept_none run gs w n plan stands = record {
 -- the plan goes on behind a patch
 abbrev GoesOn : (rest tail : List Step) → Groups → Option ℕ → ℕ → List Made → Type 0
 GoesOn rest tail gs w n plan =
-    (run : Execution) (steps : List Step) → Stands run gs n → steps ++ rest ≡ tail → Kept run steps gs w n plan
+    (run : Execution) (steps : List Step) → Stands run gs n → steps ++ rest ≡ tail → KeptPlan run steps gs w n plan
 
 -- and behind its merge, if it has one
 past_merge : StateLaw → StepsKeep → (o : Option Step) (rest tail : List Step) (gs : Groups) (w : Option ℕ) (n : ℕ) (plan : List Made) → IsMerge o → GoesOn rest tail gs w n plan
@@ -109,7 +109,7 @@ past_merge law keep (Some (Merge a b)) rest tail gs w n plan is go run (x ∷ st
       groups = keep run gs (Merge a b) stands.groups;
       count = count_same law run (Merge a b) refl ∙ stands.count;
     }) more in
-    subst (λ s. Kept run (s ∷ steps) gs w n plan) (sym first) (record {
+    subst (λ s. KeptPlan run (s ∷ steps) gs w n plan) (sym first) (record {
       groups = subst (λ r. AreGroupsOf r (with_patches gs w n (creates steps))) (followed_first run (Merge a b) steps) kept.groups;
       count = ap (λ r. length (entries_of r)) (sym (followed_first run (Merge a b) steps)) ∙ kept.count;
       few = kept.few;
@@ -127,7 +127,7 @@ module _ (law : StateLaw) (keep : StepsKeep) (patches : PatchesKeep) where
   -- the first patch, and what follows it
   patch_first : (run : Execution) (s : Extents) (gs : Groups) (w : Option ℕ) (n : ℕ) (m : Made) (plan : List Made) (rest tail steps : List Step) → Stands run gs n
       → GoesOn rest tail (with_patch gs w n) w (n + 1) plan
-      → steps ++ rest ≡ step_of s.geometry (record m { after = named gs w m.after }) ∷ tail → Kept run steps gs w n (m ∷ plan)
+      → steps ++ rest ≡ step_of s.geometry (record m { after = named gs w m.after }) ∷ tail → KeptPlan run steps gs w n (m ∷ plan)
   patch_first run s gs w n m plan rest tail [] stands go all = kept_none run gs w n (m ∷ plan) stands
   patch_first run s gs w n m plan rest tail (x ∷ steps) stands go all =
       let create = step_of s.geometry (record m { after = named gs w m.after }) in
@@ -136,7 +136,7 @@ module _ (law : StateLaw) (keep : StepsKeep) (patches : PatchesKeep) where
       let kept = go (extended run create) steps (one_more run s gs w n m stands) more in
       let count = kept.count in
       let few = kept.few in
-      subst (λ y. Kept run (y ∷ steps) gs w n (m ∷ plan)) (sym first) (record {
+      subst (λ y. KeptPlan run (y ∷ steps) gs w n (m ∷ plan)) (sym first) (record {
         groups = subst (λ r. AreGroupsOf r (with_patches (with_patch gs w n) w (n + 1) (creates steps))) (followed_first run create steps) kept.groups;
         count = ap (λ r. length (entries_of r)) (sym (followed_first run create steps)) ∙ kept.count ∙ omega arith;
         few = omega (arith, few);

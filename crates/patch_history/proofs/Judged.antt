@@ -16,7 +16,7 @@ use Rattle.patch_history.specs.Command.{Reply, Put, Delete, Reclaim, unless, is_
 use Rattle.patch_history.specs.Refusing.{why_no_key, why_not_made, why_not_put, why_not_deleted, why_not_reclaimed}
 use Rattle.patch_history.specs.Refusing.{why_not_upgraded, is_in_use, is_wide}
 use Rattle.std.specs.Option.{option_or}
-use Rattle.patch_history.specs.Standing.{Standing, plan_for}
+use Rattle.patch_history.specs.StoreState.{Standing, plan_for}
 use Rattle.patch_model.specs.declared.refusals.RefusalKind.TheVariants as kind
 
 pub no_cause : (why : Option Refusal) (reply : Reply) → is_refused (unless why reply) ≡ false → why ≡ None

@@ -18,9 +18,9 @@ use Rattle.patch_recovery.specs.Orders.{StandsIn, is_reset, takes_from, names_ex
 use Rattle.patch_recovery.specs.Naming.{newest, is_point}
 use Rattle.patch_plans.specs.Extents.{no_extent, extent_at, pointed}
 use Rattle.patch_history.specs.Shelf.{Shelf, slot_at, left_of, leaving, opened, opened_extent, after_change, after_plan}
-use Rattle.patch_history.specs.Standing.{creates, Standing, onto, at_opening, made_by, plan_of}
+use Rattle.patch_history.specs.StoreState.{creates, Standing, onto, at_opening, made_by, plan_of}
 use Rattle.patch_history.specs.History.{History, Event, Call, Moved, after_event, standing_of}
-use Rattle.patch_history.specs.Kept.{IsShelfOf, IsInIndex, KeepsNewest}
+use Rattle.patch_history.specs.ShelfLedger.{IsShelfOf, IsInIndex, KeepsNewest}
 use Rattle.patch_history.proofs.Shelving.{after_change_is, opened_is}
 
 pub equal : (a b : ℕ) → (a == b) ≡ true → a ≡ b

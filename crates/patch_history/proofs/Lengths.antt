@@ -14,7 +14,7 @@ use Rattle.patch_model.specs.Laying.{length-lay}
 use Rattle.patch_model.specs.Member.{In, filter-In, Contains-from_In}
 use Rattle.patch_recovery.specs.Reading.{block_on}
 use Rattle.patch_recovery.specs.Closed.{cached_blocks}
-use Rattle.patch_history.specs.Given.{Given}
+use Rattle.patch_history.specs.LawsBelow.{Given}
 
 -- patches that keep their places leave the length
 pile_long : (es : List Entry) (b : List ℕ) → length b ≡ BLOCK

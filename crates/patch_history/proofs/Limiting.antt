@@ -7,11 +7,11 @@ use Rattle.std.proofs.lemmas.Bool.Decides.{nat_tests}
 use Rattle.std.proofs.lemmas.List.{length-set, length-append}
 use Rattle.patch_model.specs.Step.{Step}
 use Rattle.patch_plans.specs.declared.limits.TheConstants.{MAX_GROUPS}
-use Rattle.patch_plans.specs.Groups.{Groups, Group as Kept, fresh, group_at, ordered, entered, engaged_by, with_patch, why_not_begun}
+use Rattle.patch_plans.specs.Groups.{Groups, Group as GroupValue, fresh, group_at, ordered, entered, engaged_by, with_patch, why_not_begun}
 use Rattle.patch_plans.specs.Writing.{with_patches}
 use Rattle.patch_history.specs.Command.{Command, Reply, Put, Get, Delete, Reclaim, Upgrade, Group, Engage, Disengage, Depend}
 use Rattle.patch_history.specs.Command.{CloseGroup, Pending, GroupMade, is_refused}
-use Rattle.patch_history.specs.Standing.{Standing, at_opening, made_by, maker_of, creates, groups_after}
+use Rattle.patch_history.specs.StoreState.{Standing, at_opening, made_by, maker_of, creates, groups_after}
 use Rattle.patch_history.specs.Refusing.{reply_of}
 use Rattle.patch_history.specs.History.{Event, Call, Moved, IsRight, AreRight, after_event}
 use Rattle.patch_history.specs.Laws.{GroupsAreFew}
@@ -22,7 +22,7 @@ count gs = length gs.groups
 
 -- No patch makes a group.
 
-entered_count : (groups : List Kept) (names : List ℕ) (n : ℕ) → length (entered groups names n) ≡ length groups
+entered_count : (groups : List GroupValue) (names : List ℕ) (n : ℕ) → length (entered groups names n) ≡ length groups
 entered_count groups [] n = refl
 entered_count groups (g ∷ names) n = entered_count (set groups g _) names n ∙ length-set groups g _
 

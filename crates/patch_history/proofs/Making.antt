@@ -11,9 +11,9 @@ use Rattle.patch_recovery.specs.Change.{Change, Data, Point, Fill, Clear, Widen,
 use Rattle.patch_recovery.specs.Ledger.{Ledger}
 use Rattle.patch_plans.specs.Extents.{extent_at, no_extent, pointed}
 use Rattle.patch_history.specs.Shelf.{Shelf, leaving, opened, opened_extent, slot_at, after_change, after_plan}
-use Rattle.patch_history.specs.Standing.{Standing, creates, at_opening, made_by, plan_of}
+use Rattle.patch_history.specs.StoreState.{Standing, creates, at_opening, made_by, plan_of}
 use Rattle.patch_history.specs.History.{Event, Call, Moved, after_event}
-use Rattle.patch_history.specs.Kept.{IsMade, AreMade, KeptAreMade}
+use Rattle.patch_history.specs.ShelfLedger.{IsMade, AreMade, KeptAreMade}
 use Rattle.patch_history.proofs.Going.{onto_length}
 
 -- what was made stays so

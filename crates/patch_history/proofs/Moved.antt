@@ -14,7 +14,7 @@ use Rattle.patch_recovery.specs.Reading.{reading}
 use Rattle.patch_recovery.specs.Said.{Moves, AreMoves}
 use Rattle.patch_recovery.specs.Store.{IsOfStore, StoresBegin, StoresGrow}
 use Rattle.patch_history.specs.Closed.{is_fill}
-use Rattle.patch_history.specs.Standing.{onto}
+use Rattle.patch_history.specs.StoreState.{onto}
 use Rattle.patch_history.proofs.Quiet.{AllSilent, IsSilent}
 
 -- An execution of any well made changes.

@@ -1,6 +1,6 @@
 -- What a shelf keeps is what the next patches have to name.
 use Rattle.std.proofs.Common.{subst}
-use Rattle.patch_history.specs.Kept.{Has, KeptAreNamed}
+use Rattle.patch_history.specs.ShelfLedger.{Has, KeptAreNamed}
 
 pub kept_are_named : KeptAreNamed
 kept_are_named s first made kept = (

@@ -26,7 +26,7 @@ use Rattle.patch_frame.specs.declared.pointers.Pointer.{Pointer}
 use Rattle.patch_recovery.specs.Right.{IsSound}
 use Rattle.patch_recovery.specs.Orders.{AreWellMade}
 use Rattle.patch_recovery.specs.Wider.{Limits}
-use Rattle.patch_history.specs.Given.{Given}
+use Rattle.patch_history.specs.LawsBelow.{Given}
 
 off_left : (a b : Bool) → a ≡ false → (a && b) ≡ false
 off_left a b h = rw h refl

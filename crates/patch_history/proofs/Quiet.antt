@@ -7,7 +7,7 @@ use Rattle.patch_recovery.specs.Ledger.{Ledger, after, after_all}
 use Rattle.patch_recovery.specs.Said.{last_said}
 use Rattle.patch_plans.specs.Groups.{Groups, with_patch}
 use Rattle.patch_plans.specs.Writing.{named_plan}
-use Rattle.patch_history.specs.Standing.{onto}
+use Rattle.patch_history.specs.StoreState.{onto}
 
 -- each key has what it had, and the disk is divided as it was
 pub record IsQuiet (first : Ledger) (made : List Made) (m : Made) : Type 0 where

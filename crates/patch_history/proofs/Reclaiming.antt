@@ -20,14 +20,14 @@ use Rattle.patch_recovery.specs.Orders.{AreWellMade}
 use Rattle.patch_recovery.specs.Naming.{is_point}
 use Rattle.patch_recovery.specs.Said.{last_said}
 use Rattle.patch_recovery.specs.Putting.{pointer_put, fields_put, slot_put}
-use Rattle.patch_history.specs.Given.{Given}
+use Rattle.patch_history.specs.LawsBelow.{Given}
 use Rattle.patch_recovery.specs.Wider.{format_kept}
 use Rattle.patch_plans.specs.Extents.{offset_at}
 use Rattle.patch_plans.specs.Planning.{append_plan, touched, part, parts, names_behind}
 use Rattle.patch_history.specs.Choosing.{extent_for_move, current_for}
 use Rattle.patch_history.specs.Planning.{frame_plan, fill_plan, content_of, moves}
 use Rattle.patch_history.specs.Shelf.{Shelf, after_change, after_plan}
-use Rattle.patch_history.specs.Standing.{onto}
+use Rattle.patch_history.specs.StoreState.{onto}
 use Rattle.patch_history.proofs.Going.{Good, good-plan, onto-++, onto_length, still_current}
 use Rattle.patch_history.proofs.Framing.{put_of, frame_is, FrameFits, right_put, frame_well, put_slot, put_pointer}
 use Rattle.patch_history.proofs.Quiet.{AllQuiet, AllSilent, silent_changes, silent_append, silent_quiet, quiet_append}

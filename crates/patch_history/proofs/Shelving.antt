@@ -11,9 +11,9 @@ use Rattle.patch_recovery.specs.Change.{Change, Data, Point, Fill, Clear, Widen,
 use Rattle.patch_recovery.specs.Ledger.{Ledger, after, after_all}
 use Rattle.patch_plans.specs.Extents.{no_extent, extent_at, pointed}
 use Rattle.patch_history.specs.Shelf.{Shelf, slot_at, opened, opened_extent, after_change, after_slot, after_plan}
-use Rattle.patch_history.specs.Standing.{creates, Standing, onto, at_opening, made_by, plan_of}
+use Rattle.patch_history.specs.StoreState.{creates, Standing, onto, at_opening, made_by, plan_of}
 use Rattle.patch_history.specs.History.{History, Event, Call, Moved, after_event, standing_of, ledger_of}
-use Rattle.patch_history.specs.Kept.{IsShelfOf}
+use Rattle.patch_history.specs.ShelfLedger.{IsShelfOf}
 
 equal : (a b : ℕ) → (a == b) ≡ true → a ≡ b
 equal a b t = grind (arith, nat_tests)

@@ -6,9 +6,9 @@ use Rattle.patch_recovery.specs.Change.{Made, patches_of}
 use Rattle.patch_recovery.specs.Ledger.{Ledger}
 use Rattle.patch_recovery.specs.Reading.{reading, Fault}
 use Rattle.patch_recovery.specs.Orders.{AreWellMade}
-use Rattle.patch_history.specs.Given.{Given}
+use Rattle.patch_history.specs.LawsBelow.{Given}
 use Rattle.patch_history.specs.Shelf.{after_plan}
-use Rattle.patch_history.specs.Standing.{Standing, at_opening, made_by, plan_of, creates, onto}
+use Rattle.patch_history.specs.StoreState.{Standing, at_opening, made_by, plan_of, creates, onto}
 use Rattle.patch_history.specs.History.{History, Event, Call, Moved, IsLegalHistory, after_event, execution_of, standing_of}
 use Rattle.patch_history.specs.Single.{shelf_of, ShelvesAreOfChanges, ChangesAreSingle, ShelvesAreSingle}
 use Rattle.patch_history.proofs.Bridging.{opened_by, histories_are_of_stores}

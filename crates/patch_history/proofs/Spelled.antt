@@ -19,7 +19,7 @@ use Rattle.patch_recovery.specs.Ledger.{Ledger, after_all}
 use Rattle.patch_recovery.specs.Right.{IsSound, IsRight}
 use Rattle.patch_recovery.specs.Orders.{AreWellMade}
 use Rattle.patch_recovery.specs.Wider.{Wider, limits_of, format_kept}
-use Rattle.patch_history.specs.Given.{Given, Pointers}
+use Rattle.patch_history.specs.LawsBelow.{Given, Pointers}
 
 -- slots are read again as what they were spelled by
 abbrev pub SlotsAgain : Type 0

@@ -15,14 +15,14 @@ use Rattle.patch_recovery.specs.Orders.{AreWellMade}
 use Rattle.patch_recovery.specs.Store.{IsOfStore}
 use Rattle.patch_plans.specs.Extents.{Extents, extent_at}
 use Rattle.patch_plans.specs.Writing.{after_change, merge_behind, merge_with, written, steps_by, named_plan}
-use Rattle.patch_history.specs.Standing.{creates, onto}
+use Rattle.patch_history.specs.StoreState.{creates, onto}
 use Rattle.patch_history.specs.Steps.{PlanFits, EndsPlainly}
 use Rattle.patch_history.proofs.Spelling.{upgrades_spell_alike}
 use Rattle.patch_history.proofs.Walking.{plans_are_of_stores}
 use Rattle.patch_history.proofs.Richer.{AreRicher, all_richer_self}
 use Rattle.patch_history.proofs.Going.{onto-++, onto_front}
 use Rattle.patch_history.proofs.Framing.{among_front}
-use Rattle.patch_history.specs.Given.{Given}
+use Rattle.patch_history.specs.LawsBelow.{Given}
 use Rattle.patch_recovery.specs.Right.{IsSound}
 
 -- How many patches some steps make.

@@ -10,7 +10,7 @@ use Rattle.patch_recovery.specs.Ledger.{Ledger}
 use Rattle.patch_recovery.specs.Store.{IsOfStore, StoresGrow, OtherStepsLeaveStores, makes_nothing}
 use Rattle.patch_plans.specs.Extents.{Extents, extent_at}
 use Rattle.patch_plans.specs.Writing.{after_change, merge_behind, merge_with, written, steps_by}
-use Rattle.patch_history.specs.Standing.{onto}
+use Rattle.patch_history.specs.StoreState.{onto}
 use Rattle.patch_history.specs.Steps.{PlanFits, PlansAreOfStores}
 
 -- a merge makes no patch

@@ -10,14 +10,14 @@ use Rattle.patch_recovery.specs.Change.{Change, Data, Point, Fill, Clear, Widen,
 use Rattle.patch_recovery.specs.Ledger.{Ledger, after_all}
 use Rattle.patch_recovery.specs.Right.{IsSound, IsRight}
 use Rattle.patch_recovery.specs.Orders.{IsWellMade, AreWellMade, StandsIn}
-use Rattle.patch_history.specs.Given.{Given}
+use Rattle.patch_history.specs.LawsBelow.{Given}
 use Rattle.patch_recovery.specs.Wider.{format_kept, limits_of}
 use Rattle.patch_plans.specs.Extents.{offset_at}
 use Rattle.patch_history.specs.Choosing.{slot_of, slot_for, extent_for_put, current_for, empty_extents, first_of_any}
 use Rattle.patch_history.specs.Choosing.{first_of_two}
 use Rattle.patch_history.specs.Planning.{frame_plan, put_plan}
 use Rattle.patch_history.specs.Shelf.{Shelf, slot_at, left_of}
-use Rattle.patch_history.specs.Kept.{IsInIndex}
+use Rattle.patch_history.specs.ShelfLedger.{IsInIndex}
 use Rattle.patch_history.proofs.Names.{kept_are_named}
 use Rattle.patch_history.proofs.Going.{Good}
 use Rattle.patch_history.proofs.Framing.{FrameFits, has_kept}

@@ -7,7 +7,7 @@ use Rattle.patch_recovery.specs.Change.{Change, Fill, Made}
 use Rattle.patch_recovery.specs.Said.{AreMoves, last_word_kept}
 use Rattle.patch_recovery.specs.Closed.{Opens, in_set, ledger_of}
 use Rattle.patch_history.specs.Command.{Command, Reclaim}
-use Rattle.patch_history.specs.Standing.{Standing, creates, at_opening, plan_of}
+use Rattle.patch_history.specs.StoreState.{Standing, creates, at_opening, plan_of}
 use Rattle.patch_history.specs.History.{History, Event, Call, Moved, IsLegalHistory, after_event, execution_of}
 use Rattle.patch_history.specs.History.{standing_of}
 

@@ -11,7 +11,7 @@ use Rattle.patch_history.specs.Command.{Put, Reclaim, is_refused}
 use Rattle.patch_history.specs.Shelf.{Shelf, slot_at, after_plan}
 use Rattle.patch_history.specs.Choosing.{slot_for, extent_for_put, extent_for_move, live_frames}
 use Rattle.patch_history.specs.Planning.{put_plan, frame_plan, content_of, moves}
-use Rattle.patch_history.specs.Standing.{Standing, made_by, onto}
+use Rattle.patch_history.specs.StoreState.{Standing, made_by, onto}
 use Rattle.patch_history.specs.Refusing.{reply_of}
 use Rattle.patch_history.specs.History.{History, IsLegalHistory, standing_of, ledger_of}
 

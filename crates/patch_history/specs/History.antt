@@ -12,7 +12,7 @@ use Rattle.patch_recovery.specs.Ledger.{Ledger, after_all}
 use Rattle.patch_recovery.specs.Reading.{reading}
 use Rattle.patch_plans.specs.Writing.{written, steps_by}
 use Rattle.patch_history.specs.Command.{Command, Reply, Refused, is_refused, takes_memory, may_be_cut}
-use Rattle.patch_history.specs.Standing.{Standing, at_opening, made_by, plan_of, after_call}
+use Rattle.patch_history.specs.StoreState.{Standing, at_opening, made_by, plan_of, after_call}
 use Rattle.patch_history.specs.Refusing.{reply_of}
 
 -- a writer's command, its reply and its steps; or a step of a write, between the calls

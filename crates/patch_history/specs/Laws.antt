@@ -12,7 +12,7 @@ use Rattle.patch_recovery.specs.Closed.{Opens, cached_blocks}
 use Rattle.patch_recovery.specs.Lasting.{Tells}
 use Rattle.patch_plans.specs.Extents.{offset_at}
 use Rattle.patch_plans.specs.Meaning as extents
-use Rattle.patch_history.specs.Standing.{made_by, live_of}
+use Rattle.patch_history.specs.StoreState.{made_by, live_of}
 use Rattle.patch_history.specs.History.{History, Event, IsLegalHistory, IsRight, execution_of, standing_of, ledger_of}
 use Rattle.patch_history.specs.History.{with_event}
 
@@ -54,7 +54,7 @@ HistoriesAreRead =
 -- the extents that are kept represent the execution
 abbrev pub ExtentsAreKept : Type 0
 ExtentsAreKept =
-    (h : History) → IsLegalHistory h → extents.Represents (standing_of h).shelf.extents (execution_of h)
+    (h : History) → IsLegalHistory h → extents.AreExtentsOf (standing_of h).shelf.extents (execution_of h)
 
 -- and the groups are those of the execution
 abbrev pub GroupsAreKept : Type 0

@@ -3,12 +3,12 @@ pub mod Map
 pub mod Shelf
 pub mod Choosing
 pub mod Planning
-pub mod Standing
+pub mod StoreState
 pub mod Refusing
 pub mod History
-pub mod Kept
+pub mod ShelfLedger
 pub mod Steps
-pub mod Given
+pub mod LawsBelow
 pub mod Laws
 pub mod Single
 pub mod Chained

@@ -6,6 +6,7 @@ use Rattle.patch_model.specs.declared.refusals.RefusalKind.TheVariants as kind
 use Rattle.patch_model.specs.declared.refusals.Refusal.{Refusal}
 use Rattle.patch_model.specs.Refusing.{bare}
 use Rattle.patch_model.specs.State.{entries_of}
+use Rattle.patch_frame.specs.declared.framing.TheConstants.{MAX_KEY}
 use Rattle.patch_frame.specs.declared.geometries.Format.{Format}
 use Rattle.patch_frame.specs.declared.geometries.Format.TheVariants.{One, Two}
 use Rattle.patch_frame.specs.Geometry.{value_limit}
@@ -19,11 +20,11 @@ use Rattle.patch_history.specs.Command.{Command, Reply, Put, Get, Delete, Reclai
 use Rattle.patch_history.specs.Command.{Depend, CloseGroup, Pending, Done, Value, Absent, GroupMade, Count, unless}
 use Rattle.patch_history.specs.Shelf.{Shelf}
 use Rattle.patch_history.specs.Choosing.{slot_for, live_frames}
-use Rattle.patch_history.specs.Standing.{Standing, made_by, live_of, plan_for}
+use Rattle.patch_history.specs.StoreState.{Standing, made_by, live_of, plan_for}
 
 -- a key has 1 to 32 bytes
 abbrev pub why_no_key : List ℕ → Option Refusal
-why_no_key key = if length key == 0 || nat_lt 32 (length key) then Some (bare kind.KeyLength) else None
+why_no_key key = if length key == 0 || nat_lt MAX_KEY (length key) then Some (bare kind.KeyLength) else None
 
 -- why a plan isn't made: there is none, or there is no room for all its patches
 abbrev pub why_not_made : Standing → (no_plan : Refusal) → Option (List Made) → Option Refusal

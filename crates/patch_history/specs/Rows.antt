@@ -14,7 +14,7 @@ use Rattle.patch_model.specs.Step.{Send}
 use Rattle.patch_history.specs.Command.{Command, Put, Get, Delete, Reclaim, Upgrade, Group, Engage, Disengage, Depend}
 use Rattle.patch_history.specs.Command.{CloseGroup, Pending, Reply, Done, Value, Refused, is_refused}
 use Rattle.patch_history.specs.Choosing.{live_frames}
-use Rattle.patch_history.specs.Standing.{Standing, made_by, plan_of, after_call}
+use Rattle.patch_history.specs.StoreState.{Standing, made_by, plan_of, after_call}
 use Rattle.patch_history.specs.Refusing.{reply_of}
 use Rattle.patch_history.specs.History.{Event, Call, Moved, History, calls_of}
 

@@ -2,6 +2,7 @@
 use Rattle.std.specs.Prelude.{ℕ, Bool, ◌+◌, ◌==◌, ◌&&◌, nat_le, if◌then◌else◌, List, [], ◌∷◌, ◌++◌, map, find, replicate}
 use Rattle.std.specs.Prelude.{slice_index_or, slice_set, Option, Some, None}
 use Rattle.std.specs.List.{range_with_len}
+use Rattle.patch_frame.specs.declared.framing.TheConstants.{MIN_FRAME}
 use Rattle.patch_frame.specs.declared.pointers.Pointer.{Pointer}
 use Rattle.patch_frame.specs.Geometry.{slot_count, largest_pointer}
 use Rattle.patch_frame.specs.Slot.{SlotFields}
@@ -74,7 +75,7 @@ opened_extent p = record { pointer = p; reset = None; point = None }
 abbrev pub may_be_current : Ledger → ℕ → Bool
 may_be_current l extent =
     nat_le 1 (l.pointer extent).offset
-    && nat_le ((l.pointer extent).offset + 17) (largest_pointer l.geometry.format)
+    && nat_le ((l.pointer extent).offset + MIN_FRAME) (largest_pointer l.geometry.format)
 
 abbrev pub opened : Ledger → Shelf
 opened l = record {

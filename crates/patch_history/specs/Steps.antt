@@ -16,7 +16,7 @@ use Rattle.patch_plans.specs.Writing.{steps_by, steps_of}
 use Rattle.patch_history.specs.Shelf.{Shelf}
 use Rattle.patch_history.specs.Shelf as shelves
 use Rattle.patch_history.specs.Planning.{frame_plan, fill_plan}
-use Rattle.patch_history.specs.Standing.{Standing, made_by, onto}
+use Rattle.patch_history.specs.StoreState.{Standing, made_by, onto}
 use Rattle.patch_history.specs.History.{IsWhole, IsCut}
 
 -- How the calls of the extents make up a frame's steps.

@@ -1,9 +1,9 @@
 //! Laws of histories.
-ghost use Rattle.patch_history.specs.Kept.{ShelvesAreKept, NewestAreKept, KeptAreMade, KeptAreNamed};
+ghost use Rattle.patch_history.specs.ShelfLedger.{ShelvesAreKept, NewestAreKept, KeptAreMade, KeptAreNamed};
 ghost use Rattle.patch_history.specs.Steps.{FramesCompose, AppendsAreCuts, BegunAppendsAreCuts, ShelvesGoOn, WholesJoin, CutsJoin, WholesAreCuts};
 ghost use Rattle.patch_history.specs.Steps.{CutsAreFirst, PlansAreOfStores, UpgradesSpellAlike};
 ghost use Rattle.patch_history.specs.Fitting.{PutsFit, FramesAreThere, ReclaimsGoOn};
-ghost use Rattle.patch_history.specs.Given.{Given};
+ghost use Rattle.patch_history.specs.LawsBelow.{Given};
 ghost use Rattle.patch_history.specs.Closed.{HistoriesMove, ClosedDisksOpen, CrashDisksOpen};
 ghost use Rattle.patch_history.specs.Laws.{HistoriesExtend, HistoriesBegin, StandingsRun, HistoriesAreOfStores, MapsAreSaid, HistoriesAreRead, StandingsAgree, ExtentsAreKept, GroupsAreKept, GroupsAreFew};
 ghost use Rattle.patch_history.specs.Chained.{GroupsAreChained, ChainsAreKept};

@@ -5,7 +5,7 @@ ghost use Rattle.patch_model.specs.declared.refusals.RefusalKind.TheVariants as 
 ghost use Rattle.patch_model.specs.Refusing.{bare};
 ghost use Rattle.patch_history.specs.Command.{Put, Get, Reclaim, Pending, Done, Value, Absent, GroupMade, Count, Refused};
 ghost use Rattle.patch_history.specs.Shelf.{opened};
-ghost use Rattle.patch_history.specs.Standing.{at_opening};
+ghost use Rattle.patch_history.specs.StoreState.{at_opening};
 ghost use Rattle.patch_history.specs.Rows.{new_disk, short_disk, replies, after_commands, extents_of, lengths_of, live_slots, calls_for, names_of, key, put_steps, read_with, refused, counts_of};
 ghost use Rattle.patch_history.specs.Rows.{put_twice, deleted_twice, long_keys, long_values, three_keys, claimed_again, two_values, one_reclaimed, two_reclaimed, three_reclaimed, emptied, put_and_deleted, upgraded_twice, in_order, chained, refused_calls, deleted_in_order, put_sent_got};
 ghost use Rattle.patch_history.specs.Chained.{order_in};

@@ -5,5 +5,5 @@ pub mod Found
 pub mod Alone
 pub mod Framed
 pub mod Parts
-pub mod Kept
+pub mod SlotChanges
 pub mod Comparing

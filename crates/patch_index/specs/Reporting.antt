@@ -1,5 +1,6 @@
 -- What is reported of the slots.
 use Rattle.std.specs.Prelude.{ℕ, ◌+◌, ◌-◌, ◌==◌, List, [], ◌∷◌, length, Option, Some, None, if◌then◌else◌}
+use Rattle.patch_frame.specs.declared.framing.TheConstants.{OVERHEAD}
 use Rattle.patch_frame.specs.Slot.{SlotFields}
 use Rattle.patch_index.specs.declared.reports.EntryReport.{EntryReport}
 use Rattle.patch_index.specs.Index.{key_of}
@@ -9,7 +10,7 @@ abbrev pub reported : EntryReport → List ℕ × ℕ
 reported e = (key_of e.key, e.length)
 
 abbrev pub of_slot : SlotFields → List ℕ × ℕ
-of_slot f = (f.key, f.length - 16 - length f.key)
+of_slot f = (f.key, f.length - OVERHEAD - length f.key)
 
 -- those of the used slots, rising
 abbrev pub of_slots : List (Option SlotFields) → List (List ℕ × ℕ)

@@ -1,18 +1,16 @@
 //! What the index keeps of a used slot.
 ghost use Rattle.std.specs.Prelude.{◌+◌, ◌≤◌};
+ghost use Rattle.patch_frame.specs.declared.framing.TheConstants.{MAX_KEY, OVERHEAD};
 ghost use Rattle.patch_frame.specs.declared.pointers.TheConstants.{MAX_POINTER};
 
 use patch_frame::MAX_KEY;
-
-/// How many bytes a frame has beside its key and its value.
-pub const OVERHEAD: u32 = 16;
 
 /// A key of at most 32 bytes, in no memory of its own.
 #[derive(Clone, Copy)]
 pub struct Key {
     pub(crate) bytes: [u8; MAX_KEY],
     pub(crate) length: u32,
-    ghost fits: { length ≤ 32 },
+    ghost fits: { length ≤ MAX_KEY },
 }
 
 /// The frame of a key: where it stands, and how many bytes it has.
@@ -25,5 +23,5 @@ pub struct Entry {
     pub offset: u32,
     pub length: u32,
     ghost within: { offset + length ≤ MAX_POINTER },
-    ghost whole: { 16 + key.length ≤ length },
+    ghost whole: { OVERHEAD + key.length ≤ length },
 }

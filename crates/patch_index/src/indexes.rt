@@ -15,7 +15,7 @@ use std::alloc::{Allocator, Global};
 use std::marker::Model;
 
 /// The most slots that an index has.
-pub(crate) const MAX_SLOTS: usize = 1024;
+pub const MAX_SLOTS: usize = 1024;
 
 /// The slots of a disk, each empty or with the frame that it names. There are 1,024 at most.
 #[derive(Drop)]

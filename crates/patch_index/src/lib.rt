@@ -12,7 +12,7 @@ mod live_slots;
 mod reports;
 mod searching;
 
-pub use entries::{Entry, Key, OVERHEAD};
-pub use indexes::Index;
+pub use entries::{Entry, Key};
+pub use indexes::{Index, MAX_SLOTS};
 pub use live_slots::LiveSlots;
 pub use reports::EntryReport;

@@ -1,5 +1,5 @@
 //! The slots whose frames a reclaim moves.
-ghost use Rattle.std.specs.Prelude.{◌≡◌, ◌≤◌, length};
+ghost use Rattle.std.specs.Prelude.{◌≡◌, ◌<◌, ◌≤◌, length, Some};
 ghost use Rattle.std.specs.List.{slice_get};
 
 use crate::indexes::MAX_SLOTS;
@@ -43,21 +43,19 @@ impl LiveSlots {
         self.count
     }
 
-    /// There are no more than an index has.
+    /// There are no more than an index has. Only proofs need this call: a look at the fields is what tells it of the type.
     pub fn are_few(&self)
         ensures { length self.now ≤ 1024 }
     {
         let _ = &self.count;
     }
 
-    /// The slot at a place.
-    pub fn get(&self, at: usize) -> Option<u32>
-        ensures { result ≡ slice_get self.now at }
+    /// The slot at a place, of which there are so many.
+    pub fn nth(&self, at: usize) -> u32
+        requires { at < length self.now }
+        ensures { slice_get self.now at ≡ Some result }
     {
-        if at < self.count {
-            Some(u32::from(self.numbers[at]))
-        } else {
-            None
-        }
+        let slots = &self.numbers[..self.count];
+        u32::from(slots[at])
     }
 }

@@ -3,7 +3,8 @@ ghost use Rattle.std.specs.Prelude.{◌≡◌};
 ghost use Rattle.patch_index.specs.Index.{fields_of};
 ghost use Rattle.patch_index.specs.Reporting.{reported, of_slot};
 
-use crate::entries::{Entry, Key, OVERHEAD};
+use crate::entries::{Entry, Key};
+use patch_frame::OVERHEAD;
 
 /// A key, and how many bytes its value has.
 #[derive(Clone, Copy)]

@@ -7,7 +7,7 @@ use Rattle.patch_model.specs.Entry.{is_among}
 use Rattle.patch_links.specs.State.{Node, Nodes, Numbers, node_at, is_at, changed_at}
 use Rattle.patch_links.specs.Waiting.{of_block, ready_in, AreCounted, AreLinked, AreOwing, passed_by, raised, unreadied, passed_to, followers_at}
 use Rattle.patch_links.specs.Lists.{times, once, HoldsJust}
-use Rattle.patch_links.specs.Standing.{KeepsRest, KeepsMarks}
+use Rattle.patch_links.specs.Invariants.{KeepsRest, KeepsMarks}
 use Rattle.patch_links.specs.MarkFlight.{flown_node, AreNodesFlown}
 use Rattle.patch_links.proofs.Counts.{count-cons, once-most, once-true, once-false}
 use Rattle.patch_links.proofs.Places.{is-at, at-is, changed-at}

@@ -5,7 +5,7 @@ use Rattle.std.specs.Option.{option_map, option_map_or}
 use Rattle.std.proofs.lemmas.Bool.{cases_eq, eq-eqb}
 use Rattle.patch_model.specs.Member.{In, list_any-at, list_any-from}
 use Rattle.patch_links.specs.State.{Class, Node, Nodes, Numbers, find, leads_at, node_at, class_at, slots_of}
-use Rattle.patch_links.specs.Standing.{AreMembers, has_member}
+use Rattle.patch_links.specs.Invariants.{AreMembers, has_member}
 use Rattle.patch_links.specs.Waiting.{AreLinked}
 use Rattle.patch_links.specs.Following.{AreFollowers}
 use Rattle.patch_links.proofs.Counts.{count-some, count-zero}

@@ -8,7 +8,7 @@ use Rattle.patch_model.specs.Entry.{is_among, marks_memory}
 use Rattle.patch_links.specs.State.{Class, Node, Nodes, Numbers, find, leads_at, node_at, is_at}
 use Rattle.patch_links.specs.Waiting.{ready_in, is_unmet, unmet_of, AreCounted, AreLinked}
 use Rattle.patch_links.specs.Lists.{once}
-use Rattle.patch_links.specs.Standing.{has_member, names, AreMembers, AreBelow}
+use Rattle.patch_links.specs.Invariants.{has_member, names, AreMembers, AreBelow}
 use Rattle.patch_links.specs.Merging.{may_join, AreRedirected}
 use Rattle.patch_links.specs.Joining.{inner, IsNodeJoined}
 use Rattle.patch_links.proofs.Counts.{count-append, count-same, count-split, count-none, count-le}

@@ -6,7 +6,7 @@ use Rattle.std.proofs.lemmas.List.{get_or-set_same, get_or-set_other}
 use Rattle.patch_links.specs.State.{Node, Nodes, Numbers, leads_at, node_at, is_at}
 use Rattle.patch_links.specs.Waiting.{AreLinked}
 use Rattle.patch_links.specs.Lists.{OfBlock, Blocks, of_at, nothing, ChangesOf}
-use Rattle.patch_links.specs.Standing.{bare, plain, has_member, names, AreMembers, AreBelow, KeepsBare, KeepsPlain}
+use Rattle.patch_links.specs.Invariants.{bare, plain, has_member, names, AreMembers, AreBelow, KeepsBare, KeepsPlain}
 use Rattle.patch_links.proofs.Places.{cases_option, same_some}
 
 pub bare-plain : (old new : Nodes) → KeepsBare old new → KeepsPlain old new

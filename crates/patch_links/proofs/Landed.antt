@@ -9,7 +9,7 @@ use Rattle.patch_model.specs.Entry.{is_among, marks_flight}
 use Rattle.patch_links.specs.State.{Class, Node, Nodes, Numbers, find, class_at, slots_of, leads_at, node_at, is_at}
 use Rattle.patch_links.specs.Waiting.{of_block}
 use Rattle.patch_links.specs.Lists.{Blocks, of_at, times, once, flying_in, classes_of}
-use Rattle.patch_links.specs.Standing.{bare, has_member, names, AreMembers, AreBelow, Stands}
+use Rattle.patch_links.specs.Invariants.{bare, has_member, names, AreMembers, AreBelow, Stands}
 use Rattle.patch_links.specs.MarkDurable.{lands, lands_at, AreLanded, HasPopped, IsForgotten}
 use Rattle.patch_links.proofs.Counts.{count-last, once-true, once-false}
 use Rattle.patch_links.proofs.Places.{cases_option, is-at, at-is, below-nodes, slots-at, passes, count-alike}

@@ -9,7 +9,7 @@ use Rattle.patch_model.specs.Entry.{is_among, marks_memory, marks_flight}
 use Rattle.patch_links.specs.State.{Node, Nodes, Numbers, find, leads_at, node_at, is_at}
 use Rattle.patch_links.specs.Waiting.{of_block, ready_in, is_due, is_unmet, AreOwed, AreCounted, AreLinked}
 use Rattle.patch_links.specs.Lists.{OfBlock, Blocks, of_at, nothing, times, once, due_in, flying_in, classes_of, IsListed, AreListed, AreSettled, IsSettled}
-use Rattle.patch_links.specs.Standing.{bare, has_member, AreMembers, AreBelow, KeepsBare, PaysOne, Stands}
+use Rattle.patch_links.specs.Invariants.{bare, has_member, AreMembers, AreBelow, KeepsBare, PaysOne, Stands}
 use Rattle.patch_links.specs.MarkDurable.{AreForgotten, AreTold, HasPopped, IsForgotten, PaysLed}
 use Rattle.patch_links.proofs.Counts.{count-cons, count-last, count-same, count-split, once-most, once-true}
 use Rattle.patch_links.proofs.Places.{cases_option, is-at, below-nodes, passes, fits}

@@ -11,7 +11,7 @@ use Rattle.patch_model.specs.Member.{In, among-In, In-among}
 use Rattle.patch_links.specs.State.{Class, Node, Nodes, Numbers, find, class_at, slots_of, node_at, is_at}
 use Rattle.patch_links.specs.Waiting.{of_block, ready_in, is_due, is_unmet, unmet_of, AreCounted}
 use Rattle.patch_links.specs.Lists.{OfBlock, Blocks, of_at, times, once, HoldsJust, due_in, flying_in, classes_of, IsListed, IsSettled, AreListed, AreSettled, ChangesOf}
-use Rattle.patch_links.specs.Standing.{bare, plain, KeepsRest, KeepsPlain, Stands}
+use Rattle.patch_links.specs.Invariants.{bare, plain, KeepsRest, KeepsPlain, Stands}
 use Rattle.patch_links.specs.MarkFlight.{flown, flown_node, AreFlown, AreNodesFlown, IsPutInFlight}
 use Rattle.patch_links.proofs.Counts.{count-append, count-le, count-some, once-most, times-In}
 use Rattle.patch_links.proofs.Places.{cases_option, same_some, is-at, at-is, slots-at, count-alike, fits}

@@ -8,7 +8,7 @@ use Rattle.patch_model.specs.Entry.{marks_memory, marks_flight}
 use Rattle.patch_links.specs.State.{Node, Nodes, node_at, is_at, changed_at}
 use Rattle.patch_links.specs.Waiting.{of_block, ready_in, is_due, lowered, readied}
 use Rattle.patch_links.specs.Lists.{OfBlock, times, once, due_in, flying_in, classes_of, IsListed, pushed}
-use Rattle.patch_links.specs.Standing.{KeepsPlain}
+use Rattle.patch_links.specs.Invariants.{KeepsPlain}
 use Rattle.patch_links.proofs.Counts.{count-cons, count-append, count-last, once-le, once-most, once-true, once-false}
 use Rattle.patch_links.proofs.Places.{is-at, at-is, changed-here, changed-else, changed-long, is-changed, count-alike, count-free, fits}
 use Rattle.patch_links.proofs.Keeping.{plain-test}

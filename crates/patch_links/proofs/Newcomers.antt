@@ -10,7 +10,7 @@ use Rattle.patch_model.specs.Member.{In, among-In, In-among}
 use Rattle.patch_links.specs.State.{Class, Node, Nodes, Numbers, find, slots_of, leads_at, node_at, is_at}
 use Rattle.patch_links.specs.Waiting.{of_block, ready_in, is_due, is_unmet, unmet_of, AreCounted, AreLinked}
 use Rattle.patch_links.specs.Lists.{OfBlock, Blocks, of_at, times, once, due_in, flying_in, classes_of, IsListed, AreListed, AreSettled, pushed, ChangesOf}
-use Rattle.patch_links.specs.Standing.{has_member, names, AreMembers, AreBelow, KeepsBare, KeepsRest, Stands}
+use Rattle.patch_links.specs.Invariants.{has_member, names, AreMembers, AreBelow, KeepsBare, KeepsRest, Stands}
 use Rattle.patch_links.specs.Adding.{IsNewClass, told, retold, AreFollowed, unfollowed, IsNewcomer, HasPut}
 use Rattle.patch_links.proofs.Counts.{count-last, count-same-in, count-none}
 use Rattle.patch_links.proofs.Places.{same_some, is-at, at-is, below-nodes, slots-at, passes, count-free}

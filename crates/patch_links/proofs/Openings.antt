@@ -9,7 +9,7 @@ use Rattle.patch_model.specs.Entry.{is_among, marks_flight}
 use Rattle.patch_numbers.specs.BlockSets.{holds, IsLeastFrom}
 use Rattle.patch_links.specs.State.{Class, Node, Nodes, Numbers, class_at, slots_of, node_at, is_at}
 use Rattle.patch_links.specs.Lists.{OfBlock, Blocks, nothing, of_at, flying_in, is_open, AreOpen, IsLeastOpen, ChangesOf, LosesFlying}
-use Rattle.patch_links.specs.Standing.{Stands}
+use Rattle.patch_links.specs.Invariants.{Stands}
 use Rattle.patch_links.specs.Adding.{KeepsLists}
 use Rattle.patch_links.specs.Ready.{TellsReady, IsOpen, IsShut, IsNextOpen}
 use Rattle.patch_links.specs.MarkDurable.{HasPopped}

@@ -6,7 +6,7 @@ use Rattle.std.proofs.lemmas.Bool.{cases_Bool, eq-eqb, eqb-true, and_parts}
 use Rattle.patch_model.specs.Entry.{marks_memory}
 use Rattle.patch_links.specs.State.{Class, Node, Nodes, Numbers, class_at, leads_at, node_at, is_at, slots_of}
 use Rattle.patch_links.specs.Waiting.{ready_in, AreCounted}
-use Rattle.patch_links.specs.Standing.{bare, KeepsBare, KeepsRest}
+use Rattle.patch_links.specs.Invariants.{bare, KeepsBare, KeepsRest}
 use Rattle.patch_links.specs.Merging.{joined_class, AreRedirected}
 use Rattle.patch_links.specs.Joining.{inner, AreTied, KeepsOrder, HasAbsorbed, AreNodesJoined, AreMoved, AreClassesJoined, IsPair, AreLevel}
 use Rattle.patch_links.proofs.Places.{cases_option, same_some, is-at, slots-at}

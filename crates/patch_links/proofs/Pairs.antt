@@ -6,7 +6,7 @@ use Rattle.std.proofs.lemmas.Bool.{cases_eq, both_ways, eq-eqb, ne_eqb, and_from
 use Rattle.patch_links.specs.State.{Links, Node, Nodes, Numbers, class_at, node_at, is_at, slots_of}
 use Rattle.patch_links.specs.Waiting.{of_block}
 use Rattle.patch_links.specs.Lists.{OfBlock, Blocks, of_at, ChangesOf, IsListed, IsSettled}
-use Rattle.patch_links.specs.Standing.{Stands}
+use Rattle.patch_links.specs.Invariants.{Stands}
 use Rattle.patch_links.specs.Merging.{may_join, may_join_at, HasJoined}
 use Rattle.patch_links.specs.Joining.{may_join_with, may_join_both, AreClassesJoinedIf, KeepsOrder, IsPair}
 use Rattle.patch_links.proofs.Places.{is-at, at-is, same_some, slots-at}

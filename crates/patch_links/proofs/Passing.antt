@@ -6,7 +6,7 @@ use Rattle.std.proofs.lemmas.Bool.{both_ways, eqb-true, and_parts, false_from_ne
 use Rattle.patch_links.specs.State.{Class, Node, Nodes, Numbers, leads_at, node_at, is_at, changed_at}
 use Rattle.patch_links.specs.Waiting.{of_block, ready_in, AreOwed, AreLinked, is_other, passed_by, lowered, readied, passed_to, followers_at}
 use Rattle.patch_links.specs.Lists.{OfBlock, IsListed}
-use Rattle.patch_links.specs.Standing.{bare, KeepsBare, KeepsRest, KeepsOwed, PaysOwed}
+use Rattle.patch_links.specs.Invariants.{bare, KeepsBare, KeepsRest, KeepsOwed, PaysOwed}
 use Rattle.patch_links.proofs.Places.{same_some, is-at, changed-at, changed-long}
 use Rattle.patch_links.proofs.Waits.{touches, passed-at, passed-long, none-turned, lower-owed, passed_by-none, owed-alike, owed-ready}
 

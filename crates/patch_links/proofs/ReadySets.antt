@@ -9,7 +9,7 @@ use Rattle.patch_model.specs.Member.{In, among-In, In-among, list_any-at, list_a
 use Rattle.patch_links.specs.State.{Class, Node, Nodes, Slots, Numbers, find, class_at, slots_of, leads_at, leads, node_at, is_at}
 use Rattle.patch_links.specs.Waiting.{of_block, ready_in, is_due, is_unmet}
 use Rattle.patch_links.specs.Lists.{Blocks, of_at, times, once, due_in}
-use Rattle.patch_links.specs.Standing.{has_member, Stands}
+use Rattle.patch_links.specs.Invariants.{has_member, Stands}
 use Rattle.patch_links.specs.Ready.{is_candidate, picks, is_met_at, is_met, AreMet, IsWithin, Escapes, out, on, Chain, one, onward, HasNoRing, IsReadySet, AreReady, TellsReady, TellsEmpty, members_at, gathered, IsArranged}
 use Rattle.patch_links.proofs.Counts.{count-cons, count-zero, count-some, once-most}
 use Rattle.patch_links.proofs.Places.{cases_option, is-at, at-is, slots-at, count-key, fits}

@@ -10,7 +10,7 @@ use Rattle.patch_model.specs.Member.{In}
 use Rattle.patch_links.specs.State.{Node, Nodes, Numbers, find, leads_at, node_at, is_at, changed_at}
 use Rattle.patch_links.specs.Waiting.{of_block, ready_in, is_unmet, unmet_of}
 use Rattle.patch_links.specs.Lists.{OfBlock, Blocks, of_at, once, due_in, flying_in, IsListed, AreListed, AreSettled}
-use Rattle.patch_links.specs.Standing.{has_member, names, AreBelow, Stands}
+use Rattle.patch_links.specs.Invariants.{has_member, names, AreBelow, Stands}
 use Rattle.patch_links.specs.Adding.{with_room, IsRoomier, HasRoom, HasRoomTo, HasRoomForAll, followed, followed_to, told, retold, AreFollowed, KeepsLists, LeadNowhere}
 use Rattle.patch_links.specs.Joining.{AreTied}
 use Rattle.patch_links.proofs.Counts.{count-cons, count-last}

@@ -7,7 +7,7 @@ use Rattle.std.proofs.lemmas.List.Sums.{count_by-le-length}
 use Rattle.patch_links.specs.State.{Class, Node, Nodes, Numbers, find, leads_at, node_at, is_at, changed_at}
 use Rattle.patch_links.specs.Waiting.{of_block, ready_in, is_unmet, unmet_of, AreOwed, AreOwing, AreCounted, AreLinked, is_other, passed_by, lowered, raised, readied, unreadied, changed_if_other, passed_to, followers_at}
 use Rattle.patch_links.specs.Lists.{once}
-use Rattle.patch_links.specs.Standing.{bare, KeepsBare}
+use Rattle.patch_links.specs.Invariants.{bare, KeepsBare}
 use Rattle.patch_links.proofs.Counts.{count-cons, count-same, count-split}
 use Rattle.patch_links.proofs.Places.{cases_option, same_some, is-at, at-is, changed-at, changed-here, changed-else, changed-long, is-changed}
 

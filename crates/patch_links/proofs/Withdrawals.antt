@@ -8,7 +8,7 @@ use Rattle.patch_model.specs.Entry.{marks_memory}
 use Rattle.patch_links.specs.State.{Class, Node, Nodes, Numbers, find, leads_at, node_at, is_at, changed_at}
 use Rattle.patch_links.specs.Waiting.{of_block, ready_in, is_due, AreCounted, AreLinked, is_other, passed_by, raised, unreadied, changed_if_other, passed_to, followers_at}
 use Rattle.patch_links.specs.Lists.{OfBlock, times, once, due_in, flying_in, IsListed, IsSettled, pushed}
-use Rattle.patch_links.specs.Standing.{bare, KeepsBare, KeepsRest}
+use Rattle.patch_links.specs.Invariants.{bare, KeepsBare, KeepsRest}
 use Rattle.patch_links.specs.Leaving.{HoldsReady, HasLeft, LosesLast, LeavesIf, LeavesTo, LosesReady, owed_to, AreLeaving, KeepsLeaving}
 use Rattle.patch_links.proofs.Counts.{count-last}
 use Rattle.patch_links.proofs.Places.{cases_option, is-at, at-is, changed-here, changed-else, is-changed, count-free}

@@ -3,7 +3,7 @@ use Rattle.std.specs.Prelude.{ℕ, Bool, true, ◌≡◌, ◌≢◌, ◌≤◌, 
 use Rattle.patch_links.specs.State.{Class, Node, Nodes, Slots, Numbers, class_at, leads_at, node_at, is_at}
 use Rattle.patch_links.specs.Waiting.{ready_in, AreCounted, AreLinked}
 use Rattle.patch_links.specs.Lists.{OfBlock, IsListed, IsSettled}
-use Rattle.patch_links.specs.Standing.{AreMembers, AreBelow}
+use Rattle.patch_links.specs.Invariants.{AreMembers, AreBelow}
 use Rattle.patch_links.specs.Merging.{joined_class, AreRedirected, IsJoined, may_join, may_join_at}
 
 -- how often the class depends on that at the key, and that one on it

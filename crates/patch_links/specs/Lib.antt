@@ -1,7 +1,7 @@
 pub mod State
 pub mod Waiting
 pub mod Lists
-pub mod Standing
+pub mod Invariants
 pub mod Ready
 pub mod MarkFlight
 pub mod MarkDurable

@@ -5,7 +5,7 @@ use Rattle.patch_model.specs.Entry.{marks_flight, is_among}
 use Rattle.patch_links.specs.State.{Class, Links, Nodes, Slots, Numbers, find, class_at, leads_at, node_at}
 use Rattle.patch_links.specs.Waiting.{AreOwed, AreCounted}
 use Rattle.patch_links.specs.Lists.{OfBlock, Blocks, of_at, once, ChangesOf, LosesFlying}
-use Rattle.patch_links.specs.Standing.{bare, Stands}
+use Rattle.patch_links.specs.Invariants.{bare, Stands}
 
 -- the class is in flight of the block
 abbrev pub lands : ℕ → Class → Bool

@@ -4,7 +4,7 @@ use Rattle.std.specs.Option.{option_map}
 use Rattle.patch_model.specs.declared.patches.Mark.TheVariants.{Flight}
 use Rattle.patch_links.specs.State.{Class, Node, Nodes, Links, Slots, class_at, node_at, is_at, slots_of}
 use Rattle.patch_links.specs.Waiting.{of_block}
-use Rattle.patch_links.specs.Standing.{KeepsPlain}
+use Rattle.patch_links.specs.Invariants.{KeepsPlain}
 use Rattle.patch_links.specs.Ready.{IsReadySet}
 
 abbrev pub flown : Class → Class

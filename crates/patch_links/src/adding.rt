@@ -6,7 +6,7 @@ ghost use Rattle.slab.specs.Slab.{HasRoomFor};
 ghost use Rattle.patch_links.specs.State.{changed_at, find, is_at, slots_of};
 ghost use Rattle.patch_links.specs.Waiting.{is_unmet, ready_in, AreCounted, AreLinked};
 ghost use Rattle.patch_links.specs.Lists.{IsListed, IsSettled, AreListed, AreSettled};
-ghost use Rattle.patch_links.specs.Standing.{AreBelow, KeepsBare, KeepsOwed, KeepsRest, Stands};
+ghost use Rattle.patch_links.specs.Invariants.{AreBelow, KeepsBare, KeepsOwed, KeepsRest, Stands};
 ghost use Rattle.patch_links.specs.Adding.{followed, followed_to, AreFollowed, HasLists, HasPut, HasRoom, HasRoomForAll, HasRoomTo, IsEnlisting, IsJoining, IsNewClass, IsRoomier, KeepsLists, LeadNowhere};
 
 use crate::admitting::admit_all;

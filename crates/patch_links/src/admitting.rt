@@ -4,7 +4,7 @@ ghost use Rattle.std.specs.Option.{option_map_or};
 ghost use Rattle.patch_links.specs.State.{Class, find, is_at, changed_at};
 ghost use Rattle.patch_links.specs.Waiting.{of_block, is_due, lowered, AreLinked, changed_if_other, passed_to, followers_at};
 ghost use Rattle.patch_links.specs.Lists.{IsListed, IsSettled};
-ghost use Rattle.patch_links.specs.Standing.{KeepsRest, KeepsOwed, PaysOwed, PaysOne};
+ghost use Rattle.patch_links.specs.Invariants.{KeepsRest, KeepsOwed, PaysOwed, PaysOne};
 
 use crate::keys::Keys;
 use crate::lists::OfBlock;

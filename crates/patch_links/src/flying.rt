@@ -4,7 +4,7 @@ ghost use Rattle.patch_model.specs.Entry.{is_among};
 ghost use Rattle.patch_links.specs.State.{is_at, changed_at, slots_of};
 ghost use Rattle.patch_links.specs.Waiting.{of_block, ready_in, raised, unreadied, AreCounted, AreLinked, AreOwing, passed_by, changed_if_other, passed_to, followers_at};
 ghost use Rattle.patch_links.specs.Lists.{HoldsJust, IsListed, IsSettled, of_at};
-ghost use Rattle.patch_links.specs.Standing.{KeepsRest, KeepsMarks, KeepsPlain, Stands};
+ghost use Rattle.patch_links.specs.Invariants.{KeepsRest, KeepsMarks, KeepsPlain, Stands};
 ghost use Rattle.patch_links.specs.MarkFlight.{AreFlown, flown_node, AreNodesFlown, IsPutInFlight};
 
 use crate::blocks::{Blocks, note};

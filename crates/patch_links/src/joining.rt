@@ -4,7 +4,7 @@ ghost use Rattle.std.specs.Option.{option_map};
 ghost use Rattle.patch_links.specs.State.{Node as SeenNode, find, leads_at, node_at, slots_of, changed_at};
 ghost use Rattle.patch_links.specs.Waiting.{AreCounted};
 ghost use Rattle.patch_links.specs.Lists.{IsListed, IsSettled, AreListed, AreSettled};
-ghost use Rattle.patch_links.specs.Standing.{AreBelow, KeepsRest, Stands};
+ghost use Rattle.patch_links.specs.Invariants.{AreBelow, KeepsRest, Stands};
 ghost use Rattle.patch_links.specs.Merging.{may_join, may_join_at, AreRedirected};
 ghost use Rattle.patch_links.specs.Joining.{FitsAt, may_join_with, may_join_both, inner, IsAbsorbed, HasAbsorbed, AreClassesJoined, AreClassesJoinedIf, AreTied, KeepsOrder, IsPair, AreLevel, IsSettledFor, IsRelisting};
 

@@ -3,7 +3,7 @@ ghost use Rattle.std.specs.Prelude.{◌≡◌, ◌≢◌, ℕ, None, [], true, l
 ghost use Rattle.patch_links.specs.State.{find, is_at, slots_of};
 ghost use Rattle.patch_links.specs.Waiting.{of_block, AreLinked};
 ghost use Rattle.patch_links.specs.Lists.{AreListed, AreSettled, of_at};
-ghost use Rattle.patch_links.specs.Standing.{KeepsBare, PaysOne, AreBelow, Stands};
+ghost use Rattle.patch_links.specs.Invariants.{KeepsBare, PaysOne, AreBelow, Stands};
 ghost use Rattle.patch_links.specs.MarkDurable.{AreForgotten, AreLanded, AreTold, HasPopped, IsForgotten, IsLanding, PaysLed};
 
 use crate::admitting::settle;

@@ -3,7 +3,7 @@ ghost use Rattle.std.specs.Prelude.{◌≡◌, ◌≤◌, ◌&&◌, ◌==◌, �
 ghost use Rattle.patch_links.specs.State.{is_at, changed_at};
 ghost use Rattle.patch_links.specs.Waiting.{ready_in, raised, unreadied, AreCounted, AreLinked, passed_by, changed_if_other, followers_at};
 ghost use Rattle.patch_links.specs.Lists.{IsListed, IsSettled};
-ghost use Rattle.patch_links.specs.Standing.{KeepsRest};
+ghost use Rattle.patch_links.specs.Invariants.{KeepsRest};
 ghost use Rattle.patch_links.specs.Leaving.{HoldsReady, HasLeft, LeavesIf, LeavesTo, LosesReady, KeepsLeaving};
 
 use crate::keys::Keys;

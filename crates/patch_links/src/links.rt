@@ -34,7 +34,7 @@ pub struct Links<A: Allocator = Global> {
 
 impl<A: Allocator> Model for Links<A> {
     ghost use Rattle.patch_links.specs.State.{Links as Seen, slots_of};
-    ghost use Rattle.patch_links.specs.Standing.{AreBelow, Stands};
+    ghost use Rattle.patch_links.specs.Invariants.{AreBelow, Stands};
 
     ghost Value = { Seen };
 

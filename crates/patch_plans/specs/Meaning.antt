@@ -29,7 +29,7 @@ last_of test all = fold (λ last p. if test p then Some p.no else last) None all
 
 -- The disk is divided so; each pointer record is read in the cached blocks as it is kept, and behind the last one are zeros; the last
 -- reset and the last patch of each record are those of the execution.
-pub record Represents (s : Extents) (run : Execution) : Type 0 where
+pub record AreExtentsOf (s : Extents) (run : Execution) : Type 0 where
   pub whole : AreWhole s
   pub blocks : length run.first ≡ block_count s.geometry
   pub records : (e : ℕ) → e < s.geometry.extents

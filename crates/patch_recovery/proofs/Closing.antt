@@ -37,7 +37,7 @@ use Rattle.patch_recovery.proofs.Disks.{those_laid, length-those_laid, shows_tho
 use Rattle.patch_recovery.proofs.Held.{AreClosed, right_of, held_those}
 use Rattle.patch_recovery.proofs.Opening.{opened}
 use Rattle.patch_recovery.specs.Lasting.{Tells}
-use Rattle.patch_recovery.proofs.Telling.{told_is, tells_those}
+use Rattle.patch_recovery.proofs.LastSaid.{told_is, tells_those}
 use Rattle.patch_recovery.proofs.Growing.{length-patches_of}
 use Rattle.patch_recovery.proofs.Reopening.{Reopened, reopened}
 

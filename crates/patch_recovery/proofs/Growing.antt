@@ -6,7 +6,7 @@ use Rattle.patch_model.specs.Execution.{Execution, extended}
 use Rattle.patch_model.specs.Entry.{Entry}
 use Rattle.patch_model.specs.Ready.{ready}
 use Rattle.patch_model.specs.State.{State, after_step, state_of, entries_of, joined, sent, landed, class_of}
-use Rattle.patch_model.specs.Kept.{patch-joined, patch-sent, patch-landed}
+use Rattle.patch_model.specs.Unchanged.{patch-joined, patch-sent, patch-landed}
 use Rattle.patch_frame.specs.declared.geometries.Geometry.{Geometry}
 use Rattle.patch_recovery.specs.Change.{Made, patch_of, patches_of, step_of}
 use Rattle.patch_recovery.specs.Ledger.{Ledger}

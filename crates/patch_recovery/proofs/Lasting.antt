@@ -7,7 +7,7 @@ use Rattle.patch_recovery.specs.Lasting.{Tells, LedgersLast, ReadBlocksAreSound}
 use Rattle.patch_recovery.proofs.Held.{right_of}
 use Rattle.patch_recovery.proofs.Widening.{shape_all}
 use Rattle.patch_recovery.proofs.Sound.{sound_those}
-use Rattle.patch_recovery.proofs.Telling.{tells_those}
+use Rattle.patch_recovery.proofs.LastSaid.{tells_those}
 use Rattle.patch_recovery.proofs.Closing.{all_held, those_are_all}
 use Rattle.patch_recovery.proofs.Opening.{opened}
 

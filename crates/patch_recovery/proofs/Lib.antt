@@ -8,7 +8,7 @@ pub mod Disks
 pub mod Held
 pub mod Opening
 pub mod Reopening
-pub mod Telling
+pub mod LastSaid
 pub mod Growing
 pub mod Naming
 pub mod Putting

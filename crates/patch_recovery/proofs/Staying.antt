@@ -14,7 +14,7 @@ use Rattle.patch_recovery.specs.Said.{Moves, value_read}
 use Rattle.patch_recovery.specs.Putting.{pieces_within, made_in_order, Put, fields_put, pointer_put, slot_put}
 use Rattle.patch_recovery.specs.Putting.{IsRightPut}
 use Rattle.patch_recovery.proofs.Sound.{same_record, sound_those}
-use Rattle.patch_recovery.proofs.Telling.{frame_kept}
+use Rattle.patch_recovery.proofs.LastSaid.{frame_kept}
 use Rattle.patch_recovery.proofs.Held.{right_of}
 use Rattle.patch_recovery.proofs.Opening.{opened}
 use Rattle.patch_recovery.proofs.Closing.{all_held, all_kept, those_are_all}

@@ -5,6 +5,8 @@ use Rattle.std.specs.Prelude.{is_err}
 use Rattle.std.specs.Str.{bytes_eq}
 use Rattle.std.specs.Result.{result_map_both}
 use Rattle.std.specs.List.{list_any, range_with_len, flat_map}
+use Rattle.patch_frame.specs.declared.pointers.TheConstants.{POINTER_BYTES}
+use Rattle.patch_frame.specs.declared.slots.TheConstants.{SLOT_BYTES}
 use Rattle.patch_frame.specs.declared.faults.FrameFault.{FrameFault}
 use Rattle.patch_frame.specs.declared.geometries.Geometry.{Geometry}
 use Rattle.patch_frame.specs.Field.{are_zeros, outcome}
@@ -29,14 +31,14 @@ pub data Fault : Type 0 where
 abbrev pub block_on : List (List ℕ) → ℕ → List ℕ
 block_on blocks n = slice_index_or blocks n []
 
--- the 8 bytes of an extent's pointer record
+-- the bytes of an extent's pointer record
 abbrev pub record_at : Geometry → List (List ℕ) → ℕ → List ℕ
 record_at g blocks extent =
-    slice_range (block_on blocks (pointer_block g)) (pointer_start extent) (pointer_start extent + 8)
+    slice_range (block_on blocks (pointer_block g)) (pointer_start extent) (pointer_start extent + POINTER_BYTES)
 
--- the 64 bytes of a slot
+-- the bytes of a slot
 abbrev pub slot_bytes : List (List ℕ) → ℕ → List ℕ
-slot_bytes blocks slot = slice_range (block_on blocks (slot_block slot)) (slot_start slot) (slot_start slot + 64)
+slot_bytes blocks slot = slice_range (block_on blocks (slot_block slot)) (slot_start slot) (slot_start slot + SLOT_BYTES)
 
 -- what a slot that is read says
 abbrev pub read_as : Result (Option SlotFields) FrameFault → Option SlotFields

@@ -113,7 +113,7 @@ impl CachedDisk {
             .cache
             .read(span.block, span.start as usize, span.len as usize)
         {
-            Ok(bytes) => Ok(Answer::Shown(copied(alloc, bytes)?)),
+            Ok(bytes) => Ok(Answer::Shown(Bytes::from_slice(alloc, bytes)?)),
             Err(refusal) => Ok(Answer::Refused(refusal.refusal())),
         }
     }
@@ -127,7 +127,7 @@ impl CachedDisk {
             return Ok(Answer::Refused(RefusalKind::NoSuchBlock.bare()));
         }
         match part(&block, span.start, span.len) {
-            Some(bytes) => Ok(Answer::OnDisk(copied(alloc, bytes)?)),
+            Some(bytes) => Ok(Answer::OnDisk(Bytes::from_slice(alloc, bytes)?)),
             None => Ok(Answer::Refused(RefusalKind::OutOfBlock.bare())),
         }
     }
@@ -209,10 +209,4 @@ fn part(bytes: &[u8], from: u32, len: u32) -> Option<&[u8]>
 {
     let from = from as usize;
     bytes.get(from..from + len as usize)
-}
-
-fn copied(alloc: Global, bytes: &[u8]) -> Result<Bytes, OutOfMemory>
-    ensures { IfOk result (λ copy. copy ≡ bytes.now) }
-{
-    Ok(Bytes::from_vec(Vec::from_slice(alloc, bytes)?))
 }

@@ -9,7 +9,7 @@ use Rattle.patch_model.specs.Execution.{Execution}
 use Rattle.patch_model.specs.Refusing.{why_not_sent}
 use Rattle.patch_model.specs.State.{entries_of, state_of, flying_of, numbers_of}
 use Rattle.patch_cache.specs.Flights.{IsSent}
-use Rattle.patch_cache.specs.Meaning.{Represents as IsCacheOf}
+use Rattle.patch_cache.specs.Meaning.{IsCacheOf}
 use Rattle.patch_cache.specs.declared.flights.Flight.{Flight}
 use Rattle.patch_cache.specs.declared.flights.Landed.{Landed}
 use Rattle.patch_cache.specs.declared.writes.Done.{Done}
@@ -21,7 +21,7 @@ use Rattle.patch_store.specs.Meaning.{Store, Answers}
 use Rattle.patch_store.specs.Sending.{HasBegun as StoreHasBegun, HasEnded as StoreHasEnded}
 use Rattle.patch_shared.specs.declared.actors.Actor.TheVariants.{Writer, Flusher, Completer}
 use Rattle.patch_shared.specs.declared.entries.Entry.{Entry as CodeEntry}
-use Rattle.patch_shared.specs.Kept.{Entry, Book, entry_of, IsKept, IsFresh, no_counts, run_of}
+use Rattle.patch_shared.specs.Books.{Entry, Book, entry_of, IsKept, IsFresh, no_counts, run_of}
 use Rattle.patch_shared.specs.Calling.{raised, AddsCall, HasBegun, BeginsNone, HasEnded, IsStranger}
 use Rattle.patch_shared.proofs.Keeping.{cached_unchanged, kept_first, kept_move, run_is}
 

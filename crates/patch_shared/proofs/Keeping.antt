@@ -12,13 +12,13 @@ use Rattle.patch_model.specs.Step.{Step, Create, Merge, Send, Complete}
 use Rattle.patch_model.specs.StepOf.{step_of as step_told}
 use Rattle.patch_model.specs.declared.steps.Step.{Step as CodeStep}
 use Rattle.patch_model.specs.Legal.{IsLegal}
-use Rattle.patch_cache.specs.Meaning.{Represents as IsCacheOf}
+use Rattle.patch_cache.specs.Meaning.{IsCacheOf}
 use Rattle.patch_cache.specs.Waves.{is_send}
 use Rattle.patch_plans.specs.Extents.{Extents, extent_at}
 use Rattle.patch_plans.specs.Writing.{written, steps_by, merge_behind, merge_with, after_change}
 use Rattle.patch_history.specs.Command.{Command, Reply, is_refused, may_be_cut}
 use Rattle.patch_history.specs.History.{History, BookCall, Event, Call, Moved, IsRight, IsWhole, IsCut, steps_in, steps_of, calls_from, calls_of, execution_of, with_event}
-use Rattle.patch_history.specs.Standing.{Standing, plan_of, made_by}
+use Rattle.patch_history.specs.StoreState.{Standing, plan_of, made_by}
 use Rattle.patch_recovery.specs.Change.{Change, Made, Data, Point, Fill, Clear, Widen, step_of}
 use Rattle.patch_recovery.specs.Closed.{cached_blocks}
 use Rattle.patch_store.specs.Meaning.{Store, HasGained, HasAnswered, Answers}
@@ -27,7 +27,7 @@ use Rattle.patch_shared.specs.declared.actors.Counts.{Counts}
 use Rattle.patch_shared.specs.declared.actors.Actor.TheVariants.{Writer}
 use Rattle.patch_shared.specs.declared.entries.Entry.{Entry as CodeEntry}
 use Rattle.patch_shared.specs.Calling.{raised}
-use Rattle.patch_shared.specs.Kept.{Entry, Book, entry_of, run_of, IsHistoryOf, entry_for, is_completion, is_by, IsCounted, IsKept, IsFresh, no_counts}
+use Rattle.patch_shared.specs.Books.{Entry, Book, entry_of, run_of, IsHistoryOf, entry_for, is_completion, is_by, IsCounted, IsKept, IsFresh, no_counts}
 
 -- The cached blocks of an execution of no steps are its first ones.
 pub cached_unchanged : (blocks : List (List ℕ)) → cached_blocks (record { first = blocks; steps = [] }) ≡ blocks

@@ -1,11 +1,10 @@
 -- What the faults of a device are told by, and what lasts on it.
-use Rattle.std.proofs.Common.{◌≡◌, ℕ, suc, ◌+◌, ◌≤◌, List, Result, Ok, Err, inl, inr, sym, subst, ◌∙◌, arith}
+use Rattle.std.proofs.Common.{◌≡◌, ℕ, ◌≤◌, List, Result, Ok, Err, inl, inr, sym, subst, ◌∙◌, arith}
 use Rattle.std.specs.Prelude.{IfErr, OnOk, IsErrAnd}
 use Rattle.patch_cache.specs.declared.landing.TheConstants.{TRIES}
-use Rattle.patch_cache.specs.Waves.{HasRisenBy, HasGivenUp}
-use Rattle.patch_cache.specs.Refused.{AreRefused, IsRefused, unsynced_later}
+use Rattle.patch_cache.specs.Waves.{HasGivenUp}
+use Rattle.patch_cache.specs.Refused.{AreRefused, unsynced_later}
 use Rattle.patch_device.specs.declared.devices.Device.{Ghosts}
-use Rattle.patch_device.specs.Device.{HasRisen, most_faults}
 use Rattle.patch_device.specs.SameDevice.{IsSameDevice, IsLasting, same_still, same_both}
 use Rattle.patch_shared.specs.declared.faults.Cause.{Cause}
 use Rattle.patch_shared.specs.declared.faults.Cause.TheVariants as cause
@@ -16,19 +15,6 @@ use Rattle.patch_shared.specs.Serving.{AreUnread, HasGivenUpAt, RestsOn, StillLa
 more : (first before now : ℕ) → first ≤ before → HasGivenUp before now → HasGivenUp first now
 more first before now low (inl up) = inl (omega (arith, low, up))
 more first before now low (inr top) = inr top
-
--- one write more was refused
-pub refused_again : {D : Type 0} (g : Ghosts D) (block n : ℕ) (bytes : List ℕ) (before mid now : D) → AreRefused g block bytes n before mid → IsRefused g block bytes mid now
-    → AreRefused g block bytes (n + 1) before now
-refused_again {D = D} g block n bytes before mid now so_far one =
-    let next : suc n ≡ n + 1 = omega arith in
-    let all : AreRefused g block bytes (suc n) before now = (mid, so_far, one) in subst (λ m. AreRefused g block bytes m before now) next all
-
--- and one fault more was counted
-pub risen_again : (n old mid new : ℕ) → HasRisenBy n old mid → HasRisen mid new → new ≤ most_faults → HasRisenBy (n + 1) old new
-risen_again n old mid new (inl far) (inl up) fits = inl (omega (arith, far, up))
-risen_again n old mid new (inr full) (inl up) fits = absurd (omega (arith, full, up, fits))
-risen_again n old mid new far (inr top) fits = inr top.1
 
 -- the device gave up at a write, or at a read
 pub gave_up_written : {D : Type 0} (g : Ghosts D) (block : ℕ) (bytes : List ℕ) (before now : D) → HasGivenUp (g.fault_count before) (g.fault_count now)

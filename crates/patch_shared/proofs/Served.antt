@@ -12,8 +12,8 @@ use Rattle.patch_shared.specs.declared.faults.Cause.{Cause}
 use Rattle.patch_shared.specs.declared.faults.Cause.TheVariants as cause
 use Rattle.patch_shared.specs.declared.faults.ServeFault.{ServeFault}
 use Rattle.patch_shared.specs.declared.serving.Finished.{Finished}
-use Rattle.patch_shared.specs.Kept.{Book, IsKept, run_of}
-use Rattle.patch_shared.specs.Telling.{AreTold, IsSettled, replies_in}
+use Rattle.patch_shared.specs.Books.{Book, IsKept, run_of}
+use Rattle.patch_shared.specs.Conversations.{AreTold, IsSettled, replies_in}
 use Rattle.patch_shared.specs.Serving.{IsFaultWith, IsGivenBack, IsBare, IsServed, StillLasts, book_of}
 use Rattle.patch_shared.proofs.Resting.{rests_later, lasts_both}
 

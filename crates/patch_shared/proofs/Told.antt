@@ -5,8 +5,8 @@ use Rattle.std.proofs.lemmas.List.{take_more, map_more, map-append, take-append-
 use Rattle.std.proofs.lemmas.List.Elements.{filter-append}
 use Rattle.std.proofs.lemmas.Option.{slice_get_within, get_or_from_slice_get}
 use Rattle.patch_shared.specs.declared.entries.Entry.{Entry as CodeEntry}
-use Rattle.patch_shared.specs.Kept.{Entry, entry_of, is_by}
-use Rattle.patch_shared.specs.Telling.{entries_by}
+use Rattle.patch_shared.specs.Books.{Entry, entry_of, is_by}
+use Rattle.patch_shared.specs.Conversations.{entries_by}
 
 entries_push : (n : ℕ) (calls : List Entry) (e : Entry) → entries_by n (calls ++ e ∷ []) ≡ entries_by n calls ++ entries_by n (e ∷ [])
 entries_push n calls e = filter-append (is_by n) calls (e ∷ [])

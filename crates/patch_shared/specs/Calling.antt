@@ -11,7 +11,7 @@ use Rattle.patch_history.specs.Command.{Command, Reply}
 use Rattle.patch_shared.specs.declared.actors.Actor.{Actor}
 use Rattle.patch_shared.specs.declared.actors.Actor.TheVariants.{Writer, Flusher, Completer}
 use Rattle.patch_shared.specs.declared.actors.Counts.{Counts}
-use Rattle.patch_shared.specs.Kept.{Book, run_of}
+use Rattle.patch_shared.specs.Books.{Book, run_of}
 
 abbrev pub IsWriter : Actor → Type 0
 IsWriter (Writer n) = Unit {0}

@@ -1,5 +1,5 @@
-pub mod Kept
+pub mod Books
 pub mod Calling
 pub mod Refusals
-pub mod Telling
+pub mod Conversations
 pub mod Serving

@@ -14,8 +14,8 @@ use Rattle.patch_shared.specs.declared.faults.Cause.{Cause}
 use Rattle.patch_shared.specs.declared.faults.Cause.TheVariants as cause
 use Rattle.patch_shared.specs.declared.faults.ServeFault.{ServeFault}
 use Rattle.patch_shared.specs.declared.serving.Finished.{Finished}
-use Rattle.patch_shared.specs.Kept.{Book, IsKept, book_with, run_of}
-use Rattle.patch_shared.specs.Telling.{AreTold, IsSettled, replies_in}
+use Rattle.patch_shared.specs.Books.{Book, IsKept, book_with, run_of}
+use Rattle.patch_shared.specs.Conversations.{AreTold, IsSettled, replies_in}
 
 -- One read was refused: a fault was counted, and an honest device holds what it held.
 pub record IsUnread {D : Type 0} (g : Ghosts D) (before now : D) : Type 0 where

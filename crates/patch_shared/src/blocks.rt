@@ -2,7 +2,7 @@
 ghost use Rattle.std.specs.Prelude.{◌≡◌, ◌<◌, length, IfOk, MatchOption};
 ghost use Rattle.patch_model.specs.Execution.{Execution};
 ghost use Rattle.patch_model.specs.History.{cached, history_of};
-ghost use Rattle.patch_cache.specs.Meaning.{Represents as IsCacheOf};
+ghost use Rattle.patch_cache.specs.Meaning.{IsCacheOf};
 ghost use Rattle.patch_recovery.specs.Closed.{cached_blocks};
 
 use patch_cache::Cache;
@@ -31,7 +31,7 @@ pub(crate) fn copy_cached<A: Allocator + Copy>(
 {
     let mut blocks = Vec::new(alloc);
     for n in 0..cache.blocks() {
-        // Never so: there is such a block.
+        // Never so in a cache that represents an execution: there is such a block. Of no other is anything promised.
         let Some(bytes) = cached_block(cache, n) else {
             return Err(OutOfMemory);
         };
@@ -44,7 +44,7 @@ pub(crate) fn copy_cached<A: Allocator + Copy>(
 fn copy_block<A: Allocator>(alloc: A, bytes: &[u8]) -> Result<BlockBytes<A>, OutOfMemory>
     ensures { IfOk result (λ block. block ≡ bytes.now) }
 {
-    // Never so: a block has so many bytes.
+    // Never so in such a cache either, whose blocks have all their bytes.
     if bytes.len() != BLOCK {
         return Err(OutOfMemory);
     }

@@ -3,7 +3,7 @@ ghost use Rattle.std.specs.Prelude.{ℕ, List, ◌≡◌, map, IfOk, IfErr, OnEr
 ghost use Rattle.patch_history.specs.Commands.{command_of, reply_told};
 ghost use Rattle.patch_store.specs.Meaning.{Answers};
 ghost use Rattle.patch_shared.specs.declared.actors.Actor.TheVariants as the_actor;
-ghost use Rattle.patch_shared.specs.Kept.{IsKept, IsNew, IsBegun, entry_of, book_with};
+ghost use Rattle.patch_shared.specs.Books.{IsKept, IsNew, IsBegun, entry_of, book_with};
 ghost use Rattle.patch_shared.specs.Calling.{IsWriter, AddsCall, HasSent, HasEnded, IsStranger};
 
 use crate::actors::{Actor, Counts};
@@ -32,9 +32,9 @@ pub struct Book<A: Allocator + Copy = Global> {
 
 impl<A: Allocator + Copy> Model for Book<A> {
     ghost use Rattle.std.specs.Prelude.{map};
-    ghost use Rattle.patch_shared.specs.Kept.{Book as Kept, IsKept, entry_of};
+    ghost use Rattle.patch_shared.specs.Books.{Book as BookValue, IsKept, entry_of};
 
-    ghost Value = { Kept };
+    ghost Value = { BookValue };
 
     ghost view = { λ b. record { store = b.store; opening = b.opening.items; calls = map entry_of b.calls.items; counts = b.counts } };
 
@@ -87,6 +87,7 @@ impl<A: Allocator + Copy> Book<A> {
             before,
             after,
         });
+        // Only proofs need this: the number of calls fits its type.
         let _made = self.calls.len();
         self.counts.writers[writer.0 as usize] += 1;
         Ok(reply)

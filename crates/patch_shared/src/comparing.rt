@@ -3,8 +3,8 @@ ghost use Rattle.std.specs.Prelude.{ℕ, List, ◌≡◌, ◌↔◌, ◌<◌, �
 ghost use Rattle.patch_model.specs.declared.limits.TheConstants.{MAX_WRITER};
 ghost use Rattle.patch_history.specs.Command.{Put};
 ghost use Rattle.patch_history.specs.Commands.{command_of, reply_told};
-ghost use Rattle.patch_shared.specs.Kept.{entry_of, is_by as the_is_by};
-ghost use Rattle.patch_shared.specs.Telling.{IsNext, IsTold, AreTold, commands_in, replies_in};
+ghost use Rattle.patch_shared.specs.Books.{entry_of, is_by as the_is_by};
+ghost use Rattle.patch_shared.specs.Conversations.{IsNext, IsTold, AreTold, commands_in, replies_in};
 
 use crate::actors::Actor;
 use crate::entries::Entry;

@@ -9,9 +9,8 @@ use crate::desks::{Desk, Tally};
 use crate::faults::Cause;
 use crate::gates::Gate;
 use crate::parcels::{Arrival, Parcel};
-use crate::trying::write_tried;
 use crossbeam_channel::Receiver;
-use patch_cache::Landed;
+use patch_cache::{Landed, write_out_tried};
 use patch_device::Device;
 use std::sync::ledger::Ledger;
 use std::sync::{Mutex, Wait};
@@ -105,7 +104,7 @@ fn write_waiting<D: Device, R: Wait>(
     let mut parcel = first;
     for _ in rt.forever() {
         let written = write_parcel(device, parcel)?;
-        // Never so: there is room for a write of each block.
+        // Room for a write of each block was taken before: this asks for memory only where there were more.
         if landed.push(Arrival::new(written)).is_err() {
             return Err(Cause::OutOfMemory);
         }
@@ -128,7 +127,7 @@ fn write_parcel<D: Device>(device: &mut D, parcel: Parcel) -> Result<Landed, Cau
         flight.abandon();
         return Err(Cause::Disagreed);
     }
-    match write_tried(device, flight) {
+    match write_out_tried(device, flight) {
         Ok(landed) => Ok(landed),
         Err(flight) => {
             flight.abandon();

@@ -7,13 +7,6 @@ use patch_history::{Command, Reply};
 use patch_model::{Bytes, OutOfMemory};
 use std::alloc::Allocator;
 
-/// A copy of some bytes.
-fn copy_bytes<A: Allocator>(alloc: A, bytes: &Bytes<A>) -> Result<Bytes<A>, OutOfMemory>
-    ensures { IfOk result (λ copy. copy ≡ bytes.now) }
-{
-    Ok(Bytes::from_vec(Vec::from_slice(alloc, bytes.as_slice())?))
-}
-
 /// A copy of a command.
 pub(crate) fn copy_command<A: Allocator + Copy>(
     alloc: A,
@@ -23,15 +16,15 @@ pub(crate) fn copy_command<A: Allocator + Copy>(
 {
     Ok(match command {
         Command::Put { key, value } => {
-            let key = copy_bytes(alloc, key)?;
-            let value = copy_bytes(alloc, value)?;
+            let key = Bytes::from_slice(alloc, key.as_slice())?;
+            let value = Bytes::from_slice(alloc, value.as_slice())?;
             Command::Put { key, value }
         }
         Command::Get { key } => Command::Get {
-            key: copy_bytes(alloc, key)?,
+            key: Bytes::from_slice(alloc, key.as_slice())?,
         },
         Command::Delete { key } => Command::Delete {
-            key: copy_bytes(alloc, key)?,
+            key: Bytes::from_slice(alloc, key.as_slice())?,
         },
         Command::Reclaim { extent } => Command::Reclaim { extent: *extent },
         Command::Upgrade => Command::Upgrade,
@@ -54,7 +47,7 @@ pub(crate) fn copy_reply<A: Allocator>(alloc: A, reply: &Reply<A>) -> Result<Rep
 {
     Ok(match reply {
         Reply::Done => Reply::Done,
-        Reply::Value(bytes) => Reply::Value(copy_bytes(alloc, bytes)?),
+        Reply::Value(bytes) => Reply::Value(Bytes::from_slice(alloc, bytes.as_slice())?),
         Reply::Absent => Reply::Absent,
         Reply::GroupMade(group) => Reply::GroupMade(*group),
         Reply::Count(count) => Reply::Count(*count),

@@ -1,6 +1,6 @@
 //! What stands under the lock: the book, and beside it sums of what the threads do.
 ghost use Rattle.std.specs.Prelude.{◌≡◌, ◌+◌, ◌<◌, ◌^◌, ℕ, length, IfOk, IfErr, OnOk, OnErr, MatchOption};
-ghost use Rattle.patch_shared.specs.Kept.{IsKept};
+ghost use Rattle.patch_shared.specs.Books.{IsKept};
 ghost use Rattle.patch_shared.specs.Calling.{IsWriter};
 
 use crate::actors::Actor;

@@ -4,7 +4,7 @@
 //! copies of what is kept in `copying` and `blocks`. [`serve`] runs the threads over one book under a lock. It is in `serving`; how the threads
 //! are started and joined in `crew`, what each of them does in `working` and `completing`, and what stands under the lock in `desks`. Flights go
 //! from one thread to another in `parcels`, `bells` wake the one that begins writes, and `gates` hold threads in tests.
-//! A device that fails is tried again in `trying`, and what the threads say they did is compared with the book in `comparing`.
+//! In the end the device is read back in `reading_back`, and what the threads say they did is compared with the book in `comparing`.
 #![tactic(auto)]
 
 mod actors;
@@ -20,8 +20,8 @@ mod entries;
 mod faults;
 mod gates;
 mod parcels;
+mod reading_back;
 mod serving;
-mod trying;
 mod working;
 
 pub use actors::{Actor, Counts};

@@ -1,10 +1,10 @@
 //! How several writers are served by one store.
 ghost use Rattle.std.specs.Prelude.{ℕ, List, ◌≡◌, ◌<◌, ◌≤◌, length, vec_len, map, sum_by, [], IfOk, IfErr, IsNone, OnOk, MatchOption, true};
 ghost use Rattle.patch_device.specs.SameDevice.{IsSameDevice};
-ghost use Rattle.patch_cache.specs.Meaning.{Represents as IsCacheOf};
+ghost use Rattle.patch_cache.specs.Meaning.{IsCacheOf};
 ghost use Rattle.patch_store.specs.Flushing.{HoldCached};
-ghost use Rattle.patch_shared.specs.Kept.{IsKept, IsFresh, IsNew, run_of, no_counts};
-ghost use Rattle.patch_shared.specs.Telling.{AreTold, IsSettled, commands_in, replies_in};
+ghost use Rattle.patch_shared.specs.Books.{IsKept, IsFresh, IsNew, run_of, no_counts};
+ghost use Rattle.patch_shared.specs.Conversations.{AreTold, IsSettled, commands_in, replies_in};
 ghost use Rattle.patch_shared.specs.Serving.{RestsOn, CameTo, StillLasts, IsFaultWith, IsGivenBack, IsServed, book_of};
 
 use crate::blocks::copy_cached;
@@ -16,7 +16,7 @@ use crate::desks::{Desk, Tally};
 use crate::entries::Rest;
 use crate::faults::{Cause, ServeFault};
 use crate::gates::Gate;
-use crate::trying::read_back;
+use crate::reading_back::read_back;
 use crate::working::Flushed;
 use patch_device::Device;
 use patch_history::{Command, Reply};

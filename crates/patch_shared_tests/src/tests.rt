@@ -1,6 +1,6 @@
 //! New disks and their stores, what writers ask and what they are told, and what is left when several of them were served.
 ghost use Rattle.std.specs.Prelude.{◌≡◌, ◌<◌, ◌≤◌, length, vec_len};
-ghost use Rattle.patch_shared.specs.Kept.{IsNew};
+ghost use Rattle.patch_shared.specs.Books.{IsNew};
 ghost use Rattle.patch_shared_tests.specs.Fresh.{IsUnchanged};
 
 use patch_cache::Cache;

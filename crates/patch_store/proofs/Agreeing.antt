@@ -12,7 +12,7 @@ use Rattle.patch_plans.specs.Extents.{Extents, extent_at}
 use Rattle.patch_plans.specs.Writing.{Written, after_change, merge_with, merge_behind, written, steps_by}
 use Rattle.patch_recovery.specs.Change.{Change, Data, Point, Fill, Clear, Widen, Made, step_of}
 use Rattle.patch_history.specs.History.{Event, Call, Moved, after_event}
-use Rattle.patch_history.specs.Standing.{Standing, at_opening, made_by, plan_of}
+use Rattle.patch_history.specs.StoreState.{Standing, at_opening, made_by, plan_of}
 use Rattle.patch_store.specs.Laws.{CountsAgree}
 use Rattle.patch_store.specs.Merging.{MayCome, IsRight, AreRight, counted_with, HasMerged, AreCounted}
 

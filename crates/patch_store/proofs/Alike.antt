@@ -5,7 +5,7 @@ use Rattle.std.proofs.lemmas.Bool.{cases_Bool}
 use Rattle.patch_model.specs.Step.{Step, Create, Merge, Send, Complete}
 use Rattle.patch_model.specs.Execution.{followed_by}
 use Rattle.patch_extent.specs.Merging.{is_made}
-use Rattle.patch_cache.specs.Meaning.{Represents as IsCacheOf}
+use Rattle.patch_cache.specs.Meaning.{IsCacheOf}
 use Rattle.patch_plans.specs.Joining.{written-++}
 use Rattle.patch_plans.specs.Writing.{Written, after_plan, written, steps_by}
 use Rattle.patch_recovery.specs.Change.{Made}
@@ -13,7 +13,7 @@ use Rattle.patch_recovery.specs.Ledger.{Ledger}
 use Rattle.patch_recovery.specs.Reading.{reading, Fault}
 use Rattle.patch_history.specs.Command.{Command, Reply, is_refused, may_be_cut}
 use Rattle.patch_history.specs.Shelf.{opened}
-use Rattle.patch_history.specs.Standing.{Standing, at_opening, made_by, plan_of, creates, onto}
+use Rattle.patch_history.specs.StoreState.{Standing, at_opening, made_by, plan_of, creates, onto}
 use Rattle.patch_history.specs.History.{History, Event, Call, Moved, IsLegalHistory, IsWhole, IsCut, is_write, after_event, steps_in, steps_of, execution_of, standing_of}
 use Rattle.patch_history.specs.History as histories
 use Rattle.patch_history.specs.Single.{ChangesAreSingle, ShelvesAreSingle}

@@ -16,7 +16,7 @@ use Rattle.patch_history.specs.Laws.{HistoriesExtend}
 use Rattle.patch_history.specs.Refusals.{get_cause}
 use Rattle.patch_history.specs.Refusing.{why_no_key, found}
 use Rattle.patch_recovery.specs.Ledger.{value_in}
-use Rattle.patch_store.specs.Meaning.{Store, Represents, HasAnswered, Answers}
+use Rattle.patch_store.specs.Meaning.{Store, IsStoreOf, HasAnswered, Answers}
 use Rattle.patch_store.specs.Replies.{reply_to}
 use Rattle.patch_store.specs.Running.{commands_of, calls, with_calls, HasRun}
 use Rattle.patch_store.proofs.Gaining.{answered, refused, right_refused, steps_push}
@@ -30,17 +30,17 @@ never_refused None = refl
 reply_known : (key : List ℕ) (value told : Option (List ℕ)) → why_no_key key ≡ None → value ≡ told → found value ≡ unless (why_no_key key) (found told)
 reply_known key value told known is = ap found is ∙ sym (ap (λ c. unless c (found told)) known)
 
-pub value_so : HistoriesExtend → (h : History) (writer : ℕ) (key value : List ℕ) (s : Store) → Represents s h → why_no_key key ≡ None
+pub value_so : HistoriesExtend → (h : History) (writer : ℕ) (key value : List ℕ) (s : Store) → IsStoreOf s h → why_no_key key ≡ None
     → Some value ≡ value_in (standing_of h).map.entries key → HasAnswered h writer (Get key) (Value value) s s
 value_so extends h writer key value s was known is =
     answered extends h writer (Get key) (Value value) s s was (inl (reply_known key (Some value) _ known is, ([], refl))) refl was.groups_are refl refl
 
-pub absent_reply : HistoriesExtend → (h : History) (writer : ℕ) (key : List ℕ) (s : Store) → Represents s h → why_no_key key ≡ None
+pub absent_reply : HistoriesExtend → (h : History) (writer : ℕ) (key : List ℕ) (s : Store) → IsStoreOf s h → why_no_key key ≡ None
     → None ≡ value_in (standing_of h).map.entries key → HasAnswered h writer (Get key) Absent s s
 absent_reply extends h writer key s was known is =
     answered extends h writer (Get key) Absent s s was (inl (reply_known key None _ known is, ([], refl))) refl was.groups_are refl refl
 
-pub unread_so : HistoriesExtend → (h : History) (writer : ℕ) (key : List ℕ) (refusal : GetRefusal) (s : Store) → Represents s h
+pub unread_so : HistoriesExtend → (h : History) (writer : ℕ) (key : List ℕ) (refusal : GetRefusal) (s : Store) → IsStoreOf s h
     → IsCause (why_no_key key) (get_cause refusal) → HasAnswered h writer (Get key) (Refused (get_cause refusal)) s s
 unread_so extends h writer key refusal s was why =
     let value = value_in (standing_of h).map.entries key in
@@ -68,11 +68,11 @@ next_called (d ∷ commands) (r ∷ replies) (s ∷ each) c reply steps long wit
     ap (λ events. Call d.0 (command_of d.1) (reply_told r) s ∷ events)
     (next_called commands replies each c reply steps (omega (arith, long)) (omega (arith, within)) at)
 
-pub begun_run : (h : History) (commands : List (ℕ × Command)) (s : Store) → Represents s h → HasRun h commands [] s s
+pub begun_run : (h : History) (commands : List (ℕ × Command)) (s : Store) → IsStoreOf s h → HasRun h commands [] s s
 begun_run h commands s was = record {
   each = [];
   many = refl;
-  represents = subst (λ events. Represents s (record h { events = events })) (sym (ap (λ events. h.events ++ events) (none_called commands) ∙ append-nil h.events)) was;
+  represents = subst (λ events. IsStoreOf s (record h { events = events })) (sym (ap (λ events. h.events ++ events) (none_called commands) ∙ append-nil h.events)) was;
   trace_is = sym (ap (λ events. s.cache.trace ++ flat_map steps_in events) (none_called commands) ∙ append-nil s.cache.trace);
 }
 
@@ -94,7 +94,7 @@ next_run h commands replies c reply old mid new within at so_far answer =
       many =
           length-append so_far.each (one.steps ∷ []) ∙ ap (λ n. n + 1) long ∙ sym (length-append replies (reply ∷ []))
           ∙ sym (length-map (replies ++ reply ∷ []) reply_told);
-      represents = subst (λ events. Represents new (record h { events = events }))
+      represents = subst (λ events. IsStoreOf new (record h { events = events }))
           (append_assoc h.events before (event ∷ []) ∙ sym (ap (λ events. h.events ++ events) is)) one.gained.represents;
       trace_is =
           one.gained.trace_is ∙ ap (λ steps. steps ++ one.steps) so_far.trace_is

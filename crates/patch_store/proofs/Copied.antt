@@ -16,7 +16,7 @@ use Rattle.patch_extent.specs.Answers.{cached_bytes}
 use Rattle.patch_plans.specs.Extents.{offset_at}
 use Rattle.patch_history.specs.Choosing.{current_for, first_of_any, empty_extents, extent_for_move}
 use Rattle.patch_history.specs.Shelf.{Shelf, slot_at}
-use Rattle.patch_history.specs.Standing.{Standing}
+use Rattle.patch_history.specs.StoreState.{Standing}
 use Rattle.patch_store.specs.Meaning.{Store, IsWhole}
 use Rattle.patch_store.specs.Framing.{IsAsked}
 use Rattle.patch_store.specs.Moving.{IsCached, IsMovable}

@@ -14,7 +14,7 @@ use Rattle.patch_plans.specs.Writing as extents
 use Rattle.patch_plans.specs.Writing.{named_plan, with_patches, merge_with, merge_behind, written, steps_by, steps_of}
 use Rattle.patch_history.specs.History.{IsWhole}
 use Rattle.patch_history.specs.Shelf.{Shelf, after_point, after_change, after_plan}
-use Rattle.patch_history.specs.Standing.{Standing, made_by, creates, onto}
+use Rattle.patch_history.specs.StoreState.{Standing, made_by, creates, onto}
 use Rattle.patch_history.specs.Steps.{ShelvesGoOn}
 
 -- Merges make none.

@@ -6,7 +6,7 @@ use Rattle.patch_model.specs.Execution.{Execution, followed_by}
 use Rattle.patch_model.specs.State.{entries_of}
 use Rattle.patch_model.specs.Step.{Step}
 use Rattle.patch_cache.specs.Contents.{Contents}
-use Rattle.patch_cache.specs.Meaning.{Represents as IsCacheOf}
+use Rattle.patch_cache.specs.Meaning.{IsCacheOf}
 use Rattle.patch_plans.specs.Groups.{Groups}
 use Rattle.patch_recovery.specs.Change.{Made}
 use Rattle.patch_extent.specs.Answers.{setting, IsSettingOf, IsReset}
@@ -14,7 +14,7 @@ use Rattle.patch_plans.specs.Extents.{Extents}
 use Rattle.patch_plans.specs.Writing as extents
 use Rattle.patch_plans.specs.Writing.{written, steps_by}
 use Rattle.patch_history.specs.Shelf.{Shelf, left_of, not_current, after_plan}
-use Rattle.patch_history.specs.Standing.{Standing, made_by, creates}
+use Rattle.patch_history.specs.StoreState.{Standing, made_by, creates}
 use Rattle.patch_store.specs.Meaning.{Store}
 use Rattle.patch_store.specs.Moving.{IsStanding, reset_of, IsEmptied}
 use Rattle.patch_store.proofs.Counted.{creates_by}

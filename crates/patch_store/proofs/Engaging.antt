@@ -3,7 +3,7 @@ use Rattle.std.proofs.Common.{◌≡◌, ℕ, ◌∙◌, inl, [], length, refl, 
 use Rattle.std.specs.Prelude.{Result, Ok, Err, Some, None, IfOk, IfErr, OnOk, OnErr}
 use Rattle.patch_model.specs.Execution.{Execution}
 use Rattle.patch_model.specs.State.{entries_of}
-use Rattle.patch_cache.specs.Meaning.{Represents as IsCacheOf}
+use Rattle.patch_cache.specs.Meaning.{IsCacheOf}
 use Rattle.patch_cache.specs.Refusals.{IsCause}
 use Rattle.patch_group.specs.declared.refusals.GroupRefusal.{GroupRefusal}
 use Rattle.patch_group.specs.Refusals.{group_cause}
@@ -12,11 +12,11 @@ use Rattle.patch_plans.specs.Order.{AreGroupsOf}
 use Rattle.patch_history.specs.Command.{Command, Group, Engage, Disengage, Depend, CloseGroup, Pending, Done, GroupMade, Count, unless}
 use Rattle.patch_history.specs.Laws.{HistoriesExtend, StandingsRun, GroupsAreKept}
 use Rattle.patch_history.specs.History.{History, Call, IsRight, after_event, execution_of, standing_of}
-use Rattle.patch_store.specs.Meaning.{Store, Represents, HasAnswered}
+use Rattle.patch_store.specs.Meaning.{Store, IsStoreOf, HasAnswered}
 use Rattle.patch_store.specs.Replies.{reply_to}
 use Rattle.patch_store.proofs.Gaining.{answered, refused, right_refused, right_caused}
 
-pub begun_so : HistoriesExtend → (h : History) (writer : ℕ) (old : Store) (gs : Groups) (result : Result ℕ GroupRefusal) → Represents old h
+pub begun_so : HistoriesExtend → (h : History) (writer : ℕ) (old : Store) (gs : Groups) (result : Result ℕ GroupRefusal) → IsStoreOf old h
     → IfOk result (λ g. (why_not_begun old.groups ≡ None) × (g ≡ length old.groups.groups) × (gs ≡ begun old.groups))
     → IfErr result (λ r. IsCause (why_not_begun old.groups) (group_cause r)) → OnErr result (gs ≡ old.groups)
     → HasAnswered h writer Group (reply_to group_cause (λ g. GroupMade g) result) old (record old { groups = gs })
@@ -36,12 +36,12 @@ begun_so extends h writer old gs (Err r) was made cause same =
     (ap (λ g. record old { groups = g }) same)
 
 -- a call that is answered Done, and leaves other groups
-done_so : HistoriesExtend → (h : History) (writer : ℕ) (command : Command) (old : Store) (gs : Groups) → Represents old h
+done_so : HistoriesExtend → (h : History) (writer : ℕ) (command : Command) (old : Store) (gs : Groups) → IsStoreOf old h
     → IsRight (standing_of h) (Call writer command Done []) → gs ≡ (after_event (standing_of h) (Call writer command Done [])).groups
     → HasAnswered h writer command Done old (record old { groups = gs })
 done_so extends h writer command old gs was right groups = answered extends h writer command Done old (record old { groups = gs }) was right refl groups refl refl
 
-pub engaged_so : HistoriesExtend → (h : History) (writer group : ℕ) (old : Store) (gs : Groups) (result : Result (Unit {0}) GroupRefusal) → Represents old h
+pub engaged_so : HistoriesExtend → (h : History) (writer group : ℕ) (old : Store) (gs : Groups) (result : Result (Unit {0}) GroupRefusal) → IsStoreOf old h
     → OnOk result ((why_not_engaged old.groups writer group ≡ None) × (gs ≡ engaged old.groups writer group))
     → IfErr result (λ r. IsCause (why_not_engaged old.groups writer group) (group_cause r)) → OnErr result (gs ≡ old.groups)
     → HasAnswered h writer (Engage group) (reply_to group_cause (λ _. Done) result) old (record old { groups = gs })
@@ -56,7 +56,7 @@ engaged_so extends h writer group old gs (Err r) was made cause same =
     (ap (λ s. unless (why_not_engaged s writer group) Done) (sym was.groups_are)) refl refl refl cause)
     (ap (λ g. record old { groups = g }) same)
 
-pub disengaged_so : HistoriesExtend → (h : History) (writer group : ℕ) (old : Store) (gs : Groups) (result : Result (Unit {0}) GroupRefusal) → Represents old h
+pub disengaged_so : HistoriesExtend → (h : History) (writer group : ℕ) (old : Store) (gs : Groups) (result : Result (Unit {0}) GroupRefusal) → IsStoreOf old h
     → OnOk result ((why_not_disengaged old.groups writer group ≡ None) × (gs ≡ disengaged old.groups writer group))
     → IfErr result (λ r. why_not_disengaged old.groups writer group ≡ Some (group_cause r)) → OnErr result (gs ≡ old.groups)
     → HasAnswered h writer (Disengage group) (reply_to group_cause (λ _. Done) result) old (record old { groups = gs })
@@ -71,7 +71,7 @@ disengaged_so extends h writer group old gs (Err r) was made cause same =
     (ap (λ s. unless (why_not_disengaged s writer group) Done) (sym was.groups_are)) cause)
     (ap (λ g. record old { groups = g }) same)
 
-pub ordered_so : HistoriesExtend → (h : History) (writer group on : ℕ) (old : Store) (gs : Groups) (result : Result (Unit {0}) GroupRefusal) → Represents old h
+pub ordered_so : HistoriesExtend → (h : History) (writer group on : ℕ) (old : Store) (gs : Groups) (result : Result (Unit {0}) GroupRefusal) → IsStoreOf old h
     → OnOk result ((why_not_ordered old.groups group on ≡ None) × (gs ≡ ordered old.groups group on))
     → IfErr result (λ r. IsCause (why_not_ordered old.groups group on) (group_cause r)) → OnErr result (gs ≡ old.groups)
     → HasAnswered h writer (Depend group on) (reply_to group_cause (λ _. Done) result) old (record old { groups = gs })
@@ -86,7 +86,7 @@ ordered_so extends h writer group on old gs (Err r) was made cause same =
     (ap (λ s. unless (why_not_ordered s group on) Done) (sym was.groups_are)) refl refl refl cause)
     (ap (λ g. record old { groups = g }) same)
 
-pub closed_so : HistoriesExtend → (h : History) (writer group : ℕ) (old : Store) (gs : Groups) (result : Result (Unit {0}) GroupRefusal) → Represents old h
+pub closed_so : HistoriesExtend → (h : History) (writer group : ℕ) (old : Store) (gs : Groups) (result : Result (Unit {0}) GroupRefusal) → IsStoreOf old h
     → OnOk result ((why_not_closed old.groups group ≡ None) × (gs ≡ closed old.groups group))
     → IfErr result (λ r. why_not_closed old.groups group ≡ Some (group_cause r)) → OnErr result (gs ≡ old.groups)
     → HasAnswered h writer (CloseGroup group) (reply_to group_cause (λ _. Done) result) old (record old { groups = gs })
@@ -104,7 +104,7 @@ closed_so extends h writer group old gs (Err r) was made cause same =
 pub counted_so : HistoriesExtend → StandingsRun → GroupsAreKept → (h : History) (writer group : ℕ) (old : Store) (result : Result ℕ GroupRefusal)
     → ((run : Execution) → IsCacheOf old.cache run → AreGroupsOf run old.groups → IfOk result (λ count. count ≡ pending (entries_of run) old.groups group))
     → OnOk result (why_not_counted old.groups group ≡ None) → IfErr result (λ r. why_not_counted old.groups group ≡ Some (group_cause r))
-    → Represents old h → HasAnswered h writer (Pending group) (reply_to group_cause (λ count. Count count) result) old old
+    → IsStoreOf old h → HasAnswered h writer (Pending group) (reply_to group_cause (λ count. Count count) result) old old
 counted_so extends runs kept h writer group old (Ok count) counted known cause was =
     let is = was.groups_are in
     let st = standing_of h in

@@ -16,10 +16,10 @@ use Rattle.patch_recovery.specs.Right.{IsNamed}
 use Rattle.patch_extent.specs.Answers.{cached_bytes}
 use Rattle.patch_history.specs.Refusing.{why_no_key}
 use Rattle.patch_history.specs.Shelf.{Shelf}
-use Rattle.patch_history.specs.Kept.{ShelvesAreKept, IsShelfOf}
+use Rattle.patch_history.specs.ShelfLedger.{ShelvesAreKept, IsShelfOf}
 use Rattle.patch_history.specs.Laws.{HistoriesAreRead, StandingsAgree}
 use Rattle.patch_history.specs.History.{History, execution_of, standing_of, ledger_of}
-use Rattle.patch_store.specs.Meaning.{Store, Represents}
+use Rattle.patch_store.specs.Meaning.{Store, IsStoreOf}
 use Rattle.patch_store.proofs.Values.{value_stands, read_stands, bytes_alike}
 
 none_from : {X : Type 0} (test : X → Bool) (d : X) (i : ℕ) (xs : List X) → position_from test i xs ≡ None → (k : ℕ) → k < length xs → test (get_or xs k d) ≡ false
@@ -62,7 +62,7 @@ value_read l blocks value opens f named key is =
     ∙ ap (λ k. bytes_at k f.extent (f.offset + (12 + length key)) (f.length - 16 - length key)) (read_stands blocks opens.l opens.read ∙ ap (λ g. ledger_in g blocks) same.geometry)
 
 -- a used slot that has the key
-pub found_so : ShelvesAreKept → HistoriesAreRead → StandingsAgree → (h : History) (s : Store) → Represents s h
+pub found_so : ShelvesAreKept → HistoriesAreRead → StandingsAgree → (h : History) (s : Store) → IsStoreOf s h
     → (key : List ℕ) (slot : ℕ) (f : SlotFields) → position (has_key key) s.shelf.slots ≡ Some slot → get_or s.shelf.slots slot None ≡ Some f
     → Some (cached_bytes s.shelf.extents.geometry (execution_of h) f.extent (f.offset + (12 + length f.key)) (f.length - 16 - length f.key))
     ≡ value_in (standing_of h).map.entries key
@@ -83,7 +83,7 @@ found_so kept reads agree h s was key slot f at is =
     ∙ ap (λ g. Some (cached_bytes g (execution_of h) f.extent (f.offset + (12 + length f.key)) (f.length - 16 - length f.key))) divided)
 
 -- a key that no slot has
-pub absent_so : ShelvesAreKept → HistoriesAreRead → StandingsAgree → (h : History) (s : Store) → Represents s h → (key : List ℕ)
+pub absent_so : ShelvesAreKept → HistoriesAreRead → StandingsAgree → (h : History) (s : Store) → IsStoreOf s h → (key : List ℕ)
     → position (has_key key) s.shelf.slots ≡ None → None ≡ value_in (standing_of h).map.entries key
 absent_so kept reads agree h s was key none =
     sym (none_if (value_in (standing_of h).map.entries key) (λ v told.

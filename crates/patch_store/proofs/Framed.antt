@@ -7,7 +7,7 @@ use Rattle.patch_model.specs.Execution.{Execution, followed_by}
 use Rattle.patch_model.specs.State.{entries_of}
 use Rattle.patch_model.specs.declared.patches.Undo.TheVariants.{MayDrop}
 use Rattle.patch_cache.specs.Contents.{Contents}
-use Rattle.patch_cache.specs.Meaning.{Represents as IsCacheOf}
+use Rattle.patch_cache.specs.Meaning.{IsCacheOf}
 use Rattle.patch_plans.specs.Groups.{Groups, patch_of, with_patch}
 use Rattle.patch_frame.specs.Frame.{Content, spelling, length_of}
 use Rattle.patch_frame.specs.Geometry.{slot_block, slot_start}
@@ -24,7 +24,7 @@ use Rattle.patch_plans.specs.Writing.{with_patches, written, steps_of}
 use Rattle.patch_history.specs.History.{IsWhole}
 use Rattle.patch_history.specs.Planning.{fields_for}
 use Rattle.patch_history.specs.Shelf.{Shelf, slot_at, leaving, after_change, after_plan}
-use Rattle.patch_history.specs.Standing.{Standing, made_by, creates}
+use Rattle.patch_history.specs.StoreState.{Standing, made_by, creates}
 use Rattle.patch_history.specs.Steps.{FramePut, appended, filled, framed, steps_made, slot_steps, FramesCompose, AppendsAreCuts, BegunAppendsAreCuts, ShelvesGoOn}
 use Rattle.patch_store.specs.Meaning.{Store}
 use Rattle.patch_store.specs.Merging.{counted_with, HasMerged}

@@ -6,15 +6,15 @@ use Rattle.patch_model.specs.declared.refusals.Refusal.{Refusal}
 use Rattle.patch_model.specs.Step.{Step}
 use Rattle.patch_model.specs.Execution.{Execution, followed_by}
 use Rattle.patch_cache.specs.Contents.{Contents}
-use Rattle.patch_cache.specs.Meaning.{Represents as IsCacheOf}
+use Rattle.patch_cache.specs.Meaning.{IsCacheOf}
 use Rattle.patch_cache.specs.Refusals.{IsCause}
 use Rattle.patch_history.specs.Command.{Command, Reply, Refused, unless, is_refused, takes_memory, may_be_cut}
-use Rattle.patch_history.specs.Standing.{Standing, at_opening, made_by, plan_of}
+use Rattle.patch_history.specs.StoreState.{Standing, at_opening, made_by, plan_of}
 use Rattle.patch_history.specs.Refusing.{reply_of}
 use Rattle.patch_history.specs.Laws.{HistoriesExtend}
 use Rattle.patch_history.specs.History.{History, Event, Call, steps_in, steps_of, after_event, execution_of, standing_of, with_event, IsRight, IsCut}
 use Rattle.patch_plans.specs.Writing.{written}
-use Rattle.patch_store.specs.Meaning.{Store, Represents, HasGained, HasAnswered}
+use Rattle.patch_store.specs.Meaning.{Store, IsStoreOf, HasGained, HasAnswered}
 use Rattle.patch_store.specs.Merging.{Counts, AreCounted}
 use Rattle.patch_store.proofs.Outcomes.{merged_none}
 
@@ -36,7 +36,7 @@ counted_push st [] event before between after are counts = (after, subst (λ cou
 counted_push st (first ∷ events) event before between after are counts =
     (are.0, are.1, counted_push (after_event st first) events event are.0 between after are.2 counts)
 
-pub gained : HistoriesExtend → (h : History) (event : Event) (old new : Store) → Represents old h → IsRight (standing_of h) event
+pub gained : HistoriesExtend → (h : History) (event : Event) (old new : Store) → IsStoreOf old h → IsRight (standing_of h) event
     → IsCacheOf new.cache (followed_by (execution_of h) (steps_in event)) → new.groups ≡ (after_event (standing_of h) event).groups
     → new.shelf ≡ (after_event (standing_of h) event).shelf → new.cache.trace ≡ old.cache.trace ++ steps_in event
     → Counts (standing_of h) event old.left_out new.left_out → HasGained h event old new
@@ -57,7 +57,7 @@ gained extends h event old new was right cache groups shelf trace counts =
     }
 
 -- a call without steps
-pub answered : HistoriesExtend → (h : History) (writer : ℕ) (command : Command) (reply : Reply) (old new : Store) → Represents old h
+pub answered : HistoriesExtend → (h : History) (writer : ℕ) (command : Command) (reply : Reply) (old new : Store) → IsStoreOf old h
     → IsRight (standing_of h) (Call writer command reply []) → new.cache ≡ old.cache
     → new.groups ≡ (after_event (standing_of h) (Call writer command reply [])).groups → new.shelf ≡ old.shelf → new.left_out ≡ old.left_out
     → HasAnswered h writer command reply old new
@@ -89,7 +89,7 @@ pub right_caused : (st : Standing) (writer : ℕ) (command : Command) (cause : O
 right_caused st writer command cause refusal ok is why = inl (sym (is ∙ ap (λ c. unless c ok) why), refl)
 
 -- and it leaves all as it was
-pub refused : HistoriesExtend → (h : History) (writer : ℕ) (command : Command) (refusal : Refusal) (old new : Store) → Represents old h
+pub refused : HistoriesExtend → (h : History) (writer : ℕ) (command : Command) (refusal : Refusal) (old new : Store) → IsStoreOf old h
     → IsRight (standing_of h) (Call writer command (Refused refusal) []) → new ≡ old → HasAnswered h writer command (Refused refusal) old new
 refused extends h writer command refusal old new was right same =
     answered extends h writer command (Refused refusal) old new was right (ap (λ s. s.cache) same) (ap (λ s. s.groups) same ∙ was.groups_are) (ap (λ s. s.shelf) same)
@@ -97,19 +97,19 @@ refused extends h writer command refusal old new was right same =
 
 -- what is said of the view of a store is said of the store
 pub viewed : {h : History} {writer : ℕ} {command : Command} {reply : Reply} {old now new : Store} → old ≡ now
-    → (Represents old h → HasAnswered h writer command reply old new) → Represents now h → HasAnswered h writer command reply now new
+    → (IsStoreOf old h → HasAnswered h writer command reply old new) → IsStoreOf now h → HasAnswered h writer command reply now new
 viewed {h = h} {writer = writer} {command = command} {reply = reply} {new = new} is said =
-    subst (λ s. Represents s h → HasAnswered h writer command reply s new) is said
+    subst (λ s. IsStoreOf s h → HasAnswered h writer command reply s new) is said
 
 -- and of a store that stays as it is
 pub viewed_same : {h : History} {writer : ℕ} {command : Command} {reply : Reply} {old now : Store} → old ≡ now
-    → (Represents old h → HasAnswered h writer command reply old old) → Represents now h → HasAnswered h writer command reply now now
+    → (IsStoreOf old h → HasAnswered h writer command reply old old) → IsStoreOf now h → HasAnswered h writer command reply now now
 viewed_same {h = h} {writer = writer} {command = command} {reply = reply} is said =
-    subst (λ s. Represents s h → HasAnswered h writer command reply s s) is said
+    subst (λ s. IsStoreOf s h → HasAnswered h writer command reply s s) is said
 
 -- a trace has no part in what a store represents
-pub drained_so : (h : History) (old : Store) (cache : Contents) → Represents old h → ((run : Execution) → IsCacheOf old.cache run → IsCacheOf cache run)
-    → Represents (record old { cache = cache }) h
+pub drained_so : (h : History) (old : Store) (cache : Contents) → IsStoreOf old h → ((run : Execution) → IsCacheOf old.cache run → IsCacheOf cache run)
+    → IsStoreOf (record old { cache = cache }) h
 drained_so h old cache was same = record {
   legal = was.legal;
   cache_is = same (execution_of h) was.cache_is;

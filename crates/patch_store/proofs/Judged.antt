@@ -19,8 +19,8 @@ use Rattle.patch_history.specs.Laws.{StandingsAgree}
 use Rattle.patch_history.specs.Planning.{emptied, moves}
 use Rattle.patch_history.specs.Refusing.{is_in_use, why_not_made, why_not_reclaimed}
 use Rattle.patch_history.specs.Shelf.{Shelf, left_of, after_plan}
-use Rattle.patch_history.specs.Standing.{Standing, made_by, live_of, plan_for}
-use Rattle.patch_store.specs.Meaning.{Store, Represents}
+use Rattle.patch_history.specs.StoreState.{Standing, made_by, live_of, plan_for}
+use Rattle.patch_store.specs.Meaning.{Store, IsStoreOf}
 use Rattle.patch_store.specs.Trials.{moving_patches}
 
 -- the first cause, where the shelf is this one
@@ -59,7 +59,7 @@ pub record IsFree (s : Shelf) (extent : ℕ) : Type 0 where
   pub unused : is_in_use s extent ≡ false
   pub unspent : generation_at s.extents extent ≢ 4294967295
 
-by_plan : (h : History) (s : Store) (extent : ℕ) → Represents s h → IsFree s.shelf extent
+by_plan : (h : History) (s : Store) (extent : ℕ) → IsStoreOf s h → IsFree s.shelf extent
     → why_not_reclaimed (standing_of h) extent ≡ why_not_made (standing_of h) (bare kind.NoSpace) (plan_for (standing_of h) (Reclaim extent))
 by_plan h s extent was free =
     let known = free.known in
@@ -71,7 +71,7 @@ by_plan h s extent was free =
     let c = free.unused in
     ap (λ x. why_over (standing_of h) x extent) (sym was.shelf_is) ∙ rw (a, b, c, d) refl
 
-pub no_space : (h : History) (s : Store) (extent : ℕ) → Represents s h → IsFree s.shelf extent → None ≡ moving_patches (standing_of h) extent
+pub no_space : (h : History) (s : Store) (extent : ℕ) → IsStoreOf s h → IsFree s.shelf extent → None ≡ moving_patches (standing_of h) extent
     → why_not_reclaimed (standing_of h) extent ≡ Some (bare kind.NoSpace)
 no_space h s extent was free is =
     let st = standing_of h in
@@ -79,7 +79,7 @@ no_space h s extent was free is =
     by_plan h s extent was free ∙ no_plan st (bare kind.NoSpace) (emptied st.shelf (made_by st) extent) all (sym is)
 
 -- with a reset more
-pub room_for : StandingsAgree → (h : History) (s : Store) (extent count : ℕ) → Represents s h → IsFree s.shelf extent → Some count ≡ moving_patches (standing_of h) extent
+pub room_for : StandingsAgree → (h : History) (s : Store) (extent count : ℕ) → IsStoreOf s h → IsFree s.shelf extent → Some count ≡ moving_patches (standing_of h) extent
     → why_not_reclaimed (standing_of h) extent
     ≡ why_no_room (length (entries_of (execution_of h))) (count_by is_live (entries_of (execution_of h))) (count + 1)
 room_for agree h s extent count was free is =
@@ -90,14 +90,14 @@ room_for agree h s extent count was free is =
     ∙ some_plan st (bare kind.NoSpace) (emptied st.shelf (made_by st) extent) all count (length-emptied st.shelf (made_by st) extent) (sym is)
     ∙ ap (λ m. why_no_room m (live_of st) (count + 1)) a.made ∙ ap (λ l. why_no_room (length (entries_of (execution_of h))) l (count + 1)) a.live
 
-pub in_use : (h : History) (s : Store) (extent : ℕ) → Represents s h → extent < s.shelf.extents.geometry.extents → offset_at s.shelf.extents extent ≢ 0
+pub in_use : (h : History) (s : Store) (extent : ℕ) → IsStoreOf s h → extent < s.shelf.extents.geometry.extents → offset_at s.shelf.extents extent ≢ 0
     → is_in_use s.shelf extent ≡ true → why_not_reclaimed (standing_of h) extent ≡ Some (bare kind.OpenExtent)
 in_use h s extent was known begun used =
     let a : nat_le s.shelf.extents.geometry.extents extent ≡ false = grind (arith, nat_tests, known) in
     let b : (offset_at s.shelf.extents extent == 0) ≡ false = grind (arith, nat_tests, begun) in
     ap (λ x. why_over (standing_of h) x extent) (sym was.shelf_is) ∙ rw (a, b, used) refl
 
-pub spent : (h : History) (s : Store) (extent : ℕ) → Represents s h → extent < s.shelf.extents.geometry.extents → offset_at s.shelf.extents extent ≢ 0
+pub spent : (h : History) (s : Store) (extent : ℕ) → IsStoreOf s h → extent < s.shelf.extents.geometry.extents → offset_at s.shelf.extents extent ≢ 0
     → is_in_use s.shelf extent ≡ false → generation_at s.shelf.extents extent ≡ 4294967295
     → why_not_reclaimed (standing_of h) extent ≡ Some (bare kind.GenerationSpent)
 spent h s extent was known begun unused last =

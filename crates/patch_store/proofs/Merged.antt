@@ -14,7 +14,7 @@ use Rattle.patch_extent.specs.Answers.{setting, asked, MergesRightly}
 use Rattle.patch_extent.specs.declared.places.Appended.{Appended}
 use Rattle.patch_cache.specs.Contents.{Contents}
 use Rattle.patch_frame.specs.Frame.{spelling}
-use Rattle.patch_history.specs.Standing.{made_by}
+use Rattle.patch_history.specs.StoreState.{made_by}
 use Rattle.patch_history.specs.Steps.{FramePut, appended, filled, framed, steps_made, slot_steps}
 use Rattle.patch_recovery.specs.Change.{Point, Made, step_of}
 use Rattle.patch_plans.specs.Extents.{Extents, extent_at, generation_at, offset_at}

@@ -6,7 +6,7 @@ use Rattle.std.proofs.lemmas.Bool.{cases_eq, cases_lt}
 use Rattle.std.proofs.lemmas.List.{length-append, take-append-le, get_or-set_same, get_or-set_other, set_past}
 use Rattle.patch_model.specs.Step.{Step, Create, Merge, Send, Complete}
 use Rattle.patch_model.specs.Execution.{followed_by}
-use Rattle.patch_cache.specs.Meaning.{Represents as IsCacheOf}
+use Rattle.patch_cache.specs.Meaning.{IsCacheOf}
 use Rattle.patch_plans.specs.Groups.{Groups}
 use Rattle.patch_frame.specs.Frame.{Content, spelling}
 use Rattle.patch_frame.specs.Slot.{SlotFields}
@@ -23,7 +23,7 @@ use Rattle.patch_history.specs.History.{IsWhole, IsCut}
 use Rattle.patch_history.specs.Planning.{frame_plan, fill_plan, content_of, moves}
 use Rattle.patch_history.specs.Shelf.{Shelf, after_plan}
 use Rattle.patch_history.specs.Shelf as shelves
-use Rattle.patch_history.specs.Standing.{Standing, made_by, creates}
+use Rattle.patch_history.specs.StoreState.{Standing, made_by, creates}
 use Rattle.patch_history.specs.Steps.{ShelvesGoOn, WholesJoin}
 use Rattle.patch_history.specs.Steps as plans
 use Rattle.patch_store.specs.Meaning.{Store}

@@ -18,7 +18,7 @@ use Rattle.patch_recovery.specs.Ledger.{Ledger}
 use Rattle.patch_recovery.specs.Reading.{Fault, BadSuper, FileSize, BadPointer, reading, read_under, block_on, record_at, bad_pointers, ledger_in, slot_tests}
 use Rattle.patch_plans.specs.declared.records.Extent.{Extent}
 use Rattle.patch_plans.specs.Extents.{Extents, extent_at, no_extent}
-use Rattle.patch_plans.specs.Meaning.{Represents as AreExtentsOf}
+use Rattle.patch_plans.specs.Meaning.{AreExtentsOf}
 use Rattle.patch_history.specs.declared.refusals.OpenFault.{OpenFault}
 use Rattle.patch_history.specs.Refusals.{fault_of}
 use Rattle.patch_history.specs.Shelf.{Shelf, opened, opened_extent, may_be_current}

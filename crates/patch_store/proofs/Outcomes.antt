@@ -12,7 +12,7 @@ use Rattle.patch_plans.specs.Groups.{Groups}
 use Rattle.patch_plans.specs.Joining.{steps_by-++, written-++, named_plan-++, after_plan-named_plan, length-named_plan, length-written}
 use Rattle.patch_plans.specs.Writing.{Written, after_change, after_plan, named_plan, with_patches, merge_behind, written, steps_by}
 use Rattle.patch_recovery.specs.Change.{Made, step_of}
-use Rattle.patch_history.specs.Standing.{creates}
+use Rattle.patch_history.specs.StoreState.{creates}
 use Rattle.patch_store.specs.Merging.{IsRight, AreRight, counted_with, HasMerged}
 use Rattle.patch_store.proofs.Counted.{creates_by}
 

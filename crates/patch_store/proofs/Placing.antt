@@ -25,14 +25,14 @@ use Rattle.patch_plans.specs.Planning.{touched, parts, names_behind, part}
 use Rattle.patch_plans.specs.Room.{why_no_room}
 use Rattle.patch_history.specs.Choosing.{slot_of, empty_slot, slot_for, has_room, current_for, first_of_any, first_of_two, empty_extents, extent_for_put}
 use Rattle.patch_history.specs.Fitting.{HasPlace}
-use Rattle.patch_history.specs.Kept.{ShelvesAreKept}
+use Rattle.patch_history.specs.ShelfLedger.{ShelvesAreKept}
 use Rattle.patch_history.specs.Laws.{StandingsAgree}
 use Rattle.patch_history.specs.Planning.{frame_plan, fill_plan}
 use Rattle.patch_history.specs.Shelf.{Shelf}
-use Rattle.patch_history.specs.Standing.{Standing, made_by, live_of}
+use Rattle.patch_history.specs.StoreState.{Standing, made_by, live_of}
 use Rattle.patch_history.specs.Refusing.{why_no_key, why_not_made, why_not_put}
 use Rattle.patch_history.specs.History.{History, execution_of, standing_of}
-use Rattle.patch_store.specs.Meaning.{Store, Represents, IsWhole}
+use Rattle.patch_store.specs.Meaning.{Store, IsStoreOf, IsWhole}
 
 -- What is chosen is there.
 
@@ -180,7 +180,7 @@ cause_room st key value slot extent fits short at there long =
 pub record IsJudged (h : History) (s : Store) : Type 0 where
   pub kept : ShelvesAreKept
   pub agree : StandingsAgree
-  pub was : Represents s h
+  pub was : IsStoreOf s h
 
 module _ (h : History) (s : Store) (j : IsJudged h s) (key value : List ℕ) (fits : why_no_key key ≡ None) where
   shelf : s.shelf ≡ (standing_of h).shelf

@@ -7,28 +7,28 @@ use Rattle.patch_model.specs.Refusing.{bare}
 use Rattle.patch_model.specs.Execution.{followed_by}
 use Rattle.patch_model.specs.State.{entries_of}
 use Rattle.patch_model.specs.Step.{Step}
-use Rattle.patch_cache.specs.Meaning.{Represents as IsCacheOf}
+use Rattle.patch_cache.specs.Meaning.{IsCacheOf}
 use Rattle.patch_frame.specs.Frame.{Content, spelling, length_of}
 use Rattle.patch_recovery.specs.Change.{Made}
-use Rattle.patch_plans.specs.Meaning.{Represents as AreExtentsOf}
+use Rattle.patch_plans.specs.Meaning.{AreExtentsOf}
 use Rattle.patch_plans.specs.Writing.{named_plan, with_patches}
 use Rattle.patch_history.specs.Command.{Reply, Put, Done, Refused, unless, is_refused}
 use Rattle.patch_history.specs.Choosing.{slot_for, extent_for_put}
 use Rattle.patch_history.specs.Laws.{HistoriesExtend, StandingsRun, StandingsAgree, ExtentsAreKept}
 use Rattle.patch_history.specs.Planning.{frame_plan, put_plan}
 use Rattle.patch_history.specs.Shelf.{Shelf}
-use Rattle.patch_history.specs.Standing.{Standing, made_by, creates, plan_of}
+use Rattle.patch_history.specs.StoreState.{Standing, made_by, creates, plan_of}
 use Rattle.patch_history.specs.Steps.{framed, BegunAppendsAreCuts}
 use Rattle.patch_history.specs.Refusing.{why_not_put}
 use Rattle.patch_history.specs.History.{History, Call, IsRight, IsWhole, IsCut, after_event, execution_of, standing_of}
-use Rattle.patch_store.specs.Meaning.{Store, Represents, HasAnswered}
+use Rattle.patch_store.specs.Meaning.{Store, IsStoreOf, HasAnswered}
 use Rattle.patch_store.specs.Framing.{framing, IsAsked, StandsBehind, IsFramed, IsFramedInPart}
 use Rattle.patch_store.specs.Putting.{IsTarget}
 use Rattle.patch_store.proofs.Framed.{none_so}
 use Rattle.patch_store.proofs.Gaining.{gained, refused, right_caused}
 
 -- one that is refused for a cause
-pub refused_put : HistoriesExtend → (h : History) (writer : ℕ) (key value : List ℕ) (cause : Refusal) (old : Store) → Represents old h
+pub refused_put : HistoriesExtend → (h : History) (writer : ℕ) (key value : List ℕ) (cause : Refusal) (old : Store) → IsStoreOf old h
     → why_not_put (standing_of h) key value ≡ Some cause → HasAnswered h writer (Put key value) (Refused cause) old old
 refused_put extends h writer key value cause old was is =
     refused extends h writer (Put key value) cause old old was
@@ -49,7 +49,7 @@ pub record IsPutOf (h : History) (key value : List ℕ) (slot extent : ℕ) (old
   pub kept : ExtentsAreKept
   pub no_cause : why_not_put (standing_of h) key value ≡ None
   pub target : IsTarget old.shelf key value slot extent
-  pub was : Represents old h
+  pub was : IsStoreOf old h
 
 module _ (h : History) (writer : ℕ) (key value : List ℕ) (slot extent : ℕ) (old : Store) (is : IsPutOf h key value slot extent old) where
   abbrev st : Standing

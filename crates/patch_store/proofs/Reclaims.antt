@@ -8,7 +8,7 @@ use Rattle.patch_model.specs.Refusing.{bare}
 use Rattle.patch_model.specs.Execution.{followed_by}
 use Rattle.patch_model.specs.State.{entries_of}
 use Rattle.patch_model.specs.Step.{Step}
-use Rattle.patch_cache.specs.Meaning.{Represents as IsCacheOf}
+use Rattle.patch_cache.specs.Meaning.{IsCacheOf}
 use Rattle.patch_frame.specs.declared.geometries.Geometry.{Geometry}
 use Rattle.patch_frame.specs.Frame.{Content, frame_at, length_of}
 use Rattle.patch_frame.specs.Geometry.{value_limit}
@@ -18,7 +18,7 @@ use Rattle.patch_recovery.specs.Closed.{cached_blocks}
 use Rattle.patch_recovery.specs.Ledger.{bytes_at}
 use Rattle.patch_recovery.specs.Reading.{ledger_in}
 use Rattle.patch_extent.specs.Answers.{cached_bytes}
-use Rattle.patch_plans.specs.Meaning.{Represents as AreExtentsOf}
+use Rattle.patch_plans.specs.Meaning.{AreExtentsOf}
 use Rattle.patch_plans.specs.Planning.{reset_plan}
 use Rattle.patch_plans.specs.Writing.{named_plan, written}
 use Rattle.patch_history.specs.Choosing.{extent_for_move, live_frames}
@@ -29,12 +29,12 @@ use Rattle.patch_history.specs.Laws.{HistoriesExtend, StandingsRun}
 use Rattle.patch_history.specs.Planning.{frame_plan, content_of, moves, emptied}
 use Rattle.patch_history.specs.Refusing.{why_not_reclaimed}
 use Rattle.patch_history.specs.Shelf.{Shelf, slot_at, left_of, after_plan}
-use Rattle.patch_history.specs.Standing.{Standing, made_by, creates}
+use Rattle.patch_history.specs.StoreState.{Standing, made_by, creates}
 use Rattle.patch_history.specs.Steps.{framed, ShelvesGoOn}
 use Rattle.patch_history.specs.Steps as plans
 use Rattle.patch_history.specs.History.{History, Event, Call, IsWhole, IsCut, after_event, execution_of, standing_of, ledger_of, with_event}
-use Rattle.patch_store.specs.Given.{Given}
-use Rattle.patch_store.specs.Meaning.{Store, Represents, HasGained, HasAnswered}
+use Rattle.patch_store.specs.HistoryLaws.{Given}
+use Rattle.patch_store.specs.Meaning.{Store, IsStoreOf, HasGained, HasAnswered}
 use Rattle.patch_store.specs.Framing.{framing, StandsBehind, IsFramed, IsFramedInPart}
 use Rattle.patch_store.specs.Moving.{IsStanding, IsCached, frame_cached, IsMovable, reset_of, IsEmptied, IsReclaiming, HaveMoved, plan_at, IsReclaimedInPart}
 use Rattle.patch_store.proofs.Counted.{creates_all, onto_length}
@@ -44,7 +44,7 @@ use Rattle.patch_store.proofs.Outcomes.{merged_none}
 use Rattle.patch_store.proofs.Values.{read_stands, bytes_alike}
 
 -- a store that represents a history stands as that does
-stands_so : Given → (h : History) (s : Store) → Represents s h → IsStanding (standing_of h) s
+stands_so : Given → (h : History) (s : Store) → IsStoreOf s h → IsStanding (standing_of h) s
 stands_so given h s was = record {
   setting_is = record {
     cache_is = subst (IsCacheOf s.cache) (sym (given.runs h)) was.cache_is;
@@ -59,7 +59,7 @@ stands_so given h s was = record {
 -- A frame that a slot names can move.
 
 -- the bytes of a used slot's frame are cached
-frame_there : Given → (h : History) (s : Store) → Represents s h → (slot : ℕ) (f : SlotFields) → slot_at (standing_of h).shelf slot ≡ Some f
+frame_there : Given → (h : History) (s : Store) → IsStoreOf s h → (slot : ℕ) (f : SlotFields) → slot_at (standing_of h).shelf slot ≡ Some f
     → IsCached s.shelf.extents.geometry (standing_of h).run f (content_of (standing_of h).map.entries f)
 frame_there given h s was slot f used =
     let l = ledger_of h in
@@ -107,7 +107,7 @@ behind_so : ShelvesGoOn → (st later : Standing) (p : List Made) (steps : List 
 behind_so go st later p steps is = record { extents = ap (λ (s : Shelf). s.extents) is.shelf_is ∙ go st.shelf (made_by st) p; made = is.made_is }
 
 -- a reclaim that is given up
-given_up_so : HistoriesExtend → StandingsRun → (h : History) (writer extent : ℕ) (old new : Store) → Represents old h → why_not_reclaimed (standing_of h) extent ≡ None
+given_up_so : HistoriesExtend → StandingsRun → (h : History) (writer extent : ℕ) (old new : Store) → IsStoreOf old h → why_not_reclaimed (standing_of h) extent ≡ None
     → (part : IsReclaimedInPart h extent old new) → HasGained h (Call writer (Reclaim extent) (Refused (bare kind.OutOfMemory)) part.steps) old new
 given_up_so extends runs h writer extent old new was none part =
     gained extends h (Call writer (Reclaim extent) (Refused (bare kind.OutOfMemory)) part.steps) old new was
@@ -165,7 +165,7 @@ module _ (given : Given) (h : History) (extent : ℕ) (slots : List ℕ) (old : 
     abbrev so_far : History
     so_far = with_event h (Call 0 (Reclaim extent) (Refused (bare kind.OutOfMemory)) m.steps)
 
-    stands : Represents mid so_far
+    stands : IsStoreOf mid so_far
     stands = (given_up_so given.extends given.runs h 0 extent old mid is.represents is.no_cause part).represents
 
     later : IsLater st m.moved m.steps (standing_of so_far)
@@ -318,14 +318,6 @@ module _ (given : Given) (h : History) (extent : ℕ) (slots : List ℕ) (old : 
         one_stopped (take k live_all) split.item split.rest mid m split.parts new
         (subst (λ x. (at : Standing) (e : ℕ) (d : Content) → IsMovable at x e d mid → IsFramedInPart (framing at None x e d) mid new) same_slot moves_so)
 
-  -- where one more is to move, the reclaim isn't done
-  pub slot_missed : (k : ℕ) (mid : Store) → k < length slots → HaveMoved h (take k (live_frames st.shelf extent)) old mid → IsReclaimedInPart h extent old mid
-  slot_missed k mid within m =
-      let live : List (ℕ × SlotFields) = live_frames st.shelf extent in
-      let long = ap length is.slots_are ∙ length-map live (λ (f : ℕ × SlotFields). f.0) in
-      let s = split_at live k 0 (omega (arith, within, long)) in
-      stopped_before (take k live) s.item s.rest mid m s.parts
-
   -- All of them.
 
   -- they are as many as the slots
@@ -396,7 +388,7 @@ module _ (given : Given) (h : History) (extent : ℕ) (slots : List ℕ) (old : 
     not_emptied_so writer new same = stopped_so writer new (subst (IsReclaimedInPart h extent old) (sym same) stopped_last)
 
 -- one that is refused for a cause
-pub refused_reclaim : HistoriesExtend → (h : History) (writer extent : ℕ) (cause : Refusal) (old : Store) → Represents old h
+pub refused_reclaim : HistoriesExtend → (h : History) (writer extent : ℕ) (cause : Refusal) (old : Store) → IsStoreOf old h
     → why_not_reclaimed (standing_of h) extent ≡ Some cause → HasAnswered h writer (Reclaim extent) (Refused cause) old old
 refused_reclaim extends h writer extent cause old was is =
     refused extends h writer (Reclaim extent) cause old old was

@@ -24,14 +24,14 @@ use Rattle.patch_recovery.specs.Ledger.{value_in}
 use Rattle.patch_recovery.specs.Reading.{has_key}
 use Rattle.patch_plans.specs.Room.{why_no_room}
 use Rattle.patch_history.specs.Command.{Delete, Done, Refused, unless}
-use Rattle.patch_history.specs.Kept.{ShelvesAreKept}
+use Rattle.patch_history.specs.ShelfLedger.{ShelvesAreKept}
 use Rattle.patch_history.specs.Laws.{HistoriesExtend, HistoriesAreRead, StandingsAgree}
 use Rattle.patch_history.specs.Planning.{clear_plan}
 use Rattle.patch_history.specs.Shelf.{Shelf, slot_at, leaving, after_change, after_plan}
-use Rattle.patch_history.specs.Standing.{Standing, made_by, live_of}
+use Rattle.patch_history.specs.StoreState.{Standing, made_by, live_of}
 use Rattle.patch_history.specs.Refusing.{why_no_key, why_not_made, why_not_deleted}
 use Rattle.patch_history.specs.History.{History, Call, execution_of, standing_of}
-use Rattle.patch_store.specs.Meaning.{Store, Represents, HasAnswered}
+use Rattle.patch_store.specs.Meaning.{Store, IsStoreOf, HasAnswered}
 use Rattle.patch_store.specs.Deleting.{IsCleared}
 use Rattle.patch_store.proofs.Gaining.{gained, refused, right_refused, right_caused}
 use Rattle.patch_store.proofs.Outcomes.{merged_one}
@@ -77,17 +77,17 @@ cause_room st key value slot fits is at =
     ∙ ap (λ p. why_not_made st (bare kind.NoKey) (option_map (clear_plan st.shelf) p)) at
 
 -- a delete that is refused for a cause
-refused_so : HistoriesExtend → (h : History) (writer : ℕ) (key : List ℕ) (cause : Refusal) (old : Store) → Represents old h → why_not_deleted (standing_of h) key ≡ Some cause
+refused_so : HistoriesExtend → (h : History) (writer : ℕ) (key : List ℕ) (cause : Refusal) (old : Store) → IsStoreOf old h → why_not_deleted (standing_of h) key ≡ Some cause
     → HasAnswered h writer (Delete key) (Refused cause) old old
 refused_so extends h writer key cause old was is =
     refused extends h writer (Delete key) cause old old was (right_caused (standing_of h) writer (Delete key) (why_not_deleted (standing_of h) key) cause Done refl is) refl
 
-pub no_key_so : HistoriesExtend → (h : History) (writer : ℕ) (key : List ℕ) (old : Store) → why_no_key key ≡ Some (bare kind.KeyLength) → Represents old h
+pub no_key_so : HistoriesExtend → (h : History) (writer : ℕ) (key : List ℕ) (old : Store) → why_no_key key ≡ Some (bare kind.KeyLength) → IsStoreOf old h
     → HasAnswered h writer (Delete key) (Refused (bare kind.KeyLength)) old old
 no_key_so extends h writer key old is was = refused_so extends h writer key (bare kind.KeyLength) old was (cause_key (standing_of h) key (bare kind.KeyLength) is)
 
 pub none_so : HistoriesExtend → ShelvesAreKept → HistoriesAreRead → StandingsAgree → (h : History) (writer : ℕ) (key : List ℕ) (old : Store) → why_no_key key ≡ None
-    → position (has_key key) old.shelf.slots ≡ None → Represents old h → HasAnswered h writer (Delete key) (Refused (bare kind.NoKey)) old old
+    → position (has_key key) old.shelf.slots ≡ None → IsStoreOf old h → HasAnswered h writer (Delete key) (Refused (bare kind.NoKey)) old old
 none_so extends kept reads agree h writer key old fits none was =
     refused_so extends h writer key (bare kind.NoKey) old was (cause_none (standing_of h) key fits (sym (absent_so kept reads agree h old was key none)))
 
@@ -103,14 +103,14 @@ pub record IsKeyed (key : List ℕ) (slot : ℕ) (old : Store) : Type 0 where
   pub fields : SlotFields
   pub used : get_or old.shelf.slots slot None ≡ Some fields
 
-cause_keyed : ShelvesAreKept → HistoriesAreRead → StandingsAgree → (h : History) (key : List ℕ) (slot : ℕ) (old : Store) → IsKeyed key slot old → Represents old h
+cause_keyed : ShelvesAreKept → HistoriesAreRead → StandingsAgree → (h : History) (key : List ℕ) (slot : ℕ) (old : Store) → IsKeyed key slot old → IsStoreOf old h
     → why_not_deleted (standing_of h) key ≡ why_no_room (made_by (standing_of h)) (live_of (standing_of h)) 1
 cause_keyed kept reads agree h key slot old k was =
     cause_room (standing_of h) key _ slot k.fits (sym (found_so kept reads agree h old was key slot k.fields k.at k.used))
     (ap (λ (s : Shelf). position (has_key key) s.slots) (sym was.shelf_is) ∙ k.at)
 
 pub spent_so : HistoriesExtend → ShelvesAreKept → HistoriesAreRead → StandingsAgree → (h : History) (writer : ℕ) (key : List ℕ) (slot made : ℕ) (old : Store) → IsKeyed key slot old
-    → made ≡ length (entries_of (execution_of h)) → 16777216 ≤ made → Represents old h → HasAnswered h writer (Delete key) (Refused (bare kind.NumbersSpent)) old old
+    → made ≡ length (entries_of (execution_of h)) → 16777216 ≤ made → IsStoreOf old h → HasAnswered h writer (Delete key) (Refused (bare kind.NumbersSpent)) old old
 spent_so extends kept reads agree h writer key slot made old k count spent was =
     let n = (agree h was.legal).made in
     refused_so extends h writer key (bare kind.NumbersSpent) old was
@@ -118,7 +118,7 @@ spent_so extends kept reads agree h writer key slot made old k count spent was =
 
 pub full_so : HistoriesExtend → ShelvesAreKept → HistoriesAreRead → StandingsAgree → (h : History) (writer : ℕ) (key : List ℕ) (slot made live : ℕ) (old : Store) → IsKeyed key slot old
     → made ≡ length (entries_of (execution_of h)) → made < 16777216 → live ≡ count_by is_live (entries_of (execution_of h)) → 65536 ≤ live
-    → Represents old h → HasAnswered h writer (Delete key) (Refused (bare kind.TooManyLive)) old old
+    → IsStoreOf old h → HasAnswered h writer (Delete key) (Refused (bare kind.TooManyLive)) old old
 full_so extends kept reads agree h writer key slot made live old k count few still full was =
     let n = (agree h was.legal).made in
     let l = (agree h was.legal).live in
@@ -127,7 +127,7 @@ full_so extends kept reads agree h writer key slot made live old k count few sti
 
 no_cause : ShelvesAreKept → HistoriesAreRead → StandingsAgree → (h : History) (key : List ℕ) (slot made live : ℕ) (old : Store) → IsKeyed key slot old
     → made ≡ length (entries_of (execution_of h)) → made < 16777216 → live ≡ count_by is_live (entries_of (execution_of h)) → live < 65536
-    → Represents old h → why_not_deleted (standing_of h) key ≡ None
+    → IsStoreOf old h → why_not_deleted (standing_of h) key ≡ None
 no_cause kept reads agree h key slot made live old k count few still less was =
     let n = (agree h was.legal).made in
     let l = (agree h was.legal).live in
@@ -135,7 +135,7 @@ no_cause kept reads agree h key slot made live old k count few still less was =
 
 pub memory_so : HistoriesExtend → ShelvesAreKept → HistoriesAreRead → StandingsAgree → (h : History) (writer : ℕ) (key : List ℕ) (slot made live : ℕ) (old new : Store) → IsKeyed key slot old
     → made ≡ length (entries_of (execution_of h)) → made < 16777216 → live ≡ count_by is_live (entries_of (execution_of h)) → live < 65536 → new ≡ old
-    → Represents old h → HasAnswered h writer (Delete key) (Refused (bare kind.OutOfMemory)) old new
+    → IsStoreOf old h → HasAnswered h writer (Delete key) (Refused (bare kind.OutOfMemory)) old new
 memory_so extends kept reads agree h writer key slot made live old new k count few still less same was =
     let none = no_cause kept reads agree h key slot made live old k count few still less was in
     refused extends h writer (Delete key) (bare kind.OutOfMemory) old new was
@@ -143,7 +143,7 @@ memory_so extends kept reads agree h writer key slot made live old new k count f
 
 pub deleted_so : HistoriesExtend → ShelvesAreKept → HistoriesAreRead → StandingsAgree → (h : History) (writer : ℕ) (key : List ℕ) (slot made live : ℕ) (old new : Store) → IsKeyed key slot old
     → made ≡ length (entries_of (execution_of h)) → made < 16777216 → live ≡ count_by is_live (entries_of (execution_of h)) → live < 65536 → IsCleared writer slot old new
-    → Represents old h → HasAnswered h writer (Delete key) Done old new
+    → IsStoreOf old h → HasAnswered h writer (Delete key) Done old new
 deleted_so extends kept reads agree h writer key slot made live old new k count few still less cleared was =
     let st = standing_of h in
     let run = execution_of h in

@@ -10,12 +10,12 @@ use Rattle.patch_frame.specs.Slot.{SlotFields}
 use Rattle.patch_recovery.specs.Ledger.{Ledger, entry_of, entry_read}
 use Rattle.patch_recovery.specs.Right.{IsNamed}
 use Rattle.patch_history.specs.History.{History, standing_of, ledger_of}
-use Rattle.patch_history.specs.Kept.{ShelvesAreKept}
+use Rattle.patch_history.specs.ShelfLedger.{ShelvesAreKept}
 use Rattle.patch_history.specs.Laws.{HistoriesAreRead}
 use Rattle.patch_history.specs.Shelf.{Shelf}
 use Rattle.patch_index.specs.Reporting.{of_slots}
 use Rattle.patch_store.specs.Checking.{of_content, extent_report, extent_reports, ListsMap}
-use Rattle.patch_store.specs.Meaning.{Store, Represents}
+use Rattle.patch_store.specs.Meaning.{Store, IsStoreOf}
 
 -- what the slots tell is what the map has
 abbrev AreNamed : Ledger → Type 0
@@ -52,7 +52,7 @@ slots_are l (o ∷ slots) start each =
     ap (λ x. x ∷ slots) (each 0 (omega arith) ∙ ap l.slot (omega arith))
     ∙ ap (λ xs. l.slot start ∷ xs) (slots_are l slots (start + 1) (λ i less. each (suc i) (omega (arith, less)) ∙ ap l.slot (omega arith)))
 
-pub listed_so : ShelvesAreKept → HistoriesAreRead → (h : History) (s : Store) → Represents s h → (entries : List (List ℕ × ℕ)) → entries ≡ of_slots s.shelf.slots
+pub listed_so : ShelvesAreKept → HistoriesAreRead → (h : History) (s : Store) → IsStoreOf s h → (entries : List (List ℕ × ℕ)) → entries ≡ of_slots s.shelf.slots
     → ListsMap h entries
 listed_so kept reads h s was entries is =
     let l = ledger_of h in

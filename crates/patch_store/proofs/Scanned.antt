@@ -27,7 +27,7 @@ use Rattle.patch_recovery.specs.Reading.{Fault, BadSlot, BadFrame, DuplicateKey,
 use Rattle.patch_extent.specs.Answers.{cached_bytes}
 use Rattle.patch_extent.specs.declared.places.Place.{Place}
 use Rattle.patch_plans.specs.Extents.{Extents, extent_at, generation_at, offset_at}
-use Rattle.patch_plans.specs.Meaning.{Represents as AreExtentsOf}
+use Rattle.patch_plans.specs.Meaning.{AreExtentsOf}
 use Rattle.patch_extent.specs.Refusing.{why_not_read}
 use Rattle.patch_history.specs.declared.refusals.OpenFault.{OpenFault}
 use Rattle.patch_store.specs.Opening.{nothing, unchanged, NoneHolds, IsSpan, IsFirstOf, IsPlaced, IsScanned, AreScanned, frame_tests}

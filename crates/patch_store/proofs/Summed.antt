@@ -1,16 +1,15 @@
 -- How many patches the moves of a reclaim make, frame by frame.
-use Rattle.std.proofs.Common.{◌≡◌, ℕ, zero, suc, ◌+◌, ◌<◌, ◌∙◌, List, [], ◌∷◌, ◌++◌, length, drop, get_or, refl, sym, ap, arith}
+use Rattle.std.proofs.Common.{◌≡◌, ℕ, zero, suc, ◌+◌, ◌∙◌, List, [], ◌∷◌, ◌++◌, length, drop, get_or, refl, sym, ap, arith}
 use Rattle.std.specs.Prelude.{Option, Some, None, option_map}
 use Rattle.std.specs.List.{slice_get}
 use Rattle.std.proofs.lemmas.List.{length-append}
-use Rattle.std.proofs.lemmas.Option.{slice_get-get_or}
 use Rattle.patch_frame.specs.Frame.{Content, spelling, length_of}
 use Rattle.patch_frame.specs.Slot.{SlotFields}
 use Rattle.patch_recovery.specs.Change.{Made}
 use Rattle.patch_history.specs.Choosing.{extent_for_move, live_frames}
 use Rattle.patch_history.specs.Planning.{frame_plan, content_of, moves}
 use Rattle.patch_history.specs.Shelf.{Shelf, after_plan}
-use Rattle.patch_history.specs.Standing.{Standing, made_by}
+use Rattle.patch_history.specs.StoreState.{Standing, made_by}
 use Rattle.patch_history.specs.Fitting.{FramesAreThere}
 use Rattle.patch_history.specs.History.{History, standing_of}
 use Rattle.patch_index.specs.declared.entries.Entry.{Entry}
@@ -18,7 +17,7 @@ use Rattle.patch_index.specs.Index.{fields_of}
 use Rattle.patch_index.specs.Live.{slots_of, AreSaid}
 use Rattle.patch_index.specs.Said.{said_behind}
 use Rattle.patch_store.specs.declared.trials.Trial.{Trial}
-use Rattle.patch_store.specs.Meaning.{Store, Represents}
+use Rattle.patch_store.specs.Meaning.{Store, IsStoreOf}
 use Rattle.patch_store.specs.Moving.{live_slots}
 use Rattle.patch_store.specs.Trials.{Alike, Tries, moving_patches}
 
@@ -51,17 +50,17 @@ pub record IsRead (h : History) (extent at len : ℕ) : Type 0 where
 some_fields : (f g : SlotFields) → Some f ≡ Some g → f ≡ g
 some_fields f g is = cc
 
-next_in : (h : History) (s : Store) (live : List ℕ) (extent at slot : ℕ) → Represents s h → live ≡ live_slots s.shelf extent
+next_in : (h : History) (s : Store) (live : List ℕ) (extent at slot : ℕ) → IsStoreOf s h → live ≡ live_slots s.shelf extent
     → slice_get live at ≡ Some slot → IsNext (standing_of h).shelf.slots (live_frames (standing_of h).shelf extent) at slot
 next_in h s live extent at slot was same is =
     let t = (standing_of h).shelf in
     next_is t.slots (live_frames t extent) at slot (said_behind t.slots extent 0)
     (sym (ap (λ xs. slice_get xs at) (same ∙ ap (λ x. live_slots x extent) was.shelf_is)) ∙ is)
 
-slots_alike : (h : History) (s : Store) (slot : ℕ) → Represents s h → get_or s.shelf.slots slot None ≡ get_or (standing_of h).shelf.slots slot None
+slots_alike : (h : History) (s : Store) (slot : ℕ) → IsStoreOf s h → get_or s.shelf.slots slot None ≡ get_or (standing_of h).shelf.slots slot None
 slots_alike h s slot was = ap (λ (x : Shelf). get_or x.slots slot None) was.shelf_is
 
-pub never_empty : (h : History) (s : Store) (live : List ℕ) (extent at slot : ℕ) → Represents s h → live ≡ live_slots s.shelf extent
+pub never_empty : (h : History) (s : Store) (live : List ℕ) (extent at slot : ℕ) → IsStoreOf s h → live ≡ live_slots s.shelf extent
     → slice_get live at ≡ Some slot → None ≡ get_or s.shelf.slots slot None → ⊥
 never_empty h s live extent at slot was same is none =
     let next = next_in h s live extent at slot was same is in
@@ -69,7 +68,7 @@ never_empty h s live extent at slot was same is none =
     cc
 
 pub is_read : FramesAreThere → ((c : Content) → length (spelling c) ≡ length_of c) → (h : History) (s : Store) (live : List ℕ) (extent at slot : ℕ) (e : Entry)
-    → Represents s h → live ≡ live_slots s.shelf extent → slice_get live at ≡ Some slot → Some (fields_of e) ≡ get_or s.shelf.slots slot None
+    → IsStoreOf s h → live ≡ live_slots s.shelf extent → slice_get live at ≡ Some slot → Some (fields_of e) ≡ get_or s.shelf.slots slot None
     → IsRead h extent at e.length
 is_read there spells h s live extent at slot e was same is says =
     let next = next_in h s live extent at slot was same is in
@@ -83,12 +82,6 @@ is_read there spells h s live extent at slot e was same is says =
       long = long;
       spelled = spells c ∙ ap length_of (sym stands.content) ∙ stands.named.length ∙ long;
     }
-
--- no slot lies behind them all
-pub never_past : (live : List ℕ) (at : ℕ) → at < length live → slice_get live at ≡ None → ⊥
-never_past live at within none =
-    let both : None ≡ Some (get_or live at 0) = sym none ∙ slice_get-get_or live at 0 within in
-    cc
 
 -- The frames so far make so many patches; with those that are left they make all.
 pub record AreTried (st : Standing) (extent : ℕ) (rest : List (ℕ × SlotFields)) (count : ℕ) (t : Trial) : Type 0 where

@@ -10,7 +10,7 @@ use Rattle.patch_extent.specs.Merging.{is_made}
 use Rattle.patch_plans.specs.Extents.{Extents, extent_at}
 use Rattle.patch_plans.specs.Writing.{Written, after_change, merge_with, merge_behind, written, steps_by}
 use Rattle.patch_recovery.specs.Change.{Change, Data, Point, Fill, Clear, Widen, Made, step_of}
-use Rattle.patch_history.specs.Standing.{creates}
+use Rattle.patch_history.specs.StoreState.{creates}
 use Rattle.patch_store.specs.Merging.{IsRight, AreRight, counted_with, HasMerged}
 use Rattle.patch_store.proofs.Outcomes.{followed_both, followed_none, merged_none, take_written}
 

@@ -16,10 +16,10 @@ use Rattle.patch_history.specs.Choosing.{has_room, current_for, first_of_any, em
 use Rattle.patch_history.specs.Planning.{frame_plan, fill_plan}
 use Rattle.patch_history.specs.Shelf.{Shelf, after_plan}
 use Rattle.patch_history.specs.Shelf.{after_point as shelf_after_point}
-use Rattle.patch_history.specs.Kept.{IsShelfOf, ShelvesAreKept}
+use Rattle.patch_history.specs.ShelfLedger.{IsShelfOf, ShelvesAreKept}
 use Rattle.patch_history.specs.Laws.{StandingsAgree}
 use Rattle.patch_history.specs.History.{History, ledger_of}
-use Rattle.patch_store.specs.Meaning.{Store, Represents}
+use Rattle.patch_store.specs.Meaning.{Store, IsStoreOf}
 use Rattle.patch_recovery.specs.Ledger.{Ledger}
 use Rattle.patch_frame.specs.declared.geometries.Geometry.{Geometry}
 use Rattle.patch_store.specs.declared.trials.Filled.{Filled}
@@ -306,9 +306,9 @@ filled_in s (Some f) begun is = record {
 }
 
 pub trial_of : ShelvesAreKept → StandingsAgree → (h : History) (store now : Store) (t : Trial) → store ≡ now → t.largest ≡ largest_pointer store.shelf.extents.geometry.format
-    → IsCurrentOf store.shelf t.current → t.empty.now ≡ empty_extents store.shelf → Represents now h → Alike now.shelf t
+    → IsCurrentOf store.shelf t.current → t.empty.now ≡ empty_extents store.shelf → IsStoreOf now h → Alike now.shelf t
 trial_of kept agree h store now t is largest current empty was =
-    let stands = subst (λ s. Represents s h) (sym is) was in
+    let stands = subst (λ s. IsStoreOf s h) (sym is) was in
     let shelf = subst (λ s. IsShelfOf s (ledger_of h)) (sym stands.shelf_is) (kept h) in
     subst (λ (s : Store). Alike s.shelf t) is (store_tried store.shelf (ledger_of h) t shelf shelf.geometry largest current.0
     (filled_in store.shelf t.current

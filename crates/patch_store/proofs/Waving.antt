@@ -9,7 +9,7 @@ use Rattle.patch_model.specs.Execution.{Execution, followed_by}
 use Rattle.patch_model.specs.State.{entries_of, state_of, has_flight}
 use Rattle.patch_model.specs.History.{history_of, image, cached}
 use Rattle.patch_cache.specs.Contents.{Contents}
-use Rattle.patch_cache.specs.Meaning.{Represents as IsCacheOf}
+use Rattle.patch_cache.specs.Meaning.{IsCacheOf}
 use Rattle.patch_cache.specs.Flights.{AreFlightsOf, AreFlightsBeside}
 use Rattle.patch_cache.specs.Running.{Runs, RunsBeside, held_by}
 use Rattle.patch_cache.specs.Waves.{is_write, is_send, classes_in_memory, steps_since, HasGoneOnBeside, HoldImages, IsFlushed}
@@ -21,8 +21,8 @@ use Rattle.patch_device.specs.declared.devices.Device.{Ghosts}
 use Rattle.patch_model.specs.Member.{In}
 use Rattle.patch_history.specs.History.{History, Event, Moved, steps_in, after_event, execution_of, standing_of, IsLegalHistory, AreRight}
 use Rattle.patch_history.specs.History as histories
-use Rattle.patch_history.specs.Standing.{Standing, at_opening}
-use Rattle.patch_store.specs.Meaning.{Store, Represents}
+use Rattle.patch_history.specs.StoreState.{Standing, at_opening}
+use Rattle.patch_store.specs.Meaning.{Store, IsStoreOf}
 use Rattle.patch_store.specs.Merging.{AreCounted}
 use Rattle.patch_store.specs.Flushing.{StandsStill, with_writes, HasWritten, HoldCached, IfRefused}
 
@@ -81,7 +81,7 @@ beside : (st : Standing) (events : List Event) (steps : List Step) → IsBeside 
 beside st [] steps = moved_beside st steps
 beside st (event ∷ events) steps = beside (after_event st event) events steps
 
-pub written_so : {A : Type 0} {others : Bool} (h : History) (steps : List Step) (old : Store) (cache : Contents) (flights : Flights A) → Represents old h
+pub written_so : {A : Type 0} {others : Bool} (h : History) (steps : List Step) (old : Store) (cache : Contents) (flights : Flights A) → IsStoreOf old h
     → HasGoneOnBeside others (execution_of h) steps cache flights → HasWritten h steps (record old { cache = cache })
 written_so h steps old cache flights was gone =
     let is = run_behind h steps in
@@ -130,7 +130,7 @@ none_beside run = record {
   once = λ i j f g at other same. absurd (none_at i f at);
 }
 
-pub runs_beside : {A : Type 0} (h : History) (old : Store) (flights : Flights A) → held_by flights ≡ [] → Represents old h → RunsBeside true old.cache flights (execution_of h)
+pub runs_beside : {A : Type 0} (h : History) (old : Store) (flights : Flights A) → held_by flights ≡ [] → IsStoreOf old h → RunsBeside true old.cache flights (execution_of h)
 runs_beside h old flights none was = record {
   cache_is = was.cache_is;
   flights_are = subst (AreFlightsBeside true (execution_of h)) (sym none) (none_beside (execution_of h));
@@ -139,16 +139,16 @@ runs_beside h old flights none was = record {
 -- what is said of the view of a store is said of the store
 pub written_view : {A : Type 0} (old now : Store) (cache : Contents) (flights after : Flights A) → old ≡ now → held_by flights ≡ []
     → ((run : Execution) → RunsBeside true old.cache flights run → HasGoneOnBeside true run (steps_since old.cache cache) cache after)
-    → (h : History) → Represents now h → HasWritten h (steps_since now.cache cache) (record old { cache = cache })
+    → (h : History) → IsStoreOf now h → HasWritten h (steps_since now.cache cache) (record old { cache = cache })
 written_view old now cache flights after is none ran h was =
-    subst (λ s. Represents s h → HasWritten h (steps_since s.cache cache) (record old { cache = cache })) is
+    subst (λ s. IsStoreOf s h → HasWritten h (steps_since s.cache cache) (record old { cache = cache })) is
     (λ w. written_so h (steps_since old.cache cache) old cache after w (ran (execution_of h) (runs_beside h old flights none w))) was
 
 pub said_beside : {A : Type 0} (P : History → List Step → Type 0) (old now : Store) (cache : Contents) (flights : Flights A) → old ≡ now → held_by flights ≡ []
     → ((h : History) → RunsBeside true old.cache flights (execution_of h) → P h (steps_since old.cache cache))
-    → (h : History) → Represents now h → P h (steps_since now.cache cache)
+    → (h : History) → IsStoreOf now h → P h (steps_since now.cache cache)
 said_beside P old now cache flights is none said h was =
-    subst (λ s. Represents s h → P h (steps_since s.cache cache)) is (λ w. said h (runs_beside h old flights none w)) was
+    subst (λ s. IsStoreOf s h → P h (steps_since s.cache cache)) is (λ w. said h (runs_beside h old flights none w)) was
 
 pub said_view : {A : Type 0} (P : History → List Step → Type 0) (old now : Store) (cache : Contents) (flights : Flights A) → old ≡ now → held_by flights ≡ []
     → ((h : History) → Runs old.cache flights (execution_of h) → P h (steps_since old.cache cache))

@@ -13,13 +13,13 @@ use Rattle.patch_plans.specs.Extents.{Extents}
 use Rattle.patch_plans.specs.Room.{why_no_room}
 use Rattle.patch_plans.specs.Writing.{written, steps_by}
 use Rattle.patch_history.specs.Command.{Upgrade, Done, Refused, unless}
-use Rattle.patch_history.specs.Kept.{ShelvesAreKept}
+use Rattle.patch_history.specs.ShelfLedger.{ShelvesAreKept}
 use Rattle.patch_history.specs.Laws.{HistoriesExtend, StandingsAgree}
 use Rattle.patch_history.specs.Refusing.{why_not_upgraded}
 use Rattle.patch_history.specs.Shelf.{Shelf, after_change}
-use Rattle.patch_history.specs.Standing.{Standing, made_by, live_of, plan_of}
+use Rattle.patch_history.specs.StoreState.{Standing, made_by, live_of, plan_of}
 use Rattle.patch_history.specs.History.{History, Call, execution_of, standing_of}
-use Rattle.patch_store.specs.Meaning.{Store, Represents, HasAnswered}
+use Rattle.patch_store.specs.Meaning.{Store, IsStoreOf, HasAnswered}
 use Rattle.patch_extent.specs.Upgrading.{IsUpgraded}
 use Rattle.patch_store.specs.Upgrading.{IsWidened}
 use Rattle.patch_store.proofs.Gaining.{gained, refused, right_refused, right_caused}
@@ -28,7 +28,7 @@ use Rattle.patch_store.proofs.Removing.{room_none, room_spent, room_full}
 
 -- Which version the disk is of.
 
-format_is : ShelvesAreKept → StandingsAgree → (h : History) (old : Store) → Represents old h → (standing_of h).map.format ≡ old.shelf.extents.geometry.format
+format_is : ShelvesAreKept → StandingsAgree → (h : History) (old : Store) → IsStoreOf old h → (standing_of h).map.format ≡ old.shelf.extents.geometry.format
 format_is kept agree h old was =
     (agree h was.legal).format ∙ ap (λ g. g.format) (sym (kept h).geometry) ∙ ap (λ (s : Shelf). s.extents.geometry.format) (sym was.shelf_is)
 
@@ -38,20 +38,20 @@ cause_wide st length is = rw is refl
 cause_narrow : (st : Standing) → st.map.format ≡ One → why_not_upgraded st ≡ why_no_room (made_by st) (live_of st) 1
 cause_narrow st is = rw is refl
 
-caused_so : HistoriesExtend → (h : History) (writer : ℕ) (cause : Refusal) (old : Store) → Represents old h → why_not_upgraded (standing_of h) ≡ Some cause
+caused_so : HistoriesExtend → (h : History) (writer : ℕ) (cause : Refusal) (old : Store) → IsStoreOf old h → why_not_upgraded (standing_of h) ≡ Some cause
     → HasAnswered h writer Upgrade (Refused cause) old old
 caused_so extends h writer cause old was is =
     refused extends h writer Upgrade cause old old was (right_caused (standing_of h) writer Upgrade (why_not_upgraded (standing_of h)) cause Done refl is) refl
 
 pub wide_so : HistoriesExtend → ShelvesAreKept → StandingsAgree → (h : History) (writer length : ℕ) (old : Store) → old.shelf.extents.geometry.format ≡ Two length
-    → Represents old h → HasAnswered h writer Upgrade (Refused (bare kind.AlreadyVersion2)) old old
+    → IsStoreOf old h → HasAnswered h writer Upgrade (Refused (bare kind.AlreadyVersion2)) old old
 wide_so extends kept agree h writer length old wide was =
     caused_so extends h writer (bare kind.AlreadyVersion2) old was (cause_wide (standing_of h) length (format_is kept agree h old was ∙ wide))
 
 -- Where it is of version 1.
 
 pub narrow_spent : HistoriesExtend → ShelvesAreKept → StandingsAgree → (h : History) (writer made : ℕ) (old : Store) → old.shelf.extents.geometry.format ≡ One
-    → made ≡ length (entries_of (execution_of h)) → 16777216 ≤ made → Represents old h → HasAnswered h writer Upgrade (Refused (bare kind.NumbersSpent)) old old
+    → made ≡ length (entries_of (execution_of h)) → 16777216 ≤ made → IsStoreOf old h → HasAnswered h writer Upgrade (Refused (bare kind.NumbersSpent)) old old
 narrow_spent extends kept agree h writer made old narrow count spent was =
     let n = (agree h was.legal).made in
     caused_so extends h writer (bare kind.NumbersSpent) old was
@@ -60,7 +60,7 @@ narrow_spent extends kept agree h writer made old narrow count spent was =
 
 pub narrow_full : HistoriesExtend → ShelvesAreKept → StandingsAgree → (h : History) (writer made live : ℕ) (old : Store) → old.shelf.extents.geometry.format ≡ One
     → made ≡ length (entries_of (execution_of h)) → made < 16777216 → live ≡ count_by is_live (entries_of (execution_of h)) → 65536 ≤ live
-    → Represents old h → HasAnswered h writer Upgrade (Refused (bare kind.TooManyLive)) old old
+    → IsStoreOf old h → HasAnswered h writer Upgrade (Refused (bare kind.TooManyLive)) old old
 narrow_full extends kept agree h writer made live old narrow count few still full was =
     let n = (agree h was.legal).made in
     let l = (agree h was.legal).live in
@@ -70,7 +70,7 @@ narrow_full extends kept agree h writer made live old narrow count few still ful
 
 no_cause : ShelvesAreKept → StandingsAgree → (h : History) (made live : ℕ) (old : Store) → old.shelf.extents.geometry.format ≡ One
     → made ≡ length (entries_of (execution_of h)) → made < 16777216 → live ≡ count_by is_live (entries_of (execution_of h)) → live < 65536
-    → Represents old h → why_not_upgraded (standing_of h) ≡ None
+    → IsStoreOf old h → why_not_upgraded (standing_of h) ≡ None
 no_cause kept agree h made live old narrow count few still less was =
     let n = (agree h was.legal).made in
     let l = (agree h was.legal).live in
@@ -79,7 +79,7 @@ no_cause kept agree h made live old narrow count few still less was =
 
 pub narrow_lacked : HistoriesExtend → ShelvesAreKept → StandingsAgree → (h : History) (writer made live : ℕ) (old new : Store) → old.shelf.extents.geometry.format ≡ One
     → made ≡ length (entries_of (execution_of h)) → made < 16777216 → live ≡ count_by is_live (entries_of (execution_of h)) → live < 65536 → new ≡ old
-    → Represents old h → HasAnswered h writer Upgrade (Refused (bare kind.OutOfMemory)) old new
+    → IsStoreOf old h → HasAnswered h writer Upgrade (Refused (bare kind.OutOfMemory)) old new
 narrow_lacked extends kept agree h writer made live old new narrow count few still less same was =
     let none = no_cause kept agree h made live old narrow count few still less was in
     refused extends h writer Upgrade (bare kind.OutOfMemory) old new was
@@ -87,7 +87,7 @@ narrow_lacked extends kept agree h writer made live old new narrow count few sti
 
 pub upgraded_so : HistoriesExtend → ShelvesAreKept → StandingsAgree → (h : History) (writer made live : ℕ) (old new : Store) → old.shelf.extents.geometry.format ≡ One
     → made ≡ length (entries_of (execution_of h)) → made < 16777216 → live ≡ count_by is_live (entries_of (execution_of h)) → live < 65536 → IsWidened old new
-    → Represents old h → HasAnswered h writer Upgrade Done old new
+    → IsStoreOf old h → HasAnswered h writer Upgrade Done old new
 upgraded_so extends kept agree h writer made live old new narrow count few still less wide was =
     let st = standing_of h in
     let run = execution_of h in

@@ -5,19 +5,19 @@ use Rattle.patch_model.specs.Step.{Send, Complete}
 use Rattle.patch_model.specs.Execution.{Execution, extended}
 use Rattle.patch_model.specs.Refusing.{why_not_sent}
 use Rattle.patch_cache.specs.Contents.{Contents}
-use Rattle.patch_cache.specs.Meaning.{Represents as IsCacheOf}
+use Rattle.patch_cache.specs.Meaning.{IsCacheOf}
 use Rattle.patch_cache.specs.Flights.{IsSent, IsBegun, IsEnded}
 use Rattle.patch_cache.specs.declared.flights.Flight.{Flight}
 use Rattle.patch_cache.specs.declared.flights.Landed.{Landed}
 use Rattle.patch_cache.specs.declared.writes.Done.{Done}
 use Rattle.patch_history.specs.Laws.{HistoriesExtend}
 use Rattle.patch_history.specs.History.{History, Moved, execution_of}
-use Rattle.patch_store.specs.Meaning.{Store, Represents}
+use Rattle.patch_store.specs.Meaning.{Store, IsStoreOf}
 use Rattle.patch_store.specs.Sending.{HasBegun, HasEnded}
 use Rattle.patch_store.proofs.Gaining.{gained}
 
 pub ended_so : {A : Type 0} → HistoriesExtend → (h : History) (landed : Landed) (old : Store) (cache : Contents) (result : Result (Done A) Landed)
-    → Represents old h → IfOk result (λ done. IsEnded (execution_of h) landed done cache)
+    → IsStoreOf old h → IfOk result (λ done. IsEnded (execution_of h) landed done cache)
     → OnOk result (cache.trace ≡ old.cache.trace ++ Complete landed.block ∷ [])
     → IfOk result (λ done. HasEnded h landed done old (record old { cache = cache }))
 ended_so extends h landed old cache (Ok done) was ended trace = record {
@@ -28,7 +28,7 @@ ended_so extends h landed old cache (Ok done) was ended trace = record {
 }
 ended_so extends h landed old cache (Err back) was ended trace = tt
 
-begun_at : {A : Type 0} → HistoriesExtend → (h : History) (flight : Flight A) (old : Store) (cache : Contents) → Represents old h
+begun_at : {A : Type 0} → HistoriesExtend → (h : History) (flight : Flight A) (old : Store) (cache : Contents) → IsStoreOf old h
     → why_not_sent (execution_of h) flight.block ≡ None → ((b : ℕ) → why_not_sent (execution_of h) b ≡ None → flight.block ≤ b)
     → IsSent (execution_of h) flight.block flight → IsCacheOf cache (extended (execution_of h) (Send flight.block))
     → cache.trace ≡ old.cache.trace ++ Send flight.block ∷ [] → HasBegun h flight old (record old { cache = cache })
@@ -39,7 +39,7 @@ begun_at extends h flight old cache was can least sent stands trace = record {
   gained = gained extends h (Moved (Send flight.block)) old (record old { cache = cache }) was refl stands was.groups_are was.shelf_is trace refl;
 }
 
-pub begun_so : {A : Type 0} → HistoriesExtend → (h : History) (flight : Flight A) (block : ℕ) (old : Store) (cache : Contents) → Represents old h
+pub begun_so : {A : Type 0} → HistoriesExtend → (h : History) (flight : Flight A) (block : ℕ) (old : Store) (cache : Contents) → IsStoreOf old h
     → why_not_sent (execution_of h) block ≡ None → ((b : ℕ) → why_not_sent (execution_of h) b ≡ None → block ≤ b)
     → IsBegun (execution_of h) block flight cache → cache.trace ≡ old.cache.trace ++ Send block ∷ []
     → HasBegun h flight old (record old { cache = cache })
@@ -54,17 +54,17 @@ begun_so extends h flight block old cache was can least begun trace =
 
 pub ended_at : {A : Type 0} {old now : Store} → HistoriesExtend → old ≡ now → (h : History) (landed : Landed) (cache : Contents) (result : Result (Done A) Landed)
     → ((run : Execution) → IsCacheOf old.cache run → IfOk result (λ done. IsEnded run landed done cache))
-    → OnOk result (cache.trace ≡ old.cache.trace ++ Complete landed.block ∷ []) → Represents now h
+    → OnOk result (cache.trace ≡ old.cache.trace ++ Complete landed.block ∷ []) → IsStoreOf now h
     → IfOk result (λ done. HasEnded h landed done now (record old { cache = cache }))
 ended_at {old = old} extends is h landed cache result ended trace =
-    subst (λ s. Represents s h → IfOk result (λ done. HasEnded h landed done s (record old { cache = cache }))) is
+    subst (λ s. IsStoreOf s h → IfOk result (λ done. HasEnded h landed done s (record old { cache = cache }))) is
     (λ was. ended_so extends h landed old cache result was (ended (execution_of h) was.cache_is) trace)
 
 pub begun_view : {A : Type 0} {old now : Store} → HistoriesExtend → old ≡ now → (h : History) (flight : Flight A) (block : ℕ) (cache : Contents)
     → ((run : Execution) → IsCacheOf old.cache run → (why_not_sent run block ≡ None) × ((b : ℕ) → why_not_sent run b ≡ None → block ≤ b))
     → ((run : Execution) → IsCacheOf old.cache run → IsBegun run block flight cache) → cache.trace ≡ old.cache.trace ++ Send block ∷ []
-    → Represents now h → HasBegun h flight now (record old { cache = cache })
+    → IsStoreOf now h → HasBegun h flight now (record old { cache = cache })
 begun_view {old = old} extends is h flight block cache least begun trace =
-    subst (λ s. Represents s h → HasBegun h flight s (record old { cache = cache })) is
+    subst (λ s. IsStoreOf s h → HasBegun h flight s (record old { cache = cache })) is
     (λ was. begun_so extends h flight block old cache was (least (execution_of h) was.cache_is).0 (least (execution_of h) was.cache_is).1
     (begun (execution_of h) was.cache_is) trace)

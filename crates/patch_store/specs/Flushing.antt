@@ -11,11 +11,11 @@ use Rattle.patch_cache.specs.declared.refusals.FlushRefusal.TheVariants as flush
 use Rattle.patch_cache.specs.Waves.{is_send, classes_in_memory, steps_since, HasKept}
 use Rattle.patch_cache.specs.Tries.{EachTried}
 use Rattle.patch_history.specs.History.{History, Moved, execution_of}
-use Rattle.patch_store.specs.Meaning.{Store, Represents}
+use Rattle.patch_store.specs.Meaning.{Store, IsStoreOf}
 
 -- the store represents the history, and no write of it is under way
 pub record StandsStill (s : Store) (h : History) : Type 0 where
-  pub represents : Represents s h
+  pub represents : IsStoreOf s h
   pub no_flight : (block : ℕ) → IsFalse (has_flight (state_of (execution_of h)) block)
 
 -- the history with these steps of writes at its end
@@ -25,7 +25,7 @@ with_writes h steps = record h { events = h.events ++ map Moved steps }
 -- The store represents the history with these steps of writes at its end. They begin at most one write for each class that
 -- was in memory.
 pub record HasWritten (h : History) (steps : List Step) (new : Store) : Type 0 where
-  pub represents : Represents new (with_writes h steps)
+  pub represents : IsStoreOf new (with_writes h steps)
   pub sends : count_by is_send steps + classes_in_memory (entries_of (execution_of (with_writes h steps)))
       ≤ classes_in_memory (entries_of (execution_of h))
 

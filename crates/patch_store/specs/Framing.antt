@@ -5,7 +5,7 @@ use Rattle.patch_model.specs.declared.refusals.OutOfMemory.{OutOfMemory}
 use Rattle.patch_model.specs.Step.{Step}
 use Rattle.patch_model.specs.Execution.{Execution, followed_by}
 use Rattle.patch_model.specs.State.{entries_of}
-use Rattle.patch_cache.specs.Meaning.{Represents as IsCacheOf}
+use Rattle.patch_cache.specs.Meaning.{IsCacheOf}
 use Rattle.patch_frame.specs.Frame.{Content, spelling}
 use Rattle.patch_frame.specs.Geometry.{slot_block, slot_start}
 use Rattle.patch_frame.specs.Slot.{SlotFields}
@@ -18,7 +18,7 @@ use Rattle.patch_plans.specs.Extents.{generation_at, offset_at}
 use Rattle.patch_plans.specs.Writing.{with_patches, written}
 use Rattle.patch_history.specs.History.{IsWhole, IsCut}
 use Rattle.patch_history.specs.Shelf.{Shelf, slot_at, after_change, after_plan}
-use Rattle.patch_history.specs.Standing.{Standing, made_by, creates}
+use Rattle.patch_history.specs.StoreState.{Standing, made_by, creates}
 use Rattle.patch_history.specs.Steps.{FramePut, framed}
 use Rattle.patch_store.specs.Meaning.{Store}
 use Rattle.patch_store.specs.Merging.{counted_with, HasMerged}

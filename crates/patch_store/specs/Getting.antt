@@ -1,6 +1,7 @@
 -- The value of a key, as it is read.
 use Rattle.std.specs.Prelude.{ℕ, ◌≡◌, ◌+◌, ◌-◌, length, List, Option, None, Result, MatchResult, option_map, Vec}
 use Rattle.patch_model.specs.Execution.{Execution}
+use Rattle.patch_frame.specs.declared.framing.TheConstants.{KEY_START, OVERHEAD}
 use Rattle.patch_frame.specs.declared.geometries.Geometry.{Geometry}
 use Rattle.patch_frame.specs.Slot.{SlotFields}
 use Rattle.patch_extent.specs.Answers.{cached_bytes}
@@ -20,7 +21,7 @@ IsGot h key result = MatchResult result
 
 -- the bytes of the value in the frame that a slot names, as they are cached: they stand behind the key
 abbrev pub value_bytes : Geometry → Execution → SlotFields → List ℕ
-value_bytes g run f = cached_bytes g run f.extent (f.offset + (12 + length f.key)) (f.length - 16 - length f.key)
+value_bytes g run f = cached_bytes g run f.extent (f.offset + (KEY_START + length f.key)) (f.length - OVERHEAD - length f.key)
 
 -- where the store's cache has them
 abbrev pub value_kept : Store → Execution → SlotFields → List ℕ

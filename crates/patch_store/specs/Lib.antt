@@ -3,7 +3,7 @@ pub mod Meaning
 pub mod Checking
 pub mod Deleting
 pub mod Framing
-pub mod Given
+pub mod HistoryLaws
 pub mod Getting
 pub mod Making
 pub mod Putting

@@ -2,7 +2,7 @@
 use Rattle.std.specs.Prelude.{ℕ, ◌≡◌, ◌<◌, IfSome, List, ◌++◌, length}
 use Rattle.patch_model.specs.Step.{Step}
 use Rattle.patch_cache.specs.Contents.{Contents}
-use Rattle.patch_cache.specs.Meaning.{Represents as IsCacheOf}
+use Rattle.patch_cache.specs.Meaning.{IsCacheOf}
 use Rattle.patch_frame.specs.Geometry.{IsGeometry, slot_count}
 use Rattle.patch_plans.specs.Groups.{Groups}
 use Rattle.patch_history.specs.Command.{Command, Reply}
@@ -29,7 +29,7 @@ pub record IsWhole (s : Shelf) : Type 0 where
 -- The history is legal, and the store's cache represents its execution. Groups and shelf are those that it leads to. Each merge
 -- of a pointer patch was made in it just where it is legal, but for those that the store has counted, which had no memory. What
 -- stands in the trace has no part in this: it may be drained.
-pub record Represents (s : Store) (h : History) : Type 0 where
+pub record IsStoreOf (s : Store) (h : History) : Type 0 where
   pub legal : IsLegalHistory h
   pub cache_is : IsCacheOf s.cache (execution_of h)
   pub groups_are : s.groups ≡ (standing_of h).groups
@@ -40,7 +40,7 @@ pub record Represents (s : Store) (h : History) : Type 0 where
 -- left out were counted.
 pub record HasGained (h : History) (event : Event) (old new : Store) : Type 0 where
   pub right : IsRight (standing_of h) event
-  pub represents : Represents new (with_event h event)
+  pub represents : IsStoreOf new (with_event h event)
   pub trace_is : new.cache.trace ≡ old.cache.trace ++ steps_in event
   pub counts : Counts (standing_of h) event old.left_out new.left_out
 
@@ -51,4 +51,4 @@ pub record HasAnswered (h : History) (writer : ℕ) (command : Command) (reply :
 
 -- so it was, behind each history that the store represented
 abbrev pub Answers : (writer : ℕ) → Command → Reply → (old new : Store) → Type 0
-Answers writer command reply old new = (h : History) → Represents old h → HasAnswered h writer command reply old new
+Answers writer command reply old new = (h : History) → IsStoreOf old h → HasAnswered h writer command reply old new

@@ -7,7 +7,7 @@ use Rattle.patch_extent.specs.declared.places.MergeOutcome.{MergeOutcome}
 use Rattle.patch_extent.specs.declared.places.MergeOutcome.TheVariants as merge
 use Rattle.patch_extent.specs.Merging.{is_made}
 use Rattle.patch_plans.specs.Writing.{Written, written, steps_by}
-use Rattle.patch_history.specs.Standing.{Standing, at_opening, made_by, plan_of}
+use Rattle.patch_history.specs.StoreState.{Standing, at_opening, made_by, plan_of}
 use Rattle.patch_history.specs.History.{History, Event, Call, Moved, after_event}
 
 -- there is a merge behind the patch, and it may come

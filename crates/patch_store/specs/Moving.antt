@@ -18,8 +18,8 @@ use Rattle.patch_history.specs.History.{History, IsWhole, IsCut, standing_of}
 use Rattle.patch_history.specs.Planning.{moves}
 use Rattle.patch_history.specs.Refusing.{why_not_reclaimed}
 use Rattle.patch_history.specs.Shelf.{Shelf, slot_at, left_of}
-use Rattle.patch_history.specs.Standing.{Standing, made_by, plan_of}
-use Rattle.patch_store.specs.Meaning.{Store, Represents}
+use Rattle.patch_history.specs.StoreState.{Standing, made_by, plan_of}
+use Rattle.patch_store.specs.Meaning.{Store, IsStoreOf}
 use Rattle.patch_store.specs.Framing.{setting_of, framing, StandsBehind, IsFramed, IsFramedInPart}
 
 -- the slots that name the live frames of an extent, in order of offset
@@ -87,7 +87,7 @@ EmptiesExtent extent result old new = MatchResult result
 
 -- the store represents the history, nothing stands against the reclaim, and these are the slots
 pub record IsReclaiming (h : History) (extent : ℕ) (slots : List ℕ) (s : Store) : Type 0 where
-  pub represents : Represents s h
+  pub represents : IsStoreOf s h
   pub no_cause : why_not_reclaimed (standing_of h) extent ≡ None
   pub slots_are : slots ≡ live_slots (standing_of h).shelf extent
 

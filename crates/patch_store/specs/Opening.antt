@@ -4,7 +4,8 @@ use Rattle.std.specs.Prelude.{None, Vec, MatchResult, MatchOption, length, map, 
 use Rattle.std.specs.List.{range_with_len}
 use Rattle.patch_model.specs.Execution.{Execution}
 use Rattle.patch_cache.specs.Contents.{Contents}
-use Rattle.patch_cache.specs.Meaning.{Represents as IsCacheOf}
+use Rattle.patch_cache.specs.Meaning.{IsCacheOf}
+use Rattle.patch_frame.specs.declared.framing.TheConstants.{MIN_FRAME}
 use Rattle.patch_frame.specs.declared.geometries.Geometry.{Geometry}
 use Rattle.patch_frame.specs.Field.{outcome}
 use Rattle.patch_frame.specs.Geometry.{IsGeometry, block_count, slot_count, largest_pointer}
@@ -13,7 +14,7 @@ use Rattle.patch_frame.specs.Superblock.{superblock_at}
 use Rattle.patch_recovery.specs.Ledger.{Ledger, bytes_at, names_frame}
 use Rattle.patch_recovery.specs.Reading.{Fault, BadPointer, BadSlot, BadFrame, reading, ledger_in, bad_pointers, slot_tests, block_on}
 use Rattle.patch_plans.specs.Extents.{Extents, offset_at}
-use Rattle.patch_plans.specs.Meaning.{Represents as AreExtentsOf}
+use Rattle.patch_plans.specs.Meaning.{AreExtentsOf}
 use Rattle.patch_history.specs.declared.refusals.OpenFault.{OpenFault}
 use Rattle.patch_history.specs.History.{History}
 use Rattle.patch_history.specs.Refusals.{fault_of}
@@ -21,7 +22,7 @@ use Rattle.patch_history.specs.Shelf.{Shelf}
 use Rattle.patch_index.specs.declared.entries.Entry.{Entry}
 use Rattle.patch_index.specs.Index.{told}
 use Rattle.patch_store.specs.declared.opening.Disk.{Disk}
-use Rattle.patch_store.specs.Meaning.{Store, Represents}
+use Rattle.patch_store.specs.Meaning.{Store, IsStoreOf}
 
 -- the execution of no steps over these blocks
 abbrev pub unchanged : List (List ℕ) → Execution
@@ -35,7 +36,7 @@ at_opening blocks l = record { opening = blocks; first = l; events = [] }
 pub record IsOpened (blocks : List (List ℕ)) (store : Store) : Type 0 where
   pub ledger : Ledger
   pub reads : reading blocks ≡ Ok ledger
-  pub represents : Represents store (at_opening blocks ledger)
+  pub represents : IsStoreOf store (at_opening blocks ledger)
 
 -- or the fault is that of the first test that refuses them, unless there was no memory
 abbrev pub IsFaultOf : List (List ℕ) → OpenFault → Type 0
@@ -131,7 +132,7 @@ ReadsPlace g slot f result blocks = MatchResult result
 
 -- the extent is begun, and has room for the shortest frame
 abbrev pub is_open : Extents → ℕ → Bool
-is_open s e = nat_le 1 (offset_at s e) && nat_le (offset_at s e + 17) (largest_pointer s.geometry.format)
+is_open s e = nat_le 1 (offset_at s e) && nat_le (offset_at s e + MIN_FRAME) (largest_pointer s.geometry.format)
 
 -- each part has its size
 pub record IsWholeDisk {A : Type 0} (d : Disk A) : Type 0 where

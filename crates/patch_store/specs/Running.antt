@@ -7,7 +7,7 @@ use Rattle.patch_history.specs.declared.commands.Reply.{Reply as CodeReply}
 use Rattle.patch_history.specs.Command.{Command, Reply}
 use Rattle.patch_history.specs.Commands.{asked_by, reply_told}
 use Rattle.patch_history.specs.History.{History, Event, Call, steps_in}
-use Rattle.patch_store.specs.Meaning.{Store, Represents}
+use Rattle.patch_store.specs.Meaning.{Store, IsStoreOf}
 
 -- each command with its writer
 abbrev pub commands_of : {A : Type 0} → List (ℕ × CodeCommand A) → List (ℕ × Command)
@@ -32,9 +32,9 @@ with_calls h events = record h { events = h.events ++ events }
 pub record HasRun (h : History) (commands : List (ℕ × Command)) (replies : List Reply) (old new : Store) : Type 0 where
   pub each : List (List Step)
   pub many : length each ≡ length replies
-  pub represents : Represents new (with_calls h (calls commands replies each))
+  pub represents : IsStoreOf new (with_calls h (calls commands replies each))
   pub trace_is : new.cache.trace ≡ old.cache.trace ++ flat_map steps_in (calls commands replies each)
 
 -- so it is behind each history that the store represented
 abbrev pub RunsAll : List (ℕ × Command) → List Reply → (old new : Store) → Type 0
-RunsAll commands replies old new = (h : History) → Represents old h → HasRun h commands replies old new
+RunsAll commands replies old new = (h : History) → IsStoreOf old h → HasRun h commands replies old new

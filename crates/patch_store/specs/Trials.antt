@@ -6,7 +6,7 @@ use Rattle.patch_plans.specs.Extents.{offset_at}
 use Rattle.patch_history.specs.Choosing.{empty_extents, extent_for_move, live_frames}
 use Rattle.patch_history.specs.Planning.{frame_plan, moves}
 use Rattle.patch_history.specs.Shelf.{Shelf, after_plan}
-use Rattle.patch_history.specs.Standing.{Standing, made_by}
+use Rattle.patch_history.specs.StoreState.{Standing, made_by}
 use Rattle.patch_store.specs.declared.trials.Filled.{Filled}
 use Rattle.patch_store.specs.declared.trials.Trial.{Trial}
 

@@ -3,7 +3,7 @@ ghost use Rattle.std.specs.Prelude.{◌≡◌, ◌<◌, slice_get, map, option_m
 ghost use Rattle.patch_history.specs.History.{History, standing_of};
 ghost use Rattle.patch_index.specs.Reporting.{reported};
 ghost use Rattle.patch_store.specs.Checking.{entries_of, extent_report, extent_reports, ListsMap};
-ghost use Rattle.patch_store.specs.Meaning.{Represents};
+ghost use Rattle.patch_store.specs.Meaning.{IsStoreOf};
 
 use crate::reports::{ExtentReport, Report};
 use crate::stores::Store;
@@ -15,8 +15,8 @@ use std::alloc::Allocator;
 impl<A: Allocator + Copy> Store<A> {
     /// What the store holds: its keys, with the lengths of their values, and its extents.
     pub fn check(&self) -> Result<Report<A>, OutOfMemory>
-        ensures entries { (h : History) → Represents self.now h → IfOk result (λ report. ListsMap h (map reported report.entries.items)) }
-        ensures extents { (h : History) → Represents self.now h → IfOk result (λ report.
+        ensures entries { (h : History) → IsStoreOf self.now h → IfOk result (λ report. ListsMap h (map reported report.entries.items)) }
+        ensures extents { (h : History) → IsStoreOf self.now h → IfOk result (λ report.
             report.extents.items ≡ extent_reports (standing_of h).shelf) }
     {
         history_laws::shelves_are_kept();
@@ -28,7 +28,7 @@ impl<A: Allocator + Copy> Store<A> {
 
     /// The key that so many others stand before in the order of the slots, with the length of its value.
     pub fn entry(&self, number: u32) -> Option<EntryReport>
-        ensures { (h : History) → Represents self.now h → option_map reported result ≡ slice_get (entries_of h) number }
+        ensures { (h : History) → IsStoreOf self.now h → option_map reported result ≡ slice_get (entries_of h) number }
     {
         history_laws::shelves_are_kept();
         history_laws::histories_are_of_stores();
@@ -37,7 +37,7 @@ impl<A: Allocator + Copy> Store<A> {
 
     /// An extent, if there is one of this number.
     pub fn extent(&self, extent: u32) -> Option<ExtentReport>
-        ensures { (h : History) → Represents self.now h → result ≡ slice_get (extent_reports (standing_of h).shelf) extent }
+        ensures { (h : History) → IsStoreOf self.now h → result ≡ slice_get (extent_reports (standing_of h).shelf) extent }
     {
         if extent < self.geometry.extents {
             Some(self.extent_report(extent))

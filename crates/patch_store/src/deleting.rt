@@ -15,7 +15,7 @@ use patch_frame::{MAX_KEY, SLOT_BYTES, slot_block, slot_start};
 use patch_group::Groups;
 use patch_history::{DeleteRefusal, laws as history_laws};
 use patch_model::{
-    BlockNo, Bytes, MAX_LIVE, MAX_PATCHES, Numbers, OutOfMemory, PatchNo, Undo, WriterNo,
+    BlockNo, Bytes, MAX_LIVE, MAX_PATCHES, Names, OutOfMemory, PatchNo, Undo, WriterNo,
 };
 use std::alloc::Allocator;
 
@@ -58,10 +58,8 @@ impl<A: Allocator + Copy> Store<A> {
         let Some(entry) = self.index.entry(slot) else {
             return Err(OutOfMemory);
         };
-        let Ok(names) = numbers_of(alloc, &self.last_delete) else {
-            return Err(OutOfMemory);
-        };
-        // Never so: a slot names an extent of the disk.
+        let names = Names::of_some(self.last_delete, None, None);
+        // Never so in a store that represents a history: its slots name extents of the disk. Of no other is anything promised.
         let Some(left) = self.left.get_mut(entry.extent as usize) else {
             return Err(OutOfMemory);
         };
@@ -92,9 +90,9 @@ fn lay_slot<A: Allocator + Copy>(
     cache: &mut Cache<A>,
     writer: WriterNo,
     slot: u32,
-    after: Numbers<A>,
+    after: Names<A>,
 ) -> Result<PatchNo, OutOfMemory>
-    ensures { LaysPatch (the_slot_block slot) (the_slot_start slot) (zeros 64) (Some writer) after result
+    ensures { LaysPatch (the_slot_block slot) (the_slot_start slot) (zeros SLOT_BYTES) (Some writer) after result
         groups.old cache.old groups.new cache.new }
 {
     let empty = Vec::from_slice(alloc, &[0_u8; SLOT_BYTES])?;
@@ -105,15 +103,4 @@ fn lay_slot<A: Allocator + Copy>(
         Ok(no) => Ok(no),
         Err(_) => Err(OutOfMemory),
     }
-}
-
-/// The number in a list, or none.
-fn numbers_of<A: Allocator>(alloc: A, number: &Option<PatchNo>) -> Result<Numbers<A>, OutOfMemory>
-    ensures { IfOk result (λ all. all ≡ option_to_list number.now) }
-{
-    let mut all = Vec::with_capacity(alloc, 1)?;
-    if let Some(no) = number {
-        all.push(*no)?;
-    }
-    Ok(Numbers::from_vec(all))
 }

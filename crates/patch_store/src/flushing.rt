@@ -3,7 +3,7 @@ ghost use Rattle.std.specs.Prelude.{◌≡◌, ◌+◌, ◌*◌, ◌≤◌, leng
 ghost use Rattle.patch_device.specs.SameDevice.{IsSameDevice, IsLasting};
 ghost use Rattle.patch_cache.specs.declared.landing.TheConstants.{TRIES};
 ghost use Rattle.patch_cache.specs.Waves.{is_send, steps_since, Continues, HoldImages, NoneCanBegin, IsFlushed, RisesIfGivenUp};
-ghost use Rattle.patch_store.specs.Meaning.{Represents};
+ghost use Rattle.patch_store.specs.Meaning.{IsStoreOf};
 ghost use Rattle.patch_history.specs.History.{History, execution_of};
 ghost use Rattle.patch_store.specs.Flushing.{StandsStill, HasWritten, KeepsDisk, HoldNow, EachBegunTried, IfRefused, run_after};
 
@@ -21,11 +21,11 @@ pub fn flush<A: Allocator + Copy, D: Device>(
     store: &mut Store<A>,
     device: &mut D,
 ) -> Result<(), FlushRefusal>
-    ensures ran { (h : History) → Represents store.old h → HasWritten h (steps_since store.old.cache store.new.cache) store.new }
+    ensures ran { (h : History) → IsStoreOf store.old h → HasWritten h (steps_since store.old.cache store.new.cache) store.new }
     ensures trace { Continues store.old.cache store.new.cache }
-    ensures disk { D.is_honest device.old → (h : History) → Represents store.old h → KeepsDisk D.Device h store.old store.new device.old device.new }
-    ensures done { (h : History) → Represents store.old h → OnOk result (NoneCanBegin (run_after h store.old store.new)) }
-    ensures each { (h : History) → Represents store.old h
+    ensures disk { D.is_honest device.old → (h : History) → IsStoreOf store.old h → KeepsDisk D.Device h store.old store.new device.old device.new }
+    ensures done { (h : History) → IsStoreOf store.old h → OnOk result (NoneCanBegin (run_after h store.old store.new)) }
+    ensures each { (h : History) → IsStoreOf store.old h
         → EachBegunTried A D.Device (steps_since store.old.cache store.new.cache) device.old device.new }
     ensures flushed { (h : History) → StandsStill store.old h → OnOk result (IsFlushed (run_after h store.old store.new)) }
     ensures cached { D.is_honest device.old → (h : History) → StandsStill store.old h → HoldImages (execution_of h) (D.contents device.old)
@@ -33,9 +33,9 @@ pub fn flush<A: Allocator + Copy, D: Device>(
     ensures lasts { D.is_honest device.old → OnOk result (IsLasting D.Device device.old → IsLasting D.Device device.new) }
     ensures tries { D.moment device.new
         ≤ D.moment device.old + (TRIES + 1) * count_by is_send (steps_since store.old.cache store.new.cache) }
-    ensures gave_up { (h : History) → Represents store.old h → D.block_count device.old ≡ length h.opening
+    ensures gave_up { (h : History) → IsStoreOf store.old h → D.block_count device.old ≡ length h.opening
         → RisesIfGivenUp result (D.fault_count device.old) (D.fault_count device.new) }
-    ensures refused { (h : History) → Represents store.old h → D.block_count device.old ≡ length h.opening
+    ensures refused { (h : History) → IsStoreOf store.old h → D.block_count device.old ≡ length h.opening
         → IfRefused D.Device result (run_after h store.old store.new) device.old device.new }
     ensures device { IsSameDevice D.Device device.old device.new }
 {

@@ -14,17 +14,14 @@ use crate::stores::Store;
 use patch_cache::Cache;
 use patch_extent::MergeOutcome;
 use patch_frame::{
-    MAX_FRAME, MAX_KEY, MAX_POINTER, Slot, SlotState, laws as frame_laws, slot_block, slot_start,
-    write_slot,
+    MAX_FRAME, MAX_KEY, MAX_POINTER, OVERHEAD, Slot, SlotState, laws as frame_laws, slot_block,
+    slot_start, write_slot,
 };
 use patch_group::Groups;
 use patch_history::laws as history_laws;
-use patch_index::{Entry, Key, OVERHEAD};
-use patch_model::{BlockNo, Bytes, Numbers, OutOfMemory, PatchNo, Undo, WriterNo};
+use patch_index::{Entry, Key};
+use patch_model::{BlockNo, Bytes, Names, OutOfMemory, PatchNo, Undo, WriterNo};
 use std::alloc::Allocator;
-
-// The most patches that a slot's patch names: a pointer's, a delete's and the upgrade's.
-const MAX_NAMES: usize = 3;
 
 impl<A: Allocator + Copy> Store<A> {
     /// Puts the frame of a key into an extent, and lets a slot name it: the patches are a writer's, or none's. They were
@@ -123,9 +120,7 @@ impl<A: Allocator + Copy> Store<A> {
         requires fits { FitsUsed MAX_FRAME (fields_of entry.now) }
         ensures { FillsSlot writer.now slot (fields_of entry.now) (names_behind self.old.shelf slot point) result self.old self.new }
     {
-        let Ok(names) = self.names_for(slot, point) else {
-            return Err(OutOfMemory);
-        };
+        let names = self.names_for(slot, point);
         match self.index.entry(slot) {
             Some(was) => self.refill_slot(writer, slot, &was, entry, names),
             None => self.claim_slot(writer, slot, entry, names),
@@ -133,14 +128,10 @@ impl<A: Allocator + Copy> Store<A> {
     }
 
     /// What the patch of a slot comes after.
-    fn names_for(&self, slot: u32, point: PatchNo) -> Result<Numbers<A>, OutOfMemory>
-        ensures { IfOk result (λ names. names ≡ names_behind self.now.shelf slot point) }
+    fn names_for(&self, slot: u32, point: PatchNo) -> Names<A>
+        ensures { result ≡ names_behind self.now.shelf slot point }
     {
-        let mut names = Vec::with_capacity(self.alloc, MAX_NAMES)?;
-        names.push(point)?;
-        push_number(&mut names, &self.delete_before(slot))?;
-        push_number(&mut names, &self.upgrade)?;
-        Ok(Numbers::from_vec(names))
+        Names::of_some(Some(point), self.delete_before(slot), self.upgrade)
     }
 
     /// The last delete, which comes before the patch of a slot that is empty.
@@ -159,7 +150,7 @@ impl<A: Allocator + Copy> Store<A> {
         writer: &Option<WriterNo>,
         slot: u32,
         entry: &Entry,
-        names: Numbers<A>,
+        names: Names<A>,
     ) -> Result<(), OutOfMemory>
         requires slot { slot < length self.old.shelf.slots }
         requires fits { FitsUsed MAX_FRAME (fields_of entry.now) }
@@ -189,7 +180,7 @@ impl<A: Allocator + Copy> Store<A> {
         slot: u32,
         was: &Entry,
         entry: &Entry,
-        names: Numbers<A>,
+        names: Names<A>,
     ) -> Result<(), OutOfMemory>
         requires slot { slot < length self.old.shelf.slots }
         requires fits { FitsUsed MAX_FRAME (fields_of entry.now) }
@@ -197,7 +188,7 @@ impl<A: Allocator + Copy> Store<A> {
         ensures { FillsSlot writer.now slot (fields_of entry.now) names result self.old self.new }
     {
         let alloc = self.alloc;
-        // Never so: a slot names an extent of the disk.
+        // Never so in a store that represents a history: its slots name extents of the disk. Of no other is anything promised.
         let Some(left) = self.left.get_mut(was.extent as usize) else {
             return Err(OutOfMemory);
         };
@@ -229,7 +220,7 @@ fn lay_slot<A: Allocator + Copy>(
     writer: &Option<WriterNo>,
     slot: u32,
     entry: &Entry,
-    after: Numbers<A>,
+    after: Names<A>,
 ) -> Result<PatchNo, OutOfMemory>
     requires { FitsUsed MAX_FRAME (fields_of entry.now) }
     ensures { LaysPatch (the_slot_block slot) (the_slot_start slot) (spelling (Some (fields_of entry.now))) writer.now after result
@@ -260,17 +251,4 @@ fn counted_with(count: u32, merge: MergeOutcome) -> u32
         MergeOutcome::NoMemory => count.saturating_add(1),
         MergeOutcome::Made | MergeOutcome::NotLegal => count,
     }
-}
-
-/// Adds a number to others, if there is one.
-fn push_number<A: Allocator>(
-    names: &mut Vec<PatchNo, A>,
-    number: &Option<PatchNo>,
-) -> Result<(), OutOfMemory>
-    ensures { OnOk result (names.new.items ≡ names.old.items ++ option_to_list number.now) }
-{
-    if let Some(no) = number {
-        names.push(*no)?;
-    }
-    Ok(())
 }

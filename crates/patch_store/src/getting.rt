@@ -1,28 +1,25 @@
 //! How the value of a key is read.
 ghost use Rattle.std.specs.Prelude.{◌≡◌, IfOk};
 ghost use Rattle.patch_model.specs.Execution.{Execution};
-ghost use Rattle.patch_cache.specs.Meaning.{Represents as IsCacheOf};
-ghost use Rattle.patch_plans.specs.Meaning.{Represents as AreExtentsOf};
+ghost use Rattle.patch_cache.specs.Meaning.{IsCacheOf};
+ghost use Rattle.patch_plans.specs.Meaning.{AreExtentsOf};
 ghost use Rattle.patch_history.specs.History.{History};
 ghost use Rattle.patch_index.specs.Index.{fields_of};
 ghost use Rattle.patch_store.specs.Getting.{IsGot, value_kept};
-ghost use Rattle.patch_store.specs.Meaning.{Represents};
+ghost use Rattle.patch_store.specs.Meaning.{IsStoreOf};
 
 use crate::stores::Store;
 use patch_extent::Place;
-use patch_frame::MAX_KEY;
+use patch_frame::{KEY_START, MAX_KEY, OVERHEAD};
 use patch_history::{GetRefusal, laws as history_laws};
-use patch_index::{Entry, OVERHEAD};
+use patch_index::Entry;
 use patch_model::OutOfMemory;
 use std::alloc::Allocator;
-
-// How many bytes of a frame stand before its key.
-const KEY_START: u32 = 12;
 
 impl<A: Allocator + Copy> Store<A> {
     /// The value of a key, if it has one. It is read where the key's slot says, and copied once.
     pub fn get(&self, key: &[u8]) -> Result<Option<Vec<u8, A>>, GetRefusal>
-        ensures { (h : History) → Represents self.now h → IsGot h key.now result }
+        ensures { (h : History) → IsStoreOf self.now h → IsGot h key.now result }
     {
         history_laws::shelves_are_kept();
         history_laws::histories_are_of_stores();

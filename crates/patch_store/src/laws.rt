@@ -1,5 +1,5 @@
 //! What is true of every store, each law the contract of a function that does nothing.
-ghost use Rattle.patch_store.specs.Given.{Given};
+ghost use Rattle.patch_store.specs.HistoryLaws.{Given};
 ghost use Rattle.patch_store.specs.Laws.{CachedDisksOpen, ClosedDisksOpen, CrashDisksOpen, CountsAgree};
 ghost use Rattle.patch_store.specs.Laws.{CountsAreSingle, StoresAreOfSteps};
 

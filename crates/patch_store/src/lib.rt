@@ -7,7 +7,7 @@
 //! `flushing`, brings all patches to the disk.
 //!
 //! Which slot and which extent a frame takes is said in `choosing`, and how it is put and named in `framing`. Whether an
-//! extent may be reclaimed is said in `judging`: its live slots are tried on a `Trial` of the extents, as `trying` does it,
+//! extent may be reclaimed is said in `reclaim_causes`: its live slots are tried on a `Trial` of the extents, as `trial_frames` does it,
 //! before any frame moves. `moving` moves them.
 //!
 //! The types of these calls' arguments, answers and refusals can be named from here, whichever crate below they are of.
@@ -20,20 +20,20 @@ mod flushing;
 mod framing;
 mod getting;
 mod grouping;
-mod judging;
 pub mod laws;
 mod making;
 mod moving;
 mod opening;
 mod putting;
+mod reclaim_causes;
 mod reclaiming;
 mod reports;
 mod running;
 mod scanning;
 mod sending;
 mod stores;
+mod trial_frames;
 mod trials;
-mod trying;
 mod upgrading;
 
 pub use flushing::flush;

@@ -18,10 +18,7 @@ impl<A: Allocator + Copy> Store<A> {
     {
         laws_below();
         for at in 0..slots.len() {
-            // Never so: there are so many.
-            let Some(slot) = slots.get(at) else {
-                return Err(OutOfMemory);
-            };
+            let slot = slots.nth(at);
             let Ok(()) = self.move_frame(slot) else {
                 return Err(OutOfMemory);
             };

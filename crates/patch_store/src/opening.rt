@@ -1,8 +1,8 @@
 //! How a store is opened.
 ghost use Rattle.std.specs.Prelude.{◌≡◌, ◌<◌, ℕ, List, All, length, map, replicate, find, [], IfOk, IfSome, MatchResult};
 ghost use Rattle.std.specs.List.{range_with_len};
-ghost use Rattle.patch_cache.specs.Meaning.{Represents as IsCacheOf};
-ghost use Rattle.patch_plans.specs.Meaning.{Represents as AreExtentsOf};
+ghost use Rattle.patch_cache.specs.Meaning.{IsCacheOf};
+ghost use Rattle.patch_plans.specs.Meaning.{AreExtentsOf};
 ghost use Rattle.patch_frame.specs.Field.{AreBytes};
 ghost use Rattle.patch_frame.specs.Geometry.{IsGeometry, block_count};
 ghost use Rattle.patch_plans.specs.Groups.{no_groups};
@@ -14,15 +14,12 @@ use crate::scanning::{read_slots, span};
 use crate::stores::Store;
 use patch_cache::Cache;
 use patch_extent::{Extents, ExtentsFault};
-use patch_frame::{Geometry, read_superblock};
+use patch_frame::{Geometry, MIN_FRAME, read_superblock};
 use patch_group::Groups;
 use patch_history::OpenFault;
 use patch_index::Index;
 use patch_model::{BLOCK, BlockNo, OutOfMemory, PatchNo};
 use std::alloc::Allocator;
-
-// The shortest frame has a key of one byte and no value.
-const MIN_FRAME: u32 = 17;
 
 /// What is read of a disk.
 #[derive(Drop)]
@@ -107,7 +104,7 @@ fn read_geometry<A: Allocator + Copy>(cache: &Cache<A>) -> Result<Geometry, Open
         → MatchResult result (IsDivided blocks) (IsFaultOf blocks) }
 {
     let Some(bytes) = span(cache, BlockNo(0), 0, BLOCK) else {
-        // Never so: a cache has a block.
+        // Never so in a cache that represents an execution, which has a block. Of no other is anything promised.
         return Err(OpenFault::BadSuper);
     };
     let Ok(geometry) = read_superblock(bytes) else {
@@ -178,7 +175,7 @@ fn none_left<A: Allocator + Copy>(
     Ok(left)
 }
 
-/// What each block of a cache holds are bytes, as what is lent of it shows.
+/// What each block of a cache holds are bytes, as what is lent of it shows. Only proofs need this walk: it looks at no byte.
 fn blocks_are_bytes<A: Allocator + Copy>(cache: &Cache<A>)
     ensures { (blocks : List (List ℕ)) → IsCacheOf cache.now (unchanged blocks) → All AreBytes blocks }
 {

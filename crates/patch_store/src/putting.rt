@@ -3,7 +3,7 @@ ghost use Rattle.std.specs.Prelude.{ℕ, ◌≡◌, ◌≢◌, ◌+◌, None, So
 ghost use Rattle.patch_model.specs.Entry.{is_live};
 ghost use Rattle.patch_model.specs.Execution.{Execution};
 ghost use Rattle.patch_model.specs.State.{entries_of};
-ghost use Rattle.patch_cache.specs.Meaning.{Represents as IsCacheOf};
+ghost use Rattle.patch_cache.specs.Meaning.{IsCacheOf};
 ghost use Rattle.patch_frame.specs.declared.framing.TheConstants.{MAX_VALUE};
 ghost use Rattle.patch_frame.specs.Frame.{Fits};
 ghost use Rattle.patch_history.specs.declared.refusals.PutRefusal.TheVariants as put;
@@ -11,15 +11,14 @@ ghost use Rattle.patch_history.specs.Command.{Put, Done};
 ghost use Rattle.patch_history.specs.History.{History, standing_of};
 ghost use Rattle.patch_history.specs.Refusals.{put_cause};
 ghost use Rattle.patch_history.specs.Refusing.{why_not_put};
-ghost use Rattle.patch_store.specs.Meaning.{Answers, Represents};
+ghost use Rattle.patch_store.specs.Meaning.{Answers, IsStoreOf};
 ghost use Rattle.patch_store.specs.Putting.{IsTarget};
 ghost use Rattle.patch_store.specs.Replies.{reply_to};
 
 use crate::stores::Store;
 use patch_extent::touched;
-use patch_frame::{MAX_KEY, encode, laws as frame_laws};
+use patch_frame::{MAX_KEY, OVERHEAD, encode, laws as frame_laws};
 use patch_history::{PutRefusal, laws as history_laws};
-use patch_index::OVERHEAD;
 use patch_model::{Bytes, MAX_LIVE, MAX_PATCHES, WriterNo};
 use std::alloc::Allocator;
 
@@ -65,8 +64,8 @@ impl<A: Allocator + Copy> Store<A> {
 
     /// Where a put goes, or the first cause against it.
     fn target_of(&self, key: &[u8], value: &[u8]) -> Result<Target, PutRefusal>
-        ensures none { (h : History) → Represents self.now h → OnOk result (why_not_put (standing_of h) key.now value.now ≡ None) }
-        ensures cause { (h : History) → Represents self.now h → IfErr result (λ refusal.
+        ensures none { (h : History) → IsStoreOf self.now h → OnOk result (why_not_put (standing_of h) key.now value.now ≡ None) }
+        ensures cause { (h : History) → IsStoreOf self.now h → IfErr result (λ refusal.
             why_not_put (standing_of h) key.now value.now ≡ Some (put_cause refusal)) }
         ensures target { IfOk result (λ target. IsTarget self.now.shelf key.now value.now target.slot target.extent) }
         ensures fits { OnOk result (Fits MAX_VALUE (record { key = key.now; value = value.now })) }

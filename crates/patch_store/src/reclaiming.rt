@@ -39,7 +39,7 @@ impl<A: Allocator + Copy> Store<A> {
     fn empty_extent(&mut self, extent: u32) -> Result<(), OutOfMemory>
         ensures { EmptiesExtent extent result self.old self.new }
     {
-        // Never so: the extent is one of the disk.
+        // Never so in a store that represents a history: the extent is one of the disk. Of no other is anything promised.
         let Some(left) = self.left.get_mut(extent as usize) else {
             return Err(OutOfMemory);
         };

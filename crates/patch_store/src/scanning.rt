@@ -1,8 +1,8 @@
 //! How the slots of a disk are read, one after another, as it is opened.
 ghost use Rattle.std.specs.Prelude.{◌≡◌, ◌+◌, ◌<◌, ◌≤◌, ℕ, List, length, nat_le, IsTrue, IfOk, IfSome, MatchOption};
 ghost use Rattle.patch_model.specs.declared.blocks.TheConstants.{BLOCK};
-ghost use Rattle.patch_cache.specs.Meaning.{Represents as IsCacheOf};
-ghost use Rattle.patch_frame.specs.declared.framing.TheConstants.{MAX_KEY};
+ghost use Rattle.patch_cache.specs.Meaning.{IsCacheOf};
+ghost use Rattle.patch_frame.specs.declared.framing.TheConstants.{MAX_KEY, OVERHEAD};
 ghost use Rattle.patch_frame.specs.Frame.{frame_at};
 ghost use Rattle.patch_frame.specs.Geometry.{IsFormat, IsGeometry, slot_count, largest_pointer};
 ghost use Rattle.patch_frame.specs.Slot.{used_fields};
@@ -61,7 +61,7 @@ fn read_slot<A: Allocator + Copy>(
 {
     let start = slot_start(slot);
     let Some(bytes) = span(cache, BlockNo(slot_block(slot)), start, SLOT_BYTES) else {
-        // Never so: the slot lies on the disk.
+        // Never so in a cache that represents an execution: the slot lies on the disk. Of no other is anything promised.
         return Err(OpenFault::BadSlot(slot));
     };
     let Ok(state) = read_slot_within(bytes, geometry.format.longest_frame()) else {
@@ -97,7 +97,7 @@ fn read_entry<A: Allocator + Copy>(
         return Err(OpenFault::BadFrame(slot));
     }
     if !ends_within(named, format) {
-        // Never so: the pointer lies within its extent.
+        // Never so in a cache that represents an execution: the frame ends before a pointer, which lies within its extent.
         return Err(OpenFault::BadFrame(slot));
     }
     Ok(Entry {
@@ -144,7 +144,7 @@ fn ends_within(named: &Slot<'_>, format: Format) -> bool
 /// Whether the bytes are one frame of just the slot's length, with the slot's key.
 fn is_frame_of(named: &Slot<'_>, bytes: &[u8], limit: u32) -> bool
     ensures value { result ≡ holds (used_fields named.now) (frame_at limit bytes.now) }
-    ensures whole { IsTrue result → 16 + length named.now.key.now ≤ named.now.length }
+    ensures whole { IsTrue result → OVERHEAD + length named.now.key.now ≤ named.now.length }
 {
     match decode_within(bytes, limit) {
         Ok(frame) => frame.key == named.key && frame.length == named.length as usize,

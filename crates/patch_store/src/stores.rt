@@ -3,7 +3,7 @@ ghost use Rattle.std.specs.Prelude.{◌≡◌, map, IfOk, OnOk, OnErr};
 ghost use Rattle.patch_model.specs.StepOf.{step_of};
 ghost use Rattle.patch_cache.specs.Contents.{drained};
 ghost use Rattle.patch_history.specs.History.{History};
-ghost use Rattle.patch_store.specs.Meaning.{Represents};
+ghost use Rattle.patch_store.specs.Meaning.{IsStoreOf};
 
 use patch_cache::Cache;
 use patch_extent::Extents;
@@ -41,9 +41,9 @@ pub struct Store<A: Allocator + Copy = Global> {
 
 impl<A: Allocator + Copy> Model for Store<A> {
     ghost use Rattle.std.specs.Prelude.{◌≡◌, map};
-    ghost use Rattle.patch_store.specs.Meaning.{Store as Kept, IsWhole};
+    ghost use Rattle.patch_store.specs.Meaning.{Store as StoreValue, IsWhole};
 
-    ghost Value = { Kept };
+    ghost Value = { StoreValue };
 
     ghost view = { λ s. record {
       cache = s.cache;
@@ -89,7 +89,7 @@ impl<A: Allocator + Copy> Store<A> {
     pub fn drain_trace(&mut self) -> Result<Vec<Step<A>, A>, OutOfMemory>
         ensures steps { IfOk result (λ steps. map step_of steps.items ≡ self.old.cache.trace) }
         ensures drained { OnOk result (self.new ≡ record self.old { cache = drained self.old.cache }) }
-        ensures same { (h : History) → Represents self.old h → Represents self.new h }
+        ensures same { (h : History) → IsStoreOf self.old h → IsStoreOf self.new h }
         ensures refused { OnErr result (self.new ≡ self.old) }
     {
         self.cache.drain_trace()

@@ -4,7 +4,7 @@ ghost use Rattle.patch_model.specs.Entry.{is_live};
 ghost use Rattle.patch_model.specs.Execution.{Execution};
 ghost use Rattle.patch_model.specs.State.{entries_of};
 ghost use Rattle.patch_frame.specs.declared.geometries.Format.TheVariants.{One};
-ghost use Rattle.patch_cache.specs.Meaning.{Represents as IsCacheOf};
+ghost use Rattle.patch_cache.specs.Meaning.{IsCacheOf};
 ghost use Rattle.patch_plans.specs.Room.{why_no_room};
 ghost use Rattle.patch_history.specs.Command.{Upgrade, Done};
 ghost use Rattle.patch_history.specs.Refusals.{upgrade_cause};

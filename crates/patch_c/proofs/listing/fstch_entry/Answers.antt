@@ -1,7 +1,7 @@
 use Rattle.std.proofs.Common.{◌≡◌, ◌∙◌, ap, arith, w32, to_z, of_z, to_z-of_z}
 use Rattle.std.specs.Prelude.{Some}
 use Rattle.patch_history.specs.History.{History}
-use Rattle.patch_store.specs.Meaning.{Represents}
+use Rattle.patch_store.specs.Meaning.{IsStoreOf}
 use Rattle.patch_c.specs.Reading.{HasListed}
 use Rattle.patch_c.specs.declared.opened.Opened.{Opened}
 use Rattle.patch_c.specs.Answering.{number_of}
@@ -12,6 +12,6 @@ pub returns-clause-listed : goal.returns-clause-listed
 returns-clause-listed c =
     let n : to_z w32 (of_z w32 c.number.result) ≡ number_of c.entry-answer.result = grind (arith, to_z-of_z) in
     read_so c.args.handle.now c.deref.result.now
-    (λ number opened. (h : History) → Represents opened.store h → HasListed h c.args.number c.args.key.now c.args.key_len.now c.args.value_len.now
+    (λ number opened. (h : History) → IsStoreOf opened.store h → HasListed h c.args.number c.args.key.now c.args.key_len.now c.args.value_len.now
     (number, c.entry-answer.new.key, c.entry-answer.new.key_len, c.entry-answer.new.value_len))
     _ c.entry-answer.result (ap (λ (o : Opened). Some o) c.deref.ensures ∙ c.in-Some.ensures.value) n c.entry-answer.ensures

@@ -3,7 +3,7 @@ use Rattle.std.specs.Prelude.{Some, IsFalse, pos, length, []}
 use Rattle.patch_c.specs.Tape.{file_of, contents_of, block_count_of, fault_count_of, events_of}
 use Rattle.patch_history.specs.History.{History}
 use Rattle.patch_store.specs.Flushing.{StandsStill}
-use Rattle.patch_store.specs.Meaning.{Represents}
+use Rattle.patch_store.specs.Meaning.{IsStoreOf}
 use Rattle.patch_disks.specs.Running.{StandsOn}
 use Rattle.patch_c.specs.declared.opened.Opened.{Opened}
 use Rattle.patch_c.specs.Answering.{number_of, IsOf}
@@ -22,14 +22,14 @@ returns-clause-synced c =
 pub returns-clause-written : goal.returns-clause-written
 returns-clause-written c =
     between_so c.args.handle.now c.put_back.new.self c.deref_mut.result.now c.sync-answer.new.self
-    (λ before after. IsFalse before.is_spent → (h : History) → Represents before.store h → HasWrittenOn h after.store)
+    (λ before after. IsFalse before.is_spent → (h : History) → IsStoreOf before.store h → HasWrittenOn h after.store)
     (ap (λ (o : Opened). Some o) c.deref_mut.ensures.value ∙ c.in-Some.ensures.value) c.put_back.ensures.value c.sync-answer.ensures.written
 
 pub returns-clause-cause : goal.returns-clause-cause
 returns-clause-cause c =
     let n : to_z w32 (of_z w32 c.number.result) ≡ number_of c.sync-answer.result = grind (arith, to_z-of_z) in
     told_so c.args.handle.now c.put_back.new.self c.deref_mut.result.now c.sync-answer.new.self
-    (λ number before after. IsFalse before.is_spent → (h : History) → Represents before.store h → block_count_of before.device ≡ length h.opening
+    (λ number before after. IsFalse before.is_spent → (h : History) → IsStoreOf before.store h → block_count_of before.device ≡ length h.opening
     → IsOf number (λ answer. HasCause answer (fault_count_of before.device) (fault_count_of after.device)))
     _ c.sync-answer.result (ap (λ (o : Opened). Some o) c.deref_mut.ensures.value ∙ c.in-Some.ensures.value) c.put_back.ensures.value n
     (λ unspent h represents counted. (c.sync-answer.result, refl, c.sync-answer.ensures.cause unspent h represents counted))

@@ -1,7 +1,7 @@
 use Rattle.std.proofs.Common.{◌≡◌, ◌∙◌, ap, arith, w32, to_z, of_z, to_z-of_z}
 use Rattle.std.specs.Prelude.{Some}
 use Rattle.patch_history.specs.History.{History}
-use Rattle.patch_store.specs.Meaning.{Represents}
+use Rattle.patch_store.specs.Meaning.{IsStoreOf}
 use Rattle.patch_c.specs.Reading.{HasGot}
 use Rattle.patch_c.specs.declared.opened.Opened.{Opened}
 use Rattle.patch_c.specs.Answering.{number_of}
@@ -12,5 +12,5 @@ pub returns-clause-got : goal.returns-clause-got
 returns-clause-got c =
     let n : to_z w32 (of_z w32 c.number.result) ≡ number_of c.get-answer.result = grind (arith, to_z-of_z) in
     read_so c.args.handle.now c.deref.result.now
-    (λ number opened. (h : History) → Represents opened.store h → HasGot h c.args.key.now c.args.into.now c.args.len.now (number, c.get-answer.new.into, c.get-answer.new.len))
+    (λ number opened. (h : History) → IsStoreOf opened.store h → HasGot h c.args.key.now c.args.into.now c.args.len.now (number, c.get-answer.new.into, c.get-answer.new.len))
     _ c.get-answer.result (ap (λ (o : Opened). Some o) c.deref.ensures ∙ c.in-Some.ensures.value) n c.get-answer.ensures

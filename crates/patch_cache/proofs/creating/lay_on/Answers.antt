@@ -9,8 +9,8 @@ use Rattle.patch_model.specs.History.{History, history_of}
 use Rattle.patch_model.specs.Legal.{IsLegal}
 use Rattle.patch_model.specs.Orderly.{IsOrderly, IsOrderlyBlock}
 use Rattle.patch_view.specs.History.{IsNext, laid, made}
-use Rattle.patch_view.specs.Meaning.{Represents as IsBlockOf}
-use Rattle.patch_graph.specs.Meaning.{Represents as IsGraphOf}
+use Rattle.patch_view.specs.Meaning.{IsBlockOf}
+use Rattle.patch_graph.specs.Meaning.{IsGraphOf}
 use Rattle.patch_graph.specs.State.{Graph}
 use Rattle.patch_graph.specs.Adding.{IsPatch, PutsIn}
 use Rattle.patch_cache.proofs.Creations.{laid_here, made_alike}

@@ -1,6 +1,6 @@
 use Rattle.std.proofs.Common.{◌≡◌, ◌∙◌, ◌<◌, ℕ, length, take, slice_set, refl, sym, ap, subst, arith}
 use Rattle.std.proofs.Math.Seq.{take-length}
-use Rattle.patch_cache.proofs.Holding.{inside_at}
+use Rattle.patch_cache.proofs.HeldFlights.{inside_at}
 use Rattle.patch_device.specs.SameDevice.{same_still, same_both}
 use Rattle.patch_cache.specs.Waves.{with_flights}
 use Rattle.patch_cache.specs.Tries.{AreTried}

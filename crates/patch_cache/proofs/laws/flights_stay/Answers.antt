@@ -1,4 +1,4 @@
-use Rattle.patch_cache.proofs.Holding.{held_create}
+use Rattle.patch_cache.proofs.HeldFlights.{held_create}
 use Rattle.patch_cache.proofs.laws.flights_stay.Goals as goal
 
 pub returns : goal.returns

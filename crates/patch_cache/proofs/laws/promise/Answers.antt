@@ -3,7 +3,7 @@ use Rattle.std.specs.Prelude.{Ok}
 use Rattle.patch_model.specs.History.{history_of, without}
 use Rattle.patch_cache.proofs.Accepting.{accepted, permitted_ones}
 use Rattle.patch_cache.proofs.Permitting.{none_taken, permitted}
-use Rattle.patch_cache.proofs.Telling.{looked, sent_image}
+use Rattle.patch_cache.proofs.LookAnswers.{looked, sent_image}
 use Rattle.patch_cache.proofs.laws.promise.Goals as goal
 
 pub returns-clause-taking_back : goal.returns-clause-taking_back

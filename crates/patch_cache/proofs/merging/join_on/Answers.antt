@@ -7,8 +7,8 @@ use Rattle.patch_model.specs.History.{History, history_of}
 use Rattle.patch_model.specs.Legal.{IsLegal, block_of_patch}
 use Rattle.patch_model.specs.Orderly.{IsOrderly, MayJoin}
 use Rattle.patch_view.specs.History.{with_joined}
-use Rattle.patch_view.specs.Meaning.{Represents as IsBlockOf}
-use Rattle.patch_graph.specs.Meaning.{Represents as IsGraphOf}
+use Rattle.patch_view.specs.Meaning.{IsBlockOf}
+use Rattle.patch_graph.specs.Meaning.{IsGraphOf}
 use Rattle.patch_cache.proofs.Mergers.{undoable_at, on_its_block, name_at}
 use Rattle.patch_cache.proofs.merging.join_on.Goals as goal
 

@@ -6,7 +6,7 @@ use Rattle.patch_disks.proofs.surveying.survey_blocks.Goals as goal
 
 pub loop-preserved : goal.loop-preserved
 loop-preserved c =
-    let copied = c.in_ok-copies.ensures ∙ c.as_slice.ensures.value in
+    let copied = c.in_ok-copy_blocks.ensures ∙ c.as_slice.ensures.value in
     let tells = subst (λ x. TellsTest x c.in-Err-Refused.field-0) copied c.in-Err-Refused.ensures.kind in
     let taken = c.in_ok-take_out-in-Err-Refused.ensures (subst (TellsTest c.loop.left.items) c.in-Err-Refused.field-0-is tells) in
     let bad = c.in_ok-take_out-in-Err-Refused.field-0 in

@@ -1,4 +1,4 @@
-use Rattle.patch_extent.proofs.Standing.{others_kept}
+use Rattle.patch_extent.proofs.NextStep.{others_kept}
 use Rattle.patch_extent.proofs.laws.other_steps_leave_extents.Goals as goal
 
 pub returns : goal.returns

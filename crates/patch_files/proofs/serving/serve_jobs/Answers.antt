@@ -1,4 +1,4 @@
-use Rattle.patch_shared.specs.Telling.{commands_in}
+use Rattle.patch_shared.specs.Conversations.{commands_in}
 use Rattle.patch_files.proofs.Writers.{served_so, same_over, lasts_over}
 use Rattle.patch_files.proofs.Unserved.{unserved_over}
 use Rattle.patch_files.proofs.serving.serve_jobs.Goals as goal

@@ -1,5 +1,3 @@
-use Rattle.std.proofs.Common.{◌∙◌, ap}
-use Rattle.patch_files.specs.Serving.{jobs_by}
 use Rattle.patch_files.proofs.Writers.{same_over, lasts_over, lasts_alike}
 use Rattle.patch_files.proofs.Unserved.{back_over}
 use Rattle.patch_files.proofs.serving.serve_lines.Goals as goal
@@ -11,7 +9,7 @@ pub returns-in-Ok-clause-served : goal.returns-in-Ok-clause-served
 returns-in-Ok-clause-served g c honest =
     let ready = c.in-Ok.ensures in
     c.serve_jobs.ensures.served (c.prepare.ensures.device.honesty.0 honest) _ (ready.opened honest) c.args.writers c.args.lines.items
-    (ready.jobs ∙ ap (jobs_by c.args.writers) c.as_slice.ensures.value)
+    ready.jobs
 
 pub returns-in-Ok-clause-lasts : goal.returns-in-Ok-clause-lasts
 returns-in-Ok-clause-lasts g c honest =

@@ -1,7 +1,5 @@
 use denote.Exit.{no}
 use denote.Param.Send.{param_send, arg_send}
-use Rattle.std.proofs.Common.{◌∙◌, ap}
-use Rattle.patch_files.specs.Serving.{jobs_by}
 use Rattle.patch_files.proofs.Sending.{file_send}
 use Rattle.patch_files.proofs.Writers.{fresh_store}
 use Rattle.patch_files.proofs.serving.serve_lines_on_file.Goals as goal
@@ -20,6 +18,6 @@ returns-in-Ok g c =
         opened.lasts,
         served.lasts tt opened.lasts,
         served.served tt _ (fresh_store _ _ opened.new opened.opened) c.args.writers c.args.lines.items
-            (c.in_ok-jobs.ensures.jobs ∙ ap (jobs_by c.args.writers) c.as_slice.ensures.value),
+            c.in_ok-jobs.ensures.jobs,
       );
     }

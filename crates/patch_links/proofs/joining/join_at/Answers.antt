@@ -1,6 +1,6 @@
 use Rattle.std.proofs.Common.{ℕ, ◌≤◌, length, sym, ap, subst}
 use Rattle.patch_links.specs.Lists.{Blocks, IsListed, IsSettled, nothing}
-use Rattle.patch_links.specs.Standing.{Stands}
+use Rattle.patch_links.specs.Invariants.{Stands}
 use Rattle.patch_links.proofs.Keeping.{of-none}
 use Rattle.patch_links.proofs.Openings.{changes-in, list-at, open-noted}
 use Rattle.patch_links.proofs.Landings.{some-listed}

@@ -1,5 +1,5 @@
 use Rattle.patch_links.specs.Lists.{classes_of}
-use Rattle.patch_links.specs.Standing.{Stands}
+use Rattle.patch_links.specs.Invariants.{Stands}
 use Rattle.patch_links.proofs.Landed.{ArePartLanded}
 use Rattle.patch_links.proofs.landing.land.Given as goal
 

@@ -1,7 +1,7 @@
 use Rattle.std.proofs.Common.{◌<◌, ℕ, map, []}
 use Rattle.std.specs.Prelude.{slice_index_or}
-use Rattle.patch_shared.specs.Kept.{entry_of}
-use Rattle.patch_shared.specs.Telling.{IsTold, commands_in, replies_in}
+use Rattle.patch_shared.specs.Books.{entry_of}
+use Rattle.patch_shared.specs.Conversations.{IsTold, commands_in, replies_in}
 use Rattle.patch_shared.proofs.comparing.are_told.Given as goal
 
 -- each writer so far was told so

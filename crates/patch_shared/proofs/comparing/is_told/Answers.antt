@@ -3,8 +3,8 @@ use Rattle.std.proofs.lemmas.Bool.{both_ways}
 use Rattle.std.proofs.lemmas.List.{length-map}
 use Rattle.std.proofs.lemmas.Option.{slice_get_within}
 use Rattle.patch_history.specs.Commands.{command_of, reply_told}
-use Rattle.patch_shared.specs.Kept.{entry_of}
-use Rattle.patch_shared.specs.Telling.{IsNext}
+use Rattle.patch_shared.specs.Books.{entry_of}
+use Rattle.patch_shared.specs.Conversations.{IsNext}
 use Rattle.patch_shared.proofs.Told.{other_entry, own_told, own_next}
 use Rattle.patch_shared.proofs.comparing.is_told.Goals as goal
 use Rattle.patch_shared.proofs.comparing.is_told.Goals.{then-is_by+else-not-is_next, else-is_by}

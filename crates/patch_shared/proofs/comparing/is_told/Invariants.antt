@@ -1,7 +1,7 @@
 use Rattle.std.proofs.Common.{◌≡◌, ◌≤◌, length, take, map}
 use Rattle.patch_history.specs.Commands.{command_of, reply_told}
-use Rattle.patch_shared.specs.Kept.{entry_of}
-use Rattle.patch_shared.specs.Telling.{entries_by}
+use Rattle.patch_shared.specs.Books.{entry_of}
+use Rattle.patch_shared.specs.Conversations.{entries_by}
 use Rattle.patch_shared.proofs.comparing.is_told.Given as goal
 
 -- the writer's entries so far are its first commands and replies

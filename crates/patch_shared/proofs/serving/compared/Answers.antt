@@ -1,5 +1,5 @@
 use Rattle.std.proofs.Common.{◌∙◌, refl}
-use Rattle.patch_shared.specs.Telling.{commands_in}
+use Rattle.patch_shared.specs.Conversations.{commands_in}
 use Rattle.patch_shared.proofs.Served.{served_so}
 use Rattle.patch_shared.proofs.serving.compared.Goals as goal
 

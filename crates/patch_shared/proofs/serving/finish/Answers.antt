@@ -1,8 +1,8 @@
 use Rattle.std.proofs.Common.{◌≡◌, ◌∙◌, sym, ap, subst}
 use Rattle.patch_cache.specs.Contents.{Contents}
-use Rattle.patch_cache.specs.Meaning.{Represents as IsCacheOf}
+use Rattle.patch_cache.specs.Meaning.{IsCacheOf}
 use Rattle.patch_store.specs.Meaning.{Store}
-use Rattle.patch_shared.specs.Kept.{run_of}
+use Rattle.patch_shared.specs.Books.{run_of}
 use Rattle.patch_shared.proofs.serving.finish.Goals as goal
 
 pub returns-clause-holds : goal.returns-clause-holds

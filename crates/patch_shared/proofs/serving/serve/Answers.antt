@@ -1,6 +1,6 @@
 use Rattle.std.proofs.Common.{subst}
 use Rattle.patch_shared.specs.Serving.{book_of}
-use Rattle.patch_shared.specs.Telling.{AreTold, commands_in, replies_in}
+use Rattle.patch_shared.specs.Conversations.{AreTold, commands_in, replies_in}
 use Rattle.patch_shared.proofs.Served.{also}
 use Rattle.patch_shared.proofs.serving.serve.Goals as goal
 

@@ -1,8 +1,8 @@
 use Rattle.std.proofs.Common.{ℕ, List, sym, subst}
 use Rattle.std.specs.Prelude.{IfOk}
-use Rattle.patch_cache.specs.Meaning.{Represents as IsCacheOf}
+use Rattle.patch_cache.specs.Meaning.{IsCacheOf}
 use Rattle.patch_shared.specs.Serving.{IsServed}
-use Rattle.patch_shared.specs.Telling.{commands_in}
+use Rattle.patch_shared.specs.Conversations.{commands_in}
 use Rattle.patch_shared.proofs.Calls.{opened_on}
 use Rattle.patch_shared.proofs.serving.serve_lists.Goals as goal
 

@@ -1,7 +1,7 @@
 use Rattle.std.proofs.Common.{refl}
 use Rattle.patch_shared.proofs.Served.{done_is, fault_before, fault_of_memory, served_before}
-use Rattle.patch_shared.specs.Kept.{IsBegun}
-use Rattle.patch_shared.specs.Telling.{commands_in}
+use Rattle.patch_shared.specs.Books.{IsBegun}
+use Rattle.patch_shared.specs.Conversations.{commands_in}
 use Rattle.patch_shared.proofs.serving.serve_over.Goals as goal
 
 pub returns-in-Ok-clause-served : goal.returns-in-Ok-clause-served

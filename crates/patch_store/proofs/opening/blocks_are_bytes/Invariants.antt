@@ -1,5 +1,5 @@
 use Rattle.std.specs.Prelude.{ℕ, ◌<◌, List, length, slice_index_or}
-use Rattle.patch_cache.specs.Meaning.{Represents as IsCacheOf}
+use Rattle.patch_cache.specs.Meaning.{IsCacheOf}
 use Rattle.patch_frame.specs.Field.{AreBytes}
 use Rattle.patch_store.specs.Opening.{unchanged}
 use Rattle.patch_store.proofs.opening.blocks_are_bytes.Given as goal

@@ -5,7 +5,7 @@ use Rattle.patch_frame.specs.Geometry.{slot_count, slot_block, block_count}
 use Rattle.patch_frame.specs.Slot.{Fits, fields, used_fields}
 use Rattle.patch_recovery.specs.Reading.{ledger_in, slot_tests}
 use Rattle.patch_plans.specs.Extents.{Extents}
-use Rattle.patch_plans.specs.Meaning.{Represents as AreExtentsOf}
+use Rattle.patch_plans.specs.Meaning.{AreExtentsOf}
 use Rattle.patch_store.specs.Opening.{unchanged, IsFirstOf, IsScanned, NoneHolds, frame_tests}
 use Rattle.patch_store.proofs.Tested.{passed_on}
 use Rattle.patch_store.proofs.Scanned.{slot_there, slot_says, slot_misspelled, slot_empty, slot_refuses, slot_repeats, slot_passes, key_found}

@@ -1,6 +1,6 @@
 use Rattle.std.specs.Prelude.{ℕ, ◌≡◌, List, length}
-use Rattle.patch_cache.specs.Meaning.{Represents as IsCacheOf}
-use Rattle.patch_plans.specs.Meaning.{Represents as AreExtentsOf}
+use Rattle.patch_cache.specs.Meaning.{IsCacheOf}
+use Rattle.patch_plans.specs.Meaning.{AreExtentsOf}
 use Rattle.patch_recovery.specs.Reading.{ledger_in}
 use Rattle.patch_store.specs.Opening.{unchanged, AreScanned}
 use Rattle.patch_store.proofs.scanning.read_slots.Given as goal

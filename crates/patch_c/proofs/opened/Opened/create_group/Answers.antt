@@ -5,7 +5,7 @@ use Rattle.patch_group.specs.Refusals.{group_cause}
 use Rattle.patch_store.specs.Replies.{reply_to}
 use Rattle.patch_c.specs.declared.answers.Answer.TheVariants.{Refused}
 use Rattle.patch_c.specs.Answering.{number_of}
-use Rattle.patch_c.proofs.Telling.{tells_of}
+use Rattle.patch_c.proofs.CallNumbers.{tells_of}
 use Rattle.patch_c.proofs.opened.Opened.create_group.Goals as goal
 
 pub returns-in-Ok-clause-told : goal.returns-in-Ok-clause-told

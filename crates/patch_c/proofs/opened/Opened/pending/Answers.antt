@@ -4,7 +4,7 @@ use Rattle.patch_history.specs.Command as reply
 use Rattle.patch_group.specs.Refusals.{group_cause}
 use Rattle.patch_c.specs.declared.answers.Answer.TheVariants.{Refused}
 use Rattle.patch_c.specs.Answering.{number_of}
-use Rattle.patch_c.proofs.Telling.{tells_of}
+use Rattle.patch_c.proofs.CallNumbers.{tells_of}
 use Rattle.patch_c.proofs.opened.Opened.pending.Goals as goal
 
 pub returns-in-Ok : goal.returns-in-Ok

@@ -4,7 +4,7 @@ use Rattle.patch_history.specs.Command.{Put, Done}
 use Rattle.patch_history.specs.Refusals.{put_cause}
 use Rattle.patch_store.specs.Replies.{reply_to}
 use Rattle.patch_c.specs.Answering.{number_of, writer_of, Tells}
-use Rattle.patch_c.proofs.Telling.{tells_so}
+use Rattle.patch_c.proofs.CallNumbers.{tells_so}
 use Rattle.patch_c.proofs.opened.Opened.put.Goals as goal
 
 pub invariant_of-self : goal.invariant_of-self

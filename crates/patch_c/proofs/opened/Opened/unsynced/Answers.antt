@@ -1,5 +1,5 @@
 use Rattle.std.proofs.Common.{subst, sym}
-use Rattle.patch_cache.specs.Meaning.{Represents as IsCacheOf}
+use Rattle.patch_cache.specs.Meaning.{IsCacheOf}
 use Rattle.patch_history.specs.History.{execution_of}
 use Rattle.patch_c.proofs.opened.Opened.unsynced.Goals as goal
 

@@ -26,7 +26,7 @@ use denote.Triple.Spec.{Meets, triple_of}
 use denote.Triple.Table.{entered}
 use denote.Triple.Walked.{says, Stays, stay_dropped, walk_of, ends_at, walk_Meets, Goes-dropped}
 use Rattle.patch_c.proofs.Walks.{none, none_made}
-use Rattle.patch_c.specs.contracts.holding.Holding as Holding
+use Rattle.patch_c.specs.contracts.held_blocks.HeldBlocks as HeldBlocks
 use Rattle.patch_c.specs.contracts.tape.Tape as Tape
 use Rattle.patch_c.specs.Tape.{contents_of}
 use Rattle.patch_c.specs.contracts.tape.Tape.landed as F
@@ -61,7 +61,7 @@ module _ {M : Type 1} {𝓤 : Ura M} (𝓛 : Logic 𝓤) (at_mem : Memory → SP
         let a = z.0.3 in
         let vss = z.0.4 in
         let u : Val = vptr a.0.ref_ptr.0 a.0.ref_ptr.1 in
-        let made : (Holding.the_row).Denot = record { blocks = contents_of a.0.now } in
+        let made : (HeldBlocks.the_row).Denot = record { blocks = contents_of a.0.now } in
         qed 𝓛 ((raw toks ⊛ ‵ (owns (types_at ended.signature.params z.0.0) a vss)) ∷ raw ((held z.0.0 a).requires z.1) ∷ []) ∵
         keep ! (0 ∷ []) $ split ! $ move ! (1 ∷ []) $ fsplit ! $ fsplit ! $ feq_l ! (λ is₀. drop ! $ drop ! $
         regoal ! (λ (us : List Val). prop (WpFn 𝓤 H C Λ function (us ++ []) Post)) is₀ refl $

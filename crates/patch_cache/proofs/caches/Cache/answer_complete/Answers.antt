@@ -2,7 +2,7 @@ use Rattle.std.proofs.Common.{◌≡◌, ◌<◌, ◌++◌, ◌∷◌, [], lengt
 use Rattle.patch_model.specs.Execution.{extended}
 use Rattle.patch_model.specs.State.{entries_of, flying_of, numbers_of}
 use Rattle.patch_model.specs.Step as the
-use Rattle.patch_cache.specs.Meaning.{Represents}
+use Rattle.patch_cache.specs.Meaning.{IsCacheOf}
 use Rattle.patch_cache.specs.Flights.{AreFlightsOf}
 use Rattle.patch_device.specs.Device.{HasRisen, IsOldOrNew}
 use Rattle.patch_cache.proofs.caches.Cache.answer_complete.Goals as goal
@@ -14,7 +14,7 @@ use Rattle.patch_cache.proofs.GivenUp.{risen_once_later}
 use Rattle.patch_cache.specs.Asks.{Refused, IsFault}
 use Rattle.patch_model.specs.Crash.{MayLeave}
 use Rattle.patch_cache.proofs.Serving.{stranger_faultless, landed_faultless}
-use Rattle.patch_cache.proofs.Holding.{held_complete, none_stands, stands_at}
+use Rattle.patch_cache.proofs.HeldFlights.{held_complete, none_stands, stands_at}
 
 -- the block has no flight
 pub returns-in_default-clause-served : goal.returns-in_default-clause-served
@@ -107,7 +107,7 @@ returns-in-Ok-clause-served g c = λ run on.
           landed_answered run block c.in-Ok.done.block c.in-Ok.done.numbers c.complete.new.self (record { held = c.swap_remove.new.self }) t.block_flies (done.1 ∙ same)
           (subst (λ b. c.in-Ok.done.numbers ≡ numbers_of (flying_of (entries_of run) b)) same done.2)
           (record {
-            cache_is = subst (λ b. Represents c.complete.new.self (extended run (the.Complete b))) same done.3;
+            cache_is = subst (λ b. IsCacheOf c.complete.new.self (extended run (the.Complete b))) same done.3;
             flights_are = subst (AreFlightsOf (extended run (the.Complete block))) (sym c.swap_remove.ensures.items)
                 (held_complete c.steps_extend.ensures.state c.images_stay.ensures c.flights_are_ready.ensures.landed_elsewhere run block c.args.flights.now.held.items c.in-Some.at taken taken t.stands t.block_is
                 on.runs.flights_are);

@@ -1,7 +1,7 @@
 use Rattle.std.proofs.Common.{inl, sym, subst}
 use Rattle.patch_model.specs.State.{entries_of}
 use Rattle.patch_cache.specs.Contents.{Contents}
-use Rattle.patch_cache.specs.Meaning.{Represents}
+use Rattle.patch_cache.specs.Meaning.{IsCacheOf}
 use Rattle.patch_cache.specs.Refusals.{IsMergeCause}
 use Rattle.patch_cache.proofs.GivingUp.{merge_refused}
 use Rattle.patch_cache.proofs.caches.Cache.answer_merge.Goals as goal
@@ -12,5 +12,5 @@ returns-in-Ok-clause-answer g c run r = let m = c.in-Ok.ensures.merged run r in 
 pub returns-in-Err-clause-answer : goal.returns-in-Err-clause-answer
 returns-in-Err-clause-answer g c run r = record {
   right = merge_refused run c.args.a c.args.b _ (subst (IsMergeCause (entries_of run) c.args.a c.args.b) (sym c.refusal.ensures) (c.in-Err.ensures.cause run r));
-  cache_is = subst (λ (x : Contents). Represents x run) (sym c.in-Err.ensures.refused) r;
+  cache_is = subst (λ (x : Contents). IsCacheOf x run) (sym c.in-Err.ensures.refused) r;
 }

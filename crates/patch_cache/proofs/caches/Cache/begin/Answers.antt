@@ -12,11 +12,11 @@ use Rattle.patch_model.specs.Ready.{ready}
 use Rattle.patch_model.specs.State.{state_of, entries_of, after_step, sent, numbers_of, flying_of}
 use Rattle.patch_model.specs.Step.{Send}
 use Rattle.patch_view.specs.History.{MayDepart, undoable_classes}
-use Rattle.patch_view.specs.Meaning.{Represents as IsBlockOf}
-use Rattle.patch_graph.specs.Meaning.{Represents as IsGraphOf}
+use Rattle.patch_view.specs.Meaning.{IsBlockOf}
+use Rattle.patch_graph.specs.Meaning.{IsGraphOf}
 use Rattle.patch_graph.specs.Between.{HasNoRing}
 use Rattle.patch_cache.specs.Contents.{Contents, no_block}
-use Rattle.patch_cache.specs.Meaning.{Represents, IsWriteOf}
+use Rattle.patch_cache.specs.Meaning.{IsCacheOf, IsWriteOf}
 use Rattle.patch_cache.proofs.Departing.{may_depart}
 use Rattle.patch_cache.proofs.Underway.{one_more}
 use Rattle.patch_cache.proofs.Stepping.{within, unchanged, on_err, within_writes, more_room_left, still_fits, begun_fits, next_sends, few_fit, few_more_fit}
@@ -38,7 +38,7 @@ returns-clause-begun g c = λ run at may.
     let legal : IsLegal next = c.steps_extend.ensures.legal run (Send block) at.legal lawful.1 in
     let state : state_of next ≡ after_step (state_of run) (Send block) = c.steps_extend.ensures.state run (Send block) in
     let entries : entries_of next ≡ map (sent set) all = ap (λ st. st.entries) state in
-    let seen = subst (λ (v : Contents). Represents v run) (sym c.self.view_is) at in
+    let seen = subst (λ (v : Contents). IsCacheOf v run) (sym c.self.view_is) at in
     let largest = c.ready_is_largest.ensures.largest all block (c.ready_is_largest.ensures.made run) in
     let place : c.block.inside.0 ≡ block = c.block.view_is in
     let inside : c.block.inside.0 < c.self.inside.blocks.len = within _ c.args.self.now block c.block.inside.0 _ place c.self.view_is c.requires.known c.self.inside.blocks.ok.0 in
@@ -65,10 +65,10 @@ returns-clause-begun g c = λ run at may.
     let sends : c.saturating_add-self-inside.result ≡ (state_of next).sends =
     next_sends _ _ _ _ c.saturating_add-self-inside.ensures (ap (λ st. st.sends) state) seen.sends (c.executions_are_limited.ensures.sends run at.legal) in
     let counted : c.self.inside.live ≡ count_by is_live (entries_of next) = seen.live ∙ sym (c.live_are_counted.ensures.sent run block) in
-    let noted : c.from_vec-noted.result ≡ numbers_of (flying_of (entries_of next) block) =
-    c.from_vec-noted.ensures ∙ c.in_ok-from_slice.ensures.items ∙ c.as_slice.ensures.value ∙ numbers ∙ sym (c.flights_are_ready.ensures.sent run block at.legal lawful.1.0) in
-    let write : IsWriteOf next block (Some (record { sequence = c.self.inside.sends; numbers = c.from_vec-noted.result })) =
-    sent_here run block c.self.inside.sends c.from_vec-noted.result state seen.sends noted in
+    let noted : c.in_ok-noted.noted ≡ numbers_of (flying_of (entries_of next) block) =
+    c.in_ok-noted.ensures ∙ c.as_slice.ensures.value ∙ numbers ∙ sym (c.flights_are_ready.ensures.sent run block at.legal lawful.1.0) in
+    let write : IsWriteOf next block (Some (record { sequence = c.self.inside.sends; numbers = c.in_ok-noted.noted })) =
+    sent_here run block c.self.inside.sends c.in_ok-noted.noted state seen.sends noted in
     let is : IsStepOf run (Send block) block = record {
       known = lawful.0;
       legal = legal;
@@ -103,14 +103,14 @@ invariant_of-self-2 g c =
 pub index_mut-state-requires : goal.index_mut-state-requires
 index_mut-state-requires g c = within _ c.args.self.now c.args.block c.block.inside.0 _ c.block.view_is c.self.view_is c.requires.known c.self.inside.blocks.ok.0
 
-pub returns-in_err-from_slice-clause-begun : goal.returns-in_err-from_slice-clause-begun
-returns-in_err-from_slice-clause-begun g c = λ run at may. IfOk-from_err c.from_residual.result _ c.from_residual.ensures.0
+pub returns-in_err-noted-clause-begun : goal.returns-in_err-noted-clause-begun
+returns-in_err-noted-clause-begun g c = λ run at may. IfOk-from_err c.from_residual.result _ c.from_residual.ensures.0
 
-pub returns-in_err-from_slice-clause-trace : goal.returns-in_err-from_slice-clause-trace
-returns-in_err-from_slice-clause-trace g c = IfOk-from_err c.from_residual.result _ c.from_residual.ensures.0
+pub returns-in_err-noted-clause-trace : goal.returns-in_err-noted-clause-trace
+returns-in_err-noted-clause-trace g c = IfOk-from_err c.from_residual.result _ c.from_residual.ensures.0
 
-pub returns-in_err-from_slice-clause-refused : goal.returns-in_err-from_slice-clause-refused
-returns-in_err-from_slice-clause-refused g c = on_err _ refl
+pub returns-in_err-noted-clause-refused : goal.returns-in_err-noted-clause-refused
+returns-in_err-noted-clause-refused g c = on_err _ refl
 
 pub returns-in_err-image-clause-begun : goal.returns-in_err-image-clause-begun
 returns-in_err-image-clause-begun g c = λ run at may. IfOk-from_err c.from_residual-in_err-image.result _ c.from_residual-in_err-image.ensures.0

@@ -3,7 +3,7 @@ use Rattle.patch_model.specs.Entry.{Entry}
 use Rattle.patch_model.specs.State.{entries_of}
 use Rattle.patch_model.specs.Member.{Contains-from_In}
 use Rattle.patch_cache.specs.Contents.{Contents}
-use Rattle.patch_cache.specs.Meaning.{Represents}
+use Rattle.patch_cache.specs.Meaning.{IsCacheOf}
 use Rattle.patch_cache.specs.Merging.{why_apart}
 use Rattle.patch_cache.proofs.Mergers.{SpansAreWhole, shown_apart, known, only_second}
 use Rattle.patch_cache.proofs.caches.Cache.block_of_both.Goals as goal
@@ -12,7 +12,7 @@ pub returns-in_default-in_memory-clause-answer : goal.returns-in_default-in_memo
 returns-in_default-in_memory-clause-answer g c = λ run at.
     let all : List Entry = entries_of run in
     let holds = at.graph in
-    let seen = subst (λ (s : Contents). Represents s run) (sym c.self.view_is) at in
+    let seen = subst (λ (s : Contents). IsCacheOf s run) (sym c.self.view_is) at in
     let made : c.made-made.result ≡ length all = c.made-made.ensures ∙ seen.graph.made in
     let is_b : c.b.inside.0 ≡ c.args.b = c.b.view_is in
     let less : c.b.inside.0 < c.made-made.result = c.if-b-made.false in
@@ -30,7 +30,7 @@ pub returns-then-first-len-clause-answer : goal.returns-then-first-len-clause-an
 returns-then-first-len-clause-answer g c = λ run at.
     let all : List Entry = entries_of run in
     let shown = (c.in-Some.ensures all at.graph).shown in
-    let seen = subst (λ (s : Contents). Represents s run) (sym c.self.view_is) at in
+    let seen = subst (λ (s : Contents). IsCacheOf s run) (sym c.self.view_is) at in
     let placed = c.patches_are_placed.ensures.known run shown.patch at.legal (Contains-from_In all shown.patch shown.inside) in
     let block = shown.block in
     let is : c.first.inside.0.1.0.0 ≡ c.in-Some.first.block = ap (λ x. x.block) c.first.view_is in

@@ -10,10 +10,10 @@ use Rattle.patch_model.specs.Orderly.{IsOrderly}
 use Rattle.patch_model.specs.State.{state_of, entries_of, after_step, has_flight, landed, numbers_of, flying_of}
 use Rattle.patch_model.specs.Step.{Complete}
 use Rattle.patch_model.specs.StepOf.{step_of}
-use Rattle.patch_view.specs.Meaning.{Represents as IsBlockOf}
-use Rattle.patch_graph.specs.Meaning.{Represents as IsGraphOf}
+use Rattle.patch_view.specs.Meaning.{IsBlockOf}
+use Rattle.patch_graph.specs.Meaning.{IsGraphOf}
 use Rattle.patch_cache.specs.Contents.{Contents, no_block, Write}
-use Rattle.patch_cache.specs.Meaning.{Represents, IsWriteOf}
+use Rattle.patch_cache.specs.Meaning.{IsCacheOf, IsWriteOf}
 use Rattle.patch_cache.proofs.Refusing.{has_one}
 use Rattle.patch_cache.proofs.Writing.{IsStepOf, stepped, landed_here, landed_other}
 use Rattle.patch_cache.proofs.Underway.{no_stranger, placed, one_less}
@@ -22,7 +22,7 @@ use Rattle.patch_cache.proofs.caches.Cache.complete.Goals as goal
 pub returns-in_default-clause-stranger : goal.returns-in_default-clause-stranger
 returns-in_default-clause-stranger g c = λ run at flies.
     let block : ℕ = c.args.landed.block in
-    let seen = subst (λ (v : Contents). Represents v run) (sym c.self.view_is) at in
+    let seen = subst (λ (v : Contents). IsCacheOf v run) (sym c.self.view_is) at in
     let known : block < length run.first =
     placed run block c.args.landed.sequence (c.flights_are_single.ensures.holds run block at.legal) (λ e i. c.patches_are_placed.ensures.known run e at.legal i) flies in
     let within : block < length c.self.inside.writes.items = let count = seen.count in let long = c.self.invariant.0 in omega arith in
@@ -64,7 +64,7 @@ returns-clause-done g c = λ run at.
     let next : Execution = extended run (Complete block) in
     let h : History = history_of run block in
     let after : History = history_of next block in
-    let seen = subst (λ (v : Contents). Represents v run) (sym c.self.view_is) at in
+    let seen = subst (λ (v : Contents). IsCacheOf v run) (sym c.self.view_is) at in
     let begun = c.in-Some.ensures.0 in
     let place : c.block.inside.0 ≡ block = c.block.view_is in
     let known : block < length run.first =
@@ -104,7 +104,7 @@ returns-clause-done g c = λ run at.
       subst (λ n. Contains (state_of run).flights (block, n)) c.in-Some.ensures.1 flight.0,
       refl,
       told,
-      subst (λ ws. Represents (record {
+      subst (λ ws. IsCacheOf (record {
         blocks = set c.self.inside.blocks.items c.block.inside.0 c.land_each.new.self;
         writes = ws;
         graph = c.mark_durable.new.self;

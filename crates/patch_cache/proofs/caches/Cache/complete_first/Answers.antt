@@ -1,9 +1,9 @@
 use Rattle.std.proofs.Common.{◌<◌, ◌∷◌, ◌++◌, [], refl, sym, ap, subst, ◌∙◌, ℕ}
 use Rattle.patch_model.specs.Execution.{extended}
 use Rattle.patch_model.specs.Step as the
-use Rattle.patch_cache.specs.Meaning.{Represents}
+use Rattle.patch_cache.specs.Meaning.{IsCacheOf}
 use Rattle.patch_cache.specs.Flights.{AreFlightsBeside}
-use Rattle.patch_cache.proofs.Holding.{held_complete, removed_inside}
+use Rattle.patch_cache.proofs.HeldFlights.{held_complete, removed_inside}
 use Rattle.patch_cache.proofs.Waving.{none_added, no_sends, continues, went_by, stays_by, first_stands, first_held, first_inside, its_flight, gone_complete, stayed_landed, fewer_landed, fewer_held}
 use Rattle.patch_cache.proofs.Tries.{lost_first}
 use Rattle.patch_model.specs.Member.{In}
@@ -22,12 +22,12 @@ returns-in-Ok-clause-ran g c others run runs =
     let held = c.args.flights.now.held.items in
     let block = flight.block in
     let s = first_stands c.flights_are_single.ensures.holds c.patches_are_placed.ensures.known run held flight runs.cache_is.legal runs.flights_are c.requires.some c.swap_remove.ensures.value in
-    let stands : Represents c.complete.new.self (extended run (the.Complete c.landed-landed.result.block)) = (c.in-Ok.ensures.done run runs.cache_is).3 in
+    let stands : IsCacheOf c.complete.new.self (extended run (the.Complete c.landed-landed.result.block)) = (c.in-Ok.ensures.done run runs.cache_is).3 in
     let added = c.in-Ok.ensures.trace ∙ ap (λ b. c.args.self.now.trace ++ the.Complete b ∷ []) c.landed-landed.ensures.block in
     went_by run c.args.self.now c.complete.new.self (the.Complete block ∷ []) _ added
     (gone_complete run block _ _ (fewer_landed c.steps_extend.ensures.state run block)
     (record {
-      cache_is = subst (λ b. Represents c.complete.new.self (extended run (the.Complete b))) c.landed-landed.ensures.block stands;
+      cache_is = subst (λ b. IsCacheOf c.complete.new.self (extended run (the.Complete b))) c.landed-landed.ensures.block stands;
       flights_are = subst (AreFlightsBeside others (extended run (the.Complete block))) (sym c.swap_remove.ensures.items)
           (held_complete c.steps_extend.ensures.state c.images_stay.ensures c.flights_are_ready.ensures.landed_elsewhere run block held 0 flight flight s.stands refl runs.flights_are);
     }))

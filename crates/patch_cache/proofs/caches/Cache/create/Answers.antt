@@ -1,4 +1,4 @@
-use Rattle.std.proofs.Common.{◌≡◌, ◌∙◌, ◌∷◌, ◌++◌, [], ℕ, List, subst}
+use Rattle.std.proofs.Common.{◌≡◌, ◌∷◌, ◌++◌, [], ℕ, List, subst}
 use Rattle.std.specs.Result.{IfOk, IfErr, OnOk}
 use Rattle.patch_model.specs.Step.{Create}
 use Rattle.patch_cache.specs.Creating.{why_not_created, IsMade}
@@ -19,19 +19,19 @@ pub returns-in_ok-after-in-None-clause-made : goal.returns-in_ok-after-in-None-c
 returns-in_ok-after-in-None-clause-made g c = λ run at.
     let a = c.args in
     let Made : List ℕ → List ℕ → Type 0 = λ bytes after. IfOk c.create_owned.result (λ no. IsMade run a.block a.start bytes after a.undo no c.create_owned.new.self) in
-    subst (λ bytes. Made bytes a.after.now) c.in_ok-bytes-in-None.ensures (subst (Made c.in_ok-bytes-in-None.bytes) (c.listed.ensures ∙ c.in_ok-after-in-None.ensures) (c.create_owned.ensures.made run at))
+    subst (λ bytes. Made bytes a.after.now) c.in_ok-bytes-in-None.ensures (subst (Made c.in_ok-bytes-in-None.bytes) c.in_ok-after-in-None.ensures (c.create_owned.ensures.made run at))
 
 pub returns-in_ok-after-in-None-clause-cause : goal.returns-in_ok-after-in-None-clause-cause
 returns-in_ok-after-in-None-clause-cause g c = λ run at.
     let a = c.args in
     let Told : List ℕ → List ℕ → Type 0 = λ bytes after. IfErr c.create_owned.result (λ refusal. IsCause (why_not_created run a.block a.start bytes after) (create_cause refusal)) in
-    subst (λ bytes. Told bytes a.after.now) c.in_ok-bytes-in-None.ensures (subst (Told c.in_ok-bytes-in-None.bytes) (c.listed.ensures ∙ c.in_ok-after-in-None.ensures) (c.create_owned.ensures.cause run at))
+    subst (λ bytes. Told bytes a.after.now) c.in_ok-bytes-in-None.ensures (subst (Told c.in_ok-bytes-in-None.bytes) c.in_ok-after-in-None.ensures (c.create_owned.ensures.cause run at))
 
 pub returns-in_ok-after-in-None-clause-trace : goal.returns-in_ok-after-in-None-clause-trace
 returns-in_ok-after-in-None-clause-trace g c =
     let a = c.args in
     let Noted : List ℕ → List ℕ → Type 0 = λ bytes after. OnOk c.create_owned.result (c.create_owned.new.self.trace ≡ a.self.now.trace ++ Create a.block a.start bytes after a.undo ∷ []) in
-    subst (λ bytes. Noted bytes a.after.now) c.in_ok-bytes-in-None.ensures (subst (Noted c.in_ok-bytes-in-None.bytes) (c.listed.ensures ∙ c.in_ok-after-in-None.ensures) c.create_owned.ensures.trace)
+    subst (λ bytes. Noted bytes a.after.now) c.in_ok-bytes-in-None.ensures (subst (Noted c.in_ok-bytes-in-None.bytes) c.in_ok-after-in-None.ensures c.create_owned.ensures.trace)
 
 pub returns-in_ok-after-in-None-clause-refused : goal.returns-in_ok-after-in-None-clause-refused
 returns-in_ok-after-in-None-clause-refused g c = c.create_owned.ensures.refused

@@ -1,7 +1,7 @@
 use Rattle.std.proofs.Common.{[], sym, subst, ◌∙◌, List, map, refl, ap, ◌+◌, ◌≤◌, length}
 use Rattle.patch_cache.specs.Contents.{Contents, drained}
-use Rattle.patch_cache.specs.Meaning.{Represents}
-use Rattle.patch_cache.proofs.Standing.{with_trace}
+use Rattle.patch_cache.specs.Meaning.{IsCacheOf}
+use Rattle.patch_cache.proofs.SameExecution.{with_trace}
 use Rattle.std.proofs.lemmas.Result.{IfOk-from_err}
 use Rattle.patch_model.specs.Step.{Step}
 use Rattle.patch_model.specs.StepOf.{step_of}
@@ -10,7 +10,7 @@ use Rattle.std.specs.Prelude.{vec_capacity}
 use Rattle.patch_cache.proofs.caches.Cache.drain_trace.Goals as goal
 
 pub returns-clause-same : goal.returns-clause-same
-returns-clause-same g c run r = with_trace _ (λ _. []) run _ (subst (λ (x : Contents). Represents x run) (sym c.self.view_is) r)
+returns-clause-same g c run r = with_trace _ (λ _. []) run _ (subst (λ (x : Contents). IsCacheOf x run) (sym c.self.view_is) r)
 
 pub returns-in_err-kept-clause-steps : goal.returns-in_err-kept-clause-steps
 returns-in_err-kept-clause-steps g c = IfOk-from_err c.from_residual.result _ c.from_residual.ensures.0

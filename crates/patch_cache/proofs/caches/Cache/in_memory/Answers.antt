@@ -1,6 +1,6 @@
 use Rattle.std.proofs.Common.{inl, inr, subst, sym, ap}
 use Rattle.patch_model.specs.Entry.{marks_memory}
-use Rattle.patch_graph.specs.Meaning.{Represents as IsGraphOf}
+use Rattle.patch_graph.specs.Meaning.{IsGraphOf}
 use Rattle.patch_cache.specs.Contents.{Contents}
 use Rattle.patch_cache.proofs.Mergers.{not_live, not_memory}
 use Rattle.patch_cache.proofs.caches.Cache.in_memory.Goals as goal

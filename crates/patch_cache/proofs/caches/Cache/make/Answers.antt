@@ -7,7 +7,7 @@ use Rattle.patch_model.specs.State.{entries_of}
 use Rattle.patch_model.specs.Legal.{IsLegalCreate}
 use Rattle.patch_cache.specs.Contents.{Contents}
 use Rattle.patch_cache.specs.Creating.{MayLay, IsLaid}
-use Rattle.patch_cache.specs.Meaning.{Represents}
+use Rattle.patch_cache.specs.Meaning.{IsCacheOf}
 use Rattle.patch_cache.proofs.Stepping.{StepsOn, stepped, lent, put_back, unchanged, on_err, noted_fits, within, one_lives, room_left, still_fits, few_fit}
 use Rattle.std.proofs.lemmas.Result.{IfOk-from_err}
 use Rattle.patch_cache.proofs.caches.Cache.make.Goals as goal
@@ -34,7 +34,7 @@ returns-clause-made g c = λ run at why.
       flying = λ b. c.flights_are_ready.ensures.made run a.block a.start a.bytes a.after a.undo b;
       elsewhere = λ b other. c.steps_change_blocks.ensures.made_elsewhere run a.block a.start a.bytes a.after a.undo b other;
     } in
-    let seen = subst (λ (s : Contents). Represents s run) (sym c.self.view_is) at in
+    let seen = subst (λ (s : Contents). IsCacheOf s run) (sym c.self.view_is) at in
     let here = lent _ a.block c.block.inside.0 _ run c.block.view_is c.index_mut-state.ensures.value seen lawful.known in
     let Lays : List ℕ → List ℕ → Type 0 = λ bs ns. MayLay run a.block a.start bs ns c.index_mut-state.result.now c.self.inside.graph
     → IsLaid run a.block a.start bs ns a.undo c.in_ok-no.no c.lay_on.new.state c.lay_on.new.graph in

@@ -6,7 +6,7 @@ use Rattle.patch_model.specs.Entry.{Entry}
 use Rattle.patch_model.specs.State.{entries_of}
 use Rattle.patch_model.specs.Legal.{block_of_patch}
 use Rattle.patch_cache.specs.Contents.{Contents}
-use Rattle.patch_cache.specs.Meaning.{Represents}
+use Rattle.patch_cache.specs.Meaning.{IsCacheOf}
 use Rattle.patch_cache.proofs.Stepping.{StepsOn, stepped, lent, put_back, unchanged, on_err, within}
 use Rattle.patch_cache.proofs.caches.Cache.make_one.Goals as goal
 
@@ -31,7 +31,7 @@ returns-clause-merged g c = λ run at may.
       flying = λ n. c.flights_are_ready.ensures.merged run a b n;
       elsewhere = λ n other. c.steps_change_blocks.ensures.merged_elsewhere run a b n at.legal lawful other;
     } in
-    let seen = subst (λ (s : Contents). Represents s run) (sym c.self.view_is) at in
+    let seen = subst (λ (s : Contents). IsCacheOf s run) (sym c.self.view_is) at in
     let place : c.block.inside.0 ≡ block = c.block.view_is ∙ of_a in
     let known : block < length run.first = let inside = c.requires.known in let many = at.count in omega (arith, inside, many, of_a) in
     let here = lent _ block c.block.inside.0 _ run place c.index_mut-state.ensures.value seen known in

@@ -5,7 +5,7 @@ use Rattle.patch_model.specs.State.{entries_of}
 use Rattle.patch_model.specs.Legal.{IsLegalMerge}
 use Rattle.patch_model.specs.Refusing.{bare}
 use Rattle.patch_cache.specs.Contents.{Contents}
-use Rattle.patch_cache.specs.Meaning.{Represents}
+use Rattle.patch_cache.specs.Meaning.{IsCacheOf}
 use Rattle.patch_cache.specs.Refusals.{IsMergeCause, sooner, between, against, no_memory, merge_cause}
 use Rattle.patch_cache.proofs.caches.Cache.merge.Goals as goal
 
@@ -32,5 +32,5 @@ returns-clause-merged g c = λ run at.
     let all : List Entry = entries_of run in
     let here = c.in_ok-block.ensures.answer run at in
     let lawful : IsLegalMerge all c.args.a c.args.b = (c.pairs_merge.ensures.legal all c.args.a c.args.b).0 (here.0, c.in_default.ensures.answer run at here.0) in
-    let still = subst (λ (s : Contents). Represents s run) (sym c.in_default.ensures.same) at in
+    let still = subst (λ (s : Contents). IsCacheOf s run) (sym c.in_default.ensures.same) at in
     c.in_ok-make_one.ensures.merged run still (lawful, here.1)

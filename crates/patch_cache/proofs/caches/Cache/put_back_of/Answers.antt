@@ -2,13 +2,13 @@ use Rattle.std.proofs.Common.{◌≡◌, ◌∙◌, ◌≤◌, ℕ, List, Result
 use Rattle.std.specs.Result.{MatchResult, OnErr}
 use Rattle.patch_model.specs.Execution.{Execution}
 use Rattle.patch_model.specs.History.{History, history_of}
-use Rattle.patch_view.specs.State.{Block}
-use Rattle.patch_view.specs.Meaning.{Represents as IsBlockOf}
+use Rattle.patch_stacks.specs.State.{Block}
+use Rattle.patch_view.specs.Meaning.{IsBlockOf}
 use Rattle.patch_view.specs.Answers.{IsPutBackAnswer}
-use Rattle.patch_view.specs.declared.refusals.PutBackRefusal.{PutBackRefusal}
+use Rattle.patch_stacks.specs.declared.refusals.PutBackRefusal.{PutBackRefusal}
 use Rattle.patch_cache.specs.Contents.{Contents, with_block}
 use Rattle.patch_cache.specs.Meaning.{ShowsWithout}
-use Rattle.patch_view.specs.Refusal.{put_back_cause}
+use Rattle.patch_stacks.specs.Refusal.{put_back_cause}
 use Rattle.patch_cache.specs.Viewing.{with_move}
 use Rattle.patch_cache.specs.declared.asks.Move.TheVariants.{Back}
 use Rattle.patch_cache.proofs.Showing.{Lent, started, put_back, put_back_is_refused, only_one, as_was, still_a_view}

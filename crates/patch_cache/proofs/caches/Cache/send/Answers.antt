@@ -5,7 +5,7 @@ use Rattle.patch_model.specs.State.{entries_of, numbers_of}
 use Rattle.patch_model.specs.StepOf.{step_of}
 use Rattle.patch_graph.specs.Between.{HasNoRing}
 use Rattle.patch_cache.specs.Contents.{Contents, write_at}
-use Rattle.patch_cache.specs.Meaning.{Represents}
+use Rattle.patch_cache.specs.Meaning.{IsCacheOf}
 use Rattle.std.proofs.lemmas.Result.{IfOk-from_err}
 use Rattle.patch_model.specs.Step.{Send}
 use Rattle.patch_cache.proofs.Stepping.{on_err}
@@ -24,10 +24,10 @@ returns-in_ok-begin-in-None-clause-sent g c = λ run at.
       trace = map step_of c.self.inside.trace.items;
     } in
     let same : now ≡ c.args.self.now = c.self.view_is ∙ c.in-None.ensures.same in
-    let seen : Represents now run = subst (λ (v : Contents). Represents v run) (sym same) at in
+    let seen : IsCacheOf now run = subst (λ (v : Contents). IsCacheOf v run) (sym same) at in
     let ring : HasNoRing (entries_of run) = λ x y apart to back. c.paths_form_no_ring.ensures.back run x y at.legal to back in
     let numbers : c.in_ok-numbers-in-None.numbers.items ≡ numbers_of (ready (entries_of run) c.args.block) = c.in_ok-numbers-in-None.ensures (entries_of run) seen.graph ring in
-    let after : Represents c.why_not_sent.new.self run = subst (λ (v : Contents). Represents v run) (sym c.in-None.ensures.same) at in
+    let after : IsCacheOf c.why_not_sent.new.self run = subst (λ (v : Contents). IsCacheOf v run) (sym c.in-None.ensures.same) at in
     (none, c.in_ok-begin-in-None.ensures.begun run after (none, numbers))
 
 pub begin-requires-clause-known : goal.begin-requires-clause-known

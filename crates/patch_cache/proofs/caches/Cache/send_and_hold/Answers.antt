@@ -9,18 +9,18 @@ use Rattle.std.specs.Prelude.{is_ok}
 use Rattle.std.proofs.Common.{sym, ap, subst, ◌∙◌}
 use Rattle.patch_model.specs.Step as the
 use Rattle.patch_cache.specs.Contents.{Contents}
-use Rattle.patch_cache.specs.Meaning.{Represents}
+use Rattle.patch_cache.specs.Meaning.{IsCacheOf}
 use Rattle.patch_cache.specs.Flights.{AreFlightsOf}
 use Rattle.patch_cache.proofs.Answering.{sent_answered}
 use Rattle.patch_graph.specs.Between.{HasNoRing}
-use Rattle.patch_cache.proofs.Holding.{held_send}
+use Rattle.patch_cache.proofs.HeldFlights.{held_send}
 
 -- src/running.rt:124:5
 pub returns-clause-answer : goal.returns-clause-answer
 returns-clause-answer g c = λ run runs why.
     let block = c.args.block in
     let flight = c.in_ok-flight.flight in
-    let before : Represents _ run = subst (λ (x : Contents). Represents x run) (sym c.self.view_is) runs.cache_is in
+    let before : IsCacheOf _ run = subst (λ (x : Contents). IsCacheOf x run) (sym c.self.view_is) runs.cache_is in
     let ring : HasNoRing (entries_of run) = λ x y apart to back. c.paths_form_no_ring.ensures.back run x y runs.cache_is.legal to back in
     let numbers = c.in_ok-numbers.ensures (entries_of run) before.graph ring in
     let sent = c.in_ok-flight.ensures.begun run runs.cache_is (why, numbers) in

@@ -2,10 +2,10 @@ use Rattle.std.proofs.Common.{◌≡◌, ◌++◌, ◌∷◌, [], length, length
 use Rattle.patch_model.specs.Execution.{extended}
 use Rattle.patch_model.specs.Step as the
 use Rattle.patch_cache.specs.Contents.{Contents}
-use Rattle.patch_cache.specs.Meaning.{Represents}
+use Rattle.patch_cache.specs.Meaning.{IsCacheOf}
 use Rattle.patch_cache.specs.Flights.{AreFlightsBeside}
 use Rattle.patch_cache.specs.Refusals.{send_cause}
-use Rattle.patch_cache.proofs.Holding.{held_send}
+use Rattle.patch_cache.proofs.HeldFlights.{held_send}
 use Rattle.patch_cache.proofs.Refusing.{not_told}
 use Rattle.patch_cache.proofs.Waving.{none_added}
 use Rattle.std.proofs.lemmas.Result.{IfOk-from_err}
@@ -16,7 +16,7 @@ pub returns-in-Ok-clause-sent : goal.returns-in-Ok-clause-sent
 returns-in-Ok-clause-sent g c = λ others run runs.
     let block = c.args.block in
     let flight = c.in-Ok.flight in
-    let before : Represents c.why_not_sent.new.self run = subst (λ (x : Contents). Represents x run) (sym c.why_not_sent.ensures.same) runs.cache_is in
+    let before : IsCacheOf c.why_not_sent.new.self run = subst (λ (x : Contents). IsCacheOf x run) (sym c.why_not_sent.ensures.same) runs.cache_is in
     let done = c.in-Ok.ensures.sent run before in
     let held : c.push_reserved.new.self.items ≡ c.args.flights.now.held.items ++ flight ∷ [] = c.push_reserved.ensures.items ∙ ap (λ xs. xs ++ flight ∷ []) c.reserve.ensures.items in
     let startable = (c.pairs_merge.ensures.sent run block).0 done.0 in (
@@ -32,7 +32,7 @@ returns-in-Ok-clause-sent g c = λ others run runs.
 pub returns-in-Ok-clause-more : goal.returns-in-Ok-clause-more
 returns-in-Ok-clause-more g c = λ others run runs.
     let flight = c.in-Ok.flight in
-    let before : Represents c.why_not_sent.new.self run = subst (λ (x : Contents). Represents x run) (sym c.why_not_sent.ensures.same) runs.cache_is in
+    let before : IsCacheOf c.why_not_sent.new.self run = subst (λ (x : Contents). IsCacheOf x run) (sym c.why_not_sent.ensures.same) runs.cache_is in
     let begun = (c.in-Ok.ensures.sent run before).1.0 in
     let held : c.push_reserved.new.self.items ≡ c.args.flights.now.held.items ++ flight ∷ [] = c.push_reserved.ensures.items ∙ ap (λ xs. xs ++ flight ∷ []) c.reserve.ensures.items in
     (flight, begun.block_is, held)
@@ -47,7 +47,7 @@ returns-in-Ok-clause-count g c =
 pub returns-then-is_some-clause-sent : goal.returns-then-is_some-clause-sent
 returns-then-is_some-clause-sent g c = λ others run runs. (
   λ none. not_told send_cause c.why_not_sent.result (sym c.is_some.ensures ∙ c.if-is_some.true) (c.why_not_sent.ensures.cause run runs.cache_is ∙ none),
-  record { cache_is = subst (λ (x : Contents). Represents x run) (sym c.why_not_sent.ensures.same) runs.cache_is; flights_are = runs.flights_are },
+  record { cache_is = subst (λ (x : Contents). IsCacheOf x run) (sym c.why_not_sent.ensures.same) runs.cache_is; flights_are = runs.flights_are },
 )
 
 pub returns-then-is_some-clause-trace : goal.returns-then-is_some-clause-trace

@@ -2,7 +2,7 @@ use Rattle.std.proofs.Common.{◌≡◌, ◌∙◌, ℕ, List, Result, Ok, Err, 
 use Rattle.std.specs.Result.{IsErrAnd}
 use Rattle.patch_model.specs.declared.refusals.Refusal.{Refusal}
 use Rattle.patch_model.specs.Execution.{Execution}
-use Rattle.patch_view.specs.Refusal.{put_back_cause}
+use Rattle.patch_stacks.specs.Refusal.{put_back_cause}
 use Rattle.patch_cache.specs.Contents.{Contents}
 use Rattle.patch_cache.specs.Meaning.{ShowsWithout}
 use Rattle.patch_cache.specs.Refusals.{take_cause}

@@ -11,7 +11,7 @@ use Rattle.patch_model.specs.History.{history_of}
 use Rattle.patch_graph.specs.Meaning.{HasMark}
 use Rattle.patch_cache.specs.Contents.{Contents}
 use Rattle.patch_cache.specs.Meaning.{ShowsWithout}
-use Rattle.patch_view.specs.Refusal.{take_cause as view_take_cause}
+use Rattle.patch_stacks.specs.Refusal.{take_cause as view_take_cause}
 use Rattle.patch_cache.specs.Refusals.{take_cause}
 use Rattle.patch_cache.specs.Viewing.{with_move}
 use Rattle.patch_cache.specs.declared.asks.Move.TheVariants.{Take}

@@ -37,8 +37,8 @@ returns-else-self-ge-MAX_LIVE-clause-cause g c = λ run at.
     ] in
     let made : c.self.inside.graph.made ≡ length all = ap (λ (v : Contents). v.graph.made) c.self.view_is ∙ at.graph.made in
     let named : list_any (λ n. nat_le (length all) n) (numbers_named a.after) ≡ false =
-    subst (λ (k : ℕ). list_any (λ n. nat_le k n) (numbers_named a.after) ≡ false) (c.made.ensures ∙ made) (sym c.names_unmade.ensures ∙ c.if-names_unmade.false) in
-    let few : length all < MAX_PATCHES = subst (λ (k : ℕ). k < MAX_PATCHES) (c.made-else-names_unmade.ensures ∙ made) c.if-made-ge-MAX_PATCHES.false in
+    subst (λ (k : ℕ). list_any (λ n. nat_le k n) (numbers_named a.after) ≡ false) (c.made.ensures ∙ made) (sym c.has_unmade.ensures ∙ c.if-has_unmade.false) in
+    let few : length all < MAX_PATCHES = subst (λ (k : ℕ). k < MAX_PATCHES) (c.made-else-has_unmade.ensures ∙ made) c.if-made-ge-MAX_PATCHES.false in
     let few_live : count_by is_live all < MAX_LIVE = subst (λ (k : ℕ). k < MAX_LIVE) (ap (λ (v : Contents). v.live) c.self.view_is ∙ at.live) c.if-self-ge-MAX_LIVE.false in
     none_against (length run.first) all a.block a.start bytes (numbers_named a.after) known (sym c.is_empty.ensures ∙ c.if-is_empty.false) fits named few few_live
 
@@ -57,8 +57,8 @@ returns-then-is_empty-clause-cause g c = λ run at.
     no_bytes (length run.first) (entries_of run) a.block a.start a.bytes.now (numbers_named a.after)
     (subst (λ (n : ℕ). a.block < n) at.count (below_count _ a.self.now a.block c.block.inside.0 _ _ c.block.view_is c.self.view_is c.self.inside.blocks.ok.0 c.len.ensures c.if-block-len.false)) (sym c.is_empty.ensures ∙ c.if-is_empty.true)
 
-pub returns-then-names_unmade-clause-cause : goal.returns-then-names_unmade-clause-cause
-returns-then-names_unmade-clause-cause g c = λ run at.
+pub returns-then-has_unmade-clause-cause : goal.returns-then-has_unmade-clause-cause
+returns-then-has_unmade-clause-cause g c = λ run at.
     let a = c.args in
     let bytes : List ℕ = a.bytes.now in
     let all : List Entry = entries_of run in
@@ -69,7 +69,7 @@ returns-then-names_unmade-clause-cause g c = λ run at.
     ] in
     let made : c.self.inside.graph.made ≡ length all = ap (λ (v : Contents). v.graph.made) c.self.view_is ∙ at.graph.made in
     let named : list_any (λ n. nat_le (length all) n) (numbers_named a.after) ≡ true =
-    subst (λ (k : ℕ). list_any (λ n. nat_le k n) (numbers_named a.after) ≡ true) (c.made.ensures ∙ made) (sym c.names_unmade.ensures ∙ c.if-names_unmade.true) in
+    subst (λ (k : ℕ). list_any (λ n. nat_le k n) (numbers_named a.after) ≡ true) (c.made.ensures ∙ made) (sym c.has_unmade.ensures ∙ c.if-has_unmade.true) in
     unknown_name (length run.first) all a.block a.start bytes (numbers_named a.after) known (sym c.is_empty.ensures ∙ c.if-is_empty.false) fits named
 
 pub returns-then-made-ge-MAX_PATCHES-clause-cause : goal.returns-then-made-ge-MAX_PATCHES-clause-cause
@@ -84,8 +84,8 @@ returns-then-made-ge-MAX_PATCHES-clause-cause g c = λ run at.
     ] in
     let made : c.self.inside.graph.made ≡ length all = ap (λ (v : Contents). v.graph.made) c.self.view_is ∙ at.graph.made in
     let named : list_any (λ n. nat_le (length all) n) (numbers_named a.after) ≡ false =
-    subst (λ (k : ℕ). list_any (λ n. nat_le k n) (numbers_named a.after) ≡ false) (c.made.ensures ∙ made) (sym c.names_unmade.ensures ∙ c.if-names_unmade.false) in
-    let many : MAX_PATCHES ≤ length all = subst (λ (k : ℕ). MAX_PATCHES ≤ k) (c.made-else-names_unmade.ensures ∙ made) c.if-made-ge-MAX_PATCHES.true in
+    subst (λ (k : ℕ). list_any (λ n. nat_le k n) (numbers_named a.after) ≡ false) (c.made.ensures ∙ made) (sym c.has_unmade.ensures ∙ c.if-has_unmade.false) in
+    let many : MAX_PATCHES ≤ length all = subst (λ (k : ℕ). MAX_PATCHES ≤ k) (c.made-else-has_unmade.ensures ∙ made) c.if-made-ge-MAX_PATCHES.true in
     numbers_spent (length run.first) all a.block a.start bytes (numbers_named a.after) known (sym c.is_empty.ensures ∙ c.if-is_empty.false) fits named many
 
 pub returns-then-self-ge-MAX_LIVE-clause-cause : goal.returns-then-self-ge-MAX_LIVE-clause-cause
@@ -100,8 +100,8 @@ returns-then-self-ge-MAX_LIVE-clause-cause g c = λ run at.
     ] in
     let made : c.self.inside.graph.made ≡ length all = ap (λ (v : Contents). v.graph.made) c.self.view_is ∙ at.graph.made in
     let named : list_any (λ n. nat_le (length all) n) (numbers_named a.after) ≡ false =
-    subst (λ (k : ℕ). list_any (λ n. nat_le k n) (numbers_named a.after) ≡ false) (c.made.ensures ∙ made) (sym c.names_unmade.ensures ∙ c.if-names_unmade.false) in
-    let few : length all < MAX_PATCHES = subst (λ (k : ℕ). k < MAX_PATCHES) (c.made-else-names_unmade.ensures ∙ made) c.if-made-ge-MAX_PATCHES.false in
+    subst (λ (k : ℕ). list_any (λ n. nat_le k n) (numbers_named a.after) ≡ false) (c.made.ensures ∙ made) (sym c.has_unmade.ensures ∙ c.if-has_unmade.false) in
+    let few : length all < MAX_PATCHES = subst (λ (k : ℕ). k < MAX_PATCHES) (c.made-else-has_unmade.ensures ∙ made) c.if-made-ge-MAX_PATCHES.false in
     let many : MAX_LIVE ≤ count_by is_live all = subst (λ (k : ℕ). MAX_LIVE ≤ k) (ap (λ (v : Contents). v.live) c.self.view_is ∙ at.live) c.if-self-ge-MAX_LIVE.true in
     too_many_live (length run.first) all a.block a.start bytes (numbers_named a.after) known (sym c.is_empty.ensures ∙ c.if-is_empty.false) fits named few many
 
@@ -113,7 +113,7 @@ pub returns-else-self-ge-MAX_LIVE-clause-some : goal.returns-else-self-ge-MAX_LI
 returns-else-self-ge-MAX_LIVE-clause-some g c = λ none. some_held _ (sym c.is_empty.ensures ∙ c.if-is_empty.false)
 
 pub returns-else-self-ge-MAX_LIVE-clause-numbers_left : goal.returns-else-self-ge-MAX_LIVE-clause-numbers_left
-returns-else-self-ge-MAX_LIVE-clause-numbers_left g c = λ none. subst (λ (k : ℕ). k < MAX_PATCHES) (c.made-else-names_unmade.ensures ∙ ap (λ (v : Contents). v.graph.made) c.self.view_is) c.if-made-ge-MAX_PATCHES.false
+returns-else-self-ge-MAX_LIVE-clause-numbers_left g c = λ none. subst (λ (k : ℕ). k < MAX_PATCHES) (c.made-else-has_unmade.ensures ∙ ap (λ (v : Contents). v.graph.made) c.self.view_is) c.if-made-ge-MAX_PATCHES.false
 
 pub returns-else-self-ge-MAX_LIVE-clause-live_left : goal.returns-else-self-ge-MAX_LIVE-clause-live_left
 returns-else-self-ge-MAX_LIVE-clause-live_left g c = λ none. subst (λ (k : ℕ). k < MAX_LIVE) (ap (λ (v : Contents). v.live) c.self.view_is) c.if-self-ge-MAX_LIVE.false
@@ -164,20 +164,20 @@ returns-then-start-bytes-clause-numbers_left g c = λ none. absurd (false≢true
 pub returns-then-start-bytes-clause-live_left : goal.returns-then-start-bytes-clause-live_left
 returns-then-start-bytes-clause-live_left g c = λ none. absurd (false≢true (sym none))
 
-pub returns-then-names_unmade-clause-known : goal.returns-then-names_unmade-clause-known
-returns-then-names_unmade-clause-known g c = λ none. absurd (false≢true (sym none))
+pub returns-then-has_unmade-clause-known : goal.returns-then-has_unmade-clause-known
+returns-then-has_unmade-clause-known g c = λ none. absurd (false≢true (sym none))
 
-pub returns-then-names_unmade-clause-some : goal.returns-then-names_unmade-clause-some
-returns-then-names_unmade-clause-some g c = λ none. absurd (false≢true (sym none))
+pub returns-then-has_unmade-clause-some : goal.returns-then-has_unmade-clause-some
+returns-then-has_unmade-clause-some g c = λ none. absurd (false≢true (sym none))
 
-pub returns-then-names_unmade-clause-fits : goal.returns-then-names_unmade-clause-fits
-returns-then-names_unmade-clause-fits g c = λ none. absurd (false≢true (sym none))
+pub returns-then-has_unmade-clause-fits : goal.returns-then-has_unmade-clause-fits
+returns-then-has_unmade-clause-fits g c = λ none. absurd (false≢true (sym none))
 
-pub returns-then-names_unmade-clause-numbers_left : goal.returns-then-names_unmade-clause-numbers_left
-returns-then-names_unmade-clause-numbers_left g c = λ none. absurd (false≢true (sym none))
+pub returns-then-has_unmade-clause-numbers_left : goal.returns-then-has_unmade-clause-numbers_left
+returns-then-has_unmade-clause-numbers_left g c = λ none. absurd (false≢true (sym none))
 
-pub returns-then-names_unmade-clause-live_left : goal.returns-then-names_unmade-clause-live_left
-returns-then-names_unmade-clause-live_left g c = λ none. absurd (false≢true (sym none))
+pub returns-then-has_unmade-clause-live_left : goal.returns-then-has_unmade-clause-live_left
+returns-then-has_unmade-clause-live_left g c = λ none. absurd (false≢true (sym none))
 
 pub returns-then-made-ge-MAX_PATCHES-clause-known : goal.returns-then-made-ge-MAX_PATCHES-clause-known
 returns-then-made-ge-MAX_PATCHES-clause-known g c = λ none. absurd (false≢true (sym none))

@@ -3,12 +3,12 @@ use Rattle.std.specs.Prelude.{is_some}
 use Rattle.std.proofs.lemmas.Bool.{both_ways, false≢true}
 use Rattle.std.proofs.lemmas.List.{get_or_read_under}
 use Rattle.patch_model.specs.State.{state_of, entries_of, has_flight}
-use Rattle.patch_graph.specs.Meaning.{Represents as IsGraphOf}
+use Rattle.patch_graph.specs.Meaning.{IsGraphOf}
 use Rattle.patch_graph.specs.Between.{HasNoRing}
 use Rattle.patch_cache.specs.Contents.{Contents, no_block, block_at, write_at}
 use Rattle.patch_model.specs.History.{history_of}
-use Rattle.patch_view.specs.State.{Block}
-use Rattle.patch_view.specs.Meaning.{Represents as IsBlockOf}
+use Rattle.patch_stacks.specs.State.{Block}
+use Rattle.patch_view.specs.Meaning.{IsBlockOf}
 use Rattle.patch_cache.proofs.Refusing.{beyond, has_one, already, nothing, none_ready, something, is_none}
 use Rattle.patch_cache.proofs.Stepping.{below_count, below_writes}
 use Rattle.patch_cache.proofs.caches.Cache.why_not_sent.Goals as goal

@@ -31,7 +31,7 @@ loop-k-preserved g c run h =
     c.loop-k.groups c.lay_part.new.groups c.loop-k.cache c.lay_part.new.cache c.loop-k.k c.in_ok-lay_part.field-0
     (c.loop-k.invariant run h)
     (subst (λ ns. IsPatched (block_of s.geometry (part e (offset_at s e) bytes k)) (start_of (part e (offset_at s e) bytes k)) (bytes_of s.geometry (part e (offset_at s e) bytes k))
-    c.args.writer.now ns c.loop-k.groups c.loop-k.cache c.lay_part.new.groups c.lay_part.new.cache c.in_ok-lay_part.field-0) (c.in_ok-same.ensures ∙ c.as_slice.ensures)
+    c.args.writer.now ns c.loop-k.groups c.loop-k.cache c.lay_part.new.groups c.lay_part.new.cache c.in_ok-lay_part.field-0) c.in_ok-same.ensures
     c.in_ok-lay_part.ensures)
 
 pub returns : goal.returns

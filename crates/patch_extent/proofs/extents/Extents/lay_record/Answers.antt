@@ -1,6 +1,6 @@
 use Rattle.std.proofs.Common.{subst, arith}
 use Rattle.patch_frame.specs.Geometry.{IsFormat}
-use Rattle.patch_extent.proofs.Standing.{most_bytes}
+use Rattle.patch_extent.proofs.NextStep.{most_bytes}
 use Rattle.patch_extent.proofs.extents.Extents.lay_record.Goals as goal
 
 pub write_pointer-record-requires : goal.write_pointer-record-requires

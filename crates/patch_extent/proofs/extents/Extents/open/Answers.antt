@@ -5,8 +5,8 @@ use Rattle.patch_frame.specs.Geometry.{pointer_block}
 use Rattle.patch_extent.specs.Answers.{tells_bad}
 use Rattle.patch_extent.specs.Opening.{AreRecords, has_bad_record, has_bad_pointers}
 use Rattle.patch_extent.proofs.Patches.{cached_long, cached_on}
-use Rattle.patch_extent.proofs.Standing.{pointer_block_there}
-use Rattle.patch_extent.proofs.Beginning.{block_read, records_represent, zeros_behind}
+use Rattle.patch_extent.proofs.NextStep.{pointer_block_there}
+use Rattle.patch_extent.proofs.Beginning.{block_read, records_represent, each_read, zeros_behind}
 use Rattle.patch_extent.proofs.extents.Extents.open.Goals as goal
 
 pub returns-then-block-lt-BLOCK-clause-opened : goal.returns-then-block-lt-BLOCK-clause-opened
@@ -26,6 +26,9 @@ returns-then-has_bad_pointers-clause-opened g c run cache =
     let long = cached_long run (pointer_block c.args.geometry) (c.executions_are_orderly.ensures.blocks run (pointer_block c.args.geometry) cache.legal there) in
     let is = (c.in-Ok.ensures run cache).1 ∙ ap (λ b. slice_range (cached (history_of run b)) 0 4096) c.pointer_block.ensures in
     ap (has_bad_pointers c.args.geometry) (sym (block_read run c.args.geometry c.in-Ok.block.now there long is)) ∙ sym c.has_bad_pointers.ensures ∙ c.if-has_bad_pointers.true
+
+pub read_records-requires-clause-read : goal.read_records-requires-clause-read
+read_records-requires-clause-read g c = each_read (has_bad_record c.args.geometry c.in-Ok.block.now) _ (sym c.has_bad_pointers.ensures ∙ c.if-has_bad_pointers.false)
 
 pub returns-in_err-each-clause-opened : goal.returns-in_err-each-clause-opened
 returns-in_err-each-clause-opened g c run cache =

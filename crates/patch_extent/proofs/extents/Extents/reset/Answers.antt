@@ -6,7 +6,7 @@ use Rattle.patch_model.specs.Execution.{Execution}
 use Rattle.patch_frame.specs.Geometry.{largest_pointer, pointer_block, pointer_start}
 use Rattle.patch_frame.specs.Pointer.{Fits, spelling}
 use Rattle.patch_cache.specs.Creating.{IsMade}
-use Rattle.patch_cache.specs.Meaning.{Represents as IsCacheOf}
+use Rattle.patch_cache.specs.Meaning.{IsCacheOf}
 use Rattle.patch_plans.specs.declared.records.Extent.{Extent}
 use Rattle.patch_plans.specs.Extents.{Extents, no_extent, extent_at, generation_at, pointed}
 use Rattle.patch_extent.proofs.Emptied.{is_empty, same_number, still_whole, empties_put}

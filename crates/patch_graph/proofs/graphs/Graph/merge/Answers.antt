@@ -1,6 +1,6 @@
 use Rattle.std.proofs.Common.{subst, sym, ◌∙◌}
 use Rattle.patch_graph.specs.State.{Graph}
-use Rattle.patch_graph.specs.Meaning.{Represents}
+use Rattle.patch_graph.specs.Meaning.{IsGraphOf}
 use Rattle.patch_graph.proofs.Joining.{none-to-join}
 use Rattle.patch_graph.proofs.graphs.Graph.merge.Goals as goal
 
@@ -8,4 +8,4 @@ pub invariant_of-self-2 : goal.invariant_of-self-2
 invariant_of-self-2 g c = c.merge.ensures.fit c.self.inside.scratch c.self.invariant
 
 pub returns-clause-idle : goal.returns-clause-idle
-returns-clause-idle g c all r off = c.merge.ensures.idle (none-to-join c.self.inside.register all c.args.a c.args.b (subst (λ (x : Graph). Represents x all) (sym c.self.view_is) r) off) ∙ c.self.view_is
+returns-clause-idle g c all r off = c.merge.ensures.idle (none-to-join c.self.inside.register all c.args.a c.args.b (subst (λ (x : Graph). IsGraphOf x all) (sym c.self.view_is) r) off) ∙ c.self.view_is

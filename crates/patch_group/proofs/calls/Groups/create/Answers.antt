@@ -1,4 +1,4 @@
-use Rattle.std.proofs.Common.{false, refl, ◌≤◌, ◌+◌, ◌∙◌, arith, sym, ap, subst, length, map}
+use Rattle.std.proofs.Common.{refl, ◌≤◌, ◌+◌, ◌∙◌, arith, sym, ap, subst, length, map}
 use Rattle.std.proofs.lemmas.List.{length_push}
 use Rattle.std.proofs.lemmas.Result.{IfOk-from_err}
 use Rattle.patch_group.specs.declared.refusals.GroupRefusal.TheVariants.{OutOfMemory as NoMemory}

@@ -1,11 +1,8 @@
-use Rattle.std.proofs.Common.{◌≡◌, ◌++◌, ◌∷◌, [], None, inl, refl, sym, subst, length}
+use Rattle.std.proofs.Common.{◌≡◌, ◌++◌, ◌∷◌, [], None, inl, refl, sym, subst}
 use Rattle.std.specs.Prelude.{IfOk, IfErr, OnOk}
 use Rattle.std.proofs.lemmas.Result.{IfOk-weaker, IfErr-weaker}
 use Rattle.patch_model.specs.Execution.{extended}
-use Rattle.patch_model.specs.Refusing.{why_not_made}
-use Rattle.patch_model.specs.State.{entries_of}
-use Rattle.patch_model.specs.Step.{Create}
-use Rattle.patch_cache.specs.Meaning.{Represents}
+use Rattle.patch_cache.specs.Meaning.{IsCacheOf}
 use Rattle.patch_cache.specs.Refusals.{create_cause}
 use Rattle.patch_plans.specs.Groups.{with_patch, patch_of, why_not_patched}
 use Rattle.patch_group.specs.Refusals.{IsCauseOf}
@@ -14,7 +11,7 @@ use Rattle.patch_group.proofs.calls.Groups.create_given.Goals as goal
 
 pub returns-in-Some-clause-made : goal.returns-in-Some-clause-made
 returns-in-Some-clause-made g c run r =
-    subst (λ w. OnOk c.create_owned.result (Represents c.create_owned.new.cache (extended run (patch_of c.args.self.now w c.args.block c.args.start c.args.bytes c.args.after c.args.undo)))) (sym c.in-Some.is) (c.create_owned.ensures.made run r)
+    subst (λ w. OnOk c.create_owned.result (IsCacheOf c.create_owned.new.cache (extended run (patch_of c.args.self.now w c.args.block c.args.start c.args.bytes c.args.after c.args.undo)))) (sym c.in-Some.is) (c.create_owned.ensures.made run r)
 
 pub returns-in-Some-clause-number : goal.returns-in-Some-clause-number
 returns-in-Some-clause-number g c run r = c.create_owned.ensures.number run r
@@ -43,9 +40,8 @@ returns-in-Some-clause-refused_cache g c = c.create_owned.ensures.refused_cache
 
 pub returns-in-None-clause-made : goal.returns-in-None-clause-made
 returns-in-None-clause-made g c run r =
-    subst (λ w. OnOk c.create_owned-in-None.result (Represents c.create_owned-in-None.new.self (extended run (patch_of c.args.self.now w c.args.block c.args.start c.args.bytes c.args.after c.args.undo)))) (sym c.in-None.is)
-    (subst (λ names. OnOk c.create_owned-in-None.result (Represents c.create_owned-in-None.new.self (extended run (Create c.args.block c.args.start c.args.bytes names c.args.undo)))) c.listed.ensures
-    (done-from c.create_owned-in-None.result _ _ (λ no h. h.2) (c.create_owned-in-None.ensures.made run r)))
+    subst (λ w. OnOk c.create_owned-in-None.result (IsCacheOf c.create_owned-in-None.new.self (extended run (patch_of c.args.self.now w c.args.block c.args.start c.args.bytes c.args.after c.args.undo)))) (sym c.in-None.is)
+    (done-from c.create_owned-in-None.result _ _ (λ no h. h.2) (c.create_owned-in-None.ensures.made run r))
 
 pub returns-in-None-clause-number : goal.returns-in-None-clause-number
 returns-in-None-clause-number g c run r = IfOk-weaker c.create_owned-in-None.result _ _ (λ no h. h.1) (c.create_owned-in-None.ensures.made run r)
@@ -53,8 +49,7 @@ returns-in-None-clause-number g c run r = IfOk-weaker c.create_owned-in-None.res
 pub returns-in-None-clause-allowed : goal.returns-in-None-clause-allowed
 returns-in-None-clause-allowed g c run r =
     subst (λ w. OnOk c.create_owned-in-None.result (why_not_patched run c.args.self.now w c.args.block c.args.start c.args.bytes c.args.after ≡ None)) (sym c.in-None.is)
-    (subst (λ names. OnOk c.create_owned-in-None.result (why_not_made (length run.first) (entries_of run) c.args.block c.args.start c.args.bytes names ≡ None)) c.listed.ensures
-    (done-from c.create_owned-in-None.result _ _ (λ no h. h.0) (c.create_owned-in-None.ensures.made run r)))
+    (done-from c.create_owned-in-None.result _ _ (λ no h. h.0) (c.create_owned-in-None.ensures.made run r))
 
 pub returns-in-None-clause-joined : goal.returns-in-None-clause-joined
 returns-in-None-clause-joined g c =
@@ -63,13 +58,12 @@ returns-in-None-clause-joined g c =
 pub returns-in-None-clause-cause : goal.returns-in-None-clause-cause
 returns-in-None-clause-cause g c run r =
     subst (λ w. IfErr c.create_owned-in-None.result (λ refusal. IsCauseOf (why_not_patched run c.args.self.now w c.args.block c.args.start c.args.bytes c.args.after) (create_cause refusal))) (sym c.in-None.is)
-    (subst (λ names. IfErr c.create_owned-in-None.result (λ refusal. IsCauseOf (why_not_made (length run.first) (entries_of run) c.args.block c.args.start c.args.bytes names) (create_cause refusal))) c.listed.ensures
-    (IfErr-weaker c.create_owned-in-None.result _ _ (λ refusal h. inl h) (c.create_owned-in-None.ensures.cause run r)))
+    (IfErr-weaker c.create_owned-in-None.result _ _ (λ refusal h. inl h) (c.create_owned-in-None.ensures.cause run r))
 
 pub returns-in-None-clause-trace : goal.returns-in-None-clause-trace
 returns-in-None-clause-trace g c =
     subst (λ w. OnOk c.create_owned-in-None.result (c.create_owned-in-None.new.self.trace ≡ c.args.cache.now.trace ++ patch_of c.args.self.now w c.args.block c.args.start c.args.bytes c.args.after c.args.undo ∷ [])) (sym c.in-None.is)
-    (subst (λ names. OnOk c.create_owned-in-None.result (c.create_owned-in-None.new.self.trace ≡ c.args.cache.now.trace ++ Create c.args.block c.args.start c.args.bytes names c.args.undo ∷ [])) c.listed.ensures c.create_owned-in-None.ensures.trace)
+    c.create_owned-in-None.ensures.trace
 
 pub returns-in-None-clause-refused : goal.returns-in-None-clause-refused
 returns-in-None-clause-refused g c = refused-still c.create_owned-in-None.result _ refl

@@ -2,7 +2,7 @@ use Rattle.std.proofs.Common.{◌≡◌, ◌++◌, ◌∷◌, [], ℕ, List, Opt
 use Rattle.std.specs.Prelude.{IfOk, IfErr, OnOk}
 use Rattle.std.proofs.lemmas.Result.{IfOk-from_err, IfOk-weaker, IfErr-weaker}
 use Rattle.patch_model.specs.Execution.{extended}
-use Rattle.patch_cache.specs.Meaning.{Represents}
+use Rattle.patch_cache.specs.Meaning.{IsCacheOf}
 use Rattle.patch_cache.specs.Refusals.{create_cause}
 use Rattle.patch_cache.specs.declared.refusals.CreateRefusal.TheVariants.{OutOfMemory as NoMemory}
 use Rattle.patch_plans.specs.Groups.{with_patch, patch_of, why_not_patched}
@@ -64,7 +64,7 @@ returns-in_err-after-in-Some-clause-refused_cache g c = refused-still c.from_res
 
 pub returns-in_ok-after-in-Some-clause-made : goal.returns-in_ok-after-in-Some-clause-made
 returns-in_ok-after-in-Some-clause-made g c run r =
-    moved (λ w bs ns. OnOk c.create_owned.result (Represents c.create_owned.new.cache (extended run (patch_of c.args.self.now w c.args.block c.args.start bs ns c.args.undo)))) _ _ _ _ _ _ c.in-Some.is c.in_ok-bytes-in-Some.ensures c.in_ok-after-in-Some.ensures
+    moved (λ w bs ns. OnOk c.create_owned.result (IsCacheOf c.create_owned.new.cache (extended run (patch_of c.args.self.now w c.args.block c.args.start bs ns c.args.undo)))) _ _ _ _ _ _ c.in-Some.is c.in_ok-bytes-in-Some.ensures c.in_ok-after-in-Some.ensures
     (c.create_owned.ensures.made run r)
 
 pub returns-in_ok-after-in-Some-clause-number : goal.returns-in_ok-after-in-Some-clause-number
@@ -95,7 +95,7 @@ returns-in_ok-after-in-Some-clause-refused_cache g c = c.create_owned.ensures.re
 
 pub returns-in-None-clause-made : goal.returns-in-None-clause-made
 returns-in-None-clause-made g c run r =
-    subst (λ w. OnOk c.create.result (Represents c.create.new.self (extended run (patch_of c.args.self.now w c.args.block c.args.start c.args.bytes.now c.args.after.now c.args.undo)))) (sym c.in-None.is)
+    subst (λ w. OnOk c.create.result (IsCacheOf c.create.new.self (extended run (patch_of c.args.self.now w c.args.block c.args.start c.args.bytes.now c.args.after.now c.args.undo)))) (sym c.in-None.is)
     (done-from c.create.result _ _ (λ no h. h.2) (c.create.ensures.made run r))
 
 pub returns-in-None-clause-number : goal.returns-in-None-clause-number

@@ -3,7 +3,7 @@ use Rattle.std.specs.Prelude.{Some, None, slice_set}
 use Rattle.std.specs.List.{insert, remove}
 use Rattle.std.proofs.lemmas.List.{length-map, length-set, map-set, set-get_or}
 use Rattle.patch_index.specs.Index.{fields_of, told}
-use Rattle.patch_index.proofs.Kept.{among_used, cleared, same_places, same_orders}
+use Rattle.patch_index.proofs.SlotChanges.{among_used, cleared, same_places, same_orders}
 use Rattle.patch_index.proofs.Slots.{item_is, told_at}
 use Rattle.patch_index.proofs.indexes.Index.clear.Goals as goal
 

@@ -3,7 +3,7 @@ use Rattle.std.specs.Prelude.{None}
 use Rattle.std.specs.List.{insert}
 use Rattle.std.proofs.lemmas.List.{length-map, map-append, length_push}
 use Rattle.patch_index.specs.Index.{told}
-use Rattle.patch_index.proofs.Kept.{lengthened, same_orders}
+use Rattle.patch_index.proofs.SlotChanges.{lengthened, same_orders}
 use Rattle.patch_index.proofs.indexes.Index.push_empty.Goals as goal
 
 pub invariant_of-self-2 : goal.invariant_of-self-2

@@ -5,7 +5,7 @@ use Rattle.std.proofs.lemmas.List.{length-map, length-set, map-set}
 use Rattle.std.proofs.lemmas.List.Edits.{length-remove}
 use Rattle.patch_index.specs.Index.{fields_of, told}
 use Rattle.patch_index.specs.Orders.{place_rank}
-use Rattle.patch_index.proofs.Kept.{among_places, others_by_place, refilled, same_rise, same_place, same_orders}
+use Rattle.patch_index.proofs.SlotChanges.{among_places, others_by_place, refilled, same_rise, same_place, same_orders}
 use Rattle.patch_index.proofs.indexes.Index.refill.Goals as goal
 
 pub place_of-from-requires : goal.place_of-from-requires

@@ -3,7 +3,7 @@ use Rattle.patch_model.specs.Execution.{Execution}
 use Rattle.patch_device.specs.Blocks.{zeros}
 use Rattle.patch_device.specs.MemDevice.{contents_of}
 use Rattle.patch_cache.specs.Flights.{AreFlightsOf}
-use Rattle.patch_cache.specs.Meaning.{Represents}
+use Rattle.patch_cache.specs.Meaning.{IsCacheOf}
 use Rattle.patch_replay.proofs.cached_disk.CachedDisk.new.Goals as goal
 
 -- a cache of these blocks to which nothing has happened
@@ -21,7 +21,7 @@ returns c =
     let read : c.in-Ok.zeros.items ≡ zeros c.args.blocks = c.in-Ok.ensures.gives c.in_ok-device.ensures.honest ∙ device in
     record {
       runs = record {
-        cache_is = subst (λ (blocks : List (List ℕ)). Represents c.in_ok-cache.cache (at_first blocks)) read c.in_ok-cache.ensures.answer;
+        cache_is = subst (λ (blocks : List (List ℕ)). IsCacheOf c.in_ok-cache.cache (at_first blocks)) read c.in_ok-cache.ensures.answer;
         flights_are = subst (λ held. AreFlightsOf (at_first (zeros c.args.blocks)) held) (sym c.new-2.ensures) (none_held (zeros c.args.blocks));
       };
       groups = c.new-3.ensures;

@@ -13,9 +13,9 @@ returns-then-is_err-clause-answer c = λ w at.
     let past : length w.run.first ≤ c.args.span.block = omega (arith, none, c.number_of.ensures, counted c.args.self.now w at) in
     (rw (no_block (length w.run.first) c.args.span.block c.args.span.start c.args.span.len past) (ap Refused c.bare.ensures), refl)
 
-pub returns-in_ok-copied-in-Some-clause-answer : goal.returns-in_ok-copied-in-Some-clause-answer
+pub returns-in_ok-from_slice-in-Some-clause-answer : goal.returns-in_ok-from_slice-in-Some-clause-answer
 unfolding IsAnswered
-returns-in_ok-copied-in-Some-clause-answer c = λ w at.
+returns-in_ok-from_slice-in-Some-clause-answer c = λ w at.
     let read = on_ok c.read.result _ (sym c.is_err.ensures.value ∙ c.if-is_err.false) c.read.ensures.gives in
     let found = on_disk c.args.self.now w at c.number_of.result c.args.span.block _ c.number_of.ensures read in
     let part = c.in-Some.ensures in
@@ -23,7 +23,7 @@ returns-in_ok-copied-in-Some-clause-answer c = λ w at.
     let size = part.0 in
     let fits : c.args.span.start + c.args.span.len ≤ BLOCK = omega (arith, size, whole) in (
       rw (shown (length w.run.first) c.args.span.block c.args.span.start c.args.span.len found.known fits)
-          (ap OnDisk (c.in_ok-copied-in-Some.ensures ∙ part.1 ∙ ap (λ bytes. bytes_in bytes c.args.span) (sym found.is))),
+          (ap OnDisk (c.in_ok-from_slice-in-Some.ensures ∙ part.1 ∙ ap (λ bytes. bytes_in bytes c.args.span) (sym found.is))),
       refl,
     )
 

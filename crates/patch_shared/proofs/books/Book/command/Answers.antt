@@ -3,7 +3,7 @@ use Rattle.patch_cache.specs.Contents.{Contents}
 use Rattle.patch_history.specs.Commands.{command_of, reply_told}
 use Rattle.patch_store.specs.Meaning.{Answers}
 use Rattle.patch_shared.specs.declared.actors.Actor.TheVariants.{Writer}
-use Rattle.patch_shared.specs.Kept.{Entry, IsKept}
+use Rattle.patch_shared.specs.Books.{Entry, IsKept}
 use Rattle.patch_shared.specs.Calling.{raised}
 use Rattle.patch_shared.proofs.Keeping.{kept_call, count_fits}
 use Rattle.patch_shared.proofs.Calls.{called_by, pushed_is}

@@ -1,6 +1,6 @@
 use Rattle.std.proofs.Common.{arith, ◌∙◌, sym, ap, refl}
 use Rattle.patch_cache.specs.Contents.{Contents}
-use Rattle.patch_shared.specs.Kept.{is_completion}
+use Rattle.patch_shared.specs.Books.{is_completion}
 use Rattle.patch_shared.proofs.Keeping.{steps_fit}
 use Rattle.patch_shared.proofs.Calls.{kept_ended, ended_by, stranger_to}
 use Rattle.patch_shared.proofs.books.Book.complete.Goals as goal

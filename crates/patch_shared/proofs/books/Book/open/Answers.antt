@@ -1,6 +1,6 @@
 use Rattle.std.proofs.Common.{sym, ap, subst, map, refl}
-use Rattle.patch_cache.specs.Meaning.{Represents as IsCacheOf}
-use Rattle.patch_shared.specs.Kept.{entry_of}
+use Rattle.patch_cache.specs.Meaning.{IsCacheOf}
+use Rattle.patch_shared.specs.Books.{entry_of}
 use Rattle.patch_shared.proofs.Calls.{kept_open, opened_on}
 use Rattle.patch_shared.proofs.books.Book.open.Goals as goal
 

@@ -1,4 +1,4 @@
-use Rattle.std.proofs.Common.{◌<◌, ◌∙◌, ◌++◌, ◌∷◌, [], refl, length, map, sym, ap, subst, arith}
+use Rattle.std.proofs.Common.{◌<◌, ◌∙◌, ◌++◌, ◌∷◌, [], refl, append-nil, length, map, sym, ap, subst, arith}
 use Rattle.std.specs.Prelude.{Some, None}
 use Rattle.std.proofs.lemmas.List.{length-set}
 use Rattle.patch_history.specs.Shelf.{Shelf}
@@ -10,9 +10,6 @@ use Rattle.patch_store.proofs.stores.Store.clear_slot.Goals as goal
 
 pub returns-in_default : goal.returns-in_default
 returns-in_default g c = refl
-
-pub returns-in_default-numbers_of : goal.returns-in_default-numbers_of
-returns-in_default-numbers_of g c = refl
 
 pub invariant_of-self : goal.invariant_of-self
 invariant_of-self g c = c.self.invariant
@@ -45,7 +42,7 @@ invariant_of-self-in_default-lay_slot g c =
     whole_with c.self.inside.geometry s s.slots s.last_delete _ c.self.invariant refl (long_left (λ v. v.items) c.self.inside.left.items c.in-Some.entry.extent c.reserve.new.self)
 
 pub push_reserved-requires : goal.push_reserved-requires
-push_reserved-requires g c = let room = c.in-Ok-reserve.ensures.ok in omega (arith, room)
+push_reserved-requires g c = let room = c.in-Ok.ensures.ok in omega (arith, room)
 
 pub clear-requires : goal.clear-requires
 clear-requires g c = subst (λ (x : Store). c.args.slot < length x.shelf.slots) (sym c.self.view_is) c.requires
@@ -86,7 +83,7 @@ returns g c =
       left = map (λ v. v.items) c.self.inside.left.items;
     } in
     let within : e < length c.self.inside.left.items = let l = c.in-Some-get_mut.ensures.variant.0 refl in let long = c.self.inside.left.ok.0 in omega (arith, l, long) in
-    cleared_view c.args.writer c.args.slot c.in-Ok-lay_slot.no c.in-Ok.names _ _ _ c.self.view_is c.in-Ok.ensures c.in-Ok-lay_slot.ensures
+    cleared_view c.args.writer c.args.slot c.in-Ok-lay_slot.no c.of_some-names.result _ _ _ c.self.view_is (c.of_some-names.ensures ∙ append-nil _) c.in-Ok-lay_slot.ensures
     (shelf_cleared s c.in-Ok-lay_slot.no c.args.slot (fields_of c.in-Some.entry) c.clear.new.self _ c.clear.ensures (sym c.entry.ensures ∙ ap told c.in-Some.is)
     (more_left (λ v. v.items) c.self.inside.left.items e c.in-Ok-lay_slot.no c.push_reserved.new.self c.in-Some-get_mut.left.now within
     (c.push_reserved.ensures.items ∙ ap (λ xs. xs ++ c.in-Ok-lay_slot.no ∷ []) c.reserve.ensures.items) c.in-Some-get_mut.ensures.value)) refl

@@ -1,6 +1,6 @@
 use Rattle.std.proofs.Common.{sym, subst}
 use Rattle.patch_history.specs.History.{execution_of}
-use Rattle.patch_store.specs.Meaning.{Represents}
+use Rattle.patch_store.specs.Meaning.{IsStoreOf}
 use Rattle.patch_store.proofs.Writing.{ended_at}
 use Rattle.patch_store.proofs.stores.Store.complete.Goals as goal
 
@@ -9,5 +9,5 @@ returns-clause-done g c h = ended_at c.histories_extend.ensures c.self.view_is h
 
 pub returns-clause-stranger : goal.returns-clause-stranger
 returns-clause-stranger g c h was =
-    let w = subst (λ s. Represents s h) (sym c.self.view_is) was in
+    let w = subst (λ s. IsStoreOf s h) (sym c.self.view_is) was in
     c.complete.ensures.stranger (execution_of h) w.cache_is

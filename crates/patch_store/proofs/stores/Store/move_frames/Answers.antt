@@ -1,6 +1,6 @@
-use Rattle.std.proofs.Common.{◌<◌, ◌≤◌, ◌∙◌, length, sym, arith}
+use Rattle.std.proofs.Common.{◌<◌, ◌≤◌, length, arith}
 use Rattle.std.proofs.lemmas.Option.{get_or_from_slice_get}
-use Rattle.patch_store.proofs.Reclaims.{none_moved, slot_moved, slot_stopped, slot_missed, all_moved}
+use Rattle.patch_store.proofs.Reclaims.{none_moved, slot_moved, slot_stopped, all_moved}
 use Rattle.patch_store.proofs.stores.Store.move_frames.Goals as goal
 
 pub loop-at-init : goal.loop-at-init
@@ -10,19 +10,14 @@ loop-at-init g c h extent is =
 pub loop-at-preserved : goal.loop-at-preserved
 loop-at-preserved g c h extent is =
     let within : c.loop-at.at < length c.args.slots.now = let t = c.loop-at-test.true in let e = c.loop-at.auto.at-end in let n = c.len-at-end.ensures in omega (arith, t, e, n) in
-    slot_moved c.laws_below.ensures h extent c.args.slots.now c.args.self.now is c.loop-at.at c.in-Some.slot within (get_or_from_slice_get c.args.slots.now c.loop-at.at c.in-Some.slot c.in-Some.slot (sym c.get.ensures ∙ c.in-Some.is)) c.loop-at.self (c.loop-at.invariant h extent is) c.move_frame.new.self
+    slot_moved c.laws_below.ensures h extent c.args.slots.now c.args.self.now is c.loop-at.at c.nth-slot.result within (get_or_from_slice_get c.args.slots.now c.loop-at.at c.nth-slot.result c.nth-slot.result c.nth-slot.ensures) c.loop-at.self (c.loop-at.invariant h extent is) c.move_frame.new.self
     (λ at e d m. c.in-Ok.ensures at e d m)
 
 pub returns-in_default : goal.returns-in_default
 returns-in_default g c h extent is =
     let within : c.loop-at.at < length c.args.slots.now = let t = c.loop-at-test.true in let e = c.loop-at.auto.at-end in let n = c.len-at-end.ensures in omega (arith, t, e, n) in
-    slot_missed c.laws_below.ensures h extent c.args.slots.now c.args.self.now is c.loop-at.at c.loop-at.self within (c.loop-at.invariant h extent is)
-
-pub returns-in_default-move_frame : goal.returns-in_default-move_frame
-returns-in_default-move_frame g c h extent is =
-    let within : c.loop-at.at < length c.args.slots.now = let t = c.loop-at-test.true in let e = c.loop-at.auto.at-end in let n = c.len-at-end.ensures in omega (arith, t, e, n) in
-    slot_stopped c.laws_below.ensures h extent c.args.slots.now c.args.self.now is c.loop-at.at c.in-Some.slot within (get_or_from_slice_get c.args.slots.now c.loop-at.at c.in-Some.slot c.in-Some.slot (sym c.get.ensures ∙ c.in-Some.is)) c.loop-at.self (c.loop-at.invariant h extent is) c.move_frame.new.self
-    (λ at e d m. c.in_default-move_frame.ensures at e d m)
+    slot_stopped c.laws_below.ensures h extent c.args.slots.now c.args.self.now is c.loop-at.at c.nth-slot.result within (get_or_from_slice_get c.args.slots.now c.loop-at.at c.nth-slot.result c.nth-slot.result c.nth-slot.ensures) c.loop-at.self (c.loop-at.invariant h extent is) c.move_frame.new.self
+    (λ at e d m. c.in_default.ensures at e d m)
 
 pub returns : goal.returns
 returns g c h extent is =

@@ -1,5 +1,5 @@
 use Rattle.std.proofs.Common.{◌∙◌, refl, sym, subst}
-use Rattle.patch_cache.specs.Meaning.{Represents as IsCacheOf}
+use Rattle.patch_cache.specs.Meaning.{IsCacheOf}
 use Rattle.patch_recovery.specs.Reading.{ledger_in}
 use Rattle.patch_store.specs.Opening.{unchanged}
 use Rattle.patch_store.proofs.Opened.{shelf_opens}

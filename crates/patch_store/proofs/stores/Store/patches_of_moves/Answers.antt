@@ -9,7 +9,7 @@ use Rattle.patch_index.specs.Said.{length-slots_of}
 use Rattle.patch_store.specs.Meaning.{Store}
 use Rattle.patch_store.specs.Moving.{live_slots}
 use Rattle.patch_store.specs.Trials.{Alike}
-use Rattle.patch_store.proofs.Summed.{AreTried, is_read, never_empty, never_past, none_tried, more_tried, no_room_left, all_tried}
+use Rattle.patch_store.proofs.Summed.{AreTried, is_read, never_empty, none_tried, more_tried, no_room_left, all_tried}
 use Rattle.patch_store.proofs.stores.Store.patches_of_moves.Goals as goal
 
 pub loop-at-init : goal.loop-at-init
@@ -20,27 +20,21 @@ loop-at-init g c = (
 
 pub returns-in_default-clause-count : goal.returns-in_default-clause-count
 returns-in_default-clause-count g c h extent was same =
-    let there = c.loop-at-test.true in
-    let end = c.len-at-end.ensures in
-    absurd (never_past c.args.live.now c.loop-at.at (omega (arith, there, end)) (sym c.get.ensures ∙ c.in_default.is))
-
-pub returns-in_default-entry-clause-count : goal.returns-in_default-entry-clause-count
-returns-in_default-entry-clause-count g c h extent was same =
-    let slot = c.in-Some.slot in
+    let slot = c.nth-slot.result in
     let says : told c.entry.result ≡ get_or c.args.self.now.shelf.slots slot None =
     ◌∙◌ {b = get_or c.self.inside.index slot None} c.entry.ensures (ap (λ (x : Store). get_or x.shelf.slots slot None) c.self.view_is) in
-    absurd (never_empty h c.args.self.now c.args.live.now extent c.loop-at.at slot was same (sym c.get.ensures ∙ c.in-Some.is)
-    (ap told (sym c.in_default-entry.is) ∙ says))
+    absurd (never_empty h c.args.self.now c.args.live.now extent c.loop-at.at slot was same c.nth-slot.ensures
+    (ap told (sym c.in_default.is) ∙ says))
 
 pub returns-in_default-try_frame-clause-count : goal.returns-in_default-try_frame-clause-count
 returns-in_default-try_frame-clause-count g c h extent was same =
-    let slot = c.in-Some.slot in
+    let slot = c.nth-slot.result in
     let says : told c.entry.result ≡ get_or c.args.self.now.shelf.slots slot None =
     ◌∙◌ {b = get_or c.self.inside.index slot None} c.entry.ensures (ap (λ (x : Store). get_or x.shelf.slots slot None) c.self.view_is) in
-    let entry = c.in-Some-entry.entry in
+    let entry = c.in-Some.entry in
     let read = is_read c.commands_fit.ensures.frames c.frames_are_read_again.ensures.length h c.args.self.now c.args.live.now extent c.loop-at.at slot entry was same
-    (sym c.get.ensures ∙ c.in-Some.is)
-    (ap told (sym c.in-Some-entry.is) ∙ says) in
+    c.nth-slot.ensures
+    (ap told (sym c.in-Some.is) ∙ says) in
     let rest = drop (c.loop-at.at + 1) (live_frames (standing_of h).shelf extent) in
     no_room_left (standing_of h) extent read.frame rest c.loop-at.count entry.length c.loop-at.trial c.try_frame.new.self
     (subst (λ fs. AreTried (standing_of h) extent fs c.loop-at.count c.loop-at.trial) read.rest (c.loop-at.invariant.1 h extent was same))
@@ -52,13 +46,13 @@ loop-at-preserved g c =
     let few = c.in-Some-try_frame.ensures.few in (
       omega (arith, low, few),
       λ h extent was same.
-          let slot = c.in-Some.slot in
+          let slot = c.nth-slot.result in
           let says : told c.entry.result ≡ get_or c.args.self.now.shelf.slots slot None =
           ◌∙◌ {b = get_or c.self.inside.index slot None} c.entry.ensures (ap (λ (x : Store). get_or x.shelf.slots slot None) c.self.view_is) in
-          let entry = c.in-Some-entry.entry in
+          let entry = c.in-Some.entry in
           let read = is_read c.commands_fit.ensures.frames c.frames_are_read_again.ensures.length h c.args.self.now c.args.live.now extent c.loop-at.at slot entry was same
-          (sym c.get.ensures ∙ c.in-Some.is)
-          (ap told (sym c.in-Some-entry.is) ∙ says) in
+          c.nth-slot.ensures
+          (ap told (sym c.in-Some.is) ∙ says) in
           let rest = drop (c.loop-at.at + 1) (live_frames (standing_of h).shelf extent) in
           more_tried (standing_of h) extent read.frame rest c.loop-at.count entry.length c.in-Some-try_frame.patches c.loop-at.trial c.try_frame.new.self
           (subst (λ fs. AreTried (standing_of h) extent fs c.loop-at.count c.loop-at.trial) read.rest (c.loop-at.invariant.1 h extent was same))

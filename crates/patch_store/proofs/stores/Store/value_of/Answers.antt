@@ -1,6 +1,6 @@
 use Rattle.std.proofs.Common.{◌∙◌, ◌+◌, ◌-◌, length, sym, ap, subst}
-use Rattle.patch_cache.specs.Meaning.{Represents as IsCacheOf}
-use Rattle.patch_plans.specs.Meaning.{Represents as AreExtentsOf}
+use Rattle.patch_cache.specs.Meaning.{IsCacheOf}
+use Rattle.patch_plans.specs.Meaning.{AreExtentsOf}
 use Rattle.patch_extent.specs.Answers.{cached_bytes}
 use Rattle.patch_index.specs.Index.{fields_of}
 use Rattle.patch_store.specs.Getting.{value_bytes}

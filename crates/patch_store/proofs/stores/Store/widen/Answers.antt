@@ -1,5 +1,5 @@
 use Rattle.std.proofs.Common.{◌∙◌, refl, ap, map, subst}
-use Rattle.patch_cache.specs.Meaning.{Represents as IsCacheOf}
+use Rattle.patch_cache.specs.Meaning.{IsCacheOf}
 use Rattle.patch_plans.specs.Extents.{Extents}
 use Rattle.patch_history.specs.Shelf.{Shelf}
 use Rattle.patch_store.specs.Meaning.{Store}
