@@ -13,7 +13,7 @@ cat > crates/my_engine/src/main.rt <<'END'
 #![tactic(auto)]
 
 ghost use Rattle.std.specs.Prelude.{◌≡◌, ◌<◌, length, IfOk, OnOk};
-ghost use Rattle.patch_cache.specs.Meaning.{Represents};
+ghost use Rattle.patch_cache.specs.Meaning.{IsCacheOf};
 ghost use Rattle.my_engine.specs.Text.{laid, text_in, IsNoneOrAll, Begins, Ends, AtEachMoment};
 
 use anyhow::{Result, bail};
@@ -30,7 +30,7 @@ const TEXT: &[u8] = b"no length without its bytes";
 fn laid_on(alloc: Global, blocks: Vec<BlockBytes>, text: &[u8]) -> Result<Cache>
     requires two { length blocks.items ≡ 2 }
     requires short { length text.now < 256 }
-    ensures { IfOk result (λ cache. Represents cache (laid blocks.items text.now)) }
+    ensures { IfOk result (λ cache. IsCacheOf cache (laid blocks.items text.now)) }
 {
     let mut cache = Cache::open(alloc, blocks)?;
     let bytes = cache.create(BlockNo(0), 0, text, &[], Undo::Keep)?;
@@ -163,7 +163,7 @@ use Rattle.patch_model.specs.State.{has_flight}
 use Rattle.patch_device.specs.SameDevice.{IsSameDevice, LeavesOnly}
 use Rattle.patch_device.specs.declared.devices.Device.{Ghosts}
 use Rattle.patch_cache.specs.Contents.{Contents}
-use Rattle.patch_cache.specs.Meaning.{Represents}
+use Rattle.patch_cache.specs.Meaning.{IsCacheOf}
 use Rattle.patch_cache.specs.Flights.{AreFlightsBeside}
 use Rattle.patch_cache.specs.Running.{RunsBeside, held_by}
 use Rattle.patch_cache.specs.Waves.{is_write, steps_since, HasGoneOnBeside, KeepsDiskBeside, IsFlushed}
@@ -326,7 +326,7 @@ abbrev pub Kept : {A D : Type 0} → Ghosts D → (old now : Contents) → Fligh
 Kept g old now flights before after = g.is_honest before → (others : Bool) → KeepsDiskBeside g others old now flights before after
 
 -- where no write is under way and none is held
-pub runs_still : {A : Type 0} → (old : Contents) (flights : Flights A) (run : Execution) → Represents old run → (state_of run).flights ≡ [] → held_by flights ≡ [] → RunsBeside false old flights run
+pub runs_still : {A : Type 0} → (old : Contents) (flights : Flights A) (run : Execution) → IsCacheOf old run → (state_of run).flights ≡ [] → held_by flights ≡ [] → RunsBeside false old flights run
 runs_still {A = A} old flights run shows none empty = record {
   cache_is = shows;
   flights_are = subst (λ held. AreFlightsBeside false run held) (sym empty) (let still : AreFlightsBeside {A = A} false run [] = record {
@@ -378,7 +378,7 @@ use Rattle.patch_model.specs.Crash.{MayLeave}
 use Rattle.patch_device.specs.SameDevice.{IsSameDevice, LeavesOnly}
 use Rattle.patch_device.specs.declared.devices.Device.{Ghosts}
 use Rattle.patch_cache.specs.Contents.{Contents}
-use Rattle.patch_cache.specs.Meaning.{Represents}
+use Rattle.patch_cache.specs.Meaning.{IsCacheOf}
 use Rattle.patch_cache.specs.Running.{RunsBeside, held_by}
 use Rattle.patch_cache.specs.Waves.{steps_since, IsFlushed}
 use Rattle.patch_cache.specs.declared.flights.Flights.{Flights}
@@ -421,7 +421,7 @@ laid_left g device (a ∷ b ∷ c ∷ blocks) text two begins disk left = absurd
 -- So a flush of both keeps what the engine promises.
 
 pub cuts : ClosedLaw → OrderlyLaw → {A D : Type 0} → (g : Ghosts D) (old now : Contents) (flights held : Flights A) (before after : D) (blocks : List (List ℕ)) (text : List ℕ)
-    → length blocks ≡ 2 → Represents old (laid blocks text) → held_by flights ≡ [] → Ran old now flights held → Kept g old now flights before after → IsSameDevice g before after
+    → length blocks ≡ 2 → IsCacheOf old (laid blocks text) → held_by flights ≡ [] → Ran old now flights held → Kept g old now flights before after → IsSameDevice g before after
     → Begins g before blocks → AtEachMoment g before after (IsNoneOrAll text)
 cuts closes orders g old now flights held before after blocks text two shows empty ran kept same begins t disk late early left =
     let run = laid blocks text in
@@ -430,7 +430,7 @@ cuts closes orders g old now flights held before after blocks text two shows emp
     (laid_left g before blocks text two begins) t disk late early left)
 
 pub ends : {A D : Type 0} → (g : Ghosts D) (old now : Contents) (flights held : Flights A) (before after : D) (blocks : List (List ℕ)) (text : List ℕ)
-    → length blocks ≡ 2 → Represents old (laid blocks text) → held_by flights ≡ [] → Ran old now flights held → Kept g old now flights before after
+    → length blocks ≡ 2 → IsCacheOf old (laid blocks text) → held_by flights ≡ [] → Ran old now flights held → Kept g old now flights before after
     → ((run : Execution) → RunsBeside false old flights run → IsFlushed (followed_by run (steps_since old now))) → g.left_at after (g.moment after) (g.contents after)
     → Begins g before blocks → text_in (g.contents after) ≡ text
 ends g old now flights held before after blocks text two shows empty ran kept flushed lands begins =
@@ -471,7 +471,7 @@ use Rattle.std.proofs.Common.{[], ◌∷◌, length, subst}
 use Rattle.patch_model.specs.declared.patches.Undo.TheVariants.{Keep}
 use Rattle.patch_model.specs.Step.{Create}
 use Rattle.patch_model.specs.Execution.{Execution}
-use Rattle.patch_cache.specs.Meaning.{Represents}
+use Rattle.patch_cache.specs.Meaning.{IsCacheOf}
 use Rattle.my_engine.proofs.laid_on.Goals as goal
 
 pub returns : goal.returns
@@ -479,7 +479,7 @@ returns c =
     let text = c.args.text.now in
     let one = c.in_ok-bytes.ensures.made _ c.in_ok-cache.ensures.answer in
     let both = c.in_ok-create.ensures.made _ one.2 in
-    subst (λ n. Represents c.create-2.new.self (let run : Execution = record { first = c.args.blocks.items; steps = Create 0 0 text [] Keep ∷ Create 1 0 (length text ∷ []) (n ∷ []) Keep ∷ [] } in run)) one.1 both.2
+    subst (λ n. IsCacheOf c.create-2.new.self (let run : Execution = record { first = c.args.blocks.items; steps = Create 0 0 text [] Keep ∷ Create 1 0 (length text ∷ []) (n ∷ []) Keep ∷ [] } in run)) one.1 both.2
 END
 
 cat > crates/my_engine/stdout <<'END'
