@@ -158,7 +158,7 @@ use Rattle.patch_model.specs.Legal.{IsLegal, AreLegal}
 use Rattle.patch_model.specs.Orderly.{IsOrderly}
 use Rattle.patch_model.specs.Crash.{IsClosed, MayLeave, HasTrail, crash_set, disk_of}
 use Rattle.patch_model.specs.Member.{In, Contains-from_In, map-In, filter-In, list_any-from, list_any-at}
-use Rattle.patch_model.specs.Kept.{patch-sent, patch-landed}
+use Rattle.patch_model.specs.Unchanged.{patch-sent, patch-landed}
 use Rattle.patch_model.specs.State.{has_flight}
 use Rattle.patch_device.specs.SameDevice.{IsSameDevice, LeavesOnly}
 use Rattle.patch_device.specs.declared.devices.Device.{Ghosts}
