@@ -34,7 +34,7 @@ is_not : (b : Bool) → (b ≡ true → ⊥) → b ≡ false
 is_not true isnt = absurd (isnt refl)
 is_not false isnt = refl
 
-in_range : (slots : List (Option SlotFields)) (s : ℕ) → is_used slots s ≡ true → s < length slots
+pub in_range : (slots : List (Option SlotFields)) (s : ℕ) → is_used slots s ≡ true → s < length slots
 in_range slots s used = elim (cases_Bool (nat_lt s (length slots))) [
   | inl less ↦ grind (arith, nat_tests, less)
   | inr past ↦
@@ -62,7 +62,7 @@ not_below Less n is = absurd (let g : false ≡ true = is in cc)
 not_below Equal n is = grind (arith, nat_tests)
 not_below Greater n is = absurd (let g : false ≡ true = is in cc)
 
-tied_below : (o : Ordering) (n m : ℕ) → is_eq o ≡ true → is_lt (ordering_then o (nat_cmp n m)) ≡ true → n < m
+pub tied_below : (o : Ordering) (n m : ℕ) → is_eq o ≡ true → is_lt (ordering_then o (nat_cmp n m)) ≡ true → n < m
 tied_below Less n m tie is = absurd (let g : false ≡ true = tie in cc)
 tied_below Equal n m tie is = grind (arith, nat_tests, is)
 tied_below Greater n m tie is = absurd (let g : false ≡ true = tie in cc)
@@ -145,7 +145,7 @@ empty_of slots k is = elim (cases_Bool (nat_lt k (length slots))) [
   | inr past ↦ let g : false ≡ true = sym (ap (λ b. b && is_none (get_or slots k None)) past) ∙ is in absurd (cc)
 ]
 
-empty_from : (slots : List (Option SlotFields)) (k : ℕ) → k < length slots → is_none (get_or slots k None) ≡ true → is_empty slots k ≡ true
+pub empty_from : (slots : List (Option SlotFields)) (k : ℕ) → k < length slots → is_none (get_or slots k None) ≡ true → is_empty slots k ≡ true
 empty_from slots k less is = let inside : nat_lt k (length slots) ≡ true = grind (arith, nat_tests, less) in rw (inside, is) refl
 
 pub first_empty : (slots : List (Option SlotFields)) (order : List ℕ) → IsOrder unranked (is_empty slots) order → 0 < length order → position is_none slots ≡ Some (get_or order 0 0)

@@ -6,4 +6,5 @@ pub mod Alone
 pub mod Framed
 pub mod Parts
 pub mod SlotChanges
+pub mod Counted
 pub mod Comparing

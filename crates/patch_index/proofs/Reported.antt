@@ -11,7 +11,7 @@ use Rattle.patch_index.specs.Live.{slots_of, live_behind, AreSaid}
 use Rattle.patch_index.specs.Reporting.{of_slot, of_slots, length_told, live_bytes}
 use Rattle.patch_index.specs.Said.{said_behind}
 
-slots_push : (slots : List (Option SlotFields)) (slot : Option SlotFields) → of_slots (slots ++ slot ∷ []) ≡ of_slots slots ++ of_slots (slot ∷ [])
+pub slots_push : (slots : List (Option SlotFields)) (slot : Option SlotFields) → of_slots (slots ++ slot ∷ []) ≡ of_slots slots ++ of_slots (slot ∷ [])
 slots_push [] slot = refl
 slots_push (None ∷ slots) slot = slots_push slots slot
 slots_push (Some f ∷ slots) slot = ap (λ es. of_slot f ∷ es) (slots_push slots slot)

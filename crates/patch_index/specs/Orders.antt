@@ -1,5 +1,5 @@
 -- Slots in an order, by what they are ranked by.
-use Rattle.std.specs.Prelude.{ℕ, Bool, ◌≡◌, ◌+◌, ◌≤◌, ◌==◌, ◌&&◌, true, false, List, [], ◌∷◌, length, nat_lt, slice_index_or, Option, Some, None, is_some, is_none}
+use Rattle.std.specs.Prelude.{ℕ, Bool, ◌≡◌, ◌+◌, ◌<◌, ◌≤◌, ◌==◌, ◌&&◌, true, false, List, [], ◌∷◌, length, nat_lt, slice_index_or, Option, Some, None, is_some, is_none}
 use Rattle.std.specs.Cmp.Lexicographic.{slice_cmp}
 use Rattle.std.specs.List.{AllPairs, list_any}
 use Rattle.std.specs.List.Sorted.{IsPartitionPoint}
@@ -54,6 +54,14 @@ is_used slots slot = is_some (slice_index_or slots slot None)
 
 abbrev pub is_empty : List (Option SlotFields) → ℕ → Bool
 is_empty slots slot = nat_lt slot (length slots) && is_none (slice_index_or slots slot None)
+
+-- the slot has so many others before it, but for the empty ones: each of those lies below it or above
+pub record IsBehind (empty : List ℕ) (number slot : ℕ) : Type 0 where
+  pub count : ℕ
+  pub is : slot ≡ number + count
+  pub within : count ≤ length empty
+  pub below : (i : ℕ) → i < count → slice_index_or empty i 0 < slot
+  pub above : (i : ℕ) → count ≤ i → i < length empty → slot < slice_index_or empty i 0
 
 -- the empty slots, and the used ones by key and by place
 pub record AreOrders (slots : List (Option SlotFields)) (empty by_key by_place : List ℕ) : Type 0 where

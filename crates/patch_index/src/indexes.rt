@@ -8,7 +8,7 @@ ghost use Rattle.patch_index.specs.Live.{live_behind};
 use crate::entries::Entry;
 use crate::live_slots::LiveSlots;
 use crate::reports::EntryReport;
-use crate::searching::{find_key, live_part, place_of, places_of};
+use crate::searching::{find_key, live_part, place_of, places_of, used_slot};
 use patch_model::OutOfMemory;
 use patch_order::Order;
 use std::alloc::{Allocator, Global};
@@ -99,7 +99,13 @@ impl<A: Allocator> Index<A> {
     pub fn entry(&self, slot: u32) -> Option<Entry>
         ensures { told result ≡ slice_index_or self.now slot None }
     {
-        match self.slots.get(slot as usize) {
+        self.entry_at(slot as usize)
+    }
+
+    fn entry_at(&self, slot: usize) -> Option<Entry>
+        ensures { told result ≡ slice_index_or self.now slot None }
+    {
+        match self.slots.get(slot) {
             Some(entry) => *entry,
             None => None,
         }
@@ -122,20 +128,13 @@ impl<A: Allocator> Index<A> {
         }
     }
 
-    /// The key of the used slot that so many used ones stand before, with the length of its value.
+    /// The key of the used slot that so many used ones stand before, with the length of its value. It is found by halves.
     pub fn report(&self, number: u32) -> Option<EntryReport>
         ensures { option_map reported result ≡ slice_get (of_slots self.now) number }
     {
-        let mut before = 0;
-        for slot in 0..self.slots.len() {
-            if let Some(entry) = self.slots[slot] {
-                if before == number {
-                    return Some(entry.report());
-                }
-                before += 1;
-            }
-        }
-        None
+        let slot = used_slot(self.empty.as_slice(), number);
+        let entry = self.entry_at(slot)?;
+        Some(entry.report())
     }
 
     /// Each used slot's key, with the length of its value, in the order of the slots.

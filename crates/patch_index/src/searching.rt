@@ -5,7 +5,7 @@ ghost use Rattle.std.specs.Ordering.{nat_cmp};
 ghost use Rattle.patch_recovery.specs.Reading.{has_key as is_of};
 ghost use Rattle.patch_index.specs.Index.{fields_of, told};
 ghost use Rattle.patch_index.specs.Live.{live_behind};
-ghost use Rattle.patch_index.specs.Orders.{comes_before, ranked, key_in, place_in, place_rank, unranked, is_used, AreOrders, ArePlaces, IsOrder, IsPlace, Rises};
+ghost use Rattle.patch_index.specs.Orders.{comes_before, ranked, key_in, place_in, place_rank, unranked, is_used, AreOrders, ArePlaces, IsBehind, IsOrder, IsPlace, Rises};
 
 use crate::entries::Entry;
 use std::cmp::Ordering;
@@ -113,6 +113,28 @@ pub(crate) fn place_by_number(order: &[u16], slot: u32) -> usize
             ensures { result ≡ nat_lt other.now slot }
         { u32::from(*other) < slot },
     )
+}
+
+/// The slot that so many used ones stand before, by the empty slots: it is as far on as there are empty ones below it. Here the slots
+/// 1, 2 and 5 are empty:
+///
+///     a . . b c . d    number 2 is c: two slots on, and two more for 1 and 2
+///     1 2 5            1 ≤ 2 + 0 and 2 ≤ 2 + 1, but not 5 ≤ 2 + 2
+pub(crate) fn used_slot(empty: &[u16], number: u32) -> usize
+    requires { Rises unranked empty.now }
+    ensures { IsBehind empty.now number result }
+{
+    let number = number as usize;
+    let (mut low, mut high) = (0, empty.len());
+    while low < high {
+        let middle = low + (high - low) / 2;
+        if empty[middle] as usize <= number + middle {
+            low = middle + 1;
+        } else {
+            high = middle;
+        }
+    }
+    number + low
 }
 
 /// Whether a slot comes before another with this key.
