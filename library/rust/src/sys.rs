@@ -1,0 +1,92 @@
+//! What `include/fstch.h` declares, by its own names. `tests/agreeing.rs` compares the two.
+
+#![allow(non_camel_case_types)] // (the header's)
+
+use std::os::raw::{c_char, c_void};
+
+/// A store that is open, or none.
+#[repr(C)]
+pub struct fstch_store {
+    is_open: bool,
+    at: *mut c_void,
+}
+
+// (as the header says, and Rust's usize is C's size_t)
+const _: () = assert!(std::mem::size_of::<fstch_store>() == 16 && std::mem::size_of::<usize>() == 8);
+
+pub const FSTCH_CLOSED: fstch_store = fstch_store { is_open: false, at: std::ptr::null_mut() };
+
+pub const FSTCH_VERSION: u32 = 301;
+pub const FSTCH_WRITERS: u32 = 7;
+pub const FSTCH_NO_WRITER: u32 = u32::MAX;
+pub const FSTCH_MAX_KEY: usize = 32;
+pub const FSTCH_MAX_VALUE: usize = 131072;
+pub const FSTCH_NO_BARRIERS: u32 = 1;
+pub const FSTCH_READ_ONLY: u32 = 2;
+
+pub const FSTCH_DONE: i32 = 0;
+pub const FSTCH_OUT_OF_MEMORY: i32 = 1;
+pub const FSTCH_DISK: i32 = 4;
+pub const FSTCH_FILE_SIZE: i32 = 5;
+pub const FSTCH_NUMBERS_SPENT: i32 = 17;
+pub const FSTCH_TOO_MANY_LIVE: i32 = 18;
+pub const FSTCH_NO_SUCH_GROUP: i32 = 27;
+pub const FSTCH_SAME_GROUP: i32 = 28;
+pub const FSTCH_STARTED: i32 = 29;
+pub const FSTCH_SEALED: i32 = 30;
+pub const FSTCH_ENGAGED: i32 = 31;
+pub const FSTCH_NOT_ENGAGED: i32 = 32;
+pub const FSTCH_TOO_MANY_GROUPS: i32 = 33;
+pub const FSTCH_NO_SUCH_EXTENT: i32 = 34;
+pub const FSTCH_GENERATION_SPENT: i32 = 38;
+pub const FSTCH_KEY_LENGTH: i32 = 39;
+pub const FSTCH_VALUE_LENGTH: i32 = 40;
+pub const FSTCH_NO_KEY: i32 = 41;
+pub const FSTCH_INDEX_FULL: i32 = 42;
+pub const FSTCH_NO_SPACE: i32 = 43;
+pub const FSTCH_OPEN_EXTENT: i32 = 44;
+pub const FSTCH_EMPTY_EXTENT: i32 = 45;
+pub const FSTCH_GEOMETRY: i32 = 46;
+pub const FSTCH_BAD_SUPER: i32 = 47;
+pub const FSTCH_BAD_POINTER: i32 = 48;
+pub const FSTCH_BAD_SLOT: i32 = 49;
+pub const FSTCH_BAD_FRAME: i32 = 50;
+pub const FSTCH_DUPLICATE_KEY: i32 = 51;
+pub const FSTCH_DEVICE_GAVE_UP: i32 = 57;
+pub const FSTCH_NOT_OPEN: i32 = -1;
+pub const FSTCH_IS_OPEN: i32 = -2;
+pub const FSTCH_BUFFER_TOO_SMALL: i32 = -4;
+pub const FSTCH_ABSENT: i32 = -5;
+pub const FSTCH_IN_USE: i32 = -6;
+pub const FSTCH_NO_SYNC: i32 = -7;
+pub const FSTCH_BAD_WRITER: i32 = -8;
+pub const FSTCH_IS_READ_ONLY: i32 = -9;
+
+/// The room that every text of an answer has enough of: 63 bytes at most, and the 0 byte behind them.
+pub const TEXT_ROOM: usize = 64;
+
+#[rustfmt::skip] // (a call on a line)
+extern "C" {
+    pub fn fstch_make(path: *const c_char, index_blocks: u32, extents: u32, extent_blocks: u32) -> i32;
+    pub fn fstch_open(store: *mut fstch_store, path: *const c_char, slot: *mut u32) -> i32;
+    pub fn fstch_open_with(store: *mut fstch_store, path: *const c_char, flags: u32, slot: *mut u32) -> i32;
+    pub fn fstch_close(store: *mut fstch_store) -> i32;
+    pub fn fstch_is_open(store: *const fstch_store) -> bool;
+    pub fn fstch_sync(store: *mut fstch_store) -> i32;
+    pub fn fstch_put(store: *mut fstch_store, writer: u32, key: *const c_void, key_length: usize, value: *const c_void, value_length: usize) -> i32;
+    pub fn fstch_get(store: *const fstch_store, key: *const c_void, key_length: usize, into: *mut c_void, into_length: usize, length: *mut usize) -> i32;
+    pub fn fstch_delete(store: *mut fstch_store, writer: u32, key: *const c_void, key_length: usize) -> i32;
+    pub fn fstch_reclaim(store: *mut fstch_store, extent: u32) -> i32;
+    pub fn fstch_check(store: *const fstch_store, entries: *mut u32, extents: *mut u32) -> i32;
+    pub fn fstch_entry(store: *const fstch_store, number: u32, key: *mut c_void, key_room: usize, key_length: *mut usize, value_length: *mut usize) -> i32;
+    pub fn fstch_extent(store: *const fstch_store, extent: u32, live: *mut u32, filled: *mut u32) -> i32;
+    pub fn fstch_unsynced(store: *const fstch_store, changes: *mut u32) -> i32;
+    pub fn fstch_group(store: *mut fstch_store, group: *mut u32) -> i32;
+    pub fn fstch_group_engage(store: *mut fstch_store, group: u32, writer: u32) -> i32;
+    pub fn fstch_group_disengage(store: *mut fstch_store, group: u32, writer: u32) -> i32;
+    pub fn fstch_group_depend(store: *mut fstch_store, later: u32, earlier: u32) -> i32;
+    pub fn fstch_group_close(store: *mut fstch_store, group: u32) -> i32;
+    pub fn fstch_group_pending(store: *const fstch_store, group: u32, changes: *mut u32) -> i32;
+    pub fn fstch_error_text(answer: i32, into: *mut c_char, into_length: usize) -> usize;
+    pub fn fstch_version() -> u32;
+}
