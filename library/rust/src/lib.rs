@@ -44,6 +44,9 @@
 //! - SIGXFSZ is ignored or blocked where a limit of file sizes may be met: else it ends the program.
 //! - No call is made from a signal handler, and in a child that was forked while a store was open nothing is done with
 //!   it but that it is closed or dropped. Without `unsafe` no program of Rust has such a handler or child.
+//!
+//! A program that is run by another thread, as by `std::process::Command`, has the lock of each store that is open from
+//! the fork to the exec: for that moment a file may be in use that its store was closed of.
 
 #![deny(missing_docs)]
 #![deny(unsafe_op_in_unsafe_fn)]

@@ -2,7 +2,7 @@
 
 mod common;
 
-use common::{file_of_process, run_alone, value_in, Folder};
+use common::{value_in, Folder};
 use fstch::{Error, Geometry, Store};
 use std::sync::Mutex;
 use std::{mem, thread};
@@ -35,27 +35,6 @@ fn a_store_is_forgotten() {
     let path = folder.made(4);
     mem::forget(Store::open(&path).unwrap());
     refused!(Store::open(&path), Error::InUse);
-}
-
-/// The lock ends with the program.
-#[test]
-fn a_program_ends() {
-    let folder = Folder::new("ended");
-    let path = folder.made(4);
-    run_alone("forgotten_at_the_end", &path, "");
-    assert_eq!(value_in(&path, b"key"), Some(b"value".to_vec()));
-}
-
-#[test]
-#[ignore = "run by a_program_ends"]
-fn forgotten_at_the_end() {
-    if let Some(path) = file_of_process() {
-        let mut store = Store::open(path).unwrap();
-        store.put(b"key", b"value").unwrap();
-        store.sync().unwrap();
-        store.put(b"key", b"lost").unwrap();
-        mem::forget(store);
-    }
 }
 
 /// A vector that grows moves what it has.

@@ -2,7 +2,7 @@
 
 mod common;
 
-use common::{file_of_process, run_alone, Folder};
+use common::Folder;
 use fstch::{Error, Geometry, Options, Store, MAX_KEY, MAX_VALUE, NO_WRITER, WRITERS};
 use std::error::Error as _;
 use std::fs::{self, File};
@@ -16,7 +16,6 @@ const BLOCK: u64 = 4096;
 const ENOENT: i32 = 2;
 const EEXIST: i32 = 17;
 const EISDIR: i32 = 21;
-const EFBIG: i32 = 27;
 const ENAMETOOLONG: i32 = 36;
 
 fn make(path: &Path, index_blocks: u32, extents: u32, extent_blocks: u32) -> fstch::Result<()> {
@@ -227,49 +226,4 @@ fn files_that_are_damaged() {
     }
     fs::write(&path, &whole).unwrap();
     Store::open(&path).unwrap().close().unwrap();
-}
-
-/// A limit of file sizes refuses the writes of a sync.
-#[test]
-fn a_file_that_refuses_writes() {
-    let folder = Folder::new("writes");
-    run_alone("refused_by_a_limit", &folder.made(4), "trap '' XFSZ; ulimit -f 8");
-}
-
-#[test]
-#[ignore = "run by a_file_that_refuses_writes"]
-fn refused_by_a_limit() {
-    let path = match file_of_process() {
-        Some(path) => path,
-        None => return,
-    };
-    let mut store = Store::open(&path).unwrap();
-    store.put(b"key", b"value").unwrap();
-    let error = store.sync().unwrap_err();
-    assert!(matches!(&error, Error::DeviceGaveUp(why) if why.raw_os_error() == Some(EFBIG)), "{error:?}");
-    assert!(error.source().is_some());
-    refused!(store.sync(), Error::NoSync);
-    assert_eq!(store.get(b"key").unwrap(), Some(b"value".to_vec()));
-    store.close().unwrap();
-    let store = Store::open(&path).unwrap();
-    assert_eq!(store.get(b"key").unwrap(), None);
-}
-
-/// A limit of memory that has no room for an open file of 16 MiB, of which the library asks for two times as much.
-#[test]
-fn memory_that_is_short() {
-    let folder = Folder::new("short");
-    let path = folder.file("test.disk");
-    make(&path, 16, 63, 64).unwrap();
-    run_alone("refused_by_memory", &path, "ulimit -v 32768");
-    Store::open(&path).unwrap().close().unwrap();
-}
-
-#[test]
-#[ignore = "run by memory_that_is_short"]
-fn refused_by_memory() {
-    if let Some(path) = file_of_process() {
-        refused!(Store::open(&path), Error::OutOfMemory);
-        refused!(Store::open(&path), Error::OutOfMemory);
-    }
 }
