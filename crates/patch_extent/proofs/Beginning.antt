@@ -13,7 +13,7 @@ use Rattle.patch_frame.specs.declared.geometries.Geometry.{Geometry}
 use Rattle.patch_frame.specs.Field.{are_zeros}
 use Rattle.patch_frame.specs.Geometry.{IsGeometry, block_count, largest_pointer, pointer_block, pointer_start}
 use Rattle.patch_frame.specs.Pointer.{Fits, pointer_at}
-use Rattle.patch_recovery.specs.Closed.{cached_blocks}
+use Rattle.patch_model.specs.Renewed.{cached_blocks}
 use Rattle.patch_recovery.specs.Reading.{block_on}
 use Rattle.patch_plans.specs.declared.records.Extent.{Extent}
 use Rattle.patch_plans.specs.Extents.{no_extent}

@@ -18,7 +18,7 @@ use Rattle.patch_frame.specs.Field.{are_zeros}
 use Rattle.patch_frame.specs.Geometry.{IsFormat, block_count, largest_pointer, pointer_block, pointer_start}
 use Rattle.patch_frame.specs.Passing.{passed, read_is}
 use Rattle.patch_frame.specs.Pointer.{Fits, spelling, pointer_of, pointer_at}
-use Rattle.patch_recovery.specs.Closed.{cached_blocks}
+use Rattle.patch_model.specs.Renewed.{cached_blocks}
 use Rattle.patch_recovery.specs.Reading.{block_on}
 use Rattle.patch_recovery.specs.Store.{makes_nothing}
 use Rattle.patch_plans.specs.Extents.{Extents, no_extent, extent_at, AreWhole, pointed, after_point}

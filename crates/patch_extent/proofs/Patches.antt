@@ -18,7 +18,7 @@ use Rattle.patch_model.specs.Orderly.{IsOrderlyBlock}
 use Rattle.patch_model.specs.Unchanged.{patch-joined, patch-sent, patch-landed}
 use Rattle.patch_model.specs.Laying.{length-lay}
 use Rattle.patch_model.specs.Member.{In, Contains-from_In}
-use Rattle.patch_recovery.specs.Closed.{cached_blocks}
+use Rattle.patch_model.specs.Renewed.{cached_blocks}
 use Rattle.patch_recovery.specs.Reading.{block_on}
 use Rattle.patch_recovery.specs.Store.{makes_nothing}
 use Rattle.patch_plans.specs.Meaning.{patches_of}

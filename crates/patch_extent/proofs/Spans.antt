@@ -10,7 +10,7 @@ use Rattle.patch_model.specs.History.{history_of, cached}
 use Rattle.patch_model.specs.Refusing.{why_not_shown}
 use Rattle.patch_frame.specs.declared.geometries.Geometry.{Geometry}
 use Rattle.patch_frame.specs.Geometry.{block_count, extent_blocks, largest_pointer, first_block}
-use Rattle.patch_recovery.specs.Closed.{cached_blocks}
+use Rattle.patch_model.specs.Renewed.{cached_blocks}
 use Rattle.patch_recovery.specs.Reading.{block_on}
 use Rattle.patch_plans.specs.Planning.{touched, part_start, part_end}
 use Rattle.patch_extent.specs.Answers.{cached_bytes}

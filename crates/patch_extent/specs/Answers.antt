@@ -12,7 +12,7 @@ use Rattle.patch_cache.specs.Meaning.{IsCacheOf}
 use Rattle.patch_cache.specs.Refusals.{IsCause}
 use Rattle.patch_plans.specs.Groups.{Groups}
 use Rattle.patch_recovery.specs.Change.{Made}
-use Rattle.patch_recovery.specs.Closed.{cached_blocks}
+use Rattle.patch_model.specs.Renewed.{cached_blocks}
 use Rattle.patch_recovery.specs.Ledger.{bytes_at}
 use Rattle.patch_recovery.specs.Reading.{bad_pointers, block_on, ledger_in}
 use Rattle.patch_plans.specs.Extents.{Extents, extent_at, generation_at, offset_at}

@@ -8,7 +8,7 @@ use Rattle.patch_frame.specs.Geometry.{largest_pointer}
 use Rattle.patch_plans.specs.Groups.{Groups}
 use Rattle.patch_plans.specs.Order.{AreGroupsOf}
 use Rattle.patch_recovery.specs.Change.{Made}
-use Rattle.patch_recovery.specs.Closed.{cached_blocks}
+use Rattle.patch_model.specs.Renewed.{cached_blocks}
 use Rattle.patch_recovery.specs.Reading.{ledger_in}
 use Rattle.patch_recovery.specs.Store.{makes_nothing}
 use Rattle.patch_plans.specs.Extents.{Extents, offset_at}

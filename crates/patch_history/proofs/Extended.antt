@@ -8,7 +8,7 @@ use Rattle.patch_frame.specs.Field.{are_zeros}
 use Rattle.patch_frame.specs.Geometry.{IsGeometry, block_count, largest_pointer, pointer_block, pointer_start}
 use Rattle.patch_frame.specs.Pointer.{Fits, pointer_at, pointer_of}
 use Rattle.patch_recovery.specs.Reading.{block_on, record_at}
-use Rattle.patch_recovery.specs.Closed.{cached_blocks}
+use Rattle.patch_model.specs.Renewed.{cached_blocks}
 use Rattle.patch_recovery.specs.Wider.{limits_of, geometry_kept}
 use Rattle.patch_plans.specs.Extents.{no_extent, AreWhole}
 use Rattle.patch_plans.specs.Meaning as extents

@@ -13,7 +13,7 @@ use Rattle.patch_model.specs.Legal.{IsLegal}
 use Rattle.patch_model.specs.Laying.{length-lay}
 use Rattle.patch_model.specs.Member.{In, filter-In, Contains-from_In}
 use Rattle.patch_recovery.specs.Reading.{block_on}
-use Rattle.patch_recovery.specs.Closed.{cached_blocks}
+use Rattle.patch_model.specs.Renewed.{cached_blocks}
 use Rattle.patch_history.specs.LawsBelow.{Given}
 
 -- patches that keep their places leave the length

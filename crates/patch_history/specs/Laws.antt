@@ -8,7 +8,8 @@ use Rattle.patch_plans.specs.Order.{AreGroupsOf}
 use Rattle.patch_recovery.specs.Ledger.{value_in}
 use Rattle.patch_recovery.specs.Said.{last_said}
 use Rattle.patch_recovery.specs.Store.{IsOfStore}
-use Rattle.patch_recovery.specs.Closed.{Opens, cached_blocks}
+use Rattle.patch_recovery.specs.Closed.{Opens}
+use Rattle.patch_model.specs.Renewed.{cached_blocks}
 use Rattle.patch_recovery.specs.Lasting.{Tells}
 use Rattle.patch_plans.specs.Extents.{offset_at}
 use Rattle.patch_plans.specs.Meaning as extents

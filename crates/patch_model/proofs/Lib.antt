@@ -27,3 +27,4 @@ pub mod Flying
 pub mod Naming
 pub mod Ranging
 pub mod Unmade
+pub mod Renewing

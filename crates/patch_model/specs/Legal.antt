@@ -2,7 +2,7 @@
 use Rattle.std.specs.Prelude.{ℕ, Bool, ◌≡◌, ◌≢◌, ◌+◌, ◌==◌, ◌&&◌, ◌<◌, ◌≤◌, ◌⊎◌, nat_le, IsTrue, IsFalse, List, [], ◌∷◌, length, All, count_by, slice_get, Some, None, false}
 use Rattle.std.specs.List.{list_any}
 use Rattle.patch_model.specs.declared.blocks.TheConstants.{BLOCK}
-use Rattle.patch_model.specs.declared.limits.TheConstants.{MAX_BLOCKS, MAX_PATCHES, MAX_LIVE}
+use Rattle.patch_model.specs.declared.limits.TheConstants.{MAX_CACHED, MAX_PATCHES, MAX_LIVE}
 use Rattle.patch_model.specs.Step.{Step, Create, Merge, Send, Complete}
 use Rattle.patch_model.specs.Pile.{end}
 use Rattle.patch_model.specs.Execution.{Execution}
@@ -55,6 +55,6 @@ AreLegal blocks st (step ∷ steps) = IsLegalStep blocks st step × AreLegal blo
 -- there are as many blocks as there may be, each of a block's length, and each step is legal
 pub record IsLegal (run : Execution) : Type 0 where
   pub some : 0 < length run.first
-  pub few : length run.first ≤ MAX_BLOCKS
+  pub few : length run.first ≤ MAX_CACHED
   pub blocks : All (λ block. length block ≡ BLOCK) run.first
   pub steps : AreLegal (length run.first) at_first run.steps

@@ -13,6 +13,7 @@ pub mod Legal
 pub mod Progress
 pub mod Refusing
 pub mod Crash
+pub mod Renewed
 pub mod Trails
 pub mod Orderly
 pub mod Piles

@@ -1,7 +1,7 @@
 -- The numbers and the names of refusals.
 use Rattle.std.specs.Prelude.{ℕ, List, codes}
 use Rattle.patch_model.specs.declared.refusals.RefusalKind.{RefusalKind}
-use Rattle.patch_model.specs.declared.refusals.RefusalKind.TheVariants.{OutOfMemory, NoSuchBlock, Fault, Disk, FileSize, Unknown, Durable, InFlight, Hard, AlreadyTaken, DependentApplied, NotTaken, DependencyTaken, EmptyPatch, OutOfBlock, UnknownDependency, NumbersSpent, TooManyLive, NotInMemory, Same, OtherBlock, Apart, WouldCycle, AlreadyInFlight, NothingReady, Stranger, NoSuchGroup, SameGroup, Started, Sealed, Engaged, NotEngaged, TooManyGroups, NoSuchExtent, ExtentFull, PastPointer, OldGeneration, GenerationSpent, KeyLength, ValueLength, NoKey, IndexFull, NoSpace, OpenExtent, EmptyExtent, Geometry, BadSuper, BadPointer, BadSlot, BadFrame, DuplicateKey, BadMagic, BadKey, BadValue, Short, NotZero, DeviceGaveUp, Disagreed, ReadBack, NoThread, AlreadyVersion2, SyncFailed}
+use Rattle.patch_model.specs.declared.refusals.RefusalKind.TheVariants.{OutOfMemory, NoSuchBlock, Fault, Disk, FileSize, Unknown, Durable, InFlight, Hard, AlreadyTaken, DependentApplied, NotTaken, DependencyTaken, EmptyPatch, OutOfBlock, UnknownDependency, NumbersSpent, TooManyLive, NotInMemory, Same, OtherBlock, Apart, WouldCycle, AlreadyInFlight, NothingReady, Stranger, NoSuchGroup, SameGroup, Started, Sealed, Engaged, NotEngaged, TooManyGroups, NoSuchExtent, ExtentFull, PastPointer, OldGeneration, GenerationSpent, KeyLength, ValueLength, NoKey, IndexFull, NoSpace, OpenExtent, EmptyExtent, Geometry, BadSuper, BadPointer, BadSlot, BadFrame, DuplicateKey, BadMagic, BadKey, BadValue, Short, NotZero, DeviceGaveUp, Disagreed, ReadBack, NoThread, AlreadyVersion2, Live, NotResident, SyncFailed}
 
 -- the number of a refusal
 abbrev pub code_of : RefusalKind → ℕ
@@ -66,6 +66,8 @@ code_of Disagreed = 58
 code_of ReadBack = 59
 code_of NoThread = 60
 code_of AlreadyVersion2 = 61
+code_of Live = 62
+code_of NotResident = 63
 code_of SyncFailed = 64
 
 -- the name of a refusal
@@ -131,4 +133,6 @@ name_of Disagreed = codes "Disagreed"
 name_of ReadBack = codes "ReadBack"
 name_of NoThread = codes "NoThread"
 name_of AlreadyVersion2 = codes "AlreadyVersion2"
+name_of Live = codes "Live"
+name_of NotResident = codes "NotResident"
 name_of SyncFailed = codes "SyncFailed"

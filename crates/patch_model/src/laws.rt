@@ -3,7 +3,7 @@ ghost use Rattle.std.specs.Prelude.{ℕ, ◌≡◌, ◌≢◌, ◌<◌, ◌≤�
 ghost use Rattle.std.specs.List.{list_any};
 ghost use Rattle.std.specs.List.Sorted.{IsNonDecreasing};
 ghost use Rattle.patch_model.specs.declared.blocks.TheConstants.{BLOCK};
-ghost use Rattle.patch_model.specs.declared.limits.TheConstants.{MAX_BLOCKS, MAX_WRITER, MAX_PATCHES, MAX_LIVE};
+ghost use Rattle.patch_model.specs.declared.limits.TheConstants.{MAX_BLOCKS, MAX_CACHED, MAX_WRITER, MAX_PATCHES, MAX_LIVE};
 ghost use Rattle.patch_model.specs.declared.patches.Undo.{Undo};
 ghost use Rattle.patch_model.specs.Patch.{Patch};
 ghost use Rattle.patch_model.specs.Step.{Step, Create, Merge, Send, Complete};
@@ -15,8 +15,9 @@ ghost use Rattle.patch_model.specs.Ready.{IsLargestWritable, IsRising, has, read
 ghost use Rattle.patch_model.specs.State.{joined, sent, landed, has_flight, after_step, state_of, entries_of};
 ghost use Rattle.patch_model.specs.Legal.{IsLegal, IsLegalCreate, IsLegalMerge, touch};
 ghost use Rattle.patch_model.specs.Refusing.{IsBetween, why_not_made, why_no_pair, why_not_sent};
-ghost use Rattle.patch_model.specs.History.{History, of_block, history_of, without, image, HoldsDependents, holds_dependents};
+ghost use Rattle.patch_model.specs.History.{History, of_block, history_of, without, cached, image, HoldsDependents, holds_dependents};
 ghost use Rattle.patch_model.specs.Orderly.{IsUnder, IsOrderly, IsNumbered, IsOrderlyBlock, MayJoin, MeetAt, IsClassUnder, left_behind};
+ghost use Rattle.patch_model.specs.Renewed.{AreAllClean, cached_blocks, is_clean, renewed};
 ghost use Rattle.patch_model.specs.Crash.{AreWhole, IsClosed, MayLeave, crash_set, with_image};
 ghost use Rattle.patch_model.specs.Progress.{IsMade, IsIdle, MayFollow, history_after, class_in, block_in, live_count, ready_in, ready_numbers, flying_numbers};
 ghost use Rattle.patch_model.specs.Laws.{MadeIsLast, MadeHereAlone, KeepsLimits, NoneComesBetween, ClassesLeaveNoGap, NearClassesTouch, TakenAreLast, TakenAreInMemory};
@@ -98,6 +99,7 @@ pub fn executions_are_orderly()
 pub fn limits_are_numbers()
     ensures bytes { BLOCK ≡ 4096 }
     ensures blocks { MAX_BLOCKS ≡ 4096 }
+    ensures cached { MAX_CACHED ≡ 16777216 }
     ensures writer { MAX_WRITER ≡ 7 }
     ensures patches { MAX_PATCHES ≡ 16777216 }
     ensures live { MAX_LIVE ≡ 65536 }
@@ -105,11 +107,11 @@ pub fn limits_are_numbers()
 
 /// How many blocks, patches, live patches and sends an execution has at most; and that it may begin with so many blocks.
 pub fn executions_are_limited()
-    ensures blocks { (run : Execution) → IsLegal run → length run.first ≤ MAX_BLOCKS }
+    ensures blocks { (run : Execution) → IsLegal run → length run.first ≤ MAX_CACHED }
     ensures patches { (run : Execution) → IsLegal run → length (entries_of run) ≤ MAX_PATCHES }
     ensures live { (run : Execution) → IsLegal run → live_count run ≤ MAX_LIVE }
     ensures sends { (run : Execution) → IsLegal run → (state_of run).sends ≤ MAX_PATCHES }
-    ensures opened { (first : List (List ℕ)) → 0 < length first → length first ≤ MAX_BLOCKS → All (λ block. length block ≡ BLOCK) first
+    ensures opened { (first : List (List ℕ)) → 0 < length first → length first ≤ MAX_CACHED → All (λ block. length block ≡ BLOCK) first
         → IsLegal (record { first = first; steps = [] }) }
 {}
 
@@ -316,4 +318,22 @@ pub fn writes_end()
     ensures { (run : Execution) (disk : List (List ℕ)) (block : ℕ) → IsLegal run → block < length run.first
         → MayLeave run disk
         → MayLeave (extended run (Complete block)) (with_image run block disk) }
+{}
+
+// Renewals.
+
+/// An execution may begin anew with the cached blocks of another one, and each block then holds what it held.
+pub fn executions_begin_anew()
+    ensures legal { (run : Execution) → IsLegal run → IsLegal (renewed run) }
+    ensures held { (run : Execution) (block : ℕ) → block < length run.first
+        → cached (history_of (renewed run) block) ≡ cached (history_of run block) }
+    ensures count { (run : Execution) → length (renewed run).first ≡ length run.first }
+{}
+
+/// A block of which no patch is live is its image; and where none is live at all, a crash leaves the cached blocks.
+pub fn clean_blocks_are_images()
+    ensures block { (run : Execution) (block : ℕ) → IsTrue (is_clean run block)
+        → image (history_of run block) ≡ cached (history_of run block) }
+    ensures crash { (run : Execution) (disk : List (List ℕ)) → AreAllClean run → MayLeave run disk
+        → disk ≡ cached_blocks run }
 {}

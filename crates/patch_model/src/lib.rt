@@ -17,7 +17,7 @@ mod steps;
 
 pub use blocks::{BLOCK, BlockBytes};
 pub use ending::Ending;
-pub use limits::{MAX_BLOCKS, MAX_LIVE, MAX_PATCHES, MAX_WRITER};
+pub use limits::{MAX_BLOCKS, MAX_CACHED, MAX_LIVE, MAX_PATCHES, MAX_WRITER};
 pub use lists::{Bytes, Items, Numbers};
 pub use names::{Named, Names};
 pub use numbers::{BlockNo, GroupNo, PatchNo, WriterNo};

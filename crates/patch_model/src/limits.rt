@@ -1,7 +1,10 @@
 //! How much there may be of what.
 
-/// The most blocks of one cache.
+/// The most blocks of one disk.
 pub const MAX_BLOCKS: usize = 4096;
+
+/// The most blocks of one cache.
+pub const MAX_CACHED: usize = 16_777_216;
 
 /// The greatest number of a writer: there are at most eight.
 pub const MAX_WRITER: u8 = 7;

@@ -73,6 +73,8 @@ pub enum RefusalKind {
     ReadBack = 59,
     NoThread = 60,
     AlreadyVersion2 = 61,
+    Live = 62,
+    NotResident = 63,
     SyncFailed = 64,
 }
 
@@ -177,6 +179,8 @@ impl RefusalKind {
             RefusalKind::ReadBack => "ReadBack",
             RefusalKind::NoThread => "NoThread",
             RefusalKind::AlreadyVersion2 => "AlreadyVersion2",
+            RefusalKind::Live => "Live",
+            RefusalKind::NotResident => "NotResident",
             RefusalKind::SyncFailed => "SyncFailed",
         }
     }

@@ -7,7 +7,7 @@ use Rattle.patch_frame.specs.declared.geometries.Geometry.{Geometry}
 use Rattle.patch_frame.specs.Geometry.{block_count, largest_pointer, pointer_block, pointer_start}
 use Rattle.patch_frame.specs.Pointer.{pointer_of, pointer_at}
 use Rattle.patch_frame.specs.Field.{are_zeros}
-use Rattle.patch_recovery.specs.Closed.{cached_blocks}
+use Rattle.patch_model.specs.Renewed.{cached_blocks}
 use Rattle.patch_recovery.specs.Reading.{block_on, record_at}
 use Rattle.patch_plans.specs.Extents.{Extents, extent_at, AreWhole}
 

@@ -26,7 +26,8 @@ use Rattle.patch_recovery.specs.Right.{IsRight, IsSound}
 use Rattle.patch_recovery.specs.Orders.{comes_after}
 use Rattle.patch_recovery.specs.Store.{IsOfStore}
 use Rattle.patch_recovery.specs.Said.{speaks_of, said, value_read, last_said, Moves, AreMoves, last_word_kept}
-use Rattle.patch_recovery.specs.Closed.{in_set, ledger_of, cached_blocks, Opens}
+use Rattle.patch_recovery.specs.Closed.{in_set, ledger_of, Opens}
+use Rattle.patch_model.specs.Renewed.{cached_blocks}
 use Rattle.patch_recovery.proofs.Blocks.{laid_here, laid_elsewhere}
 use Rattle.patch_recovery.proofs.Agreeing.{AllKept, AreRight}
 use Rattle.patch_recovery.proofs.Widening.{shape_those}

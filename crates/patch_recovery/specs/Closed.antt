@@ -6,6 +6,7 @@ use Rattle.patch_model.specs.Entry.{Entry}
 use Rattle.patch_model.specs.State.{entries_of}
 use Rattle.patch_model.specs.History.{history_of, cached}
 use Rattle.patch_model.specs.Crash.{IsClosed, MayLeave, crash_set, disk_of}
+use Rattle.patch_model.specs.Renewed.{cached_blocks}
 use Rattle.patch_model.specs.Legal.{IsLegal}
 use Rattle.patch_recovery.specs.Change.{Made}
 use Rattle.patch_recovery.specs.Ledger.{Ledger, after_all, after_those, map_of, value_in, SaysSame}
@@ -64,10 +65,6 @@ CrashDisksHaveWords =
     (moves : ℕ → Bool) → IsLegal run → IsOfStore run first made → AreMoves moves first made
     → Opens disk (ledger_of run (crash_set crash.landed) first made)
     (last_word_kept (in_set (entries_of run) (crash_set crash.landed)) moves first made)
-
--- the blocks with all patches
-abbrev pub cached_blocks : Execution → List (List ℕ)
-cached_blocks run = map (λ block. cached (history_of run block)) (range_with_len 0 (length run.first))
 
 -- the cached blocks say what all changes leave, and of each key what the last of all says
 abbrev pub CachedBlocksOpen : Type 0

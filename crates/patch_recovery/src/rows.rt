@@ -7,7 +7,7 @@ ghost use Rattle.patch_recovery.specs.Reading.{BadSuper, FileSize, BadPointer, B
 ghost use Rattle.patch_recovery.specs.Reading.{map_read};
 ghost use Rattle.patch_recovery.specs.Store.{IsOfStore};
 ghost use Rattle.patch_recovery.specs.Said.{AreMoves};
-ghost use Rattle.patch_recovery.specs.Closed.{cached_blocks};
+ghost use Rattle.patch_model.specs.Renewed.{cached_blocks};
 ghost use Rattle.patch_recovery.specs.Rows.{small, wide, new_disk, content_k, pointer_to, one_put, one_put_wide};
 ghost use Rattle.patch_recovery.specs.Rows.{twice_put, zeroed, spoilt, exchanged, pointers_read};
 ghost use Rattle.patch_recovery.specs.Runs.{three, first_ledger, run_of, left_of, closed_of, content_a, content_b};

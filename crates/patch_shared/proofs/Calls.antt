@@ -16,7 +16,7 @@ use Rattle.patch_cache.specs.declared.writes.Done.{Done}
 use Rattle.patch_history.specs.Command.{Command, Reply}
 use Rattle.patch_history.specs.Commands.{command_of, reply_told}
 use Rattle.patch_history.specs.History.{execution_of}
-use Rattle.patch_recovery.specs.Closed.{cached_blocks}
+use Rattle.patch_model.specs.Renewed.{cached_blocks}
 use Rattle.patch_store.specs.Meaning.{Store, Answers}
 use Rattle.patch_store.specs.Sending.{HasBegun as StoreHasBegun, HasEnded as StoreHasEnded}
 use Rattle.patch_shared.specs.declared.actors.Actor.TheVariants.{Writer, Flusher, Completer}

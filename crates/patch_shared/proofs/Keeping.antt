@@ -20,7 +20,7 @@ use Rattle.patch_history.specs.Command.{Command, Reply, is_refused, may_be_cut}
 use Rattle.patch_history.specs.History.{History, BookCall, Event, Call, Moved, IsRight, IsWhole, IsCut, steps_in, steps_of, calls_from, calls_of, execution_of, with_event}
 use Rattle.patch_history.specs.StoreState.{Standing, plan_of, made_by}
 use Rattle.patch_recovery.specs.Change.{Change, Made, Data, Point, Fill, Clear, Widen, step_of}
-use Rattle.patch_recovery.specs.Closed.{cached_blocks}
+use Rattle.patch_model.specs.Renewed.{cached_blocks}
 use Rattle.patch_store.specs.Meaning.{Store, HasGained, HasAnswered, Answers}
 use Rattle.patch_store.specs.Opening.{at_opening}
 use Rattle.patch_shared.specs.declared.actors.Counts.{Counts}

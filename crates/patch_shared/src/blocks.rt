@@ -3,7 +3,7 @@ ghost use Rattle.std.specs.Prelude.{◌≡◌, ◌<◌, length, IfOk, MatchOptio
 ghost use Rattle.patch_model.specs.Execution.{Execution};
 ghost use Rattle.patch_model.specs.History.{cached, history_of};
 ghost use Rattle.patch_cache.specs.Meaning.{IsCacheOf};
-ghost use Rattle.patch_recovery.specs.Closed.{cached_blocks};
+ghost use Rattle.patch_model.specs.Renewed.{cached_blocks};
 
 use patch_cache::Cache;
 use patch_model::{BLOCK, BlockBytes, BlockNo, OutOfMemory, laws as model_laws};

@@ -11,7 +11,8 @@ use Rattle.patch_frame.specs.Geometry.{value_limit}
 use Rattle.patch_frame.specs.Slot.{SlotFields}
 use Rattle.patch_recovery.specs.Ledger.{Ledger, bytes_at, value_in}
 use Rattle.patch_recovery.specs.Reading.{has_key, ledger_in}
-use Rattle.patch_recovery.specs.Closed.{Opens, cached_blocks}
+use Rattle.patch_recovery.specs.Closed.{Opens}
+use Rattle.patch_model.specs.Renewed.{cached_blocks}
 use Rattle.patch_recovery.specs.Right.{IsNamed}
 use Rattle.patch_extent.specs.Answers.{cached_bytes}
 use Rattle.patch_history.specs.Refusing.{why_no_key}

@@ -14,7 +14,7 @@ use Rattle.patch_frame.specs.Frame.{Content, frame_at, length_of}
 use Rattle.patch_frame.specs.Geometry.{value_limit}
 use Rattle.patch_frame.specs.Slot.{SlotFields}
 use Rattle.patch_recovery.specs.Change.{Made, Point}
-use Rattle.patch_recovery.specs.Closed.{cached_blocks}
+use Rattle.patch_model.specs.Renewed.{cached_blocks}
 use Rattle.patch_recovery.specs.Ledger.{bytes_at}
 use Rattle.patch_recovery.specs.Reading.{ledger_in}
 use Rattle.patch_extent.specs.Answers.{cached_bytes}

@@ -21,7 +21,7 @@ use Rattle.patch_frame.specs.Passing.{passed, read_is}
 use Rattle.patch_frame.specs.Pointer.{pointer_of, pointer_at}
 use Rattle.patch_frame.specs.Slot.{SlotFields, slot_at}
 use Rattle.patch_cache.specs.Refusals.{IsCause}
-use Rattle.patch_recovery.specs.Closed.{cached_blocks}
+use Rattle.patch_model.specs.Renewed.{cached_blocks}
 use Rattle.patch_recovery.specs.Ledger.{Ledger, bytes_at, is_frame_of, names_frame}
 use Rattle.patch_recovery.specs.Reading.{Fault, BadSlot, BadFrame, DuplicateKey, block_on, ledger_in, read_as, record_at, slot_bytes, slot_tests, used_tests, has_key}
 use Rattle.patch_extent.specs.Answers.{cached_bytes}

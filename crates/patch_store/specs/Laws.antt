@@ -4,7 +4,8 @@ use Rattle.patch_model.specs.Entry.{Entry}
 use Rattle.patch_model.specs.State.{entries_of}
 use Rattle.patch_model.specs.Crash.{IsClosed, MayLeave, crash_set, disk_of}
 use Rattle.patch_recovery.specs.Ledger.{value_in}
-use Rattle.patch_recovery.specs.Closed.{Opens, cached_blocks}
+use Rattle.patch_recovery.specs.Closed.{Opens}
+use Rattle.patch_model.specs.Renewed.{cached_blocks}
 use Rattle.patch_history.specs.Closed.{OpensBy}
 use Rattle.patch_history.specs.History.{History, IsLegalHistory, execution_of, standing_of, ledger_of}
 use Rattle.patch_store.specs.Meaning.{Store, IsStoreOf}
