@@ -1,12 +1,11 @@
 -- Of which blocks a write can begin.
-use Rattle.std.proofs.Common.{◌≡◌, ℕ, ◌∙◌, inl, inr, Bool, true, false, List, [], ◌∷◌, refl, sym, ap, arith, Option, Some, None, IsTrue}
+use Rattle.std.proofs.Common.{◌≡◌, ℕ, ◌∙◌, inl, inr, Bool, true, false, List, [], ◌∷◌, refl, sym, ap, Option, Some, None, IsTrue}
 use Rattle.std.specs.Prelude.{◌≢◌, ◌<◌, ◌≤◌, ◌↔◌, IfSome}
 use Rattle.std.proofs.lemmas.Bool.{both_ways, false_from_ne_true}
-use Rattle.patch_model.specs.declared.limits.TheConstants.{MAX_BLOCKS}
+use Rattle.patch_model.specs.declared.limits.TheConstants.{MAX_CACHED}
 use Rattle.patch_model.specs.declared.patches.Mark.{Mark}
 use Rattle.patch_model.specs.declared.patches.Mark.TheVariants.{Memory, Flight, Durable}
-use Rattle.patch_model.specs.Entry.{Entry, marks_flight, marks_durable, is_flight, is_durable}
-use Rattle.patch_model.specs.Member.{In}
+use Rattle.patch_model.specs.Entry.{Entry, marks_flight, marks_durable}
 use Rattle.patch_model.specs.Ready.{ready, ReadyIsOnly}
 use Rattle.patch_links.specs.State.{Slots, Numbers}
 use Rattle.patch_links.specs.Ready.{TellsReady, HasNoRing as HasNoChain, IsOpen as IsOpenOf, IsShut as IsShutOf, IsNextOpen as IsNextOpenOf}
@@ -15,7 +14,7 @@ use Rattle.patch_graph.specs.Meaning.{IsGraphOf}
 use Rattle.patch_graph.specs.Ready.{IsOpen, IsShut, IsNextOpen}
 use Rattle.patch_graph.proofs.ReadySet.{any_is_ready}
 
-pub next_is_within : (slots : Slots) (numbers : Numbers) (from : ℕ) (found : Option ℕ) → IsNextOpenOf slots numbers from found → IfSome found (λ block. (from ≤ block) × (block < MAX_BLOCKS))
+pub next_is_within : (slots : Slots) (numbers : Numbers) (from : ℕ) (found : Option ℕ) → IsNextOpenOf slots numbers from found → IfSome found (λ block. (from ≤ block) × (block < MAX_CACHED))
 next_is_within slots numbers from None is = tt
 next_is_within slots numbers from (Some least) is = (is.0, is.1)
 

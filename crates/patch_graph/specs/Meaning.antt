@@ -70,6 +70,10 @@ pub record IsGraphOf (g : Graph) (all : List Entry) : Type 0 where
   pub live : (n key : ℕ) → find g.numbers n ≡ Some key → (e : Entry) × In all e × (e.patch.no ≡ n) × (is_durable e ≡ false)
   pub tops : (block x : ℕ) → IsTop all block x (top_at (spans_of g.tops block) x)
 
+-- each patch of the block is durable
+abbrev pub IsClearOf : List Entry → ℕ → Type 0
+IsClearOf all block = (e : Entry) → In all e → e.patch.block ≡ block → is_durable e ≡ true
+
 -- all patches that the one graph represents are those of the other
 abbrev pub StandsForSame : Graph → Graph → Type 0
 StandsForSame old new = (all : List Entry) → IsGraphOf old all → IsGraphOf new all

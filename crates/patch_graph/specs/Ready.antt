@@ -1,7 +1,7 @@
 -- What a send takes, by marks on the keys of classes.
 use Rattle.std.specs.Prelude.{ℕ, if◌then◌else◌, ◌++◌, ◌∷◌, Bool, true, false, ◌≡◌, ◌≢◌, ◌<◌, ◌≤◌, ◌⊎◌, ◌↔◌, ◌&&◌, not, IsTrue, List, [], length, Option, None, Some, slice_index_or}
 use Rattle.std.specs.Option.{option_map_or}
-use Rattle.patch_model.specs.declared.limits.TheConstants.{MAX_BLOCKS}
+use Rattle.patch_model.specs.declared.limits.TheConstants.{MAX_CACHED}
 use Rattle.patch_model.specs.Entry.{Entry, is_flight}
 use Rattle.patch_model.specs.Member.{In}
 use Rattle.patch_model.specs.Ready.{ready}
@@ -32,8 +32,8 @@ IsShut all block = (ready all block ≡ []) ⊎ ((e : Entry) × In all e × (e.p
 
 -- the least block from one on of which a write can begin
 abbrev pub IsNextOpen : List Entry → ℕ → Option ℕ → Type 0
-IsNextOpen all from None = (block : ℕ) → from ≤ block → block < MAX_BLOCKS → IsShut all block
-IsNextOpen all from (Some least) = (from ≤ least) × (least < MAX_BLOCKS) × IsOpen all least × ((block : ℕ) → from ≤ block → block < least → IsShut all block)
+IsNextOpen all from None = (block : ℕ) → from ≤ block → block < MAX_CACHED → IsShut all block
+IsNextOpen all from (Some least) = (from ≤ least) × (least < MAX_CACHED) × IsOpen all least × ((block : ℕ) → from ≤ block → block < least → IsShut all block)
 
 abbrev pub TellsNextOpen : Graph → ℕ → Option ℕ → Type 0
 TellsNextOpen g from found = (all : List Entry) → IsGraphOf g all → HasNoRing all → IsNextOpen all from found

@@ -1,11 +1,20 @@
 -- The skyline of each block.
-use Rattle.std.specs.Prelude.{ℕ, ◌≡◌, ◌≢◌, List, [], ◌∷◌, slice_index_or}
+use Rattle.std.specs.Prelude.{ℕ, ◌≡◌, ◌≢◌, List, [], ◌∷◌, map, Option, None, Some, slice_index_or}
 use Rattle.patch_skyline.specs.Skyline.{IsLaid}
 use Rattle.patch_skyline.specs.declared.skylines.Span.{Span}
 
 -- for each block, by its number, the spans of its skyline
 abbrev pub Skylines : Type 0
 Skylines = List (List Span)
+
+-- the spans of a block whose row may not stand
+abbrev pub line_or_none : Option (List Span) → List Span
+line_or_none None = []
+line_or_none (Some ss) = ss
+
+-- the spans of each block, by rows that may not stand
+abbrev pub lines_of : List (Option (List Span)) → Skylines
+lines_of rows = map line_or_none rows
 
 -- a block beyond them has none
 abbrev pub spans_of : Skylines → ℕ → List Span

@@ -1,10 +1,10 @@
 //! The graph of the classes that are live.
 ghost use Rattle.std.specs.Prelude.{◌≡◌, ◌<◌, ◌≤◌, ◌+◌, ℕ, List, [], false, None, MatchOption, length, IfOk, IfSome, OnOk, OnErr};
-ghost use Rattle.patch_model.specs.declared.limits.TheConstants.{MAX_BLOCKS};
+ghost use Rattle.patch_model.specs.declared.limits.TheConstants.{MAX_CACHED};
 ghost use Rattle.patch_model.specs.Names.{numbers_named};
 ghost use Rattle.patch_model.specs.Entry.{Entry};
 ghost use Rattle.patch_model.specs.declared.patches.Mark.TheVariants.{Durable};
-ghost use Rattle.patch_graph.specs.Meaning.{IsGraphOf, IsNotLive, IsLiveClass, HasMark};
+ghost use Rattle.patch_graph.specs.Meaning.{IsGraphOf, IsClearOf, IsNotLive, IsLiveClass, HasMark};
 ghost use Rattle.patch_graph.specs.Showing.{IsShown};
 ghost use Rattle.patch_graph.specs.Between.{LacksAnEnd, TellsLeastBetween, TellsReach};
 ghost use Rattle.patch_graph.specs.Ready.{AreReady, TellsReady, TellsNextOpen};
@@ -15,6 +15,7 @@ ghost use Rattle.patch_graph.specs.Adding.{Adds, IsDrawnUp, MayBePutIn, PutsIn, 
 
 use crate::adding::{dependencies, insert, is_hard};
 use crate::classes::{LiveClass, alone};
+use crate::forgetting::forget;
 use crate::mark_durable::land;
 use crate::mark_flight::fly;
 use crate::merging;
@@ -107,11 +108,11 @@ impl<A: Allocator + Copy> Graph<A> {
         is_any_ready(&self.register, block)
     }
 
-    /// The least block from one on, of those below [`MAX_BLOCKS`](patch_model::MAX_BLOCKS), of which a write can begin: a send of it
+    /// The least block from one on, of those below [`MAX_CACHED`](patch_model::MAX_CACHED), of which a write can begin: a send of it
     /// takes some patch, and none of its patches is in flight.
     pub fn next_open(&self, from: usize) -> Option<BlockNo>
         ensures answer { TellsNextOpen self.now from result }
-        ensures within { IfSome result (λ block. (from ≤ block) × (block < MAX_BLOCKS)) }
+        ensures within { IfSome result (λ block. (from ≤ block) × (block < MAX_CACHED)) }
     {
         next_open(&self.register, from)
     }
@@ -216,6 +217,14 @@ impl<A: Allocator + Copy> Graph<A> {
         ensures made { self.new.made ≡ self.old.made }
     {
         land(&mut self.register, block);
+    }
+
+    /// Lets what is kept of a block go, of which no patch is live: no memory is kept for it.
+    pub fn forget(&mut self, block: BlockNo)
+        ensures answer { (all : List Entry) → IsGraphOf self.old all → IsClearOf all block → IsGraphOf self.new all }
+        ensures made { self.new.made ≡ self.old.made }
+    {
+        forget(&mut self.register, block);
     }
 
     /// Whether the class of the one live patch depends on that of the other, directly or through others. No class reaches

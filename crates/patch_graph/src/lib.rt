@@ -4,6 +4,7 @@
 mod adding;
 mod between;
 mod classes;
+mod forgetting;
 mod graphs;
 pub mod laws;
 mod mark_durable;

@@ -1,6 +1,6 @@
 //! What is asked of the classes.
 ghost use Rattle.std.specs.Prelude.{◌≡◌, ◌<◌, ◌≤◌, false, None, length, IfOk, IfSome};
-ghost use Rattle.patch_model.specs.declared.limits.TheConstants.{MAX_BLOCKS};
+ghost use Rattle.patch_model.specs.declared.limits.TheConstants.{MAX_CACHED};
 ghost use Rattle.patch_graph.specs.State.{KeysFit};
 ghost use Rattle.patch_graph.specs.Ready.{AreReady, TellsReady, TellsNextOpen};
 ghost use Rattle.patch_graph.specs.Between.{LacksAKey, TellsBetweenKeys, TellsLeastBetween, TellsReach, is_newest};
@@ -61,10 +61,10 @@ pub fn is_any_ready<A: Allocator>(register: &Register<A>, block: BlockNo) -> boo
     register.links.any_ready(block)
 }
 
-/// The least block from one on of which a write can begin, of those below `MAX_BLOCKS`.
+/// The least block from one on of which a write can begin, of those below `MAX_CACHED`.
 pub fn next_open<A: Allocator>(register: &Register<A>, from: usize) -> Option<BlockNo>
     ensures answer { TellsNextOpen register.now from result }
-    ensures within { IfSome result (λ block. (from ≤ block) × (block < MAX_BLOCKS)) }
+    ensures within { IfSome result (λ block. (from ≤ block) × (block < MAX_CACHED)) }
 {
     laws::ready_is_largest();
     register.links.next_open(from)

@@ -22,11 +22,11 @@ pub struct Register<A: Allocator = Global> {
 impl<A: Allocator> Model for Register<A> {
     ghost use Rattle.std.specs.Prelude.{◌≤◌};
     ghost use Rattle.patch_graph.specs.State.{Graph as Seen};
-    ghost use Rattle.patch_graph.specs.Skyline.{trimmed};
+    ghost use Rattle.patch_graph.specs.Skyline.{lines_of, trimmed};
 
     ghost Value = { Seen };
 
-    ghost view = { λ r. record { made = r.made; slots = r.links.slots; numbers = r.links.numbers; tops = trimmed r.skylines.items } };
+    ghost view = { λ r. record { made = r.made; slots = r.links.slots; numbers = r.links.numbers; tops = trimmed (lines_of r.skylines.items) } };
 
     ghost invariant = { λ r. r.links.made ≤ r.made };
 }

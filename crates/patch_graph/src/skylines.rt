@@ -1,11 +1,13 @@
 //! The skyline of each block.
-ghost use Rattle.std.specs.Prelude.{◌≡◌, ◌<◌, ◌≤◌, [], length, vec_capacity, IfOk, OnOk, OnErr};
+ghost use Rattle.std.specs.Prelude.{◌≡◌, ◌<◌, [], None, IfOk, OnErr};
+ghost use Rattle.patch_rows.specs.Rows.{row_at};
 ghost use Rattle.patch_links.specs.Adding.{IsNew, IsAdded};
-ghost use Rattle.patch_graph.specs.Skyline.{spans_of, trimmed, IsLaidOn, IsEmptied};
+ghost use Rattle.patch_graph.specs.Skyline.{spans_of, lines_of, trimmed, IsLaidOn, IsEmptied};
 ghost use Rattle.patch_skyline.specs.Skyline.{AreTops, IsLaid};
 
 use patch_links::{Class, Links};
 use patch_model::BlockNo;
+use patch_rows::Rows;
 use patch_skyline::{Skyline, Span};
 use std::alloc::{AllocError, Allocator, Global};
 use std::marker::Model;
@@ -25,9 +27,9 @@ impl<A: Allocator> Model for Line<A> {
     ghost view = { λ l. l.skyline.spans };
 }
 
-/// The skyline of each block, by its number. That of a block beyond them is empty. What they take in memory goes with the
-/// highest number of a block.
-pub type Skylines<A> = Vec<Line<A>, A>;
+/// The skyline of each block, by its number. A block that was never written has none, which says the same as an empty one: what they
+/// take in memory goes with how many blocks were.
+pub type Skylines<A> = Rows<Line<A>, A>;
 
 impl<A: Allocator> Line<A> {
     /// No span.
@@ -80,41 +82,37 @@ pub fn tops<A: Allocator>(
     stop: usize,
 ) -> &[Span]
     requires { start < stop }
-    ensures { AreTops (spans_of skylines.now.items block) start stop result.now }
+    ensures { AreTops (spans_of (lines_of skylines.now.items) block) start stop result.now }
 {
-    match skylines.get(block.0 as usize) {
+    match skylines.get(block.0) {
         Some(line) => line.tops(start, stop),
         None => &[],
     }
 }
 
-/// Gives so many blocks their skylines, which are empty; those that have one keep it.
-fn fill<A: Allocator + Copy>(alloc: A, skylines: &mut Skylines<A>, count: usize)
-    requires { count ≤ vec_capacity skylines.old }
-    ensures kept { trimmed skylines.new.items ≡ trimmed skylines.old.items }
-    ensures long { count ≤ length skylines.new.items }
-{
-    while skylines.len() < count {
-        skylines.push_reserved(Line::new(alloc));
-    }
-}
-
-/// Gives the block its skyline, and those before it.
-fn lengthen<A: Allocator + Copy>(
+/// Puts in a class and lays its span, which has a byte, on a skyline that its block gets, or does neither.
+fn lay_first<A: Allocator + Copy>(
     alloc: A,
     skylines: &mut Skylines<A>,
-    block: BlockNo,
-) -> Result<(), AllocError>
-    ensures kept { trimmed skylines.new.items ≡ trimmed skylines.old.items }
-    ensures long { OnOk result (block < length skylines.new.items) }
+    links: &mut Links<A>,
+    class: Class<A>,
+    top: Span,
+) -> Result<usize, AllocError>
+    requires none { row_at skylines.old class.block ≡ None }
+    requires some { top.start < top.stop }
+    requires new { IsNew links.old.made class }
+    ensures laid { IfOk result (λ key. IsLaidOn (trimmed (lines_of skylines.old.items)) (trimmed (lines_of skylines.new.items)) class.block top) }
+    ensures added { IfOk result (λ key. IsAdded links.old links.new key class) }
+    ensures refused { OnErr result (trimmed (lines_of skylines.new.items) ≡ trimmed (lines_of skylines.old.items)) }
+    ensures refused_class { OnErr result (links.new ≡ links.old) }
 {
-    let count = block.0 as usize + 1;
-    if count <= skylines.len() {
-        return Ok(());
-    }
-    skylines.reserve(count - skylines.len())?;
-    fill(alloc, skylines, count);
-    Ok(())
+    let block = class.block;
+    let mut line = Line::new(alloc);
+    skylines.lengthen(block.0 as usize + 1);
+    skylines.reserve()?;
+    let key = line.lay(links, class, top)?;
+    skylines.put(block.0, line);
+    Ok(key)
 }
 
 /// Puts in a class and lays its span over its block's skyline, which has a byte, or does neither.
@@ -127,22 +125,30 @@ pub fn lay<A: Allocator + Copy>(
 ) -> Result<usize, AllocError>
     requires some { top.start < top.stop }
     requires new { IsNew links.old.made class }
-    ensures laid { IfOk result (λ key. IsLaidOn (trimmed skylines.old.items) (trimmed skylines.new.items) class.block top) }
+    ensures laid { IfOk result (λ key. IsLaidOn (trimmed (lines_of skylines.old.items)) (trimmed (lines_of skylines.new.items)) class.block top) }
     ensures added { IfOk result (λ key. IsAdded links.old links.new key class) }
-    ensures refused { OnErr result (trimmed skylines.new.items ≡ trimmed skylines.old.items) }
+    ensures refused { OnErr result (trimmed (lines_of skylines.new.items) ≡ trimmed (lines_of skylines.old.items)) }
     ensures refused_class { OnErr result (links.new ≡ links.old) }
 {
     let block = class.block;
-    lengthen(alloc, skylines, block)?;
-    let line = &mut skylines[block.0 as usize];
-    line.lay(links, class, top)
+    match skylines.get_mut(block.0) {
+        Some(line) => line.lay(links, class, top),
+        None => lay_first(alloc, skylines, links, class, top),
+    }
 }
 
 /// Leaves the block's skyline empty, and its room.
 pub fn empty<A: Allocator>(skylines: &mut Skylines<A>, block: BlockNo)
-    ensures { IsEmptied (trimmed skylines.old.items) (trimmed skylines.new.items) block }
+    ensures { IsEmptied (trimmed (lines_of skylines.old.items)) (trimmed (lines_of skylines.new.items)) block }
 {
-    if let Some(line) = skylines.get_mut(block.0 as usize) {
+    if let Some(line) = skylines.get_mut(block.0) {
         line.clear();
     }
+}
+
+/// Lets the block's skyline go, and its room.
+pub fn forget<A: Allocator>(skylines: &mut Skylines<A>, block: BlockNo)
+    ensures { IsEmptied (trimmed (lines_of skylines.old.items)) (trimmed (lines_of skylines.new.items)) block }
+{
+    let _line = skylines.take(block.0);
 }

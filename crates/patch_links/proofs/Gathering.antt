@@ -2,17 +2,7 @@
 use Rattle.std.proofs.Common.{◌≡◌, ℕ, zero, suc, ◌+◌, ◌<◌, ◌≤◌, ◌∙◌, List, [], ◌∷◌, ◌++◌, length, refl, sym, ap, arith, drop, append_assoc, append-nil}
 use Rattle.std.specs.Prelude.{slice_index_or}
 use Rattle.patch_links.specs.State.{Nodes}
-use Rattle.patch_links.specs.Lists.{Blocks, nothing, of_at}
 use Rattle.patch_links.specs.Ready.{members_at, gathered}
-
-behind : (lists : Blocks) (place : ℕ) → length lists ≤ place → of_at lists place ≡ nothing
-behind [] place past = refl
-behind (of ∷ lists) zero past = absurd (omega arith)
-behind (of ∷ lists) (suc place) past = behind lists place (omega arith)
-
--- a block behind all that have lists has none
-pub none-at : (seen lists : Blocks) (block place : ℕ) → lists ≡ seen → place ≡ block → length lists ≤ place → nothing ≡ of_at seen block
-none-at seen lists block place same is past = sym (behind lists place past) ∙ ap (of_at lists) is ∙ ap (λ (xs : Blocks). of_at xs block) same
 
 -- of the keys from a place on, those of the key at the place come first
 gathered-at : (nodes : Nodes) (keys : List ℕ) (place key : ℕ) → place < length keys → slice_index_or keys place 0 ≡ key → gathered nodes (drop place keys) ≡ members_at nodes key ++ gathered nodes (drop (suc place) keys)

@@ -1,11 +1,9 @@
 -- What a step keeps that changes marks, ready sets and counts alone.
-use Rattle.std.proofs.Common.{◌≡◌, ℕ, zero, suc, ◌∙◌, ◌∷◌, [], inl, inr, Bool, false, refl, sym, ap, arith, length, Option, Some, None}
-use Rattle.std.specs.Prelude.{◌<◌, ◌≤◌, count_by, slice_set}
+use Rattle.std.proofs.Common.{◌≡◌, ℕ, ◌∙◌, inl, inr, Bool, false, refl, sym, ap, Option, Some, None}
+use Rattle.std.specs.Prelude.{count_by}
 use Rattle.std.specs.Option.{option_map, option_map_or}
-use Rattle.std.proofs.lemmas.List.{get_or-set_same, get_or-set_other}
 use Rattle.patch_links.specs.State.{Node, Nodes, Numbers, leads_at, node_at, is_at}
 use Rattle.patch_links.specs.Waiting.{AreLinked}
-use Rattle.patch_links.specs.Lists.{OfBlock, Blocks, of_at, nothing, ChangesOf}
 use Rattle.patch_links.specs.Invariants.{bare, plain, has_member, names, AreMembers, AreBelow, KeepsBare, KeepsPlain}
 use Rattle.patch_links.proofs.Places.{cases_option, same_some}
 
@@ -50,15 +48,3 @@ linked-plain old new numbers k linked key j x y apart at at2 =
     let a = plain-was old new key x k at in
     let b = plain-was old new j y k at2 in
     ap (λ z. count_by (leads_at numbers key) z.followers) b.2 ∙ linked key j a.0 b.0 apart a.1 b.1 ∙ sym (ap (λ z. count_by (leads_at numbers j) z.class.after) a.2)
-
--- a block that has no lists
-pub of-none : (blocks : Blocks) (block : ℕ) → length blocks ≤ block → of_at blocks block ≡ nothing
-of-none [] block h = refl
-of-none (of ∷ blocks) zero h = absurd (omega arith)
-of-none (of ∷ blocks) (suc block) h = of-none blocks block (omega arith)
-
-pub changes-of : (blocks : Blocks) (block i : ℕ) (of : OfBlock) → i ≡ block → i < length blocks → ChangesOf block blocks (slice_set blocks i of) of
-changes-of blocks block i of e low = record {
-  here = ap (of_at (slice_set blocks i of)) (sym e) ∙ get_or-set_same blocks i of nothing low;
-  others = λ b d. get_or-set_other blocks i b of nothing (λ f. d (f ∙ e));
-}

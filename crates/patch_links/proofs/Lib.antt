@@ -23,6 +23,7 @@ pub mod Relisting
 pub mod Pairs
 pub mod Following
 pub mod Leads
+pub mod BlockRows
 pub mod Openings
 pub mod Gathering
 pub mod Tallies

@@ -1,66 +1,43 @@
 -- Of which blocks a write can begin.
-use Rattle.std.proofs.Common.{◌≡◌, ℕ, ◌<◌, ◌∙◌, inl, inr, Bool, true, false, List, [], length, refl, sym, ap, arith, subst, Option, Some, None}
-use Rattle.std.specs.Prelude.{◌==◌, not, if◌then◌else◌, slice_set, IfSome, IfNone}
+use Rattle.std.proofs.Common.{◌≡◌, ℕ, ◌∙◌, inl, inr, Bool, true, false, List, [], ◌∷◌, length, refl, sym, ap, arith, subst, Option, Some, None}
+use Rattle.std.specs.Prelude.{◌==◌, ◌&&◌, not, slice_set, IfSome, IfNone}
 use Rattle.std.specs.Option.{option_map, option_map_or}
-use Rattle.std.proofs.lemmas.Bool.{cases_Bool, cases_eq, and_parts, and_from, both_ways, eqb-true, eq-eqb, ne_eqb, false_from_ne_true}
-use Rattle.std.proofs.lemmas.List.{get_or-set_same, get_or-set_other}
-use Rattle.patch_model.specs.declared.limits.TheConstants.{MAX_BLOCKS}
+use Rattle.std.proofs.lemmas.Bool.{cases_Bool, cases_eq, and_parts, and_from, both_ways, eqb-true, eq-eqb, false_from_ne_true}
 use Rattle.patch_model.specs.Entry.{is_among, marks_flight}
-use Rattle.patch_numbers.specs.BlockSets.{holds, IsLeastFrom}
+use Rattle.patch_numbers.specs.BlockSets.{IsLeastFrom}
 use Rattle.patch_links.specs.State.{Class, Node, Nodes, Numbers, class_at, slots_of, node_at, is_at}
-use Rattle.patch_links.specs.Lists.{OfBlock, Blocks, nothing, of_at, flying_in, is_open, AreOpen, IsLeastOpen, ChangesOf, LosesFlying}
+use Rattle.patch_links.specs.Lists.{OfBlock, Blocks, lists_of, of_at, flying_in, is_open, AreOpen, IsLeastOpen, IsListed, IsSettled, LetsGo, LosesFlying, due_in, nothing, once, times}
+use Rattle.patch_links.specs.Waiting.{is_due, of_block, ready_in}
 use Rattle.patch_links.specs.Invariants.{Stands}
-use Rattle.patch_links.specs.Adding.{KeepsLists}
 use Rattle.patch_links.specs.Ready.{TellsReady, IsOpen, IsShut, IsNextOpen}
 use Rattle.patch_links.specs.MarkDurable.{HasPopped}
-use Rattle.patch_links.proofs.Keeping.{changes-of}
 use Rattle.patch_links.proofs.Places.{cases_option, is-at, at-is, slots-at}
 use Rattle.patch_links.proofs.Launching.{among-is}
+use Rattle.patch_links.proofs.Landings.{some-class}
+use Rattle.patch_links.proofs.Counts.{times-In}
 use Rattle.patch_links.proofs.ReadySets.{no-key, some-key, tells-ready}
-
--- one block's lists were changed, among those that are seen
-pub changes-in : (seen lists : Blocks) (block i : ℕ) (of : OfBlock) → lists ≡ seen → i ≡ block → i < length lists → ChangesOf block seen (slice_set lists i of) of
-changes-in seen lists block i of same place low = subst (λ (xs : Blocks). ChangesOf block xs (slice_set lists i of) of) same (changes-of lists block i of place low)
-
--- the list of the block, as it is lent
-pub list-at : (seen lists : Blocks) (block i : ℕ) (of : OfBlock) → lists ≡ seen → i ≡ block → of ≡ of_at lists i → of ≡ of_at seen block
-list-at seen lists block i of same place is = is ∙ ap (of_at lists) place ∙ ap (λ (xs : Blocks). of_at xs block) same
-
--- and the set was told
-pub open-noted : (words now : List ℕ) (lists : Blocks) (block i : ℕ) (of : OfBlock) (b : Bool) → AreOpen words lists → i ≡ block → i < length lists → b ≡ is_open of
-    → ((n : ℕ) → n < MAX_BLOCKS → holds now n ≡ (if n == block then b else holds words n)) → AreOpen now (slice_set lists i of)
-open-noted words now lists block i of b was place low is noted n few = elim (cases_eq n block) [
-  | inl same ↦
-      let here : of_at (slice_set lists i of) n ≡ of = ap (of_at (slice_set lists i of)) (same ∙ sym place) ∙ get_or-set_same lists i of nothing low in
-      noted n few ∙ ap (λ t. if t then b else holds words n) (eq-eqb n block same) ∙ is ∙ sym (ap is_open here)
-  | inr other ↦
-      noted n few ∙ ap (λ t. if t then b else holds words n) (ne_eqb n block other) ∙ was n few
-      ∙ sym (ap is_open (get_or-set_other lists i n of nothing (λ e. other (e ∙ place))))
-]
-
--- room alone has changed
-pub open-kept : (words : List ℕ) (old new : Blocks) → KeepsLists old new → AreOpen words old → AreOpen words new
-open-kept words old new kept was n few = was n few ∙ sym (ap is_open (kept n).same)
+use Rattle.patch_links.proofs.BlockRows.{Rows, row_of, list-at, changes-in}
 
 -- a class in flight was taken out of the block's list, if there is one
-module _ (seen lists : Blocks) (block i : ℕ) (was now : OfBlock) (same : lists ≡ seen) (place : i ≡ block) (low : i < length lists) (is : was ≡ of_at lists i) where
+module _ (seen : Blocks) (rows : Rows) (block i : ℕ) (was now : OfBlock) (same : lists_of rows ≡ seen) (place : i ≡ block) (is : Some was ≡ row_of rows i) where
   pub popped-none : (found : Option ℕ) → IfNone found ((now ≡ was) × (was.flying ≡ [])) → IfNone found ((of_at seen block).flying ≡ [])
-  popped-none None h = ap (λ (z : OfBlock). z.flying) (sym (list-at seen lists block i was same place is)) ∙ h.1
+  popped-none None h = ap (λ (z : OfBlock). z.flying) (sym (list-at seen rows block i (Some was) same place is)) ∙ h.1
   popped-none (Some key) h = h
 
-  pub popped-same : (found : Option ℕ) → IfNone found ((now ≡ was) × (was.flying ≡ [])) → IfNone found ((other : ℕ) → of_at (slice_set lists i now) other ≡ of_at seen other)
-  popped-same None h = λ other. elim (cases_eq other i) [
-    | inl e ↦ ap (of_at (slice_set lists i now)) e ∙ get_or-set_same lists i now nothing low ∙ h.0 ∙ is ∙ ap (of_at lists) (sym e) ∙ ap (λ (xs : Blocks). of_at xs other) same
-    | inr d ↦ get_or-set_other lists i other now nothing d ∙ ap (λ (xs : Blocks). of_at xs other) same
+  pub popped-same : (found : Option ℕ) → IfNone found ((now ≡ was) × (was.flying ≡ [])) → IfNone found ((other : ℕ) → of_at (lists_of (slice_set rows i (Some now))) other ≡ of_at seen other)
+  popped-same None h = λ other. elim (cases_eq other block) [
+    | inl e ↦
+        ap (of_at (lists_of (slice_set rows i (Some now)))) e ∙ (changes-in seen rows block i was now same place is).here ∙ h.0 ∙ list-at seen rows block i (Some was) same place is ∙ ap (of_at seen) (sym e)
+    | inr d ↦ (changes-in seen rows block i was now same place is).others other d
   ]
   popped-same (Some key) h = h
 
-  pub popped-some : (found : Option ℕ) → IfSome found (λ key. LosesFlying was now key) → IfSome found (λ key. HasPopped block seen (slice_set lists i now) key)
+  pub popped-some : (found : Option ℕ) → IfSome found (λ key. LosesFlying was now key) → IfSome found (λ key. HasPopped block seen (lists_of (slice_set rows i (Some now))) key)
   popped-some None h = h
   popped-some (Some key) h = record {
     left = now;
-    loses = subst (λ (of : OfBlock). LosesFlying of now key) (list-at seen lists block i was same place is) h;
-    changed = changes-in seen lists block i now same place low;
+    loses = subst (λ (of : OfBlock). LosesFlying of now key) (list-at seen rows block i (Some was) same place is) h;
+    changed = changes-in seen rows block i was now same place is;
   }
 
 -- the node of a class
@@ -112,5 +89,50 @@ next-open nodes numbers blocks from (Some least) s (above, low, here, none) =
 
 -- the lists of those that the set has
 pub least-open : (words : List ℕ) (blocks : Blocks) (from : ℕ) (found : Option ℕ) → AreOpen words blocks → IsLeastFrom words from found → IsLeastOpen blocks from found
-least-open words blocks from None are none = λ b above low. sym (are b low) ∙ none b above low
+least-open words blocks from None are none = λ b above low. sym (are b low) ∙ none b above
 least-open words blocks from (Some least) are (above, low, here, none) = (above, low, sym (are least low) ∙ here, λ b up under. sym (are b (omega arith)) ∙ none b up under)
+
+-- lists that let their blocks go which have no class are still those of the classes
+module _ (block : ℕ) (nodes : Nodes) (of : OfBlock) (l : IsListed block nodes of) (none : of.count ≡ 0) where
+  -- no class of the block passes any test
+  no-class : (test : Node → Bool) (key : ℕ) → ((x : Node) → test x ≡ true → of_block block x ≡ true) → is_at test nodes key ≡ false
+  no-class test key within = false_from_ne_true _ (λ t.
+      let x = at-is test nodes key t in
+      let most = some-class block key nodes (is-at (of_block block) nodes key x.0 x.1 ∙ within x.0 x.2) in
+      let c = l.counted in absurd (omega arith))
+
+  pub listed-nothing : IsListed block nodes nothing
+  listed-nothing = record {
+    due = λ key. sym (ap once (no-class (due_in block) key (λ x t. (and_parts (x.class.block == block) (is_due x) t).0)));
+    ready = λ key. sym (ap once (no-class (ready_in block) key (λ x t. (and_parts (x.class.block == block) x.ready t).0)));
+    flying = λ key. sym (ap once (no-class (flying_in block) key (λ x t. (and_parts (x.class.block == block) (marks_flight x.class.mark) t).0)));
+    counted = sym none ∙ l.counted;
+    within = omega arith;
+    room_ready = omega arith;
+    room_flying = omega arith;
+  }
+
+  shut-by : (ready : List ℕ) → of.ready ≡ ready → is_open of ≡ false
+  shut-by [] is = ap (λ (ks : List ℕ). not (length ks == 0) && length of.flying == 0) is
+  shut-by (k ∷ ready) is =
+      let first = times-In (k ∷ ready) k (inl refl) in
+      let same : times (k ∷ ready) k ≡ 0 = ap (λ (ks : List ℕ). times ks k) (sym is) ∙ l.due k ∙ ap once (no-class (due_in block) k (λ x t. (and_parts (x.class.block == block) (is_due x) t).0)) in
+      absurd (omega arith)
+
+  pub none-open : is_open of ≡ false
+  none-open = shut-by of.ready refl
+
+pub stands-let-go : (nodes : Nodes) (numbers : Numbers) (old new : Blocks) → Stands nodes numbers old → LetsGo old new → Stands nodes numbers new
+stands-let-go nodes numbers old new s go = record {
+  members = s.members;
+  linked = s.linked;
+  counted = s.counted;
+  listed = λ b. elim (go b) [
+    | inl same ↦ subst (IsListed b nodes) (sym same) (s.listed b)
+    | inr none ↦ subst (IsListed b nodes) (sym none.1) (listed-nothing b nodes (of_at old b) (s.listed b) none.0)
+  ];
+  settled = λ b. elim (go b) [
+    | inl same ↦ subst IsSettled (sym same) (s.settled b)
+    | inr none ↦ subst IsSettled (sym none.1) refl
+  ];
+}

@@ -13,3 +13,8 @@ module _ {T E : Type 0} where
   pub done-still : (r : Result T E) (P : Type 0) → P → OnOk r P
   done-still (Ok x) P h = h
   done-still (Err e) P h = tt
+
+  -- and so is what follows from what is told
+  pub done-so : (r : Result T E) (P Q : Type 0) → OnOk r P → (P → Q) → OnOk r Q
+  done-so (Ok x) P Q h so = so h
+  done-so (Err e) P Q h so = tt

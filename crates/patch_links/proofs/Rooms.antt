@@ -350,18 +350,6 @@ lists-then a b c p q k =
       flying = omega arith;
     }
 
--- one block more has its lists
-pub lists-longer : (blocks : Blocks) (first : OfBlock) → first.ready ≡ [] → first.done ≡ 0 → first.flying ≡ [] → first.count ≡ 0 → KeepsLists blocks (blocks ++ first ∷ [])
-lists-longer [] first ready done flying count zero = record {
-  same = ap (λ (r : List ℕ). record first { ready = r }) ready ∙ ap (λ (d : ℕ). record first { ready = []; done = d }) done
-      ∙ ap (λ (f : List ℕ). record first { ready = []; done = 0; flying = f }) flying ∙ ap (λ (n : ℕ). record first { ready = []; done = 0; flying = []; count = n }) count;
-  ready = omega arith;
-  flying = omega arith;
-}
-lists-longer [] first ready done flying count (suc b) = record { same = refl; ready = omega arith; flying = omega arith }
-lists-longer (of ∷ blocks) first ready done flying count zero = record { same = refl; ready = omega arith; flying = omega arith }
-lists-longer (of ∷ blocks) first ready done flying count (suc b) = lists-longer blocks first ready done flying count b
-
 some-alike : (old new : Nodes) → length new ≡ length old → ((k : ℕ) → is_some (node_at new k) ≡ is_some (node_at old k)) → count_by is_some new ≡ count_by is_some old
 some-alike [] [] long same = refl
 some-alike [] (y ∷ new) long same = absurd (omega arith)

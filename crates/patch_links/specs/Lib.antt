@@ -11,4 +11,3 @@ pub mod Leaving
 pub mod Adding
 pub mod Following
 pub mod Keys
-pub mod Hashing

@@ -1,9 +1,9 @@
 -- The keys of a block's classes that are ready, and of those in flight.
-use Rattle.std.specs.Prelude.{ℕ, Bool, true, Option, None, Some, ◌≡◌, ◌≢◌, ◌<◌, ◌≤◌, ◌-◌, ◌==◌, ◌&&◌, ◌∷◌, ◌++◌, if◌then◌else◌, not, slice_index_or, take, List, [], length, count_by, false}
+use Rattle.std.specs.Prelude.{ℕ, Bool, true, Option, None, Some, ◌≡◌, ◌≢◌, ◌<◌, ◌≤◌, ◌⊎◌, ◌-◌, ◌==◌, ◌&&◌, ◌∷◌, ◌++◌, if◌then◌else◌, not, is_some, map, slice_index_or, take, List, [], length, count_by, false}
 use Rattle.std.specs.Option.{option_map_or}
-use Rattle.patch_model.specs.declared.limits.TheConstants.{MAX_BLOCKS}
+use Rattle.patch_model.specs.declared.limits.TheConstants.{MAX_CACHED}
 use Rattle.patch_model.specs.Entry.{marks_flight}
-use Rattle.patch_numbers.specs.BlockSets.{holds}
+use Rattle.patch_numbers.specs.BlockSets.{holds, HasRoom}
 use Rattle.patch_links.specs.State.{Node, Nodes, is_at}
 use Rattle.patch_links.specs.Waiting.{of_block, ready_in, is_due}
 
@@ -22,6 +22,15 @@ Blocks = List OfBlock
 
 abbrev pub nothing : OfBlock
 nothing = record { ready = []; done = 0; flying = []; count = 0; room_ready = 0; room_flying = 0 }
+
+-- what is kept of a block, of which no row may stand
+abbrev pub row_or_nothing : Option OfBlock → OfBlock
+row_or_nothing None = nothing
+row_or_nothing (Some of) = of
+
+-- what is kept of each block, where so many have rows
+abbrev pub lists_of : List (Option OfBlock) → Blocks
+lists_of rows = map row_or_nothing rows
 
 -- those of all blocks
 pub record ByBlock : Type 0 where
@@ -92,9 +101,22 @@ is_open of = not (length of.ready == 0) && length of.flying == 0
 
 -- the set has just those blocks of which a write can begin
 abbrev pub AreOpen : List ℕ → Blocks → Type 0
-AreOpen words blocks = (block : ℕ) → block < MAX_BLOCKS → holds words block ≡ is_open (of_at blocks block)
+AreOpen words blocks = (block : ℕ) → block < MAX_CACHED → holds words block ≡ is_open (of_at blocks block)
+
+-- the set has room for each block whose row stands
+abbrev pub HasRooms : List ℕ → List (Option OfBlock) → Type 0
+HasRooms words rows = (block : ℕ) → is_some (slice_index_or rows block None) ≡ true → block < MAX_CACHED → HasRoom words block
+
+-- the set has just those blocks of which a write can begin, and room for each whose row stands
+pub record AreNoted (words : List ℕ) (rows : List (Option OfBlock)) : Type 0 where
+  pub just : AreOpen words (lists_of rows)
+  pub room : HasRooms words rows
+
+-- the lists of blocks that have no class may have gone
+abbrev pub LetsGo : Blocks → Blocks → Type 0
+LetsGo old new = (block : ℕ) → (of_at new block ≡ of_at old block) ⊎ (((of_at old block).count ≡ 0) × (of_at new block ≡ nothing))
 
 -- the least block from one on of which a write can begin
 abbrev pub IsLeastOpen : Blocks → ℕ → Option ℕ → Type 0
-IsLeastOpen blocks from None = (block : ℕ) → from ≤ block → block < MAX_BLOCKS → is_open (of_at blocks block) ≡ false
-IsLeastOpen blocks from (Some least) = (from ≤ least) × (least < MAX_BLOCKS) × (is_open (of_at blocks least) ≡ true) × ((block : ℕ) → from ≤ block → block < least → is_open (of_at blocks block) ≡ false)
+IsLeastOpen blocks from None = (block : ℕ) → from ≤ block → block < MAX_CACHED → is_open (of_at blocks block) ≡ false
+IsLeastOpen blocks from (Some least) = (from ≤ least) × (least < MAX_CACHED) × (is_open (of_at blocks least) ≡ true) × ((block : ℕ) → from ≤ block → block < least → is_open (of_at blocks block) ≡ false)

@@ -2,7 +2,7 @@
 use Rattle.std.specs.Prelude.{ℕ, Bool, true, false, ◌≡◌, ◌≢◌, ◌<◌, ◌≤◌, ◌⊎◌, ◌&&◌, ◌==◌, List, [], ◌∷◌, ◌++◌, Option, None, Some}
 use Rattle.std.specs.List.{list_all, AllByRecursion}
 use Rattle.std.specs.Option.{option_map_or}
-use Rattle.patch_model.specs.declared.limits.TheConstants.{MAX_BLOCKS}
+use Rattle.patch_model.specs.declared.limits.TheConstants.{MAX_CACHED}
 use Rattle.patch_model.specs.Entry.{marks_memory, marks_flight, is_among}
 use Rattle.patch_links.specs.State.{Class, Nodes, Slots, Numbers, find, class_at, node_at, leads}
 use Rattle.patch_model.specs.Member.{In}
@@ -94,8 +94,8 @@ IsShut slots numbers block = TellsReady slots numbers block false ⊎ HasFlying 
 
 -- the least block from one on of which a write can begin
 abbrev pub IsNextOpen : Slots → Numbers → ℕ → Option ℕ → Type 0
-IsNextOpen slots numbers from None = (block : ℕ) → from ≤ block → block < MAX_BLOCKS → IsShut slots numbers block
-IsNextOpen slots numbers from (Some least) = (from ≤ least) × (least < MAX_BLOCKS) × IsOpen slots numbers least × ((block : ℕ) → from ≤ block → block < least → IsShut slots numbers block)
+IsNextOpen slots numbers from None = (block : ℕ) → from ≤ block → block < MAX_CACHED → IsShut slots numbers block
+IsNextOpen slots numbers from (Some least) = (from ≤ least) × (least < MAX_CACHED) × IsOpen slots numbers least × ((block : ℕ) → from ≤ block → block < least → IsShut slots numbers block)
 
 -- the same numbers, rising
 pub record IsArranged (old new : List ℕ) : Type 0 where

@@ -1,21 +1,22 @@
 //! One more class.
-ghost use Rattle.std.specs.Prelude.{◌≡◌, ◌↔◌, ◌≢◌, ◌<◌, ◌≤◌, ◌+◌, ◌∷◌, ℕ, [], true, false, nat_lt, length, count_by, vec_capacity, Some, IfOk, OnOk, OnErr};
+ghost use Rattle.std.specs.Prelude.{◌≡◌, ◌↔◌, ◌≢◌, ◌<◌, ◌≤◌, ◌+◌, ◌∷◌, ℕ, [], true, false, nat_lt, length, count_by, Some, None, IfOk, OnOk, OnErr};
 ghost use Rattle.std.specs.List.{list_all};
 ghost use Rattle.patch_model.specs.declared.patches.Mark.TheVariants.{Memory};
 ghost use Rattle.slab.specs.Slab.{HasRoomFor};
+ghost use Rattle.patch_rows.specs.Rows.{row_at};
 ghost use Rattle.patch_links.specs.State.{changed_at, find, is_at, slots_of};
 ghost use Rattle.patch_links.specs.Waiting.{is_unmet, ready_in, AreCounted, AreLinked};
-ghost use Rattle.patch_links.specs.Lists.{IsListed, IsSettled, AreListed, AreSettled};
+ghost use Rattle.patch_links.specs.Lists.{IsListed, IsSettled, AreListed, AreNoted, AreSettled, lists_of};
 ghost use Rattle.patch_links.specs.Invariants.{AreBelow, KeepsBare, KeepsOwed, KeepsRest, Stands};
 ghost use Rattle.patch_links.specs.Adding.{followed, followed_to, AreFollowed, HasLists, HasPut, HasRoom, HasRoomForAll, HasRoomTo, IsEnlisting, IsJoining, IsNewClass, IsRoomier, KeepsLists, LeadNowhere};
 
 use crate::admitting::admit_all;
-use crate::blocks::{Blocks, note};
+use crate::blocks::{self, Blocks, note};
 use crate::keys::Keys;
 use crate::lists::{Lists, OfBlock};
 use crate::nodes::{Class, Node, Nodes, find, is_due};
 use patch_model::{BlockNo, Mark, PatchNo};
-use patch_numbers::NumberList;
+use patch_numbers::{BlockSet, NumberList};
 use std::alloc::{AllocError, Allocator};
 
 /// Makes room for so many more followers of the class.
@@ -158,56 +159,44 @@ fn follow_all<A: Allocator>(
     unmet
 }
 
-/// Gives so many blocks their lists, which hold no key yet; those that have some keep them.
-fn fill<A: Allocator + Copy>(alloc: A, lists: &mut Lists<A>, count: usize)
-    requires { count ≤ vec_capacity lists.old }
-    ensures kept { KeepsLists lists.old.items lists.new.items }
-    ensures long { count ≤ length lists.new.items }
-{
-    while lists.len() < count {
-        lists.push_reserved(OfBlock::new(alloc));
-    }
-}
-
-/// Gives the block its lists, and those before it.
-fn lengthen<A: Allocator + Copy>(
+/// Gives the block its lists, which hold no key yet and have room for those of one class.
+fn put_lists<A: Allocator + Copy>(
     alloc: A,
     lists: &mut Lists<A>,
+    open: &mut BlockSet<A>,
     block: BlockNo,
 ) -> Result<(), AllocError>
-    ensures kept { KeepsLists lists.old.items lists.new.items }
-    ensures long { OnOk result (block < length lists.new.items) }
+    requires none { row_at lists.old block ≡ None }
+    requires noted { AreNoted open.old lists.old.items }
+    ensures kept { KeepsLists (lists_of lists.old.items) (lists_of lists.new.items) }
+    ensures room { OnOk result (HasLists block (lists_of lists.new.items)) }
+    ensures noted { AreNoted open.new lists.new.items }
 {
-    let count = block.0 as usize + 1;
-    if count <= lists.len() {
-        return Ok(());
-    }
-    lists.reserve(count.saturating_sub(lists.len()))?;
-    fill(alloc, lists, count);
+    let mut list = OfBlock::new(alloc);
+    list.grow()?;
+    blocks::make_room(open, block)?;
+    lists.lengthen(block.0 as usize + 1);
+    lists.reserve()?;
+    lists.put(block.0, list);
     Ok(())
 }
 
-/// Makes room for the keys of one more class of the block, which has its lists.
-fn grow_lists<A: Allocator>(lists: &mut Lists<A>, block: BlockNo) -> Result<(), AllocError>
-    requires { block < length lists.old.items }
-    ensures kept { KeepsLists lists.old.items lists.new.items }
-    ensures room { OnOk result (HasLists block lists.new.items) }
-{
-    let list = &mut lists[block.0 as usize];
-    list.grow()
-}
-
-/// The same, whether it has them or not.
+/// Makes room for the keys of one more class of the block, in lists that it has or gets.
 fn make_lists<A: Allocator + Copy>(
     alloc: A,
     lists: &mut Lists<A>,
+    open: &mut BlockSet<A>,
     block: BlockNo,
 ) -> Result<(), AllocError>
-    ensures kept { KeepsLists lists.old.items lists.new.items }
-    ensures room { OnOk result (HasLists block lists.new.items) }
+    requires { AreNoted open.old lists.old.items }
+    ensures kept { KeepsLists (lists_of lists.old.items) (lists_of lists.new.items) }
+    ensures room { OnOk result (HasLists block (lists_of lists.new.items)) }
+    ensures noted { AreNoted open.new lists.new.items }
 {
-    lengthen(alloc, lists, block)?;
-    grow_lists(lists, block)
+    match lists.get_mut(block.0) {
+        Some(list) => list.grow(),
+        None => put_lists(alloc, lists, open, block),
+    }
 }
 
 /// One more class of the block, at the key.
@@ -256,7 +245,7 @@ fn enlist<A: Allocator>(
     ensures bare { KeepsBare nodes.old.slots nodes.new.slots }
     ensures counted { AreCounted nodes.new.slots keys.now.numbers }
 {
-    match blocks.lists.get_mut(block.0 as usize) {
+    match blocks.lists.get_mut(block.0) {
         Some(list) => {
             enlist_in(nodes, keys, list, block, key);
             note(&mut blocks.open, block, list.is_open());
@@ -358,7 +347,7 @@ fn make_room<A: Allocator + Copy>(
     ensures next { nodes.new.vacant_key ≡ nodes.old.vacant_key }
 {
     reserve_all(nodes, keys, after(class))?;
-    make_lists(alloc, &mut blocks.lists, class.block)?;
+    make_lists(alloc, &mut blocks.lists, &mut blocks.open, class.block)?;
     keys.reserve()?;
     nodes.reserve(1)
 }

@@ -14,7 +14,7 @@ use std::alloc::{AllocError, Allocator};
 pub fn ready_keys<A: Allocator>(blocks: &Blocks<A>, block: BlockNo) -> &[usize]
     ensures { result.now ≡ (of_at blocks.now.items block).ready }
 {
-    match blocks.lists.get(block.0 as usize) {
+    match blocks.lists.get(block.0) {
         Some(list) => list.ready(),
         None => &[],
     }
@@ -24,7 +24,7 @@ pub fn ready_keys<A: Allocator>(blocks: &Blocks<A>, block: BlockNo) -> &[usize]
 pub fn count<A: Allocator>(blocks: &Blocks<A>, block: BlockNo) -> usize
     ensures { result ≡ (of_at blocks.now.items block).count }
 {
-    match blocks.lists.get(block.0 as usize) {
+    match blocks.lists.get(block.0) {
         Some(list) => list.count(),
         None => 0,
     }

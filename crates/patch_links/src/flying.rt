@@ -132,7 +132,7 @@ pub fn fly<A: Allocator>(
     ensures flown { AreFlown (is_among (of_at blocks.old.items block).ready) (slots_of nodes.old.slots) (slots_of nodes.new.slots) }
     ensures plain { KeepsPlain nodes.old.slots nodes.new.slots }
 {
-    if let Some(list) = blocks.lists.get_mut(block.0 as usize) {
+    if let Some(list) = blocks.lists.get_mut(block.0) {
         fly_list(nodes, keys, list, block);
         note(&mut blocks.open, block, list.is_open());
     }

@@ -357,7 +357,7 @@ fn join_at<A: Allocator + Copy>(
     ensures refused { OnErr result (slots_of nodes.new.slots ≡ slots_of nodes.old.slots) }
     ensures numbers { OnErr result (keys.new.numbers ≡ keys.old.numbers) }
 {
-    match blocks.lists.get_mut(block.0 as usize) {
+    match blocks.lists.get_mut(block.0) {
         Some(list) => {
             let joined = join_in(alloc, nodes, keys, list, block, keep, gone);
             note(&mut blocks.open, block, list.is_open());

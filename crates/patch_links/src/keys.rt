@@ -3,9 +3,9 @@ ghost use Rattle.std.specs.Prelude.{◌≡◌, ◌≢◌, ◌<◌, ◌⊎◌, �
 ghost use Rattle.std.specs.Option.{option_map};
 ghost use Rattle.patch_links.specs.State.{find};
 
-use crate::hashing::InARow;
 use indexmap::IndexMap;
 use patch_model::PatchNo;
+use patch_rows::InARow;
 use std::alloc::{AllocError, Allocator, Global};
 use std::marker::Model;
 

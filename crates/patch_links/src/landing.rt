@@ -47,7 +47,7 @@ fn tell_at<A: Allocator>(
     ensures bare { KeepsBare nodes.old.slots nodes.new.slots }
     ensures paid { PaysOne keys.now.numbers key nodes.old.slots nodes.new.slots }
 {
-    match blocks.lists.get_mut(block.0 as usize) {
+    match blocks.lists.get_mut(block.0) {
         Some(list) => {
             settle(nodes, keys, list, block, key);
             note(&mut blocks.open, block, list.is_open());
@@ -135,7 +135,7 @@ fn next_landing<A: Allocator>(blocks: &mut Blocks<A>, block: BlockNo) -> Option<
     ensures same { IfNone result ((other : ℕ) → of_at blocks.new.items other ≡ of_at blocks.old.items other) }
     ensures some { IfSome result (λ key. HasPopped block blocks.old.items blocks.new.items key) }
 {
-    match blocks.lists.get_mut(block.0 as usize) {
+    match blocks.lists.get_mut(block.0) {
         Some(list) => {
             let landed = list.land();
             note(&mut blocks.open, block, list.is_open());

@@ -7,7 +7,6 @@ mod admitting;
 mod asking;
 mod blocks;
 mod flying;
-mod hashing;
 mod joining;
 mod keys;
 mod landing;

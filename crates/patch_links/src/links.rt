@@ -167,7 +167,7 @@ impl<A: Allocator> Links<A> {
         !ready_keys(&self.blocks, block).is_empty()
     }
 
-    /// The least block from one on, of those below `MAX_BLOCKS`, of which a write can begin: some class may be sent with it, and
+    /// The least block from one on, of those below `MAX_CACHED`, of which a write can begin: some class may be sent with it, and
     /// none of its classes is in flight.
     pub fn next_open(&self, from: usize) -> Option<BlockNo>
         ensures { IsNextOpen self.now.slots self.now.numbers from result }
@@ -194,6 +194,13 @@ impl<A: Allocator> Links<A> {
         ensures { HasFlown block self.old self.new }
     {
         fly(&mut self.nodes, &self.keys, &mut self.blocks, block);
+    }
+
+    /// Lets what is kept of a block's lists go, where the block has no class: no memory is kept for it. It changes nothing else.
+    pub fn forget(&mut self, block: BlockNo)
+        ensures { self.new ≡ self.old }
+    {
+        self.blocks.forget(block);
     }
 
     /// Forgets all that is in flight of the block.

@@ -4,6 +4,7 @@ ghost use Rattle.patch_links.specs.Lists.{of_at, pushed, times, once, is_open, C
 ghost use Rattle.patch_links.specs.Joining.{is_neither};
 ghost use Rattle.patch_links.specs.Leaving.{HasLeft, LosesLast};
 
+use patch_rows::Rows;
 use std::alloc::{AllocError, Allocator, Global};
 use std::marker::Model;
 
@@ -39,8 +40,9 @@ impl<A: Allocator> Model for OfBlock<A> {
     } };
 }
 
-/// The lists of each block, by its number. What they take in memory goes with the highest number of a block.
-pub type Lists<A> = Vec<OfBlock<A>, A>;
+/// The lists of each block, by its number. A block that was never touched has none, so what they take in memory goes with how many
+/// blocks were.
+pub type Lists<A> = Rows<OfBlock<A>, A>;
 
 impl<A: Allocator + Copy> OfBlock<A> {
     /// Of a block without classes.

@@ -4,7 +4,7 @@ use Rattle.std.specs.List.{filter}
 use Rattle.patch_model.specs.Names.{numbers_named}
 use Rattle.patch_skyline.specs.declared.skylines.Span.{Span}
 use Rattle.patch_graph.specs.State.{Graph}
-use Rattle.patch_graph.specs.Skyline.{spans_of}
+use Rattle.patch_graph.specs.Skyline.{lines_of, spans_of}
 use Rattle.patch_graph.specs.Naming.{HasTaken, IsNamedBelow}
 use Rattle.patch_skyline.specs.Skyline.{AreTops}
 use Rattle.patch_graph.proofs.Entered.{depends-on}
@@ -22,5 +22,5 @@ returns g c =
     c.in_ok-push_tops.ensures ∙ ap (λ (m : ℕ). named ++ filter (λ n. nat_lt n m) (map (λ (s : Span). s.no) c.tops.result.now)) made in
     let tops : AreTops (spans_of seen.tops c.args.block) c.args.start c.args.stop c.tops.result.now =
     subst (λ (z : Graph). AreTops (spans_of z.tops c.args.block) c.args.start c.args.stop c.tops.result.now) c.register.view_is
-    (subst (λ (ss : List Span). AreTops ss c.args.start c.args.stop c.tops.result.now) (sym (spans-trimmed c.register.inside.skylines.items c.args.block)) c.tops.ensures) in
+    (subst (λ (ss : List Span). AreTops ss c.args.start c.args.stop c.tops.result.now) (sym (spans-trimmed (lines_of c.register.inside.skylines.items) c.args.block)) c.tops.ensures) in
     depends-on seen c.args.block c.args.start c.args.stop c.tops.result.now (numbers_named c.args.after) named c.push_tops.new.all.items tops taken all

@@ -2,7 +2,7 @@ use Rattle.std.proofs.Common.{◌≡◌, ◌+◌, ◌<◌, ◌≤◌, ℕ, Some,
 use Rattle.patch_links.specs.State.{Class, Links, class_at}
 use Rattle.patch_links.specs.Adding.{IsNew}
 use Rattle.patch_graph.specs.State.{Graph, KeysFit}
-use Rattle.patch_graph.specs.Skyline.{Skylines, trimmed}
+use Rattle.patch_graph.specs.Skyline.{Skylines, lines_of, trimmed}
 use Rattle.patch_graph.specs.Adding.{IsAdded}
 use Rattle.patch_graph.proofs.Entered.{put-in, added-fit}
 use Rattle.patch_graph.proofs.Places.{ok-if, err-still}
@@ -47,16 +47,16 @@ returns-in_err-reserve-clause-refused g c = err-still _ _ refl
 pub returns-in_err-key-clause-refused : goal.returns-in_err-key-clause-refused
 returns-in_err-key-clause-refused g c =
     let made : ℕ = c.register.inside.made in
-    err-still _ _ (ap (λ (l : Links). let v : Graph = record { made = made; slots = l.slots; numbers = l.numbers; tops = trimmed c.lay.new.skylines.items } in v) c.in_err-key.ensures.refused_class
+    err-still _ _ (ap (λ (l : Links). let v : Graph = record { made = made; slots = l.slots; numbers = l.numbers; tops = trimmed (lines_of c.lay.new.skylines.items) } in v) c.in_err-key.ensures.refused_class
     ∙ ap (λ (tops : Skylines). let v : Graph = record { made = made; slots = c.register.inside.links.slots; numbers = c.register.inside.links.numbers; tops = tops } in v) c.in_err-key.ensures.refused
     ∙ c.register.view_is)
 
 pub returns-clause-inserted : goal.returns-clause-inserted
 returns-clause-inserted g c =
     let old = c.register.inside in
-    let now : Graph = record { made = old.made + 1; slots = c.lay.new.links.slots; numbers = c.lay.new.links.numbers; tops = trimmed c.lay.new.skylines.items } in
+    let now : Graph = record { made = old.made + 1; slots = c.lay.new.links.slots; numbers = c.lay.new.links.numbers; tops = trimmed (lines_of c.lay.new.skylines.items) } in
     subst (λ (v : Graph). IsAdded v now c.in_ok-key.key c.args.class) c.register.view_is
-    (put-in old.made (trimmed old.skylines.items) now.tops old.links c.lay.new.links c.in_ok-key.key c.args.class _
+    (put-in old.made (trimmed (lines_of old.skylines.items)) now.tops old.links c.lay.new.links c.in_ok-key.key c.args.class _
     (c.requires.name ∙ ap (λ (v : Graph). v.made) (sym c.register.view_is)) c.class.view_is c.in_ok-key.ensures.added c.in_ok-key.ensures.laid)
 
 pub returns-in_err-key-clause-fit : goal.returns-in_err-key-clause-fit

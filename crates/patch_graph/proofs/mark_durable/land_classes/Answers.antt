@@ -1,5 +1,5 @@
 use Rattle.std.proofs.Common.{subst, sym, refl, true}
-use Rattle.patch_graph.specs.Skyline.{trimmed}
+use Rattle.patch_graph.specs.Skyline.{lines_of, trimmed}
 use Rattle.patch_graph.specs.State.{Graph, KeysFit}
 use Rattle.patch_graph.specs.Meaning.{IsGraphOf}
 use Rattle.patch_graph.proofs.MarkDurable.{lands-all, landed-fit}
@@ -7,7 +7,7 @@ use Rattle.patch_graph.proofs.mark_durable.land_classes.Goals as goal
 
 pub returns-clause-answer : goal.returns-clause-answer
 returns-clause-answer g c all r o =
-    let z : Graph = record { made = c.register.inside.made; slots = c.register.inside.links.slots; numbers = c.register.inside.links.numbers; tops = trimmed c.register.inside.skylines.items } in
+    let z : Graph = record { made = c.register.inside.made; slots = c.register.inside.links.slots; numbers = c.register.inside.links.numbers; tops = trimmed (lines_of c.register.inside.skylines.items) } in
     let seen : IsGraphOf z all = subst (λ (v : Graph). IsGraphOf v all) (sym c.register.view_is) r in
     lands-all z.made z.tops c.args.block z.slots c.land.new.self.slots z.numbers c.land.new.self.numbers all (λ key. true) seen c.land.ensures.landed (λ key t. refl) o
 

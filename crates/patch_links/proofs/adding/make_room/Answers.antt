@@ -1,29 +1,28 @@
 use Rattle.std.proofs.Common.{ℕ, ap, subst, sym, ◌∙◌}
-use Rattle.patch_links.specs.Lists.{Blocks}
+use Rattle.patch_links.specs.Lists.{Blocks, lists_of}
 use Rattle.patch_links.specs.State.{Nodes}
 use Rattle.patch_links.specs.Adding.{KeepsLists, IsRoomier, HasLists}
-use Rattle.patch_links.proofs.Openings.{open-kept}
 use Rattle.patch_links.proofs.Rooms.{lists-same, room-alike}
 use Rattle.patch_links.proofs.Outcomes.{refused-done, done-still}
 use Rattle.patch_links.proofs.adding.make_room.Goals as goal
 
 pub invariant_of-blocks : goal.invariant_of-blocks
-invariant_of-blocks g c = open-kept c.blocks-2.inside.open c.blocks-2.inside.lists.items c.make_lists.new.lists.items c.make_lists.ensures.kept c.blocks-2.invariant
+invariant_of-blocks g c = c.make_lists.ensures.noted
 
 pub invariant_of-blocks-in_err-reserve : goal.invariant_of-blocks-in_err-reserve
-invariant_of-blocks-in_err-reserve g c = open-kept c.blocks-2.inside.open c.blocks-2.inside.lists.items c.make_lists.new.lists.items c.make_lists.ensures.kept c.blocks-2.invariant
+invariant_of-blocks-in_err-reserve g c = c.make_lists.ensures.noted
 
 pub invariant_of-blocks-2 : goal.invariant_of-blocks-2
-invariant_of-blocks-2 g c = open-kept c.blocks-2.inside.open c.blocks-2.inside.lists.items c.make_lists.new.lists.items c.make_lists.ensures.kept c.blocks-2.invariant
+invariant_of-blocks-2 g c = c.make_lists.ensures.noted
 
 pub returns-in_err-make_lists-clause-kept : goal.returns-in_err-make_lists-clause-kept
-returns-in_err-make_lists-clause-kept g c = subst (λ (xs : Blocks). KeepsLists xs c.make_lists.new.lists.items) (ap (λ z. z.items) c.blocks-2.view_is) c.make_lists.ensures.kept
+returns-in_err-make_lists-clause-kept g c = subst (λ (xs : Blocks). KeepsLists xs (lists_of c.make_lists.new.lists.items)) (ap (λ z. z.items) c.blocks-2.view_is) c.make_lists.ensures.kept
 
 pub returns-in_err-reserve-clause-kept : goal.returns-in_err-reserve-clause-kept
-returns-in_err-reserve-clause-kept g c = subst (λ (xs : Blocks). KeepsLists xs c.make_lists.new.lists.items) (ap (λ z. z.items) c.blocks-2.view_is) c.make_lists.ensures.kept
+returns-in_err-reserve-clause-kept g c = subst (λ (xs : Blocks). KeepsLists xs (lists_of c.make_lists.new.lists.items)) (ap (λ z. z.items) c.blocks-2.view_is) c.make_lists.ensures.kept
 
 pub returns-clause-kept : goal.returns-clause-kept
-returns-clause-kept g c = subst (λ (xs : Blocks). KeepsLists xs c.make_lists.new.lists.items) (ap (λ z. z.items) c.blocks-2.view_is) c.make_lists.ensures.kept
+returns-clause-kept g c = subst (λ (xs : Blocks). KeepsLists xs (lists_of c.make_lists.new.lists.items)) (ap (λ z. z.items) c.blocks-2.view_is) c.make_lists.ensures.kept
 
 pub returns-in_err-reserve_all-clause-kept : goal.returns-in_err-reserve_all-clause-kept
 returns-in_err-reserve_all-clause-kept g c = lists-same c.args.blocks.now.items
@@ -71,7 +70,7 @@ pub returns-clause-next : goal.returns-clause-next
 returns-clause-next g c = ap (λ z. z.vacant_key) c.reserve-2.ensures.rest_kept ∙ c.reserve_all.ensures.next
 
 pub returns-clause-lists : goal.returns-clause-lists
-returns-clause-lists g c = done-still c.reserve-2.result _ (subst (λ (b : ℕ). HasLists b c.make_lists.new.lists.items) (ap (λ z. z.block) c.class.view_is) c.in_ok-make_lists.ensures.room)
+returns-clause-lists g c = done-still c.reserve-2.result _ (subst (λ (b : ℕ). HasLists b (lists_of c.make_lists.new.lists.items)) (ap (λ z. z.block) c.class.view_is) c.in_ok-make_lists.ensures.room)
 
 pub returns-clause-followers : goal.returns-clause-followers
 returns-clause-followers g c = done-still c.reserve-2.result _ (room-alike c.args.keys.now.numbers c.reserve.new.self.numbers c.after.result.now c.args.class.now.after c.reserve_all.new.nodes.slots c.reserve-2.new.self.slots
