@@ -6,6 +6,7 @@ pub mod LookAnswers
 pub mod Asking
 pub mod Accepting
 pub mod Plain
+pub mod Residency
 pub mod Faultless
 pub mod Runs
 pub mod SameExecution
@@ -26,5 +27,7 @@ pub mod Single
 pub mod Counting
 pub mod Waving
 pub mod GivenUp
+pub mod Absent
+pub mod Clean
 pub mod Passing
 pub mod Tries

@@ -1,9 +1,10 @@
 -- What a cache shows where one of its blocks changes.
-use Rattle.std.proofs.Common.{◌≡◌, ℕ, zero, suc, ◌+◌, ◌<◌, ◌≤◌, ◌≢◌, ◌∙◌, inl, inr, true, false, List, [], ◌∷◌, length, Some, None, Ok, Err, refl, sym, ap, subst, arith}
-use Rattle.std.specs.Prelude.{◌==◌, not, slice_get, slice_set, slice_index_or}
+use Rattle.std.proofs.Common.{Option, ◌≡◌, ℕ, zero, suc, ◌+◌, ◌<◌, ◌≤◌, ◌≢◌, ◌∙◌, inl, inr, true, false, List, [], ◌∷◌, length, Some, None, Result, Ok, Err, refl, sym, ap, subst, arith}
+use Rattle.std.specs.Prelude.{Bool, ◌==◌, not, is_some, slice_get, slice_set, slice_index_or}
+use Rattle.std.specs.Result.{MatchResult, OnErr}
 use Rattle.std.specs.List.{AllByRecursion}
 use Rattle.std.proofs.lemmas.Bool.{cases_Bool, and_parts, both_ways, eqb-true, eq-eqb}
-use Rattle.std.proofs.lemmas.List.{get_or-set_same, get_or-set_other, get_or_default, set-get_or, set-set}
+use Rattle.std.proofs.lemmas.List.{get_or-set_same, get_or-set_other, set-set}
 use Rattle.std.proofs.Math.ListN.{length-set}
 use Rattle.patch_model.specs.declared.refusals.RefusalKind.TheVariants as kind
 use Rattle.patch_model.specs.declared.patches.Mark.{Mark}
@@ -18,23 +19,28 @@ use Rattle.patch_model.specs.Ready.{IsRising}
 use Rattle.patch_model.specs.Refusing.{bare, why_not_taken, why_not_put_back, class_named}
 use Rattle.patch_stacks.specs.State.{Block, outline}
 use Rattle.patch_view.specs.Meaning.{IsBlockOf}
-use Rattle.patch_view.specs.Answers.{MayTake, IsTaken, IsPutBack}
+use Rattle.patch_view.specs.Answers.{MayTake, IsTaken, IsPutBack, IsPutBackAnswer}
 use Rattle.patch_stacks.specs.declared.refusals.TakeRefusal.{TakeRefusal as ViewTakeRefusal}
 use Rattle.patch_stacks.specs.declared.refusals.PutBackRefusal.{PutBackRefusal}
 use Rattle.patch_graph.specs.Meaning.{HasMark}
-use Rattle.patch_cache.specs.Contents.{Contents, no_block, block_at, with_block}
-use Rattle.patch_cache.specs.Meaning.{Shows, IsCacheOf, ShowsWithout, only_of}
+use Rattle.patch_cache.specs.Contents.{Contents, Resident, block_or_none, block_at, is_resident, with_block}
+use Rattle.patch_cache.specs.Meaning.{Shows, IsCacheBy, ShowsBy, only_of}
 use Rattle.patch_stacks.specs.Refusal.{take_cause as view_take_cause, put_back_cause}
 use Rattle.patch_cache.specs.Viewing.{with_move, why_not_taken_of, IsViewOf}
 use Rattle.patch_cache.specs.declared.asks.Move.TheVariants.{Take, Back}
+use Rattle.patch_model.specs.Step.{Step}
+use Rattle.patch_graph.specs.State.{Graph}
+use Rattle.patch_cache.proofs.Residency.{contents_of, with_state, changed, block_of_row, at_block, resident_within, still_resident, set_again, some_block}
 
 -- The classes that are taken, by blocks.
 
-shows_alike : (c : Contents) (s t : ℕ → List ℕ) (run : Execution) → ((n : ℕ) → s n ≡ t n) → Shows c s run → Shows c t run
-shows_alike c s t run same r = record {
+shows_alike : (whole : Bool) (c : Contents) (s t : ℕ → List ℕ) (run : Execution) → ((n : ℕ) → s n ≡ t n) → Shows whole c s run → Shows whole c t run
+shows_alike whole c s t run same r = record {
   legal = r.legal;
   count = r.count;
   blocks = λ n h. subst (λ (names : List ℕ). IsBlockOf (block_at c n) names (history_of run n)) (same n) (r.blocks n h);
+  absent = r.absent;
+  resident = r.resident;
   writes = r.writes;
   graph = r.graph;
   sends = r.sends;
@@ -51,120 +57,42 @@ nothing : (block n : ℕ) → only_of block [] n ≡ []
 nothing block n = elim (cases_Bool (n == block)) [ inl t ↦ rw t refl | inr f ↦ rw f refl ]
 
 -- with nothing taken of the block nothing is taken at all
-pub all_back : (c : Contents) (block : ℕ) (run : Execution) → ShowsWithout c block [] run → IsCacheOf c run
-all_back c block run r = shows_alike c (only_of block []) (λ n. []) run (nothing block) r
+pub all_back : (whole : Bool) (c : Contents) (block : ℕ) (run : Execution) → ShowsBy whole c block [] run → IsCacheBy whole c run
+all_back whole c block run r = shows_alike whole c (only_of block []) (λ n. []) run (nothing block) r
 
-pub none_yet : (c : Contents) (block : ℕ) (run : Execution) → IsCacheOf c run → ShowsWithout c block [] run
-none_yet c block run r = shows_alike c (λ n. []) (only_of block []) run (λ n. sym (nothing block n)) r
+pub none_yet : (whole : Bool) (c : Contents) (block : ℕ) (run : Execution) → IsCacheBy whole c run → ShowsBy whole c block [] run
+none_yet whole c block run r = shows_alike whole c (λ n. []) (only_of block []) run (λ n. sym (nothing block n)) r
 
 -- One block.
 
 -- one block in another state, all else as it was
-in_place : (c : Contents) (block : ℕ) (b : Block) (names now : List ℕ) (run : Execution) → block < length c.blocks → ShowsWithout c block names run
-    → IsBlockOf b now (history_of run block) → ShowsWithout (with_block c block b) block now run
-in_place c block b names now run h r at = record {
+in_place : (whole : Bool) (c : Contents) (block : ℕ) (b : Block) (names now : List ℕ) (run : Execution) → is_resident c block ≡ true → ShowsBy whole c block names run
+    → IsBlockOf b now (history_of run block) → ShowsBy whole (with_block c block b) block now run
+in_place whole c block b names now run h r at = record {
   legal = r.legal;
-  count = length-set c.blocks block b ∙ r.count;
+  count = length-set c.blocks block (Some b) ∙ r.count;
   blocks = λ n m. elim (cases_Bool (n == block)) [
     | inl t ↦
         let e : n ≡ block = eqb-true n block t in
-        let here : block_at (with_block c block b) n ≡ b = ap (λ k. slice_index_or (slice_set c.blocks block b) k no_block) e ∙ get_or-set_same c.blocks block b no_block h in
+        let here : block_at (with_block c block b) n ≡ b =
+        ap (λ k. block_or_none (slice_index_or (slice_set c.blocks block (Some b)) k None)) e ∙ ap block_or_none (get_or-set_same c.blocks block (Some b) None (resident_within c block h)) in
         let there : IsBlockOf b now (history_of run n) = subst (λ (k : ℕ). IsBlockOf b now (history_of run k)) (sym e) at in
         subst (λ (x : Block). IsBlockOf x (only_of block now n) (history_of run n)) (sym here)
         (subst (λ (taken : List ℕ). IsBlockOf b taken (history_of run n)) (sym (only_here block n now e)) there)
     | inr f ↦
         let apart : n ≢ block = λ e. both_ways _ f (eq-eqb n block e) in
-        let here : block_at (with_block c block b) n ≡ block_at c n = get_or-set_other c.blocks block n b no_block apart in
+        let here : block_at (with_block c block b) n ≡ block_at c n = ap block_or_none (get_or-set_other c.blocks block n (Some b) None apart) in
         subst (λ (x : Block). IsBlockOf x (only_of block now n) (history_of run n)) (sym here)
-        (subst (λ (taken : List ℕ). IsBlockOf (block_at c n) taken (history_of run n)) (only_there block n names f ∙ sym (only_there block n now f)) (r.blocks n m))
+        (subst (λ (taken : List ℕ). IsBlockOf (block_at c n) taken (history_of run n)) (only_there block n names f ∙ sym (only_there block n now f))
+        (r.blocks n (sym (still_resident c.blocks block n b h) ∙ m)))
   ];
+  absent = λ n less not. r.absent n less (sym (still_resident c.blocks block n b h) ∙ not);
+  resident = λ all n less. still_resident c.blocks block n b h ∙ r.resident all n less;
   writes = r.writes;
   graph = r.graph;
   sends = r.sends;
   live = r.live;
 }
-
--- the block is lent from its place of the cache, which showed what it shows now
-pub record Lent (now c : Contents) (block place : ℕ) (b : Block) : Type 0 where
-  pub same : c ≡ now
-  pub place_is : place ≡ block
-  pub known : block < length now.blocks
-  pub value : b ≡ slice_index_or c.blocks place b
-
-value_at : (c : Contents) (block place : ℕ) (b : Block) → place ≡ block → b ≡ slice_index_or c.blocks place b → b ≡ slice_index_or c.blocks block b
-value_at c block place b is v = v ∙ ap (λ k. slice_index_or c.blocks k b) is
-
-lent_is : (now c : Contents) (block place : ℕ) (b : Block) → Lent now c block place b → block_at now block ≡ b
-lent_is now c block place b l =
-    let value : b ≡ slice_index_or now.blocks block b = value_at c block place b l.place_is l.value ∙ ap (λ v. slice_index_or v.blocks block b) l.same in
-    get_or_default now.blocks block no_block b l.known ∙ sym value
-
--- the block's records, where these of its classes are taken
-pub started : (now c : Contents) (block place : ℕ) (b : Block) (names : List ℕ) (run : Execution) → Lent now c block place b → ShowsWithout now block names run
-    → IsBlockOf b names (history_of run block)
-started now c block place b names run l r =
-    let known = l.known in
-    let count = r.count in
-    let here : block_at now block ≡ b = lent_is now c block place b l in
-    let at = r.blocks block (omega arith) in
-    subst (λ (x : Block). IsBlockOf x names (history_of run block)) here
-    (subst (λ (taken : List ℕ). IsBlockOf (block_at now block) taken (history_of run block)) (only_here block block names refl) at)
-
-pub ended : (now c : Contents) (block place : ℕ) (b after : Block) (names left : List ℕ) (run : Execution) → Lent now c block place b → ShowsWithout now block names run
-    → IsBlockOf after left (history_of run block) → ShowsWithout (with_block c place after) block left run
-ended now c block place b after names left run l r at =
-    subst (λ (k : ℕ). ShowsWithout (with_block c k after) block left run) (sym l.place_is)
-    (subst (λ (v : Contents). ShowsWithout (with_block v block after) block left run) (sym l.same) (in_place now block after names left run l.known r at))
-
--- the block alone is another
-pub only_one : (now c : Contents) (block place : ℕ) (b after : Block) → Lent now c block place b
-    → with_block c place after ≡ with_block now block (block_at (with_block c place after) block)
-only_one now c block place b after l =
-    let is : with_block c place after ≡ with_block now block after = ap (λ k. with_block c k after) l.place_is ∙ ap (λ v. with_block v block after) l.same in
-    let read : block_at (with_block c place after) block ≡ after = ap (λ v. block_at v block) is ∙ get_or-set_same now.blocks block after no_block l.known in
-    is ∙ ap (with_block now block) (sym read)
-
--- the block as it was changes nothing
-pub as_was : (now c : Contents) (block place : ℕ) (b after : Block) → Lent now c block place b → after ≡ b → with_block c place after ≡ now
-as_was now c block place b after l e =
-    ap (with_block c place) (e ∙ l.value) ∙ ap (λ bs. record c { blocks = bs }) (set-get_or c.blocks place b) ∙ l.same
-
--- What a view leaves.
-
-pub its_own_view : (c : Contents) (block : ℕ) → IsViewOf c block c
-its_own_view c block = record { others = sym (ap (λ bs. record c { blocks = bs }) (set-get_or c.blocks block no_block)); outline = refl }
-
--- the block in one more state is the same as in that alone
-set_again : (before : Contents) (block : ℕ) (b after : Block) → with_block (with_block before block b) block after ≡ with_block before block after
-set_again before block b after = ap (λ bs. record before { blocks = bs }) (set-set before.blocks block b after)
-
--- with another state of the lent block the cache is another one's but for that block, as before
-another : (before now c : Contents) (block place : ℕ) (b after : Block) → Lent now c block place b → IsViewOf before block now → with_block c place after ≡ with_block before block after
-another before now c block place b after l v =
-    ap (λ k. with_block c k after) l.place_is ∙ ap (λ w. with_block w block after) (l.same ∙ v.others) ∙ set_again before block (block_at now block) after
-
-pub still_a_view : (before now c : Contents) (block place : ℕ) (b after : Block) → Lent now c block place b → outline after ≡ outline b → IsViewOf before block now
-    → IsViewOf before block (with_block c place after)
-still_a_view before now c block place b after l same v =
-    let read : block_at (with_block c place after) block ≡ after =
-    ap (λ w. block_at w block) (ap (λ k. with_block c k after) l.place_is ∙ ap (λ w. with_block w block after) l.same) ∙ get_or-set_same now.blocks block after no_block l.known in
-    record {
-      others = another before now c block place b after l v ∙ ap (with_block before block) (sym read);
-      outline = ap outline read ∙ same ∙ sym (ap outline (lent_is now c block place b l)) ∙ v.outline;
-    }
-
--- where all is put back the cache is the one from before
-pub back_again : (before now c : Contents) (block place : ℕ) (b after : Block) (names : List ℕ) (run : Execution) → Lent now c block place b → ShowsWithout now block names run
-    → IsCacheOf before run → IsViewOf before block now
-    → ((h : History) (taken : List ℕ) (was : Block) → IsBlockOf b taken h → IsBlockOf was [] h → outline was ≡ outline b → after ≡ was)
-    → with_block c place after ≡ before
-back_again before now c block place b after names run l r r0 v back =
-    let known = l.known in
-    let count = r.count in
-    let outlined : outline (block_at before block) ≡ outline b = sym v.outline ∙ ap outline (lent_is now c block place b l) in
-    let is : after ≡ block_at before block =
-    back (history_of run block) names (block_at before block) (started now c block place b names run l r) (r0.blocks block (omega arith)) outlined in
-    another before now c block place b after l v ∙ ap (with_block before block) is ∙ ap (λ bs. record before { blocks = bs }) (set-get_or before.blocks block no_block)
 
 -- Patches by their numbers.
 
@@ -207,9 +135,9 @@ marked_at all n mark o m (e, i, number, is) = (
 
 -- Takes and puts back of a cache's block.
 
-pub durable_stays : (c : Contents) (block number : ℕ) (names : List ℕ) (run : Execution) → ShowsWithout c block names run → HasMark (entries_of run) number Durable
+pub durable_stays : (whole : Bool) (c : Contents) (block number : ℕ) (names : List ℕ) (run : Execution) → ShowsBy whole c block names run → HasMark (entries_of run) number Durable
     → with_move run block names (Take number) ≡ Err (bare kind.Durable)
-durable_stays c block number names run r m =
+durable_stays whole c block number names run r m =
     let p = marked_at (entries_of run) number Durable r.graph.orderly r.graph.numbered m in
     let at : slice_get (entries_of run) number ≡ Some p.0 = p.1 in
     let t : is_durable p.0 ≡ true = ap marks_durable p.2 in
@@ -229,48 +157,28 @@ unmade_stays block number names run past =
     rw (some, with_move) refl
 
 -- of a patch that isn't on the disk the block alone decides
-live_why : (c : Contents) (block number : ℕ) (names : List ℕ) (run : Execution) (mark : Mark) → ShowsWithout c block names run → marks_durable mark ≡ false
+live_why : (whole : Bool) (c : Contents) (block number : ℕ) (names : List ℕ) (run : Execution) (mark : Mark) → ShowsBy whole c block names run → marks_durable mark ≡ false
     → HasMark (entries_of run) number mark → why_not_taken_of run block names number ≡ why_not_taken (history_of run block) names number
-live_why c block number names run mark r live m =
+live_why whole c block number names run mark r live m =
     let p = marked_at (entries_of run) number mark r.graph.orderly r.graph.numbered m in
     let at : slice_get (entries_of run) number ≡ Some p.0 = p.1 in
     let f : is_durable p.0 ≡ false = ap marks_durable p.2 ∙ live in
     rw (at, f, why_not_taken_of) refl
 
-pub taken : (now c : Contents) (block place number : ℕ) (b after : Block) (names : List ℕ) (run : Execution) (mark : Mark) → Lent now c block place b
-    → ShowsWithout now block names run → marks_durable mark ≡ false → HasMark (entries_of run) number mark
-    → ((h : History) (taken : List ℕ) → IsBlockOf b taken h → IsTaken h taken number after)
-    → (left : List ℕ) × (with_move run block names (Take number) ≡ Ok left) × ShowsWithout (with_block c place after) block left run
-taken now c block place number b after names run mark l r live m takes =
-    let before = started now c block place b names run l r in
-    let done = takes (history_of run block) names before in
-    let none : why_not_taken_of run block names number ≡ None = live_why now block number names run mark r live m ∙ done.none in
-    (class_named (history_of run block) number ∷ names, rw (none, with_move) refl, ended now c block place b after names _ run l r done.represents)
-
-pub take_is_refused : (now c : Contents) (block place number : ℕ) (b : Block) (names : List ℕ) (run : Execution) (mark : Mark) (refusal : ViewTakeRefusal) → Lent now c block place b
-    → ShowsWithout now block names run → marks_durable mark ≡ false → HasMark (entries_of run) number mark
-    → ((h : History) (taken : List ℕ) → IsBlockOf b taken h → why_not_taken h taken number ≡ Some (view_take_cause refusal))
-    → with_move run block names (Take number) ≡ Err (view_take_cause refusal)
-take_is_refused now c block place number b names run mark refusal l r live m why =
-    let before = started now c block place b names run l r in
-    let some : why_not_taken_of run block names number ≡ Some (view_take_cause refusal) =
-    live_why now block number names run mark r live m ∙ why (history_of run block) names before in
-    rw (some, with_move) refl
-
 -- a class may be taken only of a patch that was made and isn't on the disk
 pub in_all : (all : List Entry) (h : History) (block : ℕ) (e : Entry) → h.entries ≡ of_block block all → In h.entries e → In all e
 in_all all h block e is i = (filter-In (λ e. e.patch.block == block) all e (subst (λ (es : List Entry). In es e) is i)).0
 
-pub not_made : (now : Contents) (block number : ℕ) (names : List ℕ) (run : Execution) → ShowsWithout now block names run → length (entries_of run) ≤ number
+pub not_made : (whole : Bool) (now : Contents) (block number : ℕ) (names : List ℕ) (run : Execution) → ShowsBy whole now block names run → length (entries_of run) ≤ number
     → MayTake (history_of run block) names number → ⊥
-not_made now block number names run r past may =
+not_made whole now block number names run r past may =
     let i = in_all (entries_of run) (history_of run block) block may.patch refl may.named.is_in in
     let below = r.graph.numbered.below may.patch (Contains-from_In (entries_of run) may.patch i) in
     let number = may.named.number in omega arith
 
-pub durable_is_left : (now : Contents) (block number : ℕ) (names : List ℕ) (run : Execution) → ShowsWithout now block names run → HasMark (entries_of run) number Durable
+pub durable_is_left : (whole : Bool) (now : Contents) (block number : ℕ) (names : List ℕ) (run : Execution) → ShowsBy whole now block names run → HasMark (entries_of run) number Durable
     → MayTake (history_of run block) names number → ⊥
-durable_is_left now block number names run r (e, i, is, mark) may =
+durable_is_left whole now block number names run r (e, i, is, mark) may =
     let j = in_all (entries_of run) (history_of run block) block may.patch refl may.named.is_in in
     let same : may.patch ≡ e =
     r.graph.orderly.apart may.patch e (Contains-from_In (entries_of run) may.patch j) (Contains-from_In (entries_of run) e i) (may.named.number ∙ sym is) in
@@ -278,26 +186,136 @@ durable_is_left now block number names run r (e, i, is, mark) may =
     let stays : is_memory may.patch ≡ false = ap is_memory same ∙ ap marks_memory mark in
     both_ways _ stays memory
 
-pub put_back : (now c : Contents) (block place number : ℕ) (b after : Block) (names : List ℕ) (run : Execution) → Lent now c block place b
-    → ShowsWithout now block names run → ((h : History) (taken : List ℕ) → IsBlockOf b taken h → IsPutBack h taken number after)
-    → (left : List ℕ) × (with_move run block names (Back number) ≡ Ok left) × ShowsWithout (with_block c place after) block left run
-put_back now c block place number b after names run l r back =
-    let before = started now c block place b names run l r in
-    let done = back (history_of run block) names before in
-    let none : why_not_put_back (history_of run block) names number ≡ None = done.none in
-    (moved names (ClassBack (class_named (history_of run block) number)), rw (none, with_move) refl, ended now c block place b after names _ run l r done.represents)
+-- What a view leaves.
 
-pub put_back_is_refused : (now c : Contents) (block place number : ℕ) (b : Block) (names : List ℕ) (run : Execution) (refusal : PutBackRefusal) → Lent now c block place b
-    → ShowsWithout now block names run → ((h : History) (taken : List ℕ) → IsBlockOf b taken h → why_not_put_back h taken number ≡ Some (put_back_cause refusal))
-    → with_move run block names (Back number) ≡ Err (put_back_cause refusal)
-put_back_is_refused now c block place number b names run refusal l r why =
-    let before = started now c block place b names run l r in
-    let some : why_not_put_back (history_of run block) names number ≡ Some (put_back_cause refusal) =
-    why (history_of run block) names before in
-    rw (some, with_move) refl
+pub its_own_view : (c : Contents) (block : ℕ) → is_resident c block ≡ true → IsViewOf c block c
+its_own_view c block is = record {
+  resident = is;
+  others = sym (ap (λ bs. record c { blocks = bs }) (set_again c.blocks block None (Some (block_at c block)) (some_block c block is)));
+  outline = refl;
+}
 
-pub restored : (now c : Contents) (block place : ℕ) (b after : Block) (names : List ℕ) (run : Execution) → Lent now c block place b
-    → ShowsWithout now block names run → ((h : History) (taken : List ℕ) → IsBlockOf b taken h → IsBlockOf after [] h) → IsCacheOf (with_block c place after) run
-restored now c block place b after names run l r back =
-    all_back (with_block c place after) block run
-    (ended now c block place b after names [] run l r (back (history_of run block) names (started now c block place b names run l r)))
+-- the block in one more state is the same as in that alone
+set_once : (before : Contents) (block : ℕ) (b after : Block) → with_block (with_block before block b) block after ≡ with_block before block after
+set_once before block b after = ap (λ bs. record before { blocks = bs }) (set-set before.blocks block (Some b) (Some after))
+
+-- The row of a block is lent from the cache, which showed what it shows now, and comes back with another state.
+module _ (now : Contents) (rows : List (Option Resident)) (graph : Graph) (sends live : ℕ) (trace : List Step) (place block : ℕ) (row : Resident)
+    (same : contents_of rows graph sends live trace ≡ now) (is : place ≡ block) (value : slice_index_or rows place None ≡ Some row) where
+  abbrev c : Contents
+  c = contents_of rows graph sends live trace
+
+  abbrev pub back_with : Block → Contents
+  back_with after = contents_of (slice_set rows place (Some (with_state row after))) graph sends live trace
+
+  held : slice_index_or now.blocks block None ≡ Some row.state
+  held = subst (λ (v : Contents). slice_index_or v.blocks block None ≡ Some row.state) same (block_of_row rows block row (at_block rows place block row is value))
+
+  pub known : is_resident now block ≡ true
+  known = ap is_some held
+
+  lent_is : block_at now block ≡ row.state
+  lent_is = ap block_or_none held
+
+  pub back_is : (after : Block) → back_with after ≡ with_block now block after
+  back_is after = changed rows graph sends live trace place block row after is value ∙ ap (λ v. with_block v block after) same
+
+  -- each other block is as resident as before
+  pub still : (after : Block) (n : ℕ) → is_resident (back_with after) n ≡ is_resident now n
+  still after n = ap (λ v. is_resident v n) (back_is after) ∙ still_resident now.blocks block n after known
+
+  -- the block's records, where these of its classes are taken
+  pub started : (whole : Bool) (names : List ℕ) (run : Execution) → ShowsBy whole now block names run → IsBlockOf row.state names (history_of run block)
+  started whole names run r =
+      let at = r.blocks block known in
+      subst (λ (x : Block). IsBlockOf x names (history_of run block)) lent_is
+      (subst (λ (taken : List ℕ). IsBlockOf (block_at now block) taken (history_of run block)) (only_here block block names refl) at)
+
+  pub ended : (whole : Bool) (after : Block) (names left : List ℕ) (run : Execution) → ShowsBy whole now block names run
+      → IsBlockOf after left (history_of run block) → ShowsBy whole (back_with after) block left run
+  ended whole after names left run r at =
+      subst (λ (v : Contents). ShowsBy whole v block left run) (sym (back_is after)) (in_place whole now block after names left run known r at)
+
+  read : (after : Block) → block_at (back_with after) block ≡ after
+  read after = ap (λ v. block_at v block) (back_is after) ∙ ap block_or_none (get_or-set_same now.blocks block (Some after) None (resident_within now block known))
+
+  -- the block alone is another
+  pub only_one : (after : Block) → back_with after ≡ with_block now block (block_at (back_with after) block)
+  only_one after = back_is after ∙ ap (with_block now block) (sym (read after))
+
+  -- the block as it was changes nothing
+  pub as_was : (after : Block) → after ≡ row.state → back_with after ≡ now
+  as_was after e = back_is after ∙ ap (with_block now block) e ∙ ap (λ bs. record now { blocks = bs }) (set_again now.blocks block None (Some row.state) held)
+
+  -- with another state of the lent block the cache is another one's but for that block, as before
+  another : (before : Contents) (after : Block) → IsViewOf before block now → back_with after ≡ with_block before block after
+  another before after v = back_is after ∙ ap (λ w. with_block w block after) v.others ∙ set_once before block (block_at now block) after
+
+  pub still_a_view : (before : Contents) (after : Block) → outline after ≡ outline row.state → IsViewOf before block now → IsViewOf before block (back_with after)
+  still_a_view before after alike v = record {
+    resident = v.resident;
+    others = another before after v ∙ ap (with_block before block) (sym (read after));
+    outline = ap outline (read after) ∙ alike ∙ sym (ap outline lent_is) ∙ v.outline;
+  }
+
+  -- where all is put back the cache is the one from before
+  pub back_again : (whole : Bool) (before : Contents) (after : Block) (names : List ℕ) (run : Execution) → ShowsBy whole now block names run
+      → IsCacheBy whole before run → IsViewOf before block now
+      → ((h : History) (taken : List ℕ) (was : Block) → IsBlockOf row.state taken h → IsBlockOf was [] h → outline was ≡ outline row.state → after ≡ was)
+      → back_with after ≡ before
+  back_again whole before after names run r r0 v back =
+      let there : is_resident before block ≡ true = v.resident in
+      let outlined : outline (block_at before block) ≡ outline row.state = sym v.outline ∙ ap outline lent_is in
+      let found : after ≡ block_at before block = back (history_of run block) names (block_at before block) (started whole names run r) (r0.blocks block there) outlined in
+      another before after v ∙ ap (with_block before block) found
+      ∙ ap (λ bs. record before { blocks = bs }) (set_again before.blocks block None (Some (block_at before block)) (some_block before block there))
+
+  pub taken : (whole : Bool) (number : ℕ) (after : Block) (names : List ℕ) (run : Execution) (mark : Mark) → ShowsBy whole now block names run → marks_durable mark ≡ false
+      → HasMark (entries_of run) number mark → ((h : History) (taken : List ℕ) → IsBlockOf row.state taken h → IsTaken h taken number after)
+      → (left : List ℕ) × (with_move run block names (Take number) ≡ Ok left) × ShowsBy whole (back_with after) block left run
+  taken whole number after names run mark r live m takes =
+      let done = takes (history_of run block) names (started whole names run r) in
+      let none : why_not_taken_of run block names number ≡ None = live_why whole now block number names run mark r live m ∙ done.none in
+      (class_named (history_of run block) number ∷ names, rw (none, with_move) refl, ended whole after names _ run r done.represents)
+
+  pub take_is_refused : (whole : Bool) (number : ℕ) (names : List ℕ) (run : Execution) (mark : Mark) (refusal : ViewTakeRefusal) → ShowsBy whole now block names run
+      → marks_durable mark ≡ false → HasMark (entries_of run) number mark
+      → ((h : History) (taken : List ℕ) → IsBlockOf row.state taken h → why_not_taken h taken number ≡ Some (view_take_cause refusal))
+      → with_move run block names (Take number) ≡ Err (view_take_cause refusal)
+  take_is_refused whole number names run mark refusal r live m why =
+      let some : why_not_taken_of run block names number ≡ Some (view_take_cause refusal) =
+      live_why whole now block number names run mark r live m ∙ why (history_of run block) names (started whole names run r) in
+      rw (some, with_move) refl
+
+  pub put_back : (whole : Bool) (number : ℕ) (after : Block) (names : List ℕ) (run : Execution) → ShowsBy whole now block names run
+      → ((h : History) (taken : List ℕ) → IsBlockOf row.state taken h → IsPutBack h taken number after)
+      → (left : List ℕ) × (with_move run block names (Back number) ≡ Ok left) × ShowsBy whole (back_with after) block left run
+  put_back whole number after names run r back =
+      let done = back (history_of run block) names (started whole names run r) in
+      let none : why_not_put_back (history_of run block) names number ≡ None = done.none in
+      (moved names (ClassBack (class_named (history_of run block) number)), rw (none, with_move) refl, ended whole after names _ run r done.represents)
+
+  pub put_back_is_refused : (whole : Bool) (number : ℕ) (names : List ℕ) (run : Execution) (refusal : PutBackRefusal) → ShowsBy whole now block names run
+      → ((h : History) (taken : List ℕ) → IsBlockOf row.state taken h → why_not_put_back h taken number ≡ Some (put_back_cause refusal))
+      → with_move run block names (Back number) ≡ Err (put_back_cause refusal)
+  put_back_is_refused whole number names run refusal r why =
+      let some : why_not_put_back (history_of run block) names number ≡ Some (put_back_cause refusal) = why (history_of run block) names (started whole names run r) in
+      rw (some, with_move) refl
+
+  pub restored : (whole : Bool) (after : Block) (names : List ℕ) (run : Execution) → ShowsBy whole now block names run
+      → ((h : History) (taken : List ℕ) → IsBlockOf row.state taken h → IsBlockOf after [] h) → IsCacheBy whole (back_with after) run
+  restored whole after names run r back =
+      all_back whole (back_with after) block run (ended whole after names [] run r (back (history_of run block) names (started whole names run r)))
+
+  -- what the block's own put back gives, the cache's gives
+  pub put_back_answer : {X : Type 0} → (r : Result X PutBackRefusal) (whole : Bool) (number : ℕ) (after : Block) (names : List ℕ) (run : Execution) → ShowsBy whole now block names run
+      → ((h : History) (taken : List ℕ) → IsBlockOf row.state taken h → IsPutBackAnswer h taken number after r)
+      → MatchResult r
+      (λ done. (left : List ℕ) × (with_move run block names (Back number) ≡ Ok left) × ShowsBy whole (back_with after) block left run)
+      (λ refusal. with_move run block names (Back number) ≡ Err (put_back_cause refusal))
+  put_back_answer (Ok x) whole number after names run r answer = put_back whole number after names run r answer
+  put_back_answer (Err e) whole number after names run r why = put_back_is_refused whole number names run e r why
+
+  pub kept : {X : Type 0} → (r : Result X PutBackRefusal) (after : Block) → OnErr r (after ≡ row.state) → OnErr r (back_with after ≡ now)
+  kept (Ok x) after same_state = tt
+  kept (Err e) after same_state = as_was after same_state

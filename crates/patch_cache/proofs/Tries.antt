@@ -1,5 +1,5 @@
 -- Tries and held flights of stretches, one after another.
-use Rattle.std.proofs.Common.{inl, ◌≡◌, ℕ, ◌+◌, ◌<◌, ◌≤◌, ◌∙◌, Bool, true, false, cond, List, [], ◌∷◌, ◌++◌, length, refl, sym, ap, subst, arith, take, drop, get_or, swap_remove}
+use Rattle.std.proofs.Common.{inl, ◌≡◌, ℕ, ◌+◌, ◌<◌, ◌∙◌, Bool, true, false, cond, List, [], ◌∷◌, ◌++◌, length, refl, sym, ap, subst, arith, take, drop, get_or, swap_remove}
 use Rattle.std.specs.Prelude.{◌==◌, count_by}
 use Rattle.std.proofs.lemmas.List.{append-nil, take-append-drop}
 use Rattle.std.proofs.lemmas.List.Sums.{sum_by-swap_remove}
@@ -14,7 +14,7 @@ use Rattle.patch_cache.specs.Tries.{IsTried, AreTried, IsWave, AreWaves, EachTri
 use Rattle.patch_cache.specs.declared.flights.Flights.{Flights}
 use Rattle.patch_cache.specs.declared.flights.Flight.{Flight}
 use Rattle.patch_cache.proofs.Counting.{count-append, count_le}
-use Rattle.patch_cache.proofs.Waving.{none_added, since_is, since_both, since_more}
+use Rattle.patch_cache.proofs.Waving.{since_is, since_both}
 
 -- Tries.
 

@@ -1,5 +1,5 @@
 -- What a step leaves of a cache where it changes one block.
-use Rattle.std.proofs.Common.{◌≡◌, ℕ, ◌<◌, ◌∙◌, inl, inr, Bool, false, List, [], ◌∷◌, length, length-set, get_or, set, filter, refl, sym, ap, arith, subst, Option, Some, None}
+use Rattle.std.proofs.Common.{◌≡◌, ℕ, ◌<◌, ◌∙◌, inl, inr, Bool, true, false, List, [], ◌∷◌, length, length-set, get_or, set, filter, refl, sym, ap, arith, subst, Option, Some, None}
 use Rattle.std.specs.Prelude.{◌==◌, ◌≢◌, not, count_by, Contains}
 use Rattle.std.specs.List.{list_any}
 use Rattle.std.proofs.lemmas.Bool.{cases_Bool, eqb-true, eqb-false, ne_eqb}
@@ -17,8 +17,10 @@ use Rattle.patch_stacks.specs.State.{Block}
 use Rattle.patch_view.specs.Meaning.{IsBlockOf}
 use Rattle.patch_graph.specs.State.{Graph}
 use Rattle.patch_graph.specs.Meaning.{IsGraphOf}
-use Rattle.patch_cache.specs.Contents.{Contents, Write, no_block}
-use Rattle.patch_cache.specs.Meaning.{IsCacheOf, IsWriteOf}
+use Rattle.patch_cache.specs.Contents.{Contents, Write, is_resident}
+use Rattle.patch_cache.specs.Meaning.{IsCacheBy, IsWriteOf}
+use Rattle.patch_cache.proofs.Residency.{apart, clean_stays, resident_within, still_resident}
+use Rattle.patch_cache.proofs.Stepping.{block_stays}
 
 -- what is known of an execution's new step, which is of the one block
 pub record IsStepOf (run : Execution) (step : Step) (block : ℕ) : Type 0 where
@@ -27,34 +29,29 @@ pub record IsStepOf (run : Execution) (step : Step) (block : ℕ) : Type 0 where
   pub others : (other : ℕ) → other ≢ block → history_of (extended run step) other ≡ history_of run other
   pub writes : (other : ℕ) (w : Option Write) → other ≢ block → IsWriteOf run other w → IsWriteOf (extended run step) other w
 
-pub stepped : (run : Execution) (step : Step) (c : Contents) (i block : ℕ) (b : Block) (w : Option Write) (g : Graph) (sends live : ℕ) (trace : List Step)
-    → i ≡ block → IsCacheOf c run → length c.writes ≡ length c.blocks → IsStepOf run step block
+pub stepped : (whole : Bool) (run : Execution) (step : Step) (c : Contents) (block : ℕ) (b : Block) (w : Option Write) (g : Graph) (sends live : ℕ) (trace : List Step)
+    → IsCacheBy whole c run → length c.writes ≡ length c.blocks → is_resident c block ≡ true → IsStepOf run step block
     → IsBlockOf b [] (history_of (extended run step) block) → IsWriteOf (extended run step) block w → IsGraphOf g (entries_of (extended run step))
     → sends ≡ (state_of (extended run step)).sends → live ≡ count_by is_live (entries_of (extended run step))
-    → IsCacheOf (record { blocks = set c.blocks i b; writes = set c.writes i w; graph = g; sends = sends; live = live; trace = trace }) (extended run step)
-stepped run step c i block b w g sends live trace place at long is new write graph same_sends same_live = record {
+    → IsCacheBy whole (record { blocks = set c.blocks block (Some b); writes = set c.writes block w; graph = g; sends = sends; live = live; trace = trace }) (extended run step)
+stepped whole run step c block b w g sends live trace at long there is new write graph same_sends same_live = record {
   legal = is.legal;
-  count = length-set c.blocks i b ∙ at.count;
-  blocks = λ other h. elim (cases_Bool (other == block)) [
-    | inl t ↦
-        let here : i ≡ other = place ∙ sym (eqb-true other block t) in
-        let set_there : get_or (set c.blocks i b) i no_block ≡ b = get_or-set_same c.blocks i b no_block (let n = at.count in let k = is.known in omega arith) in
-        subst (λ k. IsBlockOf (get_or (set c.blocks i b) k no_block) [] (history_of (extended run step) k)) here
-        (subst (λ z. IsBlockOf z [] (history_of (extended run step) i)) (sym set_there) (subst (λ k. IsBlockOf b [] (history_of (extended run step) k)) (sym place) new))
-    | inr f ↦
-        let differ : other ≢ block = eqb-false other block f in
-        let kept : get_or (set c.blocks i b) other no_block ≡ get_or c.blocks other no_block = get_or-set_other c.blocks i other b no_block (λ e. differ (e ∙ place)) in
-        subst (λ z. IsBlockOf z [] (history_of (extended run step) other)) (sym kept) (subst (IsBlockOf (get_or c.blocks other no_block) []) (sym (is.others other differ)) (at.blocks other h))
-  ];
+  count = length-set c.blocks block (Some b) ∙ at.count;
+  blocks = λ other k. block_stays c.blocks block b run (extended run step) other (resident_within c block there) is.others new
+      (λ not. at.blocks other (sym (still_resident c.blocks block other b there) ∙ k));
+  absent = λ other less not.
+      let was_not : is_resident c other ≡ false = sym (still_resident c.blocks block other b there) ∙ not in
+      clean_stays run (extended run step) other (is.others other (apart c block other there was_not)) (at.absent other less was_not);
+  resident = λ all other less. still_resident c.blocks block other b there ∙ at.resident all other less;
   writes = λ other h. elim (cases_Bool (other == block)) [
     | inl t ↦
-        let here : i ≡ other = place ∙ sym (eqb-true other block t) in
-        let set_there : get_or (set c.writes i w) i None ≡ w = get_or-set_same c.writes i w None (let n = at.count in let k = is.known in omega arith) in
-        subst (λ k. IsWriteOf (extended run step) k (get_or (set c.writes i w) k None)) here
-        (subst (IsWriteOf (extended run step) i) (sym set_there) (subst (λ k. IsWriteOf (extended run step) k w) (sym place) write))
+        let here : block ≡ other = sym (eqb-true other block t) in
+        let set_there : get_or (set c.writes block w) block None ≡ w = get_or-set_same c.writes block w None (let n = resident_within c block there in omega (arith, long, n)) in
+        subst (λ k. IsWriteOf (extended run step) k (get_or (set c.writes block w) k None)) here
+        (subst (IsWriteOf (extended run step) block) (sym set_there) write)
     | inr f ↦
         let differ : other ≢ block = eqb-false other block f in
-        let kept : get_or (set c.writes i w) other None ≡ get_or c.writes other None = get_or-set_other c.writes i other w None (λ e. differ (e ∙ place)) in
+        let kept : get_or (set c.writes block w) other None ≡ get_or c.writes other None = get_or-set_other c.writes block other w None differ in
         subst (IsWriteOf (extended run step) other) (sym kept) (is.writes other (get_or c.writes other None) differ (at.writes other h))
   ];
   graph = graph;

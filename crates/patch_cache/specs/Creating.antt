@@ -1,5 +1,5 @@
 -- A patch as a cache makes it.
-use Rattle.std.specs.Prelude.{ℕ, ◌≡◌, List, [], Option, None, length}
+use Rattle.std.specs.Prelude.{ℕ, Bool, true, ◌≡◌, List, [], Option, None, length}
 use Rattle.patch_model.specs.declared.patches.Undo.{Undo}
 use Rattle.patch_model.specs.Step.{Create}
 use Rattle.patch_model.specs.Execution.{Execution, extended}
@@ -13,7 +13,7 @@ use Rattle.patch_view.specs.Meaning.{IsBlockOf}
 use Rattle.patch_graph.specs.State.{Graph}
 use Rattle.patch_graph.specs.Meaning.{IsGraphOf}
 use Rattle.patch_cache.specs.Contents.{Contents}
-use Rattle.patch_cache.specs.Meaning.{IsCacheOf}
+use Rattle.patch_cache.specs.Meaning.{IsCacheBy}
 
 -- why a patch isn't made
 abbrev pub why_not_created : Execution → (block start : ℕ) (bytes after : List ℕ) → Option Refusal
@@ -24,9 +24,12 @@ abbrev pub MayBeMade : Execution → (block start : ℕ) (bytes after : List ℕ
 MayBeMade run block start bytes after = why_not_created run block start bytes after ≡ None
 
 -- the patch that no cause stands against has the next number, and the cache holds it
+abbrev pub IsMadeBy : (whole : Bool) → Execution → (block start : ℕ) (bytes after : List ℕ) → Undo → (number : ℕ) → Contents → Type 0
+IsMadeBy whole run block start bytes after undo number c =
+    MayBeMade run block start bytes after × (number ≡ length (entries_of run)) × IsCacheBy whole c (extended run (Create block start bytes after undo))
+
 abbrev pub IsMade : Execution → (block start : ℕ) (bytes after : List ℕ) → Undo → (number : ℕ) → Contents → Type 0
-IsMade run block start bytes after undo number c =
-    MayBeMade run block start bytes after × (number ≡ length (entries_of run)) × IsCacheOf c (extended run (Create block start bytes after undo))
+IsMade run block start bytes after undo number c = IsMadeBy true run block start bytes after undo number c
 
 -- the patch may be laid on its block, whose state this is, and added to the graph
 pub record MayLay (run : Execution) (block start : ℕ) (bytes after : List ℕ) (state : Block) (graph : Graph) : Type 0 where

@@ -1,5 +1,5 @@
 -- Writes on their way to the disk.
-use Rattle.std.specs.Prelude.{ℕ, Bool, false, ◌≡◌, ◌≤◌, MatchOption, List, Option, Some, None, Contains, slice_get, slice_set, IsTrue, IsFalse}
+use Rattle.std.specs.Prelude.{ℕ, Bool, true, false, ◌≡◌, ◌≤◌, MatchOption, List, Option, Some, None, Contains, slice_get, IsTrue, IsFalse}
 use Rattle.patch_model.specs.Execution.{Execution, extended}
 use Rattle.patch_model.specs.Step.{Send, Complete}
 use Rattle.patch_model.specs.Ready.{ready}
@@ -8,7 +8,7 @@ use Rattle.patch_model.specs.History.{history_of, image}
 use Rattle.patch_model.specs.Refusing.{why_not_sent}
 use Rattle.patch_model.specs.Member.{In}
 use Rattle.patch_cache.specs.Contents.{Contents, Write}
-use Rattle.patch_cache.specs.Meaning.{IsCacheOf}
+use Rattle.patch_cache.specs.Meaning.{IsCacheBy}
 use Rattle.patch_cache.specs.declared.flights.Flight.{Flight}
 use Rattle.patch_cache.specs.declared.flights.Landed.{Landed}
 use Rattle.patch_cache.specs.declared.writes.Done.{Done}
@@ -30,8 +30,11 @@ abbrev pub MaySend : Execution → (block : ℕ) → List ℕ → Type 0
 MaySend run block numbers = (why_not_sent run block ≡ None) × (numbers ≡ numbers_of (ready (entries_of run) block))
 
 -- it is begun, and the cache has it under way
+abbrev pub IsBegunBy : {A : Type 0} → (whole : Bool) → Execution → (block : ℕ) → Flight A → Contents → Type 0
+IsBegunBy whole run block flight c = IsSent run block flight × IsCacheBy whole c (extended run (Send block))
+
 abbrev pub IsBegun : {A : Type 0} → Execution → (block : ℕ) → Flight A → Contents → Type 0
-IsBegun run block flight c = IsSent run block flight × IsCacheOf c (extended run (Send block))
+IsBegun run block flight c = IsBegunBy true run block flight c
 
 -- a write that was begun and not completed, with what is in flight of its block, and the block's image
 pub record IsFlightOf {A : Type 0} (run : Execution) (flight : Flight A) : Type 0 where
@@ -52,14 +55,17 @@ abbrev pub AreFlightsOf : {A : Type 0} → Execution → List (Flight A) → Typ
 AreFlightsOf run held = AreFlightsBeside false run held
 
 -- the block's write is ended: it was under way, and what was in flight of the block is durable in the cache
-abbrev pub IsEnded : {A : Type 0} → Execution → Landed → Done A → Contents → Type 0
-IsEnded run landed done c =
+abbrev pub IsEndedBy : {A : Type 0} → (whole : Bool) → Execution → Landed → Done A → Contents → Type 0
+IsEndedBy whole run landed done c =
     Contains (state_of run).flights (landed.block, landed.sequence)
     × (done.block ≡ landed.block)
     × (done.numbers ≡ numbers_of (flying_of (entries_of run) landed.block))
-    × IsCacheOf c (extended run (Complete landed.block))
+    × IsCacheBy whole c (extended run (Complete landed.block))
 
--- the block's write, if it has this number, was taken out of the writes
-abbrev pub IsWithdrawn : List (Option Write) → ℕ → ℕ → Option Write → List (Option Write) → Type 0
-IsWithdrawn old block sequence None new = (new ≡ old) × ((write : Write) → slice_get old block ≡ Some (Some write) → write.sequence ≡ sequence → ⊥)
-IsWithdrawn old block sequence (Some write) new = (slice_get old block ≡ Some (Some write)) × (write.sequence ≡ sequence) × (new ≡ slice_set old block None)
+abbrev pub IsEnded : {A : Type 0} → Execution → Landed → Done A → Contents → Type 0
+IsEnded run landed done c = IsEndedBy true run landed done c
+
+-- a block's write, if it has this number, was taken out
+abbrev pub IsWithdrawn : Option Write → ℕ → Option Write → Option Write → Type 0
+IsWithdrawn old sequence None new = (new ≡ old) × ((write : Write) → old ≡ Some write → write.sequence ≡ sequence → ⊥)
+IsWithdrawn old sequence (Some write) new = (old ≡ Some write) × (write.sequence ≡ sequence) × (new ≡ None)

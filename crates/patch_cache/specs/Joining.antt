@@ -1,14 +1,16 @@
 -- How what was done in two stretches, one after the other, is done in one.
-use Rattle.std.specs.Prelude.{ℕ, ◌≡◌, ◌≢◌, ◌++◌, List, [], count_by}
+use Rattle.std.specs.Prelude.{ℕ, ◌≡◌, ◌≢◌, ◌++◌, ◌∷◌, List, [], Some, IsFalse, count_by, slice_get}
+use Rattle.std.specs.List.{swap_remove}
 use Rattle.patch_model.specs.declared.patches.Undo.{Undo}
-use Rattle.patch_model.specs.Step.{Step, Create, Complete}
+use Rattle.patch_model.specs.Step.{Step, Create, Merge, Send, Complete}
 use Rattle.patch_model.specs.Execution.{Execution, extended, followed_by}
+use Rattle.patch_model.specs.State.{state_of, has_flight}
 use Rattle.patch_model.specs.Legal.{IsLegal}
 use Rattle.patch_model.specs.Crash.{MayLeave}
 use Rattle.patch_device.specs.SameDevice.{LeavesOnly}
 use Rattle.patch_device.specs.declared.devices.Device.{Ghosts}
 use Rattle.patch_cache.specs.Contents.{Contents}
-use Rattle.patch_cache.specs.Flights.{AreFlightsOf}
+use Rattle.patch_cache.specs.Flights.{IsSent, AreFlightsOf}
 use Rattle.patch_cache.specs.Running.{Runs, IsCrashSafe}
 use Rattle.patch_cache.specs.Waves.{is_send, steps_since, Continues, HasGoneOn, HasKept}
 use Rattle.patch_cache.specs.Tries.{IsWave, EachTried}
@@ -84,3 +86,21 @@ abbrev pub FlightsStay : (A : Type 0) → Type 0
 FlightsStay A =
     (run : Execution) (block start : ℕ) (bytes after : List ℕ) (undo : Undo) (held : List (Flight A))
     → AreFlightsOf run held → AreFlightsOf (extended run (Create block start bytes after undo)) held
+
+-- and beside a merge
+abbrev pub FlightsStayMerged : (A : Type 0) → Type 0
+FlightsStayMerged A = (run : Execution) (a b : ℕ) (held : List (Flight A)) → AreFlightsOf run held → AreFlightsOf (extended run (Merge a b)) held
+
+-- the flight of a write that begins is one of them
+abbrev pub FlightsBegin : (A : Type 0) → Type 0
+FlightsBegin A =
+    (run : Execution) (block : ℕ) (held : List (Flight A)) (flight : Flight A)
+    → IsLegal run → IsFalse (has_flight (state_of run) block) → IsSent run block flight
+    → AreFlightsOf run held → AreFlightsOf (extended run (Send block)) (held ++ flight ∷ [])
+
+-- and that of a write that ends is taken out
+abbrev pub FlightsEnd : (A : Type 0) → Type 0
+FlightsEnd A =
+    (run : Execution) (block at : ℕ) (held : List (Flight A)) (flight left : Flight A)
+    → slice_get held at ≡ Some flight → flight.block ≡ block
+    → AreFlightsOf run held → AreFlightsOf (extended run (Complete block)) (swap_remove held at left)

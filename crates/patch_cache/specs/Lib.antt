@@ -1,5 +1,6 @@
 pub mod Contents
 pub mod Meaning
+pub mod Paging
 pub mod Opening
 pub mod Refusals
 pub mod Flights

@@ -1,5 +1,5 @@
 -- Two classes, as a cache makes one of them.
-use Rattle.std.specs.Prelude.{ℕ, Bool, ◌≡◌, ◌==◌, ◌&&◌, not, min, nat_le, if◌then◌else◌, List, [], Option, Some, None, MatchOption}
+use Rattle.std.specs.Prelude.{ℕ, Bool, true, ◌≡◌, ◌==◌, ◌&&◌, not, min, nat_le, if◌then◌else◌, List, [], Option, Some, None, MatchOption}
 use Rattle.patch_model.specs.declared.refusals.Refusal.{Refusal}
 use Rattle.patch_model.specs.declared.patches.Mark.TheVariants.{Memory}
 use Rattle.patch_model.specs.declared.refusals.RefusalKind.TheVariants as kind
@@ -16,7 +16,7 @@ use Rattle.patch_graph.specs.State.{Graph}
 use Rattle.patch_graph.specs.Meaning.{IsGraphOf}
 use Rattle.patch_graph.specs.Showing.{IsShown}
 use Rattle.patch_cache.specs.Contents.{Contents}
-use Rattle.patch_cache.specs.Meaning.{IsCacheOf}
+use Rattle.patch_cache.specs.Meaning.{IsCacheBy}
 use Rattle.patch_graph.specs.declared.classes.LiveClass.{LiveClass}
 
 -- the class of the patch of this number, which is in memory
@@ -51,9 +51,12 @@ abbrev pub MayMerge : Execution → (a b block : ℕ) → Type 0
 MayMerge run a b block = IsLegalMerge (entries_of run) a b × (block ≡ block_of_patch (entries_of run) a)
 
 -- the class of the merge has the lesser name, and the cache holds it
+abbrev pub IsMergedBy : (whole : Bool) → Execution → (a b name : ℕ) → Contents → Type 0
+IsMergedBy whole run a b name c =
+    IsLegalMerge (entries_of run) a b × (name ≡ min (class_of (entries_of run) a) (class_of (entries_of run) b)) × IsCacheBy whole c (extended run (Merge a b))
+
 abbrev pub IsMerged : Execution → (a b name : ℕ) → Contents → Type 0
-IsMerged run a b name c =
-    IsLegalMerge (entries_of run) a b × (name ≡ min (class_of (entries_of run) a) (class_of (entries_of run) b)) × IsCacheOf c (extended run (Merge a b))
+IsMerged run a b name c = IsMergedBy true run a b name c
 
 -- the classes may be merged on their block, whose state this is, and in the graph
 pub record MayMergeOn (run : Execution) (a b : ℕ) (state : Block) (graph : Graph) : Type 0 where

@@ -5,6 +5,10 @@ use Rattle.patch_model.specs.declared.refusals.RefusalKind.TheVariants as kind
 use Rattle.patch_model.specs.Entry.{Entry}
 use Rattle.patch_model.specs.Legal.{IsLegalMerge}
 use Rattle.patch_model.specs.Refusing.{bare, with_number, why_no_pair, IsLeastThird}
+use Rattle.patch_cache.specs.declared.refusals.ViewRefusal.{ViewRefusal}
+use Rattle.patch_cache.specs.declared.refusals.ViewRefusal.TheVariants as view
+use Rattle.patch_cache.specs.declared.refusals.EvictRefusal.{EvictRefusal}
+use Rattle.patch_cache.specs.declared.refusals.EvictRefusal.TheVariants as evict
 use Rattle.patch_cache.specs.declared.refusals.ReadRefusal.{ReadRefusal}
 use Rattle.patch_cache.specs.declared.refusals.ReadRefusal.TheVariants as read
 use Rattle.patch_cache.specs.declared.refusals.CreateRefusal.{CreateRefusal}
@@ -19,12 +23,23 @@ use Rattle.patch_cache.specs.declared.refusals.DeviceGaveUp.{DeviceGaveUp}
 use Rattle.patch_cache.specs.declared.refusals.FlushRefusal.{FlushRefusal}
 use Rattle.patch_cache.specs.declared.refusals.FlushRefusal.TheVariants as flush
 
+abbrev pub view_cause : ViewRefusal → Refusal
+view_cause view.NoSuchBlock = bare kind.NoSuchBlock
+view_cause (view.NotResident n) = with_number kind.NotResident n
+
+abbrev pub evict_cause : EvictRefusal → Refusal
+evict_cause evict.NoSuchBlock = bare kind.NoSuchBlock
+evict_cause (evict.NotResident n) = with_number kind.NotResident n
+evict_cause evict.Live = bare kind.Live
+
 abbrev pub read_cause : ReadRefusal → Refusal
 read_cause read.NoSuchBlock = bare kind.NoSuchBlock
+read_cause (read.NotResident n) = with_number kind.NotResident n
 read_cause read.OutOfBlock = bare kind.OutOfBlock
 
 abbrev pub create_cause : CreateRefusal → Refusal
 create_cause create.NoSuchBlock = bare kind.NoSuchBlock
+create_cause (create.NotResident n) = with_number kind.NotResident n
 create_cause create.EmptyPatch = bare kind.EmptyPatch
 create_cause create.OutOfBlock = bare kind.OutOfBlock
 create_cause create.UnknownDependency = bare kind.UnknownDependency
@@ -44,6 +59,7 @@ merge_cause merge.OutOfMemory = bare kind.OutOfMemory
 
 abbrev pub send_cause : SendRefusal → Refusal
 send_cause send.NoSuchBlock = bare kind.NoSuchBlock
+send_cause (send.NotResident n) = with_number kind.NotResident n
 send_cause send.AlreadyInFlight = bare kind.AlreadyInFlight
 send_cause send.NothingReady = bare kind.NothingReady
 send_cause send.OutOfMemory = bare kind.OutOfMemory

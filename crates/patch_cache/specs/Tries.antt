@@ -1,5 +1,5 @@
 -- How often the write of each flight is tried, and that no flight is lost.
-use Rattle.std.specs.Prelude.{ℕ, Bool, true, false, ◌≡◌, ◌==◌, ◌+◌, ◌≤◌, List, [], ◌∷◌, count_by}
+use Rattle.std.specs.Prelude.{ℕ, Bool, false, ◌≡◌, ◌==◌, ◌+◌, ◌≤◌, List, [], ◌∷◌, count_by}
 use Rattle.patch_model.specs.Step.{Step, Create, Merge, Send, Complete}
 use Rattle.patch_device.specs.Device.{IsOldOrNew}
 use Rattle.patch_device.specs.SameDevice.{IsSameDevice}

@@ -1,5 +1,5 @@
 -- What a view of one block of a cache answers.
-use Rattle.std.specs.Prelude.{ℕ, ◌≡◌, ◌+◌, ◌==◌, not, List, [], ◌∷◌, filter, slice_get, slice_range, Option, Some, None, Result, Ok, Err, MatchResult, length, if◌then◌else◌}
+use Rattle.std.specs.Prelude.{ℕ, Bool, true, ◌≡◌, ◌+◌, ◌==◌, not, List, [], ◌∷◌, filter, slice_get, slice_range, Option, Some, None, Result, Ok, Err, MatchResult, IsTrue, length, if◌then◌else◌}
 use Rattle.std.specs.Borrow.{GName}
 use Rattle.patch_model.specs.declared.refusals.Refusal.{Refusal}
 use Rattle.patch_model.specs.declared.refusals.RefusalKind.TheVariants as kind
@@ -9,8 +9,8 @@ use Rattle.patch_model.specs.State.{entries_of}
 use Rattle.patch_model.specs.History.{history_of, cached}
 use Rattle.patch_model.specs.Refusing.{bare, why_not_taken, why_not_put_back, why_not_shown, class_named}
 use Rattle.patch_stacks.specs.State.{outline as the_outline}
-use Rattle.patch_cache.specs.Contents.{Contents, block_at, with_block}
-use Rattle.patch_cache.specs.Meaning.{ShowsWithout}
+use Rattle.patch_cache.specs.Contents.{Contents, block_at, is_resident, with_block}
+use Rattle.patch_cache.specs.Meaning.{ShowsBy}
 use Rattle.patch_cache.specs.declared.asks.Move.{Move}
 use Rattle.patch_cache.specs.declared.asks.Move.TheVariants.{Take, Back}
 use Rattle.patch_cache.specs.declared.views.CacheView.{CacheView}
@@ -54,16 +54,23 @@ abbrev pub IsRead : Execution → (block start len : ℕ) → List ℕ → Type 
 IsRead run block start len bytes = (why_not_read run block start len ≡ None) × (bytes ≡ bytes_at (cached (history_of run block)) start len)
 
 -- the cache stands where some classes of the block are taken
+abbrev pub StandsBy : (whole : Bool) → Execution → ℕ → Contents → Type 0
+StandsBy whole run block c = (names : List ℕ) × ShowsBy whole c block names run
+
 abbrev pub Stands : Execution → ℕ → Contents → Type 0
-Stands run block c = (names : List ℕ) × ShowsWithout c block names run
+Stands run block c = StandsBy true run block c
 
 -- a move that was made, or why it wasn't
-abbrev pub IsMoved : {E : Type 0} → (E → Refusal) → Execution → (block : ℕ) → List ℕ → Move → Result (Unit {0}) E → Contents → Type 0
-IsMoved cause run block names move result c =
-    MatchResult result (λ done. (now : List ℕ) × (with_move run block names move ≡ Ok now) × ShowsWithout c block now run) (λ refusal. with_move run block names move ≡ Err (cause refusal))
+abbrev pub IsMovedBy : {E : Type 0} → (whole : Bool) → (E → Refusal) → Execution → (block : ℕ) → List ℕ → Move → Result (Unit {0}) E → Contents → Type 0
+IsMovedBy whole cause run block names move result c =
+    MatchResult result (λ done. (now : List ℕ) × (with_move run block names move ≡ Ok now) × ShowsBy whole c block now run) (λ refusal. with_move run block names move ≡ Err (cause refusal))
 
--- the cache is this one but for what a view changes of the block: its bytes, which classes are taken, and what they keep
+abbrev pub IsMoved : {E : Type 0} → (E → Refusal) → Execution → (block : ℕ) → List ℕ → Move → Result (Unit {0}) E → Contents → Type 0
+IsMoved cause run block names move result c = IsMovedBy true cause run block names move result c
+
+-- the cache is this one but for what a view changes of the block, which is resident: its bytes, which classes are taken, and what they keep
 pub record IsViewOf (before : Contents) (block : ℕ) (c : Contents) : Type 0 where
+  pub resident : IsTrue (is_resident before block)
   pub others : c ≡ with_block before block (block_at c block)
   pub outline : the_outline (block_at c block) ≡ the_outline (block_at before block)
 
@@ -78,8 +85,11 @@ abbrev pub borrow_of : {A : Type 0} → CacheView A → GName
 borrow_of v = v.cache.ghost_name
 
 -- what the view shows: its cache with these classes of its block taken
+abbrev pub HasTakenBy : {A : Type 0} → (whole : Bool) → CacheView A → List ℕ → Execution → Type 0
+HasTakenBy whole v names run = ShowsBy whole (seen_by v) (block_of v) names run
+
 abbrev pub HasTaken : {A : Type 0} → CacheView A → List ℕ → Execution → Type 0
-HasTaken v names run = ShowsWithout (seen_by v) (block_of v) names run
+HasTaken v names run = HasTakenBy true v names run
 
 -- the cache was this one when the view was lent
 abbrev pub IsLentOf : {A : Type 0} → Contents → CacheView A → Type 0

@@ -1,5 +1,6 @@
 //! The cache, and what is read of it.
-ghost use Rattle.std.specs.Prelude.{◌≡◌, ◌<◌, ◌≤◌, ℕ, [], None, length, replicate, map, count_by, IsTrue, IsSome, MatchOption, IfOk, OnOk, OnErr, Contains};
+ghost use Rattle.std.specs.Prelude.{◌≡◌, ◌<◌, ◌≤◌, ℕ, [], length, map, count_by, IsTrue, IsSome, MatchOption, IfOk, OnOk, OnErr, Contains};
+ghost use Rattle.patch_model.specs.declared.limits.TheConstants.{MAX_CACHED};
 ghost use Rattle.patch_model.specs.Execution.{Execution};
 ghost use Rattle.patch_model.specs.State.{entries_of, state_of};
 ghost use Rattle.patch_model.specs.Entry.{Entry, is_live, is_memory};
@@ -7,16 +8,16 @@ ghost use Rattle.patch_model.specs.StepOf.{step_of};
 ghost use Rattle.patch_model.specs.declared.patches.Mark.TheVariants.{Durable};
 ghost use Rattle.patch_graph.specs.Meaning.{HasMark};
 ghost use Rattle.patch_cache.specs.Contents.{drained};
-ghost use Rattle.patch_cache.specs.Meaning.{IsCacheOf};
+ghost use Rattle.patch_cache.specs.Meaning.{IsCacheOf, IsPagedCacheOf};
 ghost use Rattle.patch_cache.specs.Flights.{IsLeastReady};
 ghost use Rattle.patch_cache.specs.Opening.{AreUnpatched};
 
-use crate::writes::Write;
+use crate::residents::Resident;
 use patch_graph::Graph;
 use patch_model::{
-    BlockBytes, BlockNo, MAX_BLOCKS, Mark, OutOfMemory, PatchNo, Step, laws as model_laws,
+    BlockBytes, BlockNo, MAX_CACHED, Mark, OutOfMemory, PatchNo, Step, laws as model_laws,
 };
-use patch_view::BlockState;
+use patch_rows::Rows;
 use std::alloc::{Allocator, Global};
 use std::marker::Model;
 
@@ -27,8 +28,8 @@ use std::marker::Model;
 #[derive(Drop)]
 pub struct Cache<A: Allocator + Copy = Global> {
     pub(crate) alloc: A,
-    pub(crate) blocks: Vec<BlockState<A>, A>,
-    pub(crate) writes: Vec<Option<Write<A>>, A>,
+    /// The resident blocks.
+    pub(crate) rows: Rows<Resident<A>, A>,
     pub(crate) graph: Graph<A>,
     pub(crate) sends: u32,
     pub(crate) live: u32,
@@ -40,41 +41,37 @@ pub struct Cache<A: Allocator + Copy = Global> {
 impl<A: Allocator + Copy> Model for Cache<A> {
     ghost use Rattle.std.specs.Prelude.{◌≡◌, ◌≤◌, ◌+◌, map, length, count_by, is_some, vec_capacity};
     ghost use Rattle.patch_model.specs.StepOf.{step_of};
-    ghost use Rattle.patch_model.specs.declared.limits.TheConstants.{MAX_BLOCKS};
-    ghost use Rattle.patch_cache.specs.Contents.{Contents};
+    ghost use Rattle.patch_model.specs.declared.limits.TheConstants.{MAX_CACHED};
+    ghost use Rattle.patch_cache.specs.Contents.{Contents, state_in, write_in};
 
     ghost Value = { Contents };
 
     ghost view = { λ c. record {
-      blocks = c.blocks.items;
-      writes = c.writes.items;
+      blocks = map state_in c.rows.items;
+      writes = map write_in c.rows.items;
       graph = c.graph;
       sends = c.sends;
       live = c.live;
       trace = map step_of c.trace.items;
     } };
 
-    ghost invariant = { λ c. (length c.writes.items ≡ length c.blocks.items)
-        × (length c.blocks.items ≤ MAX_BLOCKS)
-        × (c.under_way ≡ count_by is_some c.writes.items)
+    ghost invariant = { λ c. (length c.rows.items ≤ MAX_CACHED)
+        × (c.under_way ≡ count_by is_some (map write_in c.rows.items))
         × (length c.trace.items + c.under_way ≤ vec_capacity c.trace) };
 }
 
 impl<A: Allocator + Copy> Cache<A> {
-    /// A cache of these blocks, of which there are 1 to 4,096, with no patch yet. Where there is no memory the blocks are
-    /// given up.
+    /// A cache of these blocks, of which there are 1 to 16,777,216, each resident and with no patch yet. Where there is no memory the
+    /// blocks are given up.
     pub fn open(alloc: A, blocks: Vec<BlockBytes<A>, A>) -> Result<Cache<A>, OutOfMemory>
         requires some { 0 < length blocks.items }
-        requires few { length blocks.items ≤ MAX_BLOCKS }
+        requires few { length blocks.items ≤ MAX_CACHED }
         ensures answer { IfOk result (λ cache. IsCacheOf cache (record { first = blocks.items; steps = [] })) }
         ensures trace { IfOk result (λ cache. cache.trace ≡ []) }
     {
-        let count = blocks.len();
-        let writes = no_writes(alloc, count)?;
         Ok(Cache {
             alloc,
-            blocks: unpatched(alloc, blocks)?,
-            writes,
+            rows: all_resident(alloc, blocks)?,
             graph: Graph::new(alloc),
             sends: 0,
             live: 0,
@@ -87,14 +84,16 @@ impl<A: Allocator + Copy> Cache<A> {
     pub fn blocks(&self) -> u32
         ensures value { result ≡ length self.now.blocks }
         ensures answer { (run : Execution) → IsCacheOf self.now run → result ≡ length run.first }
+        ensures paged { (run : Execution) → IsPagedCacheOf self.now run → result ≡ length run.first }
     {
-        self.blocks.len() as u32
+        self.rows.len() as u32
     }
 
     /// How many patches were made.
     pub fn made(&self) -> u32
         ensures value { result ≡ self.now.graph.made }
         ensures answer { (run : Execution) → IsCacheOf self.now run → result ≡ length (entries_of run) }
+        ensures paged { (run : Execution) → IsPagedCacheOf self.now run → result ≡ length (entries_of run) }
     {
         self.graph.made()
     }
@@ -103,20 +102,23 @@ impl<A: Allocator + Copy> Cache<A> {
     pub fn live(&self) -> u32
         ensures value { result ≡ self.now.live }
         ensures answer { (run : Execution) → IsCacheOf self.now run → result ≡ count_by is_live (entries_of run) }
+        ensures paged { (run : Execution) → IsPagedCacheOf self.now run → result ≡ count_by is_live (entries_of run) }
     {
         self.live
     }
 
     /// How far a patch has come. None for one that wasn't made.
     pub fn mark_of(&self, no: PatchNo) -> Option<Mark>
-        ensures { (run : Execution) → IsCacheOf self.now run → MatchOption result (length (entries_of run) ≤ no) (HasMark (entries_of run) no) }
+        ensures answer { (run : Execution) → IsCacheOf self.now run → MatchOption result (length (entries_of run) ≤ no) (HasMark (entries_of run) no) }
+        ensures paged { (run : Execution) → IsPagedCacheOf self.now run → MatchOption result (length (entries_of run) ≤ no) (HasMark (entries_of run) no) }
     {
         self.graph.mark_of(no)
     }
 
     /// A number below which every patch is durable: who asks for the marks of many patches may pass over those below it.
     pub fn durable_below(&self) -> u32
-        ensures { (run : Execution) → IsCacheOf self.now run → (n : ℕ) → n < result → HasMark (entries_of run) n Durable }
+        ensures answer { (run : Execution) → IsCacheOf self.now run → (n : ℕ) → n < result → HasMark (entries_of run) n Durable }
+        ensures paged { (run : Execution) → IsPagedCacheOf self.now run → (n : ℕ) → n < result → HasMark (entries_of run) n Durable }
     {
         self.graph.durable_below()
     }
@@ -124,7 +126,10 @@ impl<A: Allocator + Copy> Cache<A> {
     /// The least block of which a write can begin. It takes no memory.
     pub fn next_ready(&mut self) -> Option<BlockNo>
         ensures answer { (run : Execution) → IsCacheOf self.old run → IsLeastReady run result }
+        ensures paged { (run : Execution) → IsPagedCacheOf self.old run → IsLeastReady run result }
         ensures some { (run : Execution) (e : Entry) → IsCacheOf self.old run → (state_of run).flights ≡ []
+            → Contains (entries_of run) e → IsTrue (is_memory e) → IsSome result }
+        ensures some_paged { (run : Execution) (e : Entry) → IsPagedCacheOf self.old run → (state_of run).flights ≡ []
             → Contains (entries_of run) e → IsTrue (is_memory e) → IsSome result }
         ensures same { self.new ≡ self.old }
     {
@@ -149,38 +154,35 @@ impl<A: Allocator + Copy> Cache<A> {
         ensures steps { IfOk result (λ steps. map step_of steps.items ≡ self.old.trace) }
         ensures drained { OnOk result (self.new ≡ drained self.old) }
         ensures same { (run : Execution) → IsCacheOf self.old run → IsCacheOf self.new run }
+        ensures same_paged { (run : Execution) → IsPagedCacheOf self.old run → IsPagedCacheOf self.new run }
         ensures refused { OnErr result (self.new ≡ self.old) }
     {
         let kept = Vec::with_capacity(self.alloc, self.under_way)?;
         Ok(std::mem::replace(&mut self.trace, kept))
     }
+
+    /// Lets the steps of the trace go, whose room stays. It takes no memory.
+    pub fn clear_trace(&mut self)
+        ensures { self.new ≡ drained self.old }
+    {
+        self.trace.clear();
+    }
 }
 
-/// The state of each block as one with no patch.
-#[tactic(auto, using(crate::proofs::Opening::one_more))]
-fn unpatched<A: Allocator + Copy>(
+/// Each of these blocks, resident and with no patch.
+fn all_resident<A: Allocator + Copy>(
     alloc: A,
     blocks: Vec<BlockBytes<A>, A>,
-) -> Result<Vec<BlockState<A>, A>, OutOfMemory>
-    ensures { IfOk result (λ states. AreUnpatched states.items blocks.items) }
+) -> Result<Rows<Resident<A>, A>, OutOfMemory>
+    requires { length blocks.items ≤ MAX_CACHED }
+    ensures { IfOk result (λ rows. AreUnpatched rows.items blocks.items) }
 {
-    let mut states = Vec::with_capacity(alloc, blocks.len())?;
+    let mut rows = Rows::of(alloc, blocks.len());
+    let mut number = 0;
     for block in blocks {
-        states.push(BlockState::of(alloc, block))?;
+        rows.reserve()?;
+        rows.put(number, Resident::of(alloc, block));
+        number += 1;
     }
-    Ok(states)
-}
-
-/// So many blocks with no write under way.
-fn no_writes<A: Allocator + Copy>(
-    alloc: A,
-    count: usize,
-) -> Result<Vec<Option<Write<A>>, A>, OutOfMemory>
-    ensures { IfOk result (λ writes. writes.items ≡ replicate count None) }
-{
-    let mut writes = Vec::with_capacity(alloc, count)?;
-    for _ in 0..count {
-        writes.push(None)?;
-    }
-    Ok(writes)
+    Ok(rows)
 }

@@ -1,11 +1,13 @@
 //! How a patch is made.
-ghost use Rattle.std.specs.Prelude.{◌≡◌, ◌+◌, ◌<◌, ◌≤◌, ◌++◌, ◌∷◌, [], Some, None, length, option_map, IfOk, IfErr, IsNone, OnOk, OnErr};
+ghost use Rattle.std.specs.Prelude.{Bool, ℕ, false, ◌≡◌, ◌+◌, ◌<◌, ◌≤◌, ◌++◌, ◌∷◌, IsTrue, [], Some, None, length, option_map, IfOk, IfErr, IsNone, OnOk, OnErr};
 ghost use Rattle.patch_model.specs.Execution.{Execution};
 ghost use Rattle.patch_model.specs.Names.{numbers_named};
 ghost use Rattle.patch_model.specs.Step.{Create};
 ghost use Rattle.patch_graph.specs.Adding.{MayBePutIn, PutsIn};
-ghost use Rattle.patch_cache.specs.Creating.{why_not_created, MayBeMade, IsMade, MayLay, IsLaid};
-ghost use Rattle.patch_cache.specs.Meaning.{IsCacheOf};
+ghost use Rattle.patch_cache.specs.Creating.{why_not_created, MayBeMade, IsMade, IsMadeBy, MayLay, IsLaid};
+ghost use Rattle.patch_cache.specs.Contents.{is_resident};
+ghost use Rattle.patch_cache.specs.Meaning.{IsCacheOf, IsCacheBy, IsPagedCacheOf};
+ghost use Rattle.patch_cache.specs.Paging.{if_resident};
 ghost use Rattle.patch_cache.specs.Refusals.{create_cause, IsCause};
 
 use crate::caches::Cache;
@@ -33,8 +35,12 @@ impl<A: Allocator + Copy> Cache<A> {
     ) -> Result<PatchNo, CreateRefusal>
         ensures made { (run : Execution) → IsCacheOf self.old run → IfOk result (λ no.
             IsMade run block start bytes.now after.now undo no self.new) }
+        ensures made_paged { (run : Execution) → IsPagedCacheOf self.old run → IfOk result (λ no.
+            IsMadeBy false run block start bytes.now after.now undo no self.new) }
         ensures cause { (run : Execution) → IsCacheOf self.old run → IfErr result (λ refusal.
             IsCause (why_not_created run block start bytes.now after.now) (create_cause refusal)) }
+        ensures cause_paged { (run : Execution) → IsPagedCacheOf self.old run → IfErr result (λ refusal.
+            IsCause (if_resident self.old block (why_not_created run block start bytes.now after.now)) (create_cause refusal)) }
         ensures trace { OnOk result (self.new.trace ≡ self.old.trace ++ Create block start bytes.now after.now undo ∷ []) }
         ensures refused { OnErr result (self.new ≡ self.old) }
     {
@@ -60,8 +66,12 @@ impl<A: Allocator + Copy> Cache<A> {
     ) -> Result<PatchNo, CreateRefusal>
         ensures made { (run : Execution) → IsCacheOf self.old run → IfOk result (λ no.
             IsMade run block start bytes after undo no self.new) }
+        ensures made_paged { (run : Execution) → IsPagedCacheOf self.old run → IfOk result (λ no.
+            IsMadeBy false run block start bytes after undo no self.new) }
         ensures cause { (run : Execution) → IsCacheOf self.old run → IfErr result (λ refusal.
             IsCause (why_not_created run block start bytes after) (create_cause refusal)) }
+        ensures cause_paged { (run : Execution) → IsPagedCacheOf self.old run → IfErr result (λ refusal.
+            IsCause (if_resident self.old block (why_not_created run block start bytes after)) (create_cause refusal)) }
         ensures trace { OnOk result (self.new.trace ≡ self.old.trace ++ Create block start bytes after undo ∷ []) }
         ensures refused { OnErr result (self.new ≡ self.old) }
     {
@@ -79,30 +89,48 @@ impl<A: Allocator + Copy> Cache<A> {
         bytes: &[u8],
         after: Named<'_>,
     ) -> Option<CreateRefusal>
-        ensures cause { (run : Execution) → IsCacheOf self.now run
-            → option_map create_cause result ≡ why_not_created run block start bytes.now (numbers_named after.entry) }
-        ensures known { IsNone result → block < length self.now.blocks }
+        ensures cause { (whole : Bool) (run : Execution) → IsCacheBy whole self.now run → option_map create_cause result
+            ≡ if_resident self.now block (why_not_created run block start bytes.now (numbers_named after.entry)) }
+        ensures resident { IsNone result → IsTrue (is_resident self.now block) }
         ensures some { IsNone result → 0 < length bytes.now }
         ensures fits { IsNone result → start + length bytes.now ≤ BLOCK }
         ensures numbers_left { IsNone result → self.now.graph.made < MAX_PATCHES }
         ensures live_left { IsNone result → self.now.live < MAX_LIVE }
     {
-        let refusal = if block.0 as usize >= self.blocks.len() {
-            CreateRefusal::NoSuchBlock
-        } else if bytes.is_empty() {
-            CreateRefusal::EmptyPatch
-        } else if bytes.len() > BLOCK || start > BLOCK - bytes.len() {
-            CreateRefusal::OutOfBlock
-        } else if after.has_unmade(self.graph.made()) {
-            CreateRefusal::UnknownDependency
-        } else if self.graph.made() >= MAX_PATCHES {
-            CreateRefusal::NumbersSpent
-        } else if self.live >= MAX_LIVE {
-            CreateRefusal::TooManyLive
-        } else {
-            return None;
-        };
-        Some(refusal)
+        if block.0 as usize >= self.rows.len() {
+            return Some(CreateRefusal::NoSuchBlock);
+        }
+        if !self.rows.contains(block.0) {
+            return Some(CreateRefusal::NotResident(block));
+        }
+        self.why_not_laid(start, bytes, after)
+    }
+
+    /// The first cause against the patch that its block has no part in.
+    fn why_not_laid(&self, start: usize, bytes: &[u8], after: Named<'_>) -> Option<CreateRefusal>
+        ensures cause { (whole : Bool) (run : Execution) (block : ℕ) → IsCacheBy whole self.now run → block < length run.first
+            → option_map create_cause result ≡ why_not_created run block start bytes.now (numbers_named after.entry) }
+        ensures some { IsNone result → 0 < length bytes.now }
+        ensures fits { IsNone result → start + length bytes.now ≤ BLOCK }
+        ensures numbers_left { IsNone result → self.now.graph.made < MAX_PATCHES }
+        ensures live_left { IsNone result → self.now.live < MAX_LIVE }
+    {
+        if bytes.is_empty() {
+            return Some(CreateRefusal::EmptyPatch);
+        }
+        if bytes.len() > BLOCK || start > BLOCK - bytes.len() {
+            return Some(CreateRefusal::OutOfBlock);
+        }
+        if after.has_unmade(self.graph.made()) {
+            return Some(CreateRefusal::UnknownDependency);
+        }
+        if self.graph.made() >= MAX_PATCHES {
+            return Some(CreateRefusal::NumbersSpent);
+        }
+        if self.live >= MAX_LIVE {
+            return Some(CreateRefusal::TooManyLive);
+        }
+        None
     }
 
     /// Makes a patch that there is no cause to refuse.
@@ -114,14 +142,14 @@ impl<A: Allocator + Copy> Cache<A> {
         after: Names<A>,
         undo: Undo,
     ) -> Result<PatchNo, OutOfMemory>
-        requires known { block < length self.old.blocks }
+        requires resident { IsTrue (is_resident self.old block) }
         requires some { 0 < length bytes }
         requires fits { start + length bytes ≤ BLOCK }
         requires numbers_left { self.old.graph.made < MAX_PATCHES }
         requires live_left { self.old.live < MAX_LIVE }
-        ensures made { (run : Execution) → IsCacheOf self.old run
+        ensures made { (whole : Bool) (run : Execution) → IsCacheBy whole self.old run
             → MayBeMade run block start bytes after
-            → IfOk result (λ no. IsMade run block start bytes after undo no self.new) }
+            → IfOk result (λ no. IsMadeBy whole run block start bytes after undo no self.new) }
         ensures trace { OnOk result (self.new.trace ≡ self.old.trace ++ Create block start bytes after undo ∷ []) }
         ensures refused { OnErr result (self.new ≡ self.old) }
     {
@@ -131,9 +159,9 @@ impl<A: Allocator + Copy> Cache<A> {
         model_laws::live_are_counted();
         model_laws::flights_are_ready();
         self.trace.reserve(self.under_way + 1)?;
-        let state = &mut self.blocks[block.0 as usize];
+        let row = self.rows.row_mut(block.0);
         let no = lay_on(
-            state,
+            &mut row.state,
             &mut self.graph,
             block,
             start,

@@ -64,8 +64,9 @@ impl<A: Allocator> Flight<A> {
         self.image.as_slice()
     }
 
-    /// What is left of a flight whose image was written.
-    pub(crate) fn landed(self) -> Landed
+    /// What is left of a flight whose image its caller has written and made to last, which is the caller's claim.
+    /// [`write_out`](crate::write_out) writes it to a device first.
+    pub fn landed(self) -> Landed
         ensures block { result.block ≡ self.block }
         ensures sequence { result.sequence ≡ self.sequence }
     {

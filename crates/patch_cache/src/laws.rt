@@ -1,11 +1,16 @@
 //! What the definitions say by themselves, each law the contract of a function that does nothing: the cache's promise once
 //! more, that an ask has one answer, and how what is done in stretches, one after another, is done in one.
-ghost use Rattle.std.specs.Prelude.{◌≡◌, ◌≤◌, ℕ, List, count_by};
+ghost use Rattle.std.specs.Prelude.{◌≡◌, ◌<◌, ◌≤◌, ℕ, List, [], IsTrue, count_by, length, slice_index_or};
 ghost use Rattle.patch_model.specs.Execution.{Execution};
 ghost use Rattle.patch_model.specs.Entry.{Entry, is_live};
 ghost use Rattle.patch_model.specs.History.{history_of, image, cached};
-ghost use Rattle.patch_cache.specs.Waves.{classes_in_memory, live_classes, IsFlushed};
-ghost use Rattle.patch_cache.specs.Joining.{UnmovedIsSafe, UnwrittenIsSafe, SafeJoin, NoneSince, AddedSince, SinceJoin, StillIsStretch, StretchesJoin, StillIsKept, KeptJoin, StillIsTried, WavesAreTried, TriesJoin, FlightsStay};
+ghost use Rattle.patch_model.specs.Legal.{IsLegal};
+ghost use Rattle.patch_model.specs.Renewed.{is_clean};
+ghost use Rattle.patch_cache.specs.Contents.{Contents};
+ghost use Rattle.patch_cache.specs.Meaning.{IsCacheOf, IsPagedCacheOf};
+ghost use Rattle.patch_cache.specs.Paging.{AreAllResident};
+ghost use Rattle.patch_cache.specs.Waves.{classes_in_memory, live_classes, HoldImages, IsFlushed};
+ghost use Rattle.patch_cache.specs.Joining.{UnmovedIsSafe, UnwrittenIsSafe, SafeJoin, NoneSince, AddedSince, SinceJoin, StillIsStretch, StretchesJoin, StillIsKept, KeptJoin, StillIsTried, WavesAreTried, TriesJoin, FlightsStay, FlightsStayMerged, FlightsBegin, FlightsEnd};
 ghost use Rattle.patch_cache.specs.Asks.{Ask, Answer, IsAnswer};
 ghost use Rattle.patch_cache.specs.declared.landing.TheConstants.{TRIES};
 ghost use Rattle.patch_cache.specs.Promise.{TakingBack, MovesArePermitted, LooksShow, ImagesSent, CrashesClosed};
@@ -87,6 +92,18 @@ pub fn flights_stay<A: Allocator>()
     patch_model::laws::images_stay();
 }
 
+/// Held flights stay those of the execution beside a merge, too; that of a write that begins is held with them, and that of a
+/// write that ends no more.
+pub fn flights_begin_and_end<A: Allocator>()
+    ensures merged { FlightsStayMerged A }
+    ensures begun { FlightsBegin A }
+    ensures ended { FlightsEnd A }
+{
+    patch_model::laws::steps_extend();
+    patch_model::laws::flights_are_ready();
+    patch_model::laws::images_stay();
+}
+
 /// There are no more classes in memory than live ones, and no more than live patches: so many writes at most begin until all
 /// patches are on the disk.
 pub fn classes_are_few()
@@ -98,3 +115,19 @@ pub fn classes_are_few()
 pub fn flushed_images_are_cached()
     ensures { (run : Execution) (block : ℕ) → IsFlushed run → image (history_of run block) ≡ cached (history_of run block) }
 {}
+
+/// A cache of which each block is resident is one of which some are; and where each is, the other way round.
+pub fn whole_caches_are_paged()
+    ensures part { (c : Contents) (run : Execution) → IsCacheOf c run → IsPagedCacheOf c run }
+    ensures whole { (c : Contents) (run : Execution) → IsPagedCacheOf c run → AreAllResident c → IsCacheOf c run }
+{}
+
+/// What an honest device holds of a block without live patches is the cached block, where it holds the images: so a block that was
+/// let go is read again as it was.
+pub fn clean_blocks_are_held()
+    ensures { (run : Execution) (contents : List (List ℕ)) (block : ℕ) → IsLegal run → HoldImages run contents
+        → block < length run.first → IsTrue (is_clean run block) → slice_index_or contents block [] ≡ cached (history_of run block) }
+{
+    patch_model::laws::flights_are_single();
+    patch_model::laws::clean_blocks_are_images();
+}

@@ -1,6 +1,7 @@
 //! The patch cache: patches are made, merged, sent and completed over the blocks of a disk, in an order that a crash keeps.
 //!
-//! A [`Cache`] is defined and opened in `caches`. Its other calls stand by themselves: `create` in `creating`, `merge` in
+//! A [`Cache`] is defined and opened in `caches`. Its other calls stand by themselves: `of`, `admit` and `evict` in `paging`,
+//! `renew` in `renewing`, `create` in `creating`, `merge` in
 //! `merging`, `send` in `sending`, `complete` in `completing`, `read` in `reading`, `view` in `views`, and `run`, with the answer
 //! of each ask, in `running`.
 #![tactic(auto)]
@@ -15,8 +16,11 @@ mod landing;
 pub mod laws;
 mod looking;
 mod merging;
+mod paging;
 mod reading;
 mod refusals;
+mod renewing;
+mod residents;
 mod running;
 mod sending;
 mod views;
@@ -28,8 +32,8 @@ pub use flights::{Flight, Flights, Landed};
 pub use landing::{TRIES, write_out_tried};
 pub use patch_view::PutBackRefusal;
 pub use refusals::{
-    CreateRefusal, DeviceGaveUp, Fault, FlushRefusal, MergeRefusal, NoSuchBlock, ReadRefusal,
-    SendRefusal, TakeRefusal,
+    AdmitRefusal, CreateRefusal, DeviceGaveUp, EvictRefusal, Fault, FlushRefusal, Live,
+    MergeRefusal, ReadRefusal, SendRefusal, TakeRefusal, ViewRefusal,
 };
 pub use views::CacheView;
 pub use writes::{Done, write_out};

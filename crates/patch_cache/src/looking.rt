@@ -1,11 +1,11 @@
 //! A look at a span of a block, without some of its patches and with all of them.
-ghost use Rattle.std.specs.Prelude.{◌≡◌, ◌+◌, ◌<◌, ◌≤◌, ◌⊎◌, ℕ, List, Some, Ok, Err, length, IfOk, IfErr};
+ghost use Rattle.std.specs.Prelude.{◌≡◌, ◌+◌, ◌≤◌, ◌⊎◌, IsTrue, ℕ, List, Some, Ok, Err, length, IfOk, IfErr};
 ghost use Rattle.patch_model.specs.declared.blocks.TheConstants.{BLOCK};
 ghost use Rattle.patch_model.specs.declared.refusals.RefusalKind.TheVariants as kind;
 ghost use Rattle.patch_model.specs.Execution.{Execution};
 ghost use Rattle.patch_model.specs.History.{history_of, without};
 ghost use Rattle.patch_model.specs.Refusing.{bare};
-ghost use Rattle.patch_cache.specs.Contents.{Contents};
+ghost use Rattle.patch_cache.specs.Contents.{Contents, is_resident};
 ghost use Rattle.patch_cache.specs.Meaning.{IsCacheOf, ShowsWithout};
 ghost use Rattle.patch_cache.specs.Viewing.{with_move, with_moves, bytes_at, Stands, IsViewOf};
 ghost use Rattle.patch_cache.specs.Asks.{IsAnswer, IsGivenUp, View, answer_of};
@@ -54,12 +54,12 @@ impl<A: Allocator + Copy> Cache<A> {
         start: usize,
         len: usize,
     ) -> Result<Bytes<A>, Refusal>
-        requires known { block < length self.old.blocks }
+        requires resident { IsTrue (is_resident self.old block) }
         requires fits { start + len ≤ BLOCK }
         ensures answer { (run : Execution) → IsCacheOf self.old run → HasLooked run block moves.now start len result }
         ensures stands { (run : Execution) → IsCacheOf self.old run → Stands run block self.new }
         ensures view { (before : Contents) → IsViewOf before block self.old → IsViewOf before block self.new }
-        ensures count { length self.new.blocks ≡ length self.old.blocks }
+        ensures resident { (n : ℕ) → is_resident self.new n ≡ is_resident self.old n }
         ensures trace { self.new.trace ≡ self.old.trace }
     {
         self.take_moves(block, moves)?;
@@ -68,11 +68,11 @@ impl<A: Allocator + Copy> Cache<A> {
 
     /// Makes the moves in their order, up to the first that is refused.
     fn take_moves(&mut self, block: BlockNo, moves: &[Move]) -> Result<(), Refusal>
-        requires { block < length self.old.blocks }
+        requires { IsTrue (is_resident self.old block) }
         ensures answer { (run : Execution) (names : List ℕ) → ShowsWithout self.old block names run
             → HasMoved run block (with_moves run block names moves.now) result self.new }
         ensures view { (before : Contents) → IsViewOf before block self.old → IsViewOf before block self.new }
-        ensures count { length self.new.blocks ≡ length self.old.blocks }
+        ensures resident { (n : ℕ) → is_resident self.new n ≡ is_resident self.old n }
         ensures trace { self.new.trace ≡ self.old.trace }
     {
         for step in moves {
@@ -83,11 +83,11 @@ impl<A: Allocator + Copy> Cache<A> {
 
     /// Makes one move.
     fn take_move(&mut self, block: BlockNo, step: Move) -> Result<(), Refusal>
-        requires { block < length self.old.blocks }
+        requires { IsTrue (is_resident self.old block) }
         ensures answer { (run : Execution) (names : List ℕ) → ShowsWithout self.old block names run
             → HasMoved run block (with_move run block names step) result self.new }
         ensures view { (before : Contents) → IsViewOf before block self.old → IsViewOf before block self.new }
-        ensures count { length self.new.blocks ≡ length self.old.blocks }
+        ensures resident { (n : ℕ) → is_resident self.new n ≡ is_resident self.old n }
         ensures trace { self.new.trace ≡ self.old.trace }
     {
         match step {
@@ -98,7 +98,7 @@ impl<A: Allocator + Copy> Cache<A> {
 
     /// A copy of the block's bytes in the span, without the classes that are taken of it.
     fn copied(&self, block: BlockNo, start: usize, len: usize) -> Result<Bytes<A>, Refusal>
-        requires known { block < length self.now.blocks }
+        requires resident { IsTrue (is_resident self.now block) }
         requires fits { start + len ≤ BLOCK }
         ensures bytes { (run : Execution) (names : List ℕ) → ShowsWithout self.now block names run
             → IfOk result (λ bytes. bytes ≡ bytes_at (without (history_of run block) names) start len) }

@@ -1,13 +1,14 @@
 //! How two classes become one.
-ghost use Rattle.std.specs.Prelude.{◌≡◌, ◌<◌, ◌++◌, ◌∷◌, false, List, [], None, Some, length, option_map, MatchResult, MatchOption, IfOk, IfErr, OnOk, OnErr};
+ghost use Rattle.std.specs.Prelude.{Bool, ◌≡◌, ◌++◌, ◌∷◌, false, IsTrue, List, [], None, Some, length, option_map, MatchResult, MatchOption, IfOk, IfErr, OnOk, OnErr};
 ghost use Rattle.patch_model.specs.Entry.{Entry};
 ghost use Rattle.patch_model.specs.Execution.{Execution};
 ghost use Rattle.patch_model.specs.Refusing.{why_no_pair, is_memory_at};
 ghost use Rattle.patch_model.specs.Step.{Merge};
 ghost use Rattle.patch_model.specs.State.{entries_of};
 ghost use Rattle.patch_graph.specs.Meaning.{IsGraphOf};
-ghost use Rattle.patch_cache.specs.Meaning.{IsCacheOf};
-ghost use Rattle.patch_cache.specs.Merging.{IsInMemory, ArePaired, IsThird, MayMerge, IsMerged, MayMergeOn, IsMergedOn, why_apart};
+ghost use Rattle.patch_cache.specs.Contents.{is_resident};
+ghost use Rattle.patch_cache.specs.Meaning.{IsCacheOf, IsCacheBy, IsPagedCacheOf};
+ghost use Rattle.patch_cache.specs.Merging.{IsInMemory, ArePaired, IsThird, MayMerge, IsMerged, IsMergedBy, MayMergeOn, IsMergedOn, why_apart};
 ghost use Rattle.patch_cache.specs.Refusals.{merge_cause, IsMergeCause};
 
 use crate::caches::Cache;
@@ -21,7 +22,10 @@ impl<A: Allocator + Copy> Cache<A> {
     /// Makes one class of the classes of two patches, whose numbers are any members'. Its name is the lesser of theirs.
     pub fn merge(&mut self, a: PatchNo, b: PatchNo) -> Result<PatchNo, MergeRefusal>
         ensures merged { (run : Execution) → IsCacheOf self.old run → IfOk result (λ name. IsMerged run a b name self.new) }
+        ensures merged_paged { (run : Execution) → IsPagedCacheOf self.old run → IfOk result (λ name. IsMergedBy false run a b name self.new) }
         ensures cause { (run : Execution) → IsCacheOf self.old run → IfErr result (λ refusal.
+            IsMergeCause (entries_of run) a b (merge_cause refusal)) }
+        ensures cause_paged { (run : Execution) → IsPagedCacheOf self.old run → IfErr result (λ refusal.
             IsMergeCause (entries_of run) a b (merge_cause refusal)) }
         ensures trace { OnOk result (self.new.trace ≡ self.old.trace ++ Merge a b ∷ []) }
         ensures refused { OnErr result (self.new ≡ self.old) }
@@ -36,10 +40,10 @@ impl<A: Allocator + Copy> Cache<A> {
 
     /// The block of both classes, or the first cause against the merge, but for a third class between them.
     fn block_of_both(&self, a: PatchNo, b: PatchNo) -> Result<BlockNo, MergeRefusal>
-        ensures answer { (run : Execution) → IsCacheOf self.now run → MatchResult result
+        ensures answer { (whole : Bool) (run : Execution) → IsCacheBy whole self.now run → MatchResult result
             (ArePaired run a b)
             (λ refusal. why_no_pair (entries_of run) a b ≡ Some (merge_cause refusal)) }
-        ensures known { IfOk result (λ block. block < length self.now.blocks) }
+        ensures resident { IfOk result (λ block. IsTrue (is_resident self.now block)) }
     {
         model_laws::spans_are_whole();
         model_laws::patches_are_placed();
@@ -56,8 +60,8 @@ impl<A: Allocator + Copy> Cache<A> {
         if let Some(refusal) = pair_refusal(a, &first, b, &second) {
             return Err(refusal);
         }
-        // Never so in a cache that represents an execution: each patch is of a block of it. Of no other is anything promised.
-        if first.block.0 as usize >= self.blocks.len() {
+        // Never so in a cache that represents an execution: a block with a patch in memory is resident. Of no other is anything promised.
+        if !self.rows.contains(first.block.0) {
             return Err(MergeRefusal::OtherBlock);
         }
         Ok(first.block)
@@ -78,7 +82,7 @@ impl<A: Allocator + Copy> Cache<A> {
 
     /// The least name of a third class between those of two live patches, one way or the other.
     fn third(&mut self, a: PatchNo, b: PatchNo) -> Option<PatchNo>
-        ensures answer { (run : Execution) → IsCacheOf self.old run → why_no_pair (entries_of run) a b ≡ None
+        ensures answer { (whole : Bool) (run : Execution) → IsCacheBy whole self.old run → why_no_pair (entries_of run) a b ≡ None
             → IsThird run a b result }
         ensures same { self.new ≡ self.old }
     {
@@ -91,9 +95,9 @@ impl<A: Allocator + Copy> Cache<A> {
 
     /// Makes one class of two that may be merged.
     fn make_one(&mut self, a: PatchNo, b: PatchNo, block: BlockNo) -> Result<PatchNo, OutOfMemory>
-        requires known { block < length self.old.blocks }
-        ensures merged { (run : Execution) → IsCacheOf self.old run → MayMerge run a b block
-            → IfOk result (λ name. IsMerged run a b name self.new) }
+        requires resident { IsTrue (is_resident self.old block) }
+        ensures merged { (whole : Bool) (run : Execution) → IsCacheBy whole self.old run → MayMerge run a b block
+            → IfOk result (λ name. IsMergedBy whole run a b name self.new) }
         ensures trace { OnOk result (self.new.trace ≡ self.old.trace ++ Merge a b ∷ []) }
         ensures refused { OnErr result (self.new ≡ self.old) }
     {
@@ -102,8 +106,8 @@ impl<A: Allocator + Copy> Cache<A> {
         model_laws::live_are_counted();
         model_laws::flights_are_ready();
         self.trace.reserve(self.under_way + 1)?;
-        let state = &mut self.blocks[block.0 as usize];
-        let name = join_on(state, &mut self.graph, a, b)?;
+        let row = self.rows.row_mut(block.0);
+        let name = join_on(&mut row.state, &mut self.graph, a, b)?;
         self.trace.push_reserved(Step::Merge { a, b });
         Ok(name)
     }

@@ -1,8 +1,10 @@
 //! What is read of a cache's blocks, with all their patches.
-ghost use Rattle.std.specs.Prelude.{◌≡◌, ◌+◌, ◌<◌, ◌≤◌, Some, None, Ok, Err, length, MatchResult, IsNone, option_map};
+ghost use Rattle.std.specs.Prelude.{Bool, ◌≡◌, ◌+◌, ◌≤◌, IsTrue, Some, MatchResult, IsNone, option_map};
 ghost use Rattle.patch_model.specs.declared.blocks.TheConstants.{BLOCK};
 ghost use Rattle.patch_model.specs.Execution.{Execution};
-ghost use Rattle.patch_cache.specs.Meaning.{IsCacheOf};
+ghost use Rattle.patch_cache.specs.Contents.{is_resident};
+ghost use Rattle.patch_cache.specs.Meaning.{IsCacheOf, IsCacheBy, IsPagedCacheOf};
+ghost use Rattle.patch_cache.specs.Paging.{if_resident};
 ghost use Rattle.patch_cache.specs.Refusals.{read_cause};
 ghost use Rattle.patch_cache.specs.Viewing.{why_not_read, IsRead};
 
@@ -14,13 +16,16 @@ use std::alloc::Allocator;
 impl<A: Allocator + Copy> Cache<A> {
     /// The `len` bytes of a block from `start` on, with all its patches. It takes no memory.
     pub fn read(&self, block: BlockNo, start: usize, len: usize) -> Result<&[u8], ReadRefusal>
-        ensures { (run : Execution) → IsCacheOf self.now run → MatchResult result
+        ensures answer { (run : Execution) → IsCacheOf self.now run → MatchResult result
             (λ bytes. IsRead run block start len bytes.now)
             (λ refusal. why_not_read run block start len ≡ Some (read_cause refusal)) }
+        ensures paged { (run : Execution) → IsPagedCacheOf self.now run → MatchResult result
+            (λ bytes. IsRead run block start len bytes.now)
+            (λ refusal. if_resident self.now block (why_not_read run block start len) ≡ Some (read_cause refusal)) }
     {
         match self.why_not_shown(block, start, len) {
             Some(refusal) => Err(refusal),
-            None => Ok(&self.blocks[block.0 as usize].cached()[start..start + len]),
+            None => Ok(&self.rows.row(block.0).state.cached()[start..start + len]),
         }
     }
 
@@ -31,12 +36,15 @@ impl<A: Allocator + Copy> Cache<A> {
         start: usize,
         len: usize,
     ) -> Option<ReadRefusal>
-        ensures cause { (run : Execution) → IsCacheOf self.now run → option_map read_cause result ≡ why_not_read run block start len }
-        ensures known { IsNone result → block < length self.now.blocks }
+        ensures cause { (whole : Bool) (run : Execution) → IsCacheBy whole self.now run
+            → option_map read_cause result ≡ if_resident self.now block (why_not_read run block start len) }
+        ensures resident { IsNone result → IsTrue (is_resident self.now block) }
         ensures fits { IsNone result → start + len ≤ BLOCK }
     {
-        if block.0 as usize >= self.blocks.len() {
+        if block.0 as usize >= self.rows.len() {
             Some(ReadRefusal::NoSuchBlock)
+        } else if !self.rows.contains(block.0) {
+            Some(ReadRefusal::NotResident(block))
         } else if len > BLOCK || start > BLOCK - len {
             Some(ReadRefusal::OutOfBlock)
         } else {

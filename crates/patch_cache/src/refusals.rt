@@ -2,16 +2,11 @@
 ghost use Rattle.std.specs.Prelude.{◌≡◌};
 ghost use Rattle.patch_model.specs.declared.refusals.RefusalKind.TheVariants as kind;
 ghost use Rattle.patch_model.specs.Refusing.{bare};
-ghost use Rattle.patch_cache.specs.Refusals.{read_cause, create_cause, merge_cause, send_cause, take_cause, flush_cause, gave_up_cause};
+ghost use Rattle.patch_cache.specs.Refusals.{view_cause, evict_cause, read_cause, create_cause, merge_cause, send_cause, take_cause, flush_cause, gave_up_cause};
 ghost use Rattle.patch_stacks.specs.Refusal.{take_cause as view_take_cause};
 
 use patch_model::{BlockNo, OutOfMemory, PatchNo, Refusal, RefusalKind, Refuses};
 use thiserror::Error;
-
-/// There is no block of this number.
-#[derive(Clone, Copy, Debug, PartialEq, Eq, Error)]
-#[error("NoSuchBlock")]
-pub struct NoSuchBlock;
 
 /// The device refused the write.
 #[derive(Clone, Copy, Debug, PartialEq, Eq, Error)]
@@ -37,11 +32,51 @@ pub enum FlushRefusal {
     OutOfMemory,
 }
 
+/// Some patch is in memory or in flight.
+#[derive(Clone, Copy, Debug, PartialEq, Eq, Error)]
+#[error("Live")]
+pub struct Live;
+
+/// Why a block isn't admitted. The causes are tested in this order.
+#[derive(Clone, Copy, Debug, PartialEq, Eq, Error)]
+pub enum AdmitRefusal {
+    #[error("NoSuchBlock")]
+    NoSuchBlock,
+    /// The cache has the block already.
+    #[error("IsResident")]
+    IsResident,
+    #[error("OutOfMemory")]
+    OutOfMemory,
+}
+
+/// Why a block isn't let go. The causes are tested in this order.
+#[derive(Clone, Copy, Debug, PartialEq, Eq, Error)]
+pub enum EvictRefusal {
+    #[error("NoSuchBlock")]
+    NoSuchBlock,
+    #[error("NotResident {0}")]
+    NotResident(BlockNo),
+    /// Some patch of it is in memory or in flight.
+    #[error("Live")]
+    Live,
+}
+
+/// Why a block isn't lent as a view. The causes are tested in this order.
+#[derive(Clone, Copy, Debug, PartialEq, Eq, Error)]
+pub enum ViewRefusal {
+    #[error("NoSuchBlock")]
+    NoSuchBlock,
+    #[error("NotResident {0}")]
+    NotResident(BlockNo),
+}
+
 /// Why bytes aren't read. The causes are tested in this order.
 #[derive(Clone, Copy, Debug, PartialEq, Eq, Error)]
 pub enum ReadRefusal {
     #[error("NoSuchBlock")]
     NoSuchBlock,
+    #[error("NotResident {0}")]
+    NotResident(BlockNo),
     /// The span passes the end of the block.
     #[error("OutOfBlock")]
     OutOfBlock,
@@ -52,6 +87,8 @@ pub enum ReadRefusal {
 pub enum CreateRefusal {
     #[error("NoSuchBlock")]
     NoSuchBlock,
+    #[error("NotResident {0}")]
+    NotResident(BlockNo),
     /// It has no bytes.
     #[error("EmptyPatch")]
     EmptyPatch,
@@ -103,6 +140,8 @@ pub enum MergeRefusal {
 pub enum SendRefusal {
     #[error("NoSuchBlock")]
     NoSuchBlock,
+    #[error("NotResident {0}")]
+    NotResident(BlockNo),
     #[error("AlreadyInFlight")]
     AlreadyInFlight,
     #[error("NothingReady")]
@@ -132,11 +171,34 @@ pub enum TakeRefusal {
     DependentApplied(PatchNo),
 }
 
-impl Refuses for NoSuchBlock {
-    ghost cause = { λ _. bare kind.NoSuchBlock };
+impl Refuses for ViewRefusal {
+    ghost cause = { view_cause };
 
     fn refusal(self) -> Refusal {
-        RefusalKind::NoSuchBlock.bare()
+        match self {
+            ViewRefusal::NoSuchBlock => RefusalKind::NoSuchBlock.bare(),
+            ViewRefusal::NotResident(block) => RefusalKind::NotResident.with_number(block.0),
+        }
+    }
+}
+
+impl Refuses for EvictRefusal {
+    ghost cause = { evict_cause };
+
+    fn refusal(self) -> Refusal {
+        match self {
+            EvictRefusal::NoSuchBlock => RefusalKind::NoSuchBlock.bare(),
+            EvictRefusal::NotResident(block) => RefusalKind::NotResident.with_number(block.0),
+            EvictRefusal::Live => RefusalKind::Live.bare(),
+        }
+    }
+}
+
+impl Refuses for Live {
+    ghost cause = { λ _. bare kind.Live };
+
+    fn refusal(self) -> Refusal {
+        RefusalKind::Live.bare()
     }
 }
 
@@ -154,6 +216,7 @@ impl Refuses for ReadRefusal {
     fn refusal(self) -> Refusal {
         match self {
             ReadRefusal::NoSuchBlock => RefusalKind::NoSuchBlock.bare(),
+            ReadRefusal::NotResident(block) => RefusalKind::NotResident.with_number(block.0),
             ReadRefusal::OutOfBlock => RefusalKind::OutOfBlock.bare(),
         }
     }
@@ -165,6 +228,7 @@ impl Refuses for CreateRefusal {
     fn refusal(self) -> Refusal {
         match self {
             CreateRefusal::NoSuchBlock => RefusalKind::NoSuchBlock.bare(),
+            CreateRefusal::NotResident(block) => RefusalKind::NotResident.with_number(block.0),
             CreateRefusal::EmptyPatch => RefusalKind::EmptyPatch.bare(),
             CreateRefusal::OutOfBlock => RefusalKind::OutOfBlock.bare(),
             CreateRefusal::UnknownDependency => RefusalKind::UnknownDependency.bare(),
@@ -198,6 +262,7 @@ impl Refuses for SendRefusal {
     fn refusal(self) -> Refusal {
         match self {
             SendRefusal::NoSuchBlock => RefusalKind::NoSuchBlock.bare(),
+            SendRefusal::NotResident(block) => RefusalKind::NotResident.with_number(block.0),
             SendRefusal::AlreadyInFlight => RefusalKind::AlreadyInFlight.bare(),
             SendRefusal::NothingReady => RefusalKind::NothingReady.bare(),
             SendRefusal::OutOfMemory => RefusalKind::OutOfMemory.bare(),

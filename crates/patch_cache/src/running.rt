@@ -1,9 +1,9 @@
 //! A list of asks, answered one after another.
-ghost use Rattle.std.specs.Prelude.{◌≡◌, ◌+◌, ◌<◌, ◌++◌, true, Some, None, length, map, IfOk, OnOk, OnErr};
+ghost use Rattle.std.specs.Prelude.{◌≡◌, ◌+◌, ◌<◌, ◌++◌, true, IsTrue, Some, None, length, map, IfOk, OnOk, OnErr};
 ghost use Rattle.patch_model.specs.Execution.{Execution};
 ghost use Rattle.patch_model.specs.Refusing.{why_not_sent};
 ghost use Rattle.patch_device.specs.SameDevice.{IsSameDevice};
-ghost use Rattle.patch_cache.specs.Contents.{write_at};
+ghost use Rattle.patch_cache.specs.Contents.{is_resident, write_at};
 ghost use Rattle.patch_cache.specs.Meaning.{IsCacheOf};
 ghost use Rattle.patch_cache.specs.Asks.{Create, Merge, Send, Complete, IsFault, ask_of, answer_of, step_added, steps_added, is_complete, after, after_all};
 ghost use Rattle.patch_cache.specs.Promise.{TakingBack, MovesArePermitted, LooksShow, ImagesSent, CrashesClosed};
@@ -162,7 +162,7 @@ impl<A: Allocator + Copy> Cache<A> {
         flights: &mut Flights<A>,
         block: BlockNo,
     ) -> Result<Answer<A>, OutOfMemory>
-        requires known { block < length self.old.blocks }
+        requires resident { IsTrue (is_resident self.old block) }
         requires not_under_way { write_at self.old block ≡ None }
         ensures answer { (run : Execution) → Runs self.old flights.old run → why_not_sent run block ≡ None → IfOk result (λ answer.
             IsAnswered run (Send block) (answer_of answer) self.new flights.new) }

@@ -1,5 +1,5 @@
 //! How a write of a block begins.
-ghost use Rattle.std.specs.Prelude.{◌≡◌, ◌<◌, ◌≤◌, ◌++◌, ◌∷◌, [], Some, None, length, option_map, vec_len, vec_capacity, IfOk, IfErr, IsNone, OnOk, OnErr};
+ghost use Rattle.std.specs.Prelude.{Bool, false, ◌≡◌, ◌≤◌, ◌++◌, ◌∷◌, IsTrue, [], Some, None, length, option_map, vec_len, vec_capacity, IfOk, IfErr, IsNone, OnOk, OnErr};
 ghost use Rattle.patch_model.specs.declared.blocks.TheConstants.{BLOCK};
 ghost use Rattle.patch_model.specs.Execution.{Execution};
 ghost use Rattle.patch_model.specs.Refusing.{why_not_sent};
@@ -7,9 +7,10 @@ ghost use Rattle.patch_model.specs.Step.{Send};
 ghost use Rattle.patch_model.specs.History.{History, HoldsDependents, without};
 ghost use Rattle.patch_view.specs.History.{undoable_classes};
 ghost use Rattle.patch_view.specs.Meaning.{IsBlockOf};
-ghost use Rattle.patch_cache.specs.Contents.{write_at};
-ghost use Rattle.patch_cache.specs.Meaning.{IsCacheOf};
-ghost use Rattle.patch_cache.specs.Flights.{MaySend, IsBegun};
+ghost use Rattle.patch_cache.specs.Contents.{is_resident, write_at};
+ghost use Rattle.patch_cache.specs.Meaning.{IsCacheOf, IsCacheBy, IsPagedCacheOf};
+ghost use Rattle.patch_cache.specs.Paging.{if_resident};
+ghost use Rattle.patch_cache.specs.Flights.{MaySend, IsBegun, IsBegunBy};
 ghost use Rattle.patch_cache.specs.Refusals.{send_cause, IsCause};
 
 use crate::caches::Cache;
@@ -28,7 +29,11 @@ impl<A: Allocator + Copy> Cache<A> {
     pub fn send(&mut self, block: BlockNo) -> Result<Flight<A>, SendRefusal>
         ensures sent { (run : Execution) → IsCacheOf self.old run → IfOk result (λ flight.
             (why_not_sent run block ≡ None) × IsBegun run block flight self.new) }
+        ensures sent_paged { (run : Execution) → IsPagedCacheOf self.old run → IfOk result (λ flight.
+            (why_not_sent run block ≡ None) × IsBegunBy false run block flight self.new) }
         ensures cause { (run : Execution) → IsCacheOf self.old run → IfErr result (λ refusal. IsCause (why_not_sent run block) (send_cause refusal)) }
+        ensures cause_paged { (run : Execution) → IsPagedCacheOf self.old run → IfErr result (λ refusal.
+            IsCause (if_resident self.old block (why_not_sent run block)) (send_cause refusal)) }
         ensures trace { OnOk result (self.new.trace ≡ self.old.trace ++ Send block ∷ []) }
         ensures refused { OnErr result (self.new ≡ self.old) }
     {
@@ -42,24 +47,27 @@ impl<A: Allocator + Copy> Cache<A> {
         }
     }
 
-    /// The first cause against a write of the block.
-    pub(crate) fn why_not_sent(&mut self, block: BlockNo) -> Option<SendRefusal>
-        ensures cause { (run : Execution) → IsCacheOf self.old run → option_map send_cause result ≡ why_not_sent run block }
-        ensures known { IsNone result → block < length self.old.blocks }
+    /// The first cause against a write of the block: where there is none, [`send`](Cache::send) is refused for want of memory alone.
+    pub fn why_not_sent(&mut self, block: BlockNo) -> Option<SendRefusal>
+        ensures cause { (whole : Bool) (run : Execution) → IsCacheBy whole self.old run
+            → option_map send_cause result ≡ if_resident self.old block (why_not_sent run block) }
+        ensures resident { IsNone result → IsTrue (is_resident self.old block) }
         ensures not_under_way { IsNone result → write_at self.old block ≡ None }
         ensures same { self.new ≡ self.old }
     {
         model_laws::ready_is_largest();
         model_laws::paths_form_no_ring();
-        let at = block.0 as usize;
-        if at >= self.blocks.len() {
+        if block.0 as usize >= self.rows.len() {
             return Some(SendRefusal::NoSuchBlock);
         }
-        if self.writes[at].is_some() {
+        let Some(row) = self.rows.get(block.0) else {
+            return Some(SendRefusal::NotResident(block));
+        };
+        if row.write.is_some() {
             return Some(SendRefusal::AlreadyInFlight);
         }
         // The graph would find nothing either.
-        if self.blocks[at].is_clear() {
+        if row.state.is_clear() {
             return Some(SendRefusal::NothingReady);
         }
         if !self.graph.any_ready(block) {
@@ -75,10 +83,10 @@ impl<A: Allocator + Copy> Cache<A> {
         block: BlockNo,
         numbers: Vec<PatchNo, A>,
     ) -> Result<Flight<A>, OutOfMemory>
-        requires known { block < length self.old.blocks }
+        requires resident { IsTrue (is_resident self.old block) }
         requires not_under_way { write_at self.old block ≡ None }
-        ensures begun { (run : Execution) → IsCacheOf self.old run → MaySend run block numbers.items
-            → IfOk result (λ flight. IsBegun run block flight self.new) }
+        ensures begun { (whole : Bool) (run : Execution) → IsCacheBy whole self.old run → MaySend run block numbers.items
+            → IfOk result (λ flight. IsBegunBy whole run block flight self.new) }
         ensures trace { OnOk result (self.new.trace ≡ self.old.trace ++ Send block ∷ []) }
         ensures refused { OnErr result (self.new ≡ self.old) }
     {
@@ -98,13 +106,12 @@ impl<A: Allocator + Copy> Cache<A> {
         let noted = Numbers::from_slice(self.alloc, numbers.as_slice())?;
         let mut image = Vec::with_capacity(self.alloc, BLOCK)?;
         self.trace.reserve(self.under_way + 2)?;
-        let at = block.0 as usize;
-        let state = &mut self.blocks[at];
-        state.depart_each(numbers.as_slice());
+        let row = self.rows.row_mut(block.0);
+        row.state.depart_each(numbers.as_slice());
         self.graph.mark_flight(block);
-        copy_image(state, &mut image);
+        copy_image(&row.state, &mut image);
         let sequence = self.sends;
-        self.writes[at] = Some(Write {
+        row.write = Some(Write {
             sequence,
             numbers: noted,
         });

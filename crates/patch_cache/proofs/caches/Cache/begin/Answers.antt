@@ -1,7 +1,7 @@
-use Rattle.std.proofs.Common.{◌≡◌, ◌<◌, ◌≤◌, ◌++◌, ◌∷◌, ◌+◌, ◌∙◌, ℕ, List, [], None, Some, length, get_or, map, refl, sym, ap, subst}
+use Rattle.std.proofs.Common.{◌≡◌, ◌<◌, ◌+◌, ◌∙◌, ℕ, List, [], None, Some, length, map, refl, sym, ap, subst, arith}
 use Rattle.std.specs.Prelude.{count_by, slice_index_or}
 use Rattle.std.specs.List.Sorted.{IsNonDecreasing}
-use Rattle.std.proofs.lemmas.List.{get_or_read_under, length-append, length-set, map-append}
+use Rattle.std.proofs.lemmas.List.{length-append, length-map}
 use Rattle.patch_model.specs.StepOf.{step_of}
 use Rattle.patch_model.specs.Entry.{Entry, is_live}
 use Rattle.patch_model.specs.Execution.{Execution, extended}
@@ -15,17 +15,20 @@ use Rattle.patch_view.specs.History.{MayDepart, undoable_classes}
 use Rattle.patch_view.specs.Meaning.{IsBlockOf}
 use Rattle.patch_graph.specs.Meaning.{IsGraphOf}
 use Rattle.patch_graph.specs.Between.{HasNoRing}
-use Rattle.patch_cache.specs.Contents.{Contents, no_block}
-use Rattle.patch_cache.specs.Meaning.{IsCacheOf, IsWriteOf}
+use Rattle.patch_cache.specs.Contents.{Contents, Resident, is_resident, write_in}
+use Rattle.patch_cache.specs.Meaning.{IsCacheBy, IsWriteOf}
 use Rattle.patch_cache.proofs.Departing.{may_depart}
+use Rattle.patch_cache.proofs.Residency.{as_many, at_block, block_of_row, both_changed, places_kept, row_inside, row_stands, writes_set}
 use Rattle.patch_cache.proofs.Underway.{one_more}
-use Rattle.patch_cache.proofs.Stepping.{within, unchanged, on_err, within_writes, more_room_left, still_fits, begun_fits, next_sends, few_fit, few_more_fit}
+use Rattle.patch_cache.proofs.Stepping.{lent, begun_fits, next_sends}
 use Rattle.patch_cache.proofs.Writing.{IsStepOf, stepped, sent_here, sent_other}
-use Rattle.std.proofs.lemmas.Result.{IfOk-from_err}
 use Rattle.patch_cache.proofs.caches.Cache.begin.Goals as goal
 
+pub row_mut-row-requires : goal.row_mut-row-requires
+row_mut-row-requires g c = row_stands c.args.self.now _ _ _ _ _ _ c.args.block c.self.view_is c.block.view_is c.requires.resident
+
 pub returns-clause-begun : goal.returns-clause-begun
-returns-clause-begun g c = λ run at may.
+returns-clause-begun g c = λ whole run at may.
     let why = may.0 in
     let numbers = may.1 in
     let block : ℕ = c.args.block in
@@ -38,14 +41,11 @@ returns-clause-begun g c = λ run at may.
     let legal : IsLegal next = c.steps_extend.ensures.legal run (Send block) at.legal lawful.1 in
     let state : state_of next ≡ after_step (state_of run) (Send block) = c.steps_extend.ensures.state run (Send block) in
     let entries : entries_of next ≡ map (sent set) all = ap (λ st. st.entries) state in
-    let seen = subst (λ (v : Contents). IsCacheOf v run) (sym c.self.view_is) at in
+    let seen = subst (λ (v : Contents). IsCacheBy whole v run) (sym c.self.view_is) at in
     let largest = c.ready_is_largest.ensures.largest all block (c.ready_is_largest.ensures.made run) in
-    let place : c.block.inside.0 ≡ block = c.block.view_is in
-    let inside : c.block.inside.0 < c.self.inside.blocks.len = within _ c.args.self.now block c.block.inside.0 _ place c.self.view_is c.requires.known c.self.inside.blocks.ok.0 in
-    let found : c.index_mut-state.result.now ≡ get_or c.self.inside.blocks.items block no_block =
-    get_or_read_under c.self.inside.blocks.items c.block.inside.0 c.self.inside.blocks.len c.index_mut-state.result.now no_block c.index_mut-state.ensures.value inside c.self.inside.blocks.ok.0
-    ∙ ap (λ (i : ℕ). get_or c.self.inside.blocks.items i no_block) place in
-    let here : IsBlockOf c.index_mut-state.result.now [] h = subst (λ z. IsBlockOf z [] h) (sym found) (seen.blocks block lawful.0) in
+    let value = c.row_mut-row.ensures.value ∙ ap (λ r. Some r) (sym c.row.view_is) in
+    let there = block_of_row c.self.inside.rows.items block _ (at_block c.self.inside.rows.items c.block.inside.0 block _ c.block.view_is value) in
+    let here : IsBlockOf c.row.inside.state [] h = lent whole _ block c.row.inside.state run there seen in
     let slice : c.as_slice-2.result.now ≡ numbers_of set = c.as_slice-2.ensures.value ∙ numbers in
     let rising : IsNonDecreasing c.as_slice-2.result.now = subst IsNonDecreasing (sym slice) (c.classes_have_names.ensures.rising run block) in
     let may : MayDepart h c.as_slice-2.result.now set = subst (λ ns. MayDepart h ns set) (sym slice)
@@ -74,87 +74,29 @@ returns-clause-begun g c = λ run at may.
       legal = legal;
       others = λ other differ. c.steps_change_blocks.ensures.sent_elsewhere run block other differ;
       writes = λ other w differ. sent_other run block other w state differ (c.flights_are_ready.ensures.sent_elsewhere run block other (λ e. differ (sym e)));
-    } in (
+    } in
+    let under_way = Some (record { sequence = c.self.inside.sends; numbers = c.in_ok-noted.noted }) in
+    let trace = map step_of c.push_reserved.new.self.items in
+    let after = stepped whole run (Send block) _ block c.depart_each.new.self under_way c.mark_flight.new.self c.saturating_add-self-inside.result c.self.inside.live trace
+    seen (as_many c.self.inside.rows.items) (ap (λ v. is_resident v block) c.self.view_is ∙ c.requires.resident) is flies write graph sends counted in (
       record { block_is = refl; sequence_is = seen.sends; numbers_are = c.from_vec.ensures ∙ numbers; image_is = copied },
-      stepped run (Send block) _ c.block.inside.0 block c.depart_each.new.self _ c.mark_flight.new.self c.saturating_add-self-inside.result c.self.inside.live _
-          c.block.view_is seen c.self.invariant.0 is flies write graph sends counted,
+      subst (λ (v : Contents). IsCacheBy whole v next)
+          (sym (both_changed c.self.inside.rows.items c.mark_flight.new.self c.saturating_add-self-inside.result c.self.inside.live trace c.block.inside.0 block
+          (record { state = c.depart_each.new.self; write = under_way }) c.block.view_is)) after,
     )
-
-pub returns-clause-trace : goal.returns-clause-trace
-returns-clause-trace g c =
-    ap (map step_of) (rw c.reserve.ensures.items at c.push_reserved.ensures.items) ∙ map-append step_of c.self.inside.trace.items _
-    ∙ ap (λ (v : Contents). v.trace ++ Send c.args.block ∷ []) c.self.view_is
 
 pub invariant_of-self-2 : goal.invariant_of-self-2
 invariant_of-self-2 g c =
-    let ws = c.self.inside.writes.items in
-    let place : c.block.inside.0 ≡ c.args.block = c.block.view_is in
-    let same : length ws ≡ length c.self.inside.blocks.items = c.self.invariant.0 in
-    let inside : c.block.inside.0 < length ws = within_writes _ c.args.self.now c.args.block c.block.inside.0 _ place c.self.view_is c.requires.known same refl in
-    let none = ap (λ n. slice_index_or ws n None) place ∙ ap (λ (v : Contents). slice_index_or v.writes c.args.block None) c.self.view_is ∙ c.requires.not_under_way in
-    let blocks = length-set c.self.inside.blocks.items c.block.inside.0 c.depart_each.new.self in
+    let rows = c.self.inside.rows.items in
+    let ws = map write_in rows in
+    let row : Resident = record { state = c.depart_each.new.self; write = Some (record { sequence = c.self.inside.sends; numbers = c.in_ok-noted.noted }) } in
+    let within : c.block.inside.0 < length ws = let there = row_inside rows c.block.inside.0 _ c.row_mut-row.ensures.value in let long = length-map rows write_in in omega (arith, there, long) in
+    let none = ap (λ n. slice_index_or ws n None) c.block.view_is ∙ ap (λ (v : Contents). slice_index_or v.writes c.args.block None) c.self.view_is ∙ c.requires.not_under_way in
+    let one = one_more ws c.block.inside.0 (record { sequence = c.self.inside.sends; numbers = c.in_ok-noted.noted }) within none in
+    let set = writes_set rows c.block.inside.0 row in
+    let counted = c.self.invariant.1 in
     let longer : length c.push_reserved.new.self.items ≡ length c.reserve.new.self.items + 1 = ap length c.push_reserved.ensures.items ∙ length-append c.reserve.new.self.items _ in (
-      length-set ws c.block.inside.0 (Some _) ∙ same ∙ sym blocks,
-      subst (λ (n : ℕ). n ≤ 4096) (sym blocks) c.self.invariant.1,
-      ap (λ n. n + 1) c.self.invariant.2 ∙ sym (one_more ws c.block.inside.0 _ inside none),
+      places_kept rows c.block.inside.0 (Some row) c.self.invariant.0,
+      ap (λ n. n + 1) counted ∙ sym one ∙ sym set,
       begun_fits _ _ _ c.self.inside.under_way _ _ c.reserve.new.self.ok.0 longer c.in_ok-reserve.ensures.ok c.push_reserved.ensures.capacity,
     )
-
-pub index_mut-state-requires : goal.index_mut-state-requires
-index_mut-state-requires g c = within _ c.args.self.now c.args.block c.block.inside.0 _ c.block.view_is c.self.view_is c.requires.known c.self.inside.blocks.ok.0
-
-pub returns-in_err-noted-clause-begun : goal.returns-in_err-noted-clause-begun
-returns-in_err-noted-clause-begun g c = λ run at may. IfOk-from_err c.from_residual.result _ c.from_residual.ensures.0
-
-pub returns-in_err-noted-clause-trace : goal.returns-in_err-noted-clause-trace
-returns-in_err-noted-clause-trace g c = IfOk-from_err c.from_residual.result _ c.from_residual.ensures.0
-
-pub returns-in_err-noted-clause-refused : goal.returns-in_err-noted-clause-refused
-returns-in_err-noted-clause-refused g c = on_err _ refl
-
-pub returns-in_err-image-clause-begun : goal.returns-in_err-image-clause-begun
-returns-in_err-image-clause-begun g c = λ run at may. IfOk-from_err c.from_residual-in_err-image.result _ c.from_residual-in_err-image.ensures.0
-
-pub returns-in_err-image-clause-trace : goal.returns-in_err-image-clause-trace
-returns-in_err-image-clause-trace g c = IfOk-from_err c.from_residual-in_err-image.result _ c.from_residual-in_err-image.ensures.0
-
-pub returns-in_err-image-clause-refused : goal.returns-in_err-image-clause-refused
-returns-in_err-image-clause-refused g c = on_err _ refl
-
-pub returns-in_err-reserve-clause-begun : goal.returns-in_err-reserve-clause-begun
-returns-in_err-reserve-clause-begun g c = λ run at may. IfOk-from_err c.from_residual-in_err-reserve.result _ c.from_residual-in_err-reserve.ensures.0
-
-pub returns-in_err-reserve-clause-trace : goal.returns-in_err-reserve-clause-trace
-returns-in_err-reserve-clause-trace g c = IfOk-from_err c.from_residual-in_err-reserve.result _ c.from_residual-in_err-reserve.ensures.0
-
-pub returns-in_err-reserve-clause-refused : goal.returns-in_err-reserve-clause-refused
-returns-in_err-reserve-clause-refused g c = on_err _ (unchanged _ _ _ _ refl refl (ap (map step_of) c.reserve.ensures.items) ∙ c.self.view_is)
-
-pub returns-clause-refused : goal.returns-clause-refused
-returns-clause-refused g c = tt
-
-pub index_mut-requires : goal.index_mut-requires
-index_mut-requires g c = within_writes _ c.args.self.now c.args.block c.block.inside.0 _ c.block.view_is c.self.view_is c.requires.known c.self.invariant.0 c.self.inside.writes.ok.0
-
-pub push_reserved-requires : goal.push_reserved-requires
-push_reserved-requires g c = more_room_left _ _ _ c.in_ok-reserve.ensures.ok
-
-pub invariant_of-self : goal.invariant_of-self
-invariant_of-self g c = (
-  c.self.invariant.0,
-  c.self.invariant.1,
-  c.self.invariant.2,
-  still_fits _ _ _ _ _ (ap length c.reserve.ensures.items) c.reserve.ensures.capacity c.self.invariant.3,
-)
-
-pub copy_image-requires-clause-empty : goal.copy_image-requires-clause-empty
-copy_image-requires-clause-empty g c = c.in_ok-image.ensures.len
-
-pub copy_image-requires-clause-room : goal.copy_image-requires-clause-room
-copy_image-requires-clause-room g c = c.in_ok-image.ensures.capacity
-
-pub overflow_add-self-inside : goal.overflow_add-self-inside
-overflow_add-self-inside g c = few_more_fit c.self.inside.writes.items _ _ c.self.invariant.2 c.self.invariant.0 c.self.invariant.1
-
-pub overflow_add-self : goal.overflow_add-self
-overflow_add-self g c = few_fit c.self.inside.writes.items _ _ c.self.invariant.2 c.self.invariant.0 c.self.invariant.1

@@ -1,6 +1,6 @@
-use Rattle.std.proofs.Common.{[], sym, subst, ◌∙◌, List, map, refl, ap, ◌+◌, ◌≤◌, length}
-use Rattle.patch_cache.specs.Contents.{Contents, drained}
-use Rattle.patch_cache.specs.Meaning.{IsCacheOf}
+use Rattle.std.proofs.Common.{true, false, [], sym, subst, ◌∙◌, List, map, refl, ap, ◌+◌, ◌≤◌, length}
+use Rattle.patch_cache.specs.Contents.{Contents, drained, state_in, write_in}
+use Rattle.patch_cache.specs.Meaning.{IsCacheOf, IsPagedCacheOf}
 use Rattle.patch_cache.proofs.SameExecution.{with_trace}
 use Rattle.std.proofs.lemmas.Result.{IfOk-from_err}
 use Rattle.patch_model.specs.Step.{Step}
@@ -10,7 +10,10 @@ use Rattle.std.specs.Prelude.{vec_capacity}
 use Rattle.patch_cache.proofs.caches.Cache.drain_trace.Goals as goal
 
 pub returns-clause-same : goal.returns-clause-same
-returns-clause-same g c run r = with_trace _ (λ _. []) run _ (subst (λ (x : Contents). IsCacheOf x run) (sym c.self.view_is) r)
+returns-clause-same g c run r = with_trace true _ (λ _. []) run _ (subst (λ (x : Contents). IsCacheOf x run) (sym c.self.view_is) r)
+
+pub returns-clause-same_paged : goal.returns-clause-same_paged
+returns-clause-same_paged g c run r = with_trace false _ (λ _. []) run _ (subst (λ (x : Contents). IsPagedCacheOf x run) (sym c.self.view_is) r)
 
 pub returns-in_err-kept-clause-steps : goal.returns-in_err-kept-clause-steps
 returns-in_err-kept-clause-steps g c = IfOk-from_err c.from_residual.result _ c.from_residual.ensures.0
@@ -21,6 +24,9 @@ returns-in_err-kept-clause-drained g c = IfOk-from_err c.from_residual.result _ 
 pub returns-in_err-kept-clause-same : goal.returns-in_err-kept-clause-same
 returns-in_err-kept-clause-same g c = λ run at. at
 
+pub returns-in_err-kept-clause-same_paged : goal.returns-in_err-kept-clause-same_paged
+returns-in_err-kept-clause-same_paged g c = λ run at. at
+
 pub returns-in_err-kept-clause-refused : goal.returns-in_err-kept-clause-refused
 returns-in_err-kept-clause-refused g c = on_err _ refl
 
@@ -30,8 +36,8 @@ returns-clause-steps g c = ap (λ v. map step_of v.items) c.replace.ensures.valu
 pub returns-clause-drained : goal.returns-clause-drained
 returns-clause-drained g c =
     let with_trace_of = λ (steps : List Step). let v : Contents = record {
-      blocks = c.self.inside.blocks.items;
-      writes = c.self.inside.writes.items;
+      blocks = map state_in c.self.inside.rows.items;
+      writes = map write_in c.self.inside.rows.items;
       graph = c.self.inside.graph;
       sends = c.self.inside.sends;
       live = c.self.inside.live;
@@ -46,7 +52,6 @@ pub invariant_of-self : goal.invariant_of-self
 invariant_of-self g c = (
   c.self.invariant.0,
   c.self.invariant.1,
-  c.self.invariant.2,
   subst (λ v. length v.items + c.self.inside.under_way ≤ vec_capacity v) (sym c.replace.ensures.after)
       (empty_fits _ _ _ (ap length c.in_ok-kept.ensures.items) c.in_ok-kept.ensures.capacity),
 )

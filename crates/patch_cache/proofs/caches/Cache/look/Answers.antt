@@ -1,10 +1,13 @@
-use Rattle.std.proofs.Common.{◌≡◌, ◌∙◌, ℕ, List, [], None, Ok, length, inl, sym, ap, refl}
+use Rattle.std.proofs.Common.{◌≡◌, ◌∙◌, ℕ, List, true, [], None, Ok, Err, length, inl, inr, ◌⊎◌, sym, ap, refl}
 use Rattle.patch_model.specs.Execution.{Execution}
 use Rattle.patch_model.specs.History.{history_of, without, cached}
 use Rattle.patch_model.specs.Refusing.{why_not_shown}
-use Rattle.patch_cache.specs.Asks.{Seen, unless, seen}
+use Rattle.patch_model.specs.declared.refusals.Refusal.{Refusal}
+use Rattle.patch_cache.specs.Asks.{Refused, Seen, View, IsAnswer, IsGivenUp, unless, seen}
+use Rattle.patch_cache.specs.Looking.{HasLooked}
 use Rattle.patch_cache.specs.Viewing.{with_moves, bytes_at}
 use Rattle.patch_cache.specs.declared.asks.Move.{Move}
+use Rattle.patch_cache.proofs.Absent.{whole_alone}
 use Rattle.patch_cache.proofs.Showing.{none_yet, its_own_view}
 use Rattle.patch_cache.specs.Contents.{Contents}
 use Rattle.patch_cache.proofs.caches.Cache.look.Goals as goal
@@ -18,39 +21,39 @@ shown run block moves start len names rest all none moved is_rest is_all =
 
 pub returns-in-Err-clause-restored : goal.returns-in-Err-clause-restored
 returns-in-Err-clause-restored g c = λ run at.
-    let stands = c.without-without.ensures.stands run at in c.restore_of.ensures.answer run stands.0 stands.1
+    let stands = c.without-without.ensures.stands run at in c.restore_of.ensures.answer true run stands.0 stands.1
 
 pub returns-in-Ok-copied-clause-answer : goal.returns-in-Ok-copied-clause-answer
 returns-in-Ok-copied-clause-answer g c = λ run at.
     let stands = c.without-without.ensures.stands run at in
-    let back = c.restore_of.ensures.answer run stands.0 stands.1 in
+    let back = c.restore_of.ensures.answer true run stands.0 stands.1 in
     let moved = c.in-Ok.ensures.answer run at in
-    let cause = c.in_default.ensures.cause run at in
+    let cause = c.in_default.ensures.cause true run at ∙ whole_alone c.args.self.now run c.args.block _ at in
     inl (shown run c.args.block c.args.moves.now c.args.start c.args.len moved.0 _ _ (sym cause) moved.1 moved.2
-    (c.in-Ok-copied.ensures.bytes run [] (none_yet c.restore_of.new.self c.args.block run back)))
+    (c.in-Ok-copied.ensures.bytes run [] (none_yet true c.restore_of.new.self c.args.block run back)))
 
 pub returns-in-Ok-copied-clause-restored : goal.returns-in-Ok-copied-clause-restored
 returns-in-Ok-copied-clause-restored g c = λ run at.
-    let stands = c.without-without.ensures.stands run at in c.restore_of.ensures.answer run stands.0 stands.1
+    let stands = c.without-without.ensures.stands run at in c.restore_of.ensures.answer true run stands.0 stands.1
 
 pub returns-in-Err-copied-clause-restored : goal.returns-in-Err-copied-clause-restored
 returns-in-Err-copied-clause-restored g c = λ run at.
-    let stands = c.without-without.ensures.stands run at in c.restore_of.ensures.answer run stands.0 stands.1
+    let stands = c.without-without.ensures.stands run at in c.restore_of.ensures.answer true run stands.0 stands.1
 
 pub returns-in-Err-clause-same : goal.returns-in-Err-clause-same
 returns-in-Err-clause-same g c = λ run at.
     let stands = c.without-without.ensures.stands run at in
-    c.restore_of.ensures.as_before run stands.0 c.args.self.now stands.1 at (c.without-without.ensures.view c.args.self.now (its_own_view c.args.self.now c.args.block))
+    c.restore_of.ensures.as_before true run stands.0 c.args.self.now stands.1 at (c.without-without.ensures.view c.args.self.now (its_own_view c.args.self.now c.args.block (c.in_default.ensures.resident refl)))
 
 pub returns-in-Ok-copied-clause-same : goal.returns-in-Ok-copied-clause-same
 returns-in-Ok-copied-clause-same g c = λ run at.
     let stands = c.without-without.ensures.stands run at in
-    c.restore_of.ensures.as_before run stands.0 c.args.self.now stands.1 at (c.without-without.ensures.view c.args.self.now (its_own_view c.args.self.now c.args.block))
+    c.restore_of.ensures.as_before true run stands.0 c.args.self.now stands.1 at (c.without-without.ensures.view c.args.self.now (its_own_view c.args.self.now c.args.block (c.in_default.ensures.resident refl)))
 
 pub returns-in-Err-copied-clause-same : goal.returns-in-Err-copied-clause-same
 returns-in-Err-copied-clause-same g c = λ run at.
     let stands = c.without-without.ensures.stands run at in
-    c.restore_of.ensures.as_before run stands.0 c.args.self.now stands.1 at (c.without-without.ensures.view c.args.self.now (its_own_view c.args.self.now c.args.block))
+    c.restore_of.ensures.as_before true run stands.0 c.args.self.now stands.1 at (c.without-without.ensures.view c.args.self.now (its_own_view c.args.self.now c.args.block (c.in_default.ensures.resident refl)))
 
 pub returns-in-Some-clause-restored : goal.returns-in-Some-clause-restored
 returns-in-Some-clause-restored g c = λ run at. at
@@ -69,3 +72,26 @@ returns-in-Ok-copied-clause-trace g c = ap (λ (v : Contents). v.trace) c.restor
 
 pub returns-in-Err-copied-clause-trace : goal.returns-in-Err-copied-clause-trace
 returns-in-Err-copied-clause-trace g c = ap (λ (v : Contents). v.trace) c.restore_of.ensures.others ∙ c.without-without.ensures.trace
+
+pub returns-in-Some-clause-answer : goal.returns-in-Some-clause-answer
+returns-in-Some-clause-answer g c = λ run at.
+    let a = c.args in
+    let told = c.in-Some.ensures.cause true run at ∙ whole_alone a.self.now run a.block _ at in
+    inl (ap Refused c.refusal.ensures ∙ ap (λ why. unless why (seen run a.block a.start a.len (with_moves run a.block [] a.moves.now))) told)
+
+-- a look that is refused behind the span's test
+turned_down : (run : Execution) (block : ℕ) (moves : List Move) (start len : ℕ) (refusal : Refusal) → why_not_shown (length run.first) block start len ≡ None
+    → HasLooked run block moves start len (Err refusal) → IsAnswer run (View block moves start len) (Refused refusal) ⊎ IsGivenUp run (View block moves start len) (Refused refusal)
+turned_down run block moves start len refusal none (inl moved) =
+    inl (sym (ap (λ why. unless why (seen run block start len (with_moves run block [] moves))) none ∙ ap (seen run block start len) moved))
+turned_down run block moves start len refusal none (inr (names, moved, why)) = inr (record {
+  done = Seen (bytes_at (without (history_of run block) names) start len) (bytes_at (cached (history_of run block)) start len);
+  right = shown run block moves start len names _ _ none moved refl refl;
+  not_refused = refl;
+  gives_up = inl (ap Refused why, refl);
+})
+
+pub returns-in-Err-clause-answer : goal.returns-in-Err-clause-answer
+returns-in-Err-clause-answer g c = λ run at.
+    let told = c.in_default.ensures.cause true run at ∙ whole_alone c.args.self.now run c.args.block _ at in
+    turned_down run c.args.block c.args.moves.now c.args.start c.args.len c.in-Err.refusal (sym told) (c.in-Err.ensures.answer run at)

@@ -96,6 +96,6 @@ returns-clause-pass g c others run runs =
     let old = c.args.self.now in
     let mid = c.loop-block.self in
     let skipped = subst (λ (v : Contents). TellsNextOpen v.graph c.loop-block.from None) c.self.view_is c.in_default.ensures.answer in
-    let first = pass_skipped c.paths_form_no_ring.ensures.back c.patches_are_placed.ensures.flying c.pairs_merge.ensures.sent run c.loop-block.from 4096 c.loop-block.sent (steps_since old mid) mid c.loop-block.flights
+    let first = pass_skipped c.paths_form_no_ring.ensures.back c.patches_are_placed.ensures.flying c.pairs_merge.ensures.sent run c.loop-block.from 16777216 c.loop-block.sent (steps_since old mid) mid c.loop-block.flights
     skipped (c.loop-block.invariant.so_far others run runs) in
-    pass_ended c.pairs_merge.ensures.sent run 4096 c.loop-block.sent (steps_since old mid) (let few = runs.cache_is.legal.few in omega (arith, few)) first.pass
+    pass_ended c.pairs_merge.ensures.sent run 16777216 c.loop-block.sent (steps_since old mid) (let few = runs.cache_is.legal.few in omega (arith, few)) first.pass

@@ -8,7 +8,7 @@ use Rattle.patch_cache.proofs.Passing.{Passed}
 use Rattle.patch_cache.proofs.caches.Cache.send_all.Given as goal
 
 abbrev pub decreases-loop-block : goal.decreases-loop-block
-decreases-loop-block g l = 4096 - l.from
+decreases-loop-block g l = 16777216 - l.from
 
 -- the blocks so far
 abbrev pub invariant-loop-block : goal.invariant-loop-block

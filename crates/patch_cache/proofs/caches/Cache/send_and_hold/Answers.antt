@@ -23,7 +23,7 @@ returns-clause-answer g c = λ run runs why.
     let before : IsCacheOf _ run = subst (λ (x : Contents). IsCacheOf x run) (sym c.self.view_is) runs.cache_is in
     let ring : HasNoRing (entries_of run) = λ x y apart to back. c.paths_form_no_ring.ensures.back run x y runs.cache_is.legal to back in
     let numbers = c.in_ok-numbers.ensures (entries_of run) before.graph ring in
-    let sent = c.in_ok-flight.ensures.begun run runs.cache_is (why, numbers) in
+    let sent = c.in_ok-flight.ensures.begun true run runs.cache_is (why, numbers) in
     let held : c.push_reserved.new.self.items ≡ c.args.flights.now.held.items ++ flight ∷ [] = c.push_reserved.ensures.items ∙ ap (λ xs. xs ++ flight ∷ []) c.reserve.ensures.items in
     let told : c.from_vec.result ≡ c.in_ok-numbers.numbers.items = c.from_vec.ensures ∙ c.in_ok-answered_numbers.ensures.items ∙ c.as_slice.ensures.value in
     let done : is_ok c.extend_from_slice.result ≡ true = ap is_ok c.unwrap.ensures in
@@ -126,8 +126,8 @@ returns-clause-refused g c = tt
 pub returns-clause-held : goal.returns-clause-held
 returns-clause-held g c = tt
 
-pub begin-requires-clause-known : goal.begin-requires-clause-known
-begin-requires-clause-known g c = c.requires.known
+pub begin-requires-clause-resident : goal.begin-requires-clause-resident
+begin-requires-clause-resident g c = c.requires.resident
 
 pub begin-requires-clause-not_under_way : goal.begin-requires-clause-not_under_way
 begin-requires-clause-not_under_way g c = c.requires.not_under_way

@@ -1,4 +1,4 @@
-use Rattle.std.proofs.Common.{◌≡◌, ◌++◌, ◌∷◌, [], length, length-append, refl, sym, ap, subst, ◌∙◌}
+use Rattle.std.proofs.Common.{◌≡◌, true, ◌++◌, ◌∷◌, [], length, length-append, refl, sym, ap, subst, ◌∙◌}
 use Rattle.patch_model.specs.Execution.{extended}
 use Rattle.patch_model.specs.Step as the
 use Rattle.patch_cache.specs.Contents.{Contents}
@@ -10,6 +10,9 @@ use Rattle.patch_cache.proofs.Refusing.{not_told}
 use Rattle.patch_cache.proofs.Waving.{none_added}
 use Rattle.std.proofs.lemmas.Result.{IfOk-from_err}
 use Rattle.patch_cache.proofs.Stepping.{on_err}
+use Rattle.std.specs.Prelude.{option_map}
+use Rattle.patch_cache.proofs.Absent.{whole_alone}
+use Rattle.patch_cache.proofs.Clean.{none_of_row}
 use Rattle.patch_cache.proofs.caches.Cache.send_if_ready.Goals as goal
 
 pub returns-in-Ok-clause-sent : goal.returns-in-Ok-clause-sent
@@ -46,7 +49,7 @@ returns-in-Ok-clause-count g c =
 -- no write can begin
 pub returns-then-is_some-clause-sent : goal.returns-then-is_some-clause-sent
 returns-then-is_some-clause-sent g c = λ others run runs. (
-  λ none. not_told send_cause c.why_not_sent.result (sym c.is_some.ensures ∙ c.if-is_some.true) (c.why_not_sent.ensures.cause run runs.cache_is ∙ none),
+  λ none. not_told send_cause c.why_not_sent.result (sym c.is_some.ensures ∙ c.if-is_some.true) (c.why_not_sent.ensures.cause true run runs.cache_is ∙ whole_alone c.args.self.now run c.args.block _ runs.cache_is ∙ none),
   record { cache_is = subst (λ (x : Contents). IsCacheOf x run) (sym c.why_not_sent.ensures.same) runs.cache_is; flights_are = runs.flights_are },
 )
 
@@ -100,3 +103,8 @@ returns-in-Ok-clause-held g c = tt
 
 pub returns-in-Ok-clause-trace : goal.returns-in-Ok-clause-trace
 returns-in-Ok-clause-trace g c = c.in-Ok.ensures.trace ∙ ap (λ (v : Contents). v.trace ++ the.Send c.args.block ∷ []) c.why_not_sent.ensures.same
+
+pub returns-in_err-reserve-clause-cause : goal.returns-in_err-reserve-clause-cause
+returns-in_err-reserve-clause-cause g c = λ run runs. on_err _
+    (sym (whole_alone c.args.self.now run c.args.block _ runs.cache_is) ∙ sym (c.why_not_sent.ensures.cause true run runs.cache_is)
+    ∙ ap (option_map send_cause) (none_of_row c.why_not_sent.result (sym c.is_some.ensures ∙ c.if-is_some.false)))

@@ -1,4 +1,4 @@
-use Rattle.std.proofs.Common.{◌≡◌, ◌∙◌, ℕ, List, Result, Ok, Err, MatchResult, OnErr, sym, ap, subst}
+use Rattle.std.proofs.Common.{◌≡◌, ◌∙◌, ℕ, true, List, Result, Ok, Err, MatchResult, OnErr, sym, ap, subst}
 use Rattle.std.specs.Result.{IsErrAnd}
 use Rattle.patch_model.specs.declared.refusals.Refusal.{Refusal}
 use Rattle.patch_model.specs.Execution.{Execution}
@@ -24,11 +24,11 @@ moved cause run block names old new after (Err e) (Err f) at answer refused is =
 pub returns-in-Take-clause-answer : goal.returns-in-Take-clause-answer
 returns-in-Take-clause-answer g c = λ run names at.
     subst (λ move. HasMoved run c.args.block (with_move run c.args.block names move) c.map_err.result c.take_of.new.self) (sym c.in-Take.is)
-    (moved take_cause run c.args.block names c.args.self.now c.take_of.new.self _ c.take_of.result c.map_err.result at (c.take_of.ensures.answer run names at) c.take_of.ensures.refused
+    (moved take_cause run c.args.block names c.args.self.now c.take_of.new.self _ c.take_of.result c.map_err.result at (c.take_of.ensures.answer true run names at) c.take_of.ensures.refused
     c.map_err.ensures.cases)
 
 pub returns-in-Back-clause-answer : goal.returns-in-Back-clause-answer
 returns-in-Back-clause-answer g c = λ run names at.
     subst (λ move. HasMoved run c.args.block (with_move run c.args.block names move) c.map_err-in-Back.result c.put_back_of.new.self) (sym c.in-Back.is)
-    (moved put_back_cause run c.args.block names c.args.self.now c.put_back_of.new.self _ c.put_back_of.result c.map_err-in-Back.result at (c.put_back_of.ensures.answer run names at)
+    (moved put_back_cause run c.args.block names c.args.self.now c.put_back_of.new.self _ c.put_back_of.result c.map_err-in-Back.result at (c.put_back_of.ensures.answer true run names at)
     c.put_back_of.ensures.refused c.map_err-in-Back.ensures.cases)

@@ -24,7 +24,7 @@ returns-in_err-take_move-clause-answer g c = λ run names at.
 
 pub loop-step-preserved : goal.loop-step-preserved
 loop-step-preserved g c = record {
-  count = c.take_move.ensures.count ∙ c.loop-step.invariant.count;
+  resident = λ n. c.take_move.ensures.resident n ∙ c.loop-step.invariant.resident n;
   trace = c.take_move.ensures.trace ∙ c.loop-step.invariant.trace;
   view = λ before as_view. c.take_move.ensures.view before (c.loop-step.invariant.view before as_view);
   so_far = λ run names at.

@@ -1,6 +1,6 @@
-use Rattle.std.proofs.Common.{◌≡◌, ℕ, List, drop, length}
+use Rattle.std.proofs.Common.{◌≡◌, ℕ, List, drop}
 use Rattle.patch_model.specs.Execution.{Execution}
-use Rattle.patch_cache.specs.Contents.{Contents}
+use Rattle.patch_cache.specs.Contents.{Contents, is_resident}
 use Rattle.patch_cache.specs.Meaning.{ShowsWithout}
 use Rattle.patch_cache.specs.Viewing.{with_moves, IsViewOf}
 use Rattle.patch_cache.proofs.caches.Cache.take_moves.Given as goal
@@ -8,7 +8,7 @@ use Rattle.patch_cache.proofs.caches.Cache.take_moves.Given as goal
 -- what is left to do gives what all of it gives
 abbrev pub invariant-loop-step : goal.invariant-loop-step
 invariant-loop-step g l = record {
-  count : length l.self.blocks ≡ length l.fn.self.blocks;
+  resident : (n : ℕ) → is_resident l.self n ≡ is_resident l.fn.self n;
   trace : l.self.trace ≡ l.fn.self.trace;
   view : (before : Contents) → IsViewOf before l.block l.fn.self → IsViewOf before l.block l.self;
   so_far : (run : Execution) (names : List ℕ) → ShowsWithout l.fn.self l.block names run
