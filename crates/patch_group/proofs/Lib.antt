@@ -18,3 +18,4 @@ pub mod Sealing
 pub mod Outcomes
 pub mod Reading
 pub mod Whys
+pub mod Anew

@@ -5,3 +5,4 @@ pub mod Records
 pub mod Pending
 pub mod Runs
 pub mod Syncing
+pub mod Renewing

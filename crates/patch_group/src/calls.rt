@@ -1,11 +1,17 @@
 //! Groups, and the calls that begin, engage, order and close them.
 ghost use Rattle.std.specs.Prelude.{◌≡◌, ◌≢◌, ◌<◌, ◌++◌, ◌∷◌, [], Some, None, true, false, length, option_map, IfOk, IfErr, OnOk, OnErr, IsNone};
+ghost use Rattle.std.specs.List.{list_any};
 ghost use Rattle.patch_cache.specs.Refusals.{IsCause};
 ghost use Rattle.patch_plans.specs.Groups.{no_groups, is_open, is_engaged_by, is_engaged, why_not_begun, why_not_engaged, why_not_disengaged, why_not_closed, begun, engaged, disengaged, closed};
 ghost use Rattle.patch_group.specs.Refusals.{group_cause};
+ghost use Rattle.patch_group.specs.Records.{group_of};
+ghost use Rattle.patch_group.specs.Renewing.{is_in_use, why_not_renewed};
+ghost use Rattle.patch_model.specs.Refusing.{bare};
+ghost use Rattle.patch_model.specs.declared.refusals.RefusalKind.TheVariants as kind;
 
 use crate::records::{Before, Record};
 use crate::refusals::GroupRefusal;
+use patch_cache::Live;
 use patch_model::{GroupNo, OutOfMemory, WriterNo};
 use patch_plans::MAX_GROUPS;
 use std::alloc::{Allocator, Global};
@@ -147,6 +153,22 @@ impl<A: Allocator + Copy> Groups<A> {
         Ok(())
     }
 
+    /// Begins anew where each group is closed or was never engaged: there is no group then, and the next one has the number 0. It
+    /// takes no memory.
+    pub fn renew(&mut self) -> Result<(), Live>
+        ensures done { OnOk result ((why_not_renewed self.old ≡ None) × (self.new ≡ no_groups)) }
+        ensures cause { OnErr result (why_not_renewed self.old ≡ Some (bare kind.Live)) }
+        ensures refused { OnErr result (self.new ≡ self.old) }
+    {
+        if is_any_in_use(&self.groups) {
+            return Err(Live);
+        }
+        self.groups.clear();
+        self.engaged.clear();
+        self.before.clear();
+        Ok(())
+    }
+
     /// Whether there is a group of this number that wasn't closed.
     pub(crate) fn is_open(&self, group: GroupNo) -> bool
         ensures answer { result ≡ is_open self.now group }
@@ -171,4 +193,13 @@ impl<A: Allocator + Copy> Groups<A> {
     {
         self.engaged.iter().any(|engagement| engagement.1 == group)
     }
+}
+
+/// Whether a group of these was engaged and not closed.
+fn is_any_in_use<A: Allocator>(records: &[Record<A>]) -> bool
+    ensures { result ≡ list_any (λ kept. is_in_use (group_of kept)) records.now }
+{
+    records
+        .iter()
+        .any(|record| record.started && !record.closed)
 }

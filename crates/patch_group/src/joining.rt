@@ -6,7 +6,8 @@ ghost use Rattle.patch_model.specs.Refusing.{why_not_made};
 ghost use Rattle.patch_model.specs.Runs.{numbers_in};
 ghost use Rattle.patch_model.specs.State.{entries_of};
 ghost use Rattle.patch_model.specs.Step.{Create};
-ghost use Rattle.patch_cache.specs.Meaning.{IsCacheOf};
+ghost use Rattle.patch_cache.specs.Meaning.{IsCacheOf, IsPagedCacheOf};
+ghost use Rattle.patch_cache.specs.Paging.{if_resident};
 ghost use Rattle.patch_cache.specs.Refusals.{create_cause};
 ghost use Rattle.patch_group.specs.Refusals.{IsCauseOf};
 ghost use Rattle.patch_plans.specs.Groups.{AreApart, with_patch, after_of, entered, patch_of, why_not_patched};
@@ -37,12 +38,19 @@ impl<A: Allocator + Copy> Groups<A> {
     ) -> Result<PatchNo, CreateRefusal>
         ensures made { (run : Execution) → IsCacheOf cache.old run → OnOk result
             (IsCacheOf cache.new (extended run (patch_of self.old writer block start bytes.now after.now undo))) }
+        ensures made_paged { (run : Execution) → IsPagedCacheOf cache.old run → OnOk result
+            (IsPagedCacheOf cache.new (extended run (patch_of self.old writer block start bytes.now after.now undo))) }
         ensures number { (run : Execution) → IsCacheOf cache.old run → IfOk result (λ no. no ≡ length (entries_of run)) }
+        ensures number_paged { (run : Execution) → IsPagedCacheOf cache.old run → IfOk result (λ no. no ≡ length (entries_of run)) }
         ensures allowed { (run : Execution) → IsCacheOf cache.old run
+            → OnOk result (why_not_patched run self.old writer block start bytes.now after.now ≡ None) }
+        ensures allowed_paged { (run : Execution) → IsPagedCacheOf cache.old run
             → OnOk result (why_not_patched run self.old writer block start bytes.now after.now ≡ None) }
         ensures joined { IfOk result (λ no. self.new ≡ with_patch self.old writer no) }
         ensures cause { (run : Execution) → IsCacheOf cache.old run → IfErr result (λ refusal.
             IsCauseOf (why_not_patched run self.old writer block start bytes.now after.now) (create_cause refusal)) }
+        ensures cause_paged { (run : Execution) → IsPagedCacheOf cache.old run → IfErr result (λ refusal.
+            IsCauseOf (if_resident cache.old block (why_not_patched run self.old writer block start bytes.now after.now)) (create_cause refusal)) }
         ensures trace { OnOk result (cache.new.trace ≡ cache.old.trace ++ patch_of self.old writer block start bytes.now after.now undo ∷ []) }
         ensures refused { OnErr result (self.new ≡ self.old) }
         ensures refused_cache { OnErr result (cache.new ≡ cache.old) }
@@ -71,12 +79,19 @@ impl<A: Allocator + Copy> Groups<A> {
     ) -> Result<PatchNo, CreateRefusal>
         ensures made { (run : Execution) → IsCacheOf cache.old run → OnOk result
             (IsCacheOf cache.new (extended run (patch_of self.old writer block start bytes after undo))) }
+        ensures made_paged { (run : Execution) → IsPagedCacheOf cache.old run → OnOk result
+            (IsPagedCacheOf cache.new (extended run (patch_of self.old writer block start bytes after undo))) }
         ensures number { (run : Execution) → IsCacheOf cache.old run → IfOk result (λ no. no ≡ length (entries_of run)) }
+        ensures number_paged { (run : Execution) → IsPagedCacheOf cache.old run → IfOk result (λ no. no ≡ length (entries_of run)) }
         ensures allowed { (run : Execution) → IsCacheOf cache.old run
+            → OnOk result (why_not_patched run self.old writer block start bytes after ≡ None) }
+        ensures allowed_paged { (run : Execution) → IsPagedCacheOf cache.old run
             → OnOk result (why_not_patched run self.old writer block start bytes after ≡ None) }
         ensures joined { IfOk result (λ no. self.new ≡ with_patch self.old writer no) }
         ensures cause { (run : Execution) → IsCacheOf cache.old run → IfErr result (λ refusal.
             IsCauseOf (why_not_patched run self.old writer block start bytes after) (create_cause refusal)) }
+        ensures cause_paged { (run : Execution) → IsPagedCacheOf cache.old run → IfErr result (λ refusal.
+            IsCauseOf (if_resident cache.old block (why_not_patched run self.old writer block start bytes after)) (create_cause refusal)) }
         ensures trace { OnOk result (cache.new.trace ≡ cache.old.trace ++ patch_of self.old writer block start bytes after undo ∷ []) }
         ensures refused { OnErr result (self.new ≡ self.old) }
         ensures refused_cache { OnErr result (cache.new ≡ cache.old) }
@@ -101,12 +116,19 @@ impl<A: Allocator + Copy> Groups<A> {
     ) -> Result<PatchNo, CreateRefusal>
         ensures made { (run : Execution) → IsCacheOf cache.old run → OnOk result
             (IsCacheOf cache.new (extended run (patch_of self.old (Some writer) block start bytes after undo))) }
+        ensures made_paged { (run : Execution) → IsPagedCacheOf cache.old run → OnOk result
+            (IsPagedCacheOf cache.new (extended run (patch_of self.old (Some writer) block start bytes after undo))) }
         ensures number { (run : Execution) → IsCacheOf cache.old run → IfOk result (λ no. no ≡ length (entries_of run)) }
+        ensures number_paged { (run : Execution) → IsPagedCacheOf cache.old run → IfOk result (λ no. no ≡ length (entries_of run)) }
         ensures allowed { (run : Execution) → IsCacheOf cache.old run
+            → OnOk result (why_not_patched run self.old (Some writer) block start bytes after ≡ None) }
+        ensures allowed_paged { (run : Execution) → IsPagedCacheOf cache.old run
             → OnOk result (why_not_patched run self.old (Some writer) block start bytes after ≡ None) }
         ensures joined { IfOk result (λ no. self.new ≡ with_patch self.old (Some writer) no) }
         ensures cause { (run : Execution) → IsCacheOf cache.old run → IfErr result (λ refusal.
             IsCauseOf (why_not_patched run self.old (Some writer) block start bytes after) (create_cause refusal)) }
+        ensures cause_paged { (run : Execution) → IsPagedCacheOf cache.old run → IfErr result (λ refusal.
+            IsCauseOf (if_resident cache.old block (why_not_patched run self.old (Some writer) block start bytes after)) (create_cause refusal)) }
         ensures trace { OnOk result (cache.new.trace ≡ cache.old.trace ++ patch_of self.old (Some writer) block start bytes after undo ∷ []) }
         ensures refused { OnErr result (self.new ≡ self.old) }
         ensures refused_cache { OnErr result (cache.new ≡ cache.old) }
@@ -144,12 +166,19 @@ impl<A: Allocator + Copy> Groups<A> {
     ) -> Result<PatchNo, CreateRefusal>
         ensures made { (run : Execution) → IsCacheOf cache.old run → OnOk result
             (IsCacheOf cache.new (extended run (Create block start bytes names undo))) }
+        ensures made_paged { (run : Execution) → IsPagedCacheOf cache.old run → OnOk result
+            (IsPagedCacheOf cache.new (extended run (Create block start bytes names undo))) }
         ensures number { (run : Execution) → IsCacheOf cache.old run → IfOk result (λ no. no ≡ length (entries_of run)) }
+        ensures number_paged { (run : Execution) → IsPagedCacheOf cache.old run → IfOk result (λ no. no ≡ length (entries_of run)) }
         ensures allowed { (run : Execution) → IsCacheOf cache.old run
+            → OnOk result (why_not_made (length run.first) (entries_of run) block start bytes names ≡ None) }
+        ensures allowed_paged { (run : Execution) → IsPagedCacheOf cache.old run
             → OnOk result (why_not_made (length run.first) (entries_of run) block start bytes names ≡ None) }
         ensures joined { IfOk result (λ no. self.new ≡ with_patch self.old (Some writer) no) }
         ensures cause { (run : Execution) → IsCacheOf cache.old run → IfErr result (λ refusal.
             IsCauseOf (why_not_made (length run.first) (entries_of run) block start bytes names) (create_cause refusal)) }
+        ensures cause_paged { (run : Execution) → IsPagedCacheOf cache.old run → IfErr result (λ refusal.
+            IsCauseOf (if_resident cache.old block (why_not_made (length run.first) (entries_of run) block start bytes names)) (create_cause refusal)) }
         ensures trace { OnOk result (cache.new.trace ≡ cache.old.trace ++ Create block start bytes names undo ∷ []) }
         ensures refused { OnErr result (self.new ≡ self.old) }
         ensures refused_cache { OnErr result (cache.new ≡ cache.old) }

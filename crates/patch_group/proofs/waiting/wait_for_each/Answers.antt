@@ -13,7 +13,7 @@ pub loop-run-init : goal.loop-run-init
 loop-run-init g c run r = sym (append-nil c.args.waiting.now.items)
 
 pub wait_for_run-requires : goal.wait_for_run-requires
-wait_for_run-requires g c = c.none_pending_below-from.ensures
+wait_for_run-requires g c = c.none_pending_below-from.ensures.answer
 
 pub returns-in_err-wait_for_run : goal.returns-in_err-wait_for_run
 returns-in_err-wait_for_run g c run r = refused-done c.from_residual.result _ c.from_residual.ensures.0

@@ -15,7 +15,7 @@ returns-then-block-lt-BLOCK-clause-opened g c run cache =
     let low = pointer_block_there c.args.geometry in
     let there : pointer_block c.args.geometry < length run.first = omega (arith, low, c.requires.blocks, cache.count) in
     let long = cached_long run (pointer_block c.args.geometry) (c.executions_are_orderly.ensures.blocks run (pointer_block c.args.geometry) cache.legal there) in
-    let is = (c.in-Ok.ensures run cache).1 ∙ ap (λ b. slice_range (cached (history_of run b)) 0 4096) c.pointer_block.ensures in
+    let is = (c.in-Ok.ensures.answer run cache).1 ∙ ap (λ b. slice_range (cached (history_of run b)) 0 4096) c.pointer_block.ensures in
     let whole = ap length (block_read run c.args.geometry c.in-Ok.block.now there long is) ∙ ap length (cached_on run (pointer_block c.args.geometry) there) ∙ long in
     absurd (omega (arith, whole, c.if-block-lt-BLOCK.true))
 
@@ -24,7 +24,7 @@ returns-then-has_bad_pointers-clause-opened g c run cache =
     let low = pointer_block_there c.args.geometry in
     let there : pointer_block c.args.geometry < length run.first = omega (arith, low, c.requires.blocks, cache.count) in
     let long = cached_long run (pointer_block c.args.geometry) (c.executions_are_orderly.ensures.blocks run (pointer_block c.args.geometry) cache.legal there) in
-    let is = (c.in-Ok.ensures run cache).1 ∙ ap (λ b. slice_range (cached (history_of run b)) 0 4096) c.pointer_block.ensures in
+    let is = (c.in-Ok.ensures.answer run cache).1 ∙ ap (λ b. slice_range (cached (history_of run b)) 0 4096) c.pointer_block.ensures in
     ap (has_bad_pointers c.args.geometry) (sym (block_read run c.args.geometry c.in-Ok.block.now there long is)) ∙ sym c.has_bad_pointers.ensures ∙ c.if-has_bad_pointers.true
 
 pub read_records-requires-clause-read : goal.read_records-requires-clause-read
@@ -36,7 +36,7 @@ returns-in_err-each-clause-opened g c run cache =
     let low = pointer_block_there c.args.geometry in
     let there : pointer_block c.args.geometry < length run.first = omega (arith, low, c.requires.blocks, cache.count) in
     let long = cached_long run (pointer_block c.args.geometry) (c.executions_are_orderly.ensures.blocks run (pointer_block c.args.geometry) cache.legal there) in
-    let is = (c.in-Ok.ensures run cache).1 ∙ ap (λ b. slice_range (cached (history_of run b)) 0 4096) c.pointer_block.ensures in
+    let is = (c.in-Ok.ensures.answer run cache).1 ∙ ap (λ b. slice_range (cached (history_of run b)) 0 4096) c.pointer_block.ensures in
     let good = ap (has_bad_pointers c.args.geometry) (sym (block_read run c.args.geometry c.in-Ok.block.now there long is)) ∙ sym c.has_bad_pointers.ensures ∙ c.if-has_bad_pointers.false in
     rw p.1 (good ∙ ap tells_bad (sym p.2))
 
@@ -46,7 +46,7 @@ returns-in_err-empty-clause-opened g c run cache =
     let low = pointer_block_there c.args.geometry in
     let there : pointer_block c.args.geometry < length run.first = omega (arith, low, c.requires.blocks, cache.count) in
     let long = cached_long run (pointer_block c.args.geometry) (c.executions_are_orderly.ensures.blocks run (pointer_block c.args.geometry) cache.legal there) in
-    let is = (c.in-Ok.ensures run cache).1 ∙ ap (λ b. slice_range (cached (history_of run b)) 0 4096) c.pointer_block.ensures in
+    let is = (c.in-Ok.ensures.answer run cache).1 ∙ ap (λ b. slice_range (cached (history_of run b)) 0 4096) c.pointer_block.ensures in
     let good = ap (has_bad_pointers c.args.geometry) (sym (block_read run c.args.geometry c.in-Ok.block.now there long is)) ∙ sym c.has_bad_pointers.ensures ∙ c.if-has_bad_pointers.false in
     rw p.1 (good ∙ ap tells_bad (sym p.2))
 
@@ -55,7 +55,7 @@ returns-clause-opened g c run cache =
     let low = pointer_block_there c.args.geometry in
     let there : pointer_block c.args.geometry < length run.first = omega (arith, low, c.requires.blocks, cache.count) in
     let long = cached_long run (pointer_block c.args.geometry) (c.executions_are_orderly.ensures.blocks run (pointer_block c.args.geometry) cache.legal there) in
-    let is = (c.in-Ok.ensures run cache).1 ∙ ap (λ b. slice_range (cached (history_of run b)) 0 4096) c.pointer_block.ensures in
+    let is = (c.in-Ok.ensures.answer run cache).1 ∙ ap (λ b. slice_range (cached (history_of run b)) 0 4096) c.pointer_block.ensures in
     let whole = block_read run c.args.geometry c.in-Ok.block.now there long is in
     let good = sym c.has_bad_pointers.ensures ∙ c.if-has_bad_pointers.false in
     let rest = zeros_behind (has_bad_record c.args.geometry c.in-Ok.block.now) _ good in

@@ -19,4 +19,4 @@ loop-k-preserved g c run cache represents =
     (c.executions_are_orderly.ensures.blocks run (first_block c.args.self.now.geometry c.args.place.extent + part_start c.args.place.offset c.loop-k.k / 4096) cache.legal there) in
     c.in_ok-extend_from_slice-in-Ok.ensures.items ∙ ap (λ xs. xs ++ c.in-Ok.part.now) (c.loop-k.invariant run cache represents)
     ∙ span_more c.args.self.now.geometry run c.args.place.extent c.args.place.offset c.args.place.len c.loop-k.k c.first_block-first.result c.part_start-start.result c.part_end.result c.in-Ok.part.now
-    value c.part_start-start.ensures c.part_end.ensures some less there long (c.in-Ok.ensures run cache).1
+    value c.part_start-start.ensures c.part_end.ensures some less there long (c.in-Ok.ensures.answer run cache).1

@@ -48,17 +48,29 @@ invariant_of-self-in_err-no g c =
 pub returns-in_err-make_room-clause-made : goal.returns-in_err-make_room-clause-made
 returns-in_err-make_room-clause-made g c run r = refused-done c.from_residual.result _ c.from_residual.ensures.0
 
+pub returns-in_err-make_room-clause-made_paged : goal.returns-in_err-make_room-clause-made_paged
+returns-in_err-make_room-clause-made_paged g c run r = refused-done c.from_residual.result _ c.from_residual.ensures.0
+
 pub returns-in_err-make_room-clause-allowed : goal.returns-in_err-make_room-clause-allowed
 returns-in_err-make_room-clause-allowed g c run r = refused-done c.from_residual.result _ c.from_residual.ensures.0
 
+pub returns-in_err-make_room-clause-allowed_paged : goal.returns-in_err-make_room-clause-allowed_paged
+returns-in_err-make_room-clause-allowed_paged g c run r = refused-done c.from_residual.result _ c.from_residual.ensures.0
+
 pub returns-in_err-make_room-clause-number : goal.returns-in_err-make_room-clause-number
 returns-in_err-make_room-clause-number g c run r = IfOk-from_err c.from_residual.result _ c.from_residual.ensures.0
+
+pub returns-in_err-make_room-clause-number_paged : goal.returns-in_err-make_room-clause-number_paged
+returns-in_err-make_room-clause-number_paged g c run r = IfOk-from_err c.from_residual.result _ c.from_residual.ensures.0
 
 pub returns-in_err-make_room-clause-joined : goal.returns-in_err-make_room-clause-joined
 returns-in_err-make_room-clause-joined g c = IfOk-from_err c.from_residual.result _ c.from_residual.ensures.0
 
 pub returns-in_err-make_room-clause-cause : goal.returns-in_err-make_room-clause-cause
 returns-in_err-make_room-clause-cause g c run r = refused-told c.from_residual.result NoMemory _ c.from_residual.ensures.1 (inr refl)
+
+pub returns-in_err-make_room-clause-cause_paged : goal.returns-in_err-make_room-clause-cause_paged
+returns-in_err-make_room-clause-cause_paged g c run r = refused-told c.from_residual.result NoMemory _ c.from_residual.ensures.1 (inr refl)
 
 pub returns-in_err-make_room-clause-trace : goal.returns-in_err-make_room-clause-trace
 returns-in_err-make_room-clause-trace g c = refused-done c.from_residual.result _ c.from_residual.ensures.0
@@ -72,17 +84,29 @@ returns-in_err-make_room-clause-refused_cache g c = refused-still c.from_residua
 pub returns-in_err-no-clause-made : goal.returns-in_err-no-clause-made
 returns-in_err-no-clause-made g c run r = refused-done c.from_residual-in_err-no.result _ c.from_residual-in_err-no.ensures.0
 
+pub returns-in_err-no-clause-made_paged : goal.returns-in_err-no-clause-made_paged
+returns-in_err-no-clause-made_paged g c run r = refused-done c.from_residual-in_err-no.result _ c.from_residual-in_err-no.ensures.0
+
 pub returns-in_err-no-clause-allowed : goal.returns-in_err-no-clause-allowed
 returns-in_err-no-clause-allowed g c run r = refused-done c.from_residual-in_err-no.result _ c.from_residual-in_err-no.ensures.0
 
+pub returns-in_err-no-clause-allowed_paged : goal.returns-in_err-no-clause-allowed_paged
+returns-in_err-no-clause-allowed_paged g c run r = refused-done c.from_residual-in_err-no.result _ c.from_residual-in_err-no.ensures.0
+
 pub returns-in_err-no-clause-number : goal.returns-in_err-no-clause-number
 returns-in_err-no-clause-number g c run r = IfOk-from_err c.from_residual-in_err-no.result _ c.from_residual-in_err-no.ensures.0
+
+pub returns-in_err-no-clause-number_paged : goal.returns-in_err-no-clause-number_paged
+returns-in_err-no-clause-number_paged g c run r = IfOk-from_err c.from_residual-in_err-no.result _ c.from_residual-in_err-no.ensures.0
 
 pub returns-in_err-no-clause-joined : goal.returns-in_err-no-clause-joined
 returns-in_err-no-clause-joined g c = IfOk-from_err c.from_residual-in_err-no.result _ c.from_residual-in_err-no.ensures.0
 
 pub returns-in_err-no-clause-cause : goal.returns-in_err-no-clause-cause
 returns-in_err-no-clause-cause g c run r = refused-told c.from_residual-in_err-no.result c.in_err-no.field-0.0 _ c.from_residual-in_err-no.ensures.1 (inl (c.in_err-no.ensures.cause run r))
+
+pub returns-in_err-no-clause-cause_paged : goal.returns-in_err-no-clause-cause_paged
+returns-in_err-no-clause-cause_paged g c run r = refused-told c.from_residual-in_err-no.result c.in_err-no.field-0.0 _ c.from_residual-in_err-no.ensures.1 (inl (c.in_err-no.ensures.cause_paged run r))
 
 pub returns-in_err-no-clause-trace : goal.returns-in_err-no-clause-trace
 returns-in_err-no-clause-trace g c = refused-done c.from_residual-in_err-no.result _ c.from_residual-in_err-no.ensures.0
@@ -102,14 +126,26 @@ enter-requires-clause-apart g c = subst AreApart (sym c.as_slice-2.ensures.value
 pub returns-clause-made : goal.returns-clause-made
 returns-clause-made g c run r = (c.in_ok-no.ensures.made run r).2
 
+pub returns-clause-made_paged : goal.returns-clause-made_paged
+returns-clause-made_paged g c run r = (c.in_ok-no.ensures.made_paged run r).2
+
 pub returns-clause-number : goal.returns-clause-number
 returns-clause-number g c run r = (c.in_ok-no.ensures.made run r).1
+
+pub returns-clause-number_paged : goal.returns-clause-number_paged
+returns-clause-number_paged g c run r = (c.in_ok-no.ensures.made_paged run r).1
 
 pub returns-clause-allowed : goal.returns-clause-allowed
 returns-clause-allowed g c run r = (c.in_ok-no.ensures.made run r).0
 
+pub returns-clause-allowed_paged : goal.returns-clause-allowed_paged
+returns-clause-allowed_paged g c run r = (c.in_ok-no.ensures.made_paged run r).0
+
 pub returns-clause-cause : goal.returns-clause-cause
 returns-clause-cause g c run r = tt
+
+pub returns-clause-cause_paged : goal.returns-clause-cause_paged
+returns-clause-cause_paged g c run r = tt
 
 pub returns-clause-trace : goal.returns-clause-trace
 returns-clause-trace g c = c.in_ok-no.ensures.trace
