@@ -1,5 +1,5 @@
-//! Tests of the crates beside the cache: words of the cache, orders, skylines, lists of numbers, links, devices, frames, scripts,
-//! histories, the index, commands, and what tests share.
+//! Tests of the crates beside the cache: words of the cache, orders, skylines, lists of numbers, rows by number, links, devices, frames,
+//! scripts, histories, the index, commands, and what tests share.
 #![tactic(auto)]
 
 #[cfg(test)]
@@ -18,6 +18,8 @@ mod index;
 mod links;
 #[cfg(test)]
 mod model;
+#[cfg(test)]
+mod number_rows;
 #[cfg(test)]
 mod numbers;
 #[cfg(test)]

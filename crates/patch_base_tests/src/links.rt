@@ -15,6 +15,25 @@ use model::Slow;
 // How many blocks the walks go over.
 const BLOCKS: u32 = 4;
 
+// Each so far from the one before that the last of them is the last one that `next_open` tells.
+const FAR: u32 = 5_592_405;
+
+// Where the blocks of a walk by chance lie: one after another, or far apart. Those far apart are forgotten as soon as they may be.
+#[derive(Clone, Copy)]
+enum Layout {
+    Together,
+    Apart,
+}
+
+impl Layout {
+    fn number(self, block: u32) -> u32 {
+        match self {
+            Layout::Together => block,
+            Layout::Apart => block.wrapping_mul(FAR),
+        }
+    }
+}
+
 fn new_class(
     alloc: Global,
     no: u32,
@@ -74,9 +93,14 @@ fn expect_block(
     expect_ready(rt, links, slow.alloc, block, numbers.as_slice())
 }
 
-fn expect_all(rt: &impl Abort, links: &Links<Global>, slow: &Slow) -> Result<(), AllocError> {
+fn expect_all(
+    rt: &impl Abort,
+    links: &Links<Global>,
+    slow: &Slow,
+    layout: Layout,
+) -> Result<(), AllocError> {
     for block in 0..BLOCKS {
-        expect_block(rt, links, slow, block)?;
+        expect_block(rt, links, slow, layout.number(block))?;
     }
     Ok(())
 }
@@ -109,10 +133,11 @@ struct Pair {
     slow: Slow,
     made: u32,
     joined: u32,
+    layout: Layout,
 }
 
 impl Pair {
-    fn new(alloc: Global) -> Pair {
+    fn new(alloc: Global, layout: Layout) -> Pair {
         let slow = Slow {
             classes: Vec::new(alloc),
             alloc,
@@ -122,6 +147,7 @@ impl Pair {
             slow,
             made: 0,
             joined: 0,
+            layout,
         }
     }
 
@@ -141,6 +167,19 @@ impl Pair {
     fn land(&mut self, block: u32) {
         self.links.land(BlockNo(block));
         self.slow.land(block);
+    }
+
+    fn forget(&mut self, block: u32) {
+        self.links.forget(BlockNo(block));
+    }
+
+    // Makes durable what is in flight of a block, and forgets it where blocks lie apart.
+    fn clear(&mut self, block: u32) {
+        self.land(block);
+        match self.layout {
+            Layout::Together => {}
+            Layout::Apart => self.forget(block),
+        }
     }
 
     // Joins the classes of two patches, where that makes no ring.
@@ -179,7 +218,7 @@ impl Pair {
     }
 
     fn expect(&self, rt: &impl Abort) -> Result<(), AllocError> {
-        expect_all(rt, &self.links, &self.slow)
+        expect_all(rt, &self.links, &self.slow, self.layout)
     }
 }
 
@@ -234,12 +273,12 @@ fn add_some(
 }
 
 fn step_by_chance(rt: &impl Abort, pair: &mut Pair, source: &mut Source) -> Result<(), AllocError> {
-    let block = source.below(BLOCKS - 1);
+    let block = pair.layout.number(source.below(BLOCKS - 1));
     match source.below(14) {
         0 | 1 | 2 | 3 | 4 => add_some(rt, pair, source, block),
         5 | 6 => pair.fly(block),
         7 | 8 => {
-            pair.land(block);
+            pair.clear(block);
             Ok(())
         }
         _ => join_some(rt, pair, source),
@@ -258,8 +297,15 @@ fn walk_by_chance(rt: &impl Abort, pair: &mut Pair, source: &mut Source) -> Resu
 // Three hundred asks: after each the links answer for every block what the slow model computes.
 #[test]
 fn a_long_walk_agrees_with_the_model(rt: HostRuntime) -> Result<(), Fail> {
-    let mut pair = Pair::new(rt.alloc());
+    let mut pair = Pair::new(rt.alloc(), Layout::Together);
     Ok(walk_by_chance(&rt, &mut pair, &mut Source { state: 1 })?)
+}
+
+// The same where blocks lie far apart, and what is kept of those without a class goes.
+#[test]
+fn a_long_walk_over_blocks_far_apart_agrees_with_the_model(rt: HostRuntime) -> Result<(), Fail> {
+    let mut pair = Pair::new(rt.alloc(), Layout::Apart);
+    Ok(walk_by_chance(&rt, &mut pair, &mut Source { state: 2 })?)
 }
 
 // Ten patches more: the first one stays, on a block of its own, and the others are made durable.
@@ -322,11 +368,11 @@ fn all_that_lead_nowhere_are_passed_over(rt: HostRuntime) -> Result<(), Fail> {
 }
 
 // A patch that depends on nothing, in a heap.
-fn class_in(heap: &LocalHeap, no: u32) -> Class<&LocalHeap> {
+fn class_in(heap: &LocalHeap, no: u32, block: u32) -> Class<&LocalHeap> {
     Class {
         name: PatchNo(no),
         members: NumberList::of(heap, PatchNo(no)),
-        block: BlockNo(0),
+        block: BlockNo(block),
         mark: Mark::Memory,
         hard: false,
         start: 0,
@@ -340,7 +386,7 @@ fn class_in(heap: &LocalHeap, no: u32) -> Class<&LocalHeap> {
 fn walk_in_heap(rt: &impl Abort, heap: &LocalHeap) -> Result<(), AllocError> {
     let mut links = Links::new(heap);
     for no in 0..4_000u32 {
-        let class = class_in(heap, no);
+        let class = class_in(heap, no, 0);
         assert!(rt; links.may_add(&class));
         links.add(class)?;
         links.fly(BlockNo(0));
@@ -354,6 +400,30 @@ fn walk_in_heap(rt: &impl Abort, heap: &LocalHeap) -> Result<(), AllocError> {
 fn durable_numbers_take_no_memory_for_good(rt: HostRuntime) -> Result<(), Fail> {
     let heap = LocalHeap::new(rt.alloc(), 8_192)?;
     Ok(walk_in_heap(&rt, &heap)?)
+}
+
+// Patches on one block after another, each made durable and its block forgotten.
+fn walk_over_blocks(rt: &impl Abort, heap: &LocalHeap, first: u32) -> Result<(), AllocError> {
+    let mut links = Links::new(heap);
+    for no in 0..4_000u32 {
+        let block = first.wrapping_add(no);
+        let class = class_in(heap, no, block);
+        assert!(rt; links.may_add(&class));
+        links.add(class)?;
+        links.fly(BlockNo(block));
+        links.land(BlockNo(block));
+        links.forget(BlockNo(block));
+    }
+    Ok(())
+}
+
+// A heap in which there is no room for the lists of a tenth of the blocks is enough, for the first blocks and for those behind all that
+// `next_open` tells.
+#[test]
+fn forgotten_blocks_take_no_memory_for_good(rt: HostRuntime) -> Result<(), Fail> {
+    let heap = LocalHeap::new(rt.alloc(), 16_384)?;
+    walk_over_blocks(&rt, &heap, 0)?;
+    Ok(walk_over_blocks(&rt, &heap, 16_777_216)?)
 }
 
 // A move of a walk, and what is expected of it.
@@ -377,6 +447,10 @@ enum Move<'a> {
     Name(u32, u32),
     // The block has no class.
     Empty(u32),
+    // What is kept of a block goes, if it has no class.
+    Forget(u32),
+    // The least block from one on of which a write can begin.
+    NextOpen(usize, Option<u32>),
     // The links answer for every block what the slow model computes.
     Agree,
 }
@@ -405,6 +479,14 @@ fn expect_name(rt: &impl Abort, links: &Links<Global>, no: u32, name: u32) {
     expect_eq(rt, &found, &Some(PatchNo(name)));
 }
 
+fn expect_next(rt: &impl Abort, links: &Links<Global>, from: usize, block: Option<u32>) {
+    let next = match links.next_open(from) {
+        Some(found) => Some(found.0),
+        None => None,
+    };
+    expect_eq(rt, &next, &block);
+}
+
 fn step(rt: &impl Abort, pair: &mut Pair, next: &Move) -> Result<(), AllocError> {
     match next {
         Move::Add(block, after) => return pair.add(rt, *block, after),
@@ -418,6 +500,8 @@ fn step(rt: &impl Abort, pair: &mut Pair, next: &Move) -> Result<(), AllocError>
         }
         Move::Name(no, name) => expect_name(rt, &pair.links, *no, *name),
         Move::Empty(block) => assert!(rt; pair.links.is_empty_of(BlockNo(*block))),
+        Move::Forget(block) => pair.forget(*block),
+        Move::NextOpen(from, block) => expect_next(rt, &pair.links, *from, *block),
         Move::Agree => return pair.expect(rt),
     }
     Ok(())
@@ -431,7 +515,7 @@ fn take_steps(rt: &impl Abort, pair: &mut Pair, moves: &[Move]) -> Result<(), Al
 }
 
 fn walk(rt: &impl Abort, alloc: Global, moves: &[Move]) -> Result<(), Fail> {
-    let mut pair = Pair::new(alloc);
+    let mut pair = Pair::new(alloc, Layout::Together);
     Ok(take_steps(rt, &mut pair, moves)?)
 }
 
@@ -567,4 +651,37 @@ const WAITING_FOR_ITSELF: [Move<'static>; 14] = [
 #[test]
 fn what_waits_for_itself_waits_no_more(rt: HostRuntime) -> Result<(), Fail> {
     walk(&rt, rt.alloc(), &WAITING_FOR_ITSELF)
+}
+
+// The last block that `next_open` tells, the one behind it, which it never tells, and one before them.
+const AT_THE_LAST_BLOCKS: [Move<'static>; 24] = [
+    Move::Add(16_777_215, &[]),
+    Move::Add(16_777_216, &[]),
+    Move::Add(7, &[0]),
+    Move::NextOpen(0, Some(16_777_215)),
+    Move::NextOpen(16_777_215, Some(16_777_215)),
+    Move::NextOpen(16_777_216, None),
+    Move::Forget(16_777_215),
+    Move::Ready(16_777_215, &[0]),
+    Move::Send(16_777_215),
+    Move::NextOpen(0, None),
+    Move::Complete(16_777_215),
+    Move::NextOpen(0, Some(7)),
+    Move::Forget(16_777_215),
+    Move::Empty(16_777_215),
+    Move::Ready(16_777_215, &[]),
+    Move::NextOpen(8, None),
+    Move::Add(16_777_215, &[2]),
+    Move::NextOpen(8, None),
+    Move::Send(7),
+    Move::Complete(7),
+    Move::Forget(7),
+    Move::NextOpen(0, Some(16_777_215)),
+    Move::Ready(16_777_215, &[3]),
+    Move::Ready(16_777_216, &[1]),
+];
+
+#[test]
+fn blocks_are_told_up_to_the_last_one(rt: HostRuntime) -> Result<(), Fail> {
+    walk(&rt, rt.alloc(), &AT_THE_LAST_BLOCKS)
 }

@@ -130,7 +130,7 @@ fn lists_give_their_vectors_back(rt: HostRuntime) -> Result<(), Fail> {
     Ok(())
 }
 
-const KINDS: [(RefusalKind, u8, &str); 10] = [
+const KINDS: [(RefusalKind, u8, &str); 12] = [
     (RefusalKind::OutOfMemory, 1, "OutOfMemory"),
     (RefusalKind::NoSuchBlock, 2, "NoSuchBlock"),
     (RefusalKind::DependentApplied, 11, "DependentApplied"),
@@ -140,6 +140,8 @@ const KINDS: [(RefusalKind, u8, &str); 10] = [
     (RefusalKind::DuplicateKey, 51, "DuplicateKey"),
     (RefusalKind::NoThread, 60, "NoThread"),
     (RefusalKind::AlreadyVersion2, 61, "AlreadyVersion2"),
+    (RefusalKind::Live, 62, "Live"),
+    (RefusalKind::NotResident, 63, "NotResident"),
     (RefusalKind::SyncFailed, 64, "SyncFailed"),
 ];
 

@@ -1,10 +1,13 @@
 //! Numbers put into lists that are short, long, and long again, and into sets.
 use crate::expecting::expect_eq;
-use patch_model::{PatchNo, Run};
+use linked_list_allocator::LocalHeap;
+use patch_model::{MAX_CACHED, PatchNo, Run};
 use patch_numbers::{
     BlockSet, NumberList, both_lists, follow_on, greatest_of, have_common, have_fewer,
     is_interleaved, is_listed, is_of_runs, least_of, place_in, run_around, sort,
 };
+use std::alloc::{AllocError, Allocator, Global};
+use std::process::Abort;
 use std::test::Fail;
 
 const NUMBERS: [PatchNo; 5] = [PatchNo(9), PatchNo(3), PatchNo(7), PatchNo(1), PatchNo(4)];
@@ -67,12 +70,22 @@ fn numbers_come_one_by_one_where_there_is_room(rt: HostRuntime) -> Result<(), Fa
     Ok(())
 }
 
+/// Puts the number into a set, with room for it.
+fn put_in<A: Allocator>(set: &mut BlockSet<A>, number: usize) -> Result<(), AllocError> {
+    if number < MAX_CACHED {
+        set.reserve(number)?;
+        set.insert(number);
+    }
+    Ok(())
+}
+
 #[test]
 fn the_least_number_of_a_set_is_found_from_one_on(rt: HostRuntime) -> Result<(), Fail> {
-    let mut set = BlockSet::new();
+    let mut set = BlockSet::new(rt.alloc());
     expect_eq(&rt, &set.least_from(0), &None);
+    set.remove(700);
     for number in [4095, 64, 7, 700] {
-        set.insert(number);
+        put_in(&mut set, number)?;
     }
     expect_eq(&rt, &set.least_from(0), &Some(7));
     expect_eq(&rt, &set.least_from(8), &Some(64));
@@ -80,6 +93,109 @@ fn the_least_number_of_a_set_is_found_from_one_on(rt: HostRuntime) -> Result<(),
     set.remove(700);
     expect_eq(&rt, &set.least_from(65), &Some(4095));
     expect_eq(&rt, &set.least_from(4096), &None);
+    expect_eq(&rt, &set.least_from(usize::MAX), &None);
+    Ok(())
+}
+
+// The numbers at the edges of each level of a set.
+static EDGES: [usize; 8] = [0, 63, 64, 4095, 4096, 262_143, 262_144, 16_777_215];
+
+/// Expects each number at an edge to be the least one from one behind that before it on.
+fn expect_edges(rt: &impl Abort, set: &BlockSet) {
+    let mut from = 0;
+    for edge in EDGES {
+        expect_eq(rt, &set.least_from(from), &Some(edge));
+        expect_eq(rt, &set.least_from(edge), &Some(edge));
+        from = edge.saturating_add(1);
+    }
+    expect_eq(rt, &set.least_from(from), &None);
+}
+
+#[test]
+fn a_set_has_numbers_at_the_edges_of_its_levels(rt: HostRuntime) -> Result<(), Fail> {
+    let mut set = BlockSet::new(rt.alloc());
+    for edge in EDGES {
+        put_in(&mut set, edge)?;
+    }
+    expect_edges(&rt, &set);
+    for (place, edge) in EDGES.iter().enumerate() {
+        set.remove(*edge);
+        let next = EDGES.get(place.saturating_add(1)).copied();
+        expect_eq(&rt, &set.least_from(0), &next);
+    }
+    Ok(())
+}
+
+/// The least number from one on of a list in any order.
+fn least_listed(numbers: &[usize], from: usize) -> Option<usize> {
+    numbers
+        .iter()
+        .copied()
+        .filter(|number| *number >= from)
+        .min()
+}
+
+// How far the numbers of a walk are spread.
+static SPREADS: [usize; 5] = [40, 200, 20_000, 1_000_000, 16_777_216];
+
+/// Puts numbers into a set and a list, and takes them out again, as a fixed row of numbers says. Compares the least ones each time.
+fn walk(rt: &impl Abort, alloc: Global, spread: usize) -> Result<(), AllocError> {
+    let mut set = BlockSet::new(alloc);
+    let mut listed = Vec::new(alloc);
+    let mut row: u64 = 7;
+    for turn in 0..400usize {
+        row = row
+            .wrapping_mul(6_364_136_223_846_793_005)
+            .wrapping_add(1_442_695_040_888_963_407);
+        let number = (row >> 33) as usize % spread.max(1);
+        let from = (row >> 20 & 0xff_ffff) as usize % spread.max(1);
+        if turn % 3 == 2 {
+            let gone = least_listed(&listed, from).unwrap_or(number);
+            listed.retain(|other| *other != gone);
+            set.remove(gone);
+        } else {
+            put_in(&mut set, number)?;
+            listed.push(number)?;
+        }
+        expect_eq(rt, &set.least_from(from), &least_listed(&listed, from));
+        expect_eq(rt, &set.least_from(0), &least_listed(&listed, 0));
+    }
+    Ok(())
+}
+
+#[test]
+fn sets_go_as_plain_lists_do(rt: HostRuntime) -> Result<(), Fail> {
+    for spread in SPREADS {
+        walk(&rt, rt.alloc(), spread)?;
+    }
+    Ok(())
+}
+
+/// Asks for room in a heap of this size. Whether it is refused, as soon as a first number is in.
+fn is_room_refused(rt: &impl Abort, alloc: Global, size: usize) -> Result<bool, AllocError> {
+    let heap = LocalHeap::new(alloc, size)?;
+    let mut set = BlockSet::new(&heap);
+    put_in(&mut set, 5)?;
+    let refused = put_in(&mut set, 300_000).is_err();
+    let next = if refused { None } else { Some(300_000) };
+    expect_eq(rt, &set.least_from(0), &Some(5));
+    expect_eq(rt, &set.least_from(6), &next);
+    put_in(&mut set, 63)?;
+    expect_eq(rt, &set.least_from(6), &Some(63));
+    Ok(refused)
+}
+
+// Each heap is larger than the one before it. In small ones the level above gets no room, in larger ones the numbers' own gets none.
+#[test]
+fn a_set_is_as_it_was_where_room_is_refused(rt: HostRuntime) -> Result<(), Fail> {
+    let mut refused = 0usize;
+    for turn in 0..400usize {
+        if is_room_refused(&rt, rt.alloc(), 256 + turn * 160)? {
+            refused = refused.saturating_add(1);
+        }
+    }
+    assert!(rt; refused > 200);
+    assert!(rt; refused < 300);
     Ok(())
 }
 

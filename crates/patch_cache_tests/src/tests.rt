@@ -14,6 +14,7 @@ mod calls;
 mod example;
 mod memory;
 mod names;
+mod paging;
 mod scripts;
 mod waves;
 
@@ -225,14 +226,14 @@ fn view_through<A: Allocator + Copy>(
     cache: &mut Cache<A>,
     block: u32,
     moves: &[Moved],
-) -> Result<(), NoSuchBlock> {
+) -> Result<(), ViewRefusal> {
     match cache.view(BlockNo(block)) {
         Ok(mut view) => {
             expect_moves(rt, &mut view, moves);
             view.restore();
             Ok(())
         }
-        Err(NoSuchBlock) => Err(NoSuchBlock),
+        Err(refusal) => Err(refusal),
     }
 }
 

@@ -81,6 +81,8 @@ enum Move<'a> {
     Merge(u32, u32, u32),
     Send(u32),
     Complete(u32),
+    // What is kept of a block goes, of which no patch is live.
+    Forget(u32),
     // What may be written of a block.
     Ready(u32, &'a [u32]),
     // Whether the first patch's class reaches the second's, and what lies between them.
@@ -200,6 +202,7 @@ fn change(rt: &impl Abort, graph: &mut Graph, next: &Move) -> Result<(), Fail> {
         Move::Merge(a, b, name) => merge(rt, graph, *a, *b, *name)?,
         Move::Send(block) => graph.mark_flight(BlockNo(*block)),
         Move::Complete(block) => graph.mark_durable(BlockNo(*block)),
+        Move::Forget(block) => graph.forget(BlockNo(*block)),
         _ => {}
     }
     Ok(())
@@ -276,6 +279,42 @@ static ACROSS_TWO_BLOCKS: [Move<'static>; 13] = [
 #[test]
 fn what_is_in_flight_on_either_block_is_not_met(rt: HostRuntime) -> Result<(), Fail> {
     walk(&rt, rt.alloc(), &ACROSS_TWO_BLOCKS)
+}
+
+static FORGOTTEN_BLOCKS: [Move<'static>; 27] = [
+    Move::Make(0, 0, 4, None),
+    Move::Make(5_000_000, 0, 4, Some(0)),
+    Move::Make(16_777_215, 0, 4, None),
+    Move::Forget(0),
+    Move::Make(0, 2, 6, None),
+    Move::Paths(3, 0, Path::There, None),
+    Move::Ready(0, &[0, 3]),
+    Move::Send(0),
+    Move::Forget(0),
+    Move::Make(0, 5, 8, None),
+    Move::Paths(4, 3, Path::There, None),
+    Move::Complete(0),
+    Move::Send(0),
+    Move::Complete(0),
+    Move::Forget(0),
+    Move::Ready(0, &[]),
+    Move::MarkOf(3, Some(Mark::Durable)),
+    Move::Make(0, 0, 4, Some(2)),
+    Move::Paths(5, 2, Path::There, None),
+    Move::Paths(5, 3, Path::Missing, None),
+    Move::Ready(0, &[]),
+    Move::Send(5_000_000),
+    Move::Complete(5_000_000),
+    Move::Forget(5_000_000),
+    Move::MarkOf(1, Some(Mark::Durable)),
+    Move::Ready(5_000_000, &[]),
+    Move::Ready(16_777_215, &[2]),
+];
+
+// Blocks far apart, of which some are forgotten, and written again: as long as a patch of one is live, it stays.
+#[test]
+fn forgotten_blocks_are_written_again(rt: HostRuntime) -> Result<(), Fail> {
+    walk(&rt, rt.alloc(), &FORGOTTEN_BLOCKS)
 }
 
 static OVER_A_FLIGHT: [Move<'static>; 12] = [

@@ -108,7 +108,7 @@ fn expect_put_right(rt: &impl Abort, cache: &mut Cache) {
     make_first(rt, cache);
     make(rt, cache, 1, 2, WITH_BOTH, &[]);
     let unseen = view_through(rt, cache, 2, &MOVES);
-    expect_equal(rt, "view", unseen, Err(NoSuchBlock));
+    expect_equal(rt, "view", unseen, Err(ViewRefusal::NoSuchBlock));
     expect_equal(rt, "view", view_through(rt, cache, 1, &MOVES), Ok(()));
     expect_read(rt, cache, 1, 2, 2, Ok(WITH_BOTH));
 }

@@ -15,8 +15,9 @@ where
     }
 }
 
-const CREATE: [CreateRefusal; 7] = [
+const CREATE: [CreateRefusal; 8] = [
     CreateRefusal::NoSuchBlock,
+    CreateRefusal::NotResident(BlockNo(9)),
     CreateRefusal::EmptyPatch,
     CreateRefusal::OutOfBlock,
     CreateRefusal::UnknownDependency,
@@ -36,8 +37,9 @@ const MERGE: [MergeRefusal; 8] = [
     MergeRefusal::OutOfMemory,
 ];
 
-const SEND: [SendRefusal; 4] = [
+const SEND: [SendRefusal; 5] = [
     SendRefusal::NoSuchBlock,
+    SendRefusal::NotResident(BlockNo(9)),
     SendRefusal::AlreadyInFlight,
     SendRefusal::NothingReady,
     SendRefusal::OutOfMemory,
@@ -58,7 +60,22 @@ const FLUSH: [FlushRefusal; 3] = [
     FlushRefusal::OutOfMemory,
 ];
 
-const READ: [ReadRefusal; 2] = [ReadRefusal::NoSuchBlock, ReadRefusal::OutOfBlock];
+const READ: [ReadRefusal; 3] = [
+    ReadRefusal::NoSuchBlock,
+    ReadRefusal::NotResident(BlockNo(9)),
+    ReadRefusal::OutOfBlock,
+];
+
+const VIEW: [ViewRefusal; 2] = [
+    ViewRefusal::NoSuchBlock,
+    ViewRefusal::NotResident(BlockNo(9)),
+];
+
+const EVICT: [EvictRefusal; 3] = [
+    EvictRefusal::NoSuchBlock,
+    EvictRefusal::NotResident(BlockNo(9)),
+    EvictRefusal::Live,
+];
 
 #[test]
 fn texts_of_refusals(rt: HostRuntime) {
@@ -69,14 +86,23 @@ fn texts_of_refusals(rt: HostRuntime) {
     tell_each(&rt, &mut told, &TAKE);
     tell_each(&rt, &mut told, &FLUSH);
     tell_each(&rt, &mut told, &READ);
+    tell_each(&rt, &mut told, &VIEW);
+    tell_each(&rt, &mut told, &EVICT);
+    tell_each(&rt, &mut told, &[Live]);
     let gave_up = DeviceGaveUp(BlockNo(8));
-    let line = writeln!(&mut told, "{NoSuchBlock}, {Fault}, {gave_up}").is_ok();
+    let line = writeln!(
+        &mut told,
+        "{}, {Fault}, {gave_up}",
+        AdmitRefusal::IsResident
+    )
+    .is_ok();
     expect_equal(&rt, "texts", (line, told.as_str()), (true, TEXTS));
     drop(told);
 }
 
 const TEXTS: &str = "\
 NoSuchBlock: 2 NoSuchBlock 0
+NotResident 9: 63 NotResident 9
 EmptyPatch: 14 EmptyPatch 0
 OutOfBlock: 15 OutOfBlock 0
 UnknownDependency: 16 UnknownDependency 0
@@ -92,6 +118,7 @@ Apart: 22 Apart 0
 WouldCycle 5: 23 WouldCycle 5
 OutOfMemory: 1 OutOfMemory 0
 NoSuchBlock: 2 NoSuchBlock 0
+NotResident 9: 63 NotResident 9
 AlreadyInFlight: 24 AlreadyInFlight 0
 NothingReady: 25 NothingReady 0
 OutOfMemory: 1 OutOfMemory 0
@@ -105,8 +132,15 @@ DeviceGaveUp 7: 57 DeviceGaveUp 7
 SyncFailed: 64 SyncFailed 0
 OutOfMemory: 1 OutOfMemory 0
 NoSuchBlock: 2 NoSuchBlock 0
+NotResident 9: 63 NotResident 9
 OutOfBlock: 15 OutOfBlock 0
-NoSuchBlock, Fault, DeviceGaveUp 8
+NoSuchBlock: 2 NoSuchBlock 0
+NotResident 9: 63 NotResident 9
+NoSuchBlock: 2 NoSuchBlock 0
+NotResident 9: 63 NotResident 9
+Live: 62 Live 0
+Live: 62 Live 0
+IsResident, Fault, DeviceGaveUp 8
 ";
 
 // The codes and the names of refusals.
@@ -146,7 +180,10 @@ fn names_and_codes_of_refusals(rt: HostRuntime) {
         DeviceGaveUp(BlockNo(1)).code(),
         DeviceGaveUp(BlockNo(1)).name(),
     );
-    let no_block = (NoSuchBlock.code(), NoSuchBlock.name());
+    let no_block = (
+        ViewRefusal::NoSuchBlock.code(),
+        ViewRefusal::NoSuchBlock.name(),
+    );
     let fault = (Fault.code(), Fault.name());
     let got = [
         create, merge, send, take, read, flush, gave_up, no_block, fault,

@@ -1,0 +1,204 @@
+//! Blocks that come and go, and caches that begin anew.
+use super::*;
+use linked_list_allocator::LocalHeap;
+use patch_model::{BlockBytes, MAX_CACHED};
+
+// A cache of the most blocks, none of which is resident.
+fn of_most(alloc: Global) -> Cache {
+    Cache::of(alloc, MAX_CACHED)
+}
+
+// A block that begins with this byte, and has zeros behind it.
+fn block_of<A: Allocator>(rt: &impl Abort, alloc: A, first: u8) -> BlockBytes<A> {
+    let mut bytes = Vec::from_slice(alloc, &ZEROS).expect(rt, "a block");
+    bytes[0] = first;
+    BlockBytes::from_vec(bytes)
+}
+
+fn admit<A: Allocator + Copy>(
+    rt: &impl Abort,
+    alloc: A,
+    cache: &mut Cache<A>,
+    block: u32,
+    first: u8,
+) -> Result<(), AdmitRefusal> {
+    let bytes = block_of(rt, alloc, first);
+    cache.admit(BlockNo(block), bytes)
+}
+
+const FAR: u32 = 16_777_215;
+
+#[test]
+fn a_block_is_admitted_and_let_go(rt: HostRuntime) {
+    let mut cache = of_most(rt.alloc());
+    expect_equal(&rt, "resident", cache.resident(), 0);
+    for block in [0, 5000, FAR] {
+        expect_equal(
+            &rt,
+            "admit",
+            admit(&rt, rt.alloc(), &mut cache, block, 7),
+            Ok(()),
+        );
+        expect_read(&rt, &cache, block, 0, 2, Ok(&[7, 0]));
+        let again = admit(&rt, rt.alloc(), &mut cache, block, 8);
+        expect_equal(&rt, "again", again, Err(AdmitRefusal::IsResident));
+    }
+    let beyond = admit(&rt, rt.alloc(), &mut cache, FAR + 1, 7);
+    expect_equal(&rt, "beyond", beyond, Err(AdmitRefusal::NoSuchBlock));
+    expect_equal(&rt, "resident", cache.resident(), 3);
+    expect_equal(&rt, "evict", cache.evict(BlockNo(5000)), Ok(()));
+    let gone = cache.is_resident(BlockNo(5000));
+    expect_equal(&rt, "gone", (gone, cache.resident()), (false, 2));
+    expect_equal(
+        &rt,
+        "admit",
+        admit(&rt, rt.alloc(), &mut cache, 5000, 9),
+        Ok(()),
+    );
+    expect_read(&rt, &cache, 5000, 0, 2, Ok(&[9, 0]));
+    expect_read(&rt, &cache, FAR, 0, 1, Ok(&[7]));
+}
+
+// A block that isn't resident, told before what else stands against a call.
+fn expect_absent(rt: &impl Abort, cache: &mut Cache, block: BlockNo) {
+    let made = cache.create(block, 0, &[], &[PatchNo(9)], Undo::Keep);
+    expect_equal(rt, "create", made, Err(CreateRefusal::NotResident(block)));
+    let read = cache.read(block, 0, BLOCK + 1);
+    expect_equal(rt, "read", read, Err(ReadRefusal::NotResident(block)));
+    let sent = send_in_vain(cache, block.0);
+    expect_equal(rt, "send", sent, Err(SendRefusal::NotResident(block)));
+    let seen = view_through(rt, cache, block.0, &[]);
+    expect_equal(rt, "view", seen, Err(ViewRefusal::NotResident(block)));
+    let evicted = cache.evict(block);
+    expect_equal(rt, "evict", evicted, Err(EvictRefusal::NotResident(block)));
+}
+
+#[test]
+fn a_block_that_is_not_resident_is_refused_first(rt: HostRuntime) {
+    let mut cache = of_most(rt.alloc());
+    expect_absent(&rt, &mut cache, BlockNo(3));
+    expect_equal(
+        &rt,
+        "admit",
+        admit(&rt, rt.alloc(), &mut cache, 3, 7),
+        Ok(()),
+    );
+    expect_equal(&rt, "evict", cache.evict(BlockNo(3)), Ok(()));
+    expect_absent(&rt, &mut cache, BlockNo(3));
+    let beyond = cache.evict(BlockNo(FAR + 1));
+    expect_equal(&rt, "beyond", beyond, Err(EvictRefusal::NoSuchBlock));
+    expect_equal(&rt, "trace", cache.trace().len(), 0);
+}
+
+// Ends a write that was written elsewhere.
+fn end(rt: &impl Abort, cache: &mut Cache, flight: Flight) {
+    match cache.complete(flight.landed()) {
+        Ok(done) => drop(done),
+        Err(stranger) => {
+            stranger.abandon();
+            panic!(rt; "a stranger")
+        }
+    }
+}
+
+// Two far blocks, of which the second goes to the disk after the first.
+#[test]
+fn a_live_block_stays(rt: HostRuntime) {
+    let mut cache = of_most(rt.alloc());
+    for block in [9, FAR] {
+        expect_equal(
+            &rt,
+            "admit",
+            admit(&rt, rt.alloc(), &mut cache, block, 1),
+            Ok(()),
+        );
+    }
+    let first = make(&rt, &mut cache, FAR, 0, b"ab", &[]);
+    make(&rt, &mut cache, 9, 1, b"c", &[first]);
+    expect_equal(&rt, "ready", cache.next_ready(), Some(BlockNo(FAR)));
+    for block in [9, FAR] {
+        expect_equal(
+            &rt,
+            "live",
+            cache.evict(BlockNo(block)),
+            Err(EvictRefusal::Live),
+        );
+    }
+    let flight = send(&rt, &mut cache, FAR);
+    expect_equal(
+        &rt,
+        "flies",
+        cache.evict(BlockNo(FAR)),
+        Err(EvictRefusal::Live),
+    );
+    end(&rt, &mut cache, flight);
+    expect_equal(&rt, "evict", cache.evict(BlockNo(FAR)), Ok(()));
+    expect_equal(&rt, "ready", cache.next_ready(), Some(BlockNo(9)));
+    let flight = send(&rt, &mut cache, 9);
+    end(&rt, &mut cache, flight);
+    expect_equal(&rt, "evict", cache.evict(BlockNo(9)), Ok(()));
+    expect_equal(&rt, "resident", cache.resident(), 0);
+    expect_equal(&rt, "mark", cache.mark_of(first), Some(Mark::Durable));
+}
+
+#[test]
+fn a_renewal_waits_for_the_last_write(rt: HostRuntime) {
+    let mut cache = of_most(rt.alloc());
+    expect_equal(
+        &rt,
+        "admit",
+        admit(&rt, rt.alloc(), &mut cache, 4, 1),
+        Ok(()),
+    );
+    for round in 0..3 {
+        let made = make(&rt, &mut cache, 4, 1, &[round], &[]);
+        expect_equal(&rt, "first", made, PatchNo(0));
+        expect_equal(&rt, "memory", cache.renew(), Err(Live));
+        let flight = send(&rt, &mut cache, 4);
+        expect_equal(&rt, "number", flight.number(), 0);
+        expect_equal(&rt, "flight", cache.renew(), Err(Live));
+        end(&rt, &mut cache, flight);
+        expect_equal(&rt, "made", cache.made(), 1);
+        expect_equal(&rt, "renew", cache.renew(), Ok(()));
+        let left = (cache.made(), cache.live(), cache.trace().len());
+        expect_equal(&rt, "anew", left, (0, 0, 0));
+        expect_read(&rt, &cache, 4, 0, 3, Ok(&[1, round, 0]));
+    }
+    expect_equal(&rt, "unmade", cache.mark_of(PatchNo(0)), None);
+}
+
+// Admits a block of zeros, if there is room for it.
+fn has_room<A: Allocator + Copy>(alloc: A, cache: &mut Cache<A>, block: u32) -> bool {
+    match Vec::from_slice(alloc, &ZEROS) {
+        Ok(bytes) => cache
+            .admit(BlockNo(block), BlockBytes::from_vec(bytes))
+            .is_ok(),
+        Err(_) => false,
+    }
+}
+
+// How many of the first hundred blocks have room.
+fn count_with_room<A: Allocator + Copy>(alloc: A, cache: &mut Cache<A>) -> usize {
+    let mut count = 0;
+    for block in 0..100 {
+        if has_room(alloc, cache, block) {
+            count += 1;
+        }
+    }
+    count
+}
+
+#[test]
+fn memory_goes_with_the_blocks_that_are_resident(rt: HostRuntime) {
+    let alloc = rt.alloc();
+    let heap = LocalHeap::new(alloc, 64 * 1024).expect(&rt, "a heap");
+    let mut cache = Cache::of(&heap, MAX_CACHED);
+    expect_equal(&rt, "none", heap.used(), 0);
+    let some = count_with_room(&heap, &mut cache);
+    expect_equal(&rt, "some", 8 < some && some < 16, true);
+    expect_equal(&rt, "resident", cache.resident() as usize, some);
+    expect_equal(&rt, "evict", cache.evict(BlockNo(2)), Ok(()));
+    expect_equal(&rt, "again", has_room(&heap, &mut cache, FAR), true);
+    drop(cache);
+    expect_equal(&rt, "left", heap.used(), 0);
+}
