@@ -184,9 +184,22 @@ fn expect_read<A: Allocator + Copy>(
     block: u32,
     start: usize,
     len: usize,
-    want: Result<&[u8], ReadRefusal>,
+    want: &[u8],
 ) {
-    expect_equal(rt, "bytes", cache.read(BlockNo(block), start, len), want);
+    let read = cache.read(BlockNo(block), start, len);
+    expect_equal(rt, "bytes", read.ok(), Some(want));
+}
+
+// Why a span isn't read.
+fn expect_no_read(
+    rt: &impl Abort,
+    cache: &Cache,
+    block: u32,
+    span: (usize, usize),
+    want: ReadRefusal,
+) {
+    let read = cache.read(BlockNo(block), span.0, span.1);
+    expect_equal(rt, "refusal", read.err(), Some(want));
 }
 
 // A move of a view, what it is answered, and what the view then has from its third byte on.

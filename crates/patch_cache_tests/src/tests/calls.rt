@@ -11,7 +11,7 @@ const IMAGE: &[u8] = &[0, 0, 0, 0xaa];
 fn expect_unpatched(rt: &impl Abort, cache: &mut Cache) {
     expect_equal(rt, "blocks", cache.blocks(), 2);
     expect_shown(rt, cache, (0, 0, [None; 2], None, 0));
-    expect_read(rt, cache, 1, 0, BLOCK, Ok(&ZEROS));
+    expect_read(rt, cache, 1, 0, BLOCK, &ZEROS);
 }
 
 // Makes the first patch of an unpatched cache, of one byte on the second block.
@@ -19,7 +19,7 @@ fn make_first(rt: &impl Abort, cache: &mut Cache) {
     expect_unpatched(rt, cache);
     let no = make(rt, cache, 1, 3, &[0xaa], &[]);
     expect_equal(rt, "number", no, PatchNo(0));
-    expect_read(rt, cache, 1, 2, 3, Ok(&[0, 0xaa, 0]));
+    expect_read(rt, cache, 1, 2, 3, &[0, 0xaa, 0]);
 }
 
 // What a cache of one patch shows of it.
@@ -110,7 +110,7 @@ fn expect_put_right(rt: &impl Abort, cache: &mut Cache) {
     let unseen = view_through(rt, cache, 2, &MOVES);
     expect_equal(rt, "view", unseen, Err(ViewRefusal::NoSuchBlock));
     expect_equal(rt, "view", view_through(rt, cache, 1, &MOVES), Ok(()));
-    expect_read(rt, cache, 1, 2, 2, Ok(WITH_BOTH));
+    expect_read(rt, cache, 1, 2, 2, WITH_BOTH);
 }
 
 // Sends the second block, and gives the write up before or after it landed.
@@ -147,10 +147,10 @@ fn expect_least(rt: &impl Abort, cache: &mut Cache) {
 fn expect_unread(rt: &impl Abort, cache: &mut Cache) {
     make_first(rt, cache);
     let (no_block, outside) = (ReadRefusal::NoSuchBlock, ReadRefusal::OutOfBlock);
-    expect_read(rt, cache, 2, 0, BLOCK + 1, Err(no_block));
-    expect_read(rt, cache, 1, 0, BLOCK + 1, Err(outside));
-    expect_read(rt, cache, 1, BLOCK, 1, Err(outside));
-    expect_read(rt, cache, 1, usize::MAX, 2, Err(outside));
+    expect_no_read(rt, cache, 2, (0, BLOCK + 1), no_block);
+    expect_no_read(rt, cache, 1, (0, BLOCK + 1), outside);
+    expect_no_read(rt, cache, 1, (BLOCK, 1), outside);
+    expect_no_read(rt, cache, 1, (usize::MAX, 2), outside);
 }
 
 // What is tried of a cache of two blocks of zeros.

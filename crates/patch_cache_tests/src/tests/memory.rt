@@ -191,7 +191,7 @@ fn ask_each<'a>(
 // What is shown when all was asked.
 fn expect_asked(rt: &impl Abort, cache: &mut Cache<&LocalHeap>, want: Shown) {
     expect_shown(rt, cache, want);
-    expect_read(rt, cache, 0, 0, 9, Ok(b"abEFGH\0\0j"));
+    expect_read(rt, cache, 0, 0, 9, b"abEFGH\0\0j");
 }
 
 // Asks all in one list where only a hole of this size is left. Where no room was left for an answer, the asks from there on
@@ -463,7 +463,7 @@ fn look_in_full(rt: &impl Abort, room: Room, cache: &mut Cache<&LocalHeap>) {
     let ballast = fill(room.alloc, room.heap, 0).expect(rt, "ballast");
     expect_equal(rt, "ready", cache.next_ready(), Some(BlockNo(1)));
     expect_equal(rt, "view", view_through(rt, cache, 1, &MOVES), Ok(()));
-    expect_read(rt, cache, 1, 2, 1, Ok(&[0xbb]));
+    expect_read(rt, cache, 1, 2, 1, &[0xbb]);
     drop(ballast);
 }
 

@@ -39,7 +39,7 @@ fn a_block_is_admitted_and_let_go(rt: HostRuntime) {
             admit(&rt, rt.alloc(), &mut cache, block, 7),
             Ok(()),
         );
-        expect_read(&rt, &cache, block, 0, 2, Ok(&[7, 0]));
+        expect_read(&rt, &cache, block, 0, 2, &[7, 0]);
         let again = admit(&rt, rt.alloc(), &mut cache, block, 8);
         expect_equal(&rt, "again", again, Err(AdmitRefusal::IsResident));
     }
@@ -55,8 +55,8 @@ fn a_block_is_admitted_and_let_go(rt: HostRuntime) {
         admit(&rt, rt.alloc(), &mut cache, 5000, 9),
         Ok(()),
     );
-    expect_read(&rt, &cache, 5000, 0, 2, Ok(&[9, 0]));
-    expect_read(&rt, &cache, FAR, 0, 1, Ok(&[7]));
+    expect_read(&rt, &cache, 5000, 0, 2, &[9, 0]);
+    expect_read(&rt, &cache, FAR, 0, 1, &[7]);
 }
 
 // A block that isn't resident, told before what else stands against a call.
@@ -162,7 +162,7 @@ fn a_renewal_waits_for_the_last_write(rt: HostRuntime) {
         expect_equal(&rt, "renew", cache.renew(), Ok(()));
         let left = (cache.made(), cache.live(), cache.trace().len());
         expect_equal(&rt, "anew", left, (0, 0, 0));
-        expect_read(&rt, &cache, 4, 0, 3, Ok(&[1, round, 0]));
+        expect_read(&rt, &cache, 4, 0, 3, &[1, round, 0]);
     }
     expect_equal(&rt, "unmade", cache.mark_of(PatchNo(0)), None);
 }
