@@ -146,11 +146,10 @@ fn expect_least(rt: &impl Abort, cache: &mut Cache) {
 
 fn expect_unread(rt: &impl Abort, cache: &mut Cache) {
     make_first(rt, cache);
-    let (no_block, outside) = (ReadRefusal::NoSuchBlock, ReadRefusal::OutOfBlock);
-    expect_no_read(rt, cache, 2, (0, BLOCK + 1), no_block);
-    expect_no_read(rt, cache, 1, (0, BLOCK + 1), outside);
-    expect_no_read(rt, cache, 1, (BLOCK, 1), outside);
-    expect_no_read(rt, cache, 1, (usize::MAX, 2), outside);
+    expect_no_read(rt, cache, 2, (0, BLOCK + 1), ReadRefusal::NoSuchBlock);
+    expect_no_read(rt, cache, 1, (0, BLOCK + 1), ReadRefusal::OutOfBlock);
+    expect_no_read(rt, cache, 1, (BLOCK, 1), ReadRefusal::OutOfBlock);
+    expect_no_read(rt, cache, 1, (usize::MAX, 2), ReadRefusal::OutOfBlock);
 }
 
 // What is tried of a cache of two blocks of zeros.

@@ -19,3 +19,6 @@ returns-in-Err-clause-kind c = inr (c.in-Err.fault, ap (λ r. Refused r) c.refus
 
 pub returns-in_err-cache-clause-kind : goal.returns-in_err-cache-clause-kind
 returns-in_err-cache-clause-kind c = kind_so c.from_residual.result c.in_err-cache.field-0.0 (TellsTest c.args.blocks.items) c.from_residual.ensures.1 (inl c.in_err-cache.ensures.kind)
+
+pub returns-in-Ok-clause-opened : goal.returns-in-Ok-clause-opened
+returns-in-Ok-clause-opened c = c.in-Ok.ensures.opened _ c.in_ok-cache.ensures.gives
