@@ -63,8 +63,13 @@ fn a_block_is_admitted_and_let_go(rt: HostRuntime) {
 fn expect_absent(rt: &impl Abort, cache: &mut Cache, block: BlockNo) {
     let made = cache.create(block, 0, &[], &[PatchNo(9)], Undo::Keep);
     expect_equal(rt, "create", made, Err(CreateRefusal::NotResident(block)));
-    let read = cache.read(block, 0, BLOCK + 1);
-    expect_equal(rt, "read", read, Err(ReadRefusal::NotResident(block)));
+    expect_no_read(
+        rt,
+        cache,
+        block.0,
+        (0, BLOCK + 1),
+        ReadRefusal::NotResident(block),
+    );
     let sent = send_in_vain(cache, block.0);
     expect_equal(rt, "send", sent, Err(SendRefusal::NotResident(block)));
     let seen = view_through(rt, cache, block.0, &[]);
@@ -179,10 +184,10 @@ fn has_room<A: Allocator + Copy>(alloc: A, cache: &mut Cache<A>, block: u32) -> 
 
 // How many of the first hundred blocks have room.
 fn count_with_room<A: Allocator + Copy>(alloc: A, cache: &mut Cache<A>) -> usize {
-    let mut count = 0;
+    let mut count = 0usize;
     for block in 0..100 {
         if has_room(alloc, cache, block) {
-            count += 1;
+            count = count.saturating_add(1);
         }
     }
     count
