@@ -2,7 +2,7 @@
 use Rattle.std.proofs.Common.{◌≡◌, arith}
 use Rattle.patch_model.specs.Refusal.{code_of}
 use Rattle.patch_model.specs.declared.refusals.RefusalKind.{RefusalKind}
-use Rattle.patch_model.specs.declared.refusals.RefusalKind.TheVariants.{OutOfMemory, NoSuchBlock, Fault, Disk, FileSize, Unknown, Durable, InFlight, Hard, AlreadyTaken, DependentApplied, NotTaken, DependencyTaken, EmptyPatch, OutOfBlock, UnknownDependency, NumbersSpent, TooManyLive, NotInMemory, Same, OtherBlock, Apart, WouldCycle, AlreadyInFlight, NothingReady, Stranger, NoSuchGroup, SameGroup, Started, Sealed, Engaged, NotEngaged, TooManyGroups, NoSuchExtent, ExtentFull, PastPointer, OldGeneration, GenerationSpent, KeyLength, ValueLength, NoKey, IndexFull, NoSpace, OpenExtent, EmptyExtent, Geometry, BadSuper, BadPointer, BadSlot, BadFrame, DuplicateKey, BadMagic, BadKey, BadValue, Short, NotZero, DeviceGaveUp, Disagreed, ReadBack, NoThread, AlreadyVersion2, SyncFailed}
+use Rattle.patch_model.specs.declared.refusals.RefusalKind.TheVariants.{OutOfMemory, NoSuchBlock, Fault, Disk, FileSize, Unknown, Durable, InFlight, Hard, AlreadyTaken, DependentApplied, NotTaken, DependencyTaken, EmptyPatch, OutOfBlock, UnknownDependency, NumbersSpent, TooManyLive, NotInMemory, Same, OtherBlock, Apart, WouldCycle, AlreadyInFlight, NothingReady, Stranger, NoSuchGroup, SameGroup, Started, Sealed, Engaged, NotEngaged, TooManyGroups, NoSuchExtent, ExtentFull, PastPointer, OldGeneration, GenerationSpent, KeyLength, ValueLength, NoKey, IndexFull, NoSpace, OpenExtent, EmptyExtent, Geometry, BadSuper, BadPointer, BadSlot, BadFrame, DuplicateKey, BadMagic, BadKey, BadValue, Short, NotZero, DeviceGaveUp, Disagreed, ReadBack, NoThread, AlreadyVersion2, Live, NotResident, SyncFailed}
 
 pub code_rises : (kind : RefusalKind) → code_of kind ≡ 0 → ⊥
 code_rises OutOfMemory none = omega arith
@@ -66,4 +66,6 @@ code_rises Disagreed none = omega arith
 code_rises ReadBack none = omega arith
 code_rises NoThread none = omega arith
 code_rises AlreadyVersion2 none = omega arith
+code_rises Live none = omega arith
+code_rises NotResident none = omega arith
 code_rises SyncFailed none = omega arith

@@ -1,7 +1,7 @@
 use denote.Exit.{no}
 use denote.Param.Send.{param_send, arg_send}
 use Rattle.patch_files.proofs.Sending.{file_send}
-use Rattle.patch_files.proofs.Writers.{fresh_store}
+use Rattle.patch_files.proofs.Writers.{fresh_store, new_store}
 use Rattle.patch_files.proofs.serving.serve_lines_on_file.Goals as goal
 
 pub serve_jobs-requires-send-D : goal.serve_jobs-requires-send-D
@@ -21,3 +21,6 @@ returns-in-Ok g c =
             c.in_ok-jobs.ensures.jobs,
       );
     }
+
+pub serve_jobs-requires-clause-new : goal.serve_jobs-requires-clause-new
+serve_jobs-requires-clause-new g c κs within = new_store _ c.in_ok-device.ensures.new
