@@ -3,6 +3,8 @@ ghost use Rattle.std.specs.Prelude.{◌≡◌, ◌<◌, ◌∷◌, length};
 ghost use Rattle.std.specs.Iterator.{YieldsFirstBy, item_count};
 ghost use Rattle.patch_script.specs.Kind.{lines_of};
 
+use memchr::memchr;
+
 /// The lines of a text, each without its line feed. The last one may lack it.
 #[derive(Drop)]
 pub struct Lines<'a>(&'a [u8]);
@@ -39,10 +41,8 @@ fn first_line(text: &[u8]) -> (&[u8], &[u8])
     requires { 0 < length text.now }
     ensures { lines_of text.now ≡ result.0.now ∷ lines_of result.1.now }
 {
-    for (end, byte) in text.iter().enumerate() {
-        if *byte == b'\n' {
-            return (&text[..end], &text[end + 1..]);
-        }
+    match memchr(b'\n', text) {
+        Some(end) => (&text[..end], &text[end + 1..]),
+        None => (text, &text[text.len()..]),
     }
-    (text, &text[text.len()..])
 }
