@@ -181,6 +181,40 @@ fn what_stands_is_kept_where_memory_runs_out(rt: HostRuntime) -> Result<(), Fail
     Ok(())
 }
 
+/// So many rows are put in, and most of them taken out again.
+const MANY: u32 = 4_000;
+
+/// So many of them stay.
+const FEW: u32 = 10;
+
+/// Of so many bytes, so many are free in one piece where few rows stand, and not where many do.
+const HEAP: usize = 1_048_576;
+
+const PIECE: usize = 950_000;
+
+fn has_piece(heap: &LocalHeap) -> bool {
+    Vec::<u8, _>::with_capacity(heap, PIECE).is_ok()
+}
+
+#[test]
+fn memory_of_rows_that_are_taken_out_is_given_back(rt: HostRuntime) -> Result<(), Fail> {
+    let heap = LocalHeap::new(rt.alloc(), HEAP)?;
+    let mut rows = Rows::new(&heap);
+    for number in 0..MANY {
+        assert!(rt; put_in(&mut rows, number, number)?);
+    }
+    assert!(rt; !has_piece(&heap));
+    for number in FEW..MANY {
+        expect_eq(&rt, &rows.take(number), &Some(number));
+    }
+    assert!(rt; has_piece(&heap));
+    for number in 0..FEW {
+        expect_row(&rt, &rows, number, Some(number));
+    }
+    expect_row(&rt, &rows, FEW, None);
+    Ok(())
+}
+
 #[test]
 fn rows_may_own_memory(rt: HostRuntime) -> Result<(), Fail> {
     let mut rows = Rows::new(rt.alloc());

@@ -2,7 +2,7 @@
 ghost use Rattle.std.specs.Prelude.{◌≡◌, ℕ, ◌<◌, ◌≤◌, [], None, Some, IsSome, IfSome, IfNone, OnOk, is_some, length, replicate, count_by, slice_get, slice_set, option_copied, nat_eq};
 ghost use Rattle.std.specs.Borrow.{sem};
 ghost use Rattle.std.specs.Option.{option_copied_mut};
-ghost use Rattle.indexmap.specs.IndexMap.{get, keys};
+ghost use Rattle.indexmap.specs.IndexMap.{get, keys, IsUnchanged};
 ghost use Rattle.patch_rows.specs.Rows.{row_at};
 
 use crate::hashing::InARow;
@@ -11,16 +11,23 @@ use indexmap::IndexMap;
 use std::alloc::{AllocError, Allocator, Global};
 use std::marker::Model;
 
-/// How many hints there are at first.
-const FEW: usize = 8;
+/// How many hints there are for each row, at least.
+const HINTS_OF_A_ROW: usize = 4;
+
+/// Up to so many numbers each has a hint of its own.
+const MOST_WITH_OWN: usize = 4096;
+
+/// Room for so many rows is never given back.
+const ROOM_KEPT: usize = 64;
 
 /// Rows by number, of which few may stand: what they take in memory goes with how many stand, not with the greatest number.
 ///
 /// A row is looked for first where a hint says that it stands, which costs two reads, and only where that misses by the number's hash.
-/// Where numbers from 0 on come in turn, each look hits at once.
+/// Where there are up to 4,096 numbers, or numbers from 0 on come in turn, each look hits at once.
 ///
-/// Beside itself a row takes some 26 bytes where all room is used: its number, the number's hash, where that stands in the table, and
-/// a hint. Room grows by doubling, so all of this, and the row, is up to twice as much just after.
+/// Beside itself a row takes some 38 bytes where all room is used: its number, the number's hash, where that stands in the table, and
+/// four hints. Room grows by doubling, so all of this, and the row, is up to twice as much just after. Few rows take up to 16 KiB of
+/// hints.
 #[derive(Drop)]
 pub struct Rows<T, A: Allocator = Global> {
     /// The rows that stand, by their numbers.
@@ -69,11 +76,39 @@ impl<T, A: Allocator + Copy> Rows<T, A> {
     }
 }
 
-/// The place of a number's row among those that stand.
+/// The place of a number's row among those that stand, by the number's hash.
+fn seek<T, A: Allocator>(standing: &IndexMap<u32, T, InARow, A>, number: u32) -> Option<usize>
+    ensures found { IfSome result (λ place. slice_get (keys standing.now) place ≡ Some number) }
+    ensures absent { IfNone result (get nat_eq standing.now number ≡ None) }
+{
+    match standing.get_full(&number) {
+        Some((place, _, _)) => Some(place),
+        None => None,
+    }
+}
+
+/// The same, which its hint then says.
+#[inline(never)]
+fn seek_and_note<T, A: Allocator>(
+    standing: &IndexMap<u32, T, InARow, A>,
+    hints: &mut [u32],
+    number: u32,
+) -> Option<usize>
+    ensures found { IfSome result (λ place. slice_get (keys standing.now) place ≡ Some number) }
+    ensures absent { IfNone result (get nat_eq standing.now number ≡ None) }
+{
+    let place = seek(standing, number);
+    if let Some(found) = place {
+        note(hints, number, found);
+    }
+    place
+}
+
+/// The same, by the number's hint, and by its hash where that misses.
 #[inline(always)]
 fn place_of<T, A: Allocator>(
     standing: &IndexMap<u32, T, InARow, A>,
-    hints: &[u32],
+    hints: &mut [u32],
     number: u32,
 ) -> Option<usize>
     ensures found { IfSome result (λ place. slice_get (keys standing.now) place ≡ Some number) }
@@ -85,21 +120,34 @@ fn place_of<T, A: Allocator>(
             return Some(place);
         }
     }
-    search_place(standing, number)
+    seek_and_note(standing, hints, number)
 }
 
-/// The same, wherever it is.
-#[inline(never)]
-fn search_place<T, A: Allocator>(
-    standing: &IndexMap<u32, T, InARow, A>,
-    number: u32,
-) -> Option<usize>
-    ensures found { IfSome result (λ place. slice_get (keys standing.now) place ≡ Some number) }
-    ensures absent { IfNone result (get nat_eq standing.now number ≡ None) }
+/// How many hints there have to be for so many rows and numbers.
+fn hints_for(rows: usize, numbers: usize) -> usize {
+    let own = numbers.min(MOST_WITH_OWN);
+    rows.saturating_mul(HINTS_OF_A_ROW).max(own)
+}
+
+/// Gives memory back where less than a quarter of it is used.
+fn tighten<T, A: Allocator>(
+    standing: &mut IndexMap<u32, T, InARow, A>,
+    hints: &mut Vec<u32, A>,
+    numbers: usize,
+)
+    ensures { IsUnchanged standing.old standing.new }
 {
-    match standing.get_full(&number) {
-        Some((place, _, _)) => Some(place),
-        None => None,
+    let rows = standing.len();
+    let room = standing.capacity();
+    if room <= ROOM_KEPT || rows > room / 4 {
+        return;
+    }
+    let left = room / 2;
+    standing.shrink_to(left);
+    if let Some(count) = hints_for(left, numbers).checked_next_power_of_two() {
+        hints.truncate(count);
+        hints.shrink_to_fit();
+        note_all(hints.as_mut_slice(), standing);
     }
 }
 
@@ -157,7 +205,7 @@ impl<T, A: Allocator> Rows<T, A> {
         ensures* writes_back { sem 𝓛 (lends_row T.row A.row A.Allocator self.entry number result) }
         ensures value { option_copied_mut result ≡ row_at self.old number }
     {
-        match place_of(&self.standing, &self.hints, number) {
+        match place_of(&self.standing, self.hints.as_mut_slice(), number) {
             Some(place) => Some(&mut self.standing[place]),
             None => None,
         }
@@ -179,7 +227,7 @@ impl<T, A: Allocator> Rows<T, A> {
         ensures* writes_back { sem 𝓛 (lends_standing T.row A.row A.Allocator self.entry number result) }
         ensures value { row_at self.old number ≡ Some result.now }
     {
-        let place = place_of(&self.standing, &self.hints, number).unwrap();
+        let place = place_of(&self.standing, self.hints.as_mut_slice(), number).unwrap();
         &mut self.standing[place]
     }
 
@@ -199,18 +247,21 @@ impl<T, A: Allocator> Rows<T, A> {
         ensures same { self.new.items ≡ self.old.items }
     {
         self.standing.reserve(1)?;
-        if self.hints.len() <= self.standing.len() {
-            self.widen();
+        let wanted = hints_for(self.standing.len().saturating_add(1), self.bound);
+        if self.hints.len() < wanted {
+            self.widen(wanted);
         }
         Ok(())
     }
 
-    /// Twice as many hints, if there is memory.
+    /// So many hints, or up to twice as many, if there is memory.
     #[inline(never)]
-    fn widen(&mut self)
+    fn widen(&mut self, wanted: usize)
         ensures { self.new ≡ self.old }
     {
-        let count = self.hints.len().saturating_mul(2).max(FEW);
+        let Some(count) = wanted.checked_next_power_of_two() else {
+            return;
+        };
         if self.hints.resize(count, 0).is_ok() {
             note_all(self.hints.as_mut_slice(), &self.standing);
         }
@@ -230,14 +281,16 @@ impl<T, A: Allocator> Rows<T, A> {
         let _was = self.standing.insert(number, row).unwrap();
     }
 
-    /// Takes the row of a number out, if it stands. The number stays, with no row.
+    /// Takes the row of a number out, if it stands. The number stays, with no row. Where rows take little of the memory that there is
+    /// for them, some of it is given back.
     pub fn take(&mut self, number: u32) -> Option<T>
         ensures row { result ≡ row_at self.old number }
         ensures left { self.new.items ≡ slice_set self.old.items number None }
     {
-        let place = place_of(&self.standing, &self.hints, number)?;
+        let place = seek(&self.standing, number)?;
         let (_, row) = self.standing.swap_remove_index(place).unwrap();
         note_at(self.hints.as_mut_slice(), &self.standing, place);
+        tighten(&mut self.standing, &mut self.hints, self.bound);
         Some(row)
     }
 }

@@ -1,7 +1,7 @@
-use Rattle.std.proofs.Common.{◌∙◌, ap, sym, None, refl, is_some, set}
+use Rattle.std.proofs.Common.{◌∙◌, ap, sym, subst, None, refl, is_some, set}
 use Rattle.std.proofs.lemmas.Option.{slice_get-map}
 use Rattle.std.specs.Option.{option_map}
-use Rattle.patch_rows.specs.Rows.{row_at}
+use Rattle.patch_rows.specs.Rows.{row_at, rows_of, AreRows}
 use Rattle.patch_rows.proofs.Standings.{entry_of, none_taken, row, row_read, says_taken, still_rows, written}
 use Rattle.patch_rows.proofs.rows.Rows.take.Goals as goal
 
@@ -26,7 +26,7 @@ invariant_of-self g c =
     let n = c.args.number in
     let left = c.swap_remove_index.new.self in
     let says = says_taken m c.self.invariant.unique c.in_ok-place.place n c.in_ok-place.ensures.found left c.swap_remove_index.result c.swap_remove_index.ensures.entry c.swap_remove_index.ensures.updates in
-    still_rows m.entries left.entries c.self.inside.bound n None c.self.invariant c.swap_remove_index.ensures.unique says (λ beyond. refl)
+    subst (λ es. AreRows es c.self.inside.bound) (sym c.tighten.ensures) (still_rows m.entries left.entries c.self.inside.bound n None c.self.invariant c.swap_remove_index.ensures.unique says (λ beyond. refl))
 
 pub returns-clause-row : goal.returns-clause-row
 returns-clause-row g c =
@@ -43,4 +43,4 @@ returns-clause-left g c =
     let n = c.args.number in
     let left = c.swap_remove_index.new.self in
     let says = says_taken m c.self.invariant.unique c.in_ok-place.place n c.in_ok-place.ensures.found left c.swap_remove_index.result c.swap_remove_index.ensures.entry c.swap_remove_index.ensures.updates in
-    written m.entries left.entries c.self.inside.bound n None says ∙ ap (λ r. set r.items n None) c.self.view_is
+    ap (λ es. rows_of es c.self.inside.bound) c.tighten.ensures ∙ written m.entries left.entries c.self.inside.bound n None says ∙ ap (λ r. set r.items n None) c.self.view_is
