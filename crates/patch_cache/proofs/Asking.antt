@@ -3,7 +3,7 @@ use Rattle.std.proofs.Common.{◌≡◌, ℕ, ◌<◌, ◌⊎◌, ◌∙◌, Boo
 use Rattle.std.proofs.lemmas.List.{append-nil}
 use Rattle.patch_model.specs.Step.{Step}
 use Rattle.patch_model.specs.Execution.{Execution, followed_by}
-use Rattle.patch_cache.specs.Asks.{Ask, Answer, IsAnswer, IsGivenUp, AreAnswers, is_refused, step_for, step_added, steps_added, extended_by, after, after_all}
+use Rattle.patch_cache.specs.Asks.{Ask, Answer, IsAnswer, IsGivenUpBy, AreAnswersBy, is_refused, step_for, step_added, steps_added, extended_by, after, after_all}
 use Rattle.patch_cache.specs.Running.{CountsFaults, CountFaults, HasWritten, HaveWritten}
 
 pub after_none : (run : Execution) (asks : List Ask) → after_all run asks [] ≡ run
@@ -15,14 +15,14 @@ step_of_ask run None = ([], ap (λ (s : List Step). record { first = run.first; 
 step_of_ask run (Some step) = (step ∷ [], refl)
 
 -- the answer to the next ask
-pub one_more : (run : Execution) (asks : List Ask) (answers : List Answer) (ask : Ask) (answer : Answer)
-    → length answers < length asks → get_or asks (length answers) ask ≡ ask → AreAnswers run asks answers
-    → IsAnswer (after_all run asks answers) ask answer ⊎ IsGivenUp (after_all run asks answers) ask answer
-    → AreAnswers run asks (answers ++ answer ∷ []) × (after_all run asks (answers ++ answer ∷ []) ≡ after (after_all run asks answers) ask answer)
-one_more run [] answers ask answer h at so_far right = absurd (omega arith)
-one_more run (a ∷ asks) [] ask answer h at so_far right = rw at ((right, tt), after_none (after run ask answer) asks)
-one_more run (a ∷ asks) (b ∷ answers) ask answer h at so_far right =
-    let r = one_more (after run a b) asks answers ask answer (omega arith) at so_far.1 right in ((so_far.0, r.0), r.1)
+pub one_more : (whole : Bool) (run : Execution) (asks : List Ask) (answers : List Answer) (ask : Ask) (answer : Answer)
+    → length answers < length asks → get_or asks (length answers) ask ≡ ask → AreAnswersBy whole run asks answers
+    → IsAnswer (after_all run asks answers) ask answer ⊎ IsGivenUpBy whole (after_all run asks answers) ask answer
+    → AreAnswersBy whole run asks (answers ++ answer ∷ []) × (after_all run asks (answers ++ answer ∷ []) ≡ after (after_all run asks answers) ask answer)
+one_more whole run [] answers ask answer h at so_far right = absurd (omega arith)
+one_more whole run (a ∷ asks) [] ask answer h at so_far right = rw at ((right, tt), after_none (after run ask answer) asks)
+one_more whole run (a ∷ asks) (b ∷ answers) ask answer h at so_far right =
+    let r = one_more whole (after run a b) asks answers ask answer (omega arith) at so_far.1 right in ((so_far.0, r.0), r.1)
 
 -- and what it has made of the disk
 pub one_more_written : (run : Execution) (asks : List Ask) (answers : List Answer) (ask : Ask) (answer : Answer) (old between new : List (List ℕ))

@@ -101,6 +101,12 @@ one_moment g run before now time few left = elim (cases_eq (g.moment now) (g.mom
       }
 ]
 
+-- a call of the device that begins none, and writes nothing
+pub untouched : {D : Type 0} (g : Ghosts D) (run : Execution) (before now : D) → Elapses (g.moment before) (g.moment now) (g.left_at before) (g.left_at now) → g.moment now ≡ g.moment before
+    → LeavesOnly g before (MayLeave run) → IsCrashSafe g run run before now
+untouched g run before now time same left =
+    one_moment g run before now time (omega (arith, same)) (λ disk may. left disk ((time.past (g.moment before) disk (omega arith)).1 (subst (λ t. g.left_at now t disk) same may)))
+
 either_left : ImagesLand → (run : Execution) (block : ℕ) (bytes : List ℕ) (contents now : List (List ℕ)) → block < length run.first → bytes ≡ image (history_of run block)
     → IsOldOrNew contents block bytes now → MayLeave run contents → MayLeave run now
 either_left land run block bytes contents now known is (inl same) left = subst (MayLeave run) (sym same) left

@@ -31,3 +31,5 @@ pub mod Absent
 pub mod Clean
 pub mod Passing
 pub mod Tries
+pub mod Imaging
+pub mod Brought

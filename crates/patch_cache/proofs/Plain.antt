@@ -10,7 +10,7 @@ use Rattle.patch_cache.specs.declared.flights.Flight.{Flight}
 use Rattle.patch_cache.proofs.HeldFlights.{StatesExtend, StayMade, StayMerged, ImagesStay, held_create, held_merge}
 
 -- what holds of the execution, and with the ask's step, holds after the ask
-either : (P : Execution → Type 0) (run : Execution) (ask : Ask) (b : Bool) → P run → P (extended_by run (step_for ask)) → P (if b then run else extended_by run (step_for ask))
+pub either : (P : Execution → Type 0) (run : Execution) (ask : Ask) (b : Bool) → P run → P (extended_by run (step_for ask)) → P (if b then run else extended_by run (step_for ask))
 either P run ask true p q = p
 either P run ask false p q = q
 

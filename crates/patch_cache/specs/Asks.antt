@@ -1,5 +1,5 @@
 -- What is asked of a cache, and what it answers.
-use Rattle.std.specs.Prelude.{ℕ, Bool, true, false, ◌≡◌, ◌⊎◌, min, List, [], ◌∷◌, ◌++◌, length, Option, Some, None, Result, Ok, Err, if◌then◌else◌}
+use Rattle.std.specs.Prelude.{ℕ, Bool, true, false, ◌≡◌, ◌<◌, ◌⊎◌, IsTrue, min, List, [], ◌∷◌, ◌++◌, length, Option, Some, None, Result, Ok, Err, if◌then◌else◌}
 use Rattle.patch_model.specs.declared.refusals.Refusal.{Refusal}
 use Rattle.patch_model.specs.declared.patches.Undo.{Undo}
 use Rattle.patch_model.specs.declared.refusals.RefusalKind.TheVariants as kind
@@ -10,6 +10,7 @@ use Rattle.patch_model.specs.Ready.{ready}
 use Rattle.patch_model.specs.State.{entries_of, state_of, class_of, has_flight, flying_of, numbers_of}
 use Rattle.patch_model.specs.History.{history_of, without, cached, image}
 use Rattle.patch_model.specs.Legal.{IsLegalMerge}
+use Rattle.patch_model.specs.Renewed.{is_clean}
 use Rattle.patch_model.specs.Refusing.{bare, why_not_made, why_not_sent, why_not_shown}
 use Rattle.patch_cache.specs.Refusals.{IsWhyNotMerged}
 use Rattle.patch_cache.specs.Viewing.{with_moves, bytes_at}
@@ -108,6 +109,32 @@ pub record IsGivenUp (run : Execution) (ask : Ask) (answer : Answer) : Type 0 wh
   pub not_refused : is_refused done ≡ false
   pub gives_up : ((answer ≡ Refused (bare kind.OutOfMemory)) × (is_complete ask ≡ false)) ⊎ (IsFault answer × (is_complete ask ≡ true))
 
+-- the block that an ask names
+abbrev pub block_named : Ask → Option ℕ
+block_named (Create block start bytes after undo) = Some block
+block_named (Merge a b) = None
+block_named (Send block) = Some block
+block_named (Complete block) = None
+block_named (View block moves start len) = Some block
+
+-- a cache may lack the block: there is such a block, and it has no live patch
+pub record IsMissing (run : Execution) (block : ℕ) : Type 0 where
+  pub known : block < length run.first
+  pub clean : IsTrue (is_clean run block)
+
+-- An ask that names such a block is given up before any cause is tested where there is no memory for the block, or the device refuses
+-- its read.
+pub record IsNotBrought (run : Execution) (ask : Ask) (answer : Answer) : Type 0 where
+  pub block : ℕ
+  pub named : block_named ask ≡ Some block
+  pub missing : IsMissing run block
+  pub gives_up : (answer ≡ Refused (bare kind.OutOfMemory)) ⊎ (answer ≡ Refused (bare kind.Fault))
+
+-- so may a cache do that hasn't all its blocks
+abbrev pub IsGivenUpBy : (whole : Bool) → Execution → Ask → Answer → Type 0
+IsGivenUpBy true run ask answer = IsGivenUp run ask answer
+IsGivenUpBy false run ask answer = IsGivenUp run ask answer ⊎ IsNotBrought run ask answer
+
 -- the step that an ask is for
 abbrev pub step_for : Ask → Option Step
 step_for (Create block start bytes after undo) = Some (step.Create block start bytes after undo)
@@ -145,7 +172,11 @@ steps_added [] (answer ∷ answers) = []
 steps_added (ask ∷ asks) (answer ∷ answers) = step_added ask answer ++ steps_added asks answers
 
 -- each answer is the right one after the steps before it, or gives up; the asks behind the last answer stay open
+abbrev pub AreAnswersBy : (whole : Bool) → Execution → List Ask → List Answer → Type 0
+AreAnswersBy whole run asks [] = Unit {0}
+AreAnswersBy whole run [] (answer ∷ answers) = ⊥
+AreAnswersBy whole run (ask ∷ asks) (answer ∷ answers) =
+    (IsAnswer run ask answer ⊎ IsGivenUpBy whole run ask answer) × AreAnswersBy whole (after run ask answer) asks answers
+
 abbrev pub AreAnswers : Execution → List Ask → List Answer → Type 0
-AreAnswers run asks [] = Unit {0}
-AreAnswers run [] (answer ∷ answers) = ⊥
-AreAnswers run (ask ∷ asks) (answer ∷ answers) = (IsAnswer run ask answer ⊎ IsGivenUp run ask answer) × AreAnswers (after run ask answer) asks answers
+AreAnswers run asks answers = AreAnswersBy true run asks answers

@@ -10,6 +10,7 @@ pub mod Asks
 pub mod Looking
 pub mod Running
 pub mod Waves
+pub mod Bringing
 pub mod Refused
 pub mod Tries
 pub mod Joining

@@ -7,6 +7,8 @@ use Rattle.patch_model.specs.Legal.{IsLegalMerge}
 use Rattle.patch_model.specs.Refusing.{bare, with_number, why_no_pair, IsLeastThird}
 use Rattle.patch_cache.specs.declared.refusals.ViewRefusal.{ViewRefusal}
 use Rattle.patch_cache.specs.declared.refusals.ViewRefusal.TheVariants as view
+use Rattle.patch_cache.specs.declared.refusals.BringRefusal.{BringRefusal}
+use Rattle.patch_cache.specs.declared.refusals.BringRefusal.TheVariants as bring
 use Rattle.patch_cache.specs.declared.refusals.EvictRefusal.{EvictRefusal}
 use Rattle.patch_cache.specs.declared.refusals.EvictRefusal.TheVariants as evict
 use Rattle.patch_cache.specs.declared.refusals.ReadRefusal.{ReadRefusal}
@@ -26,6 +28,10 @@ use Rattle.patch_cache.specs.declared.refusals.FlushRefusal.TheVariants as flush
 abbrev pub view_cause : ViewRefusal → Refusal
 view_cause view.NoSuchBlock = bare kind.NoSuchBlock
 view_cause (view.NotResident n) = with_number kind.NotResident n
+
+abbrev pub bring_cause : BringRefusal → Refusal
+bring_cause bring.Fault = bare kind.Fault
+bring_cause bring.OutOfMemory = bare kind.OutOfMemory
 
 abbrev pub evict_cause : EvictRefusal → Refusal
 evict_cause evict.NoSuchBlock = bare kind.NoSuchBlock

@@ -1,4 +1,7 @@
 //! What is asked of a cache, and what it answers.
+ghost use Rattle.std.specs.Prelude.{◌≡◌};
+ghost use Rattle.patch_cache.specs.Asks.{ask_of, block_named};
+
 use patch_model::{BlockBytes, BlockNo, Bytes, Items, Numbers, PatchNo, Refusal, Undo};
 use std::alloc::{Allocator, Global};
 
@@ -40,6 +43,21 @@ pub enum Ask<A: Allocator = Global> {
         start: usize,
         len: usize,
     },
+}
+
+impl<A: Allocator> Ask<A> {
+    /// The block that it names.
+    pub(crate) fn block(&self) -> Option<BlockNo>
+        ensures { result ≡ block_named (ask_of self.now) }
+    {
+        match self {
+            Ask::Create { block, .. } => Some(*block),
+            Ask::Send { block } => Some(*block),
+            Ask::View { block, .. } => Some(*block),
+            Ask::Merge { .. } => None,
+            Ask::Complete { .. } => None,
+        }
+    }
 }
 
 /// What an ask is answered.

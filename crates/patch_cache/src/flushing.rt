@@ -42,13 +42,9 @@ impl<A: Allocator + Copy> Cache<A> {
             return Ok(false);
         }
         flights.held.reserve(1)?;
-        match self.send(block) {
-            Ok(flight) => {
-                flights.held.push_reserved(flight);
-                Ok(true)
-            }
-            Err(_) => Err(OutOfMemory),
-        }
+        let flight = self.send_ready(block)?;
+        flights.held.push_reserved(flight);
+        Ok(true)
     }
 
     /// Begins a write of each block of which one can begin, and holds the flights. Whether there was such a block.

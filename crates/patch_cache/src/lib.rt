@@ -1,12 +1,13 @@
 //! The patch cache: patches are made, merged, sent and completed over the blocks of a disk, in an order that a crash keeps.
 //!
 //! A [`Cache`] is defined and opened in `caches`. Its other calls stand by themselves: `of`, `admit` and `evict` in `paging`,
-//! `renew` in `renewing`, `create` in `creating`, `merge` in
+//! `bring` in `bringing`, `renew` in `renewing`, `create` in `creating`, `merge` in
 //! `merging`, `send` in `sending`, `complete` in `completing`, `read` in `reading`, `view` in `views`, and `run`, with the answer
 //! of each ask, in `running`.
 #![tactic(auto)]
 
 mod asks;
+mod bringing;
 mod caches;
 mod completing;
 mod creating;
@@ -32,8 +33,8 @@ pub use flights::{Flight, Flights, Landed};
 pub use landing::{TRIES, write_out_tried};
 pub use patch_view::PutBackRefusal;
 pub use refusals::{
-    AdmitRefusal, CreateRefusal, DeviceGaveUp, EvictRefusal, Fault, FlushRefusal, Live,
-    MergeRefusal, ReadRefusal, SendRefusal, TakeRefusal, ViewRefusal,
+    AdmitRefusal, BringRefusal, CreateRefusal, DeviceGaveUp, EvictRefusal, Fault, FlushRefusal,
+    Live, MergeRefusal, ReadRefusal, SendRefusal, TakeRefusal, ViewRefusal,
 };
 pub use views::CacheView;
 pub use writes::{Done, write_out};

@@ -1,5 +1,5 @@
 //! What is read of a cache's blocks, with all their patches.
-ghost use Rattle.std.specs.Prelude.{Bool, ◌≡◌, ◌+◌, ◌≤◌, IsTrue, Some, MatchResult, IsNone, option_map};
+ghost use Rattle.std.specs.Prelude.{Bool, ℕ, ◌≡◌, ◌+◌, ◌≤◌, IsTrue, IsFalse, Some, MatchResult, IsNone, option_map};
 ghost use Rattle.patch_model.specs.declared.blocks.TheConstants.{BLOCK};
 ghost use Rattle.patch_model.specs.Execution.{Execution};
 ghost use Rattle.patch_cache.specs.Contents.{is_resident};
@@ -23,9 +23,24 @@ impl<A: Allocator + Copy> Cache<A> {
             (λ bytes. IsRead run block start len bytes.now)
             (λ refusal. if_resident self.now block (why_not_read run block start len) ≡ Some (read_cause refusal)) }
     {
-        match self.why_not_shown(block, start, len) {
-            Some(refusal) => Err(refusal),
-            None => Ok(&self.rows.row(block.0).state.cached()[start..start + len]),
+        let Some(row) = self.rows.get(block.0) else {
+            return Err(self.why_absent(block));
+        };
+        if len > BLOCK || start > BLOCK - len {
+            return Err(ReadRefusal::OutOfBlock);
+        }
+        Ok(&row.state.cached()[start..start + len])
+    }
+
+    /// Why nothing is shown of a block that isn't resident.
+    fn why_absent(&self, block: BlockNo) -> ReadRefusal
+        ensures { (whole : Bool) (run : Execution) (start len : ℕ) → IsCacheBy whole self.now run → IsFalse (is_resident self.now block)
+            → if_resident self.now block (why_not_read run block start len) ≡ Some (read_cause result) }
+    {
+        if block.0 as usize >= self.rows.len() {
+            ReadRefusal::NoSuchBlock
+        } else {
+            ReadRefusal::NotResident(block)
         }
     }
 

@@ -2,7 +2,7 @@
 ghost use Rattle.std.specs.Prelude.{◌≡◌};
 ghost use Rattle.patch_model.specs.declared.refusals.RefusalKind.TheVariants as kind;
 ghost use Rattle.patch_model.specs.Refusing.{bare};
-ghost use Rattle.patch_cache.specs.Refusals.{view_cause, evict_cause, read_cause, create_cause, merge_cause, send_cause, take_cause, flush_cause, gave_up_cause};
+ghost use Rattle.patch_cache.specs.Refusals.{view_cause, bring_cause, evict_cause, read_cause, create_cause, merge_cause, send_cause, take_cause, flush_cause, gave_up_cause};
 ghost use Rattle.patch_stacks.specs.Refusal.{take_cause as view_take_cause};
 
 use patch_model::{BlockNo, OutOfMemory, PatchNo, Refusal, RefusalKind, Refuses};
@@ -45,6 +45,16 @@ pub enum AdmitRefusal {
     /// The cache has the block already.
     #[error("IsResident")]
     IsResident,
+    #[error("OutOfMemory")]
+    OutOfMemory,
+}
+
+/// Why a block that isn't resident isn't read from the device and admitted.
+#[derive(Clone, Copy, Debug, PartialEq, Eq, Error)]
+pub enum BringRefusal {
+    /// The device refused the read.
+    #[error("Fault")]
+    Fault,
     #[error("OutOfMemory")]
     OutOfMemory,
 }
@@ -178,6 +188,17 @@ impl Refuses for ViewRefusal {
         match self {
             ViewRefusal::NoSuchBlock => RefusalKind::NoSuchBlock.bare(),
             ViewRefusal::NotResident(block) => RefusalKind::NotResident.with_number(block.0),
+        }
+    }
+}
+
+impl Refuses for BringRefusal {
+    ghost cause = { bring_cause };
+
+    fn refusal(self) -> Refusal {
+        match self {
+            BringRefusal::Fault => RefusalKind::Fault.bare(),
+            BringRefusal::OutOfMemory => RefusalKind::OutOfMemory.bare(),
         }
     }
 }
@@ -332,6 +353,16 @@ impl From<OutOfMemory> for SendRefusal {
 
     fn from(_: OutOfMemory) -> SendRefusal {
         SendRefusal::OutOfMemory
+    }
+}
+
+impl From<OutOfMemory> for BringRefusal {
+    ghost use Rattle.patch_cache.specs.declared.refusals.BringRefusal.TheVariants.{OutOfMemory as NoMemory};
+
+    ghost from_gives = { λ _ e. e ≡ NoMemory };
+
+    fn from(_: OutOfMemory) -> BringRefusal {
+        BringRefusal::OutOfMemory
     }
 }
 

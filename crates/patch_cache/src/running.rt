@@ -1,13 +1,15 @@
 //! A list of asks, answered one after another.
-ghost use Rattle.std.specs.Prelude.{◌≡◌, ◌+◌, ◌<◌, ◌++◌, true, IsTrue, Some, None, length, map, IfOk, OnOk, OnErr};
+ghost use Rattle.std.specs.Prelude.{Bool, ◌≡◌, ◌+◌, ◌<◌, ◌++◌, true, IsTrue, Some, None, length, map, IfOk, OnOk, OnErr};
 ghost use Rattle.patch_model.specs.Execution.{Execution};
 ghost use Rattle.patch_model.specs.Refusing.{why_not_sent};
 ghost use Rattle.patch_device.specs.SameDevice.{IsSameDevice};
 ghost use Rattle.patch_cache.specs.Contents.{is_resident, write_at};
-ghost use Rattle.patch_cache.specs.Meaning.{IsCacheOf};
-ghost use Rattle.patch_cache.specs.Asks.{Create, Merge, Send, Complete, IsFault, ask_of, answer_of, step_added, steps_added, is_complete, after, after_all};
+ghost use Rattle.patch_cache.specs.Meaning.{IsCacheBy};
+ghost use Rattle.patch_cache.specs.Paging.{why_not_resident};
+ghost use Rattle.patch_cache.specs.Asks.{Create, Merge, Send, Complete, IsFault, ask_of, answer_of, step_added, steps_added, is_complete, block_named, after, after_all};
 ghost use Rattle.patch_cache.specs.Promise.{TakingBack, MovesArePermitted, LooksShow, ImagesSent, CrashesClosed};
-ghost use Rattle.patch_cache.specs.Running.{Runs, RunsOn, IsDone, IsAnswered, IsServed, LeavesSafe, HasRun, CountFaults, HaveAllWritten, answers_in};
+ghost use Rattle.patch_cache.specs.Running.{Runs, RunsBy, RunsOn, RunsOnBy, IsDoneBy, IsAnsweredBy, IsServed, IsServedBy, LeavesSafe, HasRun, CountFaults, HaveAllWritten, answers_in};
+ghost use Rattle.patch_cache.specs.Bringing.{HasNamed, RunsOnImages, IsServedOnImages, HasRunOnImages};
 
 use crate::asks::{Answer, Ask};
 use crate::caches::Cache;
@@ -33,6 +35,10 @@ impl<A: Allocator + Copy> Cache<A> {
     /// `flights` holds the cache's flights that are not completed, all of them and no others, and the device has the cache's
     /// blocks. The answer of an ask for which there is no memory is `OutOfMemory`; a completion is answered `Fault`
     /// where the device refuses its write and `SyncFailed` where it refuses the sync, and its flight is held as before.
+    ///
+    /// A block that an ask names and that isn't resident is read from the device and admitted ([`bring`](Cache::bring)) before the
+    /// ask is answered, which is `Fault` where the device refuses the read. So the answers are those of a cache that has all its
+    /// blocks, on an honest device that holds the image of each block with no write under way.
     pub fn run<D: Device>(
         &mut self,
         flights: &mut Flights<A>,
@@ -41,6 +47,8 @@ impl<A: Allocator + Copy> Cache<A> {
     ) -> Result<Vec<Answer<A>, A>, (Vec<Answer<A>, A>, OutOfMemory)>
         ensures answers { (run : Execution) → RunsOn D.Device self.old flights.old device.old run
             → HasRun run (map ask_of asks.now) (answers_in result) self.new flights.new }
+        ensures paged { (run : Execution) → RunsOnImages D.Device self.old flights.old device.old run
+            → HasRunOnImages D.Device run (map ask_of asks.now) (answers_in result) self.new flights.new device.old device.new }
         ensures all { OnOk result (length (answers_in result) ≡ length asks.now) }
         ensures stopped { OnErr result (length (answers_in result) < length asks.now) }
         ensures trace { self.new.trace ≡ self.old.trace ++ steps_added (map ask_of asks.now) (answers_in result) }
@@ -79,9 +87,37 @@ impl<A: Allocator + Copy> Cache<A> {
     ) -> Answer<A>
         ensures served { (run : Execution) → RunsOn D.Device self.old flights.old device.old run
             → IsServed D.Device run (ask_of ask.now) (answer_of result) self.new flights.new device.old device.new }
+        ensures paged { (run : Execution) → RunsOnImages D.Device self.old flights.old device.old run
+            → IsServedOnImages D.Device run (ask_of ask.now) (answer_of result) self.new flights.new device.old device.new }
         ensures trace { self.new.trace ≡ self.old.trace ++ step_added (ask_of ask.now) (answer_of result) }
         ensures device { IsSameDevice D.Device device.old device.new }
         ensures of_completion { (run : Execution) → Runs self.old flights.old run
+            → IsFault (answer_of result) → is_complete (ask_of ask.now) ≡ true }
+    {
+        model_laws::steps_extend();
+        model_laws::images_stay();
+        let Some(block) = ask.block() else {
+            return self.answer_resident(flights, device, ask);
+        };
+        match self.bring(device, block) {
+            Ok(()) => self.answer_resident(flights, device, ask),
+            Err(refusal) => Answer::Refused(refusal.refusal()),
+        }
+    }
+
+    /// Answers an ask that names a resident block, one that isn't the cache's, or none.
+    fn answer_resident<D: Device>(
+        &mut self,
+        flights: &mut Flights<A>,
+        device: &mut D,
+        ask: &Ask<A>,
+    ) -> Answer<A>
+        requires named { HasNamed self.old (block_named (ask_of ask.now)) }
+        ensures served { (whole : Bool) (run : Execution) → RunsOnBy D.Device whole self.old flights.old device.old run
+            → IsServedBy D.Device whole run (ask_of ask.now) (answer_of result) self.new flights.new device.old device.new }
+        ensures trace { self.new.trace ≡ self.old.trace ++ step_added (ask_of ask.now) (answer_of result) }
+        ensures device { IsSameDevice D.Device device.old device.new }
+        ensures of_completion { (whole : Bool) (run : Execution) → RunsBy whole self.old flights.old run
             → IsFault (answer_of result) → is_complete (ask_of ask.now) ≡ true }
     {
         model_laws::steps_extend();
@@ -117,8 +153,9 @@ impl<A: Allocator + Copy> Cache<A> {
         after: &[PatchNo],
         undo: Undo,
     ) -> Answer<A>
-        ensures answer { (run : Execution) → IsCacheOf self.old run
-            → IsDone run (Create block start bytes.now after.now undo) (answer_of result) self.new }
+        requires { why_not_resident self.old block ≡ None }
+        ensures answer { (whole : Bool) (run : Execution) → IsCacheBy whole self.old run
+            → IsDoneBy whole run (Create block start bytes.now after.now undo) (answer_of result) self.new }
         ensures trace { self.new.trace ≡ self.old.trace ++ step_added (Create block start bytes.now after.now undo) (answer_of result) }
         ensures no_fault { IsFault (answer_of result) → ⊥ }
     {
@@ -130,7 +167,7 @@ impl<A: Allocator + Copy> Cache<A> {
 
     /// Makes one class of two.
     fn answer_merge(&mut self, a: PatchNo, b: PatchNo) -> Answer<A>
-        ensures answer { (run : Execution) → IsCacheOf self.old run → IsDone run (Merge a b) (answer_of result) self.new }
+        ensures answer { (whole : Bool) (run : Execution) → IsCacheBy whole self.old run → IsDoneBy whole run (Merge a b) (answer_of result) self.new }
         ensures trace { self.new.trace ≡ self.old.trace ++ step_added (Merge a b) (answer_of result) }
         ensures no_fault { IsFault (answer_of result) → ⊥ }
     {
@@ -142,7 +179,9 @@ impl<A: Allocator + Copy> Cache<A> {
 
     /// Begins a write and holds its flight.
     fn answer_send(&mut self, flights: &mut Flights<A>, block: BlockNo) -> Answer<A>
-        ensures answer { (run : Execution) → Runs self.old flights.old run → IsAnswered run (Send block) (answer_of result) self.new flights.new }
+        requires { why_not_resident self.old block ≡ None }
+        ensures answer { (whole : Bool) (run : Execution) → RunsBy whole self.old flights.old run
+            → IsAnsweredBy whole run (Send block) (answer_of result) self.new flights.new }
         ensures trace { self.new.trace ≡ self.old.trace ++ step_added (Send block) (answer_of result) }
         ensures no_fault { IsFault (answer_of result) → ⊥ }
     {
@@ -164,8 +203,8 @@ impl<A: Allocator + Copy> Cache<A> {
     ) -> Result<Answer<A>, OutOfMemory>
         requires resident { IsTrue (is_resident self.old block) }
         requires not_under_way { write_at self.old block ≡ None }
-        ensures answer { (run : Execution) → Runs self.old flights.old run → why_not_sent run block ≡ None → IfOk result (λ answer.
-            IsAnswered run (Send block) (answer_of answer) self.new flights.new) }
+        ensures answer { (whole : Bool) (run : Execution) → RunsBy whole self.old flights.old run → why_not_sent run block ≡ None
+            → IfOk result (λ answer. IsAnsweredBy whole run (Send block) (answer_of answer) self.new flights.new) }
         ensures trace { IfOk result (λ answer. self.new.trace ≡ self.old.trace ++ step_added (Send block) (answer_of answer)) }
         ensures no_fault { IfOk result (λ answer. IsFault (answer_of answer) → ⊥) }
         ensures refused { OnErr result (self.new ≡ self.old) }
@@ -197,8 +236,8 @@ impl<A: Allocator + Copy> Cache<A> {
         device: &mut D,
         block: BlockNo,
     ) -> Answer<A>
-        ensures served { (run : Execution) → RunsOn D.Device self.old flights.old device.old run
-            → IsServed D.Device run (Complete block) (answer_of result) self.new flights.new device.old device.new }
+        ensures served { (whole : Bool) (run : Execution) → RunsOnBy D.Device whole self.old flights.old device.old run
+            → IsServedBy D.Device whole run (Complete block) (answer_of result) self.new flights.new device.old device.new }
         ensures trace { self.new.trace ≡ self.old.trace ++ step_added (Complete block) (answer_of result) }
         ensures device { IsSameDevice D.Device device.old device.new }
     {

@@ -39,11 +39,7 @@ impl<A: Allocator + Copy> Cache<A> {
     {
         match self.why_not_sent(block) {
             Some(refusal) => Err(refusal),
-            None => {
-                model_laws::paths_form_no_ring();
-                let numbers = self.graph.ready(self.alloc, block)?;
-                Ok(self.begin(block, numbers)?)
-            }
+            None => Ok(self.send_ready(block)?),
         }
     }
 
@@ -74,6 +70,20 @@ impl<A: Allocator + Copy> Cache<A> {
             return Some(SendRefusal::NothingReady);
         }
         None
+    }
+
+    /// Begins a write that there is no cause to refuse.
+    pub(crate) fn send_ready(&mut self, block: BlockNo) -> Result<Flight<A>, OutOfMemory>
+        requires resident { IsTrue (is_resident self.old block) }
+        requires not_under_way { write_at self.old block ≡ None }
+        ensures begun { (whole : Bool) (run : Execution) → IsCacheBy whole self.old run → why_not_sent run block ≡ None
+            → IfOk result (λ flight. IsBegunBy whole run block flight self.new) }
+        ensures trace { OnOk result (self.new.trace ≡ self.old.trace ++ Send block ∷ []) }
+        ensures refused { OnErr result (self.new ≡ self.old) }
+    {
+        model_laws::paths_form_no_ring();
+        let numbers = self.graph.ready(self.alloc, block)?;
+        self.begin(block, numbers)
     }
 
     /// Begins a write of the block that takes these patches. All memory is taken before anything changes, also the room for

@@ -1,106 +1,62 @@
-use Rattle.std.proofs.Common.{◌≡◌, refl, sym, ap, subst}
-use Rattle.patch_cache.specs.Asks.{Create, Merge, Send, View, ask_of, answer_of, is_complete}
-use Rattle.patch_cache.specs.Running.{Runs, IsServed}
-use Rattle.patch_cache.proofs.Faultless.{view_faultless}
-use Rattle.patch_cache.proofs.Plain.{create_held, merge_held, view_kept}
-use Rattle.patch_cache.proofs.Serving.{served_aside}
-use Rattle.patch_device.specs.SameDevice.{same_still}
+use Rattle.std.proofs.Common.{◌≡◌, ◌∙◌, true, false, Err, None, ap, sym, subst}
+use Rattle.patch_cache.specs.Contents.{Contents}
+use Rattle.patch_cache.specs.Meaning.{IsCacheOf}
+use Rattle.patch_cache.specs.Paging.{why_not_resident}
+use Rattle.patch_cache.specs.Asks.{Refused, ask_of, answer_of}
+use Rattle.patch_cache.specs.Running.{IsServed}
+use Rattle.patch_cache.specs.Waves.{HoldImages}
+use Rattle.patch_cache.specs.Bringing.{IsServedOnImages}
+use Rattle.patch_cache.proofs.Absent.{whole_missed}
+use Rattle.patch_cache.proofs.Brought.{given_up, served_images, served_behind}
 use Rattle.patch_cache.proofs.caches.Cache.answer.Goals as goal
 
-pub returns-in-Create-clause-served : goal.returns-in-Create-clause-served
-returns-in-Create-clause-served g c run on =
-    let i = c.in-Create in
-    let device = c.args.device.now in
-    let ask = Create i.block i.start c.as_slice.result.now c.as_slice-in-Create.result.now i.undo in
-    let answer = answer_of c.answer_create.result in
-    let same : ask_of c.args.ask.now ≡ ask = rw (c.as_slice.ensures, c.as_slice-in-Create.ensures) (ap ask_of i.is) in
-    let done = c.answer_create.ensures.answer run on.runs.cache_is in
-    subst (λ a. IsServed g.D.Device run a answer c.answer_create.new.self c.args.flights.now device device) (sym same)
-    (served_aside c.disks_stay.ensures g.D.Device run ask answer c.answer_create.new.self c.args.flights.now device refl on.runs.cache_is.legal c.answer_create.ensures.no_fault (record {
-      right = done.right;
-      runs = record {
-        cache_is = done.cache_is;
-        flights_are = create_held c.steps_extend.ensures.state c.flights_are_ready.ensures.made c.images_stay.ensures run i.block i.start c.as_slice.result.now c.as_slice-in-Create.result.now
-            i.undo answer _ on.runs.flights_are;
-      };
+pub returns-in_default-clause-served : goal.returns-in_default-clause-served
+returns-in_default-clause-served g c = λ run on. c.answer_resident.ensures.served true run on
+
+pub returns-in_default-clause-paged : goal.returns-in_default-clause-paged
+returns-in_default-clause-paged g c = λ run on.
+    served_images c.steps_extend.ensures.state c.images_stay.ensures g.D.Device run (ask_of c.args.ask.now) (answer_of c.answer_resident.result) c.answer_resident.new.self c.answer_resident.new.flights
+    c.args.device.now c.answer_resident.new.device on.honest on.images (c.answer_resident.ensures.served false run on.on)
+
+-- a cache that has all its blocks stays as it is, and so does the device
+pub returns-in-Ok-clause-served : goal.returns-in-Ok-clause-served
+returns-in-Ok-clause-served g c = λ run on.
+    let none : why_not_resident c.args.self.now c.in-Some.block ≡ None = whole_missed c.args.self.now run c.in-Some.block on.runs.cache_is in
+    let one = c.answer_resident-in-Ok in
+    let same : c.bring.new.device ≡ c.args.device.now = c.in-Ok.ensures.unread none in
+    subst (λ d. IsServed g.D.Device run (ask_of c.args.ask.now) (answer_of one.result) one.new.self one.new.flights d one.new.device) same
+    (one.ensures.served true run (record {
+      runs = record { cache_is = subst (λ (v : Contents). IsCacheOf v run) (sym (c.in-Ok.ensures.still none)) on.runs.cache_is; flights_are = on.runs.flights_are };
+      blocks = ap (g.D.Device.block_count) same ∙ on.blocks;
     }))
 
-pub returns-in-Merge-clause-served : goal.returns-in-Merge-clause-served
-returns-in-Merge-clause-served g c run on =
-    let i = c.in-Merge in
-    let device = c.args.device.now in
-    let answer = answer_of c.answer_merge.result in
-    let same : ask_of c.args.ask.now ≡ Merge i.a i.b = ap ask_of i.is in
-    let done = c.answer_merge.ensures.answer run on.runs.cache_is in
-    subst (λ a. IsServed g.D.Device run a answer c.answer_merge.new.self c.args.flights.now device device) (sym same)
-    (served_aside c.disks_stay.ensures g.D.Device run (Merge i.a i.b) answer c.answer_merge.new.self c.args.flights.now device refl on.runs.cache_is.legal c.answer_merge.ensures.no_fault (record {
-      right = done.right;
-      runs = record {
-        cache_is = done.cache_is;
-        flights_are = merge_held c.steps_extend.ensures.state c.flights_are_ready.ensures.merged c.images_stay.ensures run i.a i.b answer _ on.runs.flights_are;
-      };
-    }))
+pub returns-in-Ok-clause-of_completion : goal.returns-in-Ok-clause-of_completion
+returns-in-Ok-clause-of_completion g c = λ run runs fault.
+    let none : why_not_resident c.args.self.now c.in-Some.block ≡ None = whole_missed c.args.self.now run c.in-Some.block runs.cache_is in
+    c.answer_resident-in-Ok.ensures.of_completion true run
+    (record { cache_is = subst (λ (v : Contents). IsCacheOf v run) (sym (c.in-Ok.ensures.still none)) runs.cache_is; flights_are = runs.flights_are }) fault
 
-pub returns-in-Send-clause-served : goal.returns-in-Send-clause-served
-returns-in-Send-clause-served g c run on =
-    let i = c.in-Send in
-    let device = c.args.device.now in
-    let answer = answer_of c.answer_send.result in
-    let same : ask_of c.args.ask.now ≡ Send i.block = ap ask_of i.is in
-    subst (λ a. IsServed g.D.Device run a answer c.answer_send.new.self c.answer_send.new.flights device device) (sym same)
-    (served_aside c.disks_stay.ensures g.D.Device run (Send i.block) answer c.answer_send.new.self c.answer_send.new.flights device refl on.runs.cache_is.legal c.answer_send.ensures.no_fault
-    (c.answer_send.ensures.answer run on.runs))
+pub returns-in-Ok-clause-paged : goal.returns-in-Ok-clause-paged
+returns-in-Ok-clause-paged g c = λ run on.
+    let device = g.D.Device in
+    let old = c.args.device.now in
+    let mid = c.bring.new.device in
+    let one = c.answer_resident-in-Ok in
+    let brought = c.in-Ok.ensures in
+    let honest = brought.device.honesty.0 on.honest in
+    let images = subst (λ contents. HoldImages run contents) (sym (brought.same on.honest)) on.images in
+    served_behind device run (ask_of c.args.ask.now) (answer_of one.result) one.new.self one.new.flights old mid one.new.device (g.met.D.Device.faults_fit one.new.device) brought.device brought.same brought.no_moment
+    (served_images c.steps_extend.ensures.state c.images_stay.ensures device run (ask_of c.args.ask.now) (answer_of one.result) one.new.self one.new.flights mid one.new.device honest images
+    (one.ensures.served false run (record {
+      runs = record { cache_is = brought.paged run on.on.runs.cache_is on.honest on.images; flights_are = on.on.runs.flights_are };
+      blocks = brought.device.count ∙ on.on.blocks;
+    })))
 
-pub returns-in-View-clause-served : goal.returns-in-View-clause-served
-returns-in-View-clause-served g c run on =
-    let i = c.in-View in
-    let device = c.args.device.now in
-    let moves = c.as_slice-in-View.result.now in
-    let ask = View i.block moves i.start i.len in
-    let answer = answer_of c.look.result in
-    let same : ask_of c.args.ask.now ≡ ask = rw c.as_slice-in-View.ensures (ap ask_of i.is) in
-    let right = c.look.ensures.answer run on.runs.cache_is in
-    subst (λ a. IsServed g.D.Device run a answer c.look.new.self c.args.flights.now device device) (sym same)
-    (served_aside c.disks_stay.ensures g.D.Device run ask answer c.look.new.self c.args.flights.now device refl on.runs.cache_is.legal
-    (view_faultless run i.block moves i.start i.len answer right) (record {
-      right = right;
-      runs = view_kept (λ r. Runs c.look.new.self c.args.flights.now r) run i.block moves i.start i.len answer (record { cache_is = c.look.ensures.restored run on.runs.cache_is; flights_are = on.runs.flights_are });
-    }))
-
-pub returns-in-View-clause-of_completion : goal.returns-in-View-clause-of_completion
-returns-in-View-clause-of_completion g c run r fault =
-    let i = c.in-View in
-    absurd (view_faultless run i.block c.as_slice-in-View.result.now i.start i.len (answer_of c.look.result) (c.look.ensures.answer run r.cache_is) fault)
-
-pub returns-in-Create-clause-of_completion : goal.returns-in-Create-clause-of_completion
-returns-in-Create-clause-of_completion g c = λ run runs fault. absurd (c.answer_create.ensures.no_fault fault)
-
-pub returns-in-Create-clause-device : goal.returns-in-Create-clause-device
-returns-in-Create-clause-device g c = same_still g.D.Device c.args.device.now
-
-pub returns-in-Merge-clause-of_completion : goal.returns-in-Merge-clause-of_completion
-returns-in-Merge-clause-of_completion g c = λ run runs fault. absurd (c.answer_merge.ensures.no_fault fault)
-
-pub returns-in-Merge-clause-device : goal.returns-in-Merge-clause-device
-returns-in-Merge-clause-device g c = same_still g.D.Device c.args.device.now
-
-pub returns-in-Send-clause-of_completion : goal.returns-in-Send-clause-of_completion
-returns-in-Send-clause-of_completion g c = λ run runs fault. absurd (c.answer_send.ensures.no_fault fault)
-
-pub returns-in-Send-clause-device : goal.returns-in-Send-clause-device
-returns-in-Send-clause-device g c = same_still g.D.Device c.args.device.now
-
-pub returns-in-View-clause-device : goal.returns-in-View-clause-device
-returns-in-View-clause-device g c = same_still g.D.Device c.args.device.now
-
-pub returns-in-Complete-clause-device : goal.returns-in-Complete-clause-device
-returns-in-Complete-clause-device g c = c.answer_complete.ensures.device
-
-pub returns-in-Complete-clause-of_completion : goal.returns-in-Complete-clause-of_completion
-returns-in-Complete-clause-of_completion g c = λ run runs fault. ap (λ a. is_complete (ask_of a)) c.in-Complete.is
-
-pub returns-in-Complete-clause-served : goal.returns-in-Complete-clause-served
-returns-in-Complete-clause-served g c run on =
-    let answer = answer_of c.answer_complete.result in
-    subst (λ a. IsServed g.D.Device run a answer c.answer_complete.new.self c.answer_complete.new.flights c.args.device.now c.answer_complete.new.device) (sym (ap ask_of c.in-Complete.is))
-    (c.answer_complete.ensures.served run on)
+pub returns-in-Err-clause-paged : goal.returns-in-Err-clause-paged
+returns-in-Err-clause-paged g c = λ run on.
+    let brought = c.in-Err.ensures in
+    let named = sym c.block.ensures ∙ c.in-Some.is in
+    subst (λ (v : Contents). IsServedOnImages g.D.Device run (ask_of c.args.ask.now) (Refused c.refusal.result) v c.args.flights.now c.args.device.now c.bring.new.device) (sym brought.refused)
+    (subst (λ cause. IsServedOnImages g.D.Device run (ask_of c.args.ask.now) (Refused cause) c.args.self.now c.args.flights.now c.args.device.now c.bring.new.device) (sym c.refusal.ensures)
+    (given_up g.D.Device run (ask_of c.args.ask.now) c.in-Some.block c.in-Err.refusal c.args.self.now c.args.flights.now c.args.device.now c.bring.new.device on named
+    (brought.missing run on.on.runs.cache_is) brought.device (λ is. brought.fault (ap (λ r. Err r) is)) (brought.same on.honest) brought.no_moment))

@@ -1,9 +1,11 @@
 use Rattle.std.proofs.Common.{◌≡◌, ◌<◌, ◌++◌, ◌∷◌, [], length, ap, inr, slice_set}
+use Rattle.std.specs.Prelude.{Contains}
 use Rattle.patch_model.specs.Execution.{extended}
-use Rattle.patch_model.specs.State.{entries_of, flying_of, numbers_of}
+use Rattle.patch_model.specs.State.{entries_of, state_of, flying_of, numbers_of}
 use Rattle.patch_model.specs.Step as the
-use Rattle.patch_cache.specs.Meaning.{IsCacheOf}
-use Rattle.patch_cache.specs.Flights.{AreFlightsOf}
+use Rattle.patch_cache.specs.Meaning.{IsCacheBy}
+use Rattle.patch_cache.specs.Flights.{AreFlightsOf, IsEndedBy}
+use Rattle.patch_cache.proofs.Absent.{by_whole}
 use Rattle.patch_device.specs.Device.{HasRisen, IsOldOrNew}
 use Rattle.patch_cache.proofs.caches.Cache.answer_complete.Goals as goal
 use Rattle.std.proofs.Common.{inl, refl, sym, subst, ◌∙◌}
@@ -18,8 +20,8 @@ use Rattle.patch_cache.proofs.HeldFlights.{held_complete, none_stands, stands_at
 
 -- the block has no flight
 pub returns-in_default-clause-served : goal.returns-in_default-clause-served
-returns-in_default-clause-served g c = λ run on. record {
-  answered = none_answered run c.args.block c.bare.result c.args.self.now c.args.flights.now c.bare.ensures on.runs
+returns-in_default-clause-served g c = λ whole run on. record {
+  answered = none_answered whole run c.args.block c.bare.result c.args.self.now c.args.flights.now c.bare.ensures on.runs
       (none_stands run c.args.flights.now.held.items c.args.block on.runs.flights_are (sym c.place_of.ensures ∙ c.in_default.is));
   fault = λ is. absurd (stranger_faultless c.bare.result c.bare.ensures is);
   written = λ honest. inl refl;
@@ -28,7 +30,7 @@ returns-in_default-clause-served g c = λ run on. record {
 
 -- the device refused the write
 pub returns-then-is_err-clause-served : goal.returns-then-is_err-clause-served
-returns-then-is_err-clause-served g c = λ run on.
+returns-then-is_err-clause-served g c = λ whole run on.
     let s =
     found c.flights_are_single.ensures.holds c.patches_are_placed.ensures.known run c.args.flights.now.held.items c.args.block c.in-Some.at c.index.result.now on.runs.cache_is.legal
     on.runs.flights_are (sym c.place_of.ensures ∙ c.in-Some.is) c.index.ensures in
@@ -41,7 +43,7 @@ returns-then-is_err-clause-served g c = λ run on.
     let either = λ (honest : device.is_honest old).
     on_err c.write_image.result (IsOldOrNew (device.contents old) flight.block flight.image (device.contents new)) failed (told.refused honest) in
     let fault : IsFault (Refused c.bare-then-is_err.result) = inl (ap Refused c.bare-then-is_err.ensures) in record {
-      answered = fault_answered run c.args.block c.bare-then-is_err.result c.args.self.now c.args.flights.now fault on.runs s.block_flies;
+      answered = fault_answered whole run c.args.block c.bare-then-is_err.result c.args.self.now c.args.flights.now fault on.runs s.block_flies;
       fault = λ is.
           on_err c.write_image.result (HasRisen (device.fault_count old) (device.fault_count new)) failed
           (told.cause (subst (λ n. flight.block < n) (sym on.blocks) s.known));
@@ -52,7 +54,7 @@ returns-then-is_err-clause-served g c = λ run on.
 
 -- the device refused the sync
 pub returns-then-is_err-2-clause-served : goal.returns-then-is_err-2-clause-served
-returns-then-is_err-2-clause-served g c = λ run on.
+returns-then-is_err-2-clause-served g c = λ whole run on.
     let s =
     found c.flights_are_single.ensures.holds c.patches_are_placed.ensures.known run c.args.flights.now.held.items c.args.block c.in-Some.at c.index.result.now on.runs.cache_is.legal
     on.runs.flights_are (sym c.place_of.ensures ∙ c.in-Some.is) c.index.ensures in
@@ -66,7 +68,7 @@ returns-then-is_err-2-clause-served g c = λ run on.
     let passed = sym c.is_err.ensures.value ∙ c.if-is_err.false in
     let failed = sym c.is_err-2.ensures.value ∙ c.if-is_err-2.true in
     let fault : IsFault (Refused c.bare-then-is_err-2.result) = inr (ap Refused c.bare-then-is_err-2.ensures) in record {
-      answered = fault_answered run c.args.block c.bare-then-is_err-2.result c.args.self.now c.args.flights.now fault on.runs s.block_flies;
+      answered = fault_answered whole run c.args.block c.bare-then-is_err-2.result c.args.self.now c.args.flights.now fault on.runs s.block_flies;
       fault = λ is.
           risen_once_later (device.fault_count old) (device.fault_count mid) (device.fault_count new) told.device.faults (g.met.D.Device.faults_fit new)
           (on_err c.sync.result (HasRisen (device.fault_count mid) (device.fault_count new)) failed synced_so.fault);
@@ -80,7 +82,7 @@ returns-then-is_err-2-clause-served g c = λ run on.
 
 -- the write is completed
 pub returns-in-Ok-clause-served : goal.returns-in-Ok-clause-served
-returns-in-Ok-clause-served g c = λ run on.
+returns-in-Ok-clause-served g c = λ whole run on.
     let s =
     found c.flights_are_single.ensures.holds c.patches_are_placed.ensures.known run c.args.flights.now.held.items c.args.block c.in-Some.at c.index.result.now on.runs.cache_is.legal
     on.runs.flights_are (sym c.place_of.ensures ∙ c.in-Some.is) c.index.ensures in
@@ -102,12 +104,12 @@ returns-in-Ok-clause-served g c = λ run on.
           let t =
           found c.flights_are_single.ensures.holds c.patches_are_placed.ensures.known run c.args.flights.now.held.items block c.in-Some.at taken on.runs.cache_is.legal
           on.runs.flights_are (sym c.place_of.ensures ∙ c.in-Some.is) c.swap_remove.ensures.value in
-          let done = c.in-Ok.ensures.done run on.runs.cache_is in
+          let done = by_whole whole (λ w. IsCacheBy w c.args.self.now run → IsEndedBy w run c.landed-landed.result c.in-Ok.done c.complete.new.self) (c.in-Ok.ensures.done run) (c.in-Ok.ensures.done_paged run) on.runs.cache_is in
           let same : c.landed-landed.result.block ≡ block = c.landed-landed.ensures.block ∙ t.block_is in
-          landed_answered run block c.in-Ok.done.block c.in-Ok.done.numbers c.complete.new.self (record { held = c.swap_remove.new.self }) t.block_flies (done.1 ∙ same)
+          landed_answered whole run block c.in-Ok.done.block c.in-Ok.done.numbers c.complete.new.self (record { held = c.swap_remove.new.self }) t.block_flies (done.1 ∙ same)
           (subst (λ b. c.in-Ok.done.numbers ≡ numbers_of (flying_of (entries_of run) b)) same done.2)
           (record {
-            cache_is = subst (λ b. IsCacheOf c.complete.new.self (extended run (the.Complete b))) same done.3;
+            cache_is = subst (λ b. IsCacheBy whole c.complete.new.self (extended run (the.Complete b))) same done.3;
             flights_are = subst (AreFlightsOf (extended run (the.Complete block))) (sym c.swap_remove.ensures.items)
                 (held_complete c.steps_extend.ensures.state c.images_stay.ensures c.flights_are_ready.ensures.landed_elsewhere run block c.args.flights.now.held.items c.in-Some.at taken taken t.stands t.block_is
                 on.runs.flights_are);
@@ -129,12 +131,12 @@ returns-in-Ok-clause-served g c = λ run on.
 
 -- the flight is the cache's, and can't be a stranger
 pub returns-in-Err-clause-served : goal.returns-in-Err-clause-served
-returns-in-Err-clause-served g c = λ run on.
+returns-in-Err-clause-served g c = λ whole run on.
     let s =
     found c.flights_are_single.ensures.holds c.patches_are_placed.ensures.known run c.args.flights.now.held.items c.args.block c.in-Some.at c.swap_remove.result on.runs.cache_is.legal
     on.runs.flights_are (sym c.place_of.ensures ∙ c.in-Some.is) c.swap_remove.ensures.value in
     absurd (no_stranger run c.args.flights.now.held.items c.args.block c.in-Some.at c.landed-landed.result.block c.landed-landed.result.sequence c.swap_remove.result s c.landed-landed.ensures.block
-    c.landed-landed.ensures.sequence (c.in-Err.ensures.stranger run on.runs.cache_is))
+    c.landed-landed.ensures.sequence (by_whole whole (λ w. IsCacheBy w c.args.self.now run → Contains (state_of run).flights (c.landed-landed.result.block, c.landed-landed.result.sequence) → ⊥) (c.in-Err.ensures.stranger run) (c.in-Err.ensures.stranger_paged run) on.runs.cache_is))
 
 pub returns-in-Ok-clause-trace : goal.returns-in-Ok-clause-trace
 returns-in-Ok-clause-trace g c =

@@ -1,4 +1,4 @@
-use Rattle.std.proofs.Common.{◌≡◌, ◌∙◌, ℕ, List, true, [], None, Ok, Err, length, inl, inr, ◌⊎◌, sym, ap, refl}
+use Rattle.std.proofs.Common.{◌≡◌, ◌∙◌, ℕ, List, [], None, Ok, Err, length, inl, inr, ◌⊎◌, sym, ap, refl}
 use Rattle.patch_model.specs.Execution.{Execution}
 use Rattle.patch_model.specs.History.{history_of, without, cached}
 use Rattle.patch_model.specs.Refusing.{why_not_shown}
@@ -7,7 +7,7 @@ use Rattle.patch_cache.specs.Asks.{Refused, Seen, View, IsAnswer, IsGivenUp, unl
 use Rattle.patch_cache.specs.Looking.{HasLooked}
 use Rattle.patch_cache.specs.Viewing.{with_moves, bytes_at}
 use Rattle.patch_cache.specs.declared.asks.Move.{Move}
-use Rattle.patch_cache.proofs.Absent.{whole_alone}
+use Rattle.patch_cache.proofs.Absent.{unmissed}
 use Rattle.patch_cache.proofs.Showing.{none_yet, its_own_view}
 use Rattle.patch_cache.specs.Contents.{Contents}
 use Rattle.patch_cache.proofs.caches.Cache.look.Goals as goal
@@ -20,46 +20,46 @@ shown run block moves start len names rest all none moved is_rest is_all =
     ∙ sym (ap (λ w. unless w (seen run block start len (with_moves run block [] moves))) none ∙ ap (seen run block start len) moved)
 
 pub returns-in-Err-clause-restored : goal.returns-in-Err-clause-restored
-returns-in-Err-clause-restored g c = λ run at.
-    let stands = c.without-without.ensures.stands run at in c.restore_of.ensures.answer true run stands.0 stands.1
+returns-in-Err-clause-restored g c = λ whole run at.
+    let stands = c.without-without.ensures.stands whole run at in c.restore_of.ensures.answer whole run stands.0 stands.1
 
 pub returns-in-Ok-copied-clause-answer : goal.returns-in-Ok-copied-clause-answer
-returns-in-Ok-copied-clause-answer g c = λ run at.
-    let stands = c.without-without.ensures.stands run at in
-    let back = c.restore_of.ensures.answer true run stands.0 stands.1 in
-    let moved = c.in-Ok.ensures.answer run at in
-    let cause = c.in_default.ensures.cause true run at ∙ whole_alone c.args.self.now run c.args.block _ at in
+returns-in-Ok-copied-clause-answer g c = λ whole run at.
+    let stands = c.without-without.ensures.stands whole run at in
+    let back = c.restore_of.ensures.answer whole run stands.0 stands.1 in
+    let moved = c.in-Ok.ensures.answer whole run at in
+    let cause = c.in_default.ensures.cause whole run at ∙ unmissed c.args.self.now c.args.block _ c.requires in
     inl (shown run c.args.block c.args.moves.now c.args.start c.args.len moved.0 _ _ (sym cause) moved.1 moved.2
-    (c.in-Ok-copied.ensures.bytes run [] (none_yet true c.restore_of.new.self c.args.block run back)))
+    (c.in-Ok-copied.ensures.bytes whole run [] (none_yet whole c.restore_of.new.self c.args.block run back)))
 
 pub returns-in-Ok-copied-clause-restored : goal.returns-in-Ok-copied-clause-restored
-returns-in-Ok-copied-clause-restored g c = λ run at.
-    let stands = c.without-without.ensures.stands run at in c.restore_of.ensures.answer true run stands.0 stands.1
+returns-in-Ok-copied-clause-restored g c = λ whole run at.
+    let stands = c.without-without.ensures.stands whole run at in c.restore_of.ensures.answer whole run stands.0 stands.1
 
 pub returns-in-Err-copied-clause-restored : goal.returns-in-Err-copied-clause-restored
-returns-in-Err-copied-clause-restored g c = λ run at.
-    let stands = c.without-without.ensures.stands run at in c.restore_of.ensures.answer true run stands.0 stands.1
+returns-in-Err-copied-clause-restored g c = λ whole run at.
+    let stands = c.without-without.ensures.stands whole run at in c.restore_of.ensures.answer whole run stands.0 stands.1
 
 pub returns-in-Err-clause-same : goal.returns-in-Err-clause-same
-returns-in-Err-clause-same g c = λ run at.
-    let stands = c.without-without.ensures.stands run at in
-    c.restore_of.ensures.as_before true run stands.0 c.args.self.now stands.1 at (c.without-without.ensures.view c.args.self.now (its_own_view c.args.self.now c.args.block (c.in_default.ensures.resident refl)))
+returns-in-Err-clause-same g c = λ whole run at.
+    let stands = c.without-without.ensures.stands whole run at in
+    c.restore_of.ensures.as_before whole run stands.0 c.args.self.now stands.1 at (c.without-without.ensures.view c.args.self.now (its_own_view c.args.self.now c.args.block (c.in_default.ensures.resident refl)))
 
 pub returns-in-Ok-copied-clause-same : goal.returns-in-Ok-copied-clause-same
-returns-in-Ok-copied-clause-same g c = λ run at.
-    let stands = c.without-without.ensures.stands run at in
-    c.restore_of.ensures.as_before true run stands.0 c.args.self.now stands.1 at (c.without-without.ensures.view c.args.self.now (its_own_view c.args.self.now c.args.block (c.in_default.ensures.resident refl)))
+returns-in-Ok-copied-clause-same g c = λ whole run at.
+    let stands = c.without-without.ensures.stands whole run at in
+    c.restore_of.ensures.as_before whole run stands.0 c.args.self.now stands.1 at (c.without-without.ensures.view c.args.self.now (its_own_view c.args.self.now c.args.block (c.in_default.ensures.resident refl)))
 
 pub returns-in-Err-copied-clause-same : goal.returns-in-Err-copied-clause-same
-returns-in-Err-copied-clause-same g c = λ run at.
-    let stands = c.without-without.ensures.stands run at in
-    c.restore_of.ensures.as_before true run stands.0 c.args.self.now stands.1 at (c.without-without.ensures.view c.args.self.now (its_own_view c.args.self.now c.args.block (c.in_default.ensures.resident refl)))
+returns-in-Err-copied-clause-same g c = λ whole run at.
+    let stands = c.without-without.ensures.stands whole run at in
+    c.restore_of.ensures.as_before whole run stands.0 c.args.self.now stands.1 at (c.without-without.ensures.view c.args.self.now (its_own_view c.args.self.now c.args.block (c.in_default.ensures.resident refl)))
 
 pub returns-in-Some-clause-restored : goal.returns-in-Some-clause-restored
-returns-in-Some-clause-restored g c = λ run at. at
+returns-in-Some-clause-restored g c = λ whole run at. at
 
 pub returns-in-Some-clause-same : goal.returns-in-Some-clause-same
-returns-in-Some-clause-same g c = λ run at. refl
+returns-in-Some-clause-same g c = λ whole run at. refl
 
 pub returns-in-Some-clause-trace : goal.returns-in-Some-clause-trace
 returns-in-Some-clause-trace g c = refl
@@ -74,9 +74,9 @@ pub returns-in-Err-copied-clause-trace : goal.returns-in-Err-copied-clause-trace
 returns-in-Err-copied-clause-trace g c = ap (λ (v : Contents). v.trace) c.restore_of.ensures.others ∙ c.without-without.ensures.trace
 
 pub returns-in-Some-clause-answer : goal.returns-in-Some-clause-answer
-returns-in-Some-clause-answer g c = λ run at.
+returns-in-Some-clause-answer g c = λ whole run at.
     let a = c.args in
-    let told = c.in-Some.ensures.cause true run at ∙ whole_alone a.self.now run a.block _ at in
+    let told = c.in-Some.ensures.cause whole run at ∙ unmissed a.self.now a.block _ c.requires in
     inl (ap Refused c.refusal.ensures ∙ ap (λ why. unless why (seen run a.block a.start a.len (with_moves run a.block [] a.moves.now))) told)
 
 -- a look that is refused behind the span's test
@@ -92,6 +92,18 @@ turned_down run block moves start len refusal none (inr (names, moved, why)) = i
 })
 
 pub returns-in-Err-clause-answer : goal.returns-in-Err-clause-answer
-returns-in-Err-clause-answer g c = λ run at.
-    let told = c.in_default.ensures.cause true run at ∙ whole_alone c.args.self.now run c.args.block _ at in
-    turned_down run c.args.block c.args.moves.now c.args.start c.args.len c.in-Err.refusal (sym told) (c.in-Err.ensures.answer run at)
+returns-in-Err-clause-answer g c = λ whole run at.
+    let told = c.in_default.ensures.cause whole run at ∙ unmissed c.args.self.now c.args.block _ c.requires in
+    turned_down run c.args.block c.args.moves.now c.args.start c.args.len c.in-Err.refusal (sym told) (c.in-Err.ensures.answer whole run at)
+
+pub returns-in-Err-copied-clause-answer : goal.returns-in-Err-copied-clause-answer
+returns-in-Err-copied-clause-answer g c = λ whole run at.
+    let a = c.args in
+    let moved = c.in-Ok.ensures.answer whole run at in
+    let cause = c.in_default.ensures.cause whole run at ∙ unmissed a.self.now a.block _ c.requires in
+    inr (record {
+      done = Seen (bytes_at (without (history_of run a.block) moved.0) a.start a.len) (bytes_at (cached (history_of run a.block)) a.start a.len);
+      right = shown run a.block a.moves.now a.start a.len moved.0 _ _ (sym cause) moved.1 refl refl;
+      not_refused = refl;
+      gives_up = inl (ap Refused c.in-Err-copied.ensures.refusal, refl);
+    })

@@ -1,12 +1,13 @@
-use Rattle.std.proofs.Common.{◌≡◌, ◌∙◌, ◌<◌, ◌++◌, ◌∷◌, [], length, map, get_or, append_assoc, ◌+◌, refl, sym, ap, subst, arith}
+use Rattle.std.proofs.Common.{◌≡◌, ◌∙◌, true, ◌<◌, ◌++◌, ◌∷◌, [], length, map, get_or, append_assoc, ◌+◌, refl, sym, ap, subst, arith}
 use Rattle.std.proofs.lemmas.List.{length-append, length-map, map-append, append-nil}
 use Rattle.patch_model.specs.Execution.{Execution}
 use Rattle.patch_device.specs.SameDevice.{same_still, same_both}
 use Rattle.patch_cache.specs.Asks.{ask_of, answer_of, after_all, step_added, steps_added}
 use Rattle.patch_cache.specs.Running.{HasRun, RunsOn, CountsFaults, CountFaults, IsCrashSafe, HaveWritten}
+use Rattle.patch_cache.specs.Bringing.{HasRunOnImages}
 use Rattle.patch_cache.proofs.Asking.{after_none, all_first, one_more_counted}
 use Rattle.patch_cache.proofs.Crashing.{unmoved, joined_ask}
-use Rattle.patch_cache.proofs.Runs.{begun, stepped, stepped_added, stepped_written}
+use Rattle.patch_cache.proofs.Runs.{begun, none_answered, stepped, stepped_added, stepped_written, stepped_on_images}
 use Rattle.patch_cache.proofs.caches.Cache.run.Goals as goal
 
 pub loop-ask-init : goal.loop-ask-init
@@ -17,7 +18,10 @@ loop-ask-init g c =
     record {
       many = ap length none;
       device = same_still device c.args.device.now;
-      so_far = λ run on. rw none (begun run asks _ _ on.runs);
+      so_far = λ run on. rw none (begun true run asks _ _ on.runs);
+      paged = λ run on.
+          subst (λ xs. HasRunOnImages device run asks (map answer_of xs) c.args.self.now c.args.flights.now c.args.device.now c.args.device.now) (sym none)
+          (none_answered device run asks c.args.self.now c.args.flights.now c.args.device.now on);
       fault = λ run on. rw none refl;
       trace = rw none (sym (append-nil c.args.self.now.trace ∙ refl));
       written = λ run on honest. rw none refl;
@@ -49,7 +53,19 @@ loop-ask-preserved g c =
       many = ap length pushed ∙ length-append answers (answer ∷ []) ∙ ap (λ n. n + 1) at;
       device = same_both device old now next before.device told.device;
       so_far = λ run on.
-          rw pushed (stepped run asks answers c.ask-item.result answer _ _ _ _ within item (before.so_far run on) (served run on).answered).0;
+          rw pushed (stepped true run asks answers c.ask-item.result answer _ _ _ _ within item (before.so_far run on) (served run on).answered).0;
+      paged = λ run on.
+          let so_far_paged = before.paged run on in
+          let served_paged = told.paged (so_far run) (record {
+            on = record {
+              runs = so_far_paged.ran.runs;
+              blocks = before.device.count ∙ on.on.blocks ∙ ap length (sym (all_first run (map ask_of asks) (map answer_of answers)));
+            };
+            honest = before.device.honesty.0 on.honest;
+            images = so_far_paged.images;
+          }) in
+          subst (λ xs. HasRunOnImages device run (map ask_of asks) (map answer_of xs) c.answer-answer.new.self c.answer-answer.new.flights old next) (sym pushed)
+          (stepped_on_images device run asks answers c.ask-item.result answer _ _ _ _ old now next within item before.device told.device so_far_paged served_paged);
       fault = λ run on.
           let one : CountsFaults (answer_of answer) (device.fault_count now) (device.fault_count next) = record { kept = told.device.faults; met = (served run on).fault } in
           subst (λ all. CountFaults all (device.fault_count old) (device.fault_count next)) (sym (ap (map answer_of) pushed ∙ map-append answer_of answers (answer ∷ [])))
@@ -63,7 +79,7 @@ loop-ask-preserved g c =
           rw pushed (stepped_written run asks answers c.ask-item.result answer _ _ _ within item (before.written run on honest)
           ((served run on).written (before.device.honesty.0 honest)));
       crash = λ run on honest left.
-          let goes = (stepped run asks answers c.ask-item.result answer _ _ _ _ within item (before.so_far run on) (served run on).answered).1 in
+          let goes = (stepped true run asks answers c.ask-item.result answer _ _ _ _ within item (before.so_far run on) (served run on).answered).1 in
           let safe = before.crash run on honest left in
           let one = (served run on).crash (before.device.honesty.0 honest) safe.left in
           rw pushed (subst (λ last. IsCrashSafe device run last old next) (sym goes)
@@ -97,6 +113,11 @@ returns-clause-all g c =
 pub returns-in-Err-clause-answers : goal.returns-in-Err-clause-answers
 returns-in-Err-clause-answers g c run on =
     subst (λ xs. HasRun run (map ask_of c.args.asks.now) (map answer_of xs) c.loop-ask.self c.loop-ask.flights) (sym c.reserve.ensures.items) (c.loop-ask.invariant.so_far run on)
+
+pub returns-in-Err-clause-paged : goal.returns-in-Err-clause-paged
+returns-in-Err-clause-paged g c run on =
+    subst (λ xs. HasRunOnImages g.D.Device run (map ask_of c.args.asks.now) (map answer_of xs) c.loop-ask.self c.loop-ask.flights c.args.device.now c.loop-ask.device) (sym c.reserve.ensures.items)
+    (c.loop-ask.invariant.paged run on)
 
 pub returns-in-Err-clause-taking_back : goal.returns-in-Err-clause-taking_back
 returns-in-Err-clause-taking_back g c = c.promise.ensures.taking_back

@@ -9,7 +9,7 @@ use Rattle.std.specs.Prelude.{is_ok}
 use Rattle.std.proofs.Common.{sym, ap, subst, ◌∙◌}
 use Rattle.patch_model.specs.Step as the
 use Rattle.patch_cache.specs.Contents.{Contents}
-use Rattle.patch_cache.specs.Meaning.{IsCacheOf}
+use Rattle.patch_cache.specs.Meaning.{IsCacheBy}
 use Rattle.patch_cache.specs.Flights.{AreFlightsOf}
 use Rattle.patch_cache.proofs.Answering.{sent_answered}
 use Rattle.patch_graph.specs.Between.{HasNoRing}
@@ -17,20 +17,20 @@ use Rattle.patch_cache.proofs.HeldFlights.{held_send}
 
 -- src/running.rt:124:5
 pub returns-clause-answer : goal.returns-clause-answer
-returns-clause-answer g c = λ run runs why.
+returns-clause-answer g c = λ whole run runs why.
     let block = c.args.block in
     let flight = c.in_ok-flight.flight in
-    let before : IsCacheOf _ run = subst (λ (x : Contents). IsCacheOf x run) (sym c.self.view_is) runs.cache_is in
+    let before : IsCacheBy whole _ run = subst (λ (x : Contents). IsCacheBy whole x run) (sym c.self.view_is) runs.cache_is in
     let ring : HasNoRing (entries_of run) = λ x y apart to back. c.paths_form_no_ring.ensures.back run x y runs.cache_is.legal to back in
     let numbers = c.in_ok-numbers.ensures (entries_of run) before.graph ring in
-    let sent = c.in_ok-flight.ensures.begun true run runs.cache_is (why, numbers) in
+    let sent = c.in_ok-flight.ensures.begun whole run runs.cache_is (why, numbers) in
     let held : c.push_reserved.new.self.items ≡ c.args.flights.now.held.items ++ flight ∷ [] = c.push_reserved.ensures.items ∙ ap (λ xs. xs ++ flight ∷ []) c.reserve.ensures.items in
     let told : c.from_vec.result ≡ c.in_ok-numbers.numbers.items = c.from_vec.ensures ∙ c.in_ok-answered_numbers.ensures.items ∙ c.as_slice.ensures.value in
     let done : is_ok c.extend_from_slice.result ≡ true = ap is_ok c.unwrap.ensures in
     let shown : c.from_vec-2.result ≡ flight.image =
     c.from_vec-2.ensures ∙ (rw done at c.extend_from_slice.ensures.items) ∙ ap (λ xs. xs ++ c.image.result.now) c.in_ok-answered_image.ensures.items ∙ c.image.ensures.bytes in
     let startable = (c.pairs_merge.ensures.sent run block).0 why in
-    sent_answered run block c.from_vec.result c.from_vec-2.result c.begin.new.self (record { held = c.push_reserved.new.self }) why (told ∙ numbers) (shown ∙ sent.0.image_is)
+    sent_answered whole run block c.from_vec.result c.from_vec-2.result c.begin.new.self (record { held = c.push_reserved.new.self }) why (told ∙ numbers) (shown ∙ sent.0.image_is)
     (record {
       cache_is = sent.1;
       flights_are = subst (AreFlightsOf (extended run (the.Send block))) (sym held)
@@ -43,7 +43,7 @@ sent_no_fault block numbers image (inl e) = absurd (cc)
 sent_no_fault block numbers image (inr e) = absurd (cc)
 
 pub returns-in_err-numbers-clause-answer : goal.returns-in_err-numbers-clause-answer
-returns-in_err-numbers-clause-answer g c = λ run runs why. IfOk-from_err c.from_residual.result _ c.from_residual.ensures.0
+returns-in_err-numbers-clause-answer g c = λ whole run runs why. IfOk-from_err c.from_residual.result _ c.from_residual.ensures.0
 
 pub returns-in_err-numbers-clause-trace : goal.returns-in_err-numbers-clause-trace
 returns-in_err-numbers-clause-trace g c = IfOk-from_err c.from_residual.result _ c.from_residual.ensures.0
@@ -58,7 +58,7 @@ pub returns-in_err-numbers-clause-held : goal.returns-in_err-numbers-clause-held
 returns-in_err-numbers-clause-held g c = on_err _ refl
 
 pub returns-in_err-answered_numbers-clause-answer : goal.returns-in_err-answered_numbers-clause-answer
-returns-in_err-answered_numbers-clause-answer g c = λ run runs why. IfOk-from_err c.from_residual-in_err-answered_numbers.result _ c.from_residual-in_err-answered_numbers.ensures.0
+returns-in_err-answered_numbers-clause-answer g c = λ whole run runs why. IfOk-from_err c.from_residual-in_err-answered_numbers.result _ c.from_residual-in_err-answered_numbers.ensures.0
 
 pub returns-in_err-answered_numbers-clause-trace : goal.returns-in_err-answered_numbers-clause-trace
 returns-in_err-answered_numbers-clause-trace g c = IfOk-from_err c.from_residual-in_err-answered_numbers.result _ c.from_residual-in_err-answered_numbers.ensures.0
@@ -73,7 +73,7 @@ pub returns-in_err-answered_numbers-clause-held : goal.returns-in_err-answered_n
 returns-in_err-answered_numbers-clause-held g c = on_err _ refl
 
 pub returns-in_err-answered_image-clause-answer : goal.returns-in_err-answered_image-clause-answer
-returns-in_err-answered_image-clause-answer g c = λ run runs why. IfOk-from_err c.from_residual-in_err-answered_image.result _ c.from_residual-in_err-answered_image.ensures.0
+returns-in_err-answered_image-clause-answer g c = λ whole run runs why. IfOk-from_err c.from_residual-in_err-answered_image.result _ c.from_residual-in_err-answered_image.ensures.0
 
 pub returns-in_err-answered_image-clause-trace : goal.returns-in_err-answered_image-clause-trace
 returns-in_err-answered_image-clause-trace g c = IfOk-from_err c.from_residual-in_err-answered_image.result _ c.from_residual-in_err-answered_image.ensures.0
@@ -88,7 +88,7 @@ pub returns-in_err-answered_image-clause-held : goal.returns-in_err-answered_ima
 returns-in_err-answered_image-clause-held g c = on_err _ refl
 
 pub returns-in_err-reserve-clause-answer : goal.returns-in_err-reserve-clause-answer
-returns-in_err-reserve-clause-answer g c = λ run runs why. IfOk-from_err c.from_residual-in_err-reserve.result _ c.from_residual-in_err-reserve.ensures.0
+returns-in_err-reserve-clause-answer g c = λ whole run runs why. IfOk-from_err c.from_residual-in_err-reserve.result _ c.from_residual-in_err-reserve.ensures.0
 
 pub returns-in_err-reserve-clause-trace : goal.returns-in_err-reserve-clause-trace
 returns-in_err-reserve-clause-trace g c = IfOk-from_err c.from_residual-in_err-reserve.result _ c.from_residual-in_err-reserve.ensures.0
@@ -103,7 +103,7 @@ pub returns-in_err-reserve-clause-held : goal.returns-in_err-reserve-clause-held
 returns-in_err-reserve-clause-held g c = on_err _ c.reserve.ensures.items
 
 pub returns-in_err-flight-clause-answer : goal.returns-in_err-flight-clause-answer
-returns-in_err-flight-clause-answer g c = λ run runs why. IfOk-from_err c.from_residual-in_err-flight.result _ c.from_residual-in_err-flight.ensures.0
+returns-in_err-flight-clause-answer g c = λ whole run runs why. IfOk-from_err c.from_residual-in_err-flight.result _ c.from_residual-in_err-flight.ensures.0
 
 pub returns-in_err-flight-clause-trace : goal.returns-in_err-flight-clause-trace
 returns-in_err-flight-clause-trace g c = IfOk-from_err c.from_residual-in_err-flight.result _ c.from_residual-in_err-flight.ensures.0

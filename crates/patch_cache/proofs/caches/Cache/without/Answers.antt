@@ -1,4 +1,4 @@
-use Rattle.std.proofs.Common.{◌≡◌, ◌∙◌, ℕ, List, true, [], Result, Ok, Err, inl, inr, sym, ap}
+use Rattle.std.proofs.Common.{◌≡◌, ◌∙◌, ℕ, List, [], Result, Ok, Err, inl, inr, sym, ap}
 use Rattle.std.specs.Result.{IfOk, IfErr, IsErrAnd}
 use Rattle.patch_model.specs.declared.refusals.Refusal.{Refusal}
 use Rattle.patch_model.specs.declared.refusals.RefusalKind.TheVariants as kind
@@ -24,18 +24,18 @@ refused run block moves start len (Ok bytes) e is gives = absurd is
 refused run block moves start len (Err f) e is gives = inl (gives ∙ ap Err (sym is))
 
 pub returns-in_err-take_moves-clause-answer : goal.returns-in_err-take_moves-clause-answer
-returns-in_err-take_moves-clause-answer g c = λ run at.
+returns-in_err-take_moves-clause-answer g c = λ whole run at.
     refused run c.args.block c.args.moves.now c.args.start c.args.len c.from_residual.result c.in_err-take_moves.field-0.0 c.from_residual.ensures.1
-    (c.in_err-take_moves.ensures.answer run [] (none_yet true c.args.self.now c.args.block run at)).0
+    (c.in_err-take_moves.ensures.answer whole run [] (none_yet whole c.args.self.now c.args.block run at)).0
 
 pub returns-in_err-take_moves-clause-stands : goal.returns-in_err-take_moves-clause-stands
-returns-in_err-take_moves-clause-stands g c = λ run at. (c.in_err-take_moves.ensures.answer run [] (none_yet true c.args.self.now c.args.block run at)).1
+returns-in_err-take_moves-clause-stands g c = λ whole run at. (c.in_err-take_moves.ensures.answer whole run [] (none_yet whole c.args.self.now c.args.block run at)).1
 
 pub returns-clause-answer : goal.returns-clause-answer
-returns-clause-answer g c = λ run at.
-    let moved = c.in_ok-take_moves.ensures.answer run [] (none_yet true c.args.self.now c.args.block run at) in
-    looked run c.args.block c.args.moves.now c.args.start c.args.len moved.0 c.copied.result moved.1 (c.copied.ensures.bytes run moved.0 moved.2) c.copied.ensures.refusal
+returns-clause-answer g c = λ whole run at.
+    let moved = c.in_ok-take_moves.ensures.answer whole run [] (none_yet whole c.args.self.now c.args.block run at) in
+    looked run c.args.block c.args.moves.now c.args.start c.args.len moved.0 c.copied.result moved.1 (c.copied.ensures.bytes whole run moved.0 moved.2) c.copied.ensures.refusal
 
 pub returns-clause-stands : goal.returns-clause-stands
-returns-clause-stands g c = λ run at.
-    let moved = c.in_ok-take_moves.ensures.answer run [] (none_yet true c.args.self.now c.args.block run at) in (moved.0, moved.2)
+returns-clause-stands g c = λ whole run at.
+    let moved = c.in_ok-take_moves.ensures.answer whole run [] (none_yet whole c.args.self.now c.args.block run at) in (moved.0, moved.2)
