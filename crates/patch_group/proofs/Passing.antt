@@ -1,5 +1,5 @@
 -- What the cache does, one part after another.
-use Rattle.std.proofs.Common.{◌≡◌, ℕ, ◌<◌, ◌≤◌, ◌⊎◌, ◌∙◌, inl, inr, Option, Some, None, List, [], ◌∷◌, ◌++◌, length, map, get_or, refl, sym, ap, subst, arith, append_assoc}
+use Rattle.std.proofs.Common.{◌≡◌, ℕ, Bool, false, ◌<◌, ◌≤◌, ◌⊎◌, ◌∙◌, inl, inr, Option, Some, None, List, [], ◌∷◌, ◌++◌, length, map, get_or, refl, sym, ap, subst, arith, append_assoc}
 use Rattle.std.proofs.lemmas.Bool.{cases_Bool}
 use Rattle.std.proofs.lemmas.List.{map-append, length-map, append-nil}
 use Rattle.patch_model.specs.Step.{Step}
@@ -13,10 +13,11 @@ use Rattle.patch_cache.specs.Asks.{Ask as CacheAsk, Answer as CacheAnswer, after
 use Rattle.patch_cache.specs.Asks as cache
 use Rattle.patch_cache.specs.Joining.{SafeJoin}
 use Rattle.patch_cache.specs.Running.{IsCrashSafe, CountFaults, HaveWritten}
+use Rattle.patch_cache.specs.Waves.{HoldImages}
 use Rattle.patch_cache.specs.declared.flights.Flights.{Flights}
 use Rattle.patch_plans.specs.Groups.{Groups}
-use Rattle.patch_group.specs.Asks.{Ask, Answer, Part, cache_asks, cache_answers, after_parts, steps_of, part_of, parts, run_after, run_after_all, groups_after, groups_after_all, IsGroupAnswer, IsGroupGivenUp, AreGroupAnswers}
-use Rattle.patch_group.specs.Runs.{asks_of, group_ask_of, group_answer_of, RunsWith, HasPassed, IsGroupAnswered, HasGroupRun}
+use Rattle.patch_group.specs.Asks.{Ask, Answer, Part, cache_asks, cache_answers, after_parts, steps_of, part_of, parts, run_after, run_after_all, groups_after, groups_after_all, IsGroupAnswer, IsGroupGivenUpBy, AreGroupAnswersBy}
+use Rattle.patch_group.specs.Runs.{asks_of, group_ask_of, group_answer_of, RunsWithBy, RunsWithImages, HasPassedBy, IsGroupAnsweredBy, IsAnsweredOnImages, HasGroupRunBy, HasGroupRunOnImages}
 use Rattle.patch_group.specs.declared.asks.GroupAsk.{GroupAsk as CodeAsk}
 use Rattle.patch_group.specs.declared.asks.GroupAnswer.{GroupAnswer as CodeAnswer}
 use Rattle.patch_group.proofs.Asking.{after_append}
@@ -70,22 +71,22 @@ written_append run (p ∷ ps) qs old between new first second = (first.0, first.
 
 -- Nothing, and one thing after another.
 
-pub idle : {A D : Type 0} (g : Ghosts D) (run : Execution) (contents : Contents) (flights : Flights A) (groups : Groups) (device : D) → RunsWith g contents flights groups device run
-    → HasPassed g run [] contents flights groups device device
-idle g run contents flights groups device stands = record {
+pub idle : {A D : Type 0} (g : Ghosts D) (whole : Bool) (run : Execution) (contents : Contents) (flights : Flights A) (groups : Groups) (device : D) → RunsWithBy g whole contents flights groups device run
+    → HasPassedBy g whole run [] contents flights groups device device
+idle g whole run contents flights groups device stands = record {
   stands = stands;
   faults = refl;
   written = λ honest. refl;
   crash = λ honest left. unmoved g run device left;
 }
 
-pub both : {A D : Type 0} (g : Ghosts D) → SafeJoin g → (run : Execution) (ps qs : List Part) (contents next : Contents) (flights more : Flights A) (groups now : Groups) (device between after : D)
+pub both : {A D : Type 0} (g : Ghosts D) → SafeJoin g → (whole : Bool) (run : Execution) (ps qs : List Part) (contents next : Contents) (flights more : Flights A) (groups now : Groups) (device between after : D)
     → (g.is_honest device → g.is_honest between)
-    → HasPassed g run ps contents flights groups device between → HasPassed g (after_parts run ps) qs next more now between after → HasPassed g run (ps ++ qs) next more now device after
-both g join run ps qs contents next flights more groups now device between after honesty first second =
+    → HasPassedBy g whole run ps contents flights groups device between → HasPassedBy g whole (after_parts run ps) qs next more now between after → HasPassedBy g whole run (ps ++ qs) next more now device after
+both g join whole run ps qs contents next flights more groups now device between after honesty first second =
     let flat : after_parts run (ps ++ qs) ≡ after_parts (after_parts run ps) qs = after_append run ps qs in
     record {
-      stands = subst (RunsWith g next more now after) (sym flat) second.stands;
+      stands = subst (RunsWithBy g whole next more now after) (sym flat) second.stands;
       faults = faults_append ps qs _ _ _ first.faults second.faults;
       written = λ honest. written_append run ps qs _ _ _ (first.written honest) (second.written (honesty honest));
       crash = λ honest left.
@@ -124,18 +125,18 @@ next gs (a ∷ asks) (b ∷ answers) ask answer within at =
     }
 
 -- the answer is right after those before it
-abbrev IsRightAfter : Execution → Groups → Ask → Answer → Type 0
-IsRightAfter run gs ask answer = IsGroupAnswer run gs ask answer ⊎ IsGroupGivenUp run gs ask answer
+abbrev IsRightAfter : (whole : Bool) → Execution → Groups → Ask → Answer → Type 0
+IsRightAfter whole run gs ask answer = IsGroupAnswer run gs ask answer ⊎ IsGroupGivenUpBy whole run gs ask answer
 
-one_right : (run : Execution) (gs : Groups) (asks : List Ask) (answers : List Answer) (ask : Ask) (answer : Answer) → length answers < length asks → get_or asks (length answers) ask ≡ ask
-    → AreGroupAnswers run gs asks answers → IsRightAfter (run_after_all run gs asks answers) (groups_after_all gs asks answers) ask answer → AreGroupAnswers run gs asks (answers ++ answer ∷ [])
-one_right run gs [] answers ask answer within at so_far right = absurd (omega (arith, within))
-one_right run gs (a ∷ asks) [] ask answer within at so_far right = (subst (λ x. IsRightAfter run gs x answer) (sym at) right, tt)
-one_right run gs (a ∷ asks) (b ∷ answers) ask answer within at so_far right =
+one_right : (whole : Bool) (run : Execution) (gs : Groups) (asks : List Ask) (answers : List Answer) (ask : Ask) (answer : Answer) → length answers < length asks → get_or asks (length answers) ask ≡ ask
+    → AreGroupAnswersBy whole run gs asks answers → IsRightAfter whole (run_after_all run gs asks answers) (groups_after_all gs asks answers) ask answer → AreGroupAnswersBy whole run gs asks (answers ++ answer ∷ [])
+one_right whole run gs [] answers ask answer within at so_far right = absurd (omega (arith, within))
+one_right whole run gs (a ∷ asks) [] ask answer within at so_far right = (subst (λ x. IsRightAfter whole run gs x answer) (sym at) right, tt)
+one_right whole run gs (a ∷ asks) (b ∷ answers) ask answer within at so_far right =
     let now = groups_after gs a b in (
       so_far.0,
-      one_right (run_after run gs a b) now asks answers ask answer (omega (arith, within)) at so_far.1
-          (subst (λ r. IsRightAfter r (groups_after_all now asks answers) ask answer) (after_append run (part_of gs a b) (parts now asks answers)) right),
+      one_right whole (run_after run gs a b) now asks answers ask answer (omega (arith, within)) at so_far.1
+          (subst (λ r. IsRightAfter whole r (groups_after_all now asks answers) ask answer) (after_append run (part_of gs a b) (parts now asks answers)) right),
     )
 
 there : {A : Type 0} (asks : List (CodeAsk A)) (answers : List (CodeAnswer A)) (ask : CodeAsk A) → length answers < length asks → get_or asks (length answers) ask ≡ ask
@@ -151,20 +152,20 @@ next_code gs asks answers ask answer within at =
     let many : length (asks_of asks) ≡ length asks = length-map asks group_ask_of in
     next gs (asks_of asks) (map group_answer_of answers) (group_ask_of ask) (group_answer_of answer) (omega (arith, within, long, many)) (there asks answers ask within at)
 
-pub begun_run : {A D : Type 0} (g : Ghosts D) (run : Execution) (gs : Groups) (asks : List Ask) (contents : Contents) (flights : Flights A) (device : D) → RunsWith g contents flights gs device run
-    → HasGroupRun g run gs asks [] contents flights gs device device
-begun_run g run gs asks contents flights device stands = record {
+pub begun_run : {A D : Type 0} (g : Ghosts D) (whole : Bool) (run : Execution) (gs : Groups) (asks : List Ask) (contents : Contents) (flights : Flights A) (device : D) → RunsWithBy g whole contents flights gs device run
+    → HasGroupRunBy g whole run gs asks [] contents flights gs device device
+begun_run g whole run gs asks contents flights device stands = record {
   right = tt;
-  passed = subst (λ ps. HasPassed g run ps contents flights gs device device) (sym (parts_none gs asks)) (idle g run contents flights gs device stands);
+  passed = subst (λ ps. HasPassedBy g whole run ps contents flights gs device device) (sym (parts_none gs asks)) (idle g whole run contents flights gs device stands);
 }
 
-pub stepped_run : {A D : Type 0} (g : Ghosts D) → SafeJoin g → (run : Execution) (gs : Groups) (asks : List (CodeAsk A)) (answers : List (CodeAnswer A)) (ask : CodeAsk A) (answer : CodeAnswer A)
+pub stepped_run : {A D : Type 0} (g : Ghosts D) → SafeJoin g → (whole : Bool) (run : Execution) (gs : Groups) (asks : List (CodeAsk A)) (answers : List (CodeAnswer A)) (ask : CodeAsk A) (answer : CodeAnswer A)
     (contents next : Contents) (flights more : Flights A) (mid now : Groups) (device between after : D) → length answers < length asks → get_or asks (length answers) ask ≡ ask
     → mid ≡ groups_after_all gs (asks_of asks) (map group_answer_of answers) → (g.is_honest device → g.is_honest between)
-    → HasGroupRun g run gs (asks_of asks) (map group_answer_of answers) contents flights mid device between
-    → IsGroupAnswered g (run_after_all run gs (asks_of asks) (map group_answer_of answers)) mid (group_ask_of ask) (group_answer_of answer) next more now between after
-    → HasGroupRun g run gs (asks_of asks) (map group_answer_of (answers ++ answer ∷ [])) next more now device after
-stepped_run g join run gs asks answers ask answer contents next flights more mid now device between after within at are honesty so_far one =
+    → HasGroupRunBy g whole run gs (asks_of asks) (map group_answer_of answers) contents flights mid device between
+    → IsGroupAnsweredBy g whole (run_after_all run gs (asks_of asks) (map group_answer_of answers)) mid (group_ask_of ask) (group_answer_of answer) next more now between after
+    → HasGroupRunBy g whole run gs (asks_of asks) (map group_answer_of (answers ++ answer ∷ [])) next more now device after
+stepped_run g join whole run gs asks answers ask answer contents next flights more mid now device between after within at are honesty so_far one =
     let given : List Answer = map group_answer_of answers in
     let wanted : List Ask = asks_of asks in
     let long : length given ≡ length answers = length-map answers group_answer_of in
@@ -172,14 +173,38 @@ stepped_run g join run gs asks answers ask answer contents next flights more mid
     let last : Execution = run_after_all run gs wanted given in
     let is : map group_answer_of (answers ++ answer ∷ []) ≡ given ++ group_answer_of answer ∷ [] = map-append group_answer_of answers (answer ∷ []) in
     let turns = next_code gs asks answers ask answer within at in
-    let done = both g join run (parts gs wanted given) (part_of mid (group_ask_of ask) (group_answer_of answer)) contents next flights more mid now device between after honesty so_far.passed one.passed in
+    let done = both g join whole run (parts gs wanted given) (part_of mid (group_ask_of ask) (group_answer_of answer)) contents next flights more mid now device between after honesty so_far.passed one.passed in
     let is_parts : parts gs wanted (map group_answer_of (answers ++ answer ∷ [])) ≡ parts gs wanted given ++ part_of mid (group_ask_of ask) (group_answer_of answer) =
     ap (λ xs. parts gs wanted xs) is ∙ turns.parts_are ∙ ap (λ s. parts gs wanted given ++ part_of s (group_ask_of ask) (group_answer_of answer)) (sym are) in
     record {
-      right = subst (AreGroupAnswers run gs wanted) (sym is)
-          (one_right run gs wanted given (group_ask_of ask) (group_answer_of answer) (omega (arith, within, long, many)) (there asks answers ask within at) so_far.right
-          (subst (λ s. IsRightAfter last s (group_ask_of ask) (group_answer_of answer)) are one.right));
-      passed = subst (λ ps. HasPassed g run ps next more now device after) (sym is_parts) done;
+      right = subst (AreGroupAnswersBy whole run gs wanted) (sym is)
+          (one_right whole run gs wanted given (group_ask_of ask) (group_answer_of answer) (omega (arith, within, long, many)) (there asks answers ask within at) so_far.right
+          (subst (λ s. IsRightAfter whole last s (group_ask_of ask) (group_answer_of answer)) are one.right));
+      passed = subst (λ ps. HasPassedBy g whole run ps next more now device after) (sym is_parts) done;
+    }
+
+-- Lists on a device that holds the images.
+
+pub begun_on_images : {A D : Type 0} (g : Ghosts D) (run : Execution) (gs : Groups) (asks : List Ask) (contents : Contents) (flights : Flights A) (device : D)
+    → RunsWithImages g contents flights gs device run → HasGroupRunOnImages g run gs asks [] contents flights gs device device
+begun_on_images g run gs asks contents flights device r =
+    record { ran = begun_run g false run gs asks contents flights device r.runs; images = subst (λ ps. HoldImages (after_parts run ps) (g.contents device)) (sym (parts_none gs asks)) r.images }
+
+pub stepped_on_images : {A D : Type 0} (g : Ghosts D) → SafeJoin g → (run : Execution) (gs : Groups) (asks : List (CodeAsk A)) (answers : List (CodeAnswer A)) (ask : CodeAsk A) (answer : CodeAnswer A)
+    (contents next : Contents) (flights more : Flights A) (mid now : Groups) (device between after : D) → length answers < length asks → get_or asks (length answers) ask ≡ ask
+    → mid ≡ groups_after_all gs (asks_of asks) (map group_answer_of answers) → (g.is_honest device → g.is_honest between)
+    → HasGroupRunOnImages g run gs (asks_of asks) (map group_answer_of answers) contents flights mid device between
+    → IsAnsweredOnImages g (run_after_all run gs (asks_of asks) (map group_answer_of answers)) mid (group_ask_of ask) (group_answer_of answer) next more now between after
+    → HasGroupRunOnImages g run gs (asks_of asks) (map group_answer_of (answers ++ answer ∷ [])) next more now device after
+stepped_on_images g join run gs asks answers ask answer contents next flights more mid now device between after within at are honesty so_far one =
+    let given : List Answer = map group_answer_of answers in
+    let wanted : List Ask = asks_of asks in
+    let is : map group_answer_of (answers ++ answer ∷ []) ≡ given ++ group_answer_of answer ∷ [] = map-append group_answer_of answers (answer ∷ []) in
+    let is_parts : parts gs wanted (map group_answer_of (answers ++ answer ∷ [])) ≡ parts gs wanted given ++ part_of mid (group_ask_of ask) (group_answer_of answer) =
+    ap (λ xs. parts gs wanted xs) is ∙ (next_code gs asks answers ask answer within at).parts_are ∙ ap (λ s. parts gs wanted given ++ part_of s (group_ask_of ask) (group_answer_of answer)) (sym are) in
+    record {
+      ran = stepped_run g join false run gs asks answers ask answer contents next flights more mid now device between after within at are honesty so_far.ran one.answered;
+      images = subst (λ r. HoldImages r (g.contents after)) (sym (ap (after_parts run) is_parts ∙ after_append run (parts gs wanted given) (part_of mid (group_ask_of ask) (group_answer_of answer)))) one.images;
     }
 
 -- as many asks are answered as were gone through

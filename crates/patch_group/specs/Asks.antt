@@ -7,7 +7,7 @@ use Rattle.patch_model.specs.Execution.{Execution}
 use Rattle.patch_model.specs.State.{entries_of}
 use Rattle.patch_model.specs.declared.refusals.Refusal.{Refusal as Cause}
 use Rattle.patch_model.specs.Refusing.{bare}
-use Rattle.patch_cache.specs.Asks.{Ask as CacheAsk, Answer as CacheAnswer, IsAnswer, IsGivenUp, after_all, steps_added}
+use Rattle.patch_cache.specs.Asks.{Ask as CacheAsk, Answer as CacheAnswer, IsAnswer, IsGivenUpBy, IsNotBrought, after_all, steps_added}
 use Rattle.patch_cache.specs.Asks as cache
 use Rattle.patch_plans.specs.Groups.{Groups, named, why_not_begun, why_not_engaged, why_not_disengaged, why_not_ordered, why_not_closed, why_not_counted, begun, engaged, disengaged, ordered, closed, with_patch, pending}
 
@@ -82,17 +82,25 @@ is_refused (Refused cause) = true
 abbrev pub LacksMemory : Option Cause → Answer → Type 0
 LacksMemory cause answer = (answer ≡ Refused (bare kind.OutOfMemory)) × (cause ≡ None)
 
+-- A patch is given up where there is no memory, and where the cache lacks its block, which it couldn't read.
+abbrev pub IsPatchGivenUp : (whole : Bool) → Execution → CacheAsk → Answer → Type 0
+IsPatchGivenUp true run ask answer = answer ≡ Plain (cache.Refused (bare kind.OutOfMemory))
+IsPatchGivenUp false run ask answer = (answer ≡ Plain (cache.Refused (bare kind.OutOfMemory))) ⊎ IsPlain (IsNotBrought run ask) answer
+
 -- A call of groups that no cause stands against is given up where there is no memory, and so is a patch, which takes its room
--- before any cause is tested. An ask of the cache is given up as the cache does.
+-- before any cause is tested. An ask of the cache is given up as the cache does, which has all its blocks, or some.
+abbrev pub IsGroupGivenUpBy : (whole : Bool) → Execution → Groups → Ask → Answer → Type 0
+IsGroupGivenUpBy whole run gs (Plain ask) answer = IsPlain (IsGivenUpBy whole run ask) answer
+IsGroupGivenUpBy whole run gs (Patch writer block start bytes after undo) answer = IsPatchGivenUp whole run (cache.Create block start bytes (named gs (Some writer) after) undo) answer
+IsGroupGivenUpBy whole run gs Group answer = LacksMemory (why_not_begun gs) answer
+IsGroupGivenUpBy whole run gs (Engage writer group) answer = LacksMemory (why_not_engaged gs writer group) answer
+IsGroupGivenUpBy whole run gs (Disengage writer group) answer = ⊥
+IsGroupGivenUpBy whole run gs (Depend group on) answer = LacksMemory (why_not_ordered gs group on) answer
+IsGroupGivenUpBy whole run gs (Close group) answer = ⊥
+IsGroupGivenUpBy whole run gs (Pending group) answer = ⊥
+
 abbrev pub IsGroupGivenUp : Execution → Groups → Ask → Answer → Type 0
-IsGroupGivenUp run gs (Plain ask) answer = IsPlain (IsGivenUp run ask) answer
-IsGroupGivenUp run gs (Patch writer block start bytes after undo) answer = answer ≡ Plain (cache.Refused (bare kind.OutOfMemory))
-IsGroupGivenUp run gs Group answer = LacksMemory (why_not_begun gs) answer
-IsGroupGivenUp run gs (Engage writer group) answer = LacksMemory (why_not_engaged gs writer group) answer
-IsGroupGivenUp run gs (Disengage writer group) answer = ⊥
-IsGroupGivenUp run gs (Depend group on) answer = LacksMemory (why_not_ordered gs group on) answer
-IsGroupGivenUp run gs (Close group) answer = ⊥
-IsGroupGivenUp run gs (Pending group) answer = ⊥
+IsGroupGivenUp run gs ask answer = IsGroupGivenUpBy true run gs ask answer
 
 -- What the cache did of it.
 
@@ -180,9 +188,12 @@ abbrev pub run_after_all : Execution → Groups → List Ask → List Answer →
 run_after_all run gs asks answers = after_parts run (parts gs asks answers)
 
 -- each answer is the right one after the asks before it, or gives up; the asks behind the last answer stay open
+abbrev pub AreGroupAnswersBy : (whole : Bool) → Execution → Groups → List Ask → List Answer → Type 0
+AreGroupAnswersBy whole run gs asks [] = Unit {0}
+AreGroupAnswersBy whole run gs [] (answer ∷ answers) = ⊥
+AreGroupAnswersBy whole run gs (ask ∷ asks) (answer ∷ answers) =
+    (IsGroupAnswer run gs ask answer ⊎ IsGroupGivenUpBy whole run gs ask answer)
+    × AreGroupAnswersBy whole (run_after run gs ask answer) (groups_after gs ask answer) asks answers
+
 abbrev pub AreGroupAnswers : Execution → Groups → List Ask → List Answer → Type 0
-AreGroupAnswers run gs asks [] = Unit {0}
-AreGroupAnswers run gs [] (answer ∷ answers) = ⊥
-AreGroupAnswers run gs (ask ∷ asks) (answer ∷ answers) =
-    (IsGroupAnswer run gs ask answer ⊎ IsGroupGivenUp run gs ask answer)
-    × AreGroupAnswers (run_after run gs ask answer) (groups_after gs ask answer) asks answers
+AreGroupAnswers run gs asks answers = AreGroupAnswersBy true run gs asks answers

@@ -1,13 +1,14 @@
 //! A list of asks of a cache with groups, answered one after another.
-ghost use Rattle.std.specs.Prelude.{◌≡◌, ◌<◌, ◌++◌, [], length, OnOk, OnErr};
+ghost use Rattle.std.specs.Prelude.{false, None, ◌≡◌, ◌<◌, ◌++◌, [], length, OnOk, OnErr};
 ghost use Rattle.patch_model.specs.Execution.{Execution};
 ghost use Rattle.patch_device.specs.SameDevice.{IsSameDevice};
-ghost use Rattle.patch_cache.specs.Meaning.{IsCacheOf};
+ghost use Rattle.patch_cache.specs.Meaning.{IsCacheOf, IsPagedCacheOf};
+ghost use Rattle.patch_cache.specs.Paging.{why_not_resident};
 ghost use Rattle.patch_cache.specs.Promise.{TakingBack, MovesArePermitted, LooksShow, ImagesSent, CrashesClosed};
 ghost use Rattle.patch_group.specs.Asks.{Patch, Group, Engage, Disengage, Depend, Close, Pending, IsGroupAnswer, parts, part_of, steps_of, groups_after, groups_after_all};
 ghost use Rattle.patch_plans.specs.Order.{AreGroupsOf, ClosedSetsHoldBefore};
 ghost use Rattle.patch_group.specs.Promise.{GroupsInOrder};
-ghost use Rattle.patch_group.specs.Runs.{asks_of, group_ask_of, group_answer_of, group_answers_in, AnswersAsk, AnswersAsks, IsCalled, IsPatched, HasPatched};
+ghost use Rattle.patch_group.specs.Runs.{asks_of, group_ask_of, group_answer_of, group_answers_in, AnswersAsk, AnswersAsks, AnswersOnImages, AnswerAllOnImages, IsCalled, IsPatched, IsPatchedBy, HasPatched};
 
 use crate::asks::{GroupAnswer, GroupAsk};
 use crate::calls::Groups;
@@ -30,7 +31,8 @@ impl<A: Allocator + Copy> Groups<A> {
     /// ([`promise`](crate::laws::promise)).
     ///
     /// The groups are those of this cache and of no other, `flights` holds the cache's flights that are not completed, all of
-    /// them and no others, and the device has the cache's blocks.
+    /// them and no others, and the device has the cache's blocks. A block that an ask names and that isn't resident is brought
+    /// first, as [`Cache::run`] does.
     pub fn run<D: Device>(
         &mut self,
         cache: &mut Cache<A>,
@@ -39,6 +41,8 @@ impl<A: Allocator + Copy> Groups<A> {
         asks: &[GroupAsk<A>],
     ) -> Result<Vec<GroupAnswer<A>, A>, (Vec<GroupAnswer<A>, A>, OutOfMemory)>
         ensures ran { AnswersAsks D.Device cache.old flights.old self.old device.old (asks_of asks.now) (group_answers_in result)
+            cache.new flights.new self.new device.new }
+        ensures ran_paged { AnswerAllOnImages D.Device cache.old flights.old self.old device.old (asks_of asks.now) (group_answers_in result)
             cache.new flights.new self.new device.new }
         ensures groups { self.new ≡ groups_after_all self.old (asks_of asks.now) (group_answers_in result) }
         ensures trace { cache.new.trace ≡ cache.old.trace ++ steps_of (parts self.old (asks_of asks.now) (group_answers_in result)) }
@@ -77,6 +81,8 @@ impl<A: Allocator + Copy> Groups<A> {
     ) -> GroupAnswer<A>
         ensures answer { AnswersAsk D.Device cache.old flights.old self.old device.old (group_ask_of ask) (group_answer_of result)
             cache.new flights.new self.new device.new }
+        ensures paged { AnswersOnImages D.Device cache.old flights.old self.old device.old (group_ask_of ask) (group_answer_of result)
+            cache.new flights.new self.new device.new }
         ensures groups { self.new ≡ groups_after self.old (group_ask_of ask) (group_answer_of result) }
         ensures trace { cache.new.trace ≡ cache.old.trace ++ steps_of (part_of self.old (group_ask_of ask) (group_answer_of result)) }
         ensures device { IsSameDevice D.Device device.old device.new }
@@ -86,6 +92,7 @@ impl<A: Allocator + Copy> Groups<A> {
         model_laws::flights_are_ready();
         model_laws::images_stay();
         model_laws::executions_are_orderly();
+        cache_laws::crashes_join::<D>();
         match ask {
             GroupAsk::Patch {
                 writer,
@@ -94,7 +101,10 @@ impl<A: Allocator + Copy> Groups<A> {
                 bytes,
                 after,
                 undo,
-            } => self.answer_patch(cache, writer, block, start, bytes, after, undo),
+            } => match cache.bring(device, block) {
+                Ok(()) => self.answer_patch(cache, writer, block, start, bytes, after, undo),
+                Err(refusal) => GroupAnswer::Plain(Answer::Refused(refusal.refusal())),
+            },
             other => self.answer_lent(cache, flights, device, &other),
         }
     }
@@ -109,6 +119,8 @@ impl<A: Allocator + Copy> Groups<A> {
     ) -> GroupAnswer<A>
         ensures answer { AnswersAsk D.Device cache.old flights.old self.old device.old (group_ask_of ask.now) (group_answer_of result)
             cache.new flights.new self.new device.new }
+        ensures paged { AnswersOnImages D.Device cache.old flights.old self.old device.old (group_ask_of ask.now) (group_answer_of result)
+            cache.new flights.new self.new device.new }
         ensures groups { self.new ≡ groups_after self.old (group_ask_of ask.now) (group_answer_of result) }
         ensures trace { cache.new.trace ≡ cache.old.trace ++ steps_of (part_of self.old (group_ask_of ask.now) (group_answer_of result)) }
         ensures device { IsSameDevice D.Device device.old device.new }
@@ -118,6 +130,7 @@ impl<A: Allocator + Copy> Groups<A> {
         model_laws::flights_are_ready();
         model_laws::images_stay();
         model_laws::executions_are_orderly();
+        cache_laws::crashes_join::<D>();
         match ask {
             GroupAsk::Plain(ask) => GroupAnswer::Plain(cache.answer(flights, device, ask)),
             GroupAsk::Patch {
@@ -127,15 +140,18 @@ impl<A: Allocator + Copy> Groups<A> {
                 bytes,
                 after,
                 undo,
-            } => self.answer_lent_patch(
-                cache,
-                *writer,
-                *block,
-                *start,
-                bytes.as_slice(),
-                after.as_slice(),
-                *undo,
-            ),
+            } => match cache.bring(device, *block) {
+                Ok(()) => self.answer_lent_patch(
+                    cache,
+                    *writer,
+                    *block,
+                    *start,
+                    bytes.as_slice(),
+                    after.as_slice(),
+                    *undo,
+                ),
+                Err(refusal) => GroupAnswer::Plain(Answer::Refused(refusal.refusal())),
+            },
             GroupAsk::Group => self.answer_group(),
             GroupAsk::Engage { writer, group } => self.answer_engage(*writer, *group),
             GroupAsk::Disengage { writer, group } => self.answer_disengage(*writer, *group),
@@ -145,7 +161,7 @@ impl<A: Allocator + Copy> Groups<A> {
         }
     }
 
-    /// Makes a patch of a writer.
+    /// Makes a patch of a writer, of a block that is resident, or isn't the cache's.
     fn answer_patch(
         &mut self,
         cache: &mut Cache<A>,
@@ -156,8 +172,11 @@ impl<A: Allocator + Copy> Groups<A> {
         after: Numbers<A>,
         undo: Undo,
     ) -> GroupAnswer<A>
+        requires { why_not_resident cache.old block ≡ None }
         ensures answer { (run : Execution) → IsCacheOf cache.old run
             → IsPatched run self.old (Patch writer block start bytes after undo) (group_answer_of result) cache.new }
+        ensures paged { (run : Execution) → IsPagedCacheOf cache.old run
+            → IsPatchedBy false run self.old (Patch writer block start bytes after undo) (group_answer_of result) cache.new }
         ensures patched { HasPatched self.old (Patch writer block start bytes after undo) (group_answer_of result) self.new cache.old.trace cache.new.trace }
     {
         let after = Names::listed(after);
@@ -178,8 +197,11 @@ impl<A: Allocator + Copy> Groups<A> {
         after: &[PatchNo],
         undo: Undo,
     ) -> GroupAnswer<A>
+        requires { why_not_resident cache.old block ≡ None }
         ensures answer { (run : Execution) → IsCacheOf cache.old run
             → IsPatched run self.old (Patch writer block start bytes.now after.now undo) (group_answer_of result) cache.new }
+        ensures paged { (run : Execution) → IsPagedCacheOf cache.old run
+            → IsPatchedBy false run self.old (Patch writer block start bytes.now after.now undo) (group_answer_of result) cache.new }
         ensures patched { HasPatched self.old (Patch writer block start bytes.now after.now undo) (group_answer_of result) self.new cache.old.trace cache.new.trace }
     {
         match self.create_patch(cache, Some(writer), block, start, bytes, after, undo) {
@@ -241,6 +263,8 @@ impl<A: Allocator + Copy> Groups<A> {
     /// Counts what is pending of a group.
     fn answer_pending(&self, group: GroupNo, cache: &Cache<A>) -> GroupAnswer<A>
         ensures answer { (run : Execution) → IsCacheOf cache.now run → AreGroupsOf run self.now
+            → IsGroupAnswer run self.now (Pending group) (group_answer_of result) }
+        ensures paged { (run : Execution) → IsPagedCacheOf cache.now run → AreGroupsOf run self.now
             → IsGroupAnswer run self.now (Pending group) (group_answer_of result) }
         ensures groups { self.now ≡ groups_after self.now (Pending group) (group_answer_of result) }
         ensures no_part { part_of self.now (Pending group) (group_answer_of result) ≡ [] }

@@ -546,9 +546,8 @@ fn close(bench: Bench) {
     drop(groups);
 }
 
-fn open_bench(rt: &impl Abort, alloc: Global, asking: Asking) -> Result<Bench, OutOfMemory> {
+fn open_bench(alloc: Global, asking: Asking, cache: Cache) -> Result<Bench, OutOfMemory> {
     let device = MemDevice::new(alloc, 8)?;
-    let cache = open_zeros(rt, alloc, 8)?;
     Ok(Bench {
         alloc,
         asking,
@@ -559,8 +558,14 @@ fn open_bench(rt: &impl Abort, alloc: Global, asking: Asking) -> Result<Bench, O
     })
 }
 
-fn walk(rt: &impl Abort, alloc: Global, asking: Asking, script: &str) -> Result<(), Fail> {
-    let mut bench = open_bench(rt, alloc, asking)?;
+fn walk(
+    rt: &impl Abort,
+    alloc: Global,
+    asking: Asking,
+    cache: Cache,
+    script: &str,
+) -> Result<(), Fail> {
+    let mut bench = open_bench(alloc, asking, cache)?;
     let walked = follow_script(rt, &mut bench, script);
     close(bench);
     walked
@@ -569,7 +574,8 @@ fn walk(rt: &impl Abort, alloc: Global, asking: Asking, script: &str) -> Result<
 #[test]
 fn answers_are_as_worked(rt: HostRuntime) -> Result<(), Fail> {
     for script in SCRIPTS {
-        walk(&rt, rt.alloc(), Asking::InLists, script)?;
+        let cache = open_zeros(&rt, rt.alloc(), 8)?;
+        walk(&rt, rt.alloc(), Asking::InLists, cache, script)?;
     }
     Ok(())
 }
@@ -577,7 +583,20 @@ fn answers_are_as_worked(rt: HostRuntime) -> Result<(), Fail> {
 #[test]
 fn single_asks_are_answered_so_too(rt: HostRuntime) -> Result<(), Fail> {
     for script in SCRIPTS {
-        walk(&rt, rt.alloc(), Asking::OneByOne, script)?;
+        let cache = open_zeros(&rt, rt.alloc(), 8)?;
+        walk(&rt, rt.alloc(), Asking::OneByOne, cache, script)?;
+    }
+    Ok(())
+}
+
+// A cache that has no block at first answers as one that has all.
+#[test]
+fn blocks_are_brought_as_they_are_asked_for(rt: HostRuntime) -> Result<(), Fail> {
+    for script in SCRIPTS {
+        let cache = Cache::of(rt.alloc(), 8);
+        walk(&rt, rt.alloc(), Asking::InLists, cache, script)?;
+        let cache = Cache::of(rt.alloc(), 8);
+        walk(&rt, rt.alloc(), Asking::OneByOne, cache, script)?;
     }
     Ok(())
 }

@@ -1,10 +1,10 @@
-use Rattle.std.proofs.Common.{◌≡◌, ◌∙◌, ◌<◌, ◌++◌, ◌∷◌, [], length, map, get_or, append_assoc, append-nil, ◌+◌, sym, ap, arith}
+use Rattle.std.proofs.Common.{◌≡◌, true, ◌∙◌, ◌<◌, ◌++◌, ◌∷◌, [], length, map, get_or, append_assoc, append-nil, ◌+◌, sym, ap, arith}
 use Rattle.std.proofs.lemmas.List.{length-append, map-append}
 use Rattle.patch_device.specs.SameDevice.{same_still, same_both}
 use Rattle.patch_group.specs.Asks.{parts, part_of, steps_of, groups_after, groups_after_all}
 use Rattle.patch_group.specs.Runs.{asks_of, group_ask_of, group_answer_of}
 use Rattle.patch_group.proofs.Keeping.{has_room}
-use Rattle.patch_group.proofs.Passing.{parts_none, groups_none, steps_append, next_code, begun_run, stepped_run, fewer_answered, all_answered}
+use Rattle.patch_group.proofs.Passing.{parts_none, groups_none, steps_append, next_code, begun_run, begun_on_images, stepped_run, stepped_on_images, fewer_answered, all_answered}
 use Rattle.patch_group.proofs.calls.Groups.run.Goals as goal
 
 pub loop-ask-init : goal.loop-ask-init
@@ -17,7 +17,8 @@ loop-ask-init g c =
       device = same_still g.D.Device _;
       groups = rw none (sym (groups_none old asks));
       trace = rw none (sym (ap (λ ps. c.args.cache.now.trace ++ steps_of ps) (parts_none old asks) ∙ append-nil c.args.cache.now.trace));
-      ran = λ run r. rw none (begun_run g.D.Device run old asks _ _ _ r);
+      ran = λ run r. rw none (begun_run g.D.Device true run old asks _ _ _ r);
+      ran_paged = λ run r. rw none (begun_on_images g.D.Device run old asks _ _ _ r);
     }
 
 pub loop-ask-preserved : goal.loop-ask-preserved
@@ -48,11 +49,21 @@ loop-ask-preserved g c =
           ∙ ap (λ s. c.args.cache.now.trace ++ s) (sym (ap steps_of done ∙ steps_append (parts old (asks_of asks) given) (part_of mid wanted (group_answer_of answer))));
       ran = λ run r.
           let so_far = before.ran run r in
-          rw pushed (stepped_run g.D.Device c.crashes_join.ensures.joined run old asks answers c.ask-item.result answer _ _ _ _ mid _ _ _ _ within item before.groups before.device.honesty.0 so_far (told.answer _ so_far.passed.stands));
+          rw pushed (stepped_run g.D.Device c.crashes_join.ensures.joined true run old asks answers c.ask-item.result answer _ _ _ _ mid _ _ _ _ within item before.groups before.device.honesty.0 so_far (told.answer _ so_far.passed.stands));
+      ran_paged = λ run r.
+          let so_far = before.ran_paged run r in
+          rw pushed (stepped_on_images g.D.Device c.crashes_join.ensures.joined run old asks answers c.ask-item.result answer _ _ _ _ mid _ _ _ _ within item before.groups before.device.honesty.0 so_far
+          (told.paged _ (record { runs = so_far.ran.passed.stands; honest = before.device.honesty.0 r.honest; images = so_far.images })));
     }
 
 pub returns-in-Err-clause-ran : goal.returns-in-Err-clause-ran
 returns-in-Err-clause-ran g c run r = rw c.reserve.ensures.items (c.loop-ask.invariant.ran run r)
+
+pub returns-in-Err-clause-ran_paged : goal.returns-in-Err-clause-ran_paged
+returns-in-Err-clause-ran_paged g c run r = rw c.reserve.ensures.items (c.loop-ask.invariant.ran_paged run r)
+
+pub returns-clause-ran_paged : goal.returns-clause-ran_paged
+returns-clause-ran_paged g c = c.loop-ask.invariant.ran_paged
 
 pub returns-in-Err-clause-groups : goal.returns-in-Err-clause-groups
 returns-in-Err-clause-groups g c = rw c.reserve.ensures.items c.loop-ask.invariant.groups
