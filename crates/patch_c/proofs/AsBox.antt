@@ -6,7 +6,7 @@ use Rattle.std_alloc.proofs.BoxSteps.Form.{Bx}
 use Rattle.std_heap.specs.contracts.Global as Heap
 use Rattle.std_heap.specs.contracts.GlobalAllocator.TheImpl.{ghosts, dict}
 use Rattle.std_heap.proofs.Global.TheLaws as heap
-use Rattle.patch_c.specs.contracts.raw_box.RawBox as RawBox
+use Rattle.patch_handles.specs.contracts.raw_box.RawBox as RawBox
 use Rattle.patch_c.specs.contracts.opened.Opened as Opened
 use Rattle.patch_c.proofs.opened.Opened.TheLaws as opened
 use Rattle.patch_c.specs.contracts.sealed.Sealed as Sealed

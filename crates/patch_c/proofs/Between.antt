@@ -1,13 +1,13 @@
 -- A call on a handle says what the call on its store says.
 use Rattle.std.proofs.Common.{◌≡◌, ℤ, pos, sym, subst, refl}
 use Rattle.std.specs.Prelude.{IfSome, Option, Some, None}
-use Rattle.patch_c.specs.declared.answers.Answer.{Answer}
-use Rattle.patch_c.specs.declared.answers.Answer.TheVariants.{Done, Refused, BufferTooSmall, Absent, NoSync, BadWriter}
+use Rattle.patch_handles.specs.declared.answers.Answer.{Answer}
+use Rattle.patch_handles.specs.declared.answers.Answer.TheVariants.{Done, Refused, BufferTooSmall, Absent, NoSync, BadWriter, IsResident}
 use Rattle.patch_c.specs.declared.handle.Handle.{Handle}
 use Rattle.patch_c.specs.declared.opened.Opened.{Opened}
-use Rattle.patch_c.specs.Answering.{number_of}
+use Rattle.patch_handles.specs.Answering.{number_of}
 use Rattle.patch_c.specs.Handle.{Between}
-use Rattle.patch_c.proofs.Codes.{code_rises}
+use Rattle.patch_handles.proofs.Codes.{code_rises}
 
 pub between_so : (old new : Handle) (before after : Opened) (Said : Opened → Opened → Type 0) → Some before ≡ old.sealed.opened
     → new.sealed.opened ≡ Some after → Said before after → Between old new Said
@@ -40,3 +40,4 @@ done_is BufferTooSmall zero = absurd (cc)
 done_is Absent zero = absurd (cc)
 done_is NoSync zero = absurd (cc)
 done_is BadWriter zero = absurd (cc)
+done_is IsResident zero = absurd (cc)

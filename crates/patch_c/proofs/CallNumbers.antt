@@ -2,7 +2,8 @@
 use Rattle.std.proofs.Common.{◌≡◌, ℕ, ℤ}
 use Rattle.patch_history.specs.Command.{Command, Reply}
 use Rattle.patch_store.specs.Meaning.{Store, Answers}
-use Rattle.patch_c.specs.Answering.{number_of, answer_of, carried, Tells, TellsOf}
+use Rattle.patch_handles.specs.Answering.{number_of}
+use Rattle.patch_c.specs.Answering.{answer_of, carried, Tells, TellsOf}
 
 -- by its reply
 pub tells_so : (writer : ℕ) (command : Command) (reply : Reply) (number : ℤ) (old new : Store) → number ≡ number_of (answer_of reply)

@@ -9,7 +9,7 @@ use Rattle.patch_cache.specs.Refusals.{flush_cause}
 use Rattle.patch_cache.specs.Waves.{HasGivenUp, RisesIfGivenUp}
 use Rattle.patch_cache.specs.declared.refusals.FlushRefusal.{FlushRefusal}
 use Rattle.patch_cache.specs.declared.refusals.FlushRefusal.TheVariants as flush
-use Rattle.patch_c.specs.declared.answers.Answer.TheVariants.{Refused}
+use Rattle.patch_handles.specs.declared.answers.Answer.TheVariants.{Refused}
 use Rattle.patch_c.specs.Saving.{HasCause}
 
 -- a write that was given up was refused at least once

@@ -7,9 +7,10 @@ use Rattle.patch_cache.specs.Refusals.{IsCause}
 use Rattle.patch_recovery.specs.Ledger.{value_in}
 use Rattle.patch_history.specs.History.{History, standing_of}
 use Rattle.patch_history.specs.Refusing.{why_no_key}
-use Rattle.patch_c.specs.declared.answers.Answer.{Answer}
-use Rattle.patch_c.specs.Answering.{number_of}
-use Rattle.patch_c.specs.Reading.{copied, answer_copying, value_told, get_told, HasGot}
+use Rattle.patch_handles.specs.declared.answers.Answer.{Answer}
+use Rattle.patch_handles.specs.Answering.{number_of}
+use Rattle.patch_handles.specs.Copying.{copied, answer_copying}
+use Rattle.patch_c.specs.Reading.{value_told, get_told, HasGot}
 
 -- where the key may be one, what is told of its value, or that it has none
 told_so : (h : History) (key into : List ℕ) (len : ℕ) (found : Option (List ℕ)) → (why_no_key key ≡ None) × (found ≡ value_in (standing_of h).map.entries key)

@@ -1,7 +1,6 @@
 pub mod AsBox
 pub mod Between
 pub mod Causes
-pub mod Codes
 pub mod Got
 pub mod Landing
 pub mod Made

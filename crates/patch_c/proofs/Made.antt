@@ -5,10 +5,10 @@ use Rattle.std.proofs.lemmas.List.{length-replicate}
 use Rattle.patch_frame.specs.declared.geometries.Geometry.{Geometry}
 use Rattle.patch_frame.specs.Geometry.{is_geometry, block_count, extent_blocks}
 use Rattle.patch_frame.specs.Superblock.{spelling}
-use Rattle.patch_c.specs.declared.answers.Answer.{Answer}
-use Rattle.patch_c.specs.declared.answers.Answer.TheVariants.{Done, BufferTooSmall}
+use Rattle.patch_handles.specs.declared.answers.Answer.{Answer}
+use Rattle.patch_handles.specs.declared.answers.Answer.TheVariants.{Done, BufferTooSmall}
 use Rattle.patch_c.specs.Opening.{HasMade}
-use Rattle.patch_c.specs.Reading.{copied, answer_copying}
+use Rattle.patch_handles.specs.Copying.{copied, answer_copying}
 
 all_there : (fits : Bool) (whole into : List ℕ) → (if fits then Done else BufferTooSmall) ≡ Done → (if fits then whole else into) ≡ whole
 all_there true whole into done = refl

@@ -10,9 +10,9 @@ use Rattle.patch_history.specs.declared.refusals.OpenFault.{OpenFault}
 use Rattle.patch_history.specs.declared.refusals.OpenFault.TheVariants as opening
 use Rattle.patch_history.specs.Refusals.{open_cause}
 use Rattle.patch_store.specs.Opening.{IsFaultOf}
-use Rattle.patch_c.specs.declared.answers.Answer.TheVariants.{Refused}
+use Rattle.patch_handles.specs.declared.answers.Answer.TheVariants.{Refused}
 use Rattle.patch_c.specs.declared.unopened.Unopened.{Unopened}
-use Rattle.patch_c.specs.Answering.{number_of}
+use Rattle.patch_handles.specs.Answering.{number_of}
 use Rattle.patch_c.specs.Opening.{starved, IsFile, IsTested, IsWhyNot, TellsWhyNot, blocks_in, number_told}
 
 -- what is said of the error that is passed on

@@ -9,9 +9,10 @@ use Rattle.patch_index.specs.Reporting.{reported}
 use Rattle.patch_index.specs.declared.reports.EntryReport.{EntryReport}
 use Rattle.patch_store.specs.Checking.{entries_of, extent_report, extent_reports, ListsMap}
 use Rattle.patch_store.specs.declared.reports.ExtentReport.{ExtentReport}
-use Rattle.patch_c.specs.declared.answers.Answer.{Answer}
-use Rattle.patch_c.specs.Answering.{number_of}
-use Rattle.patch_c.specs.Reading.{copied, answer_copying, entry_told, counts_told}
+use Rattle.patch_handles.specs.declared.answers.Answer.{Answer}
+use Rattle.patch_handles.specs.Answering.{number_of}
+use Rattle.patch_handles.specs.Copying.{copied, answer_copying}
+use Rattle.patch_c.specs.Reading.{entry_told, counts_told}
 
 pub counted_so : (h : History) (entries : List EntryReport) (extents : List ExtentReport) (keys count : ℕ) → ListsMap h (map reported entries)
     → extents ≡ extent_reports (standing_of h).shelf → keys ≡ length entries → count ≡ length extents → (pos 0, keys, count) ≡ counts_told h

@@ -12,8 +12,8 @@ use Rattle.patch_store.specs.Opening.{IsOpened, at_opening as at_first}
 use Rattle.patch_disks.proofs.Calling.{opened_so}
 use Rattle.patch_disks.specs.Running.{StandsOn}
 use Rattle.patch_disks.proofs.Resting.{StatesExtend, ImagesStay, rests_behind}
-use Rattle.patch_c.specs.declared.answers.Answer.{Answer}
-use Rattle.patch_c.specs.declared.answers.Answer.TheVariants.{Done}
+use Rattle.patch_handles.specs.declared.answers.Answer.{Answer}
+use Rattle.patch_handles.specs.declared.answers.Answer.TheVariants.{Done}
 use Rattle.patch_c.specs.declared.tape.Tape.{Tape}
 use Rattle.patch_device.specs.Cuts.{written_behind}
 use Rattle.patch_c.specs.Saving.{HasSaved, HasWrittenOn}

@@ -1,25 +1,12 @@
--- The numbers of answers, and what they tell of a store.
-use Rattle.std.specs.Prelude.{ℕ, ℤ, pos, negsuc, ◌≡◌, ◌≢◌, ◌==◌, nat_lt, if◌then◌else◌, Option, Some, None}
-use Rattle.patch_model.specs.Refusal.{code_of}
+-- What answers tell of a store.
+use Rattle.std.specs.Prelude.{ℕ, ℤ, pos, ◌≡◌, ◌≢◌}
 use Rattle.patch_history.specs.Command.{Command, Reply}
 use Rattle.patch_history.specs.Command as reply
 use Rattle.patch_history.specs.History.{History}
 use Rattle.patch_store.specs.Meaning.{Store, IsStoreOf, HasAnswered}
-use Rattle.patch_c.specs.declared.answers.Answer.{Answer}
-use Rattle.patch_c.specs.declared.answers.Answer.TheVariants.{Done, Refused, BufferTooSmall, Absent, NoSync, BadWriter}
-
--- the number of an answer
-abbrev pub number_of : Answer → ℤ
-number_of Done = pos 0
-number_of (Refused kind) = pos (code_of kind)
-number_of BufferTooSmall = negsuc 3
-number_of Absent = negsuc 4
-number_of NoSync = negsuc 6
-number_of BadWriter = negsuc 7
-
--- this is said of the answer of the number
-abbrev pub IsOf : ℤ → (Answer → Type 0) → Type 0
-IsOf number Said = (answer : Answer) × (number ≡ number_of answer) × Said answer
+use Rattle.patch_handles.specs.declared.answers.Answer.{Answer}
+use Rattle.patch_handles.specs.declared.answers.Answer.TheVariants.{Done, Refused, Absent}
+use Rattle.patch_handles.specs.Answering.{number_of}
 
 -- what a reply comes to
 abbrev pub answer_of : Reply → Answer
@@ -56,14 +43,6 @@ pub record HasTellingOf (h : History) (writer : ℕ) (command : Command) (number
 abbrev pub TellsOf : (writer : ℕ) → Command → (number : ℤ) → (before now : ℕ) → (old new : Store) → Type 0
 TellsOf writer command number before now old new =
     (h : History) → IsStoreOf old h → HasTellingOf h writer command number before now old new
-
--- the writers that may engage groups have the numbers 0 to 6
-abbrev pub engaging_writer : ℕ → Option ℕ
-engaging_writer number = if nat_lt number 7 then Some number else None
-
--- a put or a delete is by one of them, or by the one that engages none
-abbrev pub writer_of : ℕ → Option ℕ
-writer_of number = if number == 4294967295 then Some 7 else engaging_writer number
 
 -- what was refused for want of memory aside, a call that is refused leaves the store as it was
 abbrev pub KeepsIfRefused : (number : ℤ) → (old new : Store) → Type 0

@@ -14,11 +14,11 @@ use Rattle.patch_history.specs.declared.refusals.OpenFault.{OpenFault}
 use Rattle.patch_history.specs.Refusals.{open_cause}
 use Rattle.patch_store.specs.Making.{new_disk}
 use Rattle.patch_store.specs.Opening.{IsOpened, IsFaultOf}
-use Rattle.patch_c.specs.declared.answers.Answer.{Answer}
-use Rattle.patch_c.specs.declared.answers.Answer.TheVariants.{Done, Refused, BufferTooSmall}
+use Rattle.patch_handles.specs.declared.answers.Answer.{Answer}
+use Rattle.patch_handles.specs.declared.answers.Answer.TheVariants.{Done, Refused, BufferTooSmall}
 use Rattle.patch_c.specs.declared.opened.Opened.{Opened}
 use Rattle.patch_c.specs.declared.unopened.Unopened.{Unopened}
-use Rattle.patch_c.specs.Answering.{number_of}
+use Rattle.patch_handles.specs.Answering.{number_of}
 use Rattle.patch_c.specs.Tape.{file_of, block_count_of, events_of}
 
 -- a block of so many bytes

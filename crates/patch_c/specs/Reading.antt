@@ -1,5 +1,5 @@
 -- What is copied out of a store: values, and entries of what it is checked to hold.
-use Rattle.std.specs.Prelude.{ℕ, ℤ, pos, ◌≡◌, ◌++◌, ◌⊎◌, nat_le, if◌then◌else◌, List, length, drop, slice_get, count_by, Option, Some, None}
+use Rattle.std.specs.Prelude.{ℕ, ℤ, pos, ◌≡◌, ◌⊎◌, List, length, slice_get, count_by, Option, Some, None}
 use Rattle.patch_model.specs.declared.refusals.Refusal.{Refusal}
 use Rattle.patch_model.specs.declared.refusals.RefusalKind.TheVariants.{NoSuchExtent}
 use Rattle.patch_model.specs.Entry.{is_live}
@@ -9,17 +9,10 @@ use Rattle.patch_history.specs.History.{History, standing_of, execution_of}
 use Rattle.patch_history.specs.Refusing.{why_no_key}
 use Rattle.patch_store.specs.Checking.{entries_of, extent_reports}
 use Rattle.patch_store.specs.declared.reports.ExtentReport.{ExtentReport}
-use Rattle.patch_c.specs.declared.answers.Answer.{Answer}
-use Rattle.patch_c.specs.declared.answers.Answer.TheVariants as answer
-use Rattle.patch_c.specs.Answering.{number_of}
-
--- a buffer with the bytes at its front, where they fit it
-abbrev pub copied : (bytes into : List ℕ) → List ℕ
-copied bytes into = if nat_le (length bytes) (length into) then bytes ++ drop (length bytes) into else into
-
--- and whether they do
-abbrev pub answer_copying : (bytes into : List ℕ) → Answer
-answer_copying bytes into = if nat_le (length bytes) (length into) then answer.Done else answer.BufferTooSmall
+use Rattle.patch_handles.specs.declared.answers.Answer.{Answer}
+use Rattle.patch_handles.specs.declared.answers.Answer.TheVariants as answer
+use Rattle.patch_handles.specs.Answering.{number_of}
+use Rattle.patch_handles.specs.Copying.{copied, answer_copying}
 
 -- A get: its number, its buffer and the length. It tells the value of the key, or that it has none; or why it can't be a key.
 abbrev pub value_told : Option (List ℕ) → (into : List ℕ) (len : ℕ) → ℤ × List ℕ × ℕ

@@ -12,8 +12,8 @@ use Rattle.patch_store.specs.Flushing.{StandsStill, HoldCached, with_writes}
 use Rattle.patch_store.specs.Meaning.{Store, IsStoreOf}
 use Rattle.patch_disks.specs.Answering.{IsSaved}
 use Rattle.patch_disks.specs.Running.{StandsOn}
-use Rattle.patch_c.specs.declared.answers.Answer.{Answer}
-use Rattle.patch_c.specs.declared.answers.Answer.TheVariants.{Done, Refused, BufferTooSmall, Absent, NoSync, BadWriter}
+use Rattle.patch_handles.specs.declared.answers.Answer.{Answer}
+use Rattle.patch_handles.specs.declared.answers.Answer.TheVariants.{Done, Refused, BufferTooSmall, Absent, NoSync, BadWriter, IsResident}
 use Rattle.patch_c.specs.declared.opened.Opened.{Opened}
 use Rattle.patch_c.specs.declared.tape.Tape.{Tape}
 use Rattle.patch_c.specs.Tape.{file_of, contents_of, moment_of, left_at_of, block_count_of, fault_count_of, events_of}
@@ -71,6 +71,7 @@ HasCause NoSync faults faults_now = ⊥
 HasCause BufferTooSmall faults faults_now = ⊥
 HasCause Absent faults faults_now = ⊥
 HasCause BadWriter faults faults_now = ⊥
+HasCause IsResident faults faults_now = ⊥
 
 -- What is on the tape was brought to the file, or given up: the store stays as it is, and it is spent where not all is there. Where all is,
 -- the file holds what the tape did; of what it holds where not all is nothing is said.

@@ -2,11 +2,11 @@
 use Rattle.std.specs.Prelude.{ℕ, ℤ, ◌≡◌, ◌≤◌, List, Bool, true, false, IsTrue, length, Option, Some, None}
 use Rattle.patch_device.specs.Blocks.{AreWhole}
 use Rattle.patch_device.specs.Device.{most_faults}
-use Rattle.patch_c.specs.declared.answers.Answer.TheVariants as answer
+use Rattle.patch_handles.specs.declared.answers.Answer.TheVariants as answer
 use Rattle.patch_c.specs.declared.tape.Tape.{Tape}
-use Rattle.patch_c.specs.Answering.{number_of}
+use Rattle.patch_handles.specs.Answering.{number_of}
 use Rattle.patch_device.specs.Cuts.{Event, cached_behind, written_behind, left_behind, all_land_behind}
-use Rattle.patch_c.specs.Reading.{copied, answer_copying}
+use Rattle.patch_handles.specs.Copying.{copied, answer_copying}
 
 -- how many blocks its file has
 abbrev pub block_count_of : Tape → ℕ

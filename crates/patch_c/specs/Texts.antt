@@ -3,9 +3,9 @@ use Rattle.std.specs.Ordering.{int_eq}
 use Rattle.std.specs.Prelude.{ℕ, ℤ, negsuc, ◌+◌, ◌++◌, min, List, [], ◌∷◌, length, take, drop, find, codes, Some, None}
 use Rattle.patch_model.specs.declared.refusals.RefusalKind.{RefusalKind}
 use Rattle.patch_model.specs.declared.refusals.RefusalKind.TheVariants as kind
-use Rattle.patch_c.specs.declared.answers.Answer.TheVariants.{Done, Refused, BufferTooSmall, Absent, NoSync, BadWriter}
-use Rattle.patch_c.specs.declared.answers.TheConstants.{NOT_OPEN, IS_OPEN}
-use Rattle.patch_c.specs.Answering.{number_of}
+use Rattle.patch_handles.specs.declared.answers.Answer.TheVariants.{Done, Refused, BufferTooSmall, Absent, NoSync, BadWriter, IsResident}
+use Rattle.patch_handles.specs.declared.answers.TheConstants.{NOT_OPEN, IS_OPEN}
+use Rattle.patch_handles.specs.Answering.{number_of}
 
 -- the number of a refusal
 abbrev pub refusal : RefusalKind → ℤ
@@ -19,13 +19,13 @@ in_use = negsuc 5
 abbrev pub is_read_only : ℤ
 is_read_only = negsuc 8
 
--- the numbers that are answered, each with what it means
+-- the numbers that a store answers, each with what it means
 abbrev pub texts : List (ℤ × List ℕ)
 texts =
     (number_of Done, codes "done")
     ∷ (refusal kind.OutOfMemory, codes "out of memory")
     ∷ (refusal kind.Disk, codes "the file can't be opened, made, read or written")
-    ∷ (refusal kind.FileSize, codes "the file has not as many blocks as a store")
+    ∷ (refusal kind.FileSize, codes "not as many blocks as there may be")
     ∷ (refusal kind.NumbersSpent, codes "all numbers of changes are spent: open it again")
     ∷ (refusal kind.TooManyLive, codes "too many changes are in memory: sync")
     ∷ (refusal kind.NoSuchGroup, codes "there is no such group")
@@ -51,8 +51,8 @@ texts =
     ∷ (refusal kind.BadFrame, codes "no store: a slot names no value")
     ∷ (refusal kind.DuplicateKey, codes "no store: two slots have one key")
     ∷ (refusal kind.DeviceGaveUp, codes "the file refused a write")
-    ∷ (NOT_OPEN, codes "the store isn't open")
-    ∷ (IS_OPEN, codes "the store is open")
+    ∷ (NOT_OPEN, codes "it isn't open")
+    ∷ (IS_OPEN, codes "it is open")
     ∷ (number_of BufferTooSmall, codes "the buffer is too small")
     ∷ (number_of Absent, codes "there is no such entry")
     ∷ (in_use, codes "the file is in use")
@@ -61,9 +61,42 @@ texts =
     ∷ (is_read_only, codes "the store was opened to be read")
     ∷ []
 
+-- and those that caches alone answer
+abbrev pub cache_texts : List (ℤ × List ℕ)
+cache_texts =
+    (refusal kind.NoSuchBlock, codes "there is no such block")
+    ∷ (refusal kind.Unknown, codes "no patch has this number")
+    ∷ (refusal kind.Durable, codes "the patch is durable")
+    ∷ (refusal kind.InFlight, codes "the patch is in flight")
+    ∷ (refusal kind.Hard, codes "the patch is hard: it isn't taken back")
+    ∷ (refusal kind.AlreadyTaken, codes "the patch is taken already")
+    ∷ (refusal kind.DependentApplied, codes "a patch that depends on it isn't taken")
+    ∷ (refusal kind.EmptyPatch, codes "a patch has 1 to 4,096 bytes")
+    ∷ (refusal kind.OutOfBlock, codes "it passes the end of the block")
+    ∷ (refusal kind.UnknownDependency, codes "it goes after a patch that isn't made")
+    ∷ (refusal kind.NotInMemory, codes "the patch isn't in memory")
+    ∷ (refusal kind.Same, codes "the two are one class")
+    ∷ (refusal kind.OtherBlock, codes "the two are of different blocks")
+    ∷ (refusal kind.Apart, codes "the two neither overlap nor touch")
+    ∷ (refusal kind.WouldCycle, codes "a class between the two isn't theirs")
+    ∷ (refusal kind.AlreadyInFlight, codes "a write of the block is under way")
+    ∷ (refusal kind.NothingReady, codes "nothing is ready")
+    ∷ (refusal kind.Stranger, codes "no such write is under way")
+    ∷ (refusal kind.Live, codes "a patch is live, or a group is open")
+    ∷ (refusal kind.NotResident, codes "the block isn't resident")
+    ∷ (number_of IsResident, codes "the block is resident")
+    ∷ []
+
+-- what an answer of this number means by these texts
+abbrev pub text_in : List (ℤ × List ℕ) → ℤ → (otherwise : List ℕ) → List ℕ
+text_in those answer otherwise = elim (find (λ text. int_eq text.0 answer) those) [ Some text ↦ text.1 | None ↦ otherwise ]
+
+abbrev pub cache_text_of : ℤ → List ℕ
+cache_text_of answer = text_in cache_texts answer (codes "unknown answer")
+
 -- what an answer of this number means
 abbrev pub text_of : ℤ → List ℕ
-text_of answer = elim (find (λ text. int_eq text.0 answer) texts) [ Some text ↦ text.1 | None ↦ codes "unknown answer" ]
+text_of answer = text_in texts answer (cache_text_of answer)
 
 -- so many bytes of the text, a zero byte, and what stood behind
 abbrev pub with_first : (count : ℕ) → (text into : List ℕ) → List ℕ

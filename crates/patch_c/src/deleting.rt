@@ -1,14 +1,15 @@
 //! Room: how values are deleted, and what they took is won back.
 ghost use Rattle.std.specs.Prelude.{ℕ, ◌≡◌, ◌↔◌, IsTrue, IsFalse, IfSome, IsNone};
 ghost use Rattle.patch_history.specs.Command.{Delete, Reclaim};
-ghost use Rattle.patch_c.specs.Answering.{number_of, writer_of as writer_for, Tells, KeepsIfRefused, KeepsUnlessDone};
+ghost use Rattle.patch_handles.specs.Answering.{number_of, writer_of as writer_for};
+ghost use Rattle.patch_c.specs.Answering.{Tells, KeepsIfRefused, KeepsUnlessDone};
 ghost use Rattle.patch_c.specs.Handle.{Between, KeepsRest, StaysClosed};
 
-use crate::answers::{Answer, NOT_OPEN, told};
+use crate::answers::told;
 use crate::handle::Handle;
 use crate::laws::calls_stay;
 use crate::opened::Opened;
-use crate::writers::writer_of;
+use patch_handles::{Answer, NOT_OPEN, writer_of};
 use std::alloc::Global;
 
 impl Opened {

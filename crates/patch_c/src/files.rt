@@ -1,16 +1,16 @@
 //! Files: what a new one holds, and how the store of one is opened and closed. The program in C makes, opens and closes the files.
 ghost use Rattle.std.specs.Prelude.{◌≡◌, ◌≢◌, ◌↔◌, IsTrue, IsFalse, IfSome, false};
-ghost use Rattle.patch_c.specs.Answering.{IsOf};
+ghost use Rattle.patch_handles.specs.Answering.{IsOf};
 ghost use Rattle.patch_c.specs.Handle.{IsZeros, StaysClosed};
 ghost use Rattle.patch_c.specs.Opening.{IsFresh, TellsWhyNot, AnswersMaking, HasMade, geometry_for as geometry_of};
 
-use crate::answers::{DONE, IS_OPEN, NOT_OPEN};
 use crate::handle::Handle;
 use crate::opening::{geometry_for, make_first, open_bytes};
+use patch_handles::{DONE, IS_OPEN, NOT_OPEN};
 use std::alloc::Global;
 
 /// `FSTCH_VERSION`.
-const VERSION: u32 = 301;
+const VERSION: u32 = 302;
 
 /// What `fstch_core_file` answers where no store is open.
 const NO_FILE: i32 = -1;

@@ -1,14 +1,15 @@
 //! Groups: an order in which puts and deletes reach the file.
 ghost use Rattle.std.specs.Prelude.{ℕ, ◌≡◌, ◌↔◌, IsTrue, IsFalse, IfSome, IsNone};
 ghost use Rattle.patch_history.specs.Command.{Group, Engage, Disengage, Depend, CloseGroup, Pending};
-ghost use Rattle.patch_c.specs.Answering.{number_of, engaging_writer as engaging, Tells, TellsOf, KeepsUnlessDone};
+ghost use Rattle.patch_handles.specs.Answering.{number_of, engaging_writer as engaging};
+ghost use Rattle.patch_c.specs.Answering.{Tells, TellsOf, KeepsUnlessDone};
 ghost use Rattle.patch_c.specs.Handle.{Between, KeepsRest, StaysClosed};
 
-use crate::answers::{Answer, NOT_OPEN, told};
+use crate::answers::told;
 use crate::handle::Handle;
 use crate::laws::calls_stay;
 use crate::opened::Opened;
-use crate::writers::engaging_writer;
+use patch_handles::{Answer, NOT_OPEN, engaging_writer};
 use patch_model::{GroupNo, Refuses};
 use std::alloc::Global;
 

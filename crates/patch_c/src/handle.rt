@@ -2,8 +2,8 @@
 ghost use Rattle.std.specs.Prelude.{◌↔◌, IsTrue, IsSome};
 
 use crate::opened::Opened;
-use crate::raw_box::RawBox;
 use crate::sealed::Sealed;
+use patch_handles::RawBox;
 use std::alloc::Global;
 use std::mem;
 

@@ -2,14 +2,13 @@
 ghost use Rattle.std.specs.Prelude.{◌≡◌, ◌↔◌, IsTrue, IsFalse, IfSome};
 ghost use Rattle.patch_history.specs.History.{History};
 ghost use Rattle.patch_store.specs.Meaning.{IsStoreOf};
-ghost use Rattle.patch_c.specs.Answering.{number_of};
+ghost use Rattle.patch_handles.specs.Answering.{number_of};
 ghost use Rattle.patch_c.specs.Handle.{StaysClosed};
 ghost use Rattle.patch_c.specs.Reading.{HasListed, HasCounted, HasMeasured, unsynced};
 
-use crate::answers::{Answer, DONE, NOT_OPEN};
-use crate::copying::copy_out;
 use crate::handle::Handle;
 use crate::opened::Opened;
+use patch_handles::{Answer, DONE, NOT_OPEN, copy_out};
 use patch_model::RefusalKind;
 use std::alloc::Global;
 

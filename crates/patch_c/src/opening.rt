@@ -4,8 +4,6 @@ ghost use Rattle.patch_device.specs.Blocks.{FitsFile};
 ghost use Rattle.patch_store.specs.Opening.{IsOpened};
 ghost use Rattle.patch_c.specs.Opening.{IsFresh, IsTested, IsWhyNot, AnswersMaking, HasMade, geometry_for};
 
-use crate::answers::Answer;
-use crate::copying::copy_out;
 use crate::file_blocks::{Given, blocks_in};
 use crate::held_blocks::HeldBlocks;
 use crate::opened::Opened;
@@ -13,6 +11,7 @@ use crate::tape::Tape;
 use crate::unopened::Unopened;
 use patch_cache::Cache;
 use patch_frame::{Format, Geometry, write_superblock};
+use patch_handles::{Answer, copy_out};
 use patch_model::{BLOCK, BlockBytes, RefusalKind, Refuses};
 use patch_store::Store;
 use std::alloc::Global;

@@ -7,8 +7,8 @@ ghost use Rattle.patch_store.specs.Meaning.{IsStoreOf};
 ghost use Rattle.patch_disks.specs.Running.{StandsOn};
 ghost use Rattle.patch_c.specs.Saving.{IsSynced, HasSaved, HasWrittenOn, HasKeptSafe, HasCause};
 
-use crate::answers::Answer;
 use patch_device::Device;
+use patch_handles::Answer;
 use patch_model::Refuses;
 use patch_store::{Store, flush};
 

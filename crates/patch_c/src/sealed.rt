@@ -5,7 +5,7 @@ ghost use Rattle.patch_c.specs.declared.opened.Opened.{Opened};
 ghost use Rattle.patch_c.specs.Sealed.{sealed_owns, opened_coded};
 
 use crate::opened::Opened;
-use crate::raw_box::RawBox;
+use patch_handles::RawBox;
 use std::alloc::Global;
 use std::marker::Model;
 use std::ptr;

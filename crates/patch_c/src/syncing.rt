@@ -5,16 +5,15 @@ ghost use Rattle.patch_history.specs.History.{History};
 ghost use Rattle.patch_store.specs.Flushing.{StandsStill};
 ghost use Rattle.patch_store.specs.Meaning.{IsStoreOf};
 ghost use Rattle.patch_disks.specs.Running.{StandsOn};
-ghost use Rattle.patch_c.specs.Answering.{number_of, IsOf};
+ghost use Rattle.patch_handles.specs.Answering.{number_of, IsOf};
 ghost use Rattle.patch_c.specs.Handle.{Between, StaysClosed};
 ghost use Rattle.patch_c.specs.Saving.{IsSynced, HasSaved, HasWrittenOn, LandsSafely, HasCause, LastsOnceDone, IsSettled};
 ghost use Rattle.patch_c.specs.Tape.{file_of, contents_of, block_count_of, fault_count_of, events_of, event_told};
 
-use crate::answers::{Answer, DONE, NOT_OPEN};
-use crate::copying::copy_out;
 use crate::handle::Handle;
 use crate::opened::Opened;
 use crate::saving::save;
+use patch_handles::{Answer, DONE, NOT_OPEN, copy_out};
 use patch_model::RefusalKind;
 use std::alloc::Global;
 

@@ -1,7 +1,6 @@
 //! The exports, called as C calls them: each test is a list of calls, with what each answers and tells.
 ghost use Rattle.std.specs.Prelude.{IsFalse};
 
-use crate::answers::{DONE, IS_OPEN, NOT_OPEN};
 use crate::deleting::{fstch_delete, fstch_reclaim};
 use crate::files::{
     fstch_core_barriers, fstch_core_close, fstch_core_file, fstch_core_make, fstch_core_open,
@@ -16,6 +15,7 @@ use crate::listing::{fstch_check, fstch_entry, fstch_extent, fstch_unsynced};
 use crate::syncing::{fstch_core_sync, fstch_core_synced, fstch_core_write};
 use crate::texts::fstch_error_text;
 use crate::values::{fstch_get, fstch_put};
+use patch_handles::{DONE, IS_OPEN, NOT_OPEN};
 use patch_model::BLOCK;
 use std::alloc::Global;
 use std::fmt::Debug;
@@ -494,5 +494,5 @@ fn texts_end(rt: HostRuntime) {
         expect_eq(&rt, &fstch_error_text(*answer, part(&mut into, *room)), len);
         expect_eq(&rt, &shows(&into, shown), &told(1));
     }
-    expect_eq(&rt, &fstch_version(), &301);
+    expect_eq(&rt, &fstch_version(), &302);
 }

@@ -2,7 +2,7 @@
 ghost use Rattle.std.specs.Prelude.{◌≡◌, ◌≢◌};
 ghost use Rattle.patch_c.specs.Opening.{number_told};
 
-use crate::answers::Answer;
+use patch_handles::Answer;
 use patch_model::{OutOfMemory, Refusal, Refuses};
 use std::alloc::{AllocError, AllocFailed};
 

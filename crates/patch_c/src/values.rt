@@ -3,16 +3,16 @@ ghost use Rattle.std.specs.Prelude.{◌≡◌, ◌↔◌, IsTrue, IsFalse, IfSom
 ghost use Rattle.patch_history.specs.Command.{Put};
 ghost use Rattle.patch_history.specs.History.{History};
 ghost use Rattle.patch_store.specs.Meaning.{IsStoreOf};
-ghost use Rattle.patch_c.specs.Answering.{number_of, writer_of as writer_for, Tells, KeepsIfRefused};
+ghost use Rattle.patch_handles.specs.Answering.{number_of, writer_of as writer_for};
+ghost use Rattle.patch_c.specs.Answering.{Tells, KeepsIfRefused};
 ghost use Rattle.patch_c.specs.Handle.{Between, KeepsRest, StaysClosed};
 ghost use Rattle.patch_c.specs.Reading.{HasGot};
 
-use crate::answers::{Answer, NOT_OPEN, told};
-use crate::copying::copy_out;
+use crate::answers::told;
 use crate::handle::Handle;
 use crate::laws::calls_stay;
 use crate::opened::Opened;
-use crate::writers::writer_of;
+use patch_handles::{Answer, NOT_OPEN, copy_out, writer_of};
 use patch_model::Refuses;
 use std::alloc::Global;
 

@@ -2,7 +2,8 @@ use Rattle.std.proofs.Common.{◌≡◌, ◌∙◌, ap, arith, w32, to_z, of_z, 
 use Rattle.std.specs.Prelude.{Some}
 use Rattle.patch_history.specs.Command.{Pending}
 use Rattle.patch_c.specs.declared.opened.Opened.{Opened}
-use Rattle.patch_c.specs.Answering.{number_of, TellsOf}
+use Rattle.patch_handles.specs.Answering.{number_of}
+use Rattle.patch_c.specs.Answering.{TellsOf}
 use Rattle.patch_c.proofs.Between.{read_so}
 use Rattle.patch_c.proofs.groups.fstch_group_pending.Goals as goal
 

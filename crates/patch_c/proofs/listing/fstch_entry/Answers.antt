@@ -4,7 +4,7 @@ use Rattle.patch_history.specs.History.{History}
 use Rattle.patch_store.specs.Meaning.{IsStoreOf}
 use Rattle.patch_c.specs.Reading.{HasListed}
 use Rattle.patch_c.specs.declared.opened.Opened.{Opened}
-use Rattle.patch_c.specs.Answering.{number_of}
+use Rattle.patch_handles.specs.Answering.{number_of}
 use Rattle.patch_c.proofs.Between.{read_so}
 use Rattle.patch_c.proofs.listing.fstch_entry.Goals as goal
 

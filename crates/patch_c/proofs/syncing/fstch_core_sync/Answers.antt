@@ -6,7 +6,7 @@ use Rattle.patch_store.specs.Flushing.{StandsStill}
 use Rattle.patch_store.specs.Meaning.{IsStoreOf}
 use Rattle.patch_disks.specs.Running.{StandsOn}
 use Rattle.patch_c.specs.declared.opened.Opened.{Opened}
-use Rattle.patch_c.specs.Answering.{number_of, IsOf}
+use Rattle.patch_handles.specs.Answering.{number_of, IsOf}
 use Rattle.patch_c.specs.Saving.{IsSynced, HasSaved, HasWrittenOn, LandsSafely, LastsOnceDone, HasCause}
 use Rattle.patch_c.proofs.Between.{between_so, told_so, done_is}
 use Rattle.patch_c.proofs.syncing.fstch_core_sync.Goals as goal

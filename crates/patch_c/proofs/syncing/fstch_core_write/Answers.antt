@@ -1,7 +1,7 @@
 use Rattle.std.proofs.Common.{◌≡◌, ◌∙◌, ap, arith, w32, to_z, of_z, to_z-of_z}
 use Rattle.std.specs.Prelude.{Some, slice_get}
 use Rattle.patch_c.specs.declared.opened.Opened.{Opened}
-use Rattle.patch_c.specs.Answering.{number_of}
+use Rattle.patch_handles.specs.Answering.{number_of}
 use Rattle.patch_c.specs.Tape.{events_of, event_told}
 use Rattle.patch_c.proofs.Between.{read_so}
 use Rattle.patch_c.proofs.syncing.fstch_core_write.Goals as goal

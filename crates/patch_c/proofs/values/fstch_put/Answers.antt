@@ -2,7 +2,8 @@ use Rattle.std.proofs.Common.{◌≡◌, ◌∙◌, ap, arith, w32, to_z, of_z, 
 use Rattle.std.specs.Prelude.{Some}
 use Rattle.patch_history.specs.Command.{Put}
 use Rattle.patch_c.specs.declared.opened.Opened.{Opened}
-use Rattle.patch_c.specs.Answering.{number_of, writer_of, Tells}
+use Rattle.patch_handles.specs.Answering.{number_of, writer_of}
+use Rattle.patch_c.specs.Answering.{Tells}
 use Rattle.patch_c.specs.Handle.{KeepsRest}
 use Rattle.patch_c.proofs.Between.{between_so, told_so, each_some}
 use Rattle.patch_c.proofs.values.fstch_put.Goals as goal

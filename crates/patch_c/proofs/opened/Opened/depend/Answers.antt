@@ -2,7 +2,7 @@ use Rattle.std.proofs.Common.{ap}
 use Rattle.patch_history.specs.Command.{Depend, Done}
 use Rattle.patch_group.specs.Refusals.{group_cause}
 use Rattle.patch_store.specs.Replies.{reply_to}
-use Rattle.patch_c.specs.Answering.{number_of}
+use Rattle.patch_handles.specs.Answering.{number_of}
 use Rattle.patch_c.proofs.CallNumbers.{tells_so}
 use Rattle.patch_c.proofs.opened.Opened.depend.Goals as goal
 

@@ -3,7 +3,8 @@ use Rattle.std.specs.Prelude.{IfSome, Some}
 use Rattle.patch_history.specs.Command.{Engage, Done}
 use Rattle.patch_group.specs.Refusals.{group_cause}
 use Rattle.patch_store.specs.Replies.{reply_to}
-use Rattle.patch_c.specs.Answering.{number_of, engaging_writer, Tells}
+use Rattle.patch_handles.specs.Answering.{number_of, engaging_writer}
+use Rattle.patch_c.specs.Answering.{Tells}
 use Rattle.patch_c.proofs.CallNumbers.{tells_so}
 use Rattle.patch_c.proofs.opened.Opened.engage.Goals as goal
 

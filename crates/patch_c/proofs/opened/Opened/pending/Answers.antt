@@ -2,8 +2,8 @@ use Rattle.std.proofs.Common.{pos, ap, refl}
 use Rattle.patch_history.specs.Command.{Pending, Count}
 use Rattle.patch_history.specs.Command as reply
 use Rattle.patch_group.specs.Refusals.{group_cause}
-use Rattle.patch_c.specs.declared.answers.Answer.TheVariants.{Refused}
-use Rattle.patch_c.specs.Answering.{number_of}
+use Rattle.patch_handles.specs.declared.answers.Answer.TheVariants.{Refused}
+use Rattle.patch_handles.specs.Answering.{number_of}
 use Rattle.patch_c.proofs.CallNumbers.{tells_of}
 use Rattle.patch_c.proofs.opened.Opened.pending.Goals as goal
 

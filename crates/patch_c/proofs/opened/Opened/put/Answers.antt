@@ -3,7 +3,8 @@ use Rattle.std.specs.Prelude.{IfSome, Some}
 use Rattle.patch_history.specs.Command.{Put, Done}
 use Rattle.patch_history.specs.Refusals.{put_cause}
 use Rattle.patch_store.specs.Replies.{reply_to}
-use Rattle.patch_c.specs.Answering.{number_of, writer_of, Tells}
+use Rattle.patch_handles.specs.Answering.{number_of, writer_of}
+use Rattle.patch_c.specs.Answering.{Tells}
 use Rattle.patch_c.proofs.CallNumbers.{tells_so}
 use Rattle.patch_c.proofs.opened.Opened.put.Goals as goal
 

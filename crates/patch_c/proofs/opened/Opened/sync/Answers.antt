@@ -1,6 +1,6 @@
 use Rattle.std.proofs.Common.{◌≡◌, rules}
 use Rattle.std.specs.Prelude.{IsFalse}
-use Rattle.patch_c.specs.declared.answers.Answer.TheVariants.{Done}
+use Rattle.patch_handles.specs.declared.answers.Answer.TheVariants.{Done}
 use Rattle.patch_c.specs.Tape.{contents_of}
 use Rattle.patch_c.proofs.Landing.{lands_so, empty_lasts, empty_stands}
 use Rattle.patch_c.proofs.Staying.{synced_stands}

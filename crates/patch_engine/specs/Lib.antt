@@ -1,0 +1,4 @@
+pub mod Meaning
+pub mod Refusals
+pub mod Showing
+pub mod Promise

@@ -1,0 +1,4 @@
+mod AsBox
+pub mod Between
+pub mod Telling
+pub mod Whole

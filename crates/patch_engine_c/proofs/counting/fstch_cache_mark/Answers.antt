@@ -1,0 +1,14 @@
+use Rattle.std.proofs.Common.{◌≡◌, ◌∙◌, ap, arith, w32, to_z, of_z, to_z-of_z}
+use Rattle.std.specs.Prelude.{Some}
+use Rattle.patch_handles.specs.Answering.{number_of}
+use Rattle.patch_engine_c.specs.declared.opened.Opened.{Opened}
+use Rattle.patch_engine_c.specs.Counting.{TellsMark}
+use Rattle.patch_engine_c.proofs.Between.{read_so}
+use Rattle.patch_engine_c.proofs.counting.fstch_cache_mark.Goals as goal
+
+pub returns-clause-told : goal.returns-clause-told
+returns-clause-told c =
+    let n : to_z w32 (of_z w32 c.number.result) ≡ number_of c.mark-answer.result = grind (arith, to_z-of_z) in
+    read_so c.args.handle.now c.deref.result.now
+    (λ number. TellsMark number c.args.patch c.args.mark.now c.mark-answer.new.mark)
+    _ c.mark-answer.result (ap (λ (o : Opened). Some o) c.deref.ensures ∙ c.in-Some.ensures.value) n c.mark-answer.ensures

@@ -1,0 +1,11 @@
+pub mod Answering
+pub mod Counting
+pub mod Grouping
+pub mod Handle
+pub mod Numbers
+pub mod Opening
+pub mod Paging
+pub mod Patching
+pub mod Reading
+pub mod Sealed
+pub mod Writing
