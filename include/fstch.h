@@ -1,6 +1,7 @@
 /* fstch: keys and values in one file that opens after every crash.
  *
- * This file is all that a caller has to read. It is C and C++. Link with libfstch.a or libfstch.so, which run on Linux on x86-64.
+ * This file is all that a caller has to read; the cache below the store has fstch_cache.h. It is C and C++. Link with libfstch.a or
+ * libfstch.so, which run on Linux on x86-64.
  *
  *     fstch_store store = FSTCH_CLOSED;
  *     fstch_open(&store, path, NULL);
@@ -42,7 +43,7 @@
 #include <stdint.h>
 
 /* The version of this interface: 10,000 for each major, 100 for each minor number, 1 for each patch. */
-#define FSTCH_VERSION 301
+#define FSTCH_VERSION 302
 
 #ifdef __cplusplus
 extern "C" {

@@ -1,9 +1,11 @@
-/* The proved calls that fstch.c stands on: exports of the crate patch_c that no program sees, since build-library hides their names.
- * They read and write no file. What fstch.h says of stores, of buffers and of answers holds of these too. */
+/* The proved calls that fstch.c and cache.c stand on: exports of the crates patch_c and patch_engine_c that no program sees, since
+ * build-library hides their names. They read and write no file. What fstch.h and fstch_cache.h say of stores, of caches, of buffers and of
+ * answers holds of these too. */
 #ifndef FSTCH_CORE_H
 #define FSTCH_CORE_H
 
 #include "fstch.h"
+#include "fstch_cache.h"
 
 /* Copies the first block of a new store, 4,096 bytes, to the front of `into`, and sets `blocks` to how many its file has. All others
  * are zeros.
@@ -48,5 +50,18 @@ int32_t fstch_core_synced(fstch_store *store, bool is_done);
 
 /* Closes a store, and leaves its file open. */
 int32_t fstch_core_close(fstch_store *store);
+
+/* fstch_cache_admit, of so many bytes.
+ *
+ * FSTCH_NO_SUCH_BLOCK, FSTCH_IS_RESIDENT, FSTCH_BUFFER_TOO_SMALL where they are less than a block, FSTCH_OUT_OF_MEMORY.
+ */
+int32_t fstch_core_cache_admit(fstch_cache *cache, uint32_t block, const void *bytes, size_t length);
+
+/* fstch_cache_read, of as many bytes as `into` has. */
+int32_t fstch_core_cache_read(fstch_cache *cache, uint32_t block, size_t start, void *into, size_t length);
+
+/* fstch_cache_without, of as many bytes as `into` has. */
+int32_t fstch_core_cache_without(fstch_cache *cache, uint32_t block, const uint32_t *patches, size_t count, size_t start, void *into,
+                                 size_t length, uint32_t *which);
 
 #endif

@@ -22,9 +22,12 @@ Groups bring changes to the file in an order, by one `sync` for all of them:
     with store.group(after=data):
         store[b"name"] = b"data"
 
+A `Cache` is the cache below the store, for a program that has its own layout of blocks and does its own reads and writes.
+
 A refused call raises an exception of `Error`, with the library's text and its number.
 """
 
+from .cache import BLOCK, MAX_BLOCKS, MAX_LIVE, Cache, CacheCounts, CacheGroup, Flight, Mark
 from .errors import *
 from .errors import __all__ as _errors
 from .library import VERSION
@@ -33,4 +36,5 @@ from .store import MAX_KEY, MAX_VALUE, Counts, Extent, Group, Store, make, open
 __version__ = f"{VERSION // 10000}.{VERSION // 100 % 100}.{VERSION % 100}"
 
 # (without `open`, which is a name of Python's own)
-__all__ = ["MAX_KEY", "MAX_VALUE", "VERSION", "Counts", "Extent", "Group", "Store", "__version__", "make", *_errors]
+_cache = ["BLOCK", "MAX_BLOCKS", "MAX_LIVE", "Cache", "CacheCounts", "CacheGroup", "Flight", "Mark"]
+__all__ = ["MAX_KEY", "MAX_VALUE", "VERSION", "Counts", "Extent", "Group", "Store", "__version__", "make", *_cache, *_errors]

@@ -1,4 +1,4 @@
-"""Why a store refuses a call: an exception for each answer of the library, under the one base `Error`."""
+"""Why a store or a cache refuses a call: an exception for each answer of the library, under the one base `Error`."""
 
 from __future__ import annotations
 
@@ -9,44 +9,65 @@ from typing import Optional
 __all__ = [
     "Error",
     "Absent",
+    "AlreadyInFlight",
+    "AlreadyTaken",
+    "Apart",
     "BadFrame",
     "BadPointer",
     "BadSlot",
     "BadSuper",
     "BadWriter",
     "BufferTooSmall",
+    "DependentApplied",
     "DeviceGaveUp",
     "Disk",
     "DiskForbidden",
     "DiskMissing",
     "DiskTaken",
     "DuplicateKey",
+    "Durable",
     "EmptyExtent",
+    "EmptyPatch",
     "Engaged",
     "FileSize",
     "GenerationSpent",
     "Geometry",
+    "Hard",
+    "InFlight",
     "InUse",
     "IndexFull",
     "IsOpen",
+    "IsResident",
     "KeyLength",
+    "Live",
     "NoKey",
     "NoSpace",
+    "NoSuchBlock",
     "NoSuchExtent",
     "NoSuchGroup",
     "NoSync",
     "NotEngaged",
+    "NotInMemory",
     "NotOpen",
+    "NotResident",
+    "NothingReady",
     "NumbersSpent",
     "OpenExtent",
+    "OtherBlock",
+    "OutOfBlock",
     "OutOfMemory",
     "ReadOnly",
+    "Same",
     "SameGroup",
     "Sealed",
     "Started",
+    "Stranger",
     "TooManyGroups",
     "TooManyLive",
+    "Unknown",
+    "UnknownDependency",
     "ValueLength",
+    "WouldCycle",
 ]
 
 
@@ -59,16 +80,19 @@ class Error(Exception):
     slot: Optional[int] = None
     """The first slot of the index that is wrong, where the exception has one."""
 
+    patch: Optional[int] = None
+    """The number of the patch that the exception is about, where a cache tells one."""
+
     def __str__(self) -> str:
         # (as it is, also of a KeyError, which would quote it)
         return str(self.args[0]) if self.args else type(self).__name__
 
 
-# The store's own refusals, from 1 on.
+# The store's own refusals, from 1 on; some of them are also a cache's.
 
 
 class OutOfMemory(Error, MemoryError):
-    """There was no memory. Each key has the value that it had."""
+    """There was no memory. Each key of a store has the value that it had."""
 
     number = 1
 
@@ -93,19 +117,19 @@ class DiskForbidden(Disk, PermissionError):
 
 
 class FileSize(Error):
-    """The file's length isn't that of a store."""
+    """The file's length isn't that of a store; or a cache is to have no blocks, or too many."""
 
     number = 5
 
 
 class NumbersSpent(Error):
-    """16,777,216 patches were made since the store was opened: close it and open it again."""
+    """16,777,216 patches were made since the store was opened: close it and open it again. A cache is renewed."""
 
     number = 17
 
 
 class TooManyLive(Error):
-    """65,536 patches are in memory: a sync makes room."""
+    """65,536 patches are in memory: a sync makes room. Of a cache, or in flight: writes have to be completed."""
 
     number = 18
 
@@ -147,7 +171,7 @@ class NotEngaged(Error):
 
 
 class TooManyGroups(Error):
-    """1,024 groups were made since the store was opened, closed ones counted."""
+    """1,024 groups were made since the store was opened, closed ones counted; or since the cache was opened or renewed."""
 
     number = 33
 
@@ -248,17 +272,146 @@ class DeviceGaveUp(Error, OSError):
     number = 57
 
 
+# A cache's refusals.
+
+
+class NoSuchBlock(Error, IndexError):
+    """The cache has no block of this number."""
+
+    number = 2
+
+
+class Unknown(Error):
+    """No patch has the number; or, where it is to be left out, one that isn't durable, of another block."""
+
+    number = 6
+
+
+class Durable(Error):
+    """The patch is on the disk, so it can't be left out."""
+
+    number = 7
+
+
+class InFlight(Error):
+    """The patch's write is under way, so it can't be left out."""
+
+    number = 8
+
+
+class Hard(Error):
+    """The patch is hard, so it is neither merged nor left out. Of a merge, `patch` is which one."""
+
+    number = 9
+
+
+class AlreadyTaken(Error):
+    """The class of the patch is left out already."""
+
+    number = 10
+
+
+class DependentApplied(Error):
+    """Another class of the block, whose name is `patch`, depends on the patch's, and isn't left out."""
+
+    number = 11
+
+
+class EmptyPatch(Error, ValueError):
+    """The patch is to have no bytes."""
+
+    number = 14
+
+
+class OutOfBlock(Error, ValueError):
+    """The bytes pass the end of the block."""
+
+    number = 15
+
+
+class UnknownDependency(Error):
+    """The patch names a number that no patch has."""
+
+    number = 16
+
+
+class NotInMemory(Error):
+    """`patch` isn't in memory any more."""
+
+    number = 19
+
+
+class Same(Error):
+    """The two patches are of one class already."""
+
+    number = 20
+
+
+class OtherBlock(Error):
+    """The two patches are of two blocks."""
+
+    number = 21
+
+
+class Apart(Error):
+    """The bytes of the two classes neither overlap nor touch."""
+
+    number = 22
+
+
+class WouldCycle(Error):
+    """A third class, whose name is `patch`, goes after one of the two and before the other."""
+
+    number = 23
+
+
+class AlreadyInFlight(Error):
+    """A write of the block is under way."""
+
+    number = 24
+
+
+class NothingReady(Error):
+    """Nothing of the block may go to the disk now."""
+
+    number = 25
+
+
+class Stranger(Error):
+    """No such write is under way: it was completed, or never begun."""
+
+    number = 26
+
+
+class Live(Error):
+    """A patch is in memory or in flight, or a group is in use."""
+
+    number = 62
+
+
+class NotResident(Error):
+    """The block isn't resident: it wasn't admitted, or it was let go."""
+
+    number = 63
+
+
+class IsResident(Error):
+    """The block is resident already."""
+
+    number = -20
+
+
 # The library's own, below 0.
 
 
 class NotOpen(Error, ValueError):
-    """The store is closed."""
+    """The store or the cache is closed."""
 
     number = -1
 
 
 class IsOpen(Error):
-    """The store is open already."""
+    """The store or the cache is open already."""
 
     number = -2
 

@@ -1,4 +1,4 @@
-"""The calls of the C library, as its header `fstch.h` declares them."""
+"""The calls of the C library, as its headers `fstch.h` and `fstch_cache.h` declare them."""
 
 from __future__ import annotations
 
@@ -10,9 +10,23 @@ from typing import Any, Iterator, Optional, Union
 
 from . import errors
 
-__all__ = ["MAX_KEY", "VERSION", "Handle", "calls", "delete", "entry", "get", "put", "refusal", "require_done", "text_of"]
+__all__ = [
+    "MAX_KEY",
+    "VERSION",
+    "Handle",
+    "bytes_of",
+    "calls",
+    "delete",
+    "entry",
+    "get",
+    "number_of",
+    "put",
+    "refusal",
+    "require_done",
+    "text_of",
+]
 
-VERSION = 301
+VERSION = 302
 """The version of the interface that this module is written for: of its major and minor number the library has to be."""
 
 MAX_KEY = 32
@@ -27,12 +41,12 @@ ROOM = 4096
 
 
 class Handle(ctypes.Structure):
-    """A store that is open, or none: zeros."""
+    """A store or a cache that is open, or none: zeros."""
 
     _fields_ = [("is_open", c_bool), ("at", c_void_p)]
 
 
-# (a store goes by its handle's address)
+# (a store or a cache goes by its handle's address)
 _STORE, _NUMBER, _SIZE = c_void_p, POINTER(c_uint32), POINTER(c_size_t)
 _BYTES = (c_char_p, c_size_t)
 # A buffer that is written to.
@@ -58,6 +72,28 @@ _ANSWERING = {
     "group_depend": (_STORE, c_uint32, c_uint32),
     "group_close": (_STORE, c_uint32),
     "group_pending": (_STORE, c_uint32, _NUMBER),
+    "cache_open": (_STORE, c_uint32),
+    "cache_admit": (_STORE, c_uint32, c_char_p),
+    "cache_evict": (_STORE, c_uint32),
+    "cache_renew": (_STORE,),
+    "cache_close": (_STORE,),
+    "cache_counts": (_STORE, _NUMBER, _NUMBER, _NUMBER, _NUMBER),
+    "cache_patch": (_STORE, c_uint32, c_uint32, c_size_t, *_BYTES, _NUMBER, c_size_t, c_uint32, _NUMBER),
+    "cache_merge": (_STORE, c_uint32, c_uint32, _NUMBER, _NUMBER),
+    "cache_mark": (_STORE, c_uint32, _NUMBER),
+    "cache_read": (_STORE, c_uint32, c_size_t, c_size_t, c_void_p),
+    "cache_without": (_STORE, c_uint32, _NUMBER, c_size_t, c_size_t, c_size_t, c_void_p, _NUMBER),
+    "cache_next": (_STORE, _NUMBER),
+    "cache_send": (_STORE, c_uint32, _NUMBER, *_ROOM),
+    "cache_image": (_STORE, c_uint32, c_uint32, *_ROOM),
+    "cache_flight": (_STORE, c_uint32, c_uint32, _NUMBER, c_size_t, _SIZE),
+    "cache_complete": (_STORE, c_uint32, c_uint32),
+    "cache_group": (_STORE, _NUMBER),
+    "cache_group_engage": (_STORE, c_uint32, c_uint32),
+    "cache_group_disengage": (_STORE, c_uint32, c_uint32),
+    "cache_group_depend": (_STORE, c_uint32, c_uint32),
+    "cache_group_close": (_STORE, c_uint32),
+    "cache_group_pending": (_STORE, c_uint32, _NUMBER),
 }
 _OTHERS = {
     "is_open": (c_bool, _STORE),
@@ -161,6 +197,23 @@ get, put, delete, entry = _get, _put, _delete, _entry
 _made = _direct()
 if _made is not None:
     get, put, delete, entry = _made.get, _made.put, _made.delete, _made.entry
+
+
+def number_of(value: int) -> int:
+    """A number as the library takes it: ctypes would cut off what is too much."""
+    if not 0 <= value < 2**32:
+        raise ValueError(f"{value} is no number from 0 to {2**32 - 1}")
+    return value
+
+
+def bytes_of(value: object, what: str) -> bytes:
+    """Bytes, of anything that holds some."""
+    if isinstance(value, bytes):
+        return value
+    try:
+        return memoryview(value).tobytes()  # type: ignore[arg-type]
+    except TypeError:
+        raise TypeError(f"{what} bytes, and no {type(value).__name__}") from None
 
 
 def text_of(answer: int) -> str:

@@ -3,19 +3,17 @@
 from __future__ import annotations
 
 import contextlib
-import ctypes
 import itertools
 import os
-import threading
-import warnings
 import weakref
 from collections.abc import Iterable, Iterator, Mapping, MutableMapping
 from ctypes import byref, c_size_t, c_uint32
 from types import TracebackType
 from typing import Any, Callable, NamedTuple, NoReturn, Optional, Type, Union
 
-from . import errors, library
-from .library import MAX_KEY, Handle, calls, refusal, require_done
+from . import errors, forking, library
+from .library import MAX_KEY, bytes_of, calls, number_of, refusal, require_done
+from .opened import WRITER, AnyGroup, Opened, SharedCalls
 
 __all__ = ["MAX_KEY", "MAX_VALUE", "Counts", "Extent", "Group", "Store", "make", "open"]
 
@@ -24,8 +22,6 @@ Path = Union[str, bytes, "os.PathLike[str]", "os.PathLike[bytes]"]
 MAX_VALUE = 131072
 """The most bytes of a value of any store. One whose extents have 16 blocks has the lower limits of `make`."""
 
-# The writer of all changes: they belong to the groups that are entered.
-WRITER = 0
 # The flag of a store whose syncs are one sync of the file each, and that of one that is to be read alone.
 NO_BARRIERS = 1
 READ_ONLY = 2
@@ -33,9 +29,6 @@ READ_ONLY = 2
 NO_SLOT = 2**32 - 1
 # How a file is divided that an open makes: the largest one.
 GEOMETRY = {"index_blocks": 16, "extents": 63, "extent_blocks": 64}
-
-# The stores that are open. A forked child closes them: it would write to the same files.
-_opened: weakref.WeakValueDictionary[int, Store] = weakref.WeakValueDictionary()
 
 
 def make(path: Path, *, index_blocks: int, extents: int, extent_blocks: int = 0) -> None:
@@ -47,7 +40,7 @@ def make(path: Path, *, index_blocks: int, extents: int, extent_blocks: int = 0)
 
     Raises `Geometry`, `OutOfMemory` and `Disk`.
     """
-    numbers = (_number(it) for it in (index_blocks, extents, extent_blocks))
+    numbers = (number_of(it) for it in (index_blocks, extents, extent_blocks))
     require_done(calls.fstch_make(_name(path), *numbers), path)
 
 
@@ -105,7 +98,7 @@ class Extent(NamedTuple):
     filled: int
 
 
-class Store(MutableMapping[bytes, bytes]):
+class Store(Opened, MutableMapping[bytes, bytes]):
     """The keys and values of a file, a mapping of bytes to bytes.
 
     What is put or deleted stands in memory alone until `sync`, which brings it to the file and lets it last there. `close` doesn't
@@ -121,14 +114,12 @@ class Store(MutableMapping[bytes, bytes]):
     is in a call. A store can't be copied or pickled, and a child that is forked has it closed.
     """
 
+    _word = "store"
+    _calls = SharedCalls.of("fstch_")
+
     def __init__(self, path: Path, *, barriers: bool = True, read_only: bool = False) -> None:
-        if hasattr(self, "_handle"):
-            raise TypeError("a store is opened once")
-        self._handle = Handle()
-        # (a signal's handler may call the store in the midst of a call)
-        self._lock = threading.RLock()
+        super().__init__()
         self._is_read_only = read_only
-        self._at = ctypes.addressof(self._handle)
         # (those who go over the keys)
         self._walks: weakref.WeakSet[_Walk] = weakref.WeakSet()
         self._path = path
@@ -139,7 +130,7 @@ class Store(MutableMapping[bytes, bytes]):
             error = refusal(answer, path)
             error.slot = None if slot.value == NO_SLOT else slot.value
             raise error
-        _opened[id(self)] = self
+        forking.hold_for_forks(self)  # (it would write to the same file)
 
     @property
     def is_open(self) -> bool:
@@ -148,10 +139,7 @@ class Store(MutableMapping[bytes, bytes]):
 
     def close(self) -> None:
         """Closes the store, and lets go of the file's lock. It doesn't sync. Closing a closed store does nothing."""
-        with self._lock:
-            if self._handle.is_open:
-                require_done(calls.fstch_close(self._at))
-                _opened.pop(id(self), None)
+        super().close()
 
     def sync(self) -> None:
         """Brings all changes to the file, and waits until the system lets them last. Nothing is written before what it rests on lasts.
@@ -183,7 +171,7 @@ class Store(MutableMapping[bytes, bytes]):
     def extent(self, number: int) -> Extent:
         """How full an extent is. Extents are numbered from 0. Raises `NoSuchExtent`."""
         live, filled = c_uint32(), c_uint32()
-        self._require(calls.fstch_extent, _number(number), byref(live), byref(filled), about=number)
+        self._require(calls.fstch_extent, number_of(number), byref(live), byref(filled), about=number)
         return Extent(live.value, filled.value)
 
     def reclaim(self, extent: int) -> None:
@@ -192,7 +180,7 @@ class Store(MutableMapping[bytes, bytes]):
         Raises `NoSuchExtent`, `EmptyExtent`, `OpenExtent`, `GenerationSpent`, `NoSpace`, `NumbersSpent`, `TooManyLive` and
         `OutOfMemory`.
         """
-        self._change(calls.fstch_reclaim, _number(extent), about=extent)
+        self._change(calls.fstch_reclaim, number_of(extent), about=extent)
 
     def group(self, after: Union[None, Group, Iterable[Group]] = None) -> Group:
         """A new group, which goes to the file after one or some others.
@@ -201,16 +189,7 @@ class Store(MutableMapping[bytes, bytes]):
 
         Raises `TooManyGroups`, `OutOfMemory`, and what `Group.depend` raises.
         """
-        number = c_uint32()
-        self._require(calls.fstch_group, byref(number))
-        made = Group(self, number.value)
-        try:
-            for earlier in (after,) if isinstance(after, Group) else after or ():
-                made.depend(earlier)
-        except BaseException:
-            made.close()
-            raise
-        return made
+        return self._new_group(Group, after)
 
     # The mapping.
 
@@ -300,11 +279,6 @@ class Store(MutableMapping[bytes, bytes]):
 
     # Calls of the library, one at a time.
 
-    def _require(self, call: Callable[..., int], *given: object, about: object = None) -> None:
-        with self._lock:
-            answer = call(self._at, *given)
-        require_done(answer, about)
-
     def _change(self, call: Callable[..., int], *given: object, about: object = None) -> None:
         require_done(self._answer_changing(call, *given), about)
 
@@ -320,11 +294,6 @@ class Store(MutableMapping[bytes, bytes]):
 
     # Opening and closing.
 
-    def __enter__(self) -> Store:
-        if not self._handle.is_open:
-            require_done(errors.NotOpen.number)
-        return self
-
     def __exit__(
         self,
         kind: Optional[Type[BaseException]],
@@ -338,21 +307,8 @@ class Store(MutableMapping[bytes, bytes]):
         finally:
             self.close()
 
-    def __del__(self) -> None:
-        # (there is no handle where the path was no path)
-        handle = getattr(self, "_handle", None)
-        if handle is not None and handle.is_open:
-            warnings.warn(f"{self!r} was never closed", ResourceWarning, source=self)
-            self.close()
-
     def __copy__(self) -> NoReturn:
         raise TypeError("a store can't be copied: its file has one")
-
-    def __deepcopy__(self, memo: object) -> NoReturn:
-        self.__copy__()
-
-    def __reduce__(self) -> NoReturn:
-        self.__copy__()
 
     def __repr__(self) -> str:
         return f"<fstch.Store {self._path!r}{'' if self._handle.is_open else ', closed'}>"
@@ -383,7 +339,7 @@ class _Walk(Iterator[bytes]):
             self._rest = iter([entry[0] for entry in entries if entry])
 
 
-class Group:
+class Group(AnyGroup):
     """Changes that go to the file in an order: whatever a crash leaves, where it has a change of a group, it has all changes of the
     groups before it. The order costs what its syncs of the file cost, which one `sync` of the store makes for all groups together.
 
@@ -392,46 +348,30 @@ class Group:
     """
 
     def __init__(self, store: Store, number: int) -> None:
-        self._store = store
-        self.number = number
+        super().__init__(store, number)
 
     def depend(self, earlier: Group) -> None:
         """Lets this group go to the file after an earlier one. This one was not entered yet, and the other one isn't now.
 
         Raises `NoSuchGroup`, `SameGroup`, `Sealed`, `Started`, `Engaged` and `OutOfMemory`.
         """
-        if earlier._store is not self._store:
-            raise ValueError("a group goes after groups of its own store")
-        self._store._require(calls.fstch_group_depend, self.number, earlier.number, about=earlier)
+        self._depend(earlier)
 
     @property
     def pending(self) -> int:
         """How many pieces of the group's changes haven't reached the file; a put has several. Raises `NoSuchGroup`."""
-        count = c_uint32()
-        self._store._require(calls.fstch_group_pending, self.number, byref(count), about=self)
-        return count.value
+        return self._pending()
 
     def close(self) -> None:
         """Ends the use of the group. Its changes stay, in their order. Raises `NoSuchGroup` and `Engaged`."""
-        self._store._require(calls.fstch_group_close, self.number, about=self)
+        self._close()
 
-    def __enter__(self) -> Group:
-        """Enters the group. Raises `NoSuchGroup`, `Sealed`, `Engaged` and `OutOfMemory`."""
-        self._store._require(calls.fstch_group_engage, self.number, WRITER, about=self)
-        return self
-
-    def __exit__(
-        self,
-        kind: Optional[Type[BaseException]],
-        error: Optional[BaseException],
-        trace: Optional[TracebackType],
-    ) -> None:
+    def __exit__(self, *raised: object) -> None:
         """Leaves the group. Where the store was closed inside, there is nothing to leave."""
-        if self._store.is_open:
-            self._store._require(calls.fstch_group_disengage, self.number, WRITER, about=self)
+        self._leave()
 
     def __repr__(self) -> str:
-        return f"<fstch.Group {self.number} of {self._store!r}>"
+        return f"<fstch.Group {self.number} of {self._owner!r}>"
 
 
 def _name(path: Path) -> bytes:
@@ -442,44 +382,6 @@ def _name(path: Path) -> bytes:
     return name
 
 
-def _number(value: int) -> int:
-    """A number as the library takes it: ctypes would cut off what is too much."""
-    if not 0 <= value < 2**32:
-        raise ValueError(f"{value} is no number from 0 to {2**32 - 1}")
-    return value
-
-
 def _bytes(value: object) -> bytes:
-    """A key or value, of anything that holds bytes."""
-    if isinstance(value, bytes):
-        return value
-    try:
-        return memoryview(value).tobytes()  # type: ignore[arg-type]
-    except TypeError:
-        raise TypeError(f"keys and values are bytes, and no {type(value).__name__}") from None
-
-
-# A child is forked while no call is under way, and closes what its parent has open: the parent keeps its stores and their locks.
-
-_held: list[Store] = []
-
-
-def _hold() -> None:
-    for store in list(_opened.values()):
-        store._lock.acquire()
-        _held.append(store)
-
-
-def _let_go() -> None:
-    while _held:
-        _held.pop()._lock.release()
-
-
-def _close() -> None:
-    for store in _held:
-        store.close()
-    _let_go()
-
-
-if hasattr(os, "register_at_fork"):
-    os.register_at_fork(before=_hold, after_in_parent=_let_go, after_in_child=_close)
+    """A key or value."""
+    return bytes_of(value, "keys and values are")

@@ -1,6 +1,6 @@
-/* A store that is moved, and used by one thread after another; and how much of its stack a call takes. */
+/* A store and a cache that are moved, and used by one thread after another; and how much of its stack a call takes. */
 #define _GNU_SOURCE
-#include "wanting.h"
+#include "caching.h"
 
 #include <pthread.h>
 #include <unistd.h>
@@ -57,7 +57,45 @@ static void threads_share_a_store_that_is_moved(void) {
     WANT(FSTCH_DONE, fstch_close(&shared[place]));
 }
 
-/* A call on the store at hand, of which the stack is measured. */
+/* The cache that all threads share, and where it was before. Each has a block, in which it counts. */
+static fstch_cache shared_cache[2];
+
+static void *use_cache(void *number) {
+    for (uint32_t round = 0; round < ROUNDS; round++) {
+        uint32_t block = *(uint32_t *)number, seen = 0, patch = LEFT;
+        MUST(pthread_mutex_lock(&lock) == 0);
+        fstch_cache *at = &shared_cache[place];
+        WANT(FSTCH_DONE, fstch_cache_read(at, block, 0, sizeof seen, &seen));
+        WANT(round, seen++);
+        WANT(FSTCH_DONE, fstch_cache_patch(at, FSTCH_NO_WRITER, block, 0, &seen, sizeof seen, &patch, 0, 0, &patch));
+        if (round % 10 == 0) {
+            write_all(at);
+        }
+        shared_cache[1 - place] = *at;
+        memset(at, MARK, sizeof *at);
+        place = 1 - place;
+        MUST(pthread_mutex_unlock(&lock) == 0);
+    }
+    return NULL;
+}
+
+static void threads_share_a_cache_that_is_moved(void) {
+    pthread_t threads[THREADS];
+    uint32_t numbers[THREADS], blocks = 0, made = 0, live = 0, below = 0;
+    shared_cache[place] = new_cache(THREADS, THREADS);
+    for (uint32_t it = 0; it < THREADS; it++) {
+        numbers[it] = it;
+        MUST(pthread_create(&threads[it], NULL, use_cache, &numbers[it]) == 0);
+    }
+    for (int it = 0; it < THREADS; it++) {
+        MUST(pthread_join(threads[it], NULL) == 0);
+    }
+    WANT(FSTCH_DONE, fstch_cache_counts(&shared_cache[place], &blocks, &made, &live, &below));
+    WANT(THREADS * ROUNDS, made);
+    WANT(FSTCH_DONE, fstch_cache_close(&shared_cache[place]));
+}
+
+/* A call on the store or the cache at hand, of which the stack is measured. */
 typedef struct {
     const char *name;
     void (*call)(void);
@@ -133,12 +171,84 @@ static void call_close(void) {
     WANT(FSTCH_DONE, fstch_close(&store));
 }
 
+static fstch_cache cache;
+static uint8_t image[FSTCH_BLOCK];
+enum { PATCHES = 300 };
+static uint32_t patches[PATCHES], flying;
+
+static void call_cache_open(void) {
+    WANT(FSTCH_DONE, fstch_cache_open(&cache, FSTCH_MAX_BLOCKS));
+}
+
+static void call_cache_admit(void) {
+    WANT(FSTCH_DONE, fstch_cache_admit(&cache, 0, image));
+    WANT(FSTCH_DONE, fstch_cache_admit(&cache, FSTCH_MAX_BLOCKS - 1, image));
+}
+
+static void call_cache_patch(void) {
+    for (uint32_t it = 0; it < PATCHES; it++) {
+        uint32_t block = it % 2 ? FSTCH_MAX_BLOCKS - 1 : 0;
+        WANT(FSTCH_DONE, fstch_cache_patch(&cache, 0, block, it / 2, bytes, 1 + it % 9, patches, it, 0, &patches[it]));
+    }
+}
+
+static void call_cache_merge(void) {
+    WANT(FSTCH_WOULD_CYCLE, fstch_cache_merge(&cache, 0, 2, &number, &other));
+}
+
+static void call_cache_look(void) {
+    WANT(FSTCH_DONE, fstch_cache_read(&cache, 0, 0, sizeof image, image));
+    WANT(FSTCH_DONE, fstch_cache_without(&cache, 0, &patches[PATCHES - 2], 1, 0, sizeof image, image, &other));
+    WANT(FSTCH_DONE, fstch_cache_mark(&cache, PATCHES - 1, &number));
+    WANT(FSTCH_DONE, fstch_cache_counts(&cache, &number, &number, &number, &other));
+}
+
+static void call_cache_send(void) {
+    WANT(FSTCH_DONE, fstch_cache_next(&cache, &number));
+    WANT(FSTCH_DONE, fstch_cache_send(&cache, number, &flying, image, sizeof image));
+    WANT(FSTCH_DONE, fstch_cache_image(&cache, number, flying, image, sizeof image));
+    WANT(FSTCH_DONE, fstch_cache_flight(&cache, number, flying, patches, PATCHES, &length));
+}
+
+static void call_cache_complete(void) {
+    WANT(FSTCH_DONE, fstch_cache_complete(&cache, number, flying));
+    write_all(&cache);
+}
+
+static void call_cache_groups(void) {
+    uint32_t group = 0, later = 0;
+    WANT(FSTCH_DONE, fstch_cache_group(&cache, &group));
+    WANT(FSTCH_DONE, fstch_cache_group_engage(&cache, group, 1));
+    WANT(FSTCH_DONE, fstch_cache_patch(&cache, 1, 0, 0, bytes, 1, patches, 0, 0, &number));
+    WANT(FSTCH_DONE, fstch_cache_group_disengage(&cache, group, 1));
+    WANT(FSTCH_DONE, fstch_cache_group(&cache, &later));
+    WANT(FSTCH_DONE, fstch_cache_group_depend(&cache, later, group));
+    WANT(FSTCH_DONE, fstch_cache_group_pending(&cache, group, &number));
+    WANT(FSTCH_DONE, fstch_cache_group_close(&cache, group));
+}
+
+static void call_cache_renew(void) {
+    write_all(&cache);
+    WANT(FSTCH_DONE, fstch_cache_renew(&cache));
+}
+
+static void call_cache_evict(void) {
+    WANT(FSTCH_DONE, fstch_cache_evict(&cache, 0));
+}
+
+static void call_cache_close(void) {
+    WANT(FSTCH_DONE, fstch_cache_close(&cache));
+}
+
 static const measured CALLS[] = {
     {"make", call_make},       {"open", call_open},     {"put", call_put},       {"put again", call_put},
     {"get", call_get},         {"entry", call_entry},   {"check", call_check},   {"extent", call_extent},
     {"unsynced", call_unsynced}, {"groups", call_groups}, {"sync", call_sync},   {"reclaim", call_reclaim},
     {"delete", call_delete},   {"sync again", call_sync}, {"close", call_close}, {"open again", call_open},
     {"close again", call_close}, {"open to read", call_open_to_read}, {"close what was read", call_close},
+    {"cache open", call_cache_open}, {"cache admit", call_cache_admit}, {"cache patch", call_cache_patch}, {"cache merge", call_cache_merge},
+    {"cache look", call_cache_look}, {"cache send", call_cache_send}, {"cache complete", call_cache_complete},
+    {"cache groups", call_cache_groups}, {"cache renew", call_cache_renew}, {"cache evict", call_cache_evict}, {"cache close", call_cache_close},
 };
 
 /* Where the stack stands as a call begins. */
@@ -179,6 +289,7 @@ static void calls_take_little_of_the_stack(void) {
 
 int main(void) {
     threads_share_a_store_that_is_moved();
+    threads_share_a_cache_that_is_moved();
     calls_take_little_of_the_stack();
     return ended();
 }

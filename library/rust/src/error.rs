@@ -1,7 +1,7 @@
 //! Why a call was refused.
 
-use crate::sys;
-use std::{fmt, io};
+use crate::answers::answers;
+use std::io;
 
 /// What a call comes to.
 pub type Result<T> = std::result::Result<T, Error>;
@@ -117,115 +117,44 @@ pub enum Error {
     Unknown(i32),
 }
 
-impl Error {
-    /// The number of the answer, as the header has it.
-    pub fn number(&self) -> i32 {
-        match self {
-            Error::OutOfMemory => sys::FSTCH_OUT_OF_MEMORY,
-            Error::Disk(_) => sys::FSTCH_DISK,
-            Error::FileSize => sys::FSTCH_FILE_SIZE,
-            Error::NumbersSpent => sys::FSTCH_NUMBERS_SPENT,
-            Error::TooManyLive => sys::FSTCH_TOO_MANY_LIVE,
-            Error::NoSuchGroup => sys::FSTCH_NO_SUCH_GROUP,
-            Error::SameGroup => sys::FSTCH_SAME_GROUP,
-            Error::Started => sys::FSTCH_STARTED,
-            Error::Sealed => sys::FSTCH_SEALED,
-            Error::Engaged => sys::FSTCH_ENGAGED,
-            Error::NotEngaged => sys::FSTCH_NOT_ENGAGED,
-            Error::TooManyGroups => sys::FSTCH_TOO_MANY_GROUPS,
-            Error::NoSuchExtent => sys::FSTCH_NO_SUCH_EXTENT,
-            Error::GenerationSpent => sys::FSTCH_GENERATION_SPENT,
-            Error::KeyLength => sys::FSTCH_KEY_LENGTH,
-            Error::ValueLength => sys::FSTCH_VALUE_LENGTH,
-            Error::NoKey => sys::FSTCH_NO_KEY,
-            Error::IndexFull => sys::FSTCH_INDEX_FULL,
-            Error::NoSpace => sys::FSTCH_NO_SPACE,
-            Error::OpenExtent => sys::FSTCH_OPEN_EXTENT,
-            Error::EmptyExtent => sys::FSTCH_EMPTY_EXTENT,
-            Error::Geometry => sys::FSTCH_GEOMETRY,
-            Error::BadSuper => sys::FSTCH_BAD_SUPER,
-            Error::BadPointer => sys::FSTCH_BAD_POINTER,
-            Error::BadSlot { .. } => sys::FSTCH_BAD_SLOT,
-            Error::BadFrame { .. } => sys::FSTCH_BAD_FRAME,
-            Error::DuplicateKey { .. } => sys::FSTCH_DUPLICATE_KEY,
-            Error::DeviceGaveUp(_) => sys::FSTCH_DEVICE_GAVE_UP,
-            Error::NotOpen => sys::FSTCH_NOT_OPEN,
-            Error::IsOpen => sys::FSTCH_IS_OPEN,
-            Error::BufferTooSmall => sys::FSTCH_BUFFER_TOO_SMALL,
-            Error::Absent => sys::FSTCH_ABSENT,
-            Error::InUse => sys::FSTCH_IN_USE,
-            Error::NoSync => sys::FSTCH_NO_SYNC,
-            Error::BadWriter => sys::FSTCH_BAD_WRITER,
-            Error::IsReadOnly => sys::FSTCH_IS_READ_ONLY,
-            Error::Unknown(number) => *number,
-        }
-    }
-
-    /// The refusal of this number. It is made right behind the call, as long as errno says why the system refused one.
-    /// `slot` is what the call has set.
-    fn of(answer: i32, slot: u32) -> Error {
-        match answer {
-            sys::FSTCH_OUT_OF_MEMORY => Error::OutOfMemory,
-            sys::FSTCH_DISK => Error::Disk(io::Error::last_os_error()),
-            sys::FSTCH_FILE_SIZE => Error::FileSize,
-            sys::FSTCH_NUMBERS_SPENT => Error::NumbersSpent,
-            sys::FSTCH_TOO_MANY_LIVE => Error::TooManyLive,
-            sys::FSTCH_NO_SUCH_GROUP => Error::NoSuchGroup,
-            sys::FSTCH_SAME_GROUP => Error::SameGroup,
-            sys::FSTCH_STARTED => Error::Started,
-            sys::FSTCH_SEALED => Error::Sealed,
-            sys::FSTCH_ENGAGED => Error::Engaged,
-            sys::FSTCH_NOT_ENGAGED => Error::NotEngaged,
-            sys::FSTCH_TOO_MANY_GROUPS => Error::TooManyGroups,
-            sys::FSTCH_NO_SUCH_EXTENT => Error::NoSuchExtent,
-            sys::FSTCH_GENERATION_SPENT => Error::GenerationSpent,
-            sys::FSTCH_KEY_LENGTH => Error::KeyLength,
-            sys::FSTCH_VALUE_LENGTH => Error::ValueLength,
-            sys::FSTCH_NO_KEY => Error::NoKey,
-            sys::FSTCH_INDEX_FULL => Error::IndexFull,
-            sys::FSTCH_NO_SPACE => Error::NoSpace,
-            sys::FSTCH_OPEN_EXTENT => Error::OpenExtent,
-            sys::FSTCH_EMPTY_EXTENT => Error::EmptyExtent,
-            sys::FSTCH_GEOMETRY => Error::Geometry,
-            sys::FSTCH_BAD_SUPER => Error::BadSuper,
-            sys::FSTCH_BAD_POINTER => Error::BadPointer,
-            sys::FSTCH_BAD_SLOT => Error::BadSlot { slot },
-            sys::FSTCH_BAD_FRAME => Error::BadFrame { slot },
-            sys::FSTCH_DUPLICATE_KEY => Error::DuplicateKey { slot },
-            sys::FSTCH_DEVICE_GAVE_UP => Error::DeviceGaveUp(io::Error::last_os_error()),
-            sys::FSTCH_NOT_OPEN => Error::NotOpen,
-            sys::FSTCH_IS_OPEN => Error::IsOpen,
-            sys::FSTCH_BUFFER_TOO_SMALL => Error::BufferTooSmall,
-            sys::FSTCH_ABSENT => Error::Absent,
-            sys::FSTCH_IN_USE => Error::InUse,
-            sys::FSTCH_NO_SYNC => Error::NoSync,
-            sys::FSTCH_BAD_WRITER => Error::BadWriter,
-            sys::FSTCH_IS_READ_ONLY => Error::IsReadOnly,
-            _ => Error::Unknown(answer),
-        }
-    }
-}
-
-/// What a call comes to that sets no slot.
-pub(crate) fn done(answer: i32) -> Result<()> {
-    opened(answer, u32::MAX)
-}
-
-/// What an open comes to, with the slot that it has set.
-pub(crate) fn opened(answer: i32, slot: u32) -> Result<()> {
-    match answer {
-        sys::FSTCH_DONE => Ok(()),
-        _ => Err(Error::of(answer, slot)),
-    }
-}
-
-impl fmt::Display for Error {
-    fn fmt(&self, out: &mut fmt::Formatter<'_>) -> fmt::Result {
-        let mut text = [0_u8; sys::TEXT_ROOM];
-        // SAFETY: the buffer is as long as is said. The call takes any number, and copies as much of its text as fits.
-        let length = unsafe { sys::fstch_error_text(self.number(), text.as_mut_ptr().cast(), sys::TEXT_ROOM) };
-        out.pad(&String::from_utf8_lossy(text.get(..length).unwrap_or(&text)))
-    }
+answers! {
+    set: slot, other: Unknown,
+    OutOfMemory = FSTCH_OUT_OF_MEMORY,
+    Disk(io::Error::last_os_error()) = FSTCH_DISK,
+    FileSize = FSTCH_FILE_SIZE,
+    NumbersSpent = FSTCH_NUMBERS_SPENT,
+    TooManyLive = FSTCH_TOO_MANY_LIVE,
+    NoSuchGroup = FSTCH_NO_SUCH_GROUP,
+    SameGroup = FSTCH_SAME_GROUP,
+    Started = FSTCH_STARTED,
+    Sealed = FSTCH_SEALED,
+    Engaged = FSTCH_ENGAGED,
+    NotEngaged = FSTCH_NOT_ENGAGED,
+    TooManyGroups = FSTCH_TOO_MANY_GROUPS,
+    NoSuchExtent = FSTCH_NO_SUCH_EXTENT,
+    GenerationSpent = FSTCH_GENERATION_SPENT,
+    KeyLength = FSTCH_KEY_LENGTH,
+    ValueLength = FSTCH_VALUE_LENGTH,
+    NoKey = FSTCH_NO_KEY,
+    IndexFull = FSTCH_INDEX_FULL,
+    NoSpace = FSTCH_NO_SPACE,
+    OpenExtent = FSTCH_OPEN_EXTENT,
+    EmptyExtent = FSTCH_EMPTY_EXTENT,
+    Geometry = FSTCH_GEOMETRY,
+    BadSuper = FSTCH_BAD_SUPER,
+    BadPointer = FSTCH_BAD_POINTER,
+    BadSlot { slot } = FSTCH_BAD_SLOT,
+    BadFrame { slot } = FSTCH_BAD_FRAME,
+    DuplicateKey { slot } = FSTCH_DUPLICATE_KEY,
+    DeviceGaveUp(io::Error::last_os_error()) = FSTCH_DEVICE_GAVE_UP,
+    NotOpen = FSTCH_NOT_OPEN,
+    IsOpen = FSTCH_IS_OPEN,
+    BufferTooSmall = FSTCH_BUFFER_TOO_SMALL,
+    Absent = FSTCH_ABSENT,
+    InUse = FSTCH_IN_USE,
+    NoSync = FSTCH_NO_SYNC,
+    BadWriter = FSTCH_BAD_WRITER,
+    IsReadOnly = FSTCH_IS_READ_ONLY,
 }
 
 impl std::error::Error for Error {
@@ -240,6 +169,7 @@ impl std::error::Error for Error {
 #[cfg(test)]
 mod tests {
     use super::*;
+    use crate::sys;
 
     #[test]
     fn each_number_has_a_variant_and_a_text() {
@@ -250,11 +180,10 @@ mod tests {
             if !matches!(error, Error::Unknown(_)) {
                 assert_ne!(error.to_string(), "unknown answer");
                 known += 1;
-            } else if number != sys::FSTCH_DONE {
-                assert_eq!(error.to_string(), "unknown answer");
             }
         }
         assert_eq!(known, 36);
+        assert_eq!(Error::of(100, 3).to_string(), "unknown answer");
     }
 
     #[test]

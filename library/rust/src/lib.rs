@@ -36,6 +36,8 @@
 //! its disk: what was written to the file before an fsync or fdatasync that succeeded is there, and of what was written
 //! since, each block of 4,096 bytes is old or new.
 //!
+//! [`cache`] is the cache below the store, for a program that has its own layout of blocks and does its own reads and writes.
+//!
 //! Each method is a call of the header `fstch.h`, and answers what that answers: [`Error`] has a variant for each
 //! refusal. What the header leaves to its callers the types of this crate see to, but for this:
 //!
@@ -54,6 +56,8 @@
 #[cfg(not(all(target_os = "linux", target_arch = "x86_64")))]
 compile_error!("libfstch.a runs on Linux on x86-64");
 
+mod answers;
+pub mod cache;
 mod error;
 mod groups;
 mod listing;

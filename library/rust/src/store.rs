@@ -1,6 +1,6 @@
 //! A store: its file, and its values.
 
-use crate::error::{done, opened, Error, Result};
+use crate::error::{done, telling, Error, Result};
 use crate::options::{Geometry, Options};
 use crate::{sys, MAX_KEY, NO_WRITER};
 use std::cell::UnsafeCell;
@@ -114,7 +114,7 @@ impl Store {
         let path = name_of(path)?;
         let store = Store::closed();
         let mut slot = u32::MAX;
-        opened(open(store.handle(), path.as_ptr(), &mut slot), slot)?;
+        telling(open(store.handle(), path.as_ptr(), &mut slot), slot)?;
         // (it moves from here to the caller, as the header allows)
         Ok(store)
     }

@@ -8,9 +8,12 @@ fn read(path: &str) -> String {
     fs::read_to_string(&path).unwrap_or_else(|why| panic!("{}: {why}", path.display()))
 }
 
-/// The header without its comments.
-fn header() -> String {
-    let mut rest = &*read("../../include/fstch.h");
+/// The headers without their comments.
+fn headers() -> String {
+    without_comments(&read("../../include/fstch.h")) + &without_comments(&read("../../include/fstch_cache.h"))
+}
+
+fn without_comments(mut rest: &str) -> String {
     let mut text = String::new();
     while let Some((before, behind)) = rest.split_once("/*") {
         text.push_str(before);
@@ -28,7 +31,7 @@ fn in_rust(type_of_c: &str) -> String {
         "int32_t" => "i32",
         "uint32_t" => "u32",
         "size_t" => "usize",
-        "bool" | "fstch_store" => base,
+        "bool" | "fstch_store" | "fstch_cache" => base,
         other => panic!("no type of the header: {other}"),
     };
     match (type_of_c.contains('*'), type_of_c.starts_with("const ")) {
@@ -57,7 +60,7 @@ fn call_in_rust(declared: &str) -> String {
 
 #[test]
 fn calls_are_those_of_the_header() {
-    let header = header();
+    let header = headers();
     let code: Vec<&str> = header.lines().filter(|line| !line.starts_with('#')).collect();
     let code = code.join("\n");
     let declared: Vec<String> = code
@@ -69,22 +72,24 @@ fn calls_are_those_of_the_header() {
     let sys = read("src/sys.rs");
     let wanted: Vec<&str> = sys.lines().map(str::trim).filter(|line| line.starts_with("pub fn ")).collect();
     assert_eq!(declared, wanted);
-    assert_eq!(declared.len(), 22);
+    assert_eq!(declared.len(), 44);
 }
 
 #[test]
-fn a_store_is_that_of_the_header() {
-    let header = header();
-    let (_, fields) = header.split_once("typedef struct fstch_store {").unwrap();
-    let fields: Vec<&str> = fields.split_once('}').unwrap().0.split_whitespace().collect();
-    assert_eq!(fields.join(" "), "bool is_open; void *at;");
-    let sys = read("src/sys.rs");
-    assert!(sys.contains("#[repr(C)]\npub struct fstch_store {\n    is_open: bool,\n    at: *mut c_void,\n}\n"));
+fn a_store_and_a_cache_are_those_of_the_headers() {
+    let (header, sys) = (headers(), read("src/sys.rs"));
+    for name in ["fstch_store", "fstch_cache"] {
+        let (_, fields) = header.split_once(&format!("typedef struct {name} {{")).unwrap();
+        let fields: Vec<&str> = fields.split_once('}').unwrap().0.split_whitespace().collect();
+        assert_eq!(fields.join(" "), "bool is_open; void *at;");
+        let wanted = format!("#[repr(C)]\npub struct {name} {{\n    is_open: bool,\n    at: *mut c_void,\n}}\n");
+        assert!(sys.contains(&wanted));
+    }
 }
 
 #[test]
 fn numbers_are_those_of_the_header() {
-    let header = header();
+    let header = headers();
     let mut declared = Vec::new();
     for line in header.lines() {
         let line = line.trim();
@@ -116,22 +121,25 @@ fn the_version_is_that_of_the_header() {
     assert_eq!(major * 10000 + minor * 100 + patch, fstch::VERSION);
 }
 
-/// What a page shows in Rust, and the crate's own first example without the lines that aren't shown.
+/// What the page shows in Rust, and the first examples of the crate and of its module, without the lines that aren't shown.
 #[test]
-fn the_page_shows_the_crates_first_example() {
+fn the_page_shows_the_first_examples() {
     let page = read("../../docs/EMBEDDING.md");
-    let shown: Vec<&str> =
-        page.lines().skip_while(|line| *line != "```rust").skip(1).take_while(|line| *line != "```").collect();
-    let crate_page = read("src/lib.rs");
-    let example: Vec<&str> = crate_page
-        .lines()
+    let shown: Vec<Vec<&str>> = page
+        .split("\n```rust\n")
+        .skip(1)
+        .map(|behind| behind.lines().take_while(|line| *line != "```").collect())
+        .collect();
+    assert_eq!(shown, [example(&read("src/lib.rs")), example(&read("src/cache.rs"))]);
+}
+
+fn example(code: &str) -> Vec<&str> {
+    code.lines()
         .filter_map(|line| line.strip_prefix("//!"))
         .map(|line| line.strip_prefix(' ').unwrap_or(line))
         .skip_while(|line| *line != "```")
         .skip(1)
         .take_while(|line| *line != "```")
         .filter(|line| !line.starts_with("# "))
-        .collect();
-    assert!(!example.is_empty());
-    assert_eq!(shown, example);
+        .collect()
 }
