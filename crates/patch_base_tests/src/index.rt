@@ -1,6 +1,6 @@
 //! An index of four slots: what it answers after each move.
 use crate::expecting::expect_eq;
-use patch_index::{Entry, Index, Key, LiveSlots};
+use patch_index::{Entry, EntryReport, Index, Key, LiveSlots};
 use patch_model::OutOfMemory;
 use std::alloc::{Allocator, Global};
 use std::process::Abort;
@@ -165,4 +165,94 @@ fn a_slot_gets_other_frames_of_its_key(rt: HostRuntime) -> Result<(), Fail> {
         (filled(0, b"k", 1, 200), told(Some(3), Some(0), &[1, 2, 0])),
     ];
     walk(&rt, rt.alloc(), &steps)
+}
+
+// The keys of four slots, from the lowest slot on, and in order.
+const KEYS: &[&[u8]] = &[b"b", b"a", b"\xff", b"ab"];
+
+const RISING: &[&[u8]] = &[b"a", b"ab", b"b", b"\xff"];
+
+// From which key, the next one, and the one before.
+type Beside = (&'static [u8], Option<&'static [u8]>, Option<&'static [u8]>);
+
+const BESIDE: &[Beside] = &[
+    (b"", Some(b"a"), None),
+    (b"a", Some(b"a"), None),
+    (b"a\0", Some(b"ab"), Some(b"a")),
+    (
+        b"aaaaaaaaaaaaaaaaaaaaaaaaaaaaaaaaaaaaaaaa",
+        Some(b"ab"),
+        Some(b"a"),
+    ),
+    (b"ab", Some(b"ab"), Some(b"a")),
+    (b"abc", Some(b"b"), Some(b"ab")),
+    (b"b", Some(b"b"), Some(b"ab")),
+    (b"c", Some(b"\xff"), Some(b"b")),
+    (b"\xff", Some(b"\xff"), Some(b"b")),
+    (b"\xff\0", None, Some(b"\xff")),
+];
+
+fn index_of_keys(rt: &impl Abort, alloc: Global) -> Result<Index, OutOfMemory> {
+    let mut index = empty_index(alloc)?;
+    for (slot, key) in KEYS.iter().enumerate() {
+        make_move(rt, &mut index, filled(slot as u32, key, 1, 0));
+    }
+    Ok(index)
+}
+
+// A key whose value has one byte is told, or none is.
+fn expect_key(rt: &impl Abort, got: &Option<EntryReport>, want: Option<&[u8]>) {
+    let got = got.as_ref().map(|it| (it.key.as_slice(), it.length));
+    expect_eq(rt, &got, &want.map(|key| (key, 1)));
+}
+
+fn expect_beside<A: Allocator>(rt: &impl Abort, index: &Index<A>) {
+    for (key, next, previous) in BESIDE {
+        expect_key(rt, &index.next_key(key), *next);
+        expect_key(rt, &index.previous_key(Some(key)), *previous);
+    }
+}
+
+// From the first to the last: no key lies between one and the one that has a zero behind it.
+fn expect_rising<A: Allocator>(
+    rt: &impl Abort,
+    alloc: Global,
+    index: &Index<A>,
+    keys: &[&[u8]],
+) -> Result<(), Fail> {
+    let mut from = Vec::new(alloc);
+    for key in keys {
+        expect_key(rt, &index.next_key(from.as_slice()), Some(*key));
+        from = Vec::from_slice(alloc, key)?;
+        from.push(0)?;
+    }
+    expect_key(rt, &index.next_key(from.as_slice()), None);
+    Ok(())
+}
+
+// And from the last to the first.
+fn expect_falling<A: Allocator>(rt: &impl Abort, index: &Index<A>, keys: &[&[u8]]) {
+    let mut before = None;
+    for key in keys.iter().rev() {
+        expect_key(rt, &index.previous_key(before), Some(*key));
+        before = Some(*key);
+    }
+    expect_key(rt, &index.previous_key(before), None);
+}
+
+#[test]
+fn keys_come_in_order(rt: HostRuntime) -> Result<(), Fail> {
+    let index = index_of_keys(&rt, rt.alloc())?;
+    expect_beside(&rt, &index);
+    expect_rising(&rt, rt.alloc(), &index, RISING)?;
+    expect_falling(&rt, &index, RISING);
+    Ok(())
+}
+
+#[test]
+fn an_index_of_no_key_has_neither(rt: HostRuntime) -> Result<(), Fail> {
+    let index = empty_index(rt.alloc())?;
+    expect_key(&rt, &index.next_key(b""), None);
+    expect_key(&rt, &index.previous_key(None), None);
+    Ok(())
 }

@@ -107,6 +107,18 @@ used_at slots empty o number slot b f is =
     let at : length (of_slots (take slot slots)) ≡ number = omega (arith, count, b.is) in
     ap (slice_get (of_slots slots)) (sym at) ∙ at_slot slots slot f is
 
+-- the slots are the used and the empty ones
+pub all_counted : (slots : List (Option SlotFields)) (empty : List ℕ) → IsOrder unranked (is_empty slots) empty
+    → length (of_slots slots) + length empty ≡ length slots
+all_counted slots empty o =
+    let all = counted slots empty o (length slots) (length empty) (omega arith) (record {
+      within = omega arith;
+      below = λ i less. (empty_of slots (get_or empty i 0) (passes_at unranked (is_empty slots) empty o i 0 less)).0;
+      above = λ i from inside. absurd (omega (arith, from, inside));
+    }) in
+    let whole = ap (λ xs. length (of_slots xs)) (take_all (length slots) slots (omega arith)) in
+    omega (arith, all, whole)
+
 pub none_at : (slots : List (Option SlotFields)) (empty : List ℕ) → IsOrder unranked (is_empty slots) empty
     → (number slot : ℕ) → IsBehind empty number slot → get_or slots slot None ≡ None → slice_get (of_slots slots) number ≡ None
 none_at slots empty o number slot b none =
@@ -119,10 +131,5 @@ none_at slots empty o number slot b none =
           ]
       | inr g ↦ g
     ] in
-    let all = counted slots empty o (length slots) (length empty) (omega arith) (record {
-      within = omega arith;
-      below = λ i less. (empty_of slots (get_or empty i 0) (passes_at unranked (is_empty slots) empty o i 0 less)).0;
-      above = λ i from inside. absurd (omega (arith, from, inside));
-    }) in
-    let whole = ap (λ xs. length (of_slots xs)) (take_all (length slots) slots (omega arith)) in
-    slice_get_past (of_slots slots) number (omega (arith, all, whole, past, b.is, b.within))
+    let all = all_counted slots empty o in
+    slice_get_past (of_slots slots) number (omega (arith, all, past, b.is, b.within))

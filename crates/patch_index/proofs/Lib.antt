@@ -8,3 +8,5 @@ pub mod Parts
 pub mod SlotChanges
 pub mod Counted
 pub mod Comparing
+pub mod Beside
+pub mod Summing

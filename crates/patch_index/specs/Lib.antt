@@ -3,3 +3,5 @@ pub mod Live
 pub mod Reporting
 pub mod Said
 pub mod Orders
+pub mod Keys
+pub mod Sums

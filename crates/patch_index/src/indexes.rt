@@ -7,6 +7,7 @@ ghost use Rattle.patch_index.specs.Live.{live_behind};
 
 use crate::entries::Entry;
 use crate::live_slots::LiveSlots;
+use crate::live_sums::LiveSums;
 use crate::reports::EntryReport;
 use crate::searching::{find_key, live_part, place_of, places_of, used_slot};
 use patch_model::OutOfMemory;
@@ -20,11 +21,12 @@ pub const MAX_SLOTS: usize = 1024;
 /// The slots of a disk, each empty or with the frame that it names. There are 1,024 at most.
 #[derive(Drop)]
 pub struct Index<A: Allocator = Global> {
-    slots: Vec<Option<Entry>, A>,
+    pub(crate) slots: Vec<Option<Entry>, A>,
     empty: Order<A>,
     /// The used slots by their keys, and by the places of their frames.
-    by_key: Order<A>,
+    pub(crate) by_key: Order<A>,
     by_place: Order<A>,
+    live: LiveSums<A>,
 }
 
 impl<A: Allocator> Model for Index<A> {
@@ -32,12 +34,14 @@ impl<A: Allocator> Model for Index<A> {
     ghost use Rattle.patch_frame.specs.Slot.{SlotFields};
     ghost use Rattle.patch_index.specs.Index.{told};
     ghost use Rattle.patch_index.specs.Orders.{AreOrders};
+    ghost use Rattle.patch_index.specs.Sums.{AreSums};
 
     ghost Value = { List (Option SlotFields) };
 
     ghost view = { λ i. map told i.slots.items };
 
-    ghost invariant = { λ i. (length i.slots.items ≤ 1024) × AreOrders (map told i.slots.items) i.empty i.by_key i.by_place };
+    ghost invariant = { λ i. (length i.slots.items ≤ 1024) × AreOrders (map told i.slots.items) i.empty i.by_key i.by_place
+        × AreSums (map told i.slots.items) i.live };
 }
 
 impl<A: Allocator + Copy> Index<A> {
@@ -51,6 +55,7 @@ impl<A: Allocator + Copy> Index<A> {
             empty: Order::new(alloc)?,
             by_key: Order::new(alloc)?,
             by_place: Order::new(alloc)?,
+            live: LiveSums::new(alloc)?,
         })
     }
 }
@@ -93,6 +98,13 @@ impl<A: Allocator> Index<A> {
         ensures few { length self.now ≤ 1024 }
     {
         self.slots.len() as u32
+    }
+
+    /// How many slots are used.
+    pub fn used(&self) -> u32
+        ensures { result ≡ length (of_slots self.now) }
+    {
+        self.slots.len() as u32 - self.empty.len() as u32
     }
 
     /// The frame that a slot names, if it is used.
@@ -150,8 +162,18 @@ impl<A: Allocator> Index<A> {
         Ok(entries)
     }
 
-    /// How many bytes the frames have that slots name in the extent.
+    /// How many bytes the frames have that slots name in the extent. They are kept for the extents that a disk may have.
     pub fn live_bytes(&self, extent: u32) -> u32
+        ensures { result ≡ live_bytes self.now extent }
+    {
+        match self.live.of(extent) {
+            Some(live) => live,
+            None => self.count_live(extent),
+        }
+    }
+
+    // Counts them, by the slots that name the extent.
+    fn count_live(&self, extent: u32) -> u32
         ensures { result ≡ live_bytes self.now extent }
     {
         let slots = self.slots.as_slice();
@@ -201,6 +223,8 @@ impl<A: Allocator> Index<A> {
             &entry,
         );
         self.by_place.insert(to, slot as u16);
+        self.live.take_off(&old);
+        self.live.add(&entry);
         self.slots[slot as usize] = Some(entry);
     }
 
@@ -224,6 +248,7 @@ impl<A: Allocator> Index<A> {
         self.empty.insert(places.empty, slot as u16);
         self.by_key.remove(places.by_key);
         self.by_place.remove(places.by_place);
+        self.live.take_off(&entry);
     }
 
     // Lets an empty slot name this frame.
@@ -244,6 +269,7 @@ impl<A: Allocator> Index<A> {
         self.empty.remove(places.empty);
         self.by_key.insert(places.by_key, slot as u16);
         self.by_place.insert(places.by_place, slot as u16);
+        self.live.add(&entry);
     }
 }
 

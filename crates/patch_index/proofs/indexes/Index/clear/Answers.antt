@@ -3,8 +3,10 @@ use Rattle.std.specs.Prelude.{Some, None, slice_set}
 use Rattle.std.specs.List.{insert, remove}
 use Rattle.std.proofs.lemmas.List.{length-map, length-set, map-set, set-get_or}
 use Rattle.patch_index.specs.Index.{fields_of, told}
+use Rattle.patch_index.specs.Sums.{without_frame}
 use Rattle.patch_index.proofs.SlotChanges.{among_used, cleared, same_places, same_orders}
 use Rattle.patch_index.proofs.Slots.{item_is, told_at}
+use Rattle.patch_index.proofs.Summing.{enough, summed_less, same_sums}
 use Rattle.patch_index.proofs.indexes.Index.clear.Goals as goal
 
 pub returns-in_default : goal.returns-in_default
@@ -77,6 +79,20 @@ remove-requires-2 g c =
     let there = among_used slots s f o.empty o.by_key o.by_place at.empty at.by_key at.by_place c.self.invariant.1 is places in
     there.1.0
 
+pub take_off-requires : goal.take_off-requires
+take_off-requires g c =
+    let o = c.self.inside in
+    let items = o.slots.items in
+    let slots = map told items in
+    let s = c.args.slot in
+    let low = c.requires in
+    let long : length items ≡ length c.args.self.now = sym (length-map items told) ∙ ap length c.self.view_is in
+    let within : s < length items = omega (arith, low, long) in
+    let f = fields_of c.in-Some.entry in
+    let is : get_or slots s None ≡ Some f = told_at items s within ∙ ap told (item_is items s c.index.result.now within c.index.ensures ∙ c.in-Some.is) in
+    let inside : s < length slots = subst (λ n. s < n) (sym (length-map items told)) within in
+    enough slots s f o.live inside is c.self.invariant.2
+
 pub invariant_of-self : goal.invariant_of-self
 invariant_of-self g c =
     let items = c.self.inside.slots.items in
@@ -99,6 +115,8 @@ invariant_of-self g c =
       same_orders (set slots s None) (map told (set items s None)) (insert o.empty at.empty s) c.insert.new.self (remove o.by_key at.by_key) c.remove.new.self
           (remove o.by_place at.by_place) c.remove-2.new.self (sym (map-set told items s None)) (sym c.insert.ensures) (sym c.remove.ensures) (sym c.remove-2.ensures)
           (cleared slots s f o.empty o.by_key o.by_place at.empty at.by_key at.by_place c.self.invariant.1 inside is places),
+      same_sums (set slots s None) (map told (set items s None)) (without_frame o.live f) c.take_off.new.self (sym (map-set told items s None)) (sym c.take_off.ensures)
+          (summed_less slots s f o.live inside is c.self.invariant.2),
     )
 
 pub returns : goal.returns

@@ -4,7 +4,7 @@ use Rattle.std.proofs.lemmas.List.{take_all}
 use Rattle.patch_index.specs.Index.{told}
 use Rattle.patch_index.specs.Reporting.{live_bytes}
 use Rattle.patch_index.proofs.Reported.{length_at, live_sum}
-use Rattle.patch_index.proofs.indexes.Index.live_bytes.Goals as goal
+use Rattle.patch_index.proofs.indexes.Index.count_live.Goals as goal
 
 pub returns : goal.returns
 returns g c =
