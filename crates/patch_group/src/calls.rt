@@ -153,6 +153,13 @@ impl<A: Allocator + Copy> Groups<A> {
         Ok(())
     }
 
+    /// How many groups were made, closed ones counted, since there were none or it began anew.
+    pub fn count(&self) -> u32
+        ensures { result ≡ length self.now.groups }
+    {
+        self.groups.len() as u32
+    }
+
     /// Begins anew where each group is closed or was never engaged: there is no group then, and the next one has the number 0. It
     /// takes no memory.
     pub fn renew(&mut self) -> Result<(), Live>
