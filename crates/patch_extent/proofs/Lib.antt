@@ -9,4 +9,5 @@ pub mod Finishing
 pub mod Grouping
 pub mod Rising
 pub mod Emptied
+pub mod Renewed
 pub mod Upgraded

@@ -7,3 +7,4 @@ pub mod Appending
 pub mod Rows
 pub mod Upgrading
 pub mod Laws
+pub mod Renewing
