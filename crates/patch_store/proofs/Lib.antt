@@ -21,6 +21,7 @@ pub mod Reclaims
 pub mod Tested
 pub mod Scanned
 pub mod Opened
+pub mod Renewed
 pub mod Calling
 pub mod Reported
 pub mod Tried
@@ -29,3 +30,5 @@ pub mod Judged
 pub mod Agreeing
 pub mod Told
 pub mod Alike
+pub mod Leaving
+pub mod Totalled

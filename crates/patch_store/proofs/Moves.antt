@@ -44,7 +44,7 @@ patches_none gs n (suc count) = patches_none gs (n + 1) count
 
 -- What a move is.
 
-some_plan : (p q : List Made) → Some p ≡ Some q → p ≡ q
+pub some_plan : (p q : List Made) → Some p ≡ Some q → p ≡ q
 some_plan p q is = cc
 
 -- the first of some frames moves, and then the others

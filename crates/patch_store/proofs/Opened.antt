@@ -92,7 +92,7 @@ first_found p a (suc n) i low high f here = elim (cases_lt a i) [
   | inr more ↦ (let same : i ≡ a = omega (arith, low, more) in let g : p a ≡ true = subst (λ k. p k ≡ true) same here in rw g (ap (λ k. Some k) (sym same)))
 ]
 
-found_alike : (p q : ℕ → Bool) (a n : ℕ) → ((k : ℕ) → a ≤ k → k < a + n → p k ≡ q k) → find p (range_with_len a n) ≡ find q (range_with_len a n)
+pub found_alike : (p q : ℕ → Bool) (a n : ℕ) → ((k : ℕ) → a ≤ k → k < a + n → p k ≡ q k) → find p (range_with_len a n) ≡ find q (range_with_len a n)
 found_alike p q a zero f = refl
 found_alike p q a (suc n) f =
     ap (λ b. if b then Some a else find p (range_with_len (a + 1) n)) (f a (omega arith) (omega arith))
@@ -122,7 +122,7 @@ current_is : (s : Extents) (blocks : List (List ℕ)) → AreExtentsOf s (unchan
 current_is s blocks extents = found_alike (is_open s) (may_be_current (ledger_in s.geometry blocks)) 0 s.geometry.extents (λ e low high.
     ap (λ (p : Pointer). nat_le 1 p.offset && nat_le (p.offset + 17) (largest_pointer s.geometry.format)) (sym (pointer_is s blocks e extents (omega (arith, high)))))
 
-abbrev shelf_with : Extents → List (Option SlotFields) → Option ℕ → List (List ℕ) → Shelf
+abbrev pub shelf_with : Extents → List (Option SlotFields) → Option ℕ → List (List ℕ) → Shelf
 shelf_with extents slots current left = record {
   extents = extents;
   slots = slots;

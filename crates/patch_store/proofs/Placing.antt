@@ -47,7 +47,7 @@ slot_within s key slot is = elim (one_of (slot_of s key) (empty_slot s) slot is)
 ]
 
 -- the current extent has room
-has_current : (s : Shelf) (len extent : ℕ) (o : Option ℕ)
+pub has_current : (s : Shelf) (len extent : ℕ) (o : Option ℕ)
     → elim o [ Some e ↦ if has_room s len e then Some e else None | None ↦ None ] ≡ Some extent → (o ≡ Some extent) × (has_room s len extent ≡ true)
 has_current s len extent None is = absurd (let g : None ≡ Some extent = is in cc)
 has_current s len extent (Some e) is = elim (cases_Bool (has_room s len e)) [

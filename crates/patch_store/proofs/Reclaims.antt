@@ -18,6 +18,7 @@ use Rattle.patch_model.specs.Renewed.{cached_blocks}
 use Rattle.patch_recovery.specs.Ledger.{bytes_at}
 use Rattle.patch_recovery.specs.Reading.{ledger_in}
 use Rattle.patch_extent.specs.Answers.{cached_bytes}
+use Rattle.patch_plans.specs.Extents.{generation_at}
 use Rattle.patch_plans.specs.Meaning.{AreExtentsOf}
 use Rattle.patch_plans.specs.Planning.{reset_plan}
 use Rattle.patch_plans.specs.Writing.{named_plan, written}
@@ -139,6 +140,12 @@ split_at (x ∷ xs) (suc k) d less =
 -- a reset to the generation behind this one
 abbrev reset_at : (extent generation : ℕ) (after : List ℕ) → List Made
 reset_at extent generation after = record { change = Point extent (generation + 1) 0; after = after } ∷ []
+
+-- it leaves the slots
+reset_slots : (s : Shelf) (n extent generation k : ℕ) (after : List ℕ) → (after_plan s n (take k (reset_at extent generation after))).slots ≡ s.slots
+reset_slots s n extent generation zero after = refl
+reset_slots s n extent generation (suc zero) after = refl
+reset_slots s n extent generation (suc (suc k)) after = refl
 
 -- Where some frames of an extent have moved, the store represents a history, in which the reclaim is given up there.
 
@@ -318,6 +325,16 @@ module _ (given : Given) (h : History) (extent : ℕ) (slots : List ℕ) (old : 
         one_stopped (take k live_all) split.item split.rest mid m split.parts new
         (subst (λ x. (at : Standing) (e : ℕ) (d : Content) → IsMovable at x e d mid → IsFramedInPart (framing at None x e d) mid new) same_slot moves_so)
 
+  -- Some first ones.
+
+  -- where others are left the reclaim is given up there
+  pub some_moved : (k : ℕ) (mid : Store) → k < length slots → HaveMoved h (take k (live_frames st.shelf extent)) old mid → IsReclaimedInPart h extent old mid
+  some_moved k mid less m =
+      let live : List (ℕ × SlotFields) = live_frames st.shelf extent in
+      let long = ap length is.slots_are ∙ length-map live (λ (f : ℕ × SlotFields). f.0) in
+      let split = split_at live k 0 (omega (arith, less, long)) in
+      stopped_before (take k live) split.item split.rest mid m split.parts
+
   -- All of them.
 
   -- they are as many as the slots
@@ -382,6 +399,16 @@ module _ (given : Given) (h : History) (extent : ℕ) (slots : List ℕ) (old : 
               (subst (λ run. IsCacheOf new.cache (followed_by run (m.steps ++ e.steps))) (given.runs h) stands_all.cache_is)
               stands_all.groups_are stands_all.shelf_is stands_all.trace_is stands_all.merged;
         }
+
+    -- the slots stay as they are
+    pub slots_kept : (new : Store) → ((at : Standing) → IsStanding at mid → IsEmptied at extent mid new) → new.shelf.slots ≡ mid.shelf.slots
+    slots_kept new empties =
+        let at = stands_so given (so_far (live_frames st.shelf extent) mid m at_last) mid (stands (live_frames st.shelf extent) mid m at_last) in
+        let e = empties moved_now at in
+        let s : Shelf = moved_now.shelf in
+        ap (λ (x : Shelf). x.slots) e.stands.shelf_is
+        ∙ reset_slots s (made_by moved_now) extent (generation_at s.extents extent) (creates e.steps) (left_of s extent)
+        ∙ ap (λ (x : Shelf). x.slots) (sym at.shelf_is)
 
     -- or without it
     pub not_emptied_so : (writer : ℕ) (new : Store) → new ≡ mid → HasAnswered h writer (Reclaim extent) (Refused (bare kind.OutOfMemory)) old new

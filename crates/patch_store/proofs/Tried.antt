@@ -88,7 +88,7 @@ other_number k e other = let off : (k == e) ≡ false = grind (arith, nat_tests,
 same_number : (k e : ℕ) → k ≡ e → other_than e k ≡ false
 same_number k e same = let on : (k == e) ≡ true = grind (arith, nat_tests, same) in rw on refl
 
-and_true : (b : Bool) → b ≡ (b && true)
+pub and_true : (b : Bool) → b ≡ (b && true)
 and_true true = refl
 and_true false = refl
 

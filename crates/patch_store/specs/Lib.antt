@@ -8,6 +8,7 @@ pub mod Getting
 pub mod Making
 pub mod Putting
 pub mod Opening
+pub mod Renewing
 pub mod Replies
 pub mod Running
 pub mod Sending
@@ -16,3 +17,5 @@ pub mod Flushing
 pub mod Laws
 pub mod Moving
 pub mod Trials
+pub mod Stepping
+pub mod Totals

@@ -1,5 +1,5 @@
 -- How an extent is won back: its live frames move, and it is emptied.
-use Rattle.std.specs.Prelude.{ℕ, ◌≡◌, List, length, map, Some, None, Result, Ok, MatchResult, IfOk, Vec}
+use Rattle.std.specs.Prelude.{ℕ, ◌≡◌, List, length, map, take, Some, None, Result, Ok, MatchResult, IfOk, Vec}
 use Rattle.patch_model.specs.declared.refusals.OutOfMemory.{OutOfMemory}
 use Rattle.patch_model.specs.Step.{Step}
 use Rattle.patch_model.specs.Execution.{Execution}
@@ -109,9 +109,9 @@ pub record IsReclaimedInPart (h : History) (extent : ℕ) (old new : Store) : Ty
   pub cut : IsCut (standing_of h) (plan_at h extent) steps
   pub stands : StandsBehind (standing_of h) None (plan_at h extent) steps old new
 
--- the frames of these slots move, one after another, or some first ones, where memory ran out
-abbrev pub MovesFrames : (slots : List ℕ) → Result (Unit {0}) OutOfMemory → (old new : Store) → Type 0
-MovesFrames slots result old new =
+-- the frames of so many first slots move, one after another, or fewer, where memory ran out
+abbrev pub MovesFrames : (slots : List ℕ) (count : ℕ) → Result (Unit {0}) OutOfMemory → (old new : Store) → Type 0
+MovesFrames slots count result old new =
     (h : History) (extent : ℕ) → IsReclaiming h extent slots old → MatchResult result
-    (λ _. HaveMoved h (live_frames (standing_of h).shelf extent) old new)
+    (λ _. HaveMoved h (take count (live_frames (standing_of h).shelf extent)) old new)
     (λ _. IsReclaimedInPart h extent old new)

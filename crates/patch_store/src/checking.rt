@@ -57,8 +57,8 @@ impl<A: Allocator + Copy> Store<A> {
         Ok(extents)
     }
 
-    /// One extent.
-    fn extent_report(&self, extent: u32) -> ExtentReport
+    /// One of the disk's extents, for who knows that there is one of this number.
+    pub fn extent_report(&self, extent: u32) -> ExtentReport
         requires { extent < self.now.shelf.extents.geometry.extents }
         ensures { result ≡ extent_report self.now.shelf extent }
     {

@@ -1,5 +1,5 @@
 //! The calls of groups.
-ghost use Rattle.std.specs.Prelude.{◌≡◌, ℕ, OnErr};
+ghost use Rattle.std.specs.Prelude.{◌≡◌, ℕ, length, OnErr};
 ghost use Rattle.patch_group.specs.Refusals.{group_cause};
 ghost use Rattle.patch_history.specs.Command.{Group, Engage, Disengage, Depend, CloseGroup, Pending, Done, GroupMade, Count};
 ghost use Rattle.patch_store.specs.Meaning.{Answers};
@@ -12,7 +12,7 @@ use patch_model::{GroupNo, WriterNo};
 use std::alloc::Allocator;
 
 impl<A: Allocator + Copy> Store<A> {
-    /// Makes a group. Its number is the next one; numbers aren't used again.
+    /// Makes a group. Its number is the next one; numbers aren't used again before the store begins anew.
     pub fn create_group(&mut self) -> Result<GroupNo, GroupRefusal>
         ensures answer { (writer : ℕ) → Answers writer Group (reply_to group_cause (λ group. GroupMade group) result) self.old self.new }
         ensures refused { OnErr result (self.new ≡ self.old) }
@@ -55,6 +55,13 @@ impl<A: Allocator + Copy> Store<A> {
     {
         history_laws::histories_extend();
         self.groups.close(group)
+    }
+
+    /// How many groups were made, closed ones counted, since the store was opened or began anew.
+    pub fn groups_made(&self) -> u32
+        ensures { result ≡ length self.now.groups.groups }
+    {
+        self.groups.count()
     }
 
     /// How many patches of the group aren't on the disk yet. It takes no memory.

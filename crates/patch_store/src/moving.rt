@@ -1,4 +1,5 @@
 //! How frames are moved out of an extent.
+ghost use Rattle.std.specs.Prelude.{◌≤◌, length};
 ghost use Rattle.patch_index.specs.Index.{fields_of};
 ghost use Rattle.patch_store.specs.Moving.{CopiesFrame, MovesFrame, MovesFrames};
 
@@ -12,12 +13,13 @@ use patch_model::{Bytes, OutOfMemory};
 use std::alloc::Allocator;
 
 impl<A: Allocator + Copy> Store<A> {
-    /// Moves the frames of these slots, one after another.
-    pub(crate) fn move_frames(&mut self, slots: &LiveSlots) -> Result<(), OutOfMemory>
-        ensures { MovesFrames slots.now result self.old self.new }
+    /// Moves the frames of the first so many of these slots, one after another.
+    pub(crate) fn move_frames(&mut self, slots: &LiveSlots, count: usize) -> Result<(), OutOfMemory>
+        requires { count ≤ length slots.now }
+        ensures { MovesFrames slots.now count result self.old self.new }
     {
         laws_below();
-        for at in 0..slots.len() {
+        for at in 0..count {
             let slot = slots.nth(at);
             let Ok(()) = self.move_frame(slot) else {
                 return Err(OutOfMemory);

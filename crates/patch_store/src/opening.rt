@@ -136,7 +136,10 @@ fn open_extents<A: Allocator + Copy>(
 }
 
 /// The extent that puts append to: the lowest that is begun and has room for a shortest frame.
-fn first_open<A: Allocator + Copy>(extents: &Extents<A>, geometry: Geometry) -> Option<u32>
+pub(crate) fn first_open<A: Allocator + Copy>(
+    extents: &Extents<A>,
+    geometry: Geometry,
+) -> Option<u32>
     requires geometry { IsGeometry geometry }
     requires extents { extents.now.geometry ≡ geometry }
     ensures value { result ≡ find (is_open extents.now) (range_with_len 0 geometry.extents) }
@@ -176,7 +179,7 @@ fn none_left<A: Allocator + Copy>(
 }
 
 /// What each block of a cache holds are bytes, as what is lent of it shows. Only proofs need this walk: it looks at no byte.
-fn blocks_are_bytes<A: Allocator + Copy>(cache: &Cache<A>)
+pub(crate) fn blocks_are_bytes<A: Allocator + Copy>(cache: &Cache<A>)
     ensures { (blocks : List (List ℕ)) → IsCacheOf cache.now (unchanged blocks) → All AreBytes blocks }
 {
     for block in 0..cache.blocks() {

@@ -26,7 +26,7 @@ impl<A: Allocator + Copy> Store<A> {
     {
         laws_below();
         let slots = self.slots_to_move(extent)?;
-        let Ok(()) = self.move_frames(&slots) else {
+        let Ok(()) = self.move_frames(&slots, slots.len()) else {
             return Err(ReclaimRefusal::OutOfMemory);
         };
         let Ok(()) = self.empty_extent(extent) else {
@@ -36,7 +36,7 @@ impl<A: Allocator + Copy> Store<A> {
     }
 
     /// Empties an extent that no slot names any more, behind the slot patches that left it. Puts don't append to it then.
-    fn empty_extent(&mut self, extent: u32) -> Result<(), OutOfMemory>
+    pub(crate) fn empty_extent(&mut self, extent: u32) -> Result<(), OutOfMemory>
         ensures { EmptiesExtent extent result self.old self.new }
     {
         // Never so in a store that represents a history: the extent is one of the disk. Of no other is anything promised.

@@ -16,8 +16,11 @@ mod closed;
 mod cuts;
 mod flights;
 mod flushes;
+mod keys;
 mod memory;
 mod opening;
+mod renewals;
+mod steps;
 mod walks;
 
 use Ask::{Delete, Get, Put, Reclaim, Upgrade};

@@ -25,7 +25,7 @@ const MAP: &[Turn<'static>] = &[
 ];
 
 // Of a new disk only the first block isn't zeros.
-fn write_first(device: &mut MemDevice, blocks: &[BlockBytes]) -> Result<(), Fail> {
+pub(super) fn write_first(device: &mut MemDevice, blocks: &[BlockBytes]) -> Result<(), Fail> {
     match blocks.first() {
         Some(first) if device.write(0, first.as_slice()).is_ok() => Ok(()),
         _ => Err(Fail::from("a device in memory refused a write")),
@@ -44,10 +44,15 @@ fn new_device(alloc: Global) -> Result<MemDevice, Fail> {
     Ok(device)
 }
 
-// The device's blocks open as the map of the commands.
-fn expect_on_disk<D: Device>(rt: &impl Abort, alloc: Global, device: &mut D) -> Result<(), Fail> {
+// The device's blocks open, and then the store goes through these turns.
+pub(super) fn expect_on_disk<D: Device>(
+    rt: &impl Abort,
+    alloc: Global,
+    device: &mut D,
+    turns: &[Turn<'_>],
+) -> Result<(), Fail> {
     match load(alloc, device).ok() {
-        Some(blocks) => expect_opened(rt, alloc, blocks, MAP),
+        Some(blocks) => expect_opened(rt, alloc, blocks, turns),
         None => Err(Fail::from("a device was not loaded")),
     }
 }
@@ -71,7 +76,7 @@ fn expect_written(rt: &impl Abort, alloc: Global, device: &mut MemDevice) -> Res
     expect_flushed(rt, alloc, device)?;
     let writes = device.writes().len() as u64;
     expect_eq(rt, &writes, &before.saturating_add(WRITES));
-    expect_on_disk(rt, alloc, device)
+    expect_on_disk(rt, alloc, device, MAP)
 }
 
 #[test]
@@ -91,7 +96,7 @@ fn flush_over<D: Device>(
 ) -> Result<bool, Fail> {
     expect_flushed(rt, alloc, device)?;
     let met = !fails_still(device, at);
-    expect_on_disk(rt, alloc, device)?;
+    expect_on_disk(rt, alloc, device, MAP)?;
     Ok(met)
 }
 

@@ -1,0 +1,13 @@
+use Rattle.std.proofs.Common.{◌∙◌, refl, ap, subst}
+use Rattle.std.specs.Prelude.{MatchOption}
+use Rattle.patch_index.specs.Keys.{IsNext, NoneFrom}
+use Rattle.patch_index.specs.Reporting.{reported, of_slots}
+use Rattle.patch_store.specs.Meaning.{Store}
+use Rattle.patch_store.proofs.Reported.{listed_so}
+use Rattle.patch_store.proofs.stores.Store.next_key.Goals as goal
+
+pub returns : goal.returns
+returns g c h was =
+    let lists = listed_so c.shelves_are_kept.ensures c.histories_are_of_stores.ensures.read h _ was (of_slots c.args.self.now.shelf.slots) refl in
+    subst (λ entries. MatchOption c.next_key.result (NoneFrom entries c.args.from.now) (λ it. IsNext entries c.args.from.now (reported it)))
+    (ap (λ (s : Store). of_slots s.shelf.slots) c.self.view_is ∙ lists.listed) c.next_key.ensures
