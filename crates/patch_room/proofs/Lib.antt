@@ -1,0 +1,12 @@
+pub mod Living
+pub mod Counting
+pub mod Appending
+pub mod Moving
+pub mod Doing
+pub mod Winning
+pub mod Emptying
+pub mod Refused
+pub mod Keys
+pub mod Reaching
+pub mod Cheapest
+pub mod Calling

@@ -1,0 +1,5 @@
+pub mod Room
+pub mod Candidates
+pub mod Laws
+pub mod LawsBelow
+pub mod Putting
