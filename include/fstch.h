@@ -43,7 +43,7 @@
 #include <stdint.h>
 
 /* The version of this interface: 10,000 for each major, 100 for each minor number, 1 for each patch. */
-#define FSTCH_VERSION 302
+#define FSTCH_VERSION 400
 
 #ifdef __cplusplus
 extern "C" {
@@ -91,7 +91,7 @@ enum fstch_answer {
     FSTCH_DISK = 4,
     /* The file's length isn't 1 to 4,096 whole blocks of 4,096 bytes, or not what its first block says. */
     FSTCH_FILE_SIZE = 5,
-    /* 16,777,216 changes were made since the store was opened: close it and open it again. */
+    /* 16,777,216 changes were made since the store was opened or began anew: close its groups and sync. */
     FSTCH_NUMBERS_SPENT = 17,
     /* 65,536 changes are in memory: a sync makes room. */
     FSTCH_TOO_MANY_LIVE = 18,
@@ -107,7 +107,7 @@ enum fstch_answer {
     FSTCH_ENGAGED = 31,
     /* The writer hasn't engaged the group. */
     FSTCH_NOT_ENGAGED = 32,
-    /* 1,024 groups were made since the store was opened, closed ones counted. */
+    /* 1,024 groups were made since the store was opened or began anew, closed ones counted: close all and sync. */
     FSTCH_TOO_MANY_GROUPS = 33,
     /* The store has no extent of this number. */
     FSTCH_NO_SUCH_EXTENT = 34,
@@ -121,7 +121,7 @@ enum fstch_answer {
     FSTCH_NO_KEY = 41,
     /* The key is new, and the store has as many keys as it can. */
     FSTCH_INDEX_FULL = 42,
-    /* No extent has room: delete, then fstch_reclaim. */
+    /* No extent has room: delete, and with FSTCH_MANUAL fstch_reclaim. */
     FSTCH_NO_SPACE = 43,
     /* Puts append to the extent, and values in it are live. */
     FSTCH_OPEN_EXTENT = 44,
@@ -208,7 +208,11 @@ int32_t fstch_open(fstch_store *store, const char *path, uint32_t *slot);
  * and may show what the disk hasn't. */
 #define FSTCH_READ_ONLY 2u
 
-/* As fstch_open, with flags: 0, or FSTCH_NO_BARRIERS, FSTCH_READ_ONLY or both. All other bits are 0. */
+/* A flag of fstch_open_with: extents are won back by fstch_reclaim alone, which the program calls where a put is answered FSTCH_NO_SPACE.
+ * Without it fstch_put does so by itself. */
+#define FSTCH_MANUAL 4u
+
+/* As fstch_open, with flags: 0, or any of FSTCH_NO_BARRIERS, FSTCH_READ_ONLY and FSTCH_MANUAL, or'ed. All other bits are 0. */
 int32_t fstch_open_with(fstch_store *store, const char *path, uint32_t flags, uint32_t *slot);
 
 /* Closes a store. It does not sync: what was not synced is lost. The store is FSTCH_CLOSED then, so that a second close is refused and
@@ -220,6 +224,10 @@ bool fstch_is_open(const fstch_store *store);
 
 /* Brings all changes to the file, and waits until the system lets them last. They are written in waves, and the file is
  * synced behind each wave: nothing is written before what it rests on lasts.
+ *
+ * Behind a sync the store begins anew where more than 1,048,576 changes or 512 groups were made since it was opened or last did, and each
+ * group is closed or was never engaged. So it is never spent. Nobody sees that but by the numbers of groups, which begin at 0 again: that
+ * of a closed group may come again, and there is no group any more that was never engaged.
  *
  * With FSTCH_DEVICE_GAVE_UP, FSTCH_OUT_OF_MEMORY and FSTCH_NO_SYNC some changes may have reached the file and others not, in their
  * order. From then on the store answers each sync with FSTCH_NO_SYNC: close it and open it again. The open reads what the disk has,
@@ -233,6 +241,13 @@ int32_t fstch_sync(fstch_store *store);
 
 /* Puts a value under a key, in place of the one that it had. `writer` is 0 to 6, or FSTCH_NO_WRITER.
  *
+ * Where no extent has room for it, the one with the fewest live bytes is won back first, and where none was empty a second one; not so in a
+ * store that was opened with FSTCH_MANUAL. So one put in many takes as long as a reclaim. Where an extent was empty one is so behind the
+ * put, unless there was no memory, and then FSTCH_NO_SPACE comes of a full store alone: where fstch_stats tells more live bytes than
+ * (extents - 2) * (bytes of an extent - bytes of the value, its key and 16 more), or an extent can't be won back any more. With
+ * FSTCH_NO_SPACE, FSTCH_NUMBERS_SPENT, FSTCH_TOO_MANY_LIVE and FSTCH_OUT_OF_MEMORY extents may have been won back; each key has the value
+ * that it had.
+ *
  * FSTCH_BAD_WRITER, FSTCH_KEY_LENGTH, FSTCH_VALUE_LENGTH, FSTCH_INDEX_FULL, FSTCH_NO_SPACE, FSTCH_NUMBERS_SPENT, FSTCH_TOO_MANY_LIVE,
  * FSTCH_OUT_OF_MEMORY.
  */
@@ -245,7 +260,7 @@ int32_t fstch_put(fstch_store *store, uint32_t writer, const void *key, size_t k
  */
 int32_t fstch_get(const fstch_store *store, const void *key, size_t key_length, void *into, size_t into_length, size_t *length);
 
-/* Takes a key and its value away. The room is won back by fstch_reclaim. `writer` is as in fstch_put.
+/* Takes a key and its value away. A put that needs the room wins it back, or fstch_reclaim. `writer` is as in fstch_put.
  *
  * FSTCH_BAD_WRITER, FSTCH_KEY_LENGTH, FSTCH_NO_KEY, FSTCH_NUMBERS_SPENT, FSTCH_TOO_MANY_LIVE, FSTCH_OUT_OF_MEMORY.
  */
@@ -272,6 +287,38 @@ int32_t fstch_check(const fstch_store *store, uint32_t *entries, uint32_t *exten
  */
 int32_t fstch_entry(const fstch_store *store, uint32_t number, void *key, size_t key_room, size_t *key_length, size_t *value_length);
 
+/* Keys in order: of two keys the first byte that differs decides, and else the shorter one comes first. Of the key that is found and its value
+ * all is told as by fstch_entry. A call takes about as long however many keys there are, and keys may be put and deleted between two.
+ *
+ *     uint8_t from[FSTCH_MAX_KEY + 1], key[FSTCH_MAX_KEY];
+ *     size_t from_length = 0, length, value_length;
+ *     while (fstch_next(&store, from, from_length, key, sizeof key, &length, &value_length) == FSTCH_DONE) {
+ *         memcpy(from, key, length);
+ *         from[length] = 0;
+ *         from_length = length + 1;
+ *     }
+ *
+ * The least key from this one on, which may be itself. `from` may have any length: with 0 bytes it comes before all keys, and a key with a 0
+ * byte more behind it comes right behind the key.
+ *
+ * FSTCH_ABSENT, FSTCH_BUFFER_TOO_SMALL.
+ */
+int32_t fstch_next(const fstch_store *store, const void *from, size_t from_length, void *key, size_t key_room, size_t *key_length,
+                   size_t *value_length);
+
+/* The greatest key that comes before this one, which may have any length.
+ *
+ * FSTCH_ABSENT, FSTCH_BUFFER_TOO_SMALL.
+ */
+int32_t fstch_previous(const fstch_store *store, const void *before, size_t before_length, void *key, size_t key_room, size_t *key_length,
+                       size_t *value_length);
+
+/* The greatest key of all.
+ *
+ * FSTCH_ABSENT, FSTCH_BUFFER_TOO_SMALL.
+ */
+int32_t fstch_last(const fstch_store *store, void *key, size_t key_room, size_t *key_length, size_t *value_length);
+
 /* How full an extent is: sets `filled` to how many bytes were appended to it since it was made or won back, and `live` to how many of them
  * hold a key with the value that it has. A reclaim copies the live ones, and frees the others.
  *
@@ -282,11 +329,29 @@ int32_t fstch_extent(const fstch_store *store, uint32_t extent, uint32_t *live, 
 /* Sets `changes` to how many pieces of changes haven't reached the file: 0 where a sync has nothing to do. A put has several pieces. */
 int32_t fstch_unsynced(const fstch_store *store, uint32_t *changes);
 
+/* What a store holds, and what its syncs have done. */
+typedef struct fstch_statistics {
+    /* How many keys have a value, and how many bytes keys and values take in the extents, with 16 more each. */
+    uint32_t keys;
+    uint32_t unsynced; /* as fstch_unsynced */
+    uint64_t live_bytes;
+    uint64_t file_bytes;
+    uint32_t extents;
+    /* How many extents have nothing in them. */
+    uint32_t empty_extents;
+    /* How many syncs were done since the store was opened, and how many waves they wrote. */
+    uint64_t syncs;
+    uint64_t waves;
+} fstch_statistics;
+
+/* Sets all of `statistics`. It takes no memory, and about as long as there are extents. */
+int32_t fstch_stats(const fstch_store *store, fstch_statistics *statistics);
+
 /* Groups: an order in which changes reach the file. It costs what its syncs of the file cost, which one fstch_sync makes for all groups
  * together: one for each wave, and changes that don't wait for one another share a wave. A group has all changes of the writers that have
  * engaged it. Whatever a crash leaves: where it has a change of a group, it has all changes of the groups that go before it. */
 
-/* Makes a group, and sets `group` to its number. Numbers are counted from 0 and aren't used again while the store is open.
+/* Makes a group, and sets `group` to its number. Numbers are counted from 0, and begin at 0 again where a sync lets the store begin anew.
  *
  * FSTCH_TOO_MANY_GROUPS, FSTCH_OUT_OF_MEMORY.
  */

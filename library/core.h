@@ -16,12 +16,13 @@ int32_t fstch_core_make(uint32_t index_blocks, uint32_t extents, uint32_t extent
                         uint32_t *blocks);
 
 /* Opens the store of these bytes, all that its file has and that lasts there. `file` is kept for fstch_core_file, and `has_barriers` for
- * fstch_core_barriers. The bytes are copied.
+ * fstch_core_barriers. With `is_manual` extents are won back by fstch_reclaim alone. The bytes are copied.
  *
  * FSTCH_IS_OPEN, FSTCH_FILE_SIZE, FSTCH_OUT_OF_MEMORY, FSTCH_BAD_SUPER, FSTCH_BAD_POINTER, FSTCH_BAD_SLOT, FSTCH_BAD_FRAME,
  * FSTCH_DUPLICATE_KEY.
  */
-int32_t fstch_core_open(fstch_store *store, int32_t file, bool has_barriers, const uint8_t *bytes, size_t length, uint32_t *slot);
+int32_t fstch_core_open(fstch_store *store, int32_t file, bool has_barriers, bool is_manual, const uint8_t *bytes, size_t length,
+                        uint32_t *slot);
 
 /* The number that the store was opened with, or -1 where it is closed. */
 int32_t fstch_core_file(const fstch_store *store);
@@ -47,6 +48,10 @@ int32_t fstch_core_write(const fstch_store *store, uint32_t number, bool *is_bar
 /* Empties the tape: all its events are done to the file, in their order, and the system lets its writes last. Where that isn't so, is_done
  * is false, and each later sync is refused with FSTCH_NO_SYNC. */
 int32_t fstch_core_synced(fstch_store *store, bool is_done);
+
+/* Begins anew, where more than 1,048,576 changes or 512 groups were made since the store was opened or last did, none of them is unsynced,
+ * and each group is closed or was never engaged. Else it does nothing. */
+int32_t fstch_core_renew(fstch_store *store);
 
 /* Closes a store, and leaves its file open. */
 int32_t fstch_core_close(fstch_store *store);

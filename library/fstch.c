@@ -323,7 +323,7 @@ static bool settle_file(int file) {
 }
 
 /* Opens the store of all that the file has. A length that no store has isn't read. */
-static int32_t open_store(fstch_store *store, int file, bool has_barriers, uint32_t *slot) {
+static int32_t open_store(fstch_store *store, int file, uint32_t flags, uint32_t *slot) {
     off_t length = lseek(file, 0, SEEK_END);
     if (length < 0) {
         return FSTCH_DISK;
@@ -337,7 +337,9 @@ static int32_t open_store(fstch_store *store, int file, bool has_barriers, uint3
     }
     int32_t answer = FSTCH_DISK;
     if (settle_file(file) && read_bytes(file, bytes, (size_t)length)) {
-        answer = fstch_core_open(store, file, has_barriers, bytes, (size_t)length, slot);
+        bool has_barriers = (flags & FSTCH_NO_BARRIERS) == 0;
+        bool is_manual = (flags & FSTCH_MANUAL) != 0;
+        answer = fstch_core_open(store, file, has_barriers, is_manual, bytes, (size_t)length, slot);
     }
     free_bytes(bytes);
     return answer;
@@ -356,7 +358,7 @@ int32_t fstch_open_with(fstch_store *store, const char *path, uint32_t flags, ui
     }
     int32_t answer = lock_file(file, is_to_be_read ? LOCK_SH : LOCK_EX);
     if (answer == FSTCH_DONE) {
-        answer = open_store(store, file, (flags & FSTCH_NO_BARRIERS) == 0, slot);
+        answer = open_store(store, file, flags, slot);
     }
     if (answer != FSTCH_DONE) {
         close_file(file);
@@ -406,6 +408,9 @@ int32_t fstch_sync(fstch_store *store) {
     }
     int kept = errno; /* (the core asks for memory) */
     fstch_core_synced(store, answer == FSTCH_DONE);
+    if (answer == FSTCH_DONE) {
+        fstch_core_renew(store);
+    }
     errno = kept;
     return answer;
 }

@@ -11,3 +11,5 @@ pub mod Synced
 pub mod CallNumbers
 pub mod Walks
 pub mod Writing
+pub mod Renewed
+pub mod Putting

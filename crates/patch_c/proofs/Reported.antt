@@ -1,6 +1,6 @@
 -- What is copied of a report.
 use Rattle.std.proofs.Common.{◌≡◌, ℕ, pos, ◌∙◌, List, length, map, sym, ap, subst}
-use Rattle.std.specs.Prelude.{slice_get, Some}
+use Rattle.std.specs.Prelude.{Option, Some, None, MatchOption, option_map}
 use Rattle.std.proofs.lemmas.List.{length-map}
 use Rattle.std.proofs.lemmas.List.FromFn.{length-map-range_with_len}
 use Rattle.patch_history.specs.History.{History, standing_of}
@@ -23,12 +23,19 @@ counted_so h entries extents keys count lists are keys_are count_is =
     count_is ∙ ap length are ∙ length-map-range_with_len (extent_report shelf) 0 shelf.extents.geometry.extents in
     λ i. (pos 0, e i, x i)
 
-pub listed_so : (h : History) (number : ℕ) (entry : EntryReport) (key into : List ℕ) (len value_len : ℕ) (answer : Answer) (into_now : List ℕ) (len_now : ℕ)
-    → Some (reported entry) ≡ slice_get (entries_of h) number → key ≡ key_of entry.key → answer ≡ answer_copying key into → into_now ≡ copied key into → len_now ≡ length key
-    → (number_of answer, into_now, len_now, entry.length) ≡ entry_told (slice_get (entries_of h) number) into len value_len
-listed_so h number entry key into len value_len answer into_now len_now got key_is answer_is into_is len_is =
+-- of the entry that was found
+pub told_so : (found : Option (List ℕ × ℕ)) (entry : EntryReport) (key into : List ℕ) (len value_len : ℕ) (answer : Answer) (into_now : List ℕ) (len_now : ℕ)
+    → Some (reported entry) ≡ found → key ≡ key_of entry.key → answer ≡ answer_copying key into → into_now ≡ copied key into → len_now ≡ length key
+    → (number_of answer, into_now, len_now, entry.length) ≡ entry_told found into len value_len
+told_so found entry key into len value_len answer into_now len_now got key_is answer_is into_is len_is =
     let a : answer ≡ answer_copying (key_of entry.key) into = answer_is ∙ ap (λ k. answer_copying k into) key_is in
     let b : into_now ≡ copied (key_of entry.key) into = into_is ∙ ap (λ k. copied k into) key_is in
     let l : len_now ≡ length (key_of entry.key) = len_is ∙ ap length key_is in
     subst (λ o. (number_of answer, into_now, len_now, entry.length) ≡ entry_told o into len value_len) got
     (λ i. (number_of (a i), b i, l i, entry.length))
+
+-- what is found is reported
+pub reported_so : (r : Option EntryReport) (None_ : Type 0) (Is : List ℕ × ℕ → Type 0) → MatchOption r None_ (λ it. Is (reported it))
+    → MatchOption (option_map reported r) None_ Is
+reported_so None None_ Is said = said
+reported_so (Some entry) None_ Is said = said

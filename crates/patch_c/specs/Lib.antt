@@ -8,3 +8,6 @@ pub mod Sealed
 pub mod LegalStores
 pub mod Tape
 pub mod Texts
+pub mod Counting
+pub mod Renewing
+pub mod Putting

@@ -19,6 +19,7 @@ use Rattle.patch_handles.specs.declared.answers.Answer.TheVariants.{Done, Refuse
 use Rattle.patch_c.specs.declared.opened.Opened.{Opened}
 use Rattle.patch_c.specs.declared.unopened.Unopened.{Unopened}
 use Rattle.patch_handles.specs.Answering.{number_of}
+use Rattle.patch_c.specs.Counting.{no_syncs}
 use Rattle.patch_c.specs.Tape.{file_of, block_count_of, events_of}
 
 -- a block of so many bytes
@@ -30,7 +31,7 @@ abbrev pub blocks_in : List ℕ → List (List ℕ)
 blocks_in bytes = map (block_in bytes) (range_with_len 0 (length bytes / BLOCK))
 
 -- the store of a file's bytes, which was opened and has done nothing since; the file has these blocks
-pub record IsFresh (file : ℤ) (barriers : Bool) (bytes : List ℕ) (opened : Opened) : Type 0 where
+pub record IsFresh (file : ℤ) (barriers manual : Bool) (bytes : List ℕ) (opened : Opened) : Type 0 where
   pub opens : IsOpened (blocks_in bytes) opened.store
   pub no_steps : opened.store.cache.trace ≡ []
   pub whole : length bytes ≡ block_count_of opened.device * BLOCK
@@ -38,6 +39,8 @@ pub record IsFresh (file : ℤ) (barriers : Bool) (bytes : List ℕ) (opened : O
   pub no_events : events_of opened.device ≡ []
   pub file_is : opened.file ≡ file
   pub barriers_are : opened.barriers ≡ barriers
+  pub manual_is : opened.manual ≡ manual
+  pub tally_is : opened.tally ≡ no_syncs
   pub unspent : opened.is_spent ≡ false
 
 -- Why a store isn't opened.

@@ -1,5 +1,5 @@
 -- What is copied out of a store: values, and entries of what it is checked to hold.
-use Rattle.std.specs.Prelude.{ℕ, ℤ, pos, ◌≡◌, ◌⊎◌, List, length, slice_get, count_by, Option, Some, None}
+use Rattle.std.specs.Prelude.{ℕ, ℤ, pos, ◌≡◌, ◌⊎◌, List, length, slice_get, count_by, Option, Some, None, MatchOption}
 use Rattle.patch_model.specs.declared.refusals.Refusal.{Refusal}
 use Rattle.patch_model.specs.declared.refusals.RefusalKind.TheVariants.{NoSuchExtent}
 use Rattle.patch_model.specs.Entry.{is_live}
@@ -7,9 +7,9 @@ use Rattle.patch_model.specs.State.{entries_of as entries_of_run}
 use Rattle.patch_recovery.specs.Ledger.{value_in}
 use Rattle.patch_history.specs.History.{History, standing_of, execution_of}
 use Rattle.patch_history.specs.Refusing.{why_no_key}
+use Rattle.patch_index.specs.Keys.{IsNext, NoneFrom, IsPrevious, NoneBelow}
 use Rattle.patch_store.specs.Checking.{entries_of, extent_reports}
 use Rattle.patch_store.specs.declared.reports.ExtentReport.{ExtentReport}
-use Rattle.patch_handles.specs.declared.answers.Answer.{Answer}
 use Rattle.patch_handles.specs.declared.answers.Answer.TheVariants as answer
 use Rattle.patch_handles.specs.Answering.{number_of}
 use Rattle.patch_handles.specs.Copying.{copied, answer_copying}
@@ -36,6 +36,18 @@ entry_told (Some entry) into len value_len = (number_of (answer_copying entry.0 
 
 abbrev pub HasListed : History → (number : ℕ) → (into : List ℕ) (len value_len : ℕ) → (told : ℤ × List ℕ × ℕ × ℕ) → Type 0
 HasListed h number into len value_len told = told ≡ entry_told (slice_get (entries_of h) number) into len value_len
+
+-- the least key from this one on
+abbrev pub IsNextOf : History → (from : List ℕ) → Option (List ℕ × ℕ) → Type 0
+IsNextOf h from found = MatchOption found (NoneFrom (entries_of h) from) (IsNext (entries_of h) from)
+
+-- the greatest key below this one, or of all
+abbrev pub IsPreviousOf : History → (before : Option (List ℕ)) → Option (List ℕ × ℕ) → Type 0
+IsPreviousOf h before found = MatchOption found (NoneBelow (entries_of h) before) (IsPrevious (entries_of h) before)
+
+-- the entry that such a key has is told, if there is one
+abbrev pub HasFound : (Option (List ℕ × ℕ) → Type 0) → (into : List ℕ) (len value_len : ℕ) → (told : ℤ × List ℕ × ℕ × ℕ) → Type 0
+HasFound IsFound into len value_len told = (found : Option (List ℕ × ℕ)) × IsFound found × (told ≡ entry_told found into len value_len)
 
 -- an extent, if there is one of this number: how many bytes of it are live, and how many are filled
 abbrev pub extent_told : Option ExtentReport → (live filled : ℕ) → ℤ × ℕ × ℕ

@@ -16,6 +16,7 @@ use Rattle.patch_handles.specs.declared.answers.Answer.{Answer}
 use Rattle.patch_handles.specs.declared.answers.Answer.TheVariants.{Done, Refused, BufferTooSmall, Absent, NoSync, BadWriter, IsResident}
 use Rattle.patch_c.specs.declared.opened.Opened.{Opened}
 use Rattle.patch_c.specs.declared.tape.Tape.{Tape}
+use Rattle.patch_c.specs.Counting.{tally_behind}
 use Rattle.patch_c.specs.Tape.{file_of, contents_of, moment_of, left_at_of, block_count_of, fault_count_of, events_of}
 
 -- all patches were brought to the disk: the store stands behind the writes, and nothing is left to be written
@@ -83,4 +84,6 @@ pub record IsSettled (is_done : Bool) (before after : Opened) : Type 0 where
   pub faults : fault_count_of after.device ≡ fault_count_of before.device
   pub file : after.file ≡ before.file
   pub barriers : after.barriers ≡ before.barriers
+  pub manual : after.manual ≡ before.manual
+  pub tally : after.tally ≡ tally_behind is_done (events_of before.device) before.tally
   pub spent : after.is_spent ≡ (before.is_spent || not is_done)

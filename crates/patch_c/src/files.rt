@@ -10,7 +10,7 @@ use patch_handles::{DONE, IS_OPEN, NOT_OPEN};
 use std::alloc::Global;
 
 /// `FSTCH_VERSION`.
-const VERSION: u32 = 302;
+const VERSION: u32 = 400;
 
 /// What `fstch_core_file` answers where no store is open.
 const NO_FILE: i32 = -1;
@@ -33,19 +33,21 @@ pub extern "C" fn fstch_core_make(
     make_first(alloc, geometry, into, blocks).number()
 }
 
-/// Opens the store of a file that holds these bytes and no others. It is kept whether the file is to be synced at each barrier.
+/// Opens the store of a file that holds these bytes and no others. It is kept whether the file is to be synced at each barrier, and
+/// whether extents are won back by a reclaim alone.
 #[unsafe(no_mangle)]
 pub extern "C" fn fstch_core_open(
     handle: &mut Handle,
     alloc: Global,
     file: i32,
     barriers: bool,
+    manual: bool,
     bytes: &[u8],
     slot: &mut u32,
 ) -> i32
     ensures is_open { (result ≡ IS_OPEN) ↔ IsTrue handle.old.is_open }
     ensures opened { result ≡ DONE → IsTrue handle.new.is_open }
-    ensures fresh { result ≡ DONE → IfSome handle.new.sealed.opened (IsFresh file barriers bytes.now) }
+    ensures fresh { result ≡ DONE → IfSome handle.new.sealed.opened (IsFresh file barriers manual bytes.now) }
     ensures refused { result ≢ DONE → handle.new ≡ handle.old }
     ensures slot { result ≡ DONE → slot.new ≡ slot.old }
     ensures slot_kept { IsTrue handle.old.is_open → slot.new ≡ slot.old }
@@ -54,7 +56,7 @@ pub extern "C" fn fstch_core_open(
     if handle.is_open {
         return IS_OPEN;
     }
-    match open_bytes(alloc, file, barriers, bytes) {
+    match open_bytes(alloc, file, barriers, manual, bytes) {
         Ok(opened) => {
             handle.put_back(opened);
             DONE

@@ -2,7 +2,8 @@
 //!
 //! Each export takes the store out of its [`Handle`](handle::Handle), makes one call of it, and puts it back: those of `files` make,
 //! open and close one, those of `syncing` bring it to its file, those of `values` put and read, those of `deleting` delete and win room
-//! back, those of `listing` count and list, and those of `groups` order what is changed. What they answer are the numbers of an
+//! back, those of `listing` and `walking` list, by number and in order of keys, those of `counting` count, and those of `groups` order what
+//! is changed. Behind a sync `renewing` lets a store begin anew. What they answer are the numbers of an
 //! [`Answer`](patch_handles::Answer), with words in `texts`. None of them requires anything: what a call of the store requires is tested, or
 //! known of each store that is `opened`.
 //!
@@ -13,6 +14,7 @@
 #![tactic(auto)]
 
 mod answers;
+mod counting;
 mod deleting;
 mod file_blocks;
 mod files;
@@ -23,6 +25,7 @@ mod laws;
 mod listing;
 mod opened;
 mod opening;
+mod renewing;
 mod saving;
 mod sealed;
 mod syncing;
@@ -32,3 +35,4 @@ mod tests;
 mod texts;
 mod unopened;
 mod values;
+mod walking;

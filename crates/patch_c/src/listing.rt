@@ -8,7 +8,8 @@ ghost use Rattle.patch_c.specs.Reading.{HasListed, HasCounted, HasMeasured, unsy
 
 use crate::handle::Handle;
 use crate::opened::Opened;
-use patch_handles::{Answer, DONE, NOT_OPEN, copy_out};
+use crate::walking::tell_entry;
+use patch_handles::{Answer, DONE, NOT_OPEN};
 use patch_model::RefusalKind;
 use std::alloc::Global;
 
@@ -44,11 +45,7 @@ impl Opened {
         ensures { (h : History) → IsStoreOf self.now.store h →
             HasListed h number key.old key_len.old value_len.old (number_of result, key.new, key_len.new, value_len.new) }
     {
-        let Some(entry) = self.store.entry(number) else {
-            return Answer::Absent;
-        };
-        *value_len = entry.length as usize;
-        copy_out(entry.key.as_slice(), key, key_len)
+        tell_entry(self.store.entry(number), key, key_len, value_len)
     }
 
     fn extent(&self, extent: u32, live: &mut u32, filled: &mut u32) -> Answer

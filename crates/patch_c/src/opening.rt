@@ -6,7 +6,7 @@ ghost use Rattle.patch_c.specs.Opening.{IsFresh, IsTested, IsWhyNot, AnswersMaki
 
 use crate::file_blocks::{Given, blocks_in};
 use crate::held_blocks::HeldBlocks;
-use crate::opened::Opened;
+use crate::opened::{Opened, Tally};
 use crate::tape::Tape;
 use crate::unopened::Unopened;
 use patch_cache::Cache;
@@ -37,9 +37,10 @@ pub fn open_bytes(
     alloc: Global,
     file: i32,
     barriers: bool,
+    manual: bool,
     bytes: &[u8],
 ) -> Result<Box<Opened, Global>, Unopened>
-    ensures fresh { IfOk result (λ opened. IsFresh file barriers bytes.now opened.value) }
+    ensures fresh { IfOk result (λ opened. IsFresh file barriers manual bytes.now opened.value) }
     ensures why { IfErr result (λ why. IsWhyNot bytes.now why.refusal) }
 {
     let blocks = blocks_in(alloc, bytes)?;
@@ -56,6 +57,8 @@ pub fn open_bytes(
             device,
             file,
             barriers,
+            manual,
+            tally: Tally { syncs: 0, waves: 0 },
             is_spent: false,
         },
     )?)

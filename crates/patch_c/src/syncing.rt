@@ -38,6 +38,8 @@ impl Opened {
         ensures spent { IsTrue self.old.is_spent → (result ≡ Answer.NoSync) × (self.new.store ≡ self.old.store) × (self.new.device ≡ self.old.device) }
         ensures number { self.new.file ≡ self.old.file }
         ensures barriers { self.new.barriers ≡ self.old.barriers }
+        ensures manual { self.new.manual ≡ self.old.manual }
+        ensures tally { self.new.tally ≡ self.old.tally }
         ensures saved { (h : History) → StandsOn self.old.store h (contents_of self.old.device)
             → result ≡ Answer.Done → HasSaved h self.new.store (contents_of self.new.device) }
         ensures lands { IsFalse self.old.is_spent → events_of self.old.device ≡ [] → (h : History)
@@ -82,8 +84,11 @@ impl Opened {
     fn settle(&mut self, is_done: bool)
         ensures { IsSettled is_done self.old self.new }
     {
+        let waves = self.device.barriers();
         self.device.clear();
-        if !is_done {
+        if is_done {
+            self.tally.count(waves);
+        } else {
             self.is_spent = true;
         }
     }
@@ -114,6 +119,8 @@ pub extern "C" fn fstch_core_sync(handle: &mut Handle, alloc: Global) -> i32
         → (result ≡ number_of Answer.NoSync) × (after.store ≡ before.store) × (after.device ≡ before.device)) }
     ensures number { Between handle.old handle.new (λ before after. after.file ≡ before.file) }
     ensures barriers { Between handle.old handle.new (λ before after. after.barriers ≡ before.barriers) }
+    ensures manual { Between handle.old handle.new (λ before after. after.manual ≡ before.manual) }
+    ensures tally { Between handle.old handle.new (λ before after. after.tally ≡ before.tally) }
     ensures fails { Between handle.old handle.new (λ before after. IsFalse after.is_spent ↔ (result ≡ DONE)) }
     ensures gave_up { result ≢ number_of (Answer.Refused kind.DeviceGaveUp) }
     ensures sync_failed { result ≢ number_of (Answer.Refused kind.SyncFailed) }

@@ -1,5 +1,5 @@
 //! A device that keeps the writes and barriers of a sync, until the program in C has brought them to the file.
-ghost use Rattle.std.specs.Prelude.{◌≡◌, ◌+◌, ◌≤◌, ◌↔◌, [], ◌∷◌, ◌++◌, length, slice_set, Some, None, Ok, Err, IfErr, OnOk, OnErr, IsErr, IsErrOf, IsFalse};
+ghost use Rattle.std.specs.Prelude.{◌≡◌, ◌+◌, ◌≤◌, ◌↔◌, [], ◌∷◌, ◌++◌, length, slice_set, count_by, is_none, Some, None, Ok, Err, IfErr, OnOk, OnErr, IsErr, IsErrOf, IsFalse};
 ghost use Rattle.patch_device.specs.Blocks.{AreWhole};
 ghost use Rattle.patch_device.specs.Device.{most_faults, HasRisen, CountsFault, Elapses, LandsOrNot, LeavesNoMore, LeavesJust};
 ghost use Rattle.patch_device.specs.Cuts.{written_behind};
@@ -54,6 +54,19 @@ impl Tape {
         ensures { result.now ≡ events_of self.now }
     {
         self.events.as_slice()
+    }
+
+    /// How many barriers are among the events.
+    pub fn barriers(&self) -> u64
+        ensures { result ≡ count_by is_none (events_of self.now) }
+    {
+        let mut count = 0;
+        for at in 0..self.events.len() {
+            if self.events[at].is_none() {
+                count += 1;
+            }
+        }
+        count
     }
 
     /// What the file holds once all is done.

@@ -1,6 +1,7 @@
 //! The exports, called as C calls them: each test is a list of calls, with what each answers and tells.
 ghost use Rattle.std.specs.Prelude.{IsFalse};
 
+use crate::counting::{Statistics, fstch_stats};
 use crate::deleting::{fstch_delete, fstch_reclaim};
 use crate::files::{
     fstch_core_barriers, fstch_core_close, fstch_core_file, fstch_core_make, fstch_core_open,
@@ -12,9 +13,11 @@ use crate::groups::{
 };
 use crate::handle::Handle;
 use crate::listing::{fstch_check, fstch_entry, fstch_extent, fstch_unsynced};
+use crate::renewing::fstch_core_renew;
 use crate::syncing::{fstch_core_sync, fstch_core_synced, fstch_core_write};
 use crate::texts::fstch_error_text;
 use crate::values::{fstch_get, fstch_put};
+use crate::walking::{fstch_last, fstch_next, fstch_previous};
 use patch_handles::{DONE, IS_OPEN, NOT_OPEN};
 use patch_model::BLOCK;
 use std::alloc::Global;
@@ -47,6 +50,7 @@ enum Call {
     Make(u32, u32, u32, usize),
     // Opens the file's bytes, a few others, or zeros.
     Open,
+    OpenManual,
     OpenShort,
     OpenZeros,
     IsOpen,
@@ -58,8 +62,20 @@ enum Call {
     Reclaim(u32),
     Check,
     Entry(u32, usize),
+    Next(&'static [u8], usize),
+    Previous(&'static [u8], usize),
+    Last(usize),
     Extent(u32),
     Unsynced,
+    // Keys and empty extents; syncs and waves; live bytes and those of the file.
+    Fullness,
+    Tally,
+    Sizes,
+    Renew,
+    // So many groups, each of which is closed.
+    Groups(u32),
+    // So many values under one key.
+    Puts(u32, &'static [u8], &'static [u8]),
     Group,
     Engage(u32, u32),
     Disengage(u32, u32),
@@ -110,9 +126,9 @@ fn make(alloc: Global, divided: (u32, u32, u32), into: &mut [u8]) -> Told {
     (answer, count as usize, KEPT)
 }
 
-fn open(alloc: Global, handle: &mut Handle, bytes: &[u8]) -> Told {
+fn open(alloc: Global, handle: &mut Handle, manual: bool, bytes: &[u8]) -> Told {
     let mut slot = KEPT as u32;
-    let answer = fstch_core_open(handle, alloc, FILE, true, bytes, &mut slot);
+    let answer = fstch_core_open(handle, alloc, FILE, true, manual, bytes, &mut slot);
     (answer, slot as usize, KEPT)
 }
 
@@ -134,6 +150,92 @@ fn entry(alloc: Global, handle: &mut Handle, number: u32, into: &mut [u8]) -> To
     let mut value_len = KEPT;
     let answer = fstch_entry(handle, alloc, number, into, &mut key_len, &mut value_len);
     (answer, key_len, value_len)
+}
+
+fn next(alloc: Global, handle: &mut Handle, from: &[u8], into: &mut [u8]) -> Told {
+    let mut key_len = KEPT;
+    let mut value_len = KEPT;
+    let answer = fstch_next(handle, alloc, from, into, &mut key_len, &mut value_len);
+    (answer, key_len, value_len)
+}
+
+fn previous(alloc: Global, handle: &mut Handle, before: &[u8], into: &mut [u8]) -> Told {
+    let mut key_len = KEPT;
+    let mut value_len = KEPT;
+    let answer = fstch_previous(handle, alloc, before, into, &mut key_len, &mut value_len);
+    (answer, key_len, value_len)
+}
+
+fn last(alloc: Global, handle: &mut Handle, into: &mut [u8]) -> Told {
+    let mut key_len = KEPT;
+    let mut value_len = KEPT;
+    let answer = fstch_last(handle, alloc, into, &mut key_len, &mut value_len);
+    (answer, key_len, value_len)
+}
+
+fn statistics(alloc: Global, handle: &mut Handle) -> (i32, Statistics) {
+    let mut statistics = Statistics {
+        keys: KEPT as u32,
+        unsynced: KEPT as u32,
+        live_bytes: KEPT as u64,
+        file_bytes: KEPT as u64,
+        extents: KEPT as u32,
+        empty_extents: KEPT as u32,
+        syncs: KEPT as u64,
+        waves: KEPT as u64,
+    };
+    let answer = fstch_stats(handle, alloc, &mut statistics);
+    (answer, statistics)
+}
+
+fn fullness(alloc: Global, handle: &mut Handle) -> Told {
+    let (answer, statistics) = statistics(alloc, handle);
+    (
+        answer,
+        statistics.keys as usize,
+        statistics.empty_extents as usize,
+    )
+}
+
+fn tally(alloc: Global, handle: &mut Handle) -> Told {
+    let (answer, statistics) = statistics(alloc, handle);
+    (answer, statistics.syncs as usize, statistics.waves as usize)
+}
+
+fn sizes(alloc: Global, handle: &mut Handle) -> Told {
+    let (answer, statistics) = statistics(alloc, handle);
+    (
+        answer,
+        statistics.live_bytes as usize,
+        statistics.file_bytes as usize,
+    )
+}
+
+// The last answer that isn't that of a call which was done, and the number of the last group.
+fn groups(alloc: Global, handle: &mut Handle, count: u32) -> Told {
+    let mut told = (DONE, KEPT, KEPT);
+    for _ in 0..count {
+        let mut made = KEPT as u32;
+        let answer = fstch_group(handle, alloc, &mut made);
+        let closed = fstch_group_close(handle, alloc, made);
+        told = (
+            if answer == DONE { closed } else { answer },
+            made as usize,
+            KEPT,
+        );
+    }
+    told
+}
+
+// The first answer that isn't that of a put which was done, and how many were.
+fn puts(alloc: Global, handle: &mut Handle, count: u32, key: &[u8], value: &[u8]) -> Told {
+    for done in 0..count {
+        let answer = fstch_put(handle, alloc, NO_WRITER, key, value);
+        if answer != DONE {
+            return (answer, done as usize, KEPT);
+        }
+    }
+    (DONE, count as usize, KEPT)
 }
 
 fn extent(alloc: Global, handle: &mut Handle, number: u32) -> Told {
@@ -217,6 +319,9 @@ fn copying(alloc: Global, handle: &mut Handle, into: &mut [u8], call: &Call) -> 
         ),
         Call::Get(key, room) => get(alloc, handle, key, part(into, *room)),
         Call::Entry(number, room) => entry(alloc, handle, *number, part(into, *room)),
+        Call::Next(from, room) => next(alloc, handle, from, part(into, *room)),
+        Call::Previous(before, room) => previous(alloc, handle, before, part(into, *room)),
+        Call::Last(room) => last(alloc, handle, part(into, *room)),
         Call::Event(number, room) => event(alloc, handle, *number, part(into, *room)),
         _ => told(0),
     }
@@ -225,6 +330,7 @@ fn copying(alloc: Global, handle: &mut Handle, into: &mut [u8], call: &Call) -> 
 fn grouping(alloc: Global, handle: &mut Handle, call: &Call) -> Told {
     match call {
         Call::Group => group(alloc, handle),
+        Call::Groups(count) => groups(alloc, handle, *count),
         Call::Engage(group, writer) => told(fstch_group_engage(handle, alloc, *group, *writer)),
         Call::Disengage(group, writer) => {
             told(fstch_group_disengage(handle, alloc, *group, *writer))
@@ -241,6 +347,8 @@ fn changing(alloc: Global, handle: &mut Handle, call: &Call) -> Told {
         Call::Put(writer, key, value) => told(fstch_put(handle, alloc, *writer, key, value)),
         Call::Delete(writer, key) => told(fstch_delete(handle, alloc, *writer, key)),
         Call::Reclaim(extent) => told(fstch_reclaim(handle, alloc, *extent)),
+        Call::Puts(count, key, value) => puts(alloc, handle, *count, key, value),
+        Call::Renew => told(fstch_core_renew(handle, alloc)),
         Call::Sync => told(fstch_core_sync(handle, alloc)),
         Call::Synced(is_done) => told(fstch_core_synced(handle, alloc, *is_done)),
         Call::Close => told(fstch_core_close(handle, alloc)),
@@ -250,21 +358,30 @@ fn changing(alloc: Global, handle: &mut Handle, call: &Call) -> Told {
 
 fn step(alloc: Global, handle: &mut Handle, file: &mut [u8], into: &mut [u8], call: &Call) -> Told {
     match call {
-        Call::Open => open(alloc, handle, file),
-        Call::OpenShort => open(alloc, handle, b"short"),
-        Call::OpenZeros => open(alloc, handle, &ZEROS),
+        Call::Open => open(alloc, handle, false, file),
+        Call::OpenManual => open(alloc, handle, true, file),
+        Call::OpenShort => open(alloc, handle, false, b"short"),
+        Call::OpenZeros => open(alloc, handle, false, &ZEROS),
         Call::IsOpen => is_open(handle),
         Call::File => told(fstch_core_file(handle, alloc)),
         Call::Barriers => told(i32::from(fstch_core_barriers(handle, alloc))),
         Call::Check => check(alloc, handle),
         Call::Extent(number) => extent(alloc, handle, *number),
         Call::Unsynced => unsynced(alloc, handle),
+        Call::Fullness => fullness(alloc, handle),
+        Call::Tally => tally(alloc, handle),
+        Call::Sizes => sizes(alloc, handle),
         Call::Save => save(alloc, handle, file, into),
         Call::Shows(bytes) => shows(into, bytes),
-        Call::Make(_, _, _, _) | Call::Get(_, _) | Call::Entry(_, _) | Call::Event(_, _) => {
-            copying(alloc, handle, into, call)
-        }
+        Call::Make(_, _, _, _)
+        | Call::Get(_, _)
+        | Call::Entry(_, _)
+        | Call::Next(_, _)
+        | Call::Previous(_, _)
+        | Call::Last(_)
+        | Call::Event(_, _) => copying(alloc, handle, into, call),
         Call::Group
+        | Call::Groups(_)
         | Call::Engage(_, _)
         | Call::Disengage(_, _)
         | Call::Depend(_, _)
@@ -405,6 +522,105 @@ fn groups_are_ordered(rt: HostRuntime) {
     walk_on(&rt, rt.alloc(), (1, 4, 0), &GROUPS);
 }
 
+const KEYS: [Move; 20] = [
+    (Call::Open, (DONE, KEPT, KEPT)),
+    (Call::Next(b"", 8), (-5, KEPT, KEPT)),
+    (Call::Last(8), (-5, KEPT, KEPT)),
+    (Call::Put(0, b"b", b"1"), (DONE, KEPT, KEPT)),
+    (Call::Put(0, b"a", b"22"), (DONE, KEPT, KEPT)),
+    (Call::Put(0, b"ab", b""), (DONE, KEPT, KEPT)),
+    (Call::Next(b"", 8), (DONE, 1, 2)),
+    (Call::Shows(b"a."), (1, KEPT, KEPT)),
+    (Call::Next(b"a\0", 8), (DONE, 2, 0)),
+    (Call::Shows(b"ab."), (1, KEPT, KEPT)),
+    (Call::Next(b"ab", 1), (-4, 2, 0)),
+    (Call::Shows(b".."), (1, KEPT, KEPT)),
+    (Call::Next(LONG, 8), (-5, KEPT, KEPT)),
+    (Call::Previous(b"b", 8), (DONE, 2, 0)),
+    (Call::Previous(b"a", 8), (-5, KEPT, KEPT)),
+    (Call::Last(8), (DONE, 1, 1)),
+    (Call::Shows(b"b."), (1, KEPT, KEPT)),
+    (Call::Delete(0, b"b"), (DONE, KEPT, KEPT)),
+    (Call::Last(8), (DONE, 2, 0)),
+    (Call::Close, (DONE, KEPT, KEPT)),
+];
+
+#[test]
+fn keys_come_in_order(rt: HostRuntime) {
+    walk_on(&rt, rt.alloc(), (1, 4, 0), &KEYS);
+}
+
+// A frame has 16 bytes more than its key and its value.
+const STATISTICS: [Move; 15] = [
+    (Call::Fullness, (NOT_OPEN, KEPT, KEPT)),
+    (Call::Open, (DONE, KEPT, KEPT)),
+    (Call::Fullness, (DONE, 0, 4)),
+    (Call::Tally, (DONE, 0, 0)),
+    (Call::Sizes, (DONE, 0, 67 * BLOCK)),
+    (Call::Put(0, b"key", b"value"), (DONE, KEPT, KEPT)),
+    (Call::Fullness, (DONE, 1, 3)),
+    (Call::Sizes, (DONE, 24, 67 * BLOCK)),
+    (Call::Sync, (DONE, KEPT, KEPT)),
+    (Call::Tally, (DONE, 0, 0)),
+    (Call::Synced(true), (DONE, KEPT, KEPT)),
+    (Call::Tally, (DONE, 1, 3)),
+    (Call::Save, (DONE, KEPT, KEPT)),
+    (Call::Tally, (DONE, 2, 3)),
+    (Call::Close, (DONE, KEPT, KEPT)),
+];
+
+#[test]
+fn a_store_is_counted(rt: HostRuntime) {
+    walk_on(&rt, rt.alloc(), (1, 4, 0), &STATISTICS);
+}
+
+const RENEWALS: [Move; 17] = [
+    (Call::Renew, (NOT_OPEN, KEPT, KEPT)),
+    (Call::Open, (DONE, KEPT, KEPT)),
+    (Call::Put(0, b"key", b"value"), (DONE, KEPT, KEPT)),
+    (Call::Groups(512), (DONE, 511, KEPT)),
+    (Call::Save, (DONE, KEPT, KEPT)),
+    (Call::Renew, (DONE, KEPT, KEPT)),
+    (Call::Group, (DONE, 512, KEPT)),
+    (Call::Engage(512, 0), (DONE, KEPT, KEPT)),
+    (Call::Renew, (DONE, KEPT, KEPT)),
+    (Call::Group, (DONE, 513, KEPT)),
+    (Call::Disengage(512, 0), (DONE, KEPT, KEPT)),
+    (Call::CloseGroup(512), (DONE, KEPT, KEPT)),
+    (Call::Renew, (DONE, KEPT, KEPT)),
+    (Call::Group, (DONE, 0, KEPT)),
+    (Call::Get(b"key", 8), (DONE, 5, KEPT)),
+    (Call::Shows(b"value."), (1, KEPT, KEPT)),
+    (Call::Close, (DONE, KEPT, KEPT)),
+];
+
+#[test]
+fn a_worn_store_begins_anew(rt: HostRuntime) {
+    walk_on(&rt, rt.alloc(), (1, 4, 0), &RENEWALS);
+}
+
+// Frames of 4,018 bytes: 16 fit an extent, and one of three extents stays empty. Where extents are won back by hand two are filled.
+const ROOM: [Move; 11] = [
+    (Call::OpenManual, (DONE, KEPT, KEPT)),
+    (Call::Puts(100, b"ab", &VALUE), (43, 32, KEPT)),
+    (Call::Fullness, (DONE, 1, 1)),
+    (Call::Reclaim(0), (DONE, KEPT, KEPT)),
+    (Call::Puts(100, b"ab", &VALUE), (43, 16, KEPT)),
+    (Call::Save, (DONE, KEPT, KEPT)),
+    (Call::Close, (DONE, KEPT, KEPT)),
+    (Call::Open, (DONE, KEPT, KEPT)),
+    (Call::Puts(500, b"ab", &VALUE), (DONE, 500, KEPT)),
+    (Call::Fullness, (DONE, 1, 1)),
+    (Call::Close, (DONE, KEPT, KEPT)),
+];
+
+const VALUE: [u8; 4000] = [b'v'; 4000];
+
+#[test]
+fn puts_win_room_back(rt: HostRuntime) {
+    walk_on(&rt, rt.alloc(), (1, 3, 0), &ROOM);
+}
+
 const MISUSE: [Move; 37] = [
     (Call::Put(0, b"a", b"b"), (NOT_OPEN, KEPT, KEPT)),
     (Call::Get(b"a", 4), (NOT_OPEN, KEPT, KEPT)),
@@ -494,5 +710,5 @@ fn texts_end(rt: HostRuntime) {
         expect_eq(&rt, &fstch_error_text(*answer, part(&mut into, *room)), len);
         expect_eq(&rt, &shows(&into, shown), &told(1));
     }
-    expect_eq(&rt, &fstch_version(), &302);
+    expect_eq(&rt, &fstch_version(), &400);
 }

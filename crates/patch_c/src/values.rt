@@ -6,29 +6,57 @@ ghost use Rattle.patch_store.specs.Meaning.{IsStoreOf};
 ghost use Rattle.patch_handles.specs.Answering.{number_of, writer_of as writer_for};
 ghost use Rattle.patch_c.specs.Answering.{Tells, KeepsIfRefused};
 ghost use Rattle.patch_c.specs.Handle.{Between, KeepsRest, StaysClosed};
+ghost use Rattle.patch_c.specs.Putting.{TellsPut, HasRoomOrIsFull};
 ghost use Rattle.patch_c.specs.Reading.{HasGot};
 
 use crate::answers::told;
 use crate::handle::Handle;
-use crate::laws::calls_stay;
+use crate::laws::{calls_stay, puts_stay};
 use crate::opened::Opened;
 use patch_handles::{Answer, NOT_OPEN, copy_out, writer_of};
-use patch_model::Refuses;
+use patch_model::{Refuses, WriterNo};
 use std::alloc::Global;
 
 impl Opened {
     fn put(&mut self, writer: u32, key: &[u8], value: &[u8]) -> Answer
-        ensures told { IfSome (writer_for writer) (λ no.
+        ensures told { IfSome (writer_for writer) (λ no. IsTrue self.old.manual →
             Tells no (Put key.now value.now) (number_of result) self.old.store self.new.store) }
+        ensures told_in_room { IfSome (writer_for writer) (λ no. IsFalse self.old.manual →
+            TellsPut no (record { key = key.now; value = value.now }) (number_of result) self.old.store self.new.store) }
         ensures bad_writer { IsNone (writer_for writer) → result ≡ Answer.BadWriter }
+        ensures kept { IsTrue self.old.manual → KeepsIfRefused (number_of result) self.old.store self.new.store }
+        ensures room { IsFalse self.old.manual → HasRoomOrIsFull (record { key = key.now; value = value.now }) (number_of result)
+            self.old.store self.new.store }
+        ensures rest { KeepsRest self.old self.new }
+    {
+        let Some(writer) = writer_of(writer) else {
+            return Answer::BadWriter;
+        };
+        if self.manual {
+            self.put_alone(writer, key, value)
+        } else {
+            self.put_in_room(writer, key, value)
+        }
+    }
+
+    /// Puts a value where there is room for it.
+    fn put_alone(&mut self, writer: WriterNo, key: &[u8], value: &[u8]) -> Answer
+        ensures told { Tells writer (Put key.now value.now) (number_of result) self.old.store self.new.store }
         ensures kept { KeepsIfRefused (number_of result) self.old.store self.new.store }
         ensures rest { KeepsRest self.old self.new }
     {
         calls_stay();
-        let Some(writer) = writer_of(writer) else {
-            return Answer::BadWriter;
-        };
         told(self.store.put(writer, key, value))
+    }
+
+    /// Puts a value, and wins extents back for it first where there is none.
+    fn put_in_room(&mut self, writer: WriterNo, key: &[u8], value: &[u8]) -> Answer
+        ensures told { TellsPut writer (record { key = key.now; value = value.now }) (number_of result) self.old.store self.new.store }
+        ensures room { HasRoomOrIsFull (record { key = key.now; value = value.now }) (number_of result) self.old.store self.new.store }
+        ensures rest { KeepsRest self.old self.new }
+    {
+        puts_stay();
+        told(patch_room::put(&mut self.store, writer, key, value))
     }
 
     fn get(&self, key: &[u8], into: &mut [u8], len: &mut usize) -> Answer
@@ -43,7 +71,8 @@ impl Opened {
     }
 }
 
-/// Puts a value under a key, in place of the one that it had.
+/// Puts a value under a key, in place of the one that it had. Where no extent has room for it, some are won back first, but of a store
+/// that was opened to have that done by `fstch_reclaim` alone.
 #[unsafe(no_mangle)]
 pub extern "C" fn fstch_put(
     handle: &mut Handle,
@@ -55,10 +84,15 @@ pub extern "C" fn fstch_put(
     ensures open { handle.new.is_open ≡ handle.old.is_open }
     ensures not_open { (result ≡ NOT_OPEN) ↔ IsFalse handle.old.is_open }
     ensures closed { StaysClosed handle.old handle.new }
-    ensures told { IfSome (writer_for writer) (λ no. Between handle.old handle.new (λ before after.
+    ensures told { IfSome (writer_for writer) (λ no. Between handle.old handle.new (λ before after. IsTrue before.manual →
         Tells no (Put key.now value.now) result before.store after.store)) }
+    ensures told_in_room { IfSome (writer_for writer) (λ no. Between handle.old handle.new (λ before after. IsFalse before.manual →
+        TellsPut no (record { key = key.now; value = value.now }) result before.store after.store)) }
     ensures bad_writer { IsNone (writer_for writer) → IsTrue handle.old.is_open → result ≡ number_of Answer.BadWriter }
-    ensures kept { Between handle.old handle.new (λ before after. KeepsIfRefused result before.store after.store) }
+    ensures kept { Between handle.old handle.new (λ before after. IsTrue before.manual
+        → KeepsIfRefused result before.store after.store) }
+    ensures room { Between handle.old handle.new (λ before after. IsFalse before.manual
+        → HasRoomOrIsFull (record { key = key.now; value = value.now }) result before.store after.store) }
     ensures rest { Between handle.old handle.new KeepsRest }
 {
     let Some(mut opened) = handle.take(alloc) else {

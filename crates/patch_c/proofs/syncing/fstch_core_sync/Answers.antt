@@ -66,3 +66,13 @@ pub returns-clause-barriers : goal.returns-clause-barriers
 returns-clause-barriers c =
     between_so c.args.handle.now c.put_back.new.self c.deref_mut.result.now c.sync-answer.new.self (λ before after. after.barriers ≡ before.barriers)
     (ap (λ (o : Opened). Some o) c.deref_mut.ensures.value ∙ c.in-Some.ensures.value) c.put_back.ensures.value c.sync-answer.ensures.barriers
+
+pub returns-clause-tally : goal.returns-clause-tally
+returns-clause-tally c =
+    between_so c.args.handle.now c.put_back.new.self c.deref_mut.result.now c.sync-answer.new.self (λ before after. after.tally ≡ before.tally)
+    (ap (λ (o : Opened). Some o) c.deref_mut.ensures.value ∙ c.in-Some.ensures.value) c.put_back.ensures.value c.sync-answer.ensures.tally
+
+pub returns-clause-manual : goal.returns-clause-manual
+returns-clause-manual c =
+    between_so c.args.handle.now c.put_back.new.self c.deref_mut.result.now c.sync-answer.new.self (λ before after. after.manual ≡ before.manual)
+    (ap (λ (o : Opened). Some o) c.deref_mut.ensures.value ∙ c.in-Some.ensures.value) c.put_back.ensures.value c.sync-answer.ensures.manual

@@ -1,10 +1,6 @@
-use Rattle.std.proofs.Common.{◌∙◌, ap, sym}
-use Rattle.std.specs.Prelude.{option_map}
-use Rattle.patch_index.specs.Reporting.{reported}
-use Rattle.patch_c.proofs.Reported.{listed_so}
+use Rattle.std.proofs.Common.{◌∙◌, ap}
+use Rattle.patch_c.specs.Reading.{entry_told}
 use Rattle.patch_c.proofs.opened.Opened.entry.Goals as goal
 
 pub returns : goal.returns
-returns c h represents =
-    listed_so h c.args.number c.in-Some.entry c.as_slice.result.now _ _ _ c.copy_out.result _ _ (ap (option_map reported) (sym c.in-Some.is) ∙ c.entry.ensures h represents)
-    c.as_slice.ensures c.copy_out.ensures.answer c.copy_out.ensures.bytes c.copy_out.ensures.len
+returns c h represents = c.tell_entry.ensures ∙ ap (λ o. entry_told o c.args.key.now c.args.key_len.now c.args.value_len.now) (c.entry.ensures h represents)
