@@ -7,8 +7,8 @@
         store[b"key"] = b"value"
         store.sync()
 
-A `Store` is a mapping of bytes to bytes. What is put or deleted lasts from a `sync` on, and a `with` that no exception ends syncs at
-its end.
+A `Store` is a mapping of bytes to bytes, in order of its keys. What is put or deleted lasts from a `sync` on, and a `with` that no
+exception ends syncs at its end.
 
 Whenever the program ends or the power is cut, the file opens again. It then has, of each key, what it had after the last sync or after
 one of the later puts and deletes; where a write had reached the file, all that it depends on had too. What was answered before a sync
@@ -31,10 +31,11 @@ from .cache import BLOCK, MAX_BLOCKS, MAX_LIVE, Cache, CacheCounts, CacheGroup, 
 from .errors import *
 from .errors import __all__ as _errors
 from .library import VERSION
-from .store import MAX_KEY, MAX_VALUE, Counts, Extent, Group, Store, make, open
+from .store import MAX_KEY, MAX_VALUE, Counts, Extent, Group, Statistics, Store, make, open
 
 __version__ = f"{VERSION // 10000}.{VERSION // 100 % 100}.{VERSION % 100}"
 
 # (without `open`, which is a name of Python's own)
 _cache = ["BLOCK", "MAX_BLOCKS", "MAX_LIVE", "Cache", "CacheCounts", "CacheGroup", "Flight", "Mark"]
-__all__ = ["MAX_KEY", "MAX_VALUE", "VERSION", "Counts", "Extent", "Group", "Store", "__version__", "make", *_cache, *_errors]
+_store = ["MAX_KEY", "MAX_VALUE", "Counts", "Extent", "Group", "Statistics", "Store", "make"]
+__all__ = ["VERSION", "__version__", *_store, *_cache, *_errors]

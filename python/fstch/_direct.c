@@ -8,19 +8,22 @@
 static int32_t (*get_value)(const fstch_store *, const void *, size_t, void *, size_t, size_t *);
 static int32_t (*put_value)(fstch_store *, uint32_t, const void *, size_t, const void *, size_t);
 static int32_t (*delete_key)(fstch_store *, uint32_t, const void *, size_t);
-static int32_t (*entry_of)(const fstch_store *, uint32_t, void *, size_t, size_t *, size_t *);
+/* A call that finds a key by one that it is given. */
+typedef int32_t finding(const fstch_store *, const void *, size_t, void *, size_t, size_t *, size_t *);
+static finding *next_key, *previous_key;
 
-/* Takes the addresses of fstch_get, fstch_put, fstch_delete and fstch_entry. */
+/* Takes the addresses of fstch_get, fstch_put, fstch_delete, fstch_next and fstch_previous. */
 static PyObject *bind(PyObject *module, PyObject *given) {
-    unsigned long long get, put, delete, entry;
+    unsigned long long get, put, delete, next, previous;
     (void)module;
-    if (!PyArg_ParseTuple(given, "KKKK", &get, &put, &delete, &entry)) {
+    if (!PyArg_ParseTuple(given, "KKKKK", &get, &put, &delete, &next, &previous)) {
         return NULL;
     }
     *(void **)&get_value = (void *)(uintptr_t)get;
     *(void **)&put_value = (void *)(uintptr_t)put;
     *(void **)&delete_key = (void *)(uintptr_t)delete;
-    *(void **)&entry_of = (void *)(uintptr_t)entry;
+    *(void **)&next_key = (void *)(uintptr_t)next;
+    *(void **)&previous_key = (void *)(uintptr_t)previous;
     Py_RETURN_NONE;
 }
 
@@ -82,29 +85,40 @@ static PyObject *delete(PyObject *module, PyObject *given) {
     return PyLong_FromLong(delete_key((fstch_store *)(uintptr_t)at, writer, key, (size_t)key_length));
 }
 
-/* The key of an entry with the length of its value, or the number of why there is none. */
-static PyObject *entry(PyObject *module, PyObject *given) {
+/* The key that such a call finds with the length of its value, or the number of why there is none. */
+static PyObject *entry(finding *find, PyObject *given) {
     unsigned long long at;
-    unsigned int number;
+    const char *by;
+    Py_ssize_t by_length;
     char key[FSTCH_MAX_KEY];
     size_t key_length = 0, value_length = 0;
-    (void)module;
-    if (!PyArg_ParseTuple(given, "KI", &at, &number)) {
+    if (!PyArg_ParseTuple(given, "Ky#", &at, &by, &by_length)) {
         return NULL;
     }
-    int32_t answer = entry_of((const fstch_store *)(uintptr_t)at, number, key, sizeof key, &key_length, &value_length);
+    int32_t answer = find((const fstch_store *)(uintptr_t)at, by, (size_t)by_length, key, sizeof key, &key_length, &value_length);
     if (answer != FSTCH_DONE) {
         return PyLong_FromLong(answer);
     }
     return Py_BuildValue("(y#n)", key, (Py_ssize_t)key_length, (Py_ssize_t)value_length);
 }
 
+static PyObject *next_entry(PyObject *module, PyObject *given) {
+    (void)module;
+    return entry(next_key, given);
+}
+
+static PyObject *previous_entry(PyObject *module, PyObject *given) {
+    (void)module;
+    return entry(previous_key, given);
+}
+
 static PyMethodDef calls[] = {
-    {"bind", bind, METH_VARARGS, "Takes the addresses of fstch_get, fstch_put, fstch_delete and fstch_entry."},
+    {"bind", bind, METH_VARARGS, "Takes the addresses of fstch_get, fstch_put, fstch_delete, fstch_next and fstch_previous."},
     {"get", get, METH_VARARGS, "The value of a key, or the number of why there is none."},
     {"put", put, METH_VARARGS, "The answer of a put."},
     {"delete", delete, METH_VARARGS, "The answer of a delete."},
-    {"entry", entry, METH_VARARGS, "The key of an entry with the length of its value, or the number of why there is none."},
+    {"next_entry", next_entry, METH_VARARGS, "The least key from one on with the length of its value, or the number of why there is none."},
+    {"previous_entry", previous_entry, METH_VARARGS, "The same of the greatest key before one."},
     {NULL, NULL, 0, NULL},
 };
 

@@ -6,8 +6,8 @@
         database["key"] = "value"
         print(database[b"key"])
 
-Keys and values are bytes, or texts, which are encoded in UTF-8. A close saves what was changed, and so does the end of a `with`. Where the
-file is full, room is won back from what was deleted or put anew. `shelve.Shelf(fstch.dbm.open(..))` is a shelf.
+Keys and values are bytes, or texts, which are encoded in UTF-8. A close saves what was changed, and so does the end of a `with`.
+`shelve.Shelf(fstch.dbm.open(..))` is a shelf.
 """
 
 from __future__ import annotations
@@ -60,8 +60,13 @@ class Database(MutableMapping[Text, bytes]):
             return self._store[_bytes(key)]
 
     def __setitem__(self, key: Text, value: Text) -> None:
+        name, content = _bytes(key), _bytes(value)
         with _told():
-            self._put(_bytes(key), _bytes(value))
+            try:
+                self._store[name] = content
+            except errors.TooManyLive:
+                self._store.sync()
+                self._store[name] = content
 
     def __delitem__(self, key: Text) -> None:
         with _told():
@@ -106,29 +111,6 @@ class Database(MutableMapping[Text, bytes]):
         trace: Optional[TracebackType],
     ) -> None:
         self.close()
-
-    def _put(self, key: bytes, value: bytes) -> None:
-        while True:
-            try:
-                self._store[key] = value
-                return
-            except errors.TooManyLive:
-                self._store.sync()
-            except errors.NoSpace:
-                if not self._wins_room():
-                    raise
-
-    def _wins_room(self) -> bool:
-        """Whether room was won back: from the extent with the least that has to be kept."""
-        numbers = range(self._store.check().extents)
-        for extent, number in sorted(zip(map(self._store.extent, numbers), numbers)):
-            if extent.live < extent.filled:
-                try:
-                    self._store.reclaim(number)
-                    return True
-                except (errors.NoSpace, errors.OpenExtent):
-                    continue
-        return False
 
 
 def _bytes(it: Text) -> bytes:

@@ -123,7 +123,7 @@ class FileSize(Error):
 
 
 class NumbersSpent(Error):
-    """16,777,216 patches were made since the store was opened: close it and open it again. A cache is renewed."""
+    """16,777,216 patches were made since the store was opened or began anew: close its groups and sync. A cache is renewed."""
 
     number = 17
 
@@ -171,7 +171,7 @@ class NotEngaged(Error):
 
 
 class TooManyGroups(Error):
-    """1,024 groups were made since the store was opened, closed ones counted; or since the cache was opened or renewed."""
+    """1,024 groups were made since the store was opened or began anew, closed ones counted: close all and sync. A cache is renewed."""
 
     number = 33
 
@@ -213,7 +213,7 @@ class IndexFull(Error):
 
 
 class NoSpace(Error):
-    """No extent has room: a reclaim wins back what was deleted or put anew."""
+    """No extent has room: delete, and in a store that was opened with `manual` reclaim."""
 
     number = 43
 

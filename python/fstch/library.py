@@ -5,28 +5,32 @@ from __future__ import annotations
 import ctypes
 import ctypes.util
 import os
-from ctypes import POINTER, byref, c_bool, c_char_p, c_int32, c_size_t, c_uint32, c_void_p
-from typing import Any, Iterator, Optional, Union
+from ctypes import POINTER, byref, c_bool, c_char_p, c_int32, c_size_t, c_uint32, c_uint64, c_void_p
+from typing import Any, Callable, Iterator, Optional, Union
 
 from . import errors
 
 __all__ = [
     "MAX_KEY",
     "VERSION",
+    "Entry",
     "Handle",
+    "Statistics",
     "bytes_of",
     "calls",
     "delete",
-    "entry",
     "get",
+    "last_entry",
+    "next_entry",
     "number_of",
+    "previous_entry",
     "put",
     "refusal",
     "require_done",
     "text_of",
 ]
 
-VERSION = 302
+VERSION = 400
 """The version of the interface that this module is written for: of its major and minor number the library has to be."""
 
 MAX_KEY = 32
@@ -44,6 +48,21 @@ class Handle(ctypes.Structure):
     """A store or a cache that is open, or none: zeros."""
 
     _fields_ = [("is_open", c_bool), ("at", c_void_p)]
+
+
+class Statistics(ctypes.Structure):
+    """What a store holds, and what its syncs have done."""
+
+    _fields_ = [
+        ("keys", c_uint32),
+        ("unsynced", c_uint32),
+        ("live_bytes", c_uint64),
+        ("file_bytes", c_uint64),
+        ("extents", c_uint32),
+        ("empty_extents", c_uint32),
+        ("syncs", c_uint64),
+        ("waves", c_uint64),
+    ]
 
 
 # (a store or a cache goes by its handle's address)
@@ -64,8 +83,12 @@ _ANSWERING = {
     "reclaim": (_STORE, c_uint32),
     "check": (_STORE, _NUMBER, _NUMBER),
     "entry": (_STORE, c_uint32, *_ROOM, _SIZE, _SIZE),
+    "next": (_STORE, *_BYTES, *_ROOM, _SIZE, _SIZE),
+    "previous": (_STORE, *_BYTES, *_ROOM, _SIZE, _SIZE),
+    "last": (_STORE, *_ROOM, _SIZE, _SIZE),
     "extent": (_STORE, c_uint32, _NUMBER, _NUMBER),
     "unsynced": (_STORE, _NUMBER),
+    "stats": (_STORE, POINTER(Statistics)),
     "group": (_STORE, _NUMBER),
     "group_engage": (_STORE, c_uint32, c_uint32),
     "group_disengage": (_STORE, c_uint32, c_uint32),
@@ -174,10 +197,22 @@ def _delete(at: int, writer: int, key: bytes) -> int:
     return calls.fstch_delete(at, writer, key, len(key))
 
 
-def _entry(at: int, number: int) -> Union[tuple[bytes, int], int]:
+Entry = Union[tuple[bytes, int], int]
+"""A key with the length of its value, or the number of why there is none."""
+
+
+def _entry(call: Callable[..., int], *given: object) -> Entry:
     key, key_length, value_length = ctypes.create_string_buffer(MAX_KEY), c_size_t(), c_size_t()
-    answer = calls.fstch_entry(at, number, key, MAX_KEY, byref(key_length), byref(value_length))
+    answer = call(*given, key, MAX_KEY, byref(key_length), byref(value_length))
     return answer or (key.raw[: key_length.value], value_length.value)
+
+
+def _next_entry(at: int, start: bytes) -> Entry:
+    return _entry(calls.fstch_next, at, start, len(start))
+
+
+def _previous_entry(at: int, before: bytes) -> Entry:
+    return _entry(calls.fstch_previous, at, before, len(before))
 
 
 def _direct() -> Any:
@@ -188,15 +223,20 @@ def _direct() -> Any:
         return None
     if made.VERSION // 100 != VERSION // 100:
         return None
-    bound = (calls.fstch_get, calls.fstch_put, calls.fstch_delete, calls.fstch_entry)
+    bound = (calls.fstch_get, calls.fstch_put, calls.fstch_delete, calls.fstch_next, calls.fstch_previous)
     made.bind(*(ctypes.cast(it, c_void_p).value for it in bound))
     return made
 
 
-get, put, delete, entry = _get, _put, _delete, _entry
+get, put, delete, next_entry, previous_entry = _get, _put, _delete, _next_entry, _previous_entry
 _made = _direct()
 if _made is not None:
-    get, put, delete, entry = _made.get, _made.put, _made.delete, _made.entry
+    get, put, delete, next_entry, previous_entry = _made.get, _made.put, _made.delete, _made.next_entry, _made.previous_entry
+
+
+def last_entry(at: int) -> Entry:
+    """The greatest key of all."""
+    return _entry(calls.fstch_last, at)
 
 
 def number_of(value: int) -> int:

@@ -3,10 +3,9 @@
 from __future__ import annotations
 
 import contextlib
-import itertools
 import os
 import weakref
-from collections.abc import Iterable, Iterator, Mapping, MutableMapping
+from collections.abc import ItemsView, Iterable, Iterator, KeysView, Mapping, MutableMapping
 from ctypes import byref, c_size_t, c_uint32
 from types import TracebackType
 from typing import Any, Callable, NamedTuple, NoReturn, Optional, Type, Union
@@ -15,16 +14,17 @@ from . import errors, forking, library
 from .library import MAX_KEY, bytes_of, calls, number_of, refusal, require_done
 from .opened import WRITER, AnyGroup, Opened, SharedCalls
 
-__all__ = ["MAX_KEY", "MAX_VALUE", "Counts", "Extent", "Group", "Store", "make", "open"]
+__all__ = ["MAX_KEY", "MAX_VALUE", "Counts", "Extent", "Group", "Statistics", "Store", "make", "open"]
 
 Path = Union[str, bytes, "os.PathLike[str]", "os.PathLike[bytes]"]
 
 MAX_VALUE = 131072
 """The most bytes of a value of any store. One whose extents have 16 blocks has the lower limits of `make`."""
 
-# The flag of a store whose syncs are one sync of the file each, and that of one that is to be read alone.
+# The flags of a store whose syncs are one sync of the file each, of one that is to be read alone, and of one whose puts win no room back.
 NO_BARRIERS = 1
 READ_ONLY = 2
+MANUAL = 4
 # No slot of an index has this number.
 NO_SLOT = 2**32 - 1
 # How a file is divided that an open makes: the largest one.
@@ -44,7 +44,7 @@ def make(path: Path, *, index_blocks: int, extents: int, extent_blocks: int = 0)
     require_done(calls.fstch_make(_name(path), *numbers), path)
 
 
-def open(path: Path, flag: str = "w", *, barriers: bool = True, **geometry: int) -> Store:
+def open(path: Path, flag: str = "w", *, barriers: bool = True, manual: bool = False, **geometry: int) -> Store:
     """Opens the store of a file, and locks the file until the store is closed.
 
     The flag is as of the modules for dbm: "w" opens a file that there is; "c" makes one first where there is none, divided as `make` is
@@ -55,6 +55,9 @@ def open(path: Path, flag: str = "w", *, barriers: bool = True, **geometry: int)
 
     Without `barriers` a sync of the store is one sync of the file, behind all writes. Then the file opens again whenever the program ends
     and the system goes on; if the power is cut, or the system stops, during a sync, it may not.
+
+    With `manual` extents are won back by `reclaim` alone, which the program calls where a put is refused with `NoSpace`. Without it a put
+    does so by itself.
 
     Raises `Disk`, `InUse`, `FileSize`, `OutOfMemory`, `BadSuper`, `BadPointer`, `BadSlot`, `BadFrame` and `DuplicateKey`, and, where it
     makes a file, what `make` does.
@@ -68,7 +71,7 @@ def open(path: Path, flag: str = "w", *, barriers: bool = True, **geometry: int)
     if flag == "n" or flag == "c" and not os.path.lexists(path):
         with contextlib.suppress(errors.DiskTaken):
             make(path, **(geometry or GEOMETRY))
-    return Store(path, barriers=barriers, read_only=flag == "r")
+    return Store(path, barriers=barriers, read_only=flag == "r", manual=manual)
 
 
 def _take_away(path: Path) -> None:
@@ -98,8 +101,23 @@ class Extent(NamedTuple):
     filled: int
 
 
+class Statistics(NamedTuple):
+    """What a store holds: how many keys have a value, how many pieces of changes haven't reached the file, how many bytes keys and values
+    take in the extents, with 16 more each, how many bytes the file has, how many extents there are, and how many have nothing in them.
+    And what its syncs have done: how many there were since the store was opened, and how many waves they wrote."""
+
+    keys: int
+    unsynced: int
+    live_bytes: int
+    file_bytes: int
+    extents: int
+    empty_extents: int
+    syncs: int
+    waves: int
+
+
 class Store(Opened, MutableMapping[bytes, bytes]):
-    """The keys and values of a file, a mapping of bytes to bytes.
+    """The keys and values of a file, a mapping of bytes to bytes. Going over it is in the order of its keys, which is that of bytes.
 
     What is put or deleted stands in memory alone until `sync`, which brings it to the file and lets it last there. `close` doesn't
     sync: what was not synced is lost. A `with` syncs and closes at its end; where an exception ends it, it only closes, and the file
@@ -117,14 +135,14 @@ class Store(Opened, MutableMapping[bytes, bytes]):
     _word = "store"
     _calls = SharedCalls.of("fstch_")
 
-    def __init__(self, path: Path, *, barriers: bool = True, read_only: bool = False) -> None:
+    def __init__(self, path: Path, *, barriers: bool = True, read_only: bool = False, manual: bool = False) -> None:
         super().__init__()
         self._is_read_only = read_only
-        # (those who go over the keys)
-        self._walks: weakref.WeakSet[_Walk] = weakref.WeakSet()
+        # (those who go over the keys, by their ids)
+        self._walks: weakref.WeakValueDictionary[int, _Walk] = weakref.WeakValueDictionary()
         self._path = path
         slot = c_uint32(NO_SLOT)
-        flags = (0 if barriers else NO_BARRIERS) | (READ_ONLY if read_only else 0)
+        flags = (0 if barriers else NO_BARRIERS) | (READ_ONLY if read_only else 0) | (MANUAL if manual else 0)
         answer = calls.fstch_open_with(self._at, _name(path), flags, byref(slot))
         if answer:
             error = refusal(answer, path)
@@ -148,6 +166,9 @@ class Store(Opened, MutableMapping[bytes, bytes]):
         close the store and open it again. The open reads what the disk has, and not what the system still shows of a sync that failed.
         With "r" there is nothing to be brought.
 
+        Behind a sync the store begins anew where more than 1,048,576 patches or 512 groups were made since it was opened or last did, and
+        each group is closed or was never entered. So it is never spent. No group from before is used behind that: its number may come again.
+
         Raises `OutOfMemory`, `DeviceGaveUp` and `NoSync`.
         """
         with self._lock:
@@ -167,6 +188,12 @@ class Store(Opened, MutableMapping[bytes, bytes]):
         entries, extents = c_uint32(), c_uint32()
         self._require(calls.fstch_check, byref(entries), byref(extents))
         return Counts(entries.value, extents.value)
+
+    def statistics(self) -> Statistics:
+        """Tells what the store holds, and what its syncs have done."""
+        told = library.Statistics()
+        self._require(calls.fstch_stats, byref(told))
+        return Statistics(*(getattr(told, name) for name in Statistics._fields))
 
     def extent(self, number: int) -> Extent:
         """How full an extent is. Extents are numbered from 0. Raises `NoSuchExtent`."""
@@ -205,6 +232,12 @@ class Store(Opened, MutableMapping[bytes, bytes]):
     def __setitem__(self, key: bytes, value: bytes) -> None:
         """Puts a value under a key, in place of the one that it had.
 
+        Where no extent has room for it, the one with the fewest live bytes is won back first, and where none was empty a second one; not so
+        in a store that was opened with `manual`. So one put in many takes as long as a reclaim. Where an extent was empty one is so behind
+        the put, unless there was no memory, and then `NoSpace` comes of a full store alone: where `statistics` tells more live bytes than
+        (extents - 2) * (bytes of an extent - bytes of the value, its key and 16 more), or an extent can't be won back any more. With
+        `NoSpace`, `NumbersSpent`, `TooManyLive` and `OutOfMemory` extents may have been won back; each key has the value that it had.
+
         Raises `KeyLength`, `ValueLength`, `IndexFull`, `NoSpace`, `NumbersSpent`, `TooManyLive` and `OutOfMemory`.
         """
         name, content = _bytes(key), _bytes(value)
@@ -212,7 +245,7 @@ class Store(Opened, MutableMapping[bytes, bytes]):
         require_done(answer, content if answer == errors.ValueLength.number else name)
 
     def __delitem__(self, key: bytes) -> None:
-        """Takes a key and its value away.
+        """Takes a key and its value away. A put that needs the room wins it back, or `reclaim`.
 
         Raises `NoKey`, which is a KeyError, and `KeyLength`, `NumbersSpent`, `TooManyLive` and `OutOfMemory`.
         """
@@ -239,12 +272,36 @@ class Store(Opened, MutableMapping[bytes, bytes]):
         return self.check().entries
 
     def __iter__(self) -> Iterator[bytes]:
-        """The keys as they are now: what is put or deleted meanwhile doesn't change what is left of them."""
-        return _Walk(self, itertools.count())
+        """The keys in order, as they are now: what is put or deleted meanwhile doesn't change what is left of them."""
+        return _Rising(self, _ALL)
 
     def __reversed__(self) -> Iterator[bytes]:
         """The same keys from the last one on."""
-        return _Walk(self, iter(range(len(self) - 1, -1, -1)))
+        return _Falling(self, _ALL)
+
+    def keys(self, start: Optional[bytes] = None, stop: Optional[bytes] = None, *, prefix: Optional[bytes] = None) -> KeyRange:
+        """A view of all keys, in order; or of those from `start` on, below `stop`, and that begin with `prefix`, as far as these are given.
+
+        It is as a dict's: it has what the store has, and may be gone over from the last key on by `reversed`. Who goes over it goes over
+        the keys as they are then.
+        """
+        return KeyRange(self, _range(start, stop, prefix))
+
+    def items(self, start: Optional[bytes] = None, stop: Optional[bytes] = None, *, prefix: Optional[bytes] = None) -> ItemRange:
+        """The same view of keys with their values, which are got one by one. Where the key was taken away meanwhile, `Absent` is raised."""
+        return ItemRange(self, _range(start, stop, prefix))
+
+    def next_key(self, start: bytes) -> Optional[bytes]:
+        """The least key from `start` on, which may be itself; or None. `start` may have any length: with no byte it comes before all keys."""
+        return _key(self._entry(library.next_entry, _bytes(start)))
+
+    def previous_key(self, before: bytes) -> Optional[bytes]:
+        """The greatest key that comes before this one, which may have any length; or None."""
+        return _key(self._entry(library.previous_entry, _bytes(before)))
+
+    def last_key(self) -> Optional[bytes]:
+        """The greatest key of all, or None."""
+        return _key(self._entry(library.last_entry))
 
     def __or__(self, other: Mapping[Any, Any]) -> dict[Any, Any]:
         """A dict of the keys and values of both; of a key that both have, with the other's value."""
@@ -258,19 +315,23 @@ class Store(Opened, MutableMapping[bytes, bytes]):
         return self
 
     def lengths(self) -> dict[bytes, int]:
-        """The keys, each with the length of its value."""
+        """The keys in order, each with the length of its value."""
+        lengths: dict[bytes, int] = {}
+        start = b""
         with self._lock:
-            return dict(it for it in map(self._entry, range(len(self))) if it is not None)
+            while (entry := self._entry(library.next_entry, start)) is not None:
+                lengths[entry[0]], start = entry[1], entry[0] + b"\0"
+        return lengths
 
     def clear(self) -> None:
         """Takes all keys away."""
         for key in self:
             del self[key]
 
-    def _entry(self, number: int) -> Optional[tuple[bytes, int]]:
-        """The key of this number, with the length of its value."""
+    def _entry(self, call: Callable[..., library.Entry], *given: object) -> Optional[tuple[bytes, int]]:
+        """The key that a call finds, with the length of its value."""
         with self._lock:
-            found = library.entry(self._at, number)
+            found = call(self._at, *given)
         if isinstance(found, tuple):
             return found
         if found != errors.Absent.number:
@@ -288,8 +349,10 @@ class Store(Opened, MutableMapping[bytes, bytes]):
             raise errors.ReadOnly(f"{self!r} was opened to be read")
         with self._lock:
             if self._walks:
-                for walk in list(self._walks):
-                    walk.finish()
+                # (a list that is there at once: other threads may begin to go over the keys meanwhile)
+                for walk in (it() for it in self._walks.valuerefs()):
+                    if walk is not None:
+                        walk.finish()
             return call(self._at, *given)
 
     # Opening and closing.
@@ -314,29 +377,133 @@ class Store(Opened, MutableMapping[bytes, bytes]):
         return f"<fstch.Store {self._path!r}{'' if self._handle.is_open else ', closed'}>"
 
 
-class _Walk(Iterator[bytes]):
-    """The keys of a store that have these numbers, one after another. Before keys change, those that are left are read at once."""
+class _Range(NamedTuple):
+    """Where keys begin, and what all of them come before, or None."""
 
-    def __init__(self, store: Store, numbers: Iterator[int]) -> None:
+    start: bytes
+    stop: Optional[bytes]
+
+    def has(self, key: bytes) -> bool:
+        return self.start <= key and (self.stop is None or key < self.stop)
+
+
+_ALL = _Range(b"", None)
+
+
+def _range(start: Optional[bytes], stop: Optional[bytes], prefix: Optional[bytes]) -> _Range:
+    """The keys from one on, below one, and that begin alike, each where it is given."""
+    begin = b"" if start is None else _bytes(start)
+    head = b"" if prefix is None else _bytes(prefix)
+    ends = (None if stop is None else _bytes(stop), _end_of(head))
+    return _Range(max(begin, head), min((it for it in ends if it is not None), default=None))
+
+
+def _end_of(head: bytes) -> Optional[bytes]:
+    """The least bytes that come behind all which begin so, or None where there are none."""
+    cut = head.rstrip(b"\xff")
+    return cut[:-1] + bytes([cut[-1] + 1]) if cut else None
+
+
+class KeyRange(KeysView[bytes]):
+    """A view of the keys of a store in a range, in order."""
+
+    def __init__(self, store: Store, bounds: _Range) -> None:
+        super().__init__(store)
         self._store = store
-        self._numbers = numbers
+        self._bounds = bounds
+
+    def __len__(self) -> int:
+        return len(self._store) if self._bounds == _ALL else sum(1 for _ in _Rising(self._store, self._bounds))
+
+    def __contains__(self, key: object) -> bool:
+        return key in self._store and self._bounds.has(_bytes(key))
+
+    def __iter__(self) -> Iterator[bytes]:
+        return _Rising(self._store, self._bounds)
+
+    def __reversed__(self) -> Iterator[bytes]:
+        return _Falling(self._store, self._bounds)
+
+
+class ItemRange(ItemsView[bytes, bytes]):
+    """A view of keys of a store in a range with their values, in order."""
+
+    def __init__(self, store: Store, bounds: _Range) -> None:
+        super().__init__(store)
+        self._store = store
+        self._keys = KeyRange(store, bounds)
+
+    def __len__(self) -> int:
+        return len(self._keys)
+
+    def __contains__(self, item: object) -> bool:
+        key, value = item  # type: ignore[misc]
+        return key in self._keys and self._store[key] == value
+
+    def __iter__(self) -> Iterator[tuple[bytes, bytes]]:
+        return self._with_values(iter(self._keys))
+
+    def __reversed__(self) -> Iterator[tuple[bytes, bytes]]:
+        return self._with_values(reversed(self._keys))
+
+    def _with_values(self, keys: Iterator[bytes]) -> Iterator[tuple[bytes, bytes]]:
+        return ((key, self._store[key]) for key in keys)
+
+
+class _Walk(Iterator[bytes]):
+    """The keys of a store in a range, one after another. Before keys change, those that are left are read at once."""
+
+    def __init__(self, store: Store, bounds: _Range) -> None:
+        self._store = store
+        self._bounds = bounds
+        self._last: Optional[bytes] = None
         self._rest: Optional[Iterator[bytes]] = None
-        store._walks.add(self)
+        store._walks[id(self)] = self
 
     def __next__(self) -> bytes:
         with self._store._lock:
+            key = self._behind(self._last) if self._rest is None else None
+            # (the handler of a signal may have changed keys meanwhile)
             if self._rest is not None:
                 return next(self._rest)
-            entry = self._store._entry(next(self._numbers))
-            if entry is None:
+            if key is None:
                 self._rest = iter(())
                 raise StopIteration
-            return entry[0]
+            self._last = key
+            return key
 
     def finish(self) -> None:
         if self._rest is None:
-            entries = itertools.takewhile(lambda entry: entry is not None, map(self._store._entry, self._numbers))
-            self._rest = iter([entry[0] for entry in entries if entry])
+            self._rest = iter(list(self._left()))
+
+    def _left(self) -> Iterator[bytes]:
+        key = self._behind(self._last)
+        while key is not None:
+            yield key
+            key = self._behind(key)
+
+    def _behind(self, key: Optional[bytes]) -> Optional[bytes]:
+        """The key behind this one, or the first."""
+        raise NotImplementedError
+
+
+class _Rising(_Walk):
+    """From the least key on."""
+
+    def _behind(self, key: Optional[bytes]) -> Optional[bytes]:
+        start, stop = self._bounds
+        found = self._store._entry(library.next_entry, start if key is None else key + b"\0")
+        return found[0] if found is not None and (stop is None or found[0] < stop) else None
+
+
+class _Falling(_Walk):
+    """From the greatest key on."""
+
+    def _behind(self, key: Optional[bytes]) -> Optional[bytes]:
+        start, stop = self._bounds
+        before = stop if key is None else key
+        found = self._store._entry(library.last_entry) if before is None else self._store._entry(library.previous_entry, before)
+        return found[0] if found is not None and start <= found[0] else None
 
 
 class Group(AnyGroup):
@@ -380,6 +547,10 @@ def _name(path: Path) -> bytes:
     if b"\0" in name:
         raise ValueError("a path has no 0 byte")
     return name
+
+
+def _key(entry: Optional[tuple[bytes, int]]) -> Optional[bytes]:
+    return None if entry is None else entry[0]
 
 
 def _bytes(value: object) -> bytes:

@@ -29,7 +29,7 @@ static memory copy_of(memory other) {
 
 static int32_t open_bytes(fstch_store *store, const void *bytes, size_t length) {
     uint32_t slot = 777;
-    int32_t answer = fstch_core_open(store, FILE_NUMBER, true, (const uint8_t *)bytes, length, &slot);
+    int32_t answer = fstch_core_open(store, FILE_NUMBER, true, false, (const uint8_t *)bytes, length, &slot);
     WANT(777, slot);
     return answer;
 }
@@ -93,6 +93,7 @@ static void closed_stores_are_refused(void) {
     WANT(FSTCH_NOT_OPEN, fstch_core_write(&store, 0, &is_barrier, &block, into, sizeof into));
     WANT(FSTCH_NOT_OPEN, fstch_core_synced(&store, true));
     WANT(FSTCH_NOT_OPEN, fstch_core_synced(&store, false));
+    WANT(FSTCH_NOT_OPEN, fstch_core_renew(&store));
     WANT(-1, fstch_core_file(&store));
     WANT(false, fstch_core_barriers(&store));
     WANT(FSTCH_NOT_OPEN, fstch_core_close(&store));
@@ -126,9 +127,28 @@ static void bytes_are_opened(void) {
     WANT(FSTCH_DONE, fstch_core_close(&store));
     WANT(FSTCH_NOT_OPEN, fstch_core_close(&store));
     uint32_t slot = 777;
-    WANT(FSTCH_DONE, fstch_core_open(&store, FILE_NUMBER, false, file.bytes, file.length, &slot));
+    WANT(FSTCH_DONE, fstch_core_open(&store, FILE_NUMBER, false, true, file.bytes, file.length, &slot));
+    WANT(777, slot);
     WANT(false, fstch_core_barriers(&store));
     WANT(FSTCH_DONE, fstch_core_close(&store));
+    free(file.bytes);
+}
+
+/* Three extents of 65,536 bytes, of which one stays empty: one has a short value, and one that was replaced by that of the other. */
+static void room_is_won_back_unless_by_hand(void) {
+    static const uint8_t value[32768] = {0};
+    memory file = new_memory(1, 3, 0);
+    for (int is_manual = 0; is_manual < 2; is_manual++) {
+        fstch_store store = FSTCH_CLOSED;
+        WANT(FSTCH_DONE, fstch_core_open(&store, FILE_NUMBER, true, is_manual == 1, file.bytes, file.length, NULL));
+        WANT(FSTCH_DONE, put(&store, "short", "value"));
+        WANT(FSTCH_DONE, fstch_put(&store, FSTCH_NO_WRITER, "long", 4, value, sizeof value));
+        WANT(FSTCH_DONE, fstch_put(&store, FSTCH_NO_WRITER, "long", 4, value, sizeof value));
+        int32_t answer = fstch_put(&store, FSTCH_NO_WRITER, "other", 5, value, sizeof value);
+        WANT(is_manual ? FSTCH_NO_SPACE : FSTCH_DONE, answer);
+        WANT(true, has(&store, "short", "value"));
+        WANT(FSTCH_DONE, fstch_core_close(&store));
+    }
     free(file.bytes);
 }
 
@@ -235,12 +255,115 @@ static void cuts_leave_a_store(void) {
     free(file.bytes);
 }
 
+static uint32_t new_group(fstch_store *store) {
+    uint32_t group = 777;
+    WANT(FSTCH_DONE, fstch_group(store, &group));
+    return group;
+}
+
+static void make_and_close_groups(fstch_store *store, uint32_t count) {
+    for (uint32_t number = 0; number < count; number++) {
+        WANT(FSTCH_DONE, fstch_group_close(store, new_group(store)));
+    }
+}
+
+static void sync_and_renew(fstch_store *store, memory to) {
+    WANT(FSTCH_DONE, sync_to(store, to));
+    WANT(FSTCH_DONE, fstch_core_renew(store));
+}
+
+/* More than 512 groups, and not as many; where no change is unsynced. */
+static void groups_begin_anew(void) {
+    fstch_store store = FSTCH_CLOSED;
+    memory file = new_memory(1, 4, 0);
+    uint32_t changes = 777;
+    WANT(FSTCH_DONE, open_memory(&store, file));
+    make_and_close_groups(&store, 512);
+    sync_and_renew(&store, file);
+    WANT(512, new_group(&store)); /* (it is never engaged) */
+    WANT(FSTCH_DONE, put(&store, "key", "value"));
+    WANT(FSTCH_DONE, fstch_core_renew(&store));
+    WANT(513, new_group(&store));
+    sync_and_renew(&store, file);
+    WANT(FSTCH_NO_SUCH_GROUP, fstch_group_pending(&store, 512, &changes));
+    make_and_close_groups(&store, 513);
+    sync_and_renew(&store, file);
+    WANT(0, new_group(&store));
+    WANT(true, has(&store, "key", "value"));
+    WANT(FSTCH_DONE, put(&store, "key", "other"));
+    WANT(FSTCH_DONE, sync_to(&store, file));
+    WANT(FSTCH_DONE, fstch_core_close(&store));
+    WANT(FSTCH_DONE, open_memory(&store, file));
+    WANT(true, has(&store, "key", "other"));
+    WANT(FSTCH_DONE, fstch_core_close(&store));
+    free(file.bytes);
+}
+
+/* A group that was engaged and isn't closed keeps the store as it is, and goes on. */
+static void an_open_group_goes_on(void) {
+    fstch_store store = FSTCH_CLOSED;
+    memory file = new_memory(1, 4, 0);
+    uint32_t changes = 777, open = 777;
+    WANT(FSTCH_DONE, open_memory(&store, file));
+    open = new_group(&store);
+    WANT(FSTCH_DONE, fstch_group_engage(&store, open, 0));
+    WANT(FSTCH_DONE, put_by(&store, 0, "before", "value"));
+    make_and_close_groups(&store, 513);
+    sync_and_renew(&store, file);
+    WANT(514, new_group(&store));
+    WANT(FSTCH_DONE, put_by(&store, 0, "behind", "value"));
+    WANT(FSTCH_DONE, fstch_group_pending(&store, open, &changes));
+    WANT(true, changes > 0);
+    WANT(FSTCH_DONE, fstch_group_disengage(&store, open, 0));
+    sync_and_renew(&store, file);
+    WANT(FSTCH_DONE, fstch_group_pending(&store, open, &changes));
+    WANT(0, changes);
+    WANT(515, new_group(&store));
+    WANT(FSTCH_DONE, fstch_group_close(&store, open));
+    sync_and_renew(&store, file);
+    WANT(0, new_group(&store));
+    WANT(true, has(&store, "before", "value") && has(&store, "behind", "value"));
+    WANT(FSTCH_DONE, fstch_core_close(&store));
+    free(file.bytes);
+}
+
+/* Each round makes as many changes as memory has, 65,536 or a few less: 16 rounds aren't more than 1,048,576, and 17 are. The puts of four
+ * rounds have room in the file, and the others win room back. */
+static void changes_begin_anew(void) {
+    enum { ROUNDS = 17 };
+    fstch_store store = FSTCH_CLOSED;
+    memory file = new_memory(1, 32, 0);
+    WANT(FSTCH_DONE, open_memory(&store, file));
+    for (uint32_t round = 0; round < ROUNDS; round++) {
+        int32_t answer;
+        WANT(round, new_group(&store));
+        do {
+            answer = put(&store, "key", "value");
+        } while (answer == FSTCH_DONE);
+        WANT(FSTCH_TOO_MANY_LIVE, answer);
+        sync_and_renew(&store, file);
+    }
+    WANT(0, new_group(&store));
+    WANT(true, has(&store, "key", "value"));
+    WANT(FSTCH_DONE, put(&store, "key", "last"));
+    WANT(FSTCH_DONE, sync_to(&store, file));
+    WANT(FSTCH_DONE, fstch_core_close(&store));
+    WANT(FSTCH_DONE, open_memory(&store, file));
+    WANT(true, has(&store, "key", "last"));
+    WANT(FSTCH_DONE, fstch_core_close(&store));
+    free(file.bytes);
+}
+
 int main(void) {
     closed_stores_are_refused();
     a_first_block_is_made();
     bytes_are_opened();
+    room_is_won_back_unless_by_hand();
     values_last();
     a_tape_is_read_by_numbers();
     cuts_leave_a_store();
+    groups_begin_anew();
+    an_open_group_goes_on();
+    changes_begin_anew();
     return ended();
 }

@@ -39,12 +39,22 @@ static char letter_of(fstch_store *store, const char *key) {
     return (char)value[0];
 }
 
+/* How many extents the file has, each with room for 64 values. Three are full behind write_first: with 4 puts win room back. */
+static uint32_t extents;
+
+/* Puts the letter under each key, or each second one. */
+static void put_all(fstch_store *store, int step, char letter) {
+    for (int number = step - 1; number < KEYS; number += step) {
+        MUST(put_letter(store, FSTCH_NO_WRITER, key_of(number), letter) == FSTCH_DONE);
+    }
+}
+
 /* All keys have the letter a, and that lasts. */
 static void write_first(void) {
-    fstch_store store = new_store(2, 16);
-    for (int number = 0; number < KEYS; number++) {
-        MUST(put_letter(&store, FSTCH_NO_WRITER, key_of(number), 'a') == FSTCH_DONE);
-    }
+    fstch_store store = new_store(2, extents);
+    put_all(&store, 1, 'a');
+    put_all(&store, 2, 'z');
+    put_all(&store, 2, 'a');
     MUST(fstch_sync(&store) == FSTCH_DONE);
     MUST(fstch_close(&store) == FSTCH_DONE);
 }
@@ -139,7 +149,7 @@ static void syncs_are_killed(void) {
         WANT(FSTCH_DONE, fstch_close(&store));
     }
     MUST(!is_killed && changes > 10);
-    printf("killed before each of %ld writes and syncs\n", changes - 1);
+    printf("killed before each of %ld writes and syncs, with %u extents\n", changes - 1, (unsigned)extents);
 }
 
 static void makes_are_killed(void) {
@@ -162,6 +172,9 @@ static void makes_are_killed(void) {
 }
 
 int main(void) {
+    extents = 16;
+    syncs_are_killed();
+    extents = 4;
     syncs_are_killed();
     makes_are_killed();
     return ended();

@@ -20,6 +20,14 @@ static void wants_reopened(fstch_store *store, const char *key, const char *valu
     WANT(FSTCH_DONE, fstch_close(store));
 }
 
+/* That so many syncs were done, and wrote so many waves. */
+static void wants_syncs(const fstch_store *store, uint64_t syncs, uint64_t waves) {
+    fstch_statistics seen;
+    WANT(FSTCH_DONE, fstch_stats(store, &seen));
+    WANT(syncs, seen.syncs);
+    WANT(waves, seen.waves);
+}
+
 /* The file is synced behind the value, behind the pointer of its extent, and behind the slot that names it: each rests on the one before. */
 static void a_sync_has_barriers(void) {
     fstch_store store = new_store(1, 4);
@@ -28,10 +36,12 @@ static void a_sync_has_barriers(void) {
     WANT(FSTCH_DONE, fstch_sync(&store));
     WANT(3, writes_made);
     WANT(3, syncs_made);
+    wants_syncs(&store, 1, 3);
     writes_made = syncs_made = 0;
     WANT(FSTCH_DONE, fstch_sync(&store)); /* nothing is left to be written */
     WANT(0, writes_made);
     WANT(0, syncs_made);
+    wants_syncs(&store, 2, 3);
     WANT(FSTCH_DONE, fstch_close(&store));
 }
 
@@ -47,6 +57,7 @@ static void barriers_are_passed_over(void) {
     WANT(1, syncs_made);
     WANT(FSTCH_DONE, fstch_sync(&store));
     WANT(1, syncs_made);
+    wants_syncs(&store, 2, 3);
     WANT(FSTCH_DONE, put(&store, "key", "other"));
     syncs_till_refused = 0;
     WANT(FSTCH_NO_SYNC, fstch_sync(&store));
@@ -68,7 +79,7 @@ static void nothing_is_written_but_by_a_sync(void) {
     WANT(FSTCH_DONE, fstch_group(&store, &group));
     WANT(FSTCH_DONE, fstch_group_engage(&store, group, 0));
     WANT(FSTCH_DONE, put_by(&store, 0, "key", "value"));
-    for (int number = 0; number < 3; number++) {
+    for (int number = 0; number < 8; number++) { /* (the last five win room back) */
         WANT(FSTCH_DONE, fstch_put(&store, FSTCH_NO_WRITER, "long", 4, value, sizeof value));
     }
     WANT(FSTCH_DONE, fstch_reclaim(&store, 0));
@@ -95,6 +106,7 @@ static void a_write_is_refused(void) {
     WANT(FSTCH_DEVICE_GAVE_UP, fstch_sync(&store));
     WANT(EIO, errno);
     writes_till_refused = -1;
+    wants_syncs(&store, 1, 3);
     WANT(true, has(&store, "key", "second"));
     wants_reopened(&store, "key", "first");
 }
@@ -334,6 +346,37 @@ static bool puts_with_a_failure(long allocation) {
     return refused;
 }
 
+static int32_t put_long(fstch_store *store, const char *key) {
+    static const uint8_t value[32768] = {0};
+    return fstch_put(store, FSTCH_NO_WRITER, key, strlen(key), value, sizeof value);
+}
+
+static bool has_long(fstch_store *store, const char *key) {
+    static uint8_t into[32768];
+    size_t length = 0;
+    return fstch_get(store, key, strlen(key), into, sizeof into, &length) == FSTCH_DONE && length == sizeof into;
+}
+
+/* The extent of the key is won back for the last put, and the key is moved. */
+static bool puts_in_won_room_with_a_failure(long allocation) {
+    fstch_store store = FSTCH_CLOSED;
+    WANT(FSTCH_DONE, open_path(&store, FILE_NAME));
+    WANT(FSTCH_DONE, put_long(&store, "a"));
+    WANT(FSTCH_DONE, put_long(&store, "b"));
+    WANT(FSTCH_DONE, put_long(&store, "a"));
+    allocations_till_refused = allocation;
+    bool refused = is_refused(put_long(&store, "c"));
+    WANT(true, has(&store, "key", "value"));
+    WANT(true, has_long(&store, "a") && has_long(&store, "b"));
+    WANT(!refused, has_long(&store, "c"));
+    if (refused) {
+        WANT(FSTCH_DONE, put_long(&store, "c"));
+        WANT(true, has(&store, "key", "value") && has_long(&store, "c"));
+    }
+    WANT(FSTCH_DONE, fstch_close(&store));
+    return refused;
+}
+
 static bool deletes_with_a_failure(long allocation) {
     fstch_store store = FSTCH_CLOSED;
     WANT(FSTCH_DONE, open_path(&store, FILE_NAME));
@@ -349,6 +392,7 @@ static bool looks_with_a_failure(long allocation) {
     uint32_t entries = 777, extents = 777;
     uint8_t into[8];
     size_t length = 777, other = 777;
+    fstch_statistics statistics;
     WANT(FSTCH_DONE, open_path(&store, FILE_NAME));
     allocations_till_refused = allocation;
     bool refused = is_refused(fstch_get(&store, "key", 3, into, sizeof into, &length));
@@ -357,6 +401,12 @@ static bool looks_with_a_failure(long allocation) {
     refused = is_refused(fstch_check(&store, &entries, &extents)) || refused;
     allocations_till_refused = allocation;
     refused = is_refused(fstch_entry(&store, 0, into, sizeof into, &length, &other)) || refused;
+    allocations_till_refused = allocation;
+    WANT(FSTCH_DONE, fstch_next(&store, "k", 1, into, sizeof into, &length, &other));
+    WANT(FSTCH_DONE, fstch_previous(&store, "l", 1, into, sizeof into, &length, &other));
+    WANT(FSTCH_DONE, fstch_last(&store, into, sizeof into, &length, &other));
+    WANT(FSTCH_DONE, fstch_stats(&store, &statistics));
+    allocations_till_refused = -1;
     WANT(FSTCH_DONE, fstch_check(&store, &entries, &extents));
     WANT(1, entries);
     WANT(FSTCH_DONE, fstch_close(&store));
@@ -446,6 +496,7 @@ int main(void) {
     allocations_are_refused("make", makes_with_a_failure);
     allocations_are_refused("open", opens_with_a_failure);
     allocations_are_refused("put", puts_with_a_failure);
+    allocations_are_refused("put that wins room back", puts_in_won_room_with_a_failure);
     allocations_are_refused("delete", deletes_with_a_failure);
     allocations_are_refused("looks", looks_with_a_failure);
     allocations_are_refused("groups", groups_with_a_failure);

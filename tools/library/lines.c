@@ -5,7 +5,7 @@
  * A line has one command: put W KEY VALUE, get KEY, delete W KEY, reclaim E, group, engage G W, disengage G W, depend G ON, close G,
  * pending G, or sync. W is a writer's number, or - for none; keys and values are in hexadecimal, or - for no bytes. The answers are ok,
  * value HEX, none, group N, pending N, synced, and refused. At the end the store is synced and closed. The status is 1 where this or
- * the opening is refused, and 2 where something isn't a command. */
+ * the opening is refused, and 2 where something isn't a command. Puts win no room back: that is for reclaim alone. */
 #define _POSIX_C_SOURCE 200809L
 #include <fstch.h>
 
@@ -192,13 +192,14 @@ static void follow(fstch_store *store, const char *name) {
 
 int main(int count, char **words) {
     fstch_store store = FSTCH_CLOSED;
-    uint32_t slot = 0;
+    uint32_t slot = 0, flags = FSTCH_MANUAL;
     char *line = NULL;
     size_t room = 0;
     if (count < 2 || count > 3 || (count == 3 && strcmp(words[2], "no-barriers") != 0)) {
         stop("lines FILE [no-barriers]");
     }
-    require_done(fstch_open_with(&store, words[1], count == 3 ? FSTCH_NO_BARRIERS : 0, &slot), "it can't be opened");
+    flags |= count == 3 ? FSTCH_NO_BARRIERS : 0;
+    require_done(fstch_open_with(&store, words[1], flags, &slot), "it can't be opened");
     while (getline(&line, &room, stdin) > 0) {
         follow(&store, strtok(line, " \n"));
     }

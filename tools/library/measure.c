@@ -57,11 +57,10 @@ static void store_open_with(uint32_t flags) {
     uint32_t slot;
     remove(path);
     done(fstch_make(path, 16, EXTENTS, 0));
-    done(fstch_open_with(&store, path, flags, &slot));
+    done(fstch_open_with(&store, path, flags | FSTCH_MANUAL, &slot));
     next_extent = 0;
 }
 
-/* Where there is no room, the next extent that can be emptied is. */
 static void store_open(void) {
     store_open_with(0);
 }
@@ -70,6 +69,7 @@ static void store_open_without(void) {
     store_open_with(FSTCH_NO_BARRIERS);
 }
 
+/* Where there is no room, the next extent that can be emptied is. */
 static void store_put(const char *key, const uint8_t *value, size_t length) {
     int32_t answer = fstch_put(&store, FSTCH_NO_WRITER, key, KEY_LENGTH, value, length);
     for (int tries = 0; answer == FSTCH_NO_SPACE && tries < EXTENTS; tries++) {

@@ -2,18 +2,21 @@
 
     python3 tools/library/random_calls.py                # 10,000 calls; --calls N, --seed S change that
 
-A life is a process that opens the store, makes some of the calls, and compares what they answer with a dict. Most lives are killed
-soon after a call has begun, mostly a sync; of the others some close the store without a sync, and some leave it by the end of a `with`. Then each key has to
-have a value that it had at the last sync that was answered, or was given since; where the store was closed, just that of the last
-sync; where it was left, the last one. Of two keys that were put in order, the later one's value may be there only with the
-earlier one's, or what came after it. The calls are the same for the same seed; where a life is killed isn't quite. The last line tells
-how many calls, lives and kills there were; the status is 1 if anything was wrong.
+A life is a process that opens the store, makes some of the calls, and compares what they answer with a dict. The store is nearly full, so
+that puts win room back; in some lives the random reclaims alone do. Where puts do, one is refused only beyond the header's bound, or
+where no extent is empty. Most lives are killed soon after a call has begun, mostly a sync; of the others some close the store without a
+sync, and some leave it by the end of a `with`. Then each key has to have a value that it had at the last sync that was answered, or was
+given since; where the store was closed, just that of the last sync; where it was left, the last one. Of two keys that were put in
+order, the later one's value may be there only with the earlier one's, or what came after it. The calls are the same for the same seed;
+where a life is killed isn't quite. The last line tells how many calls, lives and kills there were, how many puts were refused, and how
+much of the extents was live, a median of what the lives left; the status is 1 if anything was wrong.
 """
 
 import argparse
 import os
 import random
 import signal
+import statistics
 import subprocess
 import sys
 import tempfile
@@ -24,12 +27,15 @@ from typing import Optional
 import fstch
 
 FILE = "random.disk"
-KEYS = 60
+KEYS = 240
 EXTENTS = 12
+EXTENT = 65536  # bytes
+LENGTHS = (200, 6000, 12000, 18000)  # of values, at most
+BY_HAND_SHARE = 0.15  # how often room is won back by reclaims alone in a life
 CALLS_OF_A_LIFE = 200
 SYNCS_SHARE = 0.7  # how often a life is killed at a sync
 SECONDS_TILL_KILLED = 0.003  # at most, behind the beginning of the call
-CALLS = {"put": 40, "delete": 12, "get": 18, "contains": 5, "count": 2, "list": 2, "sync": 6, "reclaim": 5, "ordered": 8}
+CALLS = {"put": 40, "delete": 12, "get": 18, "contains": 5, "count": 2, "list": 2, "range": 4, "sync": 6, "reclaim": 5, "ordered": 8}
 ENDS = {"killed": 6, "closed": 1, "left": 1}
 OPENED = b"opened\n"
 
@@ -72,7 +78,7 @@ def call_of(seed, number):
 def value_of(chance, number, letter):
     """A value that no other call gives."""
     mark = b"%d%s" % (number, letter)
-    length = chance.randrange(chance.choice((20, 20, 2000, 9000)))
+    length = chance.randrange(chance.choice(LENGTHS))
     return (mark * (length // len(mark) + 1))[: max(length, len(mark))]
 
 
@@ -100,8 +106,8 @@ def say(text):
 class Life:
     """A store, and a dict beside it."""
 
-    def __init__(self, store):
-        self.store, self.values = store, dict(store)
+    def __init__(self, store, is_by_hand):
+        self.store, self.values, self.is_by_hand = store, dict(store), is_by_hand
 
     def make(self, number, call):
         say(f"begun {number}\n")
@@ -132,55 +138,62 @@ class Life:
 
     def list(self, number, call):
         want({key: len(value) for key, value in self.values.items()}, self.store.lengths(), "lengths")
-        want(sorted(self.values), sorted(self.store), "keys")
+        want(sorted(self.values), list(self.store), "keys")
+        want(sorted(self.values, reverse=True), list(reversed(self.store)), "keys from the last one on")
+
+    def range(self, number, call):
+        keys = sorted(self.values)
+        want([key for key in keys if key >= call.key], list(self.store.keys(call.key)), f"keys from {call.key} on")
+        want([key for key in keys[::-1] if key < call.key], list(reversed(self.store.keys(stop=call.key))), f"keys below {call.key}")
+        alike = [(key, self.values[key]) for key in keys if key.startswith(call.key)]
+        want(alike, list(self.store.items(prefix=call.key)), f"keys that begin with {call.key}")
 
     def sync(self, number, call):
         self.store.sync()
         say(f"synced {number}\n")
 
     def reclaim(self, number, call):
-        reclaim(self.store, call.extent)
+        try:
+            self.store.reclaim(call.extent)
+        except (fstch.NoSuchExtent, fstch.EmptyExtent, fstch.OpenExtent, fstch.NoSpace):
+            pass
 
     def ordered(self, number, call):
         earlier, later = call.changes
         with self.store.group() as first:
-            self.set(number, earlier)
+            has_earlier = self.set(number, earlier)
         with self.store.group(after=first) as second:
             self.set(number, later)
-        if first.pending == 0 and second.pending > 0:
+        if has_earlier and first.pending == 0 and second.pending > 0:
             raise Wrong("the first group is on the disk without a sync")
 
     def set(self, number, change):
+        """Whether a value is put."""
         try:
-            put_somewhere(self.store, change)
+            self.store[change.key] = change.value
         except fstch.NoSpace:
             say(f"refused {number} {change.key.hex()}\n")
-            return
+            self.want_full(change)
+            return False
         self.values[change.key] = change.value
         want(change.value, self.store[change.key], f"the value of {change.key}")
+        return True
 
 
-def reclaim(store, extent):
-    try:
-        store.reclaim(extent)
-    except (fstch.NoSuchExtent, fstch.EmptyExtent, fstch.OpenExtent, fstch.NoSpace):
-        pass
+    def want_full(self, change):
+        """Where puts win room back themselves one is refused for want of room alone."""
+        if self.is_by_hand:
+            return
+        seen = self.store.statistics()
+        most = (EXTENTS - 2) * (EXTENT - len(change.key) - len(change.value) - 16)
+        if seen.empty_extents > 0 and seen.live_bytes <= most:
+            raise Wrong(f"a put of {len(change.value)} bytes is refused, and {seen.live_bytes} bytes are live")
 
 
-def put_somewhere(store, change):
-    """Puts a value; where there is no room, behind reclaims."""
-    try:
-        store[change.key] = change.value
-    except fstch.NoSpace:
-        for extent in range(EXTENTS):
-            reclaim(store, extent)
-        store[change.key] = change.value
-
-
-def live(seed, first, end):
-    store = fstch.open(FILE)
+def live(seed, first, end, is_by_hand):
+    store = fstch.open(FILE, manual=is_by_hand)
     say(OPENED.decode())
-    life = Life(store)
+    life = Life(store, is_by_hand)
     numbers = range(first, first + CALLS_OF_A_LIFE)
     if end == "left":
         with store:
@@ -257,8 +270,9 @@ class Histories:
 
 
 def what_is_left():
+    """The values of the store, and how much of its extents is live."""
     with fstch.open(FILE) as store:
-        return dict(store)
+        return dict(store), store.statistics().live_bytes / (EXTENTS * EXTENT)
 
 
 class Trial:
@@ -268,7 +282,8 @@ class Trial:
         self.seed = seed
         self.chance = random.Random(seed)
         self.values = {}
-        self.first = self.lives = self.kills = self.cut_off = self.calls = 0
+        self.first = self.lives = self.kills = self.cut_off = self.calls = self.refused = 0
+        self.shares = []
 
     def live(self):
         end = self.chance.choices(list(ENDS), list(ENDS.values()))[0]
@@ -277,12 +292,14 @@ class Trial:
         self.calls += told.begun + 1 - self.first
         self.first = told.begun + 1
         self.lives += 1
+        self.refused += len(told.refused)
         self.kills += end == "killed"
         self.cut_off += end == "killed" and told.synced < told.begun and call_of(self.seed, told.begun).kind == "sync"
 
     def lines_of_a_life(self, end):
         """What a life says, which is killed if that is to be its end."""
-        words = [sys.executable, os.path.abspath(__file__), "--life", str(self.seed), str(self.first), end]
+        how = "hand" if self.chance.random() < BY_HAND_SHARE else "puts"
+        words = [sys.executable, os.path.abspath(__file__), "--life", str(self.seed), str(self.first), end, how]
         with subprocess.Popen(words, stdout=subprocess.PIPE) as life:
             want(OPENED, life.stdout.readline(), "the first line of a life")
             lines = self.lines_till_killed(life) if end == "killed" else []
@@ -313,7 +330,8 @@ class Trial:
             histories.take(number, call_of(self.seed, number), told.refused)
             if number == told.synced:
                 histories = Histories(histories.last())
-        left = what_is_left()
+        left, share = what_is_left()
+        self.shares.append(share)
         if end == "killed":
             histories.check(left)
         elif end == "left":
@@ -327,19 +345,19 @@ def arguments():
     parser = argparse.ArgumentParser(description=__doc__, formatter_class=argparse.RawDescriptionHelpFormatter)
     parser.add_argument("--calls", type=int, default=10_000, help="how many calls at least (default 10,000)")
     parser.add_argument("--seed", type=int, default=1, help="which calls (default 1)")
-    parser.add_argument("--life", nargs=3, metavar=("SEED", "FIRST", "END"), help=argparse.SUPPRESS)
+    parser.add_argument("--life", nargs=4, metavar=("SEED", "FIRST", "END", "HOW"), help=argparse.SUPPRESS)
     return parser.parse_args()
 
 
 def main():
     words = arguments()
     if words.life:
-        seed, first, end = words.life
-        live(int(seed), int(first), end)
+        seed, first, end, how = words.life
+        live(int(seed), int(first), end, how == "hand")
         return 0
     with tempfile.TemporaryDirectory() as folder:
         os.chdir(folder)
-        fstch.make(FILE, index_blocks=1, extents=EXTENTS)
+        fstch.make(FILE, index_blocks=4, extents=EXTENTS)
         trial = Trial(words.seed)
         try:
             while trial.calls < words.calls:
@@ -348,7 +366,8 @@ def main():
             print(f"seed {words.seed}, life {trial.lives}, from call {trial.first} on: {wrong}")
             return 1
     killed = f"{trial.kills} of them killed, {trial.cut_off} in the middle of a sync"
-    print(f"{trial.calls} calls in {trial.lives} lives, {killed}: all as in a dict")
+    room = f"{trial.refused} puts refused, {statistics.median(trial.shares):.0%} live"
+    print(f"{trial.calls} calls in {trial.lives} lives, {killed}, {room}: all as in a dict")
     return 0
 
 

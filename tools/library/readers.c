@@ -43,7 +43,7 @@ static void a_file_is_only_read(void) {
     WANT(true, has(&store, "key", "value"));
     WANT(FSTCH_DONE, fstch_close(&store));
     WANT(-1, access_to_file());
-    WANT(FSTCH_DONE, fstch_open_with(&store, FILE_NAME, FSTCH_READ_ONLY | FSTCH_NO_BARRIERS, &slot));
+    WANT(FSTCH_DONE, fstch_open_with(&store, FILE_NAME, FSTCH_READ_ONLY | FSTCH_NO_BARRIERS | FSTCH_MANUAL, &slot));
     WANT(O_RDONLY, access_to_file());
     WANT(FSTCH_IS_READ_ONLY, fstch_sync(&store));
     WANT(FSTCH_DONE, fstch_close(&store));

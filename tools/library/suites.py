@@ -35,6 +35,10 @@ class Stores(mapping_tests.BasicTestMappingProtocol):
     def test_update(self):
         pass
 
+    # (without a line that wants `items(None)` refused: a start may be None)
+    def test_items(self):
+        self.assertEqual(list(self._empty_mapping().items()), [])
+
 
 class ByDbm:
     """What `dbm.open` opens is a store."""

@@ -1,6 +1,8 @@
 """Tests the module `fstch`: run where it is found, in a folder of its own."""
 
 import array
+import collections
+import collections.abc
 import contextlib
 import copy
 import ctypes
@@ -25,10 +27,10 @@ FILE = "test.disk"
 NOBODY = 65534
 
 
-def new_store(index_blocks=1, extents=4):
+def new_store(index_blocks=1, extents=4, **how):
     Path(FILE).unlink(missing_ok=True)
     fstch.make(FILE, index_blocks=index_blocks, extents=extents)
-    return fstch.open(FILE)
+    return fstch.open(FILE, **how)
 
 
 def in_python(lines):
@@ -67,8 +69,8 @@ class Mapping(unittest.TestCase):
             store[bytearray(b"key")] = memoryview(b"other")
             self.assertEqual(store[b"key"], b"other")
             self.assertEqual(store, {b"key": b"other", b"empty": b""})
-            self.assertEqual(sorted(store), [b"empty", b"key"])
-            self.assertEqual(store.lengths(), {b"key": 5, b"empty": 0})
+            self.assertEqual(list(store), [b"empty", b"key"])
+            self.assertEqual(list(store.lengths().items()), [(b"empty", 0), (b"key", 5)])
             self.assertIn(b"empty", store)
             self.assertNotIn(b"absent", store)
             self.assertEqual(store.get(b"absent"), None)
@@ -153,13 +155,38 @@ class Mapping(unittest.TestCase):
                 self.assertNotIn(wrong, store)
             self.assertEqual(len(store), 0)
 
+    def test_puts_win_room_back(self):
+        with new_store() as store:
+            values = {b"%d" % number: b"%d" % number * 5000 for number in range(10)}
+            store.update(values)
+            for turn in range(500):  # (some are overwritten often, and others never: these are moved)
+                key = b"%d" % (turn * turn % 10)
+                store[key] = values[key] = bytes([turn % 256]) * 5000
+                self.assertGreater(store.statistics().empty_extents, 0)
+            self.assertEqual(store, values)
+        with fstch.open(FILE) as store:
+            self.assertEqual(store, values)
+
     def test_full_stores(self):
-        with new_store(extents=3) as store:
+        with new_store() as store:
             for number in range(64):
                 store[b"%d" % number] = b""
             with self.assertRaises(fstch.IndexFull):
                 store[b"more"] = b""
             store.clear()
+            values = {key: key * 32768 for key in (b"a", b"b", b"c")}
+            store.update(values)
+            for key in (b"a", b"d"):
+                with self.assertRaises(fstch.NoSpace):
+                    store[key] = bytes(32768)
+            self.assertGreater(store.statistics().live_bytes, 2 * (65536 - 32768 - 1 - 16))
+            self.assertEqual(store, values)
+            del store[b"a"]
+            store[b"d"] = bytes(32768)
+            self.assertEqual((store[b"b"], store[b"d"]), (values[b"b"], bytes(32768)))
+
+    def test_extents_are_won_back_by_hand(self):
+        with new_store(extents=3, manual=True) as store:
             store[b"key"] = bytes(32768)
             store[b"key"] = bytes(32768)
             with self.assertRaises(fstch.NoSpace):
@@ -175,7 +202,10 @@ class Mapping(unittest.TestCase):
             for wrong in (-1, 2**32):
                 with self.assertRaises(ValueError):
                     store.reclaim(wrong)
-
+        with new_store(extents=3) as store:
+            for key in (b"key", b"key", b"other"):
+                store[key] = bytes(32768)
+            self.assertEqual(store, {b"key": bytes(32768), b"other": bytes(32768)})
 
     def test_anything_that_holds_bytes(self):
         with new_store() as store:
@@ -190,15 +220,15 @@ class Mapping(unittest.TestCase):
         with new_store() as store:
             keys = [bytes([number + 1]) for number in range(30)]
             store.update(dict.fromkeys(keys, b"value"))
-            self.assertEqual(list(reversed(store)), list(store)[::-1])
-            self.assertEqual(sorted(reversed(store)), keys)
-            first, other = iter(store), iter(store)
+            first, other, back = iter(store), iter(store), reversed(store)
             begun = [next(first), next(first)]
+            self.assertEqual([next(back), next(back)], keys[:-3:-1])
             store.clear()
             store[b"new"] = b"value"
-            self.assertEqual(sorted(begun + list(first)), keys)
-            self.assertEqual(sorted(other), keys)
-            self.assertEqual(list(first), [])
+            self.assertEqual(begun + list(first), keys)
+            self.assertEqual(list(other), keys)
+            self.assertEqual(list(back), keys[-3::-1])
+            self.assertEqual((list(first), list(back)), ([], []))
             self.assertEqual(list(reversed(store)), [b"new"])
             self.assertEqual(store.popitem(), (b"new", b"value"))
             with self.assertRaises(KeyError):
@@ -212,7 +242,7 @@ class Mapping(unittest.TestCase):
             with mock.patch.object(store, "_entry", asked):
                 next(iter(store))
                 self.assertEqual(asked.call_count, 1)
-                self.assertEqual(sorted(store), sorted(names))
+                self.assertEqual(list(store), sorted(names))
                 self.assertEqual(asked.call_count, 1002)
                 while store:
                     store.popitem()
@@ -243,6 +273,136 @@ class Mapping(unittest.TestCase):
             self.assertEqual(store.unsynced, 0)
             with self.assertRaises(fstch.NoSuchExtent):
                 store.extent(4)
+
+    def test_statistics(self):
+        with new_store() as store:
+            empty = fstch.Statistics(
+                keys=0, unsynced=0, live_bytes=0, file_bytes=67 * 4096, extents=4, empty_extents=4, syncs=0, waves=0
+            )
+            self.assertEqual(store.statistics(), empty)
+            store.update({b"key": b"value", b"more": b""})
+            full = empty._replace(keys=2, unsynced=store.unsynced, live_bytes=24 + 20, empty_extents=3)
+            self.assertGreater(full.unsynced, 0)
+            self.assertEqual(store.statistics(), full)
+            store.sync()
+            full = full._replace(unsynced=0, syncs=1, waves=3)
+            self.assertEqual(store.statistics(), full)
+            del store[b"key"]
+            store.sync()
+            self.assertEqual(store.statistics(), full._replace(keys=1, live_bytes=20, syncs=2, waves=4))
+
+
+# Keys in no order, of which some begin alike.
+KEYS = (b"b", b"ab\0", b"\xff\xff", b"a", b"k" * 32, b"\0", b"abc", b"k" * 31, b"\xff", b"ab", b"k")
+# At each key, right behind it, and where a key can't be.
+PLACES = (b"", *KEYS, *(key + b"\0" for key in KEYS), b"k" * 40, b"\xff" * 40)
+
+
+def store_in_order():
+    """A store that has these keys and had others, and its keys with their values."""
+    store = new_store()
+    for number, key in enumerate(KEYS):
+        store[key] = b"%d" % number
+    for key in (b"aa", b"\xff\xff\xff"):
+        store[key] = b"value"
+        del store[key]
+    return store, sorted((key, b"%d" % number) for number, key in enumerate(KEYS))
+
+
+class Order(unittest.TestCase):
+    def test_keys_are_in_order(self):
+        store, items = store_in_order()
+        with store:
+            keys = sorted(KEYS)
+            self.assertEqual((list(store), list(reversed(store))), (keys, keys[::-1]))
+            self.assertEqual(list(store.values()), [value for _, value in items])
+            for place in PLACES:
+                self.assertEqual(store.next_key(place), min((key for key in keys if key >= place), default=None))
+                self.assertEqual(store.previous_key(place), max((key for key in keys if key < place), default=None))
+            self.assertEqual(store.last_key(), keys[-1])
+            self.assertEqual(store.next_key(bytearray(b"b")), b"b")
+            store.clear()
+            self.assertEqual((store.next_key(b""), store.previous_key(b"k"), store.last_key()), (None, None, None))
+
+    def test_ranges(self):
+        store, items = store_in_order()
+        with store:
+            for start in (None, *PLACES):
+                for stop in (None, *PLACES):
+                    wanted = [it for it in items if (start or b"") <= it[0] and (stop is None or it[0] < stop)]
+                    self.wants(wanted, store, start, stop)
+
+    def test_keys_that_begin_alike(self):
+        store, items = store_in_order()
+        with store:
+            for prefix in PLACES:
+                wanted = [it for it in items if it[0].startswith(prefix)]
+                self.wants(wanted, store, prefix=prefix)
+                self.wants([it for it in wanted if b"ab" <= it[0] < b"k" * 32], store, b"ab", b"k" * 32, prefix=prefix)
+
+    def wants(self, wanted, store, *given, **named):
+        keys, items = store.keys(*given, **named), store.items(*given, **named)
+        self.assertEqual((list(items), list(reversed(items))), (wanted, wanted[::-1]))
+        self.assertEqual((list(keys), list(reversed(keys))), ([key for key, _ in wanted], [key for key, _ in wanted[::-1]]))
+        self.assertEqual((len(keys), len(items)), (len(wanted), len(wanted)))
+        for key in KEYS:
+            self.assertEqual((key in keys, (key, store[key]) in items), (key in dict(wanted), key in dict(wanted)))
+
+    def test_they_are_views(self):
+        with new_store() as store:
+            keys, items, some = store.keys(), store.items(), store.keys(b"b", b"d")
+            store.update({b"a": b"1", b"b": b"2", b"c": b"3"})
+            self.assertEqual((keys, items, some), ({b"a", b"b", b"c"}, dict(store).items(), {b"b", b"c"}))
+            self.assertEqual((keys & {b"a", b"d"}, some - {b"b"}, some | {b"e"}), ({b"a"}, {b"c"}, {b"b", b"c", b"e"}))
+            self.assertTrue(all(isinstance(it, collections.abc.KeysView) for it in (keys, some)))
+            self.assertIsInstance(items, collections.abc.ItemsView)
+            self.assertNotIn((b"a", b"2"), items)
+            for wrong in (b"", b"k" * 33, "text", 1):
+                self.assertNotIn(wrong, some)
+                self.assertNotIn((wrong, b"1"), items)
+            del store[b"c"]
+            self.assertEqual((some, len(some), len(keys)), ({b"b"}, 1, 2))
+            for wrong in ("text", 1):
+                for named in ({"start": wrong}, {"stop": wrong}, {"prefix": wrong}):
+                    with self.assertRaises(TypeError):
+                        store.keys(**named)
+
+    def test_ranges_as_they_were(self):
+        store, _ = store_in_order()
+        with store:
+            keys = sorted(KEYS)[1:-1]
+            rising, falling = iter(store.keys(b"a", b"\xff\xff")), reversed(store.keys(b"a", b"\xff\xff"))
+            self.assertEqual((next(rising), next(falling)), (keys[0], keys[-1]))
+            store.clear()
+            store[b"c"] = b"value"
+            self.assertEqual((list(rising), list(falling)), (keys[1:], keys[-2::-1]))
+            store[b"d"] = b"value"
+            items = iter(store.items())
+            store[b"c"] = b"other"
+            self.assertEqual(next(items), (b"c", b"other"))
+            del store[b"d"]
+            with self.assertRaises(fstch.Absent):
+                next(items)
+
+    def test_a_change_in_between_is_none_of_a_walk(self):
+        for walked in (iter, reversed):
+            store, _ = store_in_order()
+            keys, found, inside = list(walked(store)), store._entry, []
+
+            def change_behind(*given):
+                entry = found(*given)
+                if not inside:
+                    inside.append(True)
+                    del store[entry[0]]
+                    store[entry[0] + b"\0"] = b"value"
+                    inside.clear()
+                return entry
+
+            with store:
+                walk = walked(store)
+                with mock.patch.object(store, "_entry", change_behind):
+                    begun = [next(walk)]
+                self.assertEqual(begun + list(walk), keys)
 
 
 class Files(unittest.TestCase):
@@ -555,6 +715,21 @@ class Groups(unittest.TestCase):
                 while True:
                     store.group()
 
+    def test_a_store_begins_anew(self):
+        with new_store() as store:
+            with store.group() as first:
+                store[b"key"] = b"value"
+            groups = [store.group() for _ in range(512)]
+            self.assertEqual(groups[-1].number, 512)
+            store.sync()
+            self.assertEqual(groups[-1].pending, 0)
+            first.close()
+            store.sync()
+            with self.assertRaises(fstch.NoSuchGroup):
+                print(groups[-1].pending)
+            self.assertEqual(store.group().number, 0)
+            self.assertEqual(store, {b"key": b"value"})
+
     def test_changes_stay_behind_an_exception(self):
         with new_store() as store:
             group = store.group()
@@ -592,6 +767,28 @@ class Threads(unittest.TestCase):
         other.join()
         self.assertFalse(store.is_open)
         fstch.open(FILE).close()
+
+    def test_a_thread_begins_to_go_over_keys_beside_changes(self):
+        ends, before, begun = threading.Event(), sys.getswitchinterval(), collections.deque(maxlen=2)
+
+        def begin():
+            while not ends.is_set():
+                begun.append([iter(store) for _ in range(50)])
+
+        with new_store() as store:
+            store[b"key"] = b"value"
+            others = [threading.Thread(target=begin) for _ in range(2)]
+            sys.setswitchinterval(1e-6)
+            try:
+                for it in others:
+                    it.start()
+                for _ in range(5000):
+                    store[b"key"] = b"value"
+            finally:
+                sys.setswitchinterval(before)
+                ends.set()
+                for it in others:
+                    it.join()
 
     def test_a_store_of_a_thread_that_has_ended(self):
         opened = []

@@ -123,6 +123,15 @@ static void call_put(void) {
     WANT(FSTCH_DONE, fstch_put(&store, 0, "key", 3, bytes, sizeof bytes));
 }
 
+/* Each extent has a long value, and most of them a short one that is moved where the extent is won back. */
+static void call_puts_that_win_room(void) {
+    for (int count = 0; count < 200; count++) {
+        uint8_t key = (uint8_t)(count % 100);
+        WANT(FSTCH_DONE, fstch_put(&store, 0, &key, 1, bytes, 100));
+        WANT(FSTCH_DONE, fstch_put(&store, 0, "key", 3, bytes, sizeof bytes));
+    }
+}
+
 static void call_get(void) {
     WANT(FSTCH_DONE, fstch_get(&store, "key", 3, bytes, sizeof bytes, &length));
 }
@@ -147,12 +156,23 @@ static void call_entry(void) {
     WANT(FSTCH_DONE, fstch_entry(&store, 0, bytes, sizeof bytes, &length, &other_length));
 }
 
+static void call_in_order(void) {
+    WANT(FSTCH_DONE, fstch_next(&store, bytes, 0, bytes + 1, FSTCH_MAX_KEY, &length, &other_length));
+    WANT(FSTCH_DONE, fstch_previous(&store, "l", 1, bytes, sizeof bytes, &length, &other_length));
+    WANT(FSTCH_DONE, fstch_last(&store, bytes, sizeof bytes, &length, &other_length));
+}
+
 static void call_extent(void) {
     WANT(FSTCH_DONE, fstch_extent(&store, 0, &number, &other));
 }
 
 static void call_unsynced(void) {
     WANT(FSTCH_DONE, fstch_unsynced(&store, &number));
+}
+
+static void call_stats(void) {
+    fstch_statistics statistics;
+    WANT(FSTCH_DONE, fstch_stats(&store, &statistics));
 }
 
 static void call_groups(void) {
@@ -165,6 +185,18 @@ static void call_groups(void) {
     WANT(FSTCH_DONE, fstch_group_depend(&store, later, group));
     WANT(FSTCH_DONE, fstch_group_pending(&store, group, &number));
     WANT(FSTCH_DONE, fstch_group_close(&store, group));
+}
+
+/* The store begins anew behind it. */
+static void call_sync_of_groups(void) {
+    uint32_t group = 0;
+    for (int count = 0; count < 513; count++) {
+        WANT(FSTCH_DONE, fstch_group(&store, &group));
+        WANT(FSTCH_DONE, fstch_group_close(&store, group));
+    }
+    WANT(FSTCH_DONE, fstch_sync(&store));
+    WANT(FSTCH_DONE, fstch_group(&store, &group));
+    WANT(0, group);
 }
 
 static void call_close(void) {
@@ -243,8 +275,9 @@ static void call_cache_close(void) {
 static const measured CALLS[] = {
     {"make", call_make},       {"open", call_open},     {"put", call_put},       {"put again", call_put},
     {"get", call_get},         {"entry", call_entry},   {"check", call_check},   {"extent", call_extent},
-    {"unsynced", call_unsynced}, {"groups", call_groups}, {"sync", call_sync},   {"reclaim", call_reclaim},
-    {"delete", call_delete},   {"sync again", call_sync}, {"close", call_close}, {"open again", call_open},
+    {"in order", call_in_order}, {"unsynced", call_unsynced}, {"stats", call_stats}, {"groups", call_groups},
+    {"sync", call_sync},       {"reclaim", call_reclaim}, {"delete", call_delete}, {"sync again", call_sync},
+    {"sync of groups", call_sync_of_groups}, {"puts that win room", call_puts_that_win_room}, {"close", call_close}, {"open again", call_open},
     {"close again", call_close}, {"open to read", call_open_to_read}, {"close what was read", call_close},
     {"cache open", call_cache_open}, {"cache admit", call_cache_admit}, {"cache patch", call_cache_patch}, {"cache merge", call_cache_merge},
     {"cache look", call_cache_look}, {"cache send", call_cache_send}, {"cache complete", call_cache_complete},

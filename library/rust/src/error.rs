@@ -34,7 +34,7 @@ pub enum Error {
     Disk(io::Error),
     /// The file's length isn't 1 to 4,096 whole blocks of 4,096 bytes, or not what its first block says.
     FileSize,
-    /// 16,777,216 changes were made since the store was opened: close it and open it again.
+    /// 16,777,216 changes were made since the store was opened or began anew: close its groups and sync.
     NumbersSpent,
     /// 65,536 changes are in memory: a sync makes room.
     TooManyLive,
@@ -50,7 +50,7 @@ pub enum Error {
     Engaged,
     /// The writer hasn't engaged the group.
     NotEngaged,
-    /// 1,024 groups were made since the store was opened, closed ones counted.
+    /// 1,024 groups were made since the store was opened or began anew, closed ones counted: close all and sync.
     TooManyGroups,
     /// The store has no extent of this number.
     NoSuchExtent,
@@ -64,7 +64,7 @@ pub enum Error {
     NoKey,
     /// The key is new, and the store has as many keys as it can.
     IndexFull,
-    /// No extent has room: delete, then reclaim.
+    /// No extent has room: delete, and with [`Options::manual`](crate::Options::manual) reclaim.
     NoSpace,
     /// Puts append to the extent, and values in it are live.
     OpenExtent,

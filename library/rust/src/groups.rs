@@ -122,7 +122,7 @@ groups! {
     pub struct Group;
 
     impl Store {
-        /// Makes a group. Numbers are counted from 0 and aren't used again while the store is open.
+        /// Makes a group. Numbers are counted from 0, and begin at 0 again where a sync lets the store begin anew.
         ///
         /// # Errors
         /// [`TooManyGroups`](crate::Error::TooManyGroups), [`OutOfMemory`](crate::Error::OutOfMemory).

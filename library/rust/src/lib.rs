@@ -19,7 +19,7 @@
 //! store.put_by(0, b"name", b"data")?;
 //! store.group_disengage(name, 0)?;
 //! store.sync()?; // from here on all of it is there after every crash
-//! for entry in store.entries() {
+//! for entry in store.range(..) { // in order of keys
 //!     println!("{:?} has {} bytes", entry.key(), entry.value_length());
 //! }
 //! assert_eq!(store.get(b"name")?, Some(b"data".to_vec()));
@@ -62,13 +62,15 @@ mod error;
 mod groups;
 mod listing;
 mod options;
+mod ordering;
 mod store;
 mod sys;
 
 pub use error::{Error, Result};
 pub use groups::Group;
-pub use listing::{Counts, Entries, Entry, Extent, Extents};
+pub use listing::{Counts, Entries, Entry, Extent, Extents, Statistics};
 pub use options::{Geometry, Options};
+pub use ordering::KeyRange;
 pub use store::Store;
 
 /// The version of the header that this crate is written for: 10,000 for each major, 100 for each minor number, 1 for

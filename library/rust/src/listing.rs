@@ -1,10 +1,12 @@
-//! What a store holds: how many keys, which ones, and how full its extents are.
+//! What a store holds: how many keys, which ones by their numbers, and how full its extents are; and what its syncs have
+//! done.
 
 use crate::error::{done, Result};
 use crate::{sys, Store, MAX_KEY};
 use std::fmt;
 use std::iter::FusedIterator;
 use std::ops::Range;
+use std::os::raw::c_void;
 
 /// How much a store holds.
 #[derive(Clone, Copy, Debug, PartialEq, Eq, Hash)]
@@ -33,6 +35,15 @@ impl Entry {
     pub fn value_length(&self) -> usize {
         self.value_length
     }
+
+    /// The entry that a call tells, or `None`: it is handed a place for the longest key, and one for each length.
+    pub(crate) fn told_by(call: impl FnOnce(*mut c_void, &mut usize, &mut usize) -> i32) -> Result<Option<Entry>> {
+        let mut entry = Entry { key: [0; MAX_KEY], key_length: 0, value_length: 0 };
+        match call(entry.key.as_mut_ptr().cast(), &mut entry.key_length, &mut entry.value_length) {
+            sys::FSTCH_ABSENT => Ok(None),
+            answer => done(answer).map(|()| Some(entry)),
+        }
+    }
 }
 
 impl fmt::Debug for Entry {
@@ -48,6 +59,42 @@ pub struct Extent {
     pub live: u32,
     /// How many bytes were appended since it was made or won back.
     pub filled: u32,
+}
+
+/// What a store holds, and what its syncs have done.
+#[derive(Clone, Copy, Debug, PartialEq, Eq, Hash)]
+pub struct Statistics {
+    /// How many keys have a value.
+    pub keys: u32,
+    /// How many pieces of changes haven't reached the file, as of [`Store::unsynced`].
+    pub unsynced: u32,
+    /// How many bytes keys and values take in the extents, with 16 more each.
+    pub live_bytes: u64,
+    /// How many bytes the file has.
+    pub file_bytes: u64,
+    /// How many extents there are.
+    pub extents: u32,
+    /// How many extents have nothing in them.
+    pub empty_extents: u32,
+    /// How many syncs were done since the store was opened.
+    pub syncs: u64,
+    /// How many waves these syncs wrote.
+    pub waves: u64,
+}
+
+impl From<sys::fstch_statistics> for Statistics {
+    fn from(told: sys::fstch_statistics) -> Statistics {
+        Statistics {
+            keys: told.keys,
+            unsynced: told.unsynced,
+            live_bytes: told.live_bytes,
+            file_bytes: told.file_bytes,
+            extents: told.extents,
+            empty_extents: told.empty_extents,
+            syncs: told.syncs,
+            waves: told.waves,
+        }
+    }
 }
 
 impl Store {
@@ -68,22 +115,10 @@ impl Store {
     /// # Errors
     /// None that the header knows of an open store.
     pub fn entry(&self, number: u32) -> Result<Option<Entry>> {
-        let mut entry = Entry { key: [0; MAX_KEY], key_length: 0, value_length: 0 };
-        // SAFETY: the handle is this store's alone, the buffer is as long as is said, and the places are apart.
-        let answer = unsafe {
-            sys::fstch_entry(
-                self.handle(),
-                number,
-                entry.key.as_mut_ptr().cast(),
-                MAX_KEY,
-                &mut entry.key_length,
-                &mut entry.value_length,
-            )
-        };
-        match answer {
-            sys::FSTCH_ABSENT => Ok(None),
-            _ => done(answer).map(|()| Some(entry)),
-        }
+        Entry::told_by(|key, key_length, value_length| {
+            // SAFETY: the handle is this store's alone, the buffer is as long as is said, and the places are apart.
+            unsafe { sys::fstch_entry(self.handle(), number, key, MAX_KEY, key_length, value_length) }
+        })
     }
 
     /// All entries, in the order of their numbers. They borrow the store, so that no key is put or deleted meanwhile:
@@ -125,6 +160,17 @@ impl Store {
         // SAFETY: the handle is this store's alone, and the place is apart from it.
         done(unsafe { sys::fstch_unsynced(self.handle(), &mut changes) })?;
         Ok(changes)
+    }
+
+    /// What the store holds, and what its syncs have done. It takes no memory, and about as long as there are extents.
+    ///
+    /// # Errors
+    /// None that the header knows of an open store.
+    pub fn statistics(&self) -> Result<Statistics> {
+        let mut told = sys::fstch_statistics::default();
+        // SAFETY: the handle is this store's alone, and the place is apart from it.
+        done(unsafe { sys::fstch_stats(self.handle(), &mut told) })?;
+        Ok(told.into())
     }
 }
 

@@ -61,4 +61,11 @@ impl Options {
     pub const fn read_only(self) -> Options {
         Options { flags: self.flags | sys::FSTCH_READ_ONLY }
     }
+
+    /// Extents are won back by [`Store::reclaim`](crate::Store::reclaim) alone, which the program calls where a put is
+    /// answered [`Error::NoSpace`](crate::Error::NoSpace). Without it [`Store::put`](crate::Store::put) does so by
+    /// itself.
+    pub const fn manual(self) -> Options {
+        Options { flags: self.flags | sys::FSTCH_MANUAL }
+    }
 }

@@ -142,6 +142,11 @@ impl Store {
     /// Brings all changes to the file, and waits until the system lets them last. They are written in waves, and the
     /// file is synced behind each wave: nothing is written before what it rests on lasts.
     ///
+    /// Behind a sync the store begins anew where more than 1,048,576 changes or 512 groups were made since it was
+    /// opened or last did, and each group is closed or was never engaged. So it is never spent. Nobody sees that but by
+    /// the numbers of groups, which begin at 0 again: that of a closed group may come again, and there is no group any
+    /// more that was never engaged.
+    ///
     /// With `DeviceGaveUp`, `OutOfMemory` and `NoSync` some changes may have reached the file and others not, in their
     /// order. From then on the store answers each sync with `NoSync`: close it and open it again. The open reads
     /// what the disk has, and not what the system still shows of a sync that failed.
@@ -154,7 +159,8 @@ impl Store {
         done(unsafe { sys::fstch_sync(self.handle()) })
     }
 
-    /// Puts a value under a key, in place of the one that it had, by no writer.
+    /// Puts a value under a key, in place of the one that it had, by no writer. Room is won back as by
+    /// [`Store::put_by`].
     ///
     /// # Errors
     /// Those of [`Store::put_by`].
@@ -163,6 +169,15 @@ impl Store {
     }
 
     /// Puts a value under a key, in place of the one that it had. The writer is 0 to 6, or [`NO_WRITER`].
+    ///
+    /// Where no extent has room for it, the one with the fewest live bytes is won back first, and where none was empty a
+    /// second one; not so in a store that was opened with [`Options::manual`]. So one put in many takes as long as a
+    /// reclaim. Where an extent was empty one is so behind the put, unless there was no memory, and then
+    /// [`NoSpace`](Error::NoSpace) comes of a full store alone: where [`Store::statistics`] tells more live bytes than
+    /// (extents - 2) * (bytes of an extent - bytes of the value, its key and 16 more), or an extent can't be won back
+    /// any more. With [`NoSpace`](Error::NoSpace), [`NumbersSpent`](Error::NumbersSpent),
+    /// [`TooManyLive`](Error::TooManyLive) and [`OutOfMemory`](Error::OutOfMemory) extents may have been won back; each
+    /// key has the value that it had.
     ///
     /// # Errors
     /// [`BadWriter`](Error::BadWriter), [`KeyLength`](Error::KeyLength), [`ValueLength`](Error::ValueLength),
@@ -240,7 +255,7 @@ impl Store {
         unsafe { sys::fstch_get(self.handle(), key.as_ptr().cast(), key.len(), into.cast(), room, length) }
     }
 
-    /// Takes a key and its value away, by no writer. The room is won back by [`Store::reclaim`].
+    /// Takes a key and its value away, by no writer. A put that needs the room wins it back, or [`Store::reclaim`].
     ///
     /// # Errors
     /// Those of [`Store::delete_by`].
@@ -248,8 +263,8 @@ impl Store {
         self.delete_by(NO_WRITER, key)
     }
 
-    /// Takes a key and its value away. The room is won back by [`Store::reclaim`]. The writer is 0 to 6, or
-    /// [`NO_WRITER`].
+    /// Takes a key and its value away. A put that needs the room wins it back, or [`Store::reclaim`]. The writer is 0
+    /// to 6, or [`NO_WRITER`].
     ///
     /// # Errors
     /// [`BadWriter`](Error::BadWriter), [`KeyLength`](Error::KeyLength), [`NoKey`](Error::NoKey),
@@ -312,10 +327,15 @@ mod tests {
         assert!(matches!(store.reclaim(0), Err(Error::NotOpen)));
         assert!(matches!(store.check(), Err(Error::NotOpen)));
         assert!(matches!(store.entry(0), Err(Error::NotOpen)));
+        assert!(matches!(store.next_key(b""), Err(Error::NotOpen)));
+        assert!(matches!(store.previous_key(b"key"), Err(Error::NotOpen)));
+        assert!(matches!(store.last_key(), Err(Error::NotOpen)));
         assert!(matches!(store.extent(0), Err(Error::NotOpen)));
         assert!(matches!(store.unsynced(), Err(Error::NotOpen)));
+        assert!(matches!(store.statistics(), Err(Error::NotOpen)));
         assert!(matches!(store.group(), Err(Error::NotOpen)));
         assert_eq!((store.entries().count(), store.extents().count()), (0, 0));
+        assert_eq!((store.range(..).count(), store.range(..).rev().count()), (0, 0));
         assert!(matches!(store.close(), Err(Error::NotOpen)));
     }
 }

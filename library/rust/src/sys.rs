@@ -18,6 +18,20 @@ pub struct fstch_cache {
     at: *mut c_void,
 }
 
+/// What a store holds, and what its syncs have done.
+#[repr(C)]
+#[derive(Default)]
+pub struct fstch_statistics {
+    pub keys: u32,
+    pub unsynced: u32,
+    pub live_bytes: u64,
+    pub file_bytes: u64,
+    pub extents: u32,
+    pub empty_extents: u32,
+    pub syncs: u64,
+    pub waves: u64,
+}
+
 // (as the headers say, and Rust's usize is C's size_t)
 const _: () = assert!(std::mem::size_of::<fstch_store>() == 16 && std::mem::size_of::<usize>() == 8);
 const _: () = assert!(std::mem::size_of::<fstch_cache>() == 16);
@@ -25,13 +39,14 @@ const _: () = assert!(std::mem::size_of::<fstch_cache>() == 16);
 pub const FSTCH_CLOSED: fstch_store = fstch_store { is_open: false, at: std::ptr::null_mut() };
 pub const CLOSED_CACHE: fstch_cache = fstch_cache { is_open: false, at: std::ptr::null_mut() };
 
-pub const FSTCH_VERSION: u32 = 302;
+pub const FSTCH_VERSION: u32 = 400;
 pub const FSTCH_WRITERS: u32 = 7;
 pub const FSTCH_NO_WRITER: u32 = u32::MAX;
 pub const FSTCH_MAX_KEY: usize = 32;
 pub const FSTCH_MAX_VALUE: usize = 131072;
 pub const FSTCH_NO_BARRIERS: u32 = 1;
 pub const FSTCH_READ_ONLY: u32 = 2;
+pub const FSTCH_MANUAL: u32 = 4;
 
 pub const FSTCH_DONE: i32 = 0;
 pub const FSTCH_OUT_OF_MEMORY: i32 = 1;
@@ -118,8 +133,12 @@ extern "C" {
     pub fn fstch_reclaim(store: *mut fstch_store, extent: u32) -> i32;
     pub fn fstch_check(store: *const fstch_store, entries: *mut u32, extents: *mut u32) -> i32;
     pub fn fstch_entry(store: *const fstch_store, number: u32, key: *mut c_void, key_room: usize, key_length: *mut usize, value_length: *mut usize) -> i32;
+    pub fn fstch_next(store: *const fstch_store, from: *const c_void, from_length: usize, key: *mut c_void, key_room: usize, key_length: *mut usize, value_length: *mut usize) -> i32;
+    pub fn fstch_previous(store: *const fstch_store, before: *const c_void, before_length: usize, key: *mut c_void, key_room: usize, key_length: *mut usize, value_length: *mut usize) -> i32;
+    pub fn fstch_last(store: *const fstch_store, key: *mut c_void, key_room: usize, key_length: *mut usize, value_length: *mut usize) -> i32;
     pub fn fstch_extent(store: *const fstch_store, extent: u32, live: *mut u32, filled: *mut u32) -> i32;
     pub fn fstch_unsynced(store: *const fstch_store, changes: *mut u32) -> i32;
+    pub fn fstch_stats(store: *const fstch_store, statistics: *mut fstch_statistics) -> i32;
     pub fn fstch_group(store: *mut fstch_store, group: *mut u32) -> i32;
     pub fn fstch_group_engage(store: *mut fstch_store, group: u32, writer: u32) -> i32;
     pub fn fstch_group_disengage(store: *mut fstch_store, group: u32, writer: u32) -> i32;

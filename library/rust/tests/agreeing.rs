@@ -30,8 +30,9 @@ fn in_rust(type_of_c: &str) -> String {
         "void" => "c_void",
         "int32_t" => "i32",
         "uint32_t" => "u32",
+        "uint64_t" => "u64",
         "size_t" => "usize",
-        "bool" | "fstch_store" | "fstch_cache" => base,
+        "bool" | "fstch_store" | "fstch_cache" | "fstch_statistics" => base,
         other => panic!("no type of the header: {other}"),
     };
     match (type_of_c.contains('*'), type_of_c.starts_with("const ")) {
@@ -72,19 +73,37 @@ fn calls_are_those_of_the_header() {
     let sys = read("src/sys.rs");
     let wanted: Vec<&str> = sys.lines().map(str::trim).filter(|line| line.starts_with("pub fn ")).collect();
     assert_eq!(declared, wanted);
-    assert_eq!(declared.len(), 44);
+    assert_eq!(declared.len(), 48);
 }
 
 #[test]
 fn a_store_and_a_cache_are_those_of_the_headers() {
     let (header, sys) = (headers(), read("src/sys.rs"));
     for name in ["fstch_store", "fstch_cache"] {
-        let (_, fields) = header.split_once(&format!("typedef struct {name} {{")).unwrap();
-        let fields: Vec<&str> = fields.split_once('}').unwrap().0.split_whitespace().collect();
-        assert_eq!(fields.join(" "), "bool is_open; void *at;");
+        assert_eq!(fields_of(name, &header), ["bool is_open", "void *at"]);
         let wanted = format!("#[repr(C)]\npub struct {name} {{\n    is_open: bool,\n    at: *mut c_void,\n}}\n");
         assert!(sys.contains(&wanted));
     }
+}
+
+#[test]
+fn statistics_are_those_of_the_header() {
+    let fields = fields_of("fstch_statistics", &headers());
+    let written: Vec<String> =
+        fields.iter().map(|field| format!("    pub {}: {},\n", name_of(field), in_rust(field))).collect();
+    let wanted = format!("#[repr(C)]\n#[derive(Default)]\npub struct fstch_statistics {{\n{}}}\n", written.concat());
+    assert!(read("src/sys.rs").contains(&wanted));
+    assert_eq!(fields.len(), 8);
+}
+
+/// What a struct of the header has, each with its type before it.
+fn fields_of(name: &str, header: &str) -> Vec<String> {
+    let (_, behind) = header.split_once(&format!("typedef struct {name} {{")).unwrap();
+    let fields = behind.split_once('}').unwrap().0.split(';');
+    fields
+        .map(|field| field.split_whitespace().collect::<Vec<_>>().join(" "))
+        .filter(|field| !field.is_empty())
+        .collect()
 }
 
 #[test]

@@ -3,8 +3,11 @@
 mod common;
 
 use common::{value_in, Folder};
-use fstch::{Counts, Extent, Geometry, Options, Store, MAX_KEY, MAX_VALUE, NO_WRITER, VERSION, WRITERS};
+use fstch::{Counts, Entry, Extent, Geometry, Options, Statistics, Store};
+use fstch::{MAX_KEY, MAX_VALUE, NO_WRITER, VERSION, WRITERS};
+use std::collections::BTreeMap;
 use std::ffi::OsStr;
+use std::ops::{Bound, RangeBounds};
 use std::os::unix::ffi::OsStrExt;
 
 #[test]
@@ -161,6 +164,148 @@ fn entries_are_told() {
     assert_eq!((over.next(), over.next()), (None, None));
 }
 
+/// Keys in no order, of which some begin alike.
+const KEYS: [&[u8]; 11] =
+    [b"b", b"ab\0", b"\xff\xff", b"a", &[b'k'; MAX_KEY], b"\0", b"abc", &[b'k'; MAX_KEY - 1], b"\xff", b"ab", b"k"];
+
+/// A store that has these keys and had others, and a map of the lengths of their values.
+fn store_and_map(folder: &Folder) -> (Store, BTreeMap<Vec<u8>, usize>) {
+    let mut store = folder.store(4);
+    let mut map = BTreeMap::new();
+    for (length, key) in KEYS.iter().enumerate() {
+        store.put(key, &vec![0; length]).unwrap();
+        map.insert(key.to_vec(), length);
+    }
+    for key in [&b"aa"[..], b"\xff\xff\xff"] {
+        store.put(key, b"value").unwrap();
+        store.delete(key).unwrap();
+    }
+    (store, map)
+}
+
+/// Where a range may begin or end: at each key, right behind it and right before, and where a key can't be.
+fn places() -> Vec<Vec<u8>> {
+    let mut places = vec![Vec::new(), vec![b'k'; MAX_KEY + 1], vec![b'k'; 40], vec![0xff; 40]];
+    for key in KEYS {
+        let (last, begin) = key.split_last().unwrap();
+        places.extend([key.to_vec(), [key, b"\0"].concat(), begin.to_vec()]);
+        places.extend(last.checked_sub(1).map(|less| [begin, &[less], &[0xff; MAX_KEY]].concat()));
+    }
+    places
+}
+
+fn told(entry: Entry) -> (Vec<u8>, usize) {
+    (entry.key().to_vec(), entry.value_length())
+}
+
+#[test]
+fn keys_are_in_order() {
+    let folder = Folder::new("order");
+    let (store, map) = store_and_map(&folder);
+    for place in places() {
+        let next = map.range(place.clone()..).next().map(|(key, length)| (key.clone(), *length));
+        assert_eq!(store.next_key(&place).unwrap().map(told), next, "from {place:?} on");
+        let previous = map.range(..place.clone()).next_back().map(|(key, length)| (key.clone(), *length));
+        assert_eq!(store.previous_key(&place).unwrap().map(told), previous, "before {place:?}");
+    }
+    assert_eq!(store.last_key().unwrap().map(told), map.into_iter().next_back());
+}
+
+#[test]
+fn an_empty_store_has_no_key() {
+    let folder = Folder::new("empty");
+    let store = folder.store(4);
+    assert_eq!(store.next_key(b"").unwrap(), None);
+    assert_eq!(store.previous_key(&[0xff; 40]).unwrap(), None);
+    assert_eq!(store.last_key().unwrap(), None);
+    assert_eq!((store.range(..).next(), store.range(..).next_back()), (None, None));
+}
+
+/// What a range has, by turns from its two ends.
+fn from_both_ends(mut entries: impl DoubleEndedIterator<Item = Entry>) -> Vec<(Vec<u8>, usize)> {
+    let (mut front, mut back) = (Vec::new(), Vec::new());
+    while let Some(entry) = entries.next() {
+        front.push(told(entry));
+        back.extend(entries.next_back().map(told));
+    }
+    assert_eq!((entries.next(), entries.next_back()), (None, None));
+    back.reverse();
+    front.extend(back);
+    front
+}
+
+#[test]
+fn ranges_have_bounds() {
+    let folder = Folder::new("bounds");
+    let (store, map) = store_and_map(&folder);
+    let places = places();
+    let bounds = |place| [Bound::Included(place), Bound::Excluded(place), Bound::Unbounded];
+    for from in places.iter().flat_map(|place| bounds(place.as_slice())) {
+        for to in places.iter().flat_map(|place| bounds(place.as_slice())) {
+            let range = (from, to);
+            let is_in = |key: &[u8]| RangeBounds::<&[u8]>::contains(&range, &key);
+            let mut wanted: Vec<_> = map.clone().into_iter().filter(|(key, _)| is_in(key)).collect();
+            assert_eq!(store.range(range).map(told).collect::<Vec<_>>(), wanted, "{range:?}");
+            assert_eq!(from_both_ends(store.range(range)), wanted, "{range:?}");
+            wanted.reverse();
+            assert_eq!(store.range(range).rev().map(told).collect::<Vec<_>>(), wanted, "{range:?}");
+        }
+    }
+}
+
+#[test]
+fn ranges_are_over_once() {
+    let folder = Folder::new("ranges");
+    let (store, map) = store_and_map(&folder);
+    assert_eq!(store.range(..).map(told).collect::<BTreeMap<_, _>>(), map);
+    let mut over = store.range(&b"a"[..]..=b"abc");
+    assert_eq!(over.clone().map(told).map(|(key, _)| key).collect::<Vec<_>>(), [&b"a"[..], b"ab", b"ab\0", b"abc"]);
+    assert_eq!(over.by_ref().count(), 4);
+    assert_eq!((over.next(), over.next_back(), over.next()), (None, None, None));
+    let mut back = store.range(&b"a"[..]..=b"abc").rev();
+    assert_eq!(back.by_ref().count(), 4);
+    assert_eq!((back.next(), back.next_back(), back.next()), (None, None, None));
+}
+
+/// The file has 67 blocks: 2, that of the index, and 16 for each extent. Puts are written in three waves, and a delete in
+/// one.
+#[test]
+fn statistics_follow_a_store() {
+    let folder = Folder::new("statistics");
+    let path = folder.made(4);
+    let mut store = Store::open(&path).unwrap();
+    let mut wanted = Statistics {
+        keys: 0,
+        unsynced: 0,
+        live_bytes: 0,
+        file_bytes: 67 * 4096,
+        extents: 4,
+        empty_extents: 4,
+        syncs: 0,
+        waves: 0,
+    };
+    assert_eq!(store.statistics().unwrap(), wanted);
+    store.put(b"key", b"value").unwrap();
+    store.put(b"key", b"other").unwrap();
+    store.put(b"more", b"").unwrap();
+    let unsynced = store.unsynced().unwrap();
+    assert!(unsynced > 0);
+    wanted = Statistics { keys: 2, unsynced, live_bytes: 24 + 20, empty_extents: 3, ..wanted };
+    assert_eq!(store.statistics().unwrap(), wanted);
+    store.sync().unwrap();
+    wanted = Statistics { unsynced: 0, syncs: 1, waves: 3, ..wanted };
+    assert_eq!(store.statistics().unwrap(), wanted);
+    store.delete(b"key").unwrap();
+    store.sync().unwrap();
+    wanted = Statistics { keys: 1, live_bytes: 20, syncs: 2, waves: 4, ..wanted };
+    assert_eq!(store.statistics().unwrap(), wanted);
+    store.sync().unwrap(); // nothing is left to be written
+    assert_eq!(store.statistics().unwrap(), Statistics { syncs: 3, ..wanted });
+    store.close().unwrap();
+    let store = Store::open(&path).unwrap();
+    assert_eq!(store.statistics().unwrap(), Statistics { syncs: 0, waves: 0, ..wanted });
+}
+
 /// A frame has 16 bytes beside its key and its value.
 #[test]
 fn extents_are_measured() {
@@ -180,7 +325,7 @@ fn extents_are_measured() {
 #[test]
 fn extents_are_won_back() {
     let folder = Folder::new("reclaim");
-    let mut store = folder.store(3);
+    let mut store = folder.store_by_hand(3);
     let value = vec![2; 32768];
     store.put(b"short", b"value").unwrap();
     store.put(b"long", &vec![1; 32768]).unwrap();
@@ -191,6 +336,34 @@ fn extents_are_won_back() {
     store.sync().unwrap();
     assert_eq!(store.get(b"short").unwrap(), Some(b"value".to_vec()));
     assert_eq!(store.get(b"long").unwrap(), Some(value));
+}
+
+/// Four extents have room for 52 of these values. Some keys are overwritten often, and others never: these are moved.
+#[test]
+fn puts_win_room_back() {
+    let folder = Folder::new("room");
+    let path = folder.made(4);
+    let mut store = Store::open(&path).unwrap();
+    let mut map = BTreeMap::new();
+    for key in 0..10_u8 {
+        store.put(&[key], &[key; 5000]).unwrap();
+        map.insert(vec![key], vec![key; 5000]);
+    }
+    for turn in 0..500_u32 {
+        let (key, value) = ([(turn * turn % 10) as u8], vec![(turn % 251) as u8; 5000]);
+        store.put(&key, &value).unwrap();
+        assert!(store.statistics().unwrap().empty_extents > 0);
+        map.insert(key.to_vec(), value);
+    }
+    store.sync().unwrap();
+    assert_eq!(all_of(&store), map);
+    store.close().unwrap();
+    assert_eq!(all_of(&Store::open(&path).unwrap()), map);
+}
+
+/// All keys with their values.
+fn all_of(store: &Store) -> BTreeMap<Vec<u8>, Vec<u8>> {
+    store.entries().map(|entry| (entry.key().to_vec(), store.get(entry.key()).unwrap().unwrap())).collect()
 }
 
 #[test]
@@ -218,4 +391,26 @@ fn groups_are_kept_in_order() {
     assert_eq!(store.group_pending(second).unwrap(), 0);
     store.group_close(second).unwrap();
     assert_eq!(store.get(b"name").unwrap(), Some(b"data".to_vec()));
+}
+
+/// Behind a sync, where more than 512 groups were made and each is closed or was never engaged.
+#[test]
+fn stores_begin_anew() {
+    let folder = Folder::new("anew");
+    let mut store = folder.store(4);
+    let first = store.group().unwrap();
+    store.group_engage(first, 0).unwrap();
+    store.put_by(0, b"key", b"value").unwrap();
+    store.group_disengage(first, 0).unwrap();
+    let mut last = first;
+    for _ in 1..513 {
+        last = store.group().unwrap();
+    }
+    store.sync().unwrap();
+    assert_eq!(store.group_pending(last).unwrap(), 0);
+    store.group_close(first).unwrap();
+    store.sync().unwrap();
+    assert!(store.group_pending(last).is_err());
+    assert_eq!(store.group().unwrap().number(), 0);
+    assert_eq!(store.get(b"key").unwrap(), Some(b"value".to_vec()));
 }

@@ -143,7 +143,7 @@ fn an_index_that_is_full() {
 #[test]
 fn extents() {
     let folder = Folder::new("extents");
-    let mut store = folder.store(3);
+    let mut store = folder.store_by_hand(3);
     refused!(store.extent(3), Error::NoSuchExtent);
     refused!(store.extent(u32::MAX), Error::NoSuchExtent);
     refused!(store.reclaim(3), Error::NoSuchExtent);
@@ -155,6 +155,30 @@ fn extents() {
     }
     refused!(store.put(b"other", &[0; 32768]), Error::NoSpace);
     assert_eq!(store.get(b"other").unwrap(), None);
+}
+
+/// Three of the longest values: none of their extents has room for another.
+#[test]
+fn a_store_that_is_full() {
+    let folder = Folder::new("full");
+    let mut store = folder.store(4);
+    let values = [vec![1; 32768], vec![2; 32768], vec![3; 32768]];
+    for (key, value) in [b"a", b"b", b"c"].into_iter().zip(&values) {
+        store.put(key, value).unwrap();
+    }
+    refused!(store.put(b"d", &values[0]), Error::NoSpace);
+    refused!(store.put(b"a", &values[1]), Error::NoSpace);
+    assert!(store.statistics().unwrap().live_bytes > 2 * (65536 - 32768 - 1 - 16));
+    assert_eq!(store.get(b"d").unwrap(), None);
+    for (key, value) in [b"a", b"b", b"c"].into_iter().zip(&values) {
+        assert_eq!(store.get(key).unwrap().as_ref(), Some(value));
+    }
+    for (old, new) in [(b"a", b"d"), (b"b", b"a"), (b"c", b"b")] {
+        store.delete(old).unwrap();
+        store.put(new, &values[0]).unwrap();
+    }
+    assert_eq!(store.get(b"d").unwrap().as_ref(), Some(&values[0]));
+    assert_eq!(store.get(b"b").unwrap().as_ref(), Some(&values[0]));
 }
 
 #[test]

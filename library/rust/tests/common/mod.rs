@@ -2,7 +2,7 @@
 
 #![allow(dead_code)] // (not each file of tests has a use for all of it)
 
-use fstch::{Geometry, Store};
+use fstch::{Geometry, Options, Store};
 use std::path::{Path, PathBuf};
 use std::process::Command;
 use std::{env, fs, process};
@@ -45,6 +45,11 @@ impl Folder {
     /// The store of such a file.
     pub fn store(&self, extents: u32) -> Store {
         Store::open(self.made(extents)).unwrap()
+    }
+
+    /// The same, whose puts win no room back.
+    pub fn store_by_hand(&self, extents: u32) -> Store {
+        Store::open_with(self.made(extents), Options::new().manual()).unwrap()
     }
 }
 
