@@ -288,7 +288,7 @@ int32_t fstch_check(const fstch_store *store, uint32_t *entries, uint32_t *exten
 int32_t fstch_entry(const fstch_store *store, uint32_t number, void *key, size_t key_room, size_t *key_length, size_t *value_length);
 
 /* Keys in order: of two keys the first byte that differs decides, and else the shorter one comes first. Of the key that is found and its value
- * all is told as by fstch_entry. A call takes about as long however many keys there are, and keys may be put and deleted between two.
+ * all is told as by fstch_entry. Keys may be put and deleted between two calls.
  *
  *     uint8_t from[FSTCH_MAX_KEY + 1], key[FSTCH_MAX_KEY];
  *     size_t from_length = 0, length, value_length;
@@ -344,7 +344,7 @@ typedef struct fstch_statistics {
     uint64_t waves;
 } fstch_statistics;
 
-/* Sets all of `statistics`. It takes no memory, and about as long as there are extents. */
+/* Sets all of `statistics`. It takes no memory. */
 int32_t fstch_stats(const fstch_store *store, fstch_statistics *statistics);
 
 /* Groups: an order in which changes reach the file. It costs what its syncs of the file cost, which one fstch_sync makes for all groups
