@@ -37,7 +37,7 @@ use Rattle.patch_history.specs.History.{History, Event, Call, IsWhole, IsCut, af
 use Rattle.patch_store.specs.HistoryLaws.{Given}
 use Rattle.patch_store.specs.Meaning.{Store, IsStoreOf, HasGained, HasAnswered}
 use Rattle.patch_store.specs.Framing.{framing, StandsBehind, IsFramed, IsFramedInPart}
-use Rattle.patch_store.specs.Moving.{IsStanding, IsCached, frame_cached, IsMovable, reset_of, IsEmptied, IsReclaiming, HaveMoved, plan_at, IsReclaimedInPart}
+use Rattle.patch_store.specs.Moving.{IsStanding, IsCached, frame_cached, IsMovable, reset_of, IsEmptied, IsReclaiming, HaveMoved, plan_at, IsReclaimedInPart, HasMovedWithin}
 use Rattle.patch_store.proofs.Counted.{creates_all, onto_length}
 use Rattle.patch_store.proofs.Gaining.{fold_push, run_push, gained, refused, right_caused}
 use Rattle.patch_store.proofs.Moves.{named_none, patches_none, IsMove, move_cases, move_made, moves_joined, moves_keep, IsLater, join_stands, widen_stands, whole_few, cut_few, cut_longer}
@@ -259,6 +259,12 @@ module _ (given : Given) (h : History) (extent : ℕ) (slots : List ℕ) (old : 
         join_stands given.shelves st now m.moved one m.steps steps old mid new (later before mid m more) (creates_all st m.moved m.steps m.whole) m.stands
         (subst (λ p. StandsBehind now None p steps mid new) same_plan a)
 
+    -- these are the moves up to it
+    moves_with_it : moves st.map.entries st.shelf (made_by st) (before ++ f ∷ []) ≡ Some (m.moved ++ one)
+    moves_with_it =
+        moves_joined st.map.entries before (f ∷ []) st.shelf (made_by st) m.moved one m.moved_is
+        (move_made st.map.entries (shelf_behind h m.moved) (next_behind h m.moved) move.extent f [] [] move.chosen refl ∙ ap (λ p. Some p) (append-nil one))
+
     -- it has moved too
     pub one_moved : (new : Store)
         → ((at : Standing) (e : ℕ) (d : Content) → IsMovable at f.0 e d mid → IsFramed (framing at None f.0 e d) mid new)
@@ -268,8 +274,7 @@ module _ (given : Given) (h : History) (extent : ℕ) (slots : List ℕ) (old : 
         let behind = behind_so given.shelves st now m.moved m.steps (later before mid m more) in
         record {
           moved = m.moved ++ one;
-          moved_is = moves_joined st.map.entries before (f ∷ []) st.shelf (made_by st) m.moved one m.moved_is
-              (move_made st.map.entries (shelf_behind h m.moved) (next_behind h m.moved) move.extent f [] [] move.chosen refl ∙ ap (λ p. Some p) (append-nil one));
+          moved_is = moves_with_it;
           steps = m.steps ++ framed_is.steps;
           whole = given.joins st now m.moved one m.steps framed_is.steps behind m.whole (subst (λ p. IsWhole now p framed_is.steps) same_plan framed_is.whole);
           stands = joined framed_is.steps new framed_is.stands;
@@ -295,6 +300,21 @@ module _ (given : Given) (h : History) (extent : ℕ) (slots : List ℕ) (old : 
               (joined begun.steps new begun.stands));
         }
 
+    -- and stopped within the moves up to it
+    pub one_within : (most frames : ℕ) → frames ≤ most → take frames (live_frames st.shelf extent) ≡ before ++ f ∷ [] → (new : Store)
+        → ((at : Standing) (e : ℕ) (d : Content) → IsMovable at f.0 e d mid → IsFramedInPart (framing at None f.0 e d) mid new)
+        → HasMovedWithin h extent most new
+    one_within most frames few taken new moves_so =
+        let begun = moves_so now move.extent c movable in
+        record {
+          frames = frames;
+          few = few;
+          moved = m.moved ++ one;
+          moved_is = ap (moves st.map.entries st.shelf (made_by st)) taken ∙ moves_with_it;
+          count = creates (m.steps ++ begun.steps);
+          shelf_is = (joined begun.steps new begun.stands).shelf_is;
+        }
+
   -- The frame of the slot at a place.
 
   module _ (k slot : ℕ) (within : k < length slots) (at_place : get_or slots k slot ≡ slot) (mid : Store)
@@ -318,14 +338,21 @@ module _ (given : Given) (h : History) (extent : ℕ) (slots : List ℕ) (old : 
         (one_moved (take k live_all) split.item split.rest mid m split.parts new
         (subst (λ x. (at : Standing) (e : ℕ) (d : Content) → IsMovable at x e d mid → IsFramed (framing at None x e d) mid new) same_slot moves_so))
 
-    pub slot_stopped : (new : Store)
+    pub slot_stopped : (most : ℕ) → k < most → (new : Store)
         → ((at : Standing) (e : ℕ) (d : Content) → IsMovable at slot e d mid → IsFramedInPart (framing at None slot e d) mid new)
-        → IsReclaimedInPart h extent old new
-    slot_stopped new moves_so =
-        one_stopped (take k live_all) split.item split.rest mid m split.parts new
-        (subst (λ x. (at : Standing) (e : ℕ) (d : Content) → IsMovable at x e d mid → IsFramedInPart (framing at None x e d) mid new) same_slot moves_so)
+        → IsReclaimedInPart h extent old new × HasMovedWithin h extent most new
+    slot_stopped most fewer new moves_so =
+        let so = subst (λ x. (at : Standing) (e : ℕ) (d : Content) → IsMovable at x e d mid → IsFramedInPart (framing at None x e d) mid new) same_slot moves_so in (
+          one_stopped (take k live_all) split.item split.rest mid m split.parts new so,
+          one_within (take k live_all) split.item split.rest mid m split.parts most (k + 1) (omega (arith, fewer)) split.more new so,
+        )
 
   -- Some first ones.
+
+  -- and no others
+  pub moved_within : (k most : ℕ) (mid : Store) → k ≤ most → HaveMoved h (take k (live_frames st.shelf extent)) old mid → HasMovedWithin h extent most mid
+  moved_within k most mid few m =
+      record { frames = k; few = few; moved = m.moved; moved_is = m.moved_is; count = creates m.steps; shelf_is = m.stands.shelf_is }
 
   -- where others are left the reclaim is given up there
   pub some_moved : (k : ℕ) (mid : Store) → k < length slots → HaveMoved h (take k (live_frames st.shelf extent)) old mid → IsReclaimedInPart h extent old mid
@@ -420,3 +447,16 @@ pub refused_reclaim : HistoriesExtend → (h : History) (writer extent : ℕ) (c
 refused_reclaim extends h writer extent cause old was is =
     refused extends h writer (Reclaim extent) cause old old was
     (right_caused (standing_of h) writer (Reclaim extent) (why_not_reclaimed (standing_of h) extent) cause Done refl is) refl
+
+-- Within the moves of so many frames.
+
+-- of a greater number
+pub more_within : (h : History) (extent few most : ℕ) (new : Store) → few ≤ most → HasMovedWithin h extent few new → HasMovedWithin h extent most new
+more_within h extent few most new less is =
+    let low = is.few in
+    record { frames = is.frames; few = omega (arith, less, low); moved = is.moved; moved_is = is.moved_is; count = is.count; shelf_is = is.shelf_is }
+
+-- nothing moved
+pub none_within : (h : History) (extent most : ℕ) (s : Store) → IsStoreOf s h → HasMovedWithin h extent most s
+none_within h extent most s is =
+    record { frames = 0; few = omega arith; moved = []; moved_is = refl; count = 0; shelf_is = is.shelf_is }

@@ -1,6 +1,6 @@
 -- A store that begins anew is one of the blocks as they were cached.
-use Rattle.std.proofs.Common.{◌≡◌, ℕ, ◌+◌, ◌<◌, ◌∙◌, List, [], ◌++◌, length, map, take, drop, replicate, get_or, Result, Ok, Err, refl, sym, ap, append-nil, arith}
-use Rattle.std.specs.Prelude.{All, Option, None, find, nat_le, ◌&&◌, slice_set}
+use Rattle.std.proofs.Common.{◌≡◌, ℕ, ◌+◌, ◌<◌, ◌∙◌, List, [], ◌++◌, length, map, take, drop, replicate, get_or, Result, Ok, Err, refl, sym, ap, subst, append-nil, arith}
+use Rattle.std.specs.Prelude.{All, IfSome, Option, None, find, nat_le, ◌&&◌, slice_set}
 use Rattle.std.specs.List.{range_with_len}
 use Rattle.std.specs.Result.{result_map_both}
 use Rattle.std.proofs.lemmas.List.{take_all, drop_all, get_or_default, length-map, length-replicate}
@@ -13,7 +13,7 @@ use Rattle.patch_model.specs.Renewed.{cached_blocks, renewed}
 use Rattle.patch_frame.specs.declared.geometries.Geometry.{Geometry}
 use Rattle.patch_frame.specs.Field.{AreBytes}
 use Rattle.patch_frame.specs.Frame.{Content}
-use Rattle.patch_frame.specs.Geometry.{slot_count, largest_pointer}
+use Rattle.patch_frame.specs.Geometry.{IsGeometry, slot_count, largest_pointer}
 use Rattle.patch_frame.specs.Slot.{SlotFields}
 use Rattle.patch_recovery.specs.Closed.{Opens}
 use Rattle.patch_recovery.specs.Ledger.{Ledger, SaysSame, map_of, value_in}
@@ -32,6 +32,7 @@ use Rattle.patch_store.specs.Opening.{is_open}
 use Rattle.patch_store.specs.Renewing.{shelf_on, renewed_shelf, MayBeginAnew, HasBegunAnew}
 use Rattle.patch_store.proofs.Emptied.{none_left}
 use Rattle.patch_store.proofs.Opened.{found_alike, shelf_with}
+use Rattle.patch_store.proofs.Wholes.{IsWholeOn}
 
 -- Lists that are cleared one after another.
 
@@ -74,6 +75,21 @@ shelf_is g before extents slots current left same now found cleared =
     ap (λ x. shelf_with extents slots x left) (found ∙ ap (λ (x : Geometry). find (is_open extents) (range_with_len 0 x.extents)) same_now)
     ∙ ap (shelf_with extents slots (find (is_open extents) (range_with_len 0 extents.geometry.extents))) (cleared ∙ ap (λ (x : Geometry). replicate x.extents []) same_now)
     ∙ ap (λ x. shelf_on x slots) now
+
+-- it is whole
+pub whole_anew : (g : Geometry) (s : Shelf) (extents : Extents) (current : Option ℕ) (left : List (List ℕ)) → IsWholeOn g s → extents ≡ unpatched s.extents
+    → IfSome current (λ extent. extent < g.extents) → left ≡ replicate g.extents [] → IsWholeOn g (shelf_with extents s.slots current left)
+whole_anew g s extents current left whole now known cleared =
+    let kept : s.extents.geometry ≡ extents.geometry = sym (ap (λ (x : Extents). x.geometry) now) in
+    let same : g ≡ extents.geometry = whole.0 ∙ kept in (
+      same,
+      record {
+        geometry = subst IsGeometry kept whole.1.geometry;
+        slots = whole.1.slots ∙ ap slot_count kept;
+        left = ap length cleared ∙ length-replicate g.extents [] ∙ ap (λ (x : Geometry). x.extents) same;
+        current = subst (λ (x : Geometry). IfSome current (λ extent. extent < x.extents)) same known;
+      },
+    )
 
 abbrev divided_so : Geometry → List Extent → Extents
 divided_so g each = record { geometry = g; each = each }

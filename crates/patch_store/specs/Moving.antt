@@ -1,5 +1,5 @@
 -- How an extent is won back: its live frames move, and it is emptied.
-use Rattle.std.specs.Prelude.{ℕ, ◌≡◌, List, length, map, take, Some, None, Result, Ok, MatchResult, IfOk, Vec}
+use Rattle.std.specs.Prelude.{ℕ, ◌≡◌, ◌≤◌, List, length, map, take, Some, None, Result, Ok, MatchResult, IfOk, Vec}
 use Rattle.patch_model.specs.declared.refusals.OutOfMemory.{OutOfMemory}
 use Rattle.patch_model.specs.Step.{Step}
 use Rattle.patch_model.specs.Execution.{Execution}
@@ -17,7 +17,7 @@ use Rattle.patch_history.specs.Command.{Reclaim}
 use Rattle.patch_history.specs.History.{History, IsWhole, IsCut, standing_of}
 use Rattle.patch_history.specs.Planning.{moves}
 use Rattle.patch_history.specs.Refusing.{why_not_reclaimed}
-use Rattle.patch_history.specs.Shelf.{Shelf, slot_at, left_of}
+use Rattle.patch_history.specs.Shelf.{Shelf, slot_at, left_of, after_plan}
 use Rattle.patch_history.specs.StoreState.{Standing, made_by, plan_of}
 use Rattle.patch_store.specs.Meaning.{Store, IsStoreOf}
 use Rattle.patch_store.specs.Framing.{setting_of, framing, StandsBehind, IsFramed, IsFramedInPart}
@@ -109,9 +109,19 @@ pub record IsReclaimedInPart (h : History) (extent : ℕ) (old new : Store) : Ty
   pub cut : IsCut (standing_of h) (plan_at h extent) steps
   pub stands : StandsBehind (standing_of h) None (plan_at h extent) steps old new
 
--- the frames of so many first slots move, one after another, or fewer, where memory ran out
+-- The shelf is as some first patches of the moves of some first frames of the extent leave it, at most so many frames.
+pub record HasMovedWithin (h : History) (extent most : ℕ) (new : Store) : Type 0 where
+  pub frames : ℕ
+  pub few : frames ≤ most
+  pub moved : List Made
+  pub moved_is : moves (standing_of h).map.entries (standing_of h).shelf (made_by (standing_of h))
+      (take frames (live_frames (standing_of h).shelf extent)) ≡ Some moved
+  pub count : ℕ
+  pub shelf_is : new.shelf ≡ after_plan (standing_of h).shelf (made_by (standing_of h)) (take count moved)
+
+-- The frames of so many first slots move, one after another. Where memory ran out the reclaim is begun, within their moves.
 abbrev pub MovesFrames : (slots : List ℕ) (count : ℕ) → Result (Unit {0}) OutOfMemory → (old new : Store) → Type 0
 MovesFrames slots count result old new =
     (h : History) (extent : ℕ) → IsReclaiming h extent slots old → MatchResult result
     (λ _. HaveMoved h (take count (live_frames (standing_of h).shelf extent)) old new)
-    (λ _. IsReclaimedInPart h extent old new)
+    (λ _. IsReclaimedInPart h extent old new × HasMovedWithin h extent count new)

@@ -35,12 +35,12 @@ pub record MayBeginAnew (h : History) : Type 0 where
   pub none_live : count_by is_live (entries_of (execution_of h)) ≡ 0
   pub no_group : why_not_renewed (standing_of h).groups ≡ None
 
--- or some patch is, or some group is in use
+-- or the store may not begin anew: some patch is, or some group is in use
 abbrev pub IsUnderWay : History → Type 0
 IsUnderWay h = MayBeginAnew h → ⊥
 
--- It might, and the store represents the history of no events over the blocks as they were cached. These say the same as before of all
--- that the disk has, and each key has its value.
+-- The history let the store begin anew, and it does: it represents the history of no events over the blocks as they were cached. The
+-- ledger read from these says the same of all that the disk has as the one that the history led to, and each key has its value.
 pub record HasBegunAnew (h : History) (new : Store) : Type 0 where
   pub may : MayBeginAnew h
   pub ledger : Ledger

@@ -19,7 +19,8 @@ loop-at-preserved g c h extent is =
 pub returns-in_default : goal.returns-in_default
 returns-in_default g c h extent is =
     let within : c.loop-at.at < length c.args.slots.now = let t = c.loop-at-test.true in let e = c.loop-at.auto.at-end in let n = c.requires in omega (arith, t, e, n) in
-    slot_stopped c.laws_below.ensures h extent c.args.slots.now c.args.self.now is c.loop-at.at c.nth-slot.result within (get_or_from_slice_get c.args.slots.now c.loop-at.at c.nth-slot.result c.nth-slot.result c.nth-slot.ensures) c.loop-at.self (c.loop-at.invariant h extent is) c.move_frame.new.self
+    let fewer : c.loop-at.at < c.args.count = let t = c.loop-at-test.true in let e = c.loop-at.auto.at-end in omega (arith, t, e) in
+    slot_stopped c.laws_below.ensures h extent c.args.slots.now c.args.self.now is c.loop-at.at c.nth-slot.result within (get_or_from_slice_get c.args.slots.now c.loop-at.at c.nth-slot.result c.nth-slot.result c.nth-slot.ensures) c.loop-at.self (c.loop-at.invariant h extent is) c.args.count fewer c.move_frame.new.self
     (λ at e d m. c.in_default.ensures at e d m)
 
 pub returns : goal.returns

@@ -20,7 +20,7 @@ returns-in_default-clause-answer g c writer h was =
       slots_are = c.in_ok-slots.ensures.slots ∙ ap (λ s. live_slots s c.args.extent) was.shelf_is;
     } in
     stopped_so c.laws_below.ensures h c.args.extent c.in_ok-slots.slots c.args.self.now is writer c.move_frames.new.self
-    (c.in_default.ensures h c.args.extent is)
+    (c.in_default.ensures h c.args.extent is).0
 
 pub returns-in_default-empty_extent-clause-answer : goal.returns-in_default-empty_extent-clause-answer
 returns-in_default-empty_extent-clause-answer g c writer h was =

@@ -1,11 +1,11 @@
-use Rattle.std.proofs.Common.{◌≡◌, ◌<◌, ◌≤◌, ◌∙◌, length, drop, sym, ap, arith}
+use Rattle.std.proofs.Common.{◌≡◌, ◌<◌, ◌≤◌, ◌∙◌, length, drop, refl, sym, ap, subst, arith}
 use Rattle.std.specs.Prelude.{Some}
 use Rattle.std.proofs.lemmas.Result.{err_from_is_err_and}
 use Rattle.patch_history.specs.Choosing.{live_frames}
 use Rattle.patch_history.specs.Refusals.{reclaim_cause}
-use Rattle.patch_store.specs.Moving.{IsReclaiming, live_slots}
+use Rattle.patch_store.specs.Moving.{IsReclaiming, live_slots, HasMovedWithin}
 use Rattle.patch_store.proofs.Leaving.{others_left, none_left}
-use Rattle.patch_store.proofs.Reclaims.{all_moved, some_moved, stopped_so, reclaimed_so, not_emptied_so, refused_reclaim}
+use Rattle.patch_store.proofs.Reclaims.{all_moved, some_moved, moved_within, more_within, none_within, stopped_so, reclaimed_so, not_emptied_so, refused_reclaim}
 use Rattle.patch_store.proofs.stores.Store.reclaim_some.Goals as goal
 
 pub returns-in_err-slots-clause-answer : goal.returns-in_err-slots-clause-answer
@@ -21,7 +21,7 @@ returns-in_default-clause-answer g c writer h was =
       no_cause = c.in_ok-slots.ensures.none h was;
       slots_are = c.in_ok-slots.ensures.slots ∙ ap (λ s. live_slots s c.args.extent) was.shelf_is;
     } in
-    stopped_so c.laws_below.ensures h c.args.extent c.in_ok-slots.slots c.args.self.now is writer c.move_frames.new.self (c.in_default.ensures h c.args.extent is)
+    stopped_so c.laws_below.ensures h c.args.extent c.in_ok-slots.slots c.args.self.now is writer c.move_frames.new.self (c.in_default.ensures h c.args.extent is).0
 
 pub returns-then-count-len-clause-answer : goal.returns-then-count-len-clause-answer
 returns-then-count-len-clause-answer g c writer h was =
@@ -79,3 +79,44 @@ returns-clause-moved g c h was =
     let enough : length c.in_ok-slots.slots ≤ c.args.most = let l = c.len.ensures in let m = c.min-count.ensures in omega (arith, l, m, end) in
     none_left h c.args.extent c.in_ok-slots.slots c.args.self.now is c.laws_below.ensures c.min-count.result c.args.most c.move_frames.new.self
     c.empty_extent.new.self end enough (c.in-Ok.ensures h c.args.extent is) (λ at stands. c.in-Ok-empty_extent.ensures at stands)
+
+pub returns-in_err-slots-clause-within : goal.returns-in_err-slots-clause-within
+returns-in_err-slots-clause-within g c h was others =
+    none_within h c.args.extent c.args.most c.args.self.now was
+
+pub returns-in_default-clause-within : goal.returns-in_default-clause-within
+returns-in_default-clause-within g c h was others =
+    let is : IsReclaiming h c.args.extent c.in_ok-slots.slots c.args.self.now = record {
+      represents = was;
+      no_cause = c.in_ok-slots.ensures.none h was;
+      slots_are = c.in_ok-slots.ensures.slots ∙ ap (λ s. live_slots s c.args.extent) was.shelf_is;
+    } in
+    let few : c.min-count.result ≤ c.args.most = let l = c.len.ensures in let m = c.min-count.ensures in omega (arith, l, m) in
+    more_within h c.args.extent c.min-count.result c.args.most c.move_frames.new.self few (c.in_default.ensures h c.args.extent is).1
+
+pub returns-then-count-len-clause-within : goal.returns-then-count-len-clause-within
+returns-then-count-len-clause-within g c h was others =
+    let is : IsReclaiming h c.args.extent c.in_ok-slots.slots c.args.self.now = record {
+      represents = was;
+      no_cause = c.in_ok-slots.ensures.none h was;
+      slots_are = c.in_ok-slots.ensures.slots ∙ ap (λ s. live_slots s c.args.extent) was.shelf_is;
+    } in
+    let few : c.min-count.result ≤ c.args.most = let l = c.len.ensures in let m = c.min-count.ensures in omega (arith, l, m) in
+    moved_within c.laws_below.ensures h c.args.extent c.in_ok-slots.slots c.args.self.now is c.min-count.result c.args.most c.move_frames.new.self few
+    (c.in-Ok.ensures h c.args.extent is)
+
+pub returns-in_default-empty_extent-clause-within : goal.returns-in_default-empty_extent-clause-within
+returns-in_default-empty_extent-clause-within g c h was others =
+    let is : IsReclaiming h c.args.extent c.in_ok-slots.slots c.args.self.now = record {
+      represents = was;
+      no_cause = c.in_ok-slots.ensures.none h was;
+      slots_are = c.in_ok-slots.ensures.slots ∙ ap (λ s. live_slots s c.args.extent) was.shelf_is;
+    } in
+    let few : c.min-count.result ≤ c.args.most = let l = c.len.ensures in let m = c.min-count.ensures in omega (arith, l, m) in
+    subst (HasMovedWithin h c.args.extent c.args.most) (sym c.in_default-empty_extent.ensures)
+    (moved_within c.laws_below.ensures h c.args.extent c.in_ok-slots.slots c.args.self.now is c.min-count.result c.args.most c.move_frames.new.self few
+    (c.in-Ok.ensures h c.args.extent is))
+
+pub returns-clause-within : goal.returns-clause-within
+returns-clause-within g c h was others =
+    absurd (others refl)
