@@ -28,7 +28,7 @@ use Rattle.patch_store.specs.Running.{with_calls}
 use Rattle.patch_room.specs.Laws.{shelf_in, with_reclaim}
 use Rattle.patch_room.specs.LawsBelow.{Given}
 use Rattle.patch_history.specs.Refusing.{reply_of}
-use Rattle.patch_room.specs.Putting.{IsVictim, IsNeeded, HasPut, MayBePut, WonNothing, WinsBack, HasReclaimed, calls_in, wants_room, as_put}
+use Rattle.patch_room.specs.Putting.{IsVictim, IsNeeded, HasPutAtNeed, MayBePut, WonNothing, WinsBack, HasReclaimed, calls_at_need, wants_room, as_put}
 use Rattle.patch_room.specs.Room.{HasEmpty, NoneWorthWinning, IsFull}
 use Rattle.patch_room.proofs.Counting.{disks_are_full}
 use Rattle.patch_room.proofs.Doing.{standing_event}
@@ -44,14 +44,9 @@ joined h event events = ap (λ es. record h { events = es }) (append_assoc h.eve
 
 -- The put alone.
 pub put_alone : (h : History) (most writer : ℕ) (c : Content) (reply : Reply) (old new : Store)
-    → HasAnswered h writer (Put c.key c.value) reply old new → HasPut h most writer c reply old new
+    → HasAnswered h writer (Put c.key c.value) reply old new → HasPutAtNeed h most writer c reply old new
 put_alone h most writer c reply old new answered = record {
-  won = [];
-  few = omega arith;
-  last = Put c.key c.value;
-  last_is = inl refl;
-  needed = tt;
-  steps = answered.steps;
+  need = record { won = []; few = omega arith; last = Put c.key c.value; last_is = inl refl; needed = tt; steps = answered.steps };
   represents = answered.gained.represents;
   trace_is = answered.gained.trace_is ∙ ap (λ steps. old.cache.trace ++ steps) (sym (append-nil answered.steps));
   map_is = ap (λ (st : Standing). st.map) (standing_event h (Call writer (Put c.key c.value) reply answered.steps));
@@ -64,14 +59,9 @@ map_refused m c e reply t = rw t refl
 -- A reclaim that is refused ends it.
 pub put_stopped : (h : History) (most writer e : ℕ) (c : Content) (reply : Reply) (steps : List Step) (old new : Store)
     → IsNeeded h writer c e → is_refused reply ≡ true → HasGained h (Call writer (Reclaim e) reply steps) old new
-    → HasPut h most writer c reply old new
+    → HasPutAtNeed h most writer c reply old new
 put_stopped h most writer e c reply steps old new needed t gained = record {
-  won = [];
-  few = omega arith;
-  last = Reclaim e;
-  last_is = inr (e, refl, t);
-  needed = needed;
-  steps = steps;
+  need = record { won = []; few = omega arith; last = Reclaim e; last_is = inr (e, refl, t); needed = needed; steps = steps };
   represents = gained.represents;
   trace_is = gained.trace_is ∙ ap (λ steps. old.cache.trace ++ steps) (sym (append-nil steps));
   map_is = ap (λ (st : Standing). st.map) (standing_event h (Call writer (Reclaim e) reply steps)) ∙ map_refused (standing_of h).map c e reply t;
@@ -80,17 +70,19 @@ put_stopped h most writer e c reply steps old new needed t gained = record {
 -- One that is done comes before it.
 pub put_behind : (h : History) (most writer e : ℕ) (c : Content) (reply : Reply) (steps : List Step) (old mid new : Store)
     → IsNeeded h writer c e → HasGained h (Call writer (Reclaim e) Done steps) old mid
-    → HasPut (with_reclaim h writer e steps) most writer c reply mid new → HasPut h (suc most) writer c reply old new
+    → HasPutAtNeed (with_reclaim h writer e steps) most writer c reply mid new → HasPutAtNeed h (suc most) writer c reply old new
 put_behind h most writer e c reply steps old mid new needed gained done =
     let event = Call writer (Reclaim e) Done steps in
-    let later = calls_in writer done.won done.last reply done.steps in
+    let later = calls_at_need done.need in
     let same = joined h event later in record {
-      won = record { extent = e; steps = steps } ∷ done.won;
-      few = (let few = done.few in omega (arith, few));
-      last = done.last;
-      last_is = done.last_is;
-      needed = (needed, done.needed);
-      steps = done.steps;
+      need = record {
+        won = record { extent = e; steps = steps } ∷ done.need.won;
+        few = (let few = done.need.few in omega (arith, few));
+        last = done.need.last;
+        last_is = done.need.last_is;
+        needed = (needed, done.need.needed);
+        steps = done.need.steps;
+      };
       represents = subst (IsStoreOf new) same done.represents;
       trace_is =
           done.trace_is ∙ ap (λ trace. trace ++ flat_map steps_in later) gained.trace_is
@@ -214,10 +206,10 @@ module _ (given : Given) (h : History) (writer : ℕ) (c : Content) (old mid : S
   -- An extent that isn't won back ends it.
 
   pub stopped : (most : ℕ) (reply : Reply) (new : Store) → is_refused reply ≡ true
-      → WonNothing (length_of c) reply mid new ⊎ HasReclaimed h writer (length_of c) reply mid new → HasPut h most writer c reply old new
+      → WonNothing (length_of c) reply mid new ⊎ HasReclaimed h writer (length_of c) reply mid new → HasPutAtNeed h most writer c reply old new
   stopped most reply new refused (inl nothing) =
-      subst (λ s. HasPut h most writer c reply old s) (sym nothing.same)
-      (subst (λ reply. HasPut h most writer c reply old mid) (sym nothing.reply_is)
+      subst (λ s. HasPutAtNeed h most writer c reply old s) (sym nothing.same)
+      (subst (λ reply. HasPutAtNeed h most writer c reply old mid) (sym nothing.reply_is)
       (put_alone h most writer c (Refused (bare kind.NoSpace)) old mid found.answered))
   stopped most reply new refused (inr won) =
       put_stopped h most writer won.extent c reply won.steps old new (is_needed won.extent won.victim) refused
@@ -246,8 +238,8 @@ module _ (given : Given) (h : History) (writer : ℕ) (c : Content) (old mid : S
     abbrev pub after : History
     after = with_reclaim h writer won.extent won.steps
 
-    pub goes_on : (most : ℕ) (reply : Reply) (new : Store) → HasPut after most writer c reply later new
-        → HasPut h (suc most) writer c reply old new
+    pub goes_on : (most : ℕ) (reply : Reply) (new : Store) → HasPutAtNeed after most writer c reply later new
+        → HasPutAtNeed h (suc most) writer c reply old new
     goes_on most reply new done =
         put_behind h most writer won.extent c reply won.steps old later new (is_needed won.extent won.victim)
         (subst (λ s. HasGained h (Call writer (Reclaim won.extent) Done won.steps) s later) found.same won.gained) done

@@ -5,8 +5,7 @@ use Rattle.std.proofs.lemmas.Bool.{cases_Bool}
 use Rattle.std.proofs.lemmas.Bool.Decides.{nat_tests}
 use Rattle.patch_history.specs.Shelf.{Shelf}
 use Rattle.patch_room.specs.Candidates.{cheaper}
-use Rattle.patch_room.specs.Putting.{IsCheapest}
-use Rattle.patch_room.specs.Room.{extent_count, extent_bytes, live_in, MayBeWon, NoneWorthWinning}
+use Rattle.patch_room.specs.Room.{extent_count, extent_bytes, live_in, IsCheapest, MayBeWon, NoneWorthWinning}
 use Rattle.patch_room.specs.declared.choosing.Candidate.{Candidate}
 
 -- of the extents below this number that may be won back it is the cheapest

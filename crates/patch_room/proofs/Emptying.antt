@@ -41,7 +41,7 @@ change_counts s n (Fill slot fields) = (refl, refl)
 change_counts s n (Clear slot) = (refl, refl)
 change_counts s n Widen = (refl, refl)
 
-plan_counts : (s : Shelf) (n : ℕ) (p : List Made) → (length (after_plan s n p).extents.each ≡ length s.extents.each)
+pub plan_counts : (s : Shelf) (n : ℕ) (p : List Made) → (length (after_plan s n p).extents.each ≡ length s.extents.each)
     × (extent_count (after_plan s n p) ≡ extent_count s)
 plan_counts s n [] = (refl, refl)
 plan_counts s n (m ∷ p) =

@@ -93,19 +93,20 @@ rest_of p None plan h = absurd (let no : None ≡ Some plan = h in cc)
 rest_of p (Some rest) plan h = (rest, refl, (let g : Some (p ++ rest) ≡ Some plan = h in cc))
 
 -- the first of the moves, where all can be made
-record IsMove (entries : List Content) (s : Shelf) (n : ℕ) (f : ℕ × SlotFields) (fs : List (ℕ × SlotFields)) (plan : List Made) : Type 0 where
-  extent : ℕ
-  rest : List Made
-  go_on : moves entries (after_plan s n (frame_plan s n extent f.0 (content_of entries f.1))) (n + length (frame_plan s n extent f.0 (content_of entries f.1))) fs ≡ Some rest
-  are : frame_plan s n extent f.0 (content_of entries f.1) ++ rest ≡ plan
+pub record IsMove (entries : List Content) (s : Shelf) (n : ℕ) (f : ℕ × SlotFields) (fs : List (ℕ × SlotFields)) (plan : List Made) : Type 0 where
+  pub extent : ℕ
+  pub chosen : extent_for_move s f.1.length ≡ Some extent
+  pub rest : List Made
+  pub go_on : moves entries (after_plan s n (frame_plan s n extent f.0 (content_of entries f.1))) (n + length (frame_plan s n extent f.0 (content_of entries f.1))) fs ≡ Some rest
+  pub are : frame_plan s n extent f.0 (content_of entries f.1) ++ rest ≡ plan
 
-first_move : (entries : List Content) (s : Shelf) (n : ℕ) (f : ℕ × SlotFields) (fs : List (ℕ × SlotFields)) (plan : List Made) (o : Option ℕ)
+pub first_move : (entries : List Content) (s : Shelf) (n : ℕ) (f : ℕ × SlotFields) (fs : List (ℕ × SlotFields)) (plan : List Made) (o : Option ℕ)
     → extent_for_move s f.1.length ≡ o → moves entries s n (f ∷ fs) ≡ Some plan → IsMove entries s n f fs plan
 first_move entries s n f fs plan None at h = absurd (let no : None ≡ Some plan = rw (at, moves) at h in cc)
 first_move entries s n f fs plan (Some extent) at h =
     let p = frame_plan s n extent f.0 (content_of entries f.1) in
     let rest = rest_of p (moves entries (after_plan s n p) (n + length p) fs) plan (rw (at, moves) at h) in
-    record { extent = extent; rest = rest.0; go_on = rest.1; are = rest.2 }
+    record { extent = extent; chosen = at; rest = rest.0; go_on = rest.1; are = rest.2 }
 
 moves_keep : (ks : List (Option (List ℕ))) (entries : List Content) (s : Shelf) (n : ℕ) (fs : List (ℕ × SlotFields)) (plan : List Made)
     → EachFrame (λ f. HasKey ks f.0 f.1.key) fs → moves entries s n fs ≡ Some plan → AllKeep ks plan

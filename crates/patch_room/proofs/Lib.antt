@@ -10,3 +10,6 @@ pub mod Keys
 pub mod Reaching
 pub mod Cheapest
 pub mod Calling
+pub mod Staying
+pub mod Cutting
+pub mod Steps

@@ -30,11 +30,11 @@ use Rattle.patch_room.proofs.Moving.{IsEmptyOne, IsSized, HasRoom, Goes, all_go,
 
 -- What stands against a reclaim of an extent that may be won back: that its frames find no room, or that its patches don't.
 
-no_frames : (fs : List (ℕ × SlotFields)) → EachFrame (λ f. 1 ≤ f.1.length) fs → bytes_of fs ≡ 0 → fs ≡ []
+pub no_frames : (fs : List (ℕ × SlotFields)) → EachFrame (λ f. 1 ≤ f.1.length) fs → bytes_of fs ≡ 0 → fs ≡ []
 no_frames [] all none = refl
 no_frames (f ∷ fs) all none = let some = all.0 in absurd (omega (arith, some, none))
 
-is_current_is : (s : Shelf) (e : ℕ) (o : Option ℕ) → s.current ≡ o → is_current s e ≡ true → s.current ≡ Some e
+pub is_current_is : (s : Shelf) (e : ℕ) (o : Option ℕ) → s.current ≡ o → is_current s e ≡ true → s.current ≡ Some e
 is_current_is s e None at t = absurd (let no : false ≡ true = rw at at t in cc)
 is_current_is s e (Some c) at t =
     let on : (c == e) ≡ true = rw at at t in
@@ -62,14 +62,14 @@ module _ (given : Given) (h : History) (legal : IsLegalHistory h) where
       ap length_of (sym there.content) ∙ there.named.length in
       (long, omega (arith, length_is))
 
-  frames_sized : (e : ℕ) → EachFrame (IsSized entries) (live_frames s e)
+  pub frames_sized : (e : ℕ) → EachFrame (IsSized entries) (live_frames s e)
   frames_sized e = each_live (IsSized entries) s e sized
 
   -- the extents are kept as the disk is divided
-  count : length s.extents.each ≡ extent_count s
+  pub count : length s.extents.each ≡ extent_count s
   count = (given.extents h legal).whole.count
 
-  current_there : (c : ℕ) → s.current ≡ Some c → (c < extent_count s) × (1 ≤ offset_at s.extents c)
+  pub current_there : (c : ℕ) → s.current ≡ Some c → (c < extent_count s) × (1 ≤ offset_at s.extents c)
   current_there c at =
       let agree = given.agree h legal in
       let same = ap (λ g. g.extents) (given.kept h).geometry in

@@ -1,5 +1,5 @@
--- How a put goes that wins room back.
-use Rattle.std.specs.Prelude.{ℕ, Bool, true, false, None, ◌≡◌, ◌≢◌, ◌+◌, ◌<◌, ◌≤◌, ◌⊎◌, List, [], ◌∷◌, ◌++◌, length, flat_map}
+-- How a put goes that wins room back, at need and ahead of it.
+use Rattle.std.specs.Prelude.{ℕ, Bool, true, false, None, ◌≡◌, ◌≢◌, ◌+◌, ◌≤◌, ◌⊎◌, List, [], ◌∷◌, ◌++◌, length, flat_map}
 use Rattle.patch_model.specs.declared.refusals.RefusalKind.TheVariants as kind
 use Rattle.patch_model.specs.Refusing.{bare}
 use Rattle.patch_model.specs.Step.{Step}
@@ -18,16 +18,11 @@ use Rattle.patch_history.specs.Shelf.{Shelf}
 use Rattle.patch_history.specs.StoreState.{Standing}
 use Rattle.patch_store.specs.Meaning.{Store, IsStoreOf, HasGained}
 use Rattle.patch_store.specs.Running.{with_calls}
+use Rattle.patch_room.specs.Ahead.{GoesAhead}
 use Rattle.patch_room.specs.Laws.{shelf_in, with_reclaim}
-use Rattle.patch_room.specs.Room.{extent_bytes, live_in, MayBeWon, NoneWorthWinning}
+use Rattle.patch_room.specs.Room.{extent_bytes, live_in, IsCheapest, NoneWorthWinning}
 
--- Of the extents that may be won back this one has the fewest live bytes, and is the lowest of those with as few.
-pub record IsCheapest (s : Shelf) (extent : ℕ) : Type 0 where
-  pub may : MayBeWon s extent
-  pub least : (other : ℕ) → MayBeWon s other
-      → (live_in s extent < live_in s other) ⊎ ((live_in s extent ≡ live_in s other) × (extent ≤ other))
-
--- and its live bytes leave room for so many more
+-- the extent that is won back next, whose live bytes leave room for so many more
 pub record IsVictim (s : Shelf) (len extent : ℕ) : Type 0 where
   pub cheapest : IsCheapest s extent
   pub fits : live_in s extent + len ≤ extent_bytes s
@@ -63,19 +58,46 @@ IsLast c reply command =
 abbrev pub calls_in : (writer : ℕ) → List Won → Command → Reply → List Step → List Event
 calls_in writer won last reply steps = reclaims writer won ++ Call writer last reply steps ∷ []
 
--- So many extents at most were won back, and then the put has its reply: the store represents the history with these calls at
--- its end, the trace has their steps, and the map is as the put alone leaves it.
-pub record HasPut (h : History) (most writer : ℕ) (c : Content) (reply : Reply) (old new : Store) : Type 0 where
+-- Of a put: the extents that were won back for it, so many at most, and its last call.
+pub record AtNeed (h : History) (most writer : ℕ) (c : Content) (reply : Reply) : Type 0 where
   pub won : List Won
   pub few : length won ≤ most
   pub last : Command
   pub last_is : IsLast c reply last
   pub needed : AreNeeded h writer c won last
   pub steps : List Step
-  pub represents : IsStoreOf new (with_calls h (calls_in writer won last reply steps))
-  pub trace_is : new.cache.trace ≡ old.cache.trace ++ flat_map steps_in (calls_in writer won last reply steps)
-  pub map_is : (standing_of (with_calls h (calls_in writer won last reply steps))).map
-      ≡ after_reply (standing_of h).map (Put c.key c.value) reply
+
+-- its calls
+abbrev pub calls_at_need : {h : History} {most writer : ℕ} {c : Content} {reply : Reply} → AtNeed h most writer c reply → List Event
+calls_at_need {h} {most} {writer} {c} {reply} need = calls_in writer need.won need.last reply need.steps
+
+-- The put has its reply with these calls alone: the store represents the history with them at its end, the trace has their steps,
+-- and the map is as the put leaves it.
+pub record HasPutAtNeed (h : History) (most writer : ℕ) (c : Content) (reply : Reply) (old new : Store) : Type 0 where
+  pub need : AtNeed h most writer c reply
+  pub represents : IsStoreOf new (with_calls h (calls_at_need need))
+  pub trace_is : new.cache.trace ≡ old.cache.trace ++ flat_map steps_in (calls_at_need need)
+  pub map_is : (standing_of (with_calls h (calls_at_need need))).map ≡ after_reply (standing_of h).map (Put c.key c.value) reply
+
+-- so it is behind each history that the store represented
+abbrev pub PutsAtNeed : (most writer : ℕ) → Content → Reply → (old new : Store) → Type 0
+PutsAtNeed most writer c reply old new = (h : History) → IsStoreOf old h → HasPutAtNeed h most writer c reply old new
+
+-- The calls of a put: those at need, and behind a put that was done one that moves frames ahead, where it is time. With them the map
+-- is as the put alone leaves it.
+pub record IsPut (h : History) (most writer : ℕ) (c : Content) (reply : Reply) (calls : List Event) : Type 0 where
+  pub need : AtNeed h most writer c reply
+  pub ahead : List Event
+  pub ahead_is : GoesAhead (with_calls h (calls_at_need need)) writer reply ahead
+  pub calls_are : calls ≡ calls_at_need need ++ ahead
+  pub map_is : (standing_of (with_calls h calls)).map ≡ after_reply (standing_of h).map (Put c.key c.value) reply
+
+-- the store represents the history with these calls at its end, and the trace has their steps
+pub record HasPut (h : History) (most writer : ℕ) (c : Content) (reply : Reply) (old new : Store) : Type 0 where
+  pub calls : List Event
+  pub put : IsPut h most writer c reply calls
+  pub represents : IsStoreOf new (with_calls h calls)
+  pub trace_is : new.cache.trace ≡ old.cache.trace ++ flat_map steps_in calls
 
 -- so it is behind each history that the store represented
 abbrev pub PutsInRoom : (most writer : ℕ) → Content → Reply → (old new : Store) → Type 0

@@ -45,6 +45,12 @@ pub record MayBeWon (s : Shelf) (extent : ℕ) : Type 0 where
   pub idle : s.current ≡ Some extent → live_in s extent ≡ 0
   pub fresh : generation_at s.extents extent ≢ 4294967295
 
+-- Of the extents that may be won back this one has the fewest live bytes, and is the lowest of those with as few.
+pub record IsCheapest (s : Shelf) (extent : ℕ) : Type 0 where
+  pub may : MayBeWon s extent
+  pub least : (other : ℕ) → MayBeWon s other
+      → (live_in s extent < live_in s other) ⊎ ((live_in s extent ≡ live_in s other) × (extent ≤ other))
+
 -- what is live in each such extent leaves no room for so many bytes more
 abbrev pub NoneWorthWinning : Shelf → (len : ℕ) → Type 0
 NoneWorthWinning s len = (extent : ℕ) → MayBeWon s extent → extent_bytes s < live_in s extent + len

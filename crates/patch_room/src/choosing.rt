@@ -1,8 +1,8 @@
 //! Which extent is won back.
 ghost use Rattle.std.specs.Prelude.{ℕ, ◌≡◌, ◌+◌, ◌<◌, ◌≤◌, None, IfSome};
 ghost use Rattle.patch_room.specs.Candidates.{cheaper as the_cheaper};
-ghost use Rattle.patch_room.specs.Putting.{IsCheapest, IsVictim};
-ghost use Rattle.patch_room.specs.Room.{extent_count, live_in, MayBeWon, NoneWorthWinning};
+ghost use Rattle.patch_room.specs.Putting.{IsVictim};
+ghost use Rattle.patch_room.specs.Room.{extent_count, live_in, IsCheapest, MayBeWon, NoneWorthWinning};
 
 use patch_store::Store;
 use std::alloc::Allocator;
@@ -32,7 +32,7 @@ pub(crate) fn victim_for<A: Allocator + Copy>(store: &Store<A>, len: usize) -> O
 }
 
 /// The extent with the fewest live bytes of those that may be won back.
-fn cheapest<A: Allocator + Copy>(store: &Store<A>) -> Option<Candidate>
+pub(crate) fn cheapest<A: Allocator + Copy>(store: &Store<A>) -> Option<Candidate>
     ensures some { IfSome result (λ c. IsCheapest store.now.shelf c.extent × (c.live ≡ live_in store.now.shelf c.extent)) }
     ensures none { result ≡ None → (extent : ℕ) → MayBeWon store.now.shelf extent → ⊥ }
 {

@@ -6,11 +6,12 @@ ghost use Rattle.patch_history.specs.Choosing.{extent_for_put};
 ghost use Rattle.patch_history.specs.Command.{Done};
 ghost use Rattle.patch_history.specs.History.{History, standing_of};
 ghost use Rattle.patch_history.specs.Refusals.{put_cause};
-ghost use Rattle.patch_room.specs.Putting.{PutsInRoom, MayBePut, WinsBack, as_put, wants_room};
+ghost use Rattle.patch_room.specs.Putting.{PutsInRoom, PutsAtNeed, MayBePut, WinsBack, as_put, wants_room};
 ghost use Rattle.patch_room.specs.Room.{HasEmpty, IsFull};
 ghost use Rattle.patch_store.specs.Meaning.{IsStoreOf};
 ghost use Rattle.patch_store.specs.Replies.{reply_to};
 
+use crate::ahead::move_ahead;
 use crate::choosing::victim_for;
 use crate::laws;
 use patch_frame::OVERHEAD;
@@ -21,7 +22,11 @@ use std::alloc::Allocator;
 /// Puts a value under a key as [`Store::put`] does. Where no extent has room for it one is won back first: of those that may be,
 /// the one with the fewest live bytes. Where none was empty before, a second one is won back.
 ///
-/// Where a reclaim is refused for want of numbers, of live patches or of memory, so is the put.
+/// Behind a put that was done a few frames, 8 at most, move out of the extent that is won back next, where of 16 extents or more one at
+/// most is empty and the current one has room for all that is live there: so many that it is empty before the current one is full,
+/// if frames are of about equal lengths. Whether they could move isn't told; the put was done.
+///
+/// Where a reclaim at need is refused for want of numbers, of live patches or of memory, so is the put.
 pub fn put<A: Allocator + Copy>(
     store: &mut Store<A>,
     writer: WriterNo,
@@ -29,6 +34,31 @@ pub fn put<A: Allocator + Copy>(
     value: &[u8],
 ) -> Result<(), PutRefusal>
     ensures answer { PutsInRoom 2 writer (record { key = key.now; value = value.now })
+        (reply_to put_cause (λ _. Done) result) store.old store.new }
+    ensures capacity { (h : History) → IsStoreOf store.old h → result ≡ Err put.NoSpace
+        → IsFull store.new.shelf (length_of (record { key = key.now; value = value.now })) }
+    ensures same { (h : History) → IsStoreOf store.old h → HasEmpty store.old.shelf → result ≡ Err put.NoSpace
+        → store.new ≡ store.old }
+    ensures reserve { (h : History) → IsStoreOf store.old h → HasEmpty store.old.shelf → result ≢ Err put.OutOfMemory
+        → HasEmpty store.new.shelf }
+    ensures refused { (h : History) → IsStoreOf store.old h
+        → IfErr result (λ refusal. wants_room refusal ≡ false → store.new ≡ store.old) }
+{
+    laws::laws_below();
+    put_at_need(store, writer, key, value)?;
+    // What comes of it is no matter of the put: it loses nothing, and an extent that was empty still is.
+    let _ = move_ahead(store);
+    Ok(())
+}
+
+/// The same, where no frame moves ahead of need.
+fn put_at_need<A: Allocator + Copy>(
+    store: &mut Store<A>,
+    writer: WriterNo,
+    key: &[u8],
+    value: &[u8],
+) -> Result<(), PutRefusal>
+    ensures answer { PutsAtNeed 2 writer (record { key = key.now; value = value.now })
         (reply_to put_cause (λ _. Done) result) store.old store.new }
     ensures capacity { (h : History) → IsStoreOf store.old h → result ≡ Err put.NoSpace
         → IsFull store.new.shelf (length_of (record { key = key.now; value = value.now })) }
@@ -55,7 +85,7 @@ fn put_in_reserve<A: Allocator + Copy>(
     key: &[u8],
     value: &[u8],
 ) -> Result<(), PutRefusal>
-    ensures answer { PutsInRoom 1 writer (record { key = key.now; value = value.now })
+    ensures answer { PutsAtNeed 1 writer (record { key = key.now; value = value.now })
         (reply_to put_cause (λ _. Done) result) store.old store.new }
     ensures capacity { (h : History) → IsStoreOf store.old h → HasEmpty store.old.shelf → result ≡ Err put.NoSpace
         → IsFull store.new.shelf (length_of (record { key = key.now; value = value.now })) }

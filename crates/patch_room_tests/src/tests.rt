@@ -1,4 +1,4 @@
-//! Puts that win room back, on disks of four extents of 16 blocks.
+//! Puts that win room back, at need on disks of four extents of 16 blocks, and ahead of it.
 use patch_cache::Cache;
 use patch_frame::{Format, Geometry};
 use patch_model::{BlockBytes, MAX_BLOCKS, OutOfMemory, WriterNo};
@@ -8,6 +8,8 @@ use std::alloc::Global;
 use std::fmt::Debug;
 use std::process::Abort;
 use std::test::Fail;
+
+mod ahead;
 
 const WRITER: WriterNo = WriterNo(0);
 
@@ -33,8 +35,12 @@ fn expect_eq<T: PartialEq + Debug>(rt: &impl Abort, got: &T, want: &T) {
 }
 
 // The blocks of a new disk, with these pointer records.
-fn blocks_with(alloc: Global, records: &[u8]) -> Result<Vec<BlockBytes>, OutOfMemory> {
-    let Ok(mut blocks) = make(alloc, OF_FOUR) else {
+fn blocks_with(
+    alloc: Global,
+    geometry: Geometry,
+    records: &[u8],
+) -> Result<Vec<BlockBytes>, OutOfMemory> {
+    let Ok(mut blocks) = make(alloc, geometry) else {
         return Err(OutOfMemory);
     };
     if let Some(block) = blocks.get_mut(POINTERS) {
@@ -46,8 +52,13 @@ fn blocks_with(alloc: Global, records: &[u8]) -> Result<Vec<BlockBytes>, OutOfMe
 }
 
 // The store of a new disk with these pointer records.
-fn opened(rt: &impl Abort, alloc: Global, records: &[u8]) -> Result<Store, Fail> {
-    let blocks = blocks_with(alloc, records)?;
+fn opened(
+    rt: &impl Abort,
+    alloc: Global,
+    geometry: Geometry,
+    records: &[u8],
+) -> Result<Store, Fail> {
+    let blocks = blocks_with(alloc, geometry, records)?;
     assert!(rt; !blocks.is_empty() && blocks.len() <= MAX_BLOCKS);
     let cache = Cache::open(alloc, blocks)?;
     match Store::open(alloc, cache).ok() {
@@ -88,7 +99,7 @@ fn expect_overwrites(rt: &impl Abort, store: &mut Store) {
 
 #[test]
 fn a_small_disk_is_overwritten_many_times(rt: HostRuntime) -> Result<(), Fail> {
-    let mut store = opened(&rt, rt.alloc(), &[])?;
+    let mut store = opened(&rt, rt.alloc(), OF_FOUR, &[])?;
     expect_overwrites(&rt, &mut store);
     drop(store);
     Ok(())
@@ -96,7 +107,7 @@ fn a_small_disk_is_overwritten_many_times(rt: HostRuntime) -> Result<(), Fail> {
 
 #[test]
 fn two_extents_are_won_back_where_none_was_empty(rt: HostRuntime) -> Result<(), Fail> {
-    let mut store = opened(&rt, rt.alloc(), &FULL)?;
+    let mut store = opened(&rt, rt.alloc(), OF_FOUR, &FULL)?;
     expect_eq(
         &rt,
         &store.put(WRITER, b"a", b"v"),
@@ -134,7 +145,7 @@ fn expect_full(rt: &impl Abort, store: &mut Store) {
 
 #[test]
 fn a_disk_is_full_beyond_its_bound(rt: HostRuntime) -> Result<(), Fail> {
-    let mut store = opened(&rt, rt.alloc(), &[])?;
+    let mut store = opened(&rt, rt.alloc(), OF_FOUR, &[])?;
     expect_full(&rt, &mut store);
     drop(store);
     Ok(())

@@ -8,7 +8,7 @@ use Rattle.patch_history.specs.Refusals.{put_cause}
 use Rattle.patch_store.specs.Meaning.{Store}
 use Rattle.patch_store.specs.Replies.{reply_to}
 use Rattle.patch_room.specs.Laws.{with_reclaim}
-use Rattle.patch_room.specs.Putting.{HasPut, WonNothing, HasReclaimed, wants_room}
+use Rattle.patch_room.specs.Putting.{HasPutAtNeed, WonNothing, HasReclaimed, wants_room}
 use Rattle.patch_room.specs.Room.{HasEmpty}
 use Rattle.patch_room.proofs.Calling.{put_alone, found_none, at_length, reclaim_done_at, stopped, stopped_full}
 use Rattle.patch_room.proofs.Calling.{stopped_wants, goes_on, has_empty, finds_some, none_found, may_be_put, no_space}
@@ -44,7 +44,7 @@ returns-in_err-win_back-clause-answer g c h was =
     let exit : c.from_residual.result ≡ Err refusal = out.1 ∙ ap Err out.2 in
     let won = at_length given h c.args.writer content old mid found c.frame_bytes.result _ c.win_back.new.store
     c.frame_bytes.ensures.exact c.in_err-win_back.ensures.won in
-    subst (λ r. HasPut h 1 c.args.writer content (reply_to put_cause (λ _. Done) r) old c.win_back.new.store) (sym exit)
+    subst (λ r. HasPutAtNeed h 1 c.args.writer content (reply_to put_cause (λ _. Done) r) old c.win_back.new.store) (sym exit)
     (stopped given h c.args.writer content old mid found 1 (Refused (put_cause refusal)) c.win_back.new.store refl won)
 
 pub returns-in_err-win_back-clause-capacity : goal.returns-in_err-win_back-clause-capacity
