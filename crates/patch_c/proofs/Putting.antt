@@ -1,18 +1,20 @@
--- A put that wins extents back makes calls alone, so no write is under way behind it where none was before.
+-- A put that wins room back makes calls alone, so no write is under way behind it where none was before.
 use mathlib.Core.Logic.{∥∥₁_map}
-use Rattle.std.proofs.Common.{◌≡◌, ◌≢◌, ◌∙◌, ℕ, ℤ, Bool, true, false, Result, Ok, Err, List, [], ◌∷◌, refl, sym, ap, subst, append_assoc}
+use Rattle.std.proofs.Common.{◌≡◌, ◌≢◌, ◌∙◌, inl, inr, ℕ, ℤ, Bool, true, false, Result, Ok, Err, List, [], ◌∷◌, ◌++◌, refl, sym, ap, subst, append_assoc}
+use Rattle.std.proofs.lemmas.Bool.{cases_Bool}
+use Rattle.std.proofs.lemmas.List.{append-nil}
 use Rattle.std.specs.Ordering.{int_eq}
 use Rattle.patch_model.specs.declared.refusals.RefusalKind.TheVariants as kind
-use Rattle.patch_model.specs.Step.{Step}
 use Rattle.patch_frame.specs.Frame.{Content}
 use Rattle.patch_history.specs.declared.refusals.PutRefusal.{PutRefusal}
 use Rattle.patch_history.specs.declared.refusals.PutRefusal.TheVariants as put
 use Rattle.patch_history.specs.Refusals.{put_cause}
-use Rattle.patch_history.specs.Command.{Command, Reply, Reclaim, Done}
-use Rattle.patch_history.specs.History.{History, Call, IsLegalHistory, execution_of, with_event}
+use Rattle.patch_history.specs.Command.{Reply, Done, is_refused}
+use Rattle.patch_history.specs.History.{History, Event, Call, Moved, IsLegalHistory, execution_of, with_event}
 use Rattle.patch_history.specs.Laws.{HistoriesBegin}
 use Rattle.patch_history.specs.StoreState.{at_opening}
-use Rattle.patch_room.specs.Putting.{Won, HasPut, calls_in}
+use Rattle.patch_room.specs.Ahead.{StepsAhead, GoesAhead}
+use Rattle.patch_room.specs.Putting.{Won, IsPut, HasPut, reclaims, calls_in}
 use Rattle.patch_store.specs.Meaning.{Store}
 use Rattle.patch_store.specs.Running.{with_calls}
 use Rattle.patch_disks.proofs.Resting.{StatesExtend, ImagesStay, Rests, rests_behind}
@@ -23,32 +25,66 @@ use Rattle.patch_c.specs.Answering.{answer_of}
 use Rattle.patch_c.specs.LegalStores.{Stands, StandsSomewhere}
 use Rattle.patch_c.specs.Putting.{PutsStay}
 
+-- All events are calls.
+abbrev AreCalls : List Event → Type 0
+AreCalls [] = Unit {0}
+AreCalls (Call writer command reply steps ∷ events) = AreCalls events
+AreCalls (Moved step ∷ events) = ⊥
+
+calls_append : (events later : List Event) → AreCalls events → AreCalls later → AreCalls (events ++ later)
+calls_append [] later are and = and
+calls_append (Call writer command reply steps ∷ events) later are and = calls_append events later are and
+calls_append (Moved step ∷ events) later are and = absurd are
+
+reclaims_are : (writer : ℕ) (won : List Won) → AreCalls (reclaims writer won)
+reclaims_are writer [] = tt
+reclaims_are writer (w ∷ won) = reclaims_are writer won
+
+steps_are : (h : History) (writer : ℕ) (ahead : List Event) → StepsAhead h writer ahead → AreCalls ahead
+steps_are h writer ahead (inl none) = subst AreCalls (sym none.1) tt
+steps_are h writer ahead (inr step) = subst AreCalls (sym step.ahead_is) tt
+
+ahead_are : (h : History) (writer : ℕ) (reply : Reply) (ahead : List Event) → GoesAhead h writer reply ahead → AreCalls ahead
+ahead_are h writer reply ahead goes = elim (cases_Bool (is_refused reply)) [
+  | inl t ↦ (let none : ahead ≡ [] = rw t at goes in subst AreCalls (sym none) tt)
+  | inr t ↦ (let steps : StepsAhead h writer ahead = rw t at goes in steps_are h writer ahead steps)
+]
+
+-- so it is with those of a put
+put_are : (h : History) (most writer : ℕ) (c : Content) (reply : Reply) (calls : List Event) → IsPut h most writer c reply calls → AreCalls calls
+put_are h most writer c reply calls put =
+    let need = put.need in
+    let last = Call writer need.last reply need.steps ∷ [] in
+    subst AreCalls (sym put.calls_are)
+    (calls_append (calls_in writer need.won need.last reply need.steps) put.ahead
+    (calls_append (reclaims writer need.won) last (reclaims_are writer need.won) tt)
+    (ahead_are (with_calls h (calls_in writer need.won need.last reply need.steps)) writer reply put.ahead put.ahead_is))
+
 module _ (extend : StatesExtend) (stay : ImagesStay) (begin : HistoriesBegin) where
-  -- behind some reclaims and a last call
-  rests_put : (blocks : List (List ℕ)) (writer : ℕ) (last : Command) (reply : Reply) (steps : List Step) (won : List Won) (h : History)
-      → IsLegalHistory (with_calls h (calls_in writer won last reply steps)) → Rests (execution_of h) blocks
-      → Rests (execution_of (with_calls h (calls_in writer won last reply steps))) blocks
-  rests_put blocks writer last reply steps [] h legal rests =
-      rests_behind extend stay h writer last reply steps blocks (at_opening h.opening h.first) legal.right rests
-  rests_put blocks writer last reply steps (w ∷ won) h legal rests =
-      let event = Call writer (Reclaim w.extent) Done w.steps in
+  -- behind some calls
+  rests_calls : (blocks : List (List ℕ)) (calls : List Event) (h : History) → AreCalls calls → IsLegalHistory (with_calls h calls)
+      → Rests (execution_of h) blocks → Rests (execution_of (with_calls h calls)) blocks
+  rests_calls blocks [] h are legal rests =
+      subst (λ events. Rests (execution_of (record h { events = events })) blocks) (sym (append-nil h.events)) rests
+  rests_calls blocks (Call writer command reply steps ∷ later) h are legal rests =
+      let event = Call writer command reply steps in
       let first = with_event h event in
-      let later = calls_in writer won last reply steps in
       let same : with_calls first later ≡ with_calls h (event ∷ later) = ap (λ events. record h { events = events }) (append_assoc h.events (event ∷ []) later) in
       let legal_first = subst IsLegalHistory (sym same) legal in
       let begun = begin first later legal_first in
-      let now = rests_behind extend stay h writer (Reclaim w.extent) Done w.steps blocks (at_opening h.opening h.first) begun.right rests in
-      subst (λ all. Rests (execution_of all) blocks) same (rests_put blocks writer last reply steps won first legal_first now)
+      let now = rests_behind extend stay h writer command reply steps blocks (at_opening h.opening h.first) begun.right rests in
+      subst (λ all. Rests (execution_of all) blocks) same (rests_calls blocks later first are legal_first now)
+  rests_calls blocks (Moved step ∷ later) h are legal rests = absurd are
 
   stands_put : (spent : Bool) (blocks : List (List ℕ)) (most writer : ℕ) (c : Content) (reply : Reply) (old new : Store) (h : History)
       → Stands spent old blocks h → HasPut h most writer c reply old new → StandsSomewhere spent new blocks
   stands_put spent blocks most writer c reply old new h stands put = (
-    with_calls h (calls_in writer put.won put.last reply put.steps),
+    with_calls h put.calls,
     record {
       represents = put.represents;
       on = λ unspent.
           let before = stands.on unspent in
-          let rests = rests_put blocks writer put.last reply put.steps put.won h put.represents.legal
+          let rests = rests_calls blocks put.calls h (put_are h most writer c reply put.calls put.put) put.represents.legal
           (record { no_flight = before.still.no_flight; images = before.images }) in
           record { still = record { represents = put.represents; no_flight = rests.no_flight }; images = rests.images };
     },

@@ -1,4 +1,4 @@
--- A put that wins extents back where no extent has room for it.
+-- A put that wins extents back where no extent has room for it, and moves frames ahead of need.
 use Rattle.std.specs.Prelude.{ℕ, ℤ, ◌≡◌, ◌≢◌, Bool, List}
 use Rattle.patch_model.specs.declared.refusals.RefusalKind.TheVariants as kind
 use Rattle.patch_frame.specs.Frame.{Content, length_of}
@@ -12,7 +12,8 @@ use Rattle.patch_handles.specs.Answering.{number_of}
 use Rattle.patch_c.specs.Answering.{answer_of}
 use Rattle.patch_c.specs.LegalStores.{StandsSomewhere}
 
--- Behind the history two extents at most were won back, and then the put was answered, and this is the number of its reply.
+-- Behind the history two extents at most were won back, then the put was answered, and behind one that was done frames may have moved
+-- ahead of need. This is the number of its reply.
 pub record HasToldPut (h : History) (writer : ℕ) (c : Content) (number : ℤ) (old new : Store) : Type 0 where
   pub reply : Reply
   pub number_is : number ≡ number_of (answer_of reply)

@@ -49,7 +49,7 @@ impl Opened {
         told(self.store.put(writer, key, value))
     }
 
-    /// Puts a value, and wins extents back for it first where there is none.
+    /// Puts a value, and wins extents back for it first where there is no room. Behind it frames may move ahead of need.
     fn put_in_room(&mut self, writer: WriterNo, key: &[u8], value: &[u8]) -> Answer
         ensures told { TellsPut writer (record { key = key.now; value = value.now }) (number_of result) self.old.store self.new.store }
         ensures room { HasRoomOrIsFull (record { key = key.now; value = value.now }) (number_of result) self.old.store self.new.store }
