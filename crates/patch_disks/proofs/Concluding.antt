@@ -6,6 +6,7 @@ use Rattle.patch_replay.specs.Replay.{unread_text}
 use Rattle.patch_replay.specs.declared.endings.BadScript.{BadScript}
 use Rattle.patch_replay.specs.declared.streams.Sink.{Sink}
 use Rattle.patch_commands.specs.declared.commands.CommandLine.{CommandLine}
+use Rattle.patch_disks.specs.declared.answering.Reclaims.{Reclaims}
 use Rattle.patch_disks.specs.declared.endings.Status.{Status}
 use Rattle.patch_disks.specs.declared.endings.Status.TheVariants.{Done, Misused, Unreadable, Failed, OutOfMemory}
 use Rattle.patch_disks.specs.declared.endings.Stop.{Stop}
@@ -48,7 +49,7 @@ concluded_failed contents Keeps old new (Err stop.Write) status C concluded (inl
 concluded_failed contents Keeps old new (Err stop.Write) status C concluded (inr failed) =
     failed_so status _ concluded.0 (inr (subst (λ (s : Sink _). C s.failed) (sym concluded.1) failed.1))
 concluded_failed contents Keeps old new (Err stop.Read) status C concluded stops = told_failed contents Keeps old new unread_text stop.Read status C concluded stops
-concluded_failed contents Keeps old new (Err (stop.Refused r)) status C concluded stops = told_failed contents Keeps old new (fault_text r) (stop.Refused r) status C concluded stops
+concluded_failed contents Keeps old new (Err (stop.Refused refusal)) status C concluded stops = told_failed contents Keeps old new (fault_text refusal) (stop.Refused refusal) status C concluded stops
 
 -- a script that is refused fails for its writer alone
 pub refused_failed : {W : Type 0} (contents : W → Option (List ℕ)) (Keeps : W → Type 0) (old new : Sink W) (why : BadScript) (status : Status)
@@ -68,29 +69,29 @@ if_stopped Failed C said = said
 if_stopped OutOfMemory C said = said
 
 -- none of the script's lines was answered, or some first ones were; the text of the answers was written
-pub record SaidSome (input old new : Option (List ℕ)) (blocks : List (List ℕ)) : Type 0 where
+pub record SaidSome (r : Reclaims) (input old new : Option (List ℕ)) (blocks : List (List ℕ)) : Type 0 where
   pub text : List ℕ
-  pub answered : (text ≡ []) ⊎ IfSome input (λ script. (lines : List CommandLine) × HasLines script lines × AnswersSome lines blocks text)
+  pub answered : (text ≡ []) ⊎ IfSome input (λ script. (lines : List CommandLine) × HasLines script lines × AnswersSome r lines blocks text)
   pub written : Appends old new text
 
 -- what is known of some lines is known of the script
-of_lines : (input : Option (List ℕ)) (lines : List CommandLine) (blocks : List (List ℕ)) (text : List ℕ) → IfSome input (λ script. HasLines script lines)
-    → (text ≡ []) ⊎ AnswersSome lines blocks text
-    → (text ≡ []) ⊎ IfSome input (λ script. (lines : List CommandLine) × HasLines script lines × AnswersSome lines blocks text)
-of_lines input lines blocks text has (inl none) = inl none
-of_lines None lines blocks text has (inr some) = inr tt
-of_lines (Some script) lines blocks text has (inr some) = inr (lines, has, some)
+of_lines : (r : Reclaims) (input : Option (List ℕ)) (lines : List CommandLine) (blocks : List (List ℕ)) (text : List ℕ) → IfSome input (λ script. HasLines script lines)
+    → (text ≡ []) ⊎ AnswersSome r lines blocks text
+    → (text ≡ []) ⊎ IfSome input (λ script. (lines : List CommandLine) × HasLines script lines × AnswersSome r lines blocks text)
+of_lines r input lines blocks text has (inl none) = inl none
+of_lines r None lines blocks text has (inr some) = inr tt
+of_lines r (Some script) lines blocks text has (inr some) = inr (lines, has, some)
 
-pub of_script : (input old new : Option (List ℕ)) (lines : List CommandLine) (blocks : List (List ℕ)) → IfSome input (λ script. HasLines script lines)
-    → HasWrittenSome lines old new blocks → SaidSome input old new blocks
-of_script input old new lines blocks has some = record { text = some.text; answered = of_lines input lines blocks some.text has some.answered; written = some.written }
+pub of_script : (r : Reclaims) (input old new : Option (List ℕ)) (lines : List CommandLine) (blocks : List (List ℕ)) → IfSome input (λ script. HasLines script lines)
+    → HasWrittenSome r lines old new blocks → SaidSome r input old new blocks
+of_script r input old new lines blocks has some = record { text = some.text; answered = of_lines r input lines blocks some.text has some.answered; written = some.written }
 
-pub said_none : (input old : Option (List ℕ)) (blocks : List (List ℕ)) → SaidSome input old old blocks
-said_none input old blocks = record { text = []; answered = inl refl; written = same old }
+pub said_none : (r : Reclaims) (input old : Option (List ℕ)) (blocks : List (List ℕ)) → SaidSome r input old old blocks
+said_none r input old blocks = record { text = []; answered = inl refl; written = same old }
 
-stopped_by : (input old mid new : Option (List ℕ)) (blocks : List (List ℕ)) (status : Status) (why : Stop) → SaidSome input old mid blocks → status ≡ status_of why
-    → Appends mid new (last_line why) → IfStopped status (HasStopped input old new blocks status)
-stopped_by input old mid new blocks status why some ends told = if_stopped status _ (record {
+stopped_by : (r : Reclaims) (input old mid new : Option (List ℕ)) (blocks : List (List ℕ)) (status : Status) (why : Stop) → SaidSome r input old mid blocks → status ≡ status_of why
+    → Appends mid new (last_line why) → IfStopped status (HasStopped r input old new blocks status)
+stopped_by r input old mid new blocks status why some ends told = if_stopped status _ (record {
   text = some.text;
   answered = some.answered;
   why = why;
@@ -98,39 +99,39 @@ stopped_by input old mid new blocks status why some ends told = if_stopped statu
   written = twice old mid new some.text (last_line why) some.written told;
 })
 
-told_stopped : {W : Type 0} (contents : W → Option (List ℕ)) (Keeps : W → Type 0) (mid new : Sink W) (why : Stop) (status : Status) (input old : Option (List ℕ))
+told_stopped : {W : Type 0} (r : Reclaims) (contents : W → Option (List ℕ)) (Keeps : W → Type 0) (mid new : Sink W) (why : Stop) (status : Status) (input old : Option (List ℕ))
     (blocks : List (List ℕ)) → new.failed ≡ false → IsToldOrStarved contents Keeps mid new (last_line why) (status_of why) status
-    → (mid.failed ≡ false → SaidSome input old (contents mid.inner) blocks) → IfStopped status (HasStopped input old (contents new.inner) blocks status)
-told_stopped contents Keeps mid new why status input old blocks fine (inl (inl broken)) some = absurd (no_fault new.failed fine broken.1)
-told_stopped contents Keeps mid new why status input old blocks fine (inl (inr told)) some =
-    stopped_by input old (contents mid.inner) (contents new.inner) blocks status why (some (sym told.1 ∙ fine)) told.0 told.2
-told_stopped contents Keeps mid new why status input old blocks fine (inr (inl broken)) some = absurd (no_fault new.failed fine broken.1)
-told_stopped contents Keeps mid new why status input old blocks fine (inr (inr told)) some =
-    stopped_by input old (contents mid.inner) (contents new.inner) blocks status starved (some (sym told.1 ∙ fine)) told.0 told.2
+    → (mid.failed ≡ false → SaidSome r input old (contents mid.inner) blocks) → IfStopped status (HasStopped r input old (contents new.inner) blocks status)
+told_stopped r contents Keeps mid new why status input old blocks fine (inl (inl broken)) some = absurd (no_fault new.failed fine broken.1)
+told_stopped r contents Keeps mid new why status input old blocks fine (inl (inr told)) some =
+    stopped_by r input old (contents mid.inner) (contents new.inner) blocks status why (some (sym told.1 ∙ fine)) told.0 told.2
+told_stopped r contents Keeps mid new why status input old blocks fine (inr (inl broken)) some = absurd (no_fault new.failed fine broken.1)
+told_stopped r contents Keeps mid new why status input old blocks fine (inr (inr told)) some =
+    stopped_by r input old (contents mid.inner) (contents new.inner) blocks status starved (some (sym told.1 ∙ fine)) told.0 told.2
 
-pub concluded_stopped : {W T : Type 0} (contents : W → Option (List ℕ)) (Keeps : W → Type 0) (mid new : Sink W) (ended : Result T Stop) (status : Status)
+pub concluded_stopped : {W T : Type 0} (r : Reclaims) (contents : W → Option (List ℕ)) (Keeps : W → Type 0) (mid new : Sink W) (ended : Result T Stop) (status : Status)
     (input old : Option (List ℕ)) (blocks : List (List ℕ)) → IsConcluded contents Keeps mid new ended status
-    → (mid.failed ≡ false → SaidSome input old (contents mid.inner) blocks) → new.failed ≡ false → IfStopped status (HasStopped input old (contents new.inner) blocks status)
-concluded_stopped contents Keeps mid new (Ok done) status input old blocks (inl broken) some fine = absurd (no_fault new.failed fine broken.1)
-concluded_stopped contents Keeps mid new (Ok done) status input old blocks (inr told) some fine = rw told.0 tt
-concluded_stopped contents Keeps mid new (Err stop.Write) status input old blocks concluded some fine =
+    → (mid.failed ≡ false → SaidSome r input old (contents mid.inner) blocks) → new.failed ≡ false → IfStopped status (HasStopped r input old (contents new.inner) blocks status)
+concluded_stopped r contents Keeps mid new (Ok done) status input old blocks (inl broken) some fine = absurd (no_fault new.failed fine broken.1)
+concluded_stopped r contents Keeps mid new (Ok done) status input old blocks (inr told) some fine = rw told.0 tt
+concluded_stopped r contents Keeps mid new (Err stop.Write) status input old blocks concluded some fine =
     let kept = concluded.1 in
-    stopped_by input old (contents mid.inner) (contents new.inner) blocks status stop.Write (some (ap (λ (s : Sink _). s.failed) (sym kept) ∙ fine)) concluded.0
+    stopped_by r input old (contents mid.inner) (contents new.inner) blocks status stop.Write (some (ap (λ (s : Sink _). s.failed) (sym kept) ∙ fine)) concluded.0
     (subst (λ (s : Sink _). Appends (contents mid.inner) (contents s.inner) []) (sym kept) (same (contents mid.inner)))
-concluded_stopped contents Keeps mid new (Err stop.Read) status input old blocks concluded some fine =
-    told_stopped contents Keeps mid new stop.Read status input old blocks fine concluded some
-concluded_stopped contents Keeps mid new (Err (stop.Refused r)) status input old blocks concluded some fine =
-    told_stopped contents Keeps mid new (stop.Refused r) status input old blocks fine concluded some
+concluded_stopped r contents Keeps mid new (Err stop.Read) status input old blocks concluded some fine =
+    told_stopped r contents Keeps mid new stop.Read status input old blocks fine concluded some
+concluded_stopped r contents Keeps mid new (Err (stop.Refused refusal)) status input old blocks concluded some fine =
+    told_stopped r contents Keeps mid new (stop.Refused refusal) status input old blocks fine concluded some
 
 -- a script that is refused is told, or that there was no memory
-pub refused_stopped : {W : Type 0} (contents : W → Option (List ℕ)) (Keeps : W → Type 0) (old new : Sink W) (why : BadScript) (status : Status)
+pub refused_stopped : {W : Type 0} (r : Reclaims) (contents : W → Option (List ℕ)) (Keeps : W → Type 0) (old new : Sink W) (why : BadScript) (status : Status)
     (input : Option (List ℕ)) (blocks : List (List ℕ)) → IsToldOrStarved contents Keeps old new (script_text why) (Unreadable why) status → new.failed ≡ false
-    → IfStopped status (HasStopped input (contents old.inner) (contents new.inner) blocks status)
-refused_stopped contents Keeps old new why status input blocks (inl (inl broken)) fine = absurd (no_fault new.failed fine broken.1)
-refused_stopped contents Keeps old new why status input blocks (inl (inr told)) fine = rw told.0 tt
-refused_stopped contents Keeps old new why status input blocks (inr (inl broken)) fine = absurd (no_fault new.failed fine broken.1)
-refused_stopped contents Keeps old new why status input blocks (inr (inr told)) fine =
-    stopped_by input (contents old.inner) (contents old.inner) (contents new.inner) blocks status starved (said_none input (contents old.inner) blocks) told.0 told.2
+    → IfStopped status (HasStopped r input (contents old.inner) (contents new.inner) blocks status)
+refused_stopped r contents Keeps old new why status input blocks (inl (inl broken)) fine = absurd (no_fault new.failed fine broken.1)
+refused_stopped r contents Keeps old new why status input blocks (inl (inr told)) fine = rw told.0 tt
+refused_stopped r contents Keeps old new why status input blocks (inr (inl broken)) fine = absurd (no_fault new.failed fine broken.1)
+refused_stopped r contents Keeps old new why status input blocks (inr (inr told)) fine =
+    stopped_by r input (contents old.inner) (contents old.inner) (contents new.inner) blocks status starved (said_none r input (contents old.inner) blocks) told.0 told.2
 
 -- Why a run fails: its reader, its writer, or what its lines met.
 

@@ -8,6 +8,7 @@ use Rattle.patch_device.specs.SameDevice.{IsLasting}
 use Rattle.patch_device.specs.declared.files.FileDevice.{FileDevice}
 use Rattle.patch_device.specs.declared.devices.Device.{Ghosts}
 use Rattle.patch_commands.specs.declared.commands.CommandLine.{CommandLine}
+use Rattle.patch_disks.specs.declared.answering.Reclaims.{Reclaims}
 use Rattle.patch_disks.specs.declared.endings.Stop.{Stop}
 use Rattle.patch_disks.specs.Ending.{IsDoneBehind}
 use Rattle.patch_disks.specs.Opening.{IsUnder}
@@ -45,19 +46,19 @@ lasting_alike before now barriers first events lasting =
 
 -- A script that is run on one.
 
-pub on_one : {D T E : Type 0} (g : Ghosts D) (r : Result T E) (lines : List CommandLine) (old new : Option (List ℕ)) (first now : D) → IsLasting g first
-    → OnOk r (HasRun g lines old new (g.contents first) first now) → OnOk r (HasRunOnOne g lines old new)
-on_one g (Ok x) lines old new first now lasting run = (first, now, lasting, run)
-on_one g (Err e) lines old new first now lasting run = tt
+pub on_one : {D T E : Type 0} (g : Ghosts D) (r : Reclaims) (result : Result T E) (lines : List CommandLine) (old new : Option (List ℕ)) (first now : D) → IsLasting g first
+    → OnOk result (HasRun g r lines old new (g.contents first) first now) → OnOk result (HasRunOnOne g r lines old new)
+on_one g r (Ok x) lines old new first now lasting run = (first, now, lasting, run)
+on_one g r (Err e) lines old new first now lasting run = tt
 
-concluded_on_one : {D : Type 0} (g : Ghosts D) (ran : Result (Unit {0}) Stop) (lines : List CommandLine) (old mid new : Option (List ℕ))
-    → OnOk ran (HasRunOnOne g lines old mid) → IsDoneBehind ran mid new → HasRunOnOne g lines old new
-concluded_on_one g (Ok done) lines old mid new run none =
-    (run.0, run.1, run.2, concluded_so g (Ok done) lines old mid new (g.contents run.0) run.0 run.1 run.3 none)
-concluded_on_one g (Err stop) lines old mid new run none = absurd none
+concluded_on_one : {D : Type 0} (g : Ghosts D) (r : Reclaims) (ran : Result (Unit {0}) Stop) (lines : List CommandLine) (old mid new : Option (List ℕ))
+    → OnOk ran (HasRunOnOne g r lines old mid) → IsDoneBehind ran mid new → HasRunOnOne g r lines old new
+concluded_on_one g r (Ok done) lines old mid new run none =
+    (run.0, run.1, run.2, concluded_so g r (Ok done) lines old mid new (g.contents run.0) run.0 run.1 run.3 none)
+concluded_on_one g r (Err stop) lines old mid new run none = absurd none
 
 -- a run of a script that is done
-pub script_on_one : {D : Type 0} (g : Ghosts D) (ran : Result (Unit {0}) Stop) (input old mid new : Option (List ℕ)) (lines : List CommandLine)
-    → IfSome input (λ text. HasLines text lines) → OnOk ran (HasRunOnOne g lines old mid) → IsDoneBehind ran mid new → HasRunScriptOnOne g input old new
-script_on_one g ran None old mid new lines has run none = tt
-script_on_one g ran (Some text) old mid new lines has run none = (lines, has, concluded_on_one g ran lines old mid new run none)
+pub script_on_one : {D : Type 0} (g : Ghosts D) (r : Reclaims) (ran : Result (Unit {0}) Stop) (input old mid new : Option (List ℕ)) (lines : List CommandLine)
+    → IfSome input (λ text. HasLines text lines) → OnOk ran (HasRunOnOne g r lines old mid) → IsDoneBehind ran mid new → HasRunScriptOnOne g r input old new
+script_on_one g r ran None old mid new lines has run none = tt
+script_on_one g r ran (Some text) old mid new lines has run none = (lines, has, concluded_on_one g r ran lines old mid new run none)

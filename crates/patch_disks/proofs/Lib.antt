@@ -3,6 +3,7 @@ pub mod Calling
 pub mod Coming
 pub mod Going
 pub mod Resting
+pub mod Rooming
 pub mod Saving
 pub mod Unused
 pub mod Stopping

@@ -17,6 +17,7 @@ use Rattle.patch_plans.specs.Writing.{after_change, merge_behind, merge_with, wr
 use Rattle.patch_history.specs.Command.{Command, Reply, is_refused, may_be_cut}
 use Rattle.patch_history.specs.StoreState.{Standing, plan_of, made_by}
 use Rattle.patch_history.specs.History.{History, Event, Call, IsWhole, IsCut, IsRight, AreRight, after_event, steps_in, execution_of, with_event}
+use Rattle.patch_store.specs.Running.{with_calls}
 
 -- patches and merges
 abbrev pub AreQuiet : List Step → Type 0
@@ -127,6 +128,10 @@ pub run_behind : (h : History) (event : Event) → execution_of (with_event h ev
 run_behind h event =
     ap (λ all. record (execution_of h) { steps = all })
     (flat_map-append steps_in h.events (event ∷ []) ∙ ap (λ all. flat_map steps_in h.events ++ all) (append-nil (steps_in event)))
+
+-- and behind several
+pub run_behind_calls : (h : History) (calls : List Event) → execution_of (with_calls h calls) ≡ followed_by (execution_of h) (flat_map steps_in calls)
+run_behind_calls h calls = ap (λ all. record (execution_of h) { steps = all }) (flat_map-append steps_in h.events calls)
 
 pub rests_behind : StatesExtend → ImagesStay → (h : History) (writer : ℕ) (command : Command) (reply : Reply) (steps : List Step) (contents : List (List ℕ))
     → (st : Standing) → AreRight st (h.events ++ Call writer command reply steps ∷ []) → Rests (execution_of h) contents

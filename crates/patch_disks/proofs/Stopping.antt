@@ -18,10 +18,11 @@ use Rattle.patch_history.specs.History.{History}
 use Rattle.patch_store.specs.Meaning.{Store}
 use Rattle.patch_store.specs.Opening.{IsFaultOf, IsOpened, at_opening}
 use Rattle.patch_commands.specs.declared.commands.CommandLine.{CommandLine}
+use Rattle.patch_disks.specs.declared.answering.Reclaims.{Reclaims}
 use Rattle.patch_disks.specs.declared.endings.Stop.{Stop}
 use Rattle.patch_disks.specs.declared.endings.Stop.TheVariants as stop
 use Rattle.patch_disks.specs.Running.{HasCome}
-use Rattle.patch_disks.specs.Stopping.{starved, stop_of, flush_stop, IsStop, IsOfDisk, TellsWhyNotSaved, HoldNoStore, IsNotOpened, IsBroken, HasComeSome, HasWrittenSome}
+use Rattle.patch_disks.specs.Stopping.{starved, stop_of, flush_stop, IsStop, IsOfDisk, TellsWhyNotSaved, HoldNoStore, IsBroken, HasComeSome, HasWrittenSome}
 use Rattle.patch_replay.specs.Growing.{same}
 
 -- a count that rises does so over what comes before and behind
@@ -83,9 +84,9 @@ pub err_so : {T : Type 0} (r : Result T Stop) (why : Stop) (A B : Type 0) → Is
 err_so (Ok x) why A B is f stops = tt
 err_so (Err e) why A B is f stops = rw is (stop_for why A B f stops)
 
-pub come_some : {D : Type 0} (g : Ghosts D) (h : History) (lines first others : List CommandLine) (old new : Option (List ℕ)) (store : Store) (before now : D)
-    → first ++ others ≡ lines → HasCome g h first old new store before now → HasComeSome h lines old new
-come_some g h lines first others old new store before now is come = record {
+pub come_some : {D : Type 0} (g : Ghosts D) (r : Reclaims) (h : History) (lines first others : List CommandLine) (old new : Option (List ℕ)) (store : Store) (before now : D)
+    → first ++ others ≡ lines → HasCome g r h first old new store before now → HasComeSome r h lines old new
+come_some g r h lines first others old new store before now is come = record {
   first = first;
   others = others;
   lines_are = is;
@@ -96,9 +97,9 @@ come_some g h lines first others old new store before now is come = record {
   legal = come.stands.still.represents.legal;
 }
 
-pub written_some : (lines : List CommandLine) (old new : Option (List ℕ)) (contents : List (List ℕ)) (store : Store) (o : IsOpened contents store)
-    → HasComeSome (at_opening contents o.ledger) lines old new → HasWrittenSome lines old new contents
-written_some lines old new contents store o come = record {
+pub written_some : (r : Reclaims) (lines : List CommandLine) (old new : Option (List ℕ)) (contents : List (List ℕ)) (store : Store) (o : IsOpened contents store)
+    → HasComeSome r (at_opening contents o.ledger) lines old new → HasWrittenSome r lines old new contents
+written_some r lines old new contents store o come = record {
   text = come.text;
   answered = inr (record {
     first = come.first;
@@ -113,8 +114,8 @@ written_some lines old new contents store o come = record {
   written = come.written;
 }
 
-pub none_written : (lines : List CommandLine) (old : Option (List ℕ)) (contents : List (List ℕ)) → HasWrittenSome lines old old contents
-none_written lines old contents = record { text = []; answered = inl refl; written = same old }
+pub none_written : (r : Reclaims) (lines : List CommandLine) (old : Option (List ℕ)) (contents : List (List ℕ)) → HasWrittenSome r lines old old contents
+none_written r lines old contents = record { text = []; answered = inl refl; written = same old }
 
 -- a fault of a device behind other calls
 pub risen_behind : {D : Type 0} (g : Ghosts D) (old mid new : D) → g.fault_count new ≤ most_faults → IsSameDevice g old mid

@@ -14,7 +14,7 @@ use Rattle.patch_disks.specs.Ending.{IsDoneBehind}
 use Rattle.patch_disks.specs.Going.{StillLasts}
 use Rattle.patch_disks.specs.Running.{IsCalled, HasSaved}
 use Rattle.patch_disks.specs.Upgrading.{HasUpgraded, HasUpgradedBehind}
-use Rattle.patch_disks.proofs.Coming.{goes_behind}
+use Rattle.patch_disks.proofs.Coming.{goes_behind_call}
 use Rattle.patch_disks.proofs.Going.{goes_alike, goes_both, lasts_alike, lasts_both}
 
 pub upgraded_behind : {D : Type 0} (g : Ghosts D) → SafeJoin g → (h : History) (mid store : Store) (before now : D)
@@ -28,7 +28,7 @@ upgraded_behind g join h mid store before now called saved =
       saved = saved.saved;
       legal = saved.stands.still.represents.legal;
       disk = saved.disk;
-      goes = goes_both g join h behind saved.next before before now (goes_behind g h (0, Upgrade) Done mid (g.contents before) before called) saved.goes;
+      goes = goes_both g join h behind saved.next before before now (goes_behind_call g h (0, Upgrade) Done mid (g.contents before) before called) saved.goes;
     }
 
 -- a store was opened, and upgraded then

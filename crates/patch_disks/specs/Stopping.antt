@@ -20,6 +20,7 @@ use Rattle.patch_store.specs.Meaning.{Store}
 use Rattle.patch_store.specs.Opening.{at_opening, IsFaultOf}
 use Rattle.patch_store.specs.Flushing.{IfRefused}
 use Rattle.patch_commands.specs.declared.commands.CommandLine.{CommandLine}
+use Rattle.patch_disks.specs.declared.answering.Reclaims.{Reclaims}
 use Rattle.patch_disks.specs.declared.endings.Status.{Status}
 use Rattle.patch_disks.specs.declared.endings.Status.TheVariants.{Done, Misused, Unreadable, Failed, OutOfMemory}
 use Rattle.patch_disks.specs.declared.endings.Stop.{Stop}
@@ -113,47 +114,47 @@ IfStopped Failed Said = Said
 IfStopped OutOfMemory Said = Said
 
 -- some first lines were answered, by calls of one legal history over what the blocks are read as
-pub record AnswersSome (lines : List CommandLine) (contents : List (List ℕ)) (text : List ℕ) : Type 0 where
+pub record AnswersSome (r : Reclaims) (lines : List CommandLine) (contents : List (List ℕ)) (text : List ℕ) : Type 0 where
   pub first : List CommandLine
   pub others : List CommandLine
   pub lines_are : first ++ others ≡ lines
   pub ledger : Ledger
   pub reads : reading contents ≡ Ok ledger
   pub last : History
-  pub answers : AreAnswered (at_opening contents ledger) first text last
+  pub answers : AreAnswered r (at_opening contents ledger) first text last
   pub legal : IsLegalHistory last
 
 -- none was answered, or some first ones were; the text of the answers was written
-pub record HasWrittenSome (lines : List CommandLine) (old new : Option (List ℕ)) (contents : List (List ℕ)) : Type 0 where
+pub record HasWrittenSome (r : Reclaims) (lines : List CommandLine) (old new : Option (List ℕ)) (contents : List (List ℕ)) : Type 0 where
   pub text : List ℕ
-  pub answered : (text ≡ []) ⊎ AnswersSome lines contents text
+  pub answered : (text ≡ []) ⊎ AnswersSome r lines contents text
   pub written : Appends old new text
 
 -- A run that stops has written the answers of some first lines of the script, or of none, and behind them why it stops.
-pub record HasStopped (input old new : Option (List ℕ)) (contents : List (List ℕ)) (status : Status) : Type 0 where
+pub record HasStopped (r : Reclaims) (input old new : Option (List ℕ)) (contents : List (List ℕ)) (status : Status) : Type 0 where
   pub text : List ℕ
-  pub answered : (text ≡ []) ⊎ IfSome input (λ script. (lines : List CommandLine) × HasLines script lines × AnswersSome lines contents text)
+  pub answered : (text ≡ []) ⊎ IfSome input (λ script. (lines : List CommandLine) × HasLines script lines × AnswersSome r lines contents text)
   pub why : Stop
   pub ends : status_of why ≡ status
   pub written : Appends old new (text ++ last_line why)
 
 -- a run that stops so has told what it has answered, and why
-abbrev pub TellsWhatItAnswered : (input old new : Option (List ℕ)) → (contents : List (List ℕ)) → Status → Type 0
-TellsWhatItAnswered input old new contents status = IfStopped status (HasStopped input old new contents status)
+abbrev pub TellsWhatItAnswered : Reclaims → (input old new : Option (List ℕ)) → (contents : List (List ℕ)) → Status → Type 0
+TellsWhatItAnswered r input old new contents status = IfStopped status (HasStopped r input old new contents status)
 
 -- On the way.
 
 -- behind the history some first lines were answered, and their text written
-pub record HasComeSome (h : History) (lines : List CommandLine) (old new : Option (List ℕ)) : Type 0 where
+pub record HasComeSome (r : Reclaims) (h : History) (lines : List CommandLine) (old new : Option (List ℕ)) : Type 0 where
   pub first : List CommandLine
   pub others : List CommandLine
   pub lines_are : first ++ others ≡ lines
   pub text : List ℕ
   pub written : Appends old new text
   pub last : History
-  pub answers : AreAnswered h first text last
+  pub answers : AreAnswered r h first text last
   pub legal : IsLegalHistory last
 
 -- where the store was opened on the blocks, and the writer is well, some first lines were answered, and their text written
-abbrev pub RunsSomeWay : Store → (blocks : List (List ℕ)) → (failed : Bool) → List CommandLine → (old new : Option (List ℕ)) → Type 0
-RunsSomeWay store blocks failed lines old new = OnceOpened store blocks (λ contents. failed ≡ false → HasWrittenSome lines old new contents)
+abbrev pub RunsSomeWay : Reclaims → Store → (blocks : List (List ℕ)) → (failed : Bool) → List CommandLine → (old new : Option (List ℕ)) → Type 0
+RunsSomeWay r store blocks failed lines old new = OnceOpened store blocks (λ contents. failed ≡ false → HasWrittenSome r lines old new contents)

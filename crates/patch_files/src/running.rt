@@ -4,6 +4,7 @@ ghost use Rattle.patch_device.specs.SameDevice.{IsLasting};
 ghost use Rattle.patch_disks.specs.Going.{StillLasts, WentSafely};
 ghost use Rattle.patch_disks.specs.Reading.{IsRunOf};
 ghost use Rattle.patch_disks.specs.Stopping.{IfFailed, TellsWhatItAnswered};
+ghost use Rattle.patch_disks.specs.declared.answering.Reclaims.TheVariants.{ByHand};
 ghost use Rattle.patch_disks.specs.declared.endings.Status.TheVariants.{Done, Unreadable};
 ghost use Rattle.patch_files.specs.Running.{IsBrokenOn, commands_for, RunsOn};
 ghost use Rattle.patch_replay.specs.Streams.{IsGivenUp};
@@ -48,7 +49,7 @@ where
         → MatchOption result.device ⊥ (WentSafely D.Device (D.contents device) device) }
     ensures failed { IsNone writers → D.is_honest device → IfFailed result.status (IsGivenUp reader.new
         ⊎ IsBrokenOn D.fault_count writer.new.failed device result.device (D.contents device)) }
-    ensures stopped { IsNone writers → D.is_honest device → writer.new.failed ≡ false → TellsWhatItAnswered
+    ensures stopped { IsNone writers → D.is_honest device → writer.new.failed ≡ false → TellsWhatItAnswered ByHand
         (R.remaining reader.old.inner) (W.contents writer.old.inner) (W.contents writer.new.inner) (D.contents device) result.status }
 {
     match writers {
@@ -75,7 +76,7 @@ fn run_alone<R: Read, W: Output, D: Device + Drop, P: Progress>(
         → MatchOption result.device ⊥ (WentSafely D.Device (D.contents device) device) }
     ensures failed { D.is_honest device → IfFailed result.status (IsGivenUp reader.new
         ⊎ IsBrokenOn D.fault_count writer.new.failed device result.device (D.contents device)) }
-    ensures stopped { D.is_honest device → writer.new.failed ≡ false → TellsWhatItAnswered
+    ensures stopped { D.is_honest device → writer.new.failed ≡ false → TellsWhatItAnswered ByHand
         (R.remaining reader.old.inner) (W.contents writer.old.inner) (W.contents writer.new.inner) (D.contents device) result.status }
 {
     let mut device = device;

@@ -1,6 +1,6 @@
 //! Runs of the program: what it answers to words and a script.
 use crate::tests::expect_eq;
-use patch_program::{Errors, LockedFiles, Notes, run, words};
+use patch_program::{Detail, Errors, LockedFiles, Notes, run, words};
 use std::alloc::{AllocError, Global};
 use std::env::{Env, FillError};
 use std::fs::{OpenFile, OpenOptions};
@@ -11,6 +11,8 @@ use std::rt::Files;
 use std::sync::Wait;
 use std::thread::Threads;
 use std::{fs, io};
+
+mod lists;
 
 /// A run on these words and this script, how it ends, what it writes, and a part of what it says on standard error.
 #[derive(Clone, Copy)]
@@ -250,6 +252,7 @@ fn expect_run<F: FileExt + OpenFile + Drop + Send, H: Files<File = F> + Threads 
         words,
         script.as_bytes(),
         &mut out,
+        Detail::Numbers,
         &mut stream,
     );
     expect_eq(
@@ -604,6 +607,7 @@ fn expect_ticking<F: FileExt + OpenFile + Drop + Send, H: Files<File = F> + Thre
         words,
         script.as_bytes(),
         &mut out,
+        Detail::Numbers,
         &mut stream,
     );
     let told = std::str::from_utf8(&errors).unwrap_or("no text");

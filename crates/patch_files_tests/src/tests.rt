@@ -14,6 +14,7 @@ mod damages;
 mod faults;
 mod files;
 mod making;
+mod pictures;
 mod rows;
 mod scripts;
 mod served;
@@ -50,16 +51,20 @@ fn failed(text: &'static str) -> End {
     End(Status::Failed, 4, text)
 }
 
-// A device that holds a new disk, which was written once: but for the first block, both are of zeros.
-fn new_device(rt: &impl Abort, alloc: Global) -> MemDevice {
-    let blocks = make(alloc, SMALL).expect(rt, "a new disk");
+// A device of so many blocks that holds a new disk, which was written once: but for the first block, both are of zeros.
+fn device_of(rt: &impl Abort, alloc: Global, geometry: Geometry, count: u32) -> MemDevice {
+    let blocks = make(alloc, geometry).expect(rt, "a new disk");
     let first = blocks.first().expect(rt, "a first block");
-    let mut device = MemDevice::new(alloc, COUNT).expect(rt, "memory for a device");
+    let mut device = MemDevice::new(alloc, count).expect(rt, "memory for a device");
     device
         .write(0, first.as_slice())
         .expect(rt, "a good device");
     drop(blocks);
     device
+}
+
+fn new_device(rt: &impl Abort, alloc: Global) -> MemDevice {
+    device_of(rt, alloc, SMALL, COUNT)
 }
 
 fn expect_end(rt: &impl Abort, ended: Status, text: &[u8], end: End) {

@@ -9,6 +9,7 @@ mod saying;
 
 pub use arguments::words;
 pub use locking::{LockedFile, LockedFiles, Notes, Trouble};
+pub use patch_listing::Detail;
 pub use reading_files::ReadFiles;
 pub use running::run;
 pub use saying::Errors;

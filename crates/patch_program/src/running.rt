@@ -11,10 +11,11 @@ use crate::reading_files::ReadFiles;
 use crate::saying::{Errors, Left};
 use clap::error::ErrorKind;
 use patch_files::{
-    Barriers, Progress, Quiet, Status as FileStatus, Ticker, check_file, make_file, run_file,
-    serve_file, survey_file, upgrade_file,
+    Barriers, Progress, Quiet, Reclaims, Status as FileStatus, Ticker, check_file, make_file,
+    run_file, serve_file, survey_file, upgrade_file,
 };
 use patch_frame::Geometry;
+use patch_listing::{Detail, Wanted, list_file, stat_file};
 use patch_model::MAX_BLOCKS;
 use patch_replay::{Output, Sink, Source, Status, replay};
 use std::alloc::Global;
@@ -36,6 +37,7 @@ pub fn run<F, H, R, W, E>(
     words: io::Result<Vec<String>>,
     input: R,
     output: &mut W,
+    detail: Detail,
     errors: &mut Errors<'_, E>,
 ) -> u8
 where
@@ -49,7 +51,15 @@ where
 {
     match words {
         Ok(words) => {
-            let status = run_words(files, alloc, words.as_slice(), input, output, errors);
+            let status = run_words(
+                files,
+                alloc,
+                words.as_slice(),
+                input,
+                output,
+                detail,
+                errors,
+            );
             errors.say_met();
             status
         }
@@ -69,6 +79,7 @@ fn run_words<F, H, R, W, E>(
     words: &[String],
     input: R,
     output: &mut W,
+    detail: Detail,
     errors: &mut Errors<'_, E>,
 ) -> u8
 where
@@ -79,7 +90,7 @@ where
     E: Write,
 {
     match arguments::read(alloc, words) {
-        Ok(request) => run_request(files, alloc, request, input, output, errors),
+        Ok(request) => run_request(files, alloc, request, input, output, detail, errors),
         Err(e) if e.kind() == ErrorKind::OutOfMemory => out_of_memory(output),
         Err(e) => {
             let _ = write!(errors.stream, "{e}");
@@ -95,6 +106,7 @@ fn run_request<F, H, R, W, E>(
     request: Request<'_>,
     input: R,
     output: &mut W,
+    detail: Detail,
     errors: &mut Errors<'_, E>,
 ) -> u8
 where
@@ -110,7 +122,15 @@ where
     };
     let mut script = Source::new(input);
     let mut answers = Sink::new(buffered);
-    run_streams(files, alloc, request, &mut script, &mut answers, errors)
+    run_streams(
+        files,
+        alloc,
+        request,
+        &mut script,
+        &mut answers,
+        detail,
+        errors,
+    )
 }
 
 fn run_streams<F, H, R, O, E>(
@@ -119,6 +139,7 @@ fn run_streams<F, H, R, O, E>(
     request: Request<'_>,
     script: &mut Source<R>,
     answers: &mut Sink<O>,
+    detail: Detail,
     errors: &mut Errors<'_, E>,
 ) -> u8
 where
@@ -138,15 +159,33 @@ where
             path,
             writers: None,
             barriers,
-        } => run_script(files, alloc, script, answers, errors, path, barriers),
+            reclaims,
+        } => run_script(
+            files, alloc, script, answers, errors, path, barriers, reclaims,
+        ),
         Request::Run {
             path,
             writers: Some(writers),
             barriers,
+            ..
         } => run_writers(
             files, alloc, script, answers, errors, path, barriers, writers,
         ),
         Request::Check { path } => run_check(files, alloc, answers, errors, path),
+        Request::List {
+            path,
+            from,
+            prefix,
+            values,
+        } => {
+            let wanted = Wanted {
+                from: from.as_slice(),
+                prefix: prefix.as_slice(),
+                values,
+            };
+            run_list(files, alloc, answers, errors, path, wanted)
+        }
+        Request::Stat { path } => run_stat(files, alloc, answers, errors, path, detail),
         Request::Upgrade { path } => run_upgrade(files, alloc, answers, errors, path),
     }
 }
@@ -246,6 +285,62 @@ where
     status.code()
 }
 
+/// Says why a file that was only read is refused.
+fn tell_unread<O: Output, E: Write>(
+    answers: &Sink<O>,
+    errors: &mut Errors<'_, E>,
+    path: &str,
+    status: FileStatus,
+) {
+    if status == FileStatus::Failed {
+        errors.say_why(path, "file");
+    }
+    if answers.has_failed() {
+        errors.say_output();
+    }
+}
+
+/// Lists the keys of a file that is opened to be read alone.
+fn run_list<F, H, O, E>(
+    files: &H,
+    alloc: Global,
+    answers: &mut Sink<O>,
+    errors: &mut Errors<'_, E>,
+    path: &str,
+    wanted: Wanted<'_>,
+) -> u8
+where
+    F: FileExt + OpenFile + Drop,
+    H: Files<File = F>,
+    O: Output,
+    E: Write,
+{
+    let files = ReadFiles::new(files, errors.notes);
+    let status = list_file(&files, alloc, answers, path, wanted);
+    tell_unread(answers, errors, path, status);
+    status.code()
+}
+
+fn run_stat<F, H, O, E>(
+    files: &H,
+    alloc: Global,
+    answers: &mut Sink<O>,
+    errors: &mut Errors<'_, E>,
+    path: &str,
+    detail: Detail,
+) -> u8
+where
+    F: FileExt + OpenFile + Drop,
+    H: Files<File = F>,
+    O: Output,
+    E: Write,
+{
+    let files = ReadFiles::new(files, errors.notes);
+    let status = stat_file(&files, alloc, answers, path, detail);
+    tell_unread(answers, errors, path, status);
+    status.code()
+}
+
 fn run_upgrade<F, H, O, E>(
     files: &H,
     alloc: Global,
@@ -290,6 +385,7 @@ fn run_watched<F, H, R, O, P>(
     answers: &mut Sink<O>,
     path: &str,
     barriers: Barriers,
+    reclaims: Reclaims,
     inner: P,
 ) -> (FileStatus, Left)
 where
@@ -303,7 +399,9 @@ where
         inner,
         is_saved: false,
     };
-    let status = run_file(files, alloc, script, answers, path, barriers, &mut watch);
+    let status = run_file(
+        files, alloc, script, answers, path, barriers, reclaims, &mut watch,
+    );
     let left = if watch.is_saved {
         Left::All
     } else {
@@ -320,6 +418,7 @@ fn run_script<F, H, R, O, E>(
     errors: &mut Errors<'_, E>,
     path: &str,
     barriers: Barriers,
+    reclaims: Reclaims,
 ) -> u8
 where
     F: FileExt + OpenFile + Drop,
@@ -330,9 +429,13 @@ where
 {
     let (status, left) = if errors.is_terminal {
         let ticker = Ticker::new(&mut *errors.stream);
-        run_watched(files, alloc, script, answers, path, barriers, ticker)
+        run_watched(
+            files, alloc, script, answers, path, barriers, reclaims, ticker,
+        )
     } else {
-        run_watched(files, alloc, script, answers, path, barriers, Quiet)
+        run_watched(
+            files, alloc, script, answers, path, barriers, reclaims, Quiet,
+        )
     };
     tell(answers, errors, path, status, left);
     status.code()

@@ -6,7 +6,7 @@ ghost use Rattle.std.specs.IoError.{error_kind};
 ghost use Rattle.std.specs.Process.{exit_status};
 ghost use Rattle.std.specs.declared.io.ErrorKind.TheVariants.{InvalidData};
 
-use patch_program::{Errors, LockedFiles, Notes, run, words};
+use patch_program::{Detail, Errors, LockedFiles, Notes, run, words};
 use std::alloc::Global;
 use std::fs::OpenFile;
 use std::io;
@@ -24,6 +24,7 @@ fn end_of<F, H, R, W, E>(
     words: io::Result<Vec<String>>,
     input: R,
     output: &mut W,
+    detail: Detail,
     errors: &mut Errors<'_, E>,
 ) -> ExitCode
 where
@@ -34,12 +35,17 @@ where
     E: Write,
     ensures { IfErr words (λ e. error_kind e ≡ InvalidData → exit_status result ≡ 2) }
 {
-    ExitCode::from(run(files, alloc, words, input, output, errors))
+    ExitCode::from(run(files, alloc, words, input, output, detail, errors))
 }
 
 fn main(rt: HostRuntime) -> ExitCode {
     let (mut output, mut errors) = (rt.stdout(), rt.stderr());
     let is_terminal = errors.is_terminal();
+    let detail = if output.is_terminal() {
+        Detail::Picture
+    } else {
+        Detail::Numbers
+    };
     let words = words(&rt);
     let notes = Notes::new();
     let files = LockedFiles::new(&rt, &notes);
@@ -54,6 +60,7 @@ fn main(rt: HostRuntime) -> ExitCode {
         words,
         rt.reader(),
         &mut output,
+        detail,
         &mut errors,
     )
 }

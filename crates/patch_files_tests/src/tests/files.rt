@@ -1,6 +1,6 @@
 //! Commands on a file, one behind another: how each ends, and what the file holds.
 use super::*;
-use patch_files::{Barriers, check_file, make_file, run_file, serve_file, upgrade_file};
+use patch_files::{Barriers, Reclaims, check_file, make_file, run_file, serve_file, upgrade_file};
 use std::fs;
 use std::fs::OpenFile;
 use std::os::unix::fs::FileExt;
@@ -33,7 +33,16 @@ fn run_on<F: FileExt + OpenFile + Drop, H: Files<File = F>>(
     out: &mut Sink<Vec<u8>>,
 ) -> Status {
     let mut source = Source::new(script.as_bytes());
-    run_file(rt, alloc, &mut source, out, path, barriers, &mut Quiet)
+    run_file(
+        rt,
+        alloc,
+        &mut source,
+        out,
+        path,
+        barriers,
+        Reclaims::ByHand,
+        &mut Quiet,
+    )
 }
 
 fn serve_on<

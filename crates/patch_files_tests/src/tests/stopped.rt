@@ -2,7 +2,7 @@
 use super::files::{HELD, MADE, OK, PUT, follow};
 use super::weak::{ALL, WeakReader, WeakWriter, Well};
 use super::*;
-use patch_files::{Barriers, run_file, serve_file};
+use patch_files::{Barriers, Reclaims, run_file, serve_file};
 use patch_replay::BadScript;
 use patch_script::{Defect, Name};
 use std::fs;
@@ -143,7 +143,16 @@ fn end_of<F: FileExt + OpenFile + Drop + Send, H: Files<File = F> + Threads + Wa
             assert!(rt; 0 < writers && writers <= 8);
             serve_file(rt, alloc, &mut source, out, PATH, barriers, writers)
         }
-        None => run_file(rt, alloc, &mut source, out, PATH, barriers, &mut Quiet),
+        None => run_file(
+            rt,
+            alloc,
+            &mut source,
+            out,
+            PATH,
+            barriers,
+            Reclaims::ByHand,
+            &mut Quiet,
+        ),
     }
 }
 

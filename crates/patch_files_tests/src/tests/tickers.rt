@@ -1,7 +1,7 @@
 //! How far a long script is.
 use super::weak::{ALL, WeakWriter, Well};
 use super::*;
-use patch_files::{Barriers, Progress, Ticker, make_file, run_file};
+use patch_files::{Barriers, Progress, Reclaims, Ticker, make_file, run_file};
 use std::fs;
 
 // A ticker that was told of so many lines of 2,500 has shown this.
@@ -126,6 +126,7 @@ fn run_listened(rt: &impl Abort, files: &HostRuntime, well: Well, listener: &mut
         &mut out,
         path,
         Barriers::On,
+        Reclaims::ByHand,
         listener,
     );
     fs::remove_file(files, path).expect(rt, "a file that is there");

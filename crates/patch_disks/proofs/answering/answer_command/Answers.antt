@@ -5,5 +5,5 @@ pub returns-clause-answered : goal.returns-clause-answered
 returns-clause-answered c h contents stands = record {
   reply = reply_told c.reply_to-reply.result;
   told = c.in_ok-reply_line.ensures;
-  called = c.reply_to-reply.ensures h contents stands;
+  commanded = c.reply_to-reply.ensures h contents stands;
 }

@@ -14,7 +14,7 @@ returns-clause-run g c honest contents is opened =
     let stands = subst (StandsOn _ h) is (opened_so _ _ opened) in
     let come = c.in_ok-answer_lines.ensures.come honest h stands in
     let still = c.answer_lines.ensures.device.honesty.0 honest in
-    each_run_so g.D.Device c.crashes_join.ensures.joined c.save.result c.args.lines.items _ _ contents _ _ _ opened c.args.device.now c.answer_lines.new.device c.save.new.device come
+    each_run_so g.D.Device c.crashes_join.ensures.joined c.args.reclaims c.save.result c.args.lines.items _ _ contents _ _ _ opened c.args.device.now c.answer_lines.new.device c.save.new.device come
     (c.in_ok-answer_lines.ensures.lasts honest) (c.save.ensures.lasts still) (c.save.ensures.saved still come.last come.stands)
 
 pub returns-in_err-answer_lines-clause-safe : goal.returns-in_err-answer_lines-clause-safe
@@ -34,12 +34,12 @@ returns-clause-safe g c honest contents is opened =
 pub returns-in_err-answer_lines-clause-some : goal.returns-in_err-answer_lines-clause-some
 returns-in_err-answer_lines-clause-some g c honest contents is opened fine =
     let h = at_opening contents opened.ledger in
-    written_some c.args.lines.items _ _ contents _ opened (c.answer_lines.ensures.some honest h (subst (StandsOn _ h) is (opened_so _ _ opened)) fine)
+    written_some c.args.reclaims c.args.lines.items _ _ contents _ opened (c.answer_lines.ensures.some honest h (subst (StandsOn _ h) is (opened_so _ _ opened)) fine)
 
 pub returns-clause-some : goal.returns-clause-some
 returns-clause-some g c honest contents is opened fine =
     let h = at_opening contents opened.ledger in
-    written_some c.args.lines.items _ _ contents _ opened (c.answer_lines.ensures.some honest h (subst (StandsOn _ h) is (opened_so _ _ opened)) fine)
+    written_some c.args.reclaims c.args.lines.items _ _ contents _ opened (c.answer_lines.ensures.some honest h (subst (StandsOn _ h) is (opened_so _ _ opened)) fine)
 
 pub returns-in_err-answer_lines-clause-stops : goal.returns-in_err-answer_lines-clause-stops
 returns-in_err-answer_lines-clause-stops g c honest contents is opened =

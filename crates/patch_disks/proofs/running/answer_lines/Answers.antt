@@ -13,7 +13,7 @@ loop-line-init g c = (
   tt,
   same_still g.D.Device c.args.device.now,
   λ honest h stands.
-      ([], c.into_iter-line-iterator.ensures.into_iter_gives.0, at_first g.D.Device h (g.W.Write.contents c.args.writer.now.inner) c.args.store.now c.args.device.now stands),
+      ([], c.into_iter-line-iterator.ensures.into_iter_gives.0, at_first g.D.Device c.args.reclaims h (g.W.Write.contents c.args.writer.now.inner) c.args.store.now c.args.device.now stands),
   λ honest lasting. lasting,
 )
 
@@ -33,7 +33,7 @@ loop-line-preserved g c = (
       let now = c.in_ok-text.ensures.answered (c.loop-line.invariant.2.honesty.0 honest) _ before.2.stands in (
         before.0 ++ c.in-Some.line ∷ [],
         append_assoc before.0 (c.in-Some.line ∷ []) _ ∙ ap (λ xs. before.0 ++ xs) (sym c.in-Some.ensures.steps.0) ∙ before.1,
-        one_more_line g.D.Device c.crashes_join.ensures.joined h before.0 c.in-Some.line _ _ _ _ _ _ _ _ _ _ c.as_bytes.ensures.value before.2 now
+        one_more_line g.D.Device c.crashes_join.ensures.joined c.args.reclaims h before.0 c.in-Some.line _ _ _ _ _ _ _ _ _ _ c.as_bytes.ensures.value before.2 now
             c.in_ok-write_all.ensures.bytes,
       ),
   λ honest.
@@ -50,13 +50,13 @@ returns-clause-come g c honest h stands =
     let none : c.loop-line.line-iterator.rest.items ≡ [] = nil_from_length _ (sym c.loop-line.line-iterator.rest.ok.0 ∙ c.in-None.ensures.steps.0) in
     subst
     (λ lines.
-    HasCome g.D.Device h lines (g.W.Write.contents c.args.writer.now.inner) (g.W.Write.contents c.loop-line.writer.inner) c.loop-line.store c.args.device.now c.loop-line.device)
+    HasCome g.D.Device c.args.reclaims h lines (g.W.Write.contents c.args.writer.now.inner) (g.W.Write.contents c.loop-line.writer.inner) c.loop-line.store c.args.device.now c.loop-line.device)
     (sym (append-nil before.0) ∙ ap (λ xs. before.0 ++ xs) (sym none) ∙ before.1) before.2
 
 pub returns-in_err-text-clause-some : goal.returns-in_err-text-clause-some
 returns-in_err-text-clause-some g c honest h stands fine =
     let before = c.loop-line.invariant.3 honest h stands in
-    come_some g.D.Device h c.args.lines.items before.0 _ _ _ _ _ _ before.1 before.2
+    come_some g.D.Device c.args.reclaims h c.args.lines.items before.0 _ _ _ _ _ _ before.1 before.2
 
 pub returns-in_err-write_all-clause-some : goal.returns-in_err-write_all-clause-some
 returns-in_err-write_all-clause-some g c honest h stands fine = absurd (no_fault c.write_all.new.self.failed fine c.in_err-write_all.ensures.noted)
@@ -64,7 +64,7 @@ returns-in_err-write_all-clause-some g c honest h stands fine = absurd (no_fault
 pub returns-clause-some : goal.returns-clause-some
 returns-clause-some g c honest h stands fine =
     let before = c.loop-line.invariant.3 honest h stands in
-    come_some g.D.Device h c.args.lines.items before.0 _ _ _ _ _ _ before.1 before.2
+    come_some g.D.Device c.args.reclaims h c.args.lines.items before.0 _ _ _ _ _ _ before.1 before.2
 
 pub returns-clause-lasts : goal.returns-clause-lasts
 returns-clause-lasts g c honest = c.loop-line.invariant.4 honest

@@ -14,5 +14,5 @@ invariant-loop-line g l =
     × IsSameDevice g.D.Device l.fn.device l.device
     × (g.D.Device.is_honest l.fn.device → (h : History) → StandsOn l.fn.store h (g.D.Device.contents l.fn.device)
     → (first : List CommandLine) × (first ++ l.line-iterator.rest.items ≡ l.fn.lines.items)
-    × HasCome g.D.Device h first (g.W.Write.contents l.fn.writer.inner) (g.W.Write.contents l.writer.inner) l.store l.fn.device l.device)
+    × HasCome g.D.Device l.reclaims h first (g.W.Write.contents l.fn.writer.inner) (g.W.Write.contents l.writer.inner) l.store l.fn.device l.device)
     × (g.D.Device.is_honest l.fn.device → StillLasts g.D.Device l.fn.device l.device)

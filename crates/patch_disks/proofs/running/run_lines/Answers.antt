@@ -7,7 +7,7 @@ use Rattle.patch_disks.proofs.running.run_lines.Goals as goal
 pub returns-clause-run : goal.returns-clause-run
 returns-clause-run g c honest =
     ok_so c.answer_and_save-ran.result _ _
-    (run_behind_reads g.D.Device c.crashes_join.ensures.joined c.args.lines.items _ _ _ c.args.device.now c.open_store.new.device c.answer_and_save-ran.new.device
+    (run_behind_reads g.D.Device c.crashes_join.ensures.joined c.args.reclaims c.args.lines.items _ _ _ c.args.device.now c.open_store.new.device c.answer_and_save-ran.new.device
     c.open_store.ensures.device c.open_store.ensures.no_moment (c.open_store.ensures.same honest))
     (c.answer_and_save-ran.ensures.run (c.open_store.ensures.device.honesty.0 honest) _ (sym (c.open_store.ensures.same honest)) (c.in_ok-store.ensures.opened honest))
 
@@ -23,7 +23,7 @@ returns-clause-crash g c honest lasting =
     (c.answer_and_save-ran.ensures.safe (c.open_store.ensures.device.honesty.0 honest) _ (sym (c.open_store.ensures.same honest)) opened)
 
 pub returns-in_err-store-clause-some : goal.returns-in_err-store-clause-some
-returns-in_err-store-clause-some g c honest fine = none_written c.args.lines.items _ _
+returns-in_err-store-clause-some g c honest fine = none_written c.args.reclaims c.args.lines.items _ _
 
 pub returns-clause-some : goal.returns-clause-some
 returns-clause-some g c honest =

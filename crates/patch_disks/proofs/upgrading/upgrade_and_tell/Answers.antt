@@ -1,5 +1,5 @@
 use Rattle.patch_history.specs.Command.{Upgrade}
-use Rattle.patch_disks.proofs.Coming.{sync_ends}
+use Rattle.patch_disks.proofs.Coming.{call_ends}
 use Rattle.patch_disks.proofs.Going.{ends_still}
 use Rattle.patch_disks.proofs.Upgraded.{upgraded_behind}
 use Rattle.patch_disks.proofs.upgrading.upgrade_and_tell.Goals as goal
@@ -15,14 +15,14 @@ returns-in_err-upgrade_store-clause-safe g c honest h stands = ends_still g.D.De
 pub returns-in_err-save-clause-safe : goal.returns-in_err-save-clause-safe
 returns-in_err-save-clause-safe g c honest h stands =
     let called = c.in_ok-upgrade_store.ensures h (g.D.Device.contents c.args.device.now) stands in
-    sync_ends g.D.Device c.crashes_join.ensures.joined h (0, Upgrade) _ _ c.args.device.now c.save.new.device called (c.save.ensures.safe honest _ called.stands)
+    call_ends g.D.Device c.crashes_join.ensures.joined h (0, Upgrade) _ _ c.args.device.now c.save.new.device called (c.save.ensures.safe honest _ called.stands)
 
 pub returns-in_err-write_all-clause-safe : goal.returns-in_err-write_all-clause-safe
 returns-in_err-write_all-clause-safe g c honest h stands =
     let called = c.in_ok-upgrade_store.ensures h (g.D.Device.contents c.args.device.now) stands in
-    sync_ends g.D.Device c.crashes_join.ensures.joined h (0, Upgrade) _ _ c.args.device.now c.save.new.device called (c.save.ensures.safe honest _ called.stands)
+    call_ends g.D.Device c.crashes_join.ensures.joined h (0, Upgrade) _ _ c.args.device.now c.save.new.device called (c.save.ensures.safe honest _ called.stands)
 
 pub returns-clause-safe : goal.returns-clause-safe
 returns-clause-safe g c honest h stands =
     let called = c.in_ok-upgrade_store.ensures h (g.D.Device.contents c.args.device.now) stands in
-    sync_ends g.D.Device c.crashes_join.ensures.joined h (0, Upgrade) _ _ c.args.device.now c.save.new.device called (c.save.ensures.safe honest _ called.stands)
+    call_ends g.D.Device c.crashes_join.ensures.joined h (0, Upgrade) _ _ c.args.device.now c.save.new.device called (c.save.ensures.safe honest _ called.stands)

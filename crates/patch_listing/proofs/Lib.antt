@@ -1,0 +1,4 @@
+pub mod Drawn
+pub mod KeyOrder
+pub mod Listed
+pub mod Told
