@@ -44,7 +44,6 @@ static void must(bool holds, const char *what) {
 /* fstch. */
 
 static fstch_store store = FSTCH_CLOSED;
-static uint32_t next_extent;
 
 static void done(int32_t answer) {
     char text[64];
@@ -57,8 +56,7 @@ static void store_open_with(uint32_t flags) {
     uint32_t slot;
     remove(path);
     done(fstch_make(path, 16, EXTENTS, 0));
-    done(fstch_open_with(&store, path, flags | FSTCH_MANUAL, &slot));
-    next_extent = 0;
+    done(fstch_open_with(&store, path, flags, &slot));
 }
 
 static void store_open(void) {
@@ -69,15 +67,8 @@ static void store_open_without(void) {
     store_open_with(FSTCH_NO_BARRIERS);
 }
 
-/* Where there is no room, the next extent that can be emptied is. */
 static void store_put(const char *key, const uint8_t *value, size_t length) {
-    int32_t answer = fstch_put(&store, FSTCH_NO_WRITER, key, KEY_LENGTH, value, length);
-    for (int tries = 0; answer == FSTCH_NO_SPACE && tries < EXTENTS; tries++) {
-        fstch_reclaim(&store, next_extent);
-        next_extent = (next_extent + 1) % EXTENTS;
-        answer = fstch_put(&store, FSTCH_NO_WRITER, key, KEY_LENGTH, value, length);
-    }
-    done(answer);
+    done(fstch_put(&store, FSTCH_NO_WRITER, key, KEY_LENGTH, value, length));
 }
 
 static void store_sync(void) {
