@@ -232,9 +232,10 @@ class Store(Opened, MutableMapping[bytes, bytes]):
     def __setitem__(self, key: bytes, value: bytes) -> None:
         """Puts a value under a key, in place of the one that it had.
 
-        Where no extent has room for it, the one with the fewest live bytes is won back first, and where none was empty a second one; not so
-        in a store that was opened with `manual`. So one put in many takes as long as a reclaim. Where an extent was empty one is so behind
-        the put, unless there was no memory, and then `NoSpace` comes of a full store alone: where `statistics` tells more live bytes than
+        Where of 16 extents or more one at most is empty, values of the one with the fewest live bytes move elsewhere behind the put, eight
+        at most, so that it is empty before it is needed. Where no extent has room for the put, that one is won back whole first, and where none was
+        empty a second one; a put takes as long as a reclaim then. Neither is so in a store that was opened with `manual`. Where an extent
+        was empty one is so behind the put, unless there was no memory, and then `NoSpace` comes of a full store alone: where `statistics` tells more live bytes than
         (extents - 2) * (bytes of an extent - bytes of the value, its key and 16 more), or an extent can't be won back any more. With
         `NoSpace`, `NumbersSpent`, `TooManyLive` and `OutOfMemory` extents may have been won back; each key has the value that it had.
 
