@@ -242,7 +242,7 @@ int32_t fstch_sync(fstch_store *store);
 /* Puts a value under a key, in place of the one that it had. `writer` is 0 to 6, or FSTCH_NO_WRITER.
  *
  * Where of 16 extents or more one at most is empty, values of the one with the fewest live bytes move elsewhere behind the put, eight at
- * most, so that it is empty before it is needed. Where no extent has room for the put, that one is won back whole first, and where none
+ * most, ahead of the need for its room. Where no extent has room for the put, that one is won back whole first, and where none
  * was empty a second one; a put takes as long as a reclaim then. Neither is so in a store that was opened with FSTCH_MANUAL. Where an
  * extent was empty one is so behind the put, unless there was no memory, and then FSTCH_NO_SPACE comes of a full store alone: where
  * fstch_stats tells more live bytes than (extents - 2) * (bytes of an extent - bytes of the value, its key and 16 more), or an extent

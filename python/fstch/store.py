@@ -233,7 +233,7 @@ class Store(Opened, MutableMapping[bytes, bytes]):
         """Puts a value under a key, in place of the one that it had.
 
         Where of 16 extents or more one at most is empty, values of the one with the fewest live bytes move elsewhere behind the put, eight
-        at most, so that it is empty before it is needed. Where no extent has room for the put, that one is won back whole first, and where none was
+        at most, ahead of the need for its room. Where no extent has room for the put, that one is won back whole first, and where none was
         empty a second one; a put takes as long as a reclaim then. Neither is so in a store that was opened with `manual`. Where an extent
         was empty one is so behind the put, unless there was no memory, and then `NoSpace` comes of a full store alone: where `statistics` tells more live bytes than
         (extents - 2) * (bytes of an extent - bytes of the value, its key and 16 more), or an extent can't be won back any more. With

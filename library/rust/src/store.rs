@@ -171,7 +171,7 @@ impl Store {
     /// Puts a value under a key, in place of the one that it had. The writer is 0 to 6, or [`NO_WRITER`].
     ///
     /// Where of 16 extents or more one at most is empty, values of the one with the fewest live bytes move elsewhere
-    /// behind the put, eight at most, so that it is empty before it is needed. Where no extent has room for the put, that one is won
+    /// behind the put, eight at most, ahead of the need for its room. Where no extent has room for the put, that one is won
     /// back whole first, and where none was empty a second one; a put takes as long as a reclaim then. Neither is so
     /// in a store that was opened with [`Options::manual`]. Where an extent was empty one is so behind the put, unless
     /// there was no memory, and then
