@@ -139,7 +139,7 @@ second_of test a n x (y ∷ ys) is h =
     let above = low_range (a + 1) n y (filter-In test (range_with_len (a + 1) n) y there).0 in
     (y, inr (inl refl), omega (arith, first, above))
 
-second_there : (test : ℕ → Bool) (a n x : ℕ) → first_of_two (filter test (range_with_len a n)) ≡ Some x
+pub second_there : (test : ℕ → Bool) (a n x : ℕ) → first_of_two (filter test (range_with_len a n)) ≡ Some x
     → (y : ℕ) × In (filter test (range_with_len a n)) y × (y ≢ x)
 second_there test a zero x h = absurd (let no : None ≡ Some x = h in cc)
 second_there test a (suc n) x h = elim (cases_Bool (test a)) [

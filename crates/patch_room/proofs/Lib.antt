@@ -11,5 +11,6 @@ pub mod Reaching
 pub mod Cheapest
 pub mod Calling
 pub mod Staying
+pub mod Taking
 pub mod Cutting
 pub mod Steps

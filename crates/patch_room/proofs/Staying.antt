@@ -71,7 +71,7 @@ parts_spare c extent offset bytes names [] = tt
 parts_spare c extent offset bytes names (x ∷ xs) = (tt, parts_spare c extent offset bytes names xs)
 
 -- so does a frame that is appended there
-frame_spares : (s : Shelf) (n extent slot : ℕ) (content : Content) → AllSpare extent (frame_plan s n extent slot content)
+pub frame_spares : (s : Shelf) (n extent slot : ℕ) (content : Content) → AllSpare extent (frame_plan s n extent slot content)
 frame_spares s n extent slot content =
     let start = offset_at s.extents extent in
     let bytes = spelling content in
@@ -125,7 +125,7 @@ moves_spare entries c (f ∷ fs) s n plan holds sized h =
 
 -- Of some frames the first ones.
 
-bytes_take : (k : ℕ) (fs : List (ℕ × SlotFields)) → bytes_of (take k fs) ≤ bytes_of fs
+pub bytes_take : (k : ℕ) (fs : List (ℕ × SlotFields)) → bytes_of (take k fs) ≤ bytes_of fs
 bytes_take zero fs = omega arith
 bytes_take (suc k) [] = omega arith
 bytes_take (suc k) (f ∷ fs) = let rest = bytes_take k fs in omega (arith, rest)

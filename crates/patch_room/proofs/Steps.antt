@@ -1,5 +1,5 @@
 -- A step ahead of need, and a put with one behind it.
-use Rattle.std.proofs.Common.{◌≡◌, ◌≢◌, ℕ, ◌+◌, ◌≤◌, ◌∙◌, inl, inr, List, [], ◌∷◌, ◌++◌, length, take, drop, Some, None, refl}
+use Rattle.std.proofs.Common.{◌≡◌, ◌≢◌, ℕ, ◌+◌, ◌≤◌, ◌⊎◌, ◌∙◌, inl, inr, List, [], ◌∷◌, ◌++◌, length, take, drop, Some, None, refl}
 use Rattle.std.proofs.Common.{sym, ap, arith, subst, append_assoc}
 use Rattle.std.specs.Prelude.{Option, Result, Ok, Err, OnOk, flat_map}
 use Rattle.std.proofs.lemmas.Bool.{cases_Bool}
@@ -8,13 +8,14 @@ use Rattle.std.proofs.lemmas.List.{append-nil, take-append-drop}
 use Rattle.patch_frame.specs.Frame.{Content}
 use Rattle.patch_frame.specs.Slot.{SlotFields}
 use Rattle.patch_history.specs.declared.refusals.ReclaimRefusal.{ReclaimRefusal}
-use Rattle.patch_history.specs.Choosing.{in_order, live_from, live_frames}
+use Rattle.patch_history.specs.Choosing.{in_order, live_from, live_frames, empty_extents}
 use Rattle.patch_history.specs.Command.{Reply, Reclaim, Done, Refused, is_refused}
-use Rattle.patch_history.specs.History.{History, Event, Call, standing_of, steps_in, with_event}
+use Rattle.patch_history.specs.History.{History, Event, Call, IsLegalHistory, standing_of, steps_in, with_event}
 use Rattle.patch_history.specs.Map.{Map, after_reply}
 use Rattle.patch_history.specs.Planning.{moves}
 use Rattle.patch_history.specs.Refusing.{is_current}
-use Rattle.patch_history.specs.Shelf.{after_plan}
+use Rattle.patch_recovery.specs.Change.{Made}
+use Rattle.patch_history.specs.Shelf.{Shelf, after_plan}
 use Rattle.patch_history.specs.StoreState.{Standing, made_by}
 use Rattle.patch_model.specs.declared.refusals.Refusal.{Refusal}
 use Rattle.patch_store.specs.declared.stepping.Reclaimed.{Reclaimed}
@@ -24,37 +25,74 @@ use Rattle.patch_store.specs.Moving.{HasMovedWithin}
 use Rattle.patch_store.specs.Running.{with_calls}
 use Rattle.patch_store.specs.Stepping.{reply_of_some}
 use Rattle.patch_store.proofs.Leaving.{IsApart, moves_leave}
-use Rattle.patch_room.specs.Ahead.{room_left, IsTimely, NoneTimely, FewLeave, StepsAhead, IsNotTimely, HasGoneAhead, MovesAhead}
+use Rattle.patch_room.specs.Ahead.{room_left, least_spare, IsShare, IsTimely, NoneTimely, FewLeave, StepsAhead, IsNotTimely, HasGoneAhead, MovesAhead}
 use Rattle.patch_room.specs.Laws.{shelf_in}
 use Rattle.patch_room.specs.LawsBelow.{Given}
 use Rattle.patch_room.specs.Putting.{HasPutAtNeed, HasPut, calls_at_need}
-use Rattle.patch_room.specs.Room.{live_in, HasEmpty, MayBeWon}
+use Rattle.patch_room.specs.Room.{extent_bytes, live_in, HasEmpty, IsCheapest, MayBeWon}
 use Rattle.patch_room.proofs.Appending.{plan_append}
 use Rattle.patch_room.proofs.Calling.{empty_behind_reclaim}
 use Rattle.patch_room.proofs.Cutting.{cut_moves, first_of_first, plan_leaves}
 use Rattle.patch_room.proofs.Doing.{standing_event}
 use Rattle.patch_room.proofs.Staying.{none_moved, no_live, stays_empty}
+use Rattle.patch_room.proofs.Taking.{one_is_left}
 use Rattle.patch_room.proofs.Winning.{is_current_is}
 
 -- An extent stays empty.
 
-within_empty : (given : Given) (h : History) (e most : ℕ) (old new : Store) → IsStoreOf old h → live_in old.shelf e ≤ room_left old.shelf
+-- The current extent has room for what is live in this one; or another one has, and two are empty.
+abbrev pub LeavesEmpty : Shelf → (e : ℕ) → Type 0
+LeavesEmpty s e = (live_in s e ≤ room_left s) ⊎ ((2 ≤ length (empty_extents s)) × (live_in s e ≤ extent_bytes s))
+
+pub timely_leaves : (s : Shelf) (e count : ℕ) → IsTimely s e count → LeavesEmpty s e
+timely_leaves s e count timely = elim (timely.share) [
+  | inl paced ↦ inl paced.fits
+  | inr (inl urgent) ↦ inl urgent.fits
+  | inr (inr restored) ↦ (let worth = timely.worth in inr (restored.two, omega (arith, worth)))
+]
+
+-- what is live in one of two that are the cheapest is live in the other
+same_live : (s : Shelf) (e other : ℕ) → IsCheapest s e → IsCheapest s other → live_in s other ≡ live_in s e
+same_live s e other a b = elim (a.least other b.may) [
+  | inl less ↦ elim (b.least e a.may) [
+    | inl more ↦ absurd (omega (arith, less, more))
+    | inr same ↦ same.0
+  ]
+  | inr same ↦ sym same.0
+]
+
+pub share_of_cheapest : (s : Shelf) (least left empty live e other count : ℕ) → least ≡ least_spare s → left ≡ room_left s
+    → empty ≡ length (empty_extents s) → IsCheapest s e → live ≡ live_in s e → IsTimely s other count → IsShare least left empty live count
+share_of_cheapest s least left empty live e other count least_is left_is empty_is cheapest live_is timely =
+    let same : live_in s other ≡ live = same_live s e other cheapest timely.cheapest ∙ sym live_is in
+    subst (λ live. IsShare least left empty live count) same
+    (subst (λ empty. IsShare least left empty (live_in s other) count) (sym empty_is)
+    (subst (λ left. IsShare least left (length (empty_extents s)) (live_in s other) count) (sym left_is)
+    (subst (λ least. IsShare least (room_left s) (length (empty_extents s)) (live_in s other) count) (sym least_is) timely.share)))
+
+first_leave : (given : Given) (h : History) (e k j n : ℕ) (moved : List Made) → IsLegalHistory h
+    → moves (standing_of h).map.entries (shelf_in h) n (take k (live_frames (shelf_in h) e)) ≡ Some moved
+    → LeavesEmpty (shelf_in h) e → HasEmpty (shelf_in h) → HasEmpty (after_plan (shelf_in h) n (take j moved))
+first_leave given h e k j n moved legal is (inl fits) has = stays_empty given h legal e fits k j n moved is has
+first_leave given h e k j n moved legal is (inr two) has = one_is_left given h legal e k j n moved is two.0 two.1
+
+within_empty : (given : Given) (h : History) (e most : ℕ) (old new : Store) → IsStoreOf old h → LeavesEmpty old.shelf e
     → HasEmpty old.shelf → HasMovedWithin h e most new → HasEmpty new.shelf
-within_empty given h e most old new was fits has within =
+within_empty given h e most old new was leaves has within =
     subst HasEmpty (sym within.shelf_is)
-    (stays_empty given h was.legal e (subst (λ s. live_in s e ≤ room_left s) was.shelf_is fits) within.frames within.count
-    (made_by (standing_of h)) within.moved within.moved_is (subst HasEmpty was.shelf_is has))
+    (first_leave given h e within.frames within.count (made_by (standing_of h)) within.moved was.legal within.moved_is
+    (subst (λ s. LeavesEmpty s e) was.shelf_is leaves) (subst HasEmpty was.shelf_is has))
 
 pub keeps_empty : (given : Given) (h : History) (e most : ℕ) (result : Result Reclaimed ReclaimRefusal) (old new : Store) → IsStoreOf old h
-    → live_in old.shelf e ≤ room_left old.shelf → HasEmpty old.shelf
+    → LeavesEmpty old.shelf e → HasEmpty old.shelf
     → ((writer : ℕ) → Answers writer (Reclaim e) (reply_of_some result) old new)
     → (result ≢ Ok reclaimed.Emptied → HasMovedWithin h e most new) → HasEmpty new.shelf
-keeps_empty given h e most (Ok reclaimed.Emptied) old new was fits has answers within =
+keeps_empty given h e most (Ok reclaimed.Emptied) old new was leaves has answers within =
     let answered = answers 0 h was in empty_behind_reclaim given h 0 e answered.steps old new was answered.gained
-keeps_empty given h e most (Ok reclaimed.Begun) old new was fits has answers within =
-    within_empty given h e most old new was fits has (within (λ same. let no : Ok reclaimed.Begun ≡ Ok reclaimed.Emptied = same in cc))
-keeps_empty given h e most (Err refusal) old new was fits has answers within =
-    within_empty given h e most old new was fits has (within (λ same. let no : Err refusal ≡ Ok reclaimed.Emptied = same in cc))
+keeps_empty given h e most (Ok reclaimed.Begun) old new was leaves has answers within =
+    within_empty given h e most old new was leaves has (within (λ same. let no : Ok reclaimed.Begun ≡ Ok reclaimed.Emptied = same in cc))
+keeps_empty given h e most (Err refusal) old new was leaves has answers within =
+    within_empty given h e most old new was leaves has (within (λ same. let no : Err refusal ≡ Ok reclaimed.Emptied = same in cc))
 
 -- So many frames leave, at most.
 

@@ -1,5 +1,6 @@
 -- How frames move ahead of need: a few behind a put, out of the extent that is won back next.
-use Rattle.std.specs.Prelude.{ℕ, Some, None, ◌≡◌, ◌-◌, ◌*◌, ◌<◌, ◌≤◌, ◌⊎◌, List, [], ◌∷◌, length, drop, MatchBool, Option, Result, Ok, Err, OnOk}
+use Rattle.std.specs.Prelude.{ℕ, Some, None, ◌≡◌, ◌+◌, ◌-◌, ◌*◌, ◌/◌, ◌<◌, ◌≤◌, ◌⊎◌, List, [], ◌∷◌, length, drop, MatchBool, Option, Result, Ok, Err, OnOk}
+use Rattle.std.specs.Prelude.{nat_le, if◌then◌else◌}
 use Rattle.patch_model.specs.Step.{Step}
 use Rattle.patch_plans.specs.Extents.{offset_at}
 use Rattle.patch_history.specs.declared.refusals.ReclaimRefusal.{ReclaimRefusal}
@@ -10,7 +11,7 @@ use Rattle.patch_history.specs.Shelf.{Shelf}
 use Rattle.patch_store.specs.declared.stepping.Reclaimed.{Reclaimed}
 use Rattle.patch_store.specs.Meaning.{Store, IsStoreOf, Answers}
 use Rattle.patch_store.specs.Stepping.{reply_of_some}
-use Rattle.patch_room.specs.declared.ahead.TheConstants.{MOST_AHEAD, FEWEST_EXTENTS}
+use Rattle.patch_room.specs.declared.ahead.TheConstants.{MOST_AHEAD, FEWEST_EXTENTS, MANY_EXTENTS, SPARE_PART, EVERY_FRAME}
 use Rattle.patch_room.specs.Laws.{shelf_in}
 use Rattle.patch_room.specs.Room.{extent_count, extent_bytes, live_in, IsCheapest}
 
@@ -25,14 +26,45 @@ pub record IsPace (live spare count : ℕ) : Type 0 where
   pub enough : (live ≤ count * spare) ⊎ (count ≡ MOST_AHEAD)
   pub fewest : (fewer : ℕ) → fewer < count → fewer * spare < live
 
--- The disk isn't a small one. One extent at most is empty, this is the one to win back next, the current one has room for all that is
--- live in it, and so many frames move.
+-- how many extents stay empty, for what a crash leaves: two where there are many, or one
+abbrev pub kept_empty : Shelf → ℕ
+kept_empty s = if nat_le MANY_EXTENTS (extent_count s) then 2 else 1
+
+-- so many bytes of an extent are to be won at least, and so few are left of one that is soon full, where there are many: a part of it
+abbrev pub least_spare : Shelf → ℕ
+least_spare s = if nat_le MANY_EXTENTS (extent_count s) then extent_bytes s / SPARE_PART else 0
+
+-- How many frames move of an extent with so many live bytes, where the current one has so many left.
+
+-- it has room for them, and more to spare than is filled soon
+pub record IsPaced (least left live count : ℕ) : Type 0 where
+  pub fits : live ≤ left
+  pub later : least ≤ left - live
+  pub pace : IsPace live (left - live) count
+
+-- it has room for them, but is soon full: all move
+pub record IsUrgent (least left live count : ℕ) : Type 0 where
+  pub fits : live ≤ left
+  pub soon : left - live < least
+  pub all : count ≡ EVERY_FRAME
+
+-- it has no room for them, but two extents or more are empty: all move, and one of those is taken
+pub record IsRestored (left empty live count : ℕ) : Type 0 where
+  pub full : left < live
+  pub two : 2 ≤ empty
+  pub all : count ≡ EVERY_FRAME
+
+abbrev pub IsShare : (least left empty live count : ℕ) → Type 0
+IsShare least left empty live count = IsPaced least left live count ⊎ IsUrgent least left live count ⊎ IsRestored left empty live count
+
+-- The disk isn't a small one, no more extents are empty than are kept, and this is the one to win back next, which is worth it, and of
+-- which so many frames move.
 pub record IsTimely (s : Shelf) (extent count : ℕ) : Type 0 where
   pub large : FEWEST_EXTENTS ≤ extent_count s
-  pub few : length (empty_extents s) ≤ 1
+  pub few : length (empty_extents s) ≤ kept_empty s
   pub cheapest : IsCheapest s extent
-  pub fits : live_in s extent ≤ room_left s
-  pub pace : IsPace (live_in s extent) (room_left s - live_in s extent) count
+  pub worth : live_in s extent + least_spare s ≤ extent_bytes s
+  pub share : IsShare (least_spare s) (room_left s) (length (empty_extents s)) (live_in s extent) count
 
 -- it is not time
 abbrev pub NoneTimely : Shelf → Type 0

@@ -1,4 +1,5 @@
-//! Frames that move ahead of need, on disks of 16 extents of 16 blocks, each of which has room for 13 frames of these puts.
+//! Frames that move ahead of need: on disks of 16 extents of 16 blocks, each of which has room for 13 frames of these puts, and on one of 48
+//! with room for five longer ones in each.
 use super::*;
 use patch_store::ExtentReport;
 
@@ -145,6 +146,56 @@ fn expect_ahead(rt: &impl Abort, store: &mut Store) -> Result<(), OutOfMemory> {
 fn a_few_frames_move_with_each_put(rt: HostRuntime) -> Result<(), Fail> {
     let mut store = opened(&rt, rt.alloc(), OF_SIXTEEN, &[])?;
     expect_ahead(&rt, &mut store)?;
+    drop(store);
+    Ok(())
+}
+
+const OF_MANY: Geometry = Geometry {
+    index: 3,
+    extents: 48,
+    format: Format::One,
+};
+
+// The bytes of a long value, and how many keys have one: of ten frames that the disk has room for eight are live.
+const LONG: usize = 12_000;
+
+const LONG_KEYS: u8 = 190;
+
+// How many extents are empty behind a put of a long value: none where it was refused.
+fn empty_behind(store: &mut Store, key: u8, value: u8) -> usize {
+    match put(store, WRITER, &[key], &[value; LONG]) {
+        Ok(()) => store.empty_extents(),
+        Err(_) => 0,
+    }
+}
+
+// Each key is put once.
+fn fill_many(store: &mut Store) -> bool {
+    for key in 0..LONG_KEYS {
+        if empty_behind(store, key, 0) == 0 {
+            return false;
+        }
+    }
+    true
+}
+
+// So many keys, each as likely as any other, are put anew. How many extents are empty behind each put, at least.
+fn fewest_empty(store: &mut Store, count: u8) -> usize {
+    let mut fewest = usize::MAX;
+    let mut state = 1u32;
+    for value in 0..count {
+        state = state.wrapping_mul(1_103_515_245).wrapping_add(12_345);
+        let key = ((state >> 16) % u32::from(LONG_KEYS)) as u8;
+        fewest = fewest.min(empty_behind(store, key, value));
+    }
+    fewest
+}
+
+#[test]
+fn two_extents_stay_empty_on_a_large_disk(rt: HostRuntime) -> Result<(), Fail> {
+    let mut store = opened(&rt, rt.alloc(), OF_MANY, &[])?;
+    assert!(rt; fill_many(&mut store));
+    assert!(rt; fewest_empty(&mut store, 250) >= 2);
     drop(store);
     Ok(())
 }

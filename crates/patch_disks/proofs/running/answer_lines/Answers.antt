@@ -1,7 +1,9 @@
 use Rattle.std.proofs.Common.{inl, inr, ◌++◌, ◌∷◌, ◌∙◌, ◌≡◌, [], ap, sym, subst, append_assoc}
 use Rattle.std.proofs.lemmas.List.{append-nil, nil_from_length}
+use Rattle.patch_device.specs.Device.{HasRisen}
 use Rattle.patch_device.specs.SameDevice.{same_still, same_both}
 use Rattle.patch_disks.specs.Running.{HasCome}
+use Rattle.patch_disks.specs.Stopping.{IsBroken}
 use Rattle.patch_disks.proofs.Coming.{at_first, one_more_line}
 use Rattle.patch_disks.proofs.Going.{ends_at, ends_behind, lasts_both}
 use Rattle.patch_disks.proofs.Stopping.{come_some, err_so, broken_write, risen_behind, no_fault}
@@ -90,8 +92,13 @@ pub returns-in_err-text-clause-stops : goal.returns-in_err-text-clause-stops
 returns-in_err-text-clause-stops g c honest h stands =
     let before = c.loop-line.invariant.3 honest h stands in
     let still = c.loop-line.invariant.2.honesty.0 honest in
-    err_so c.from_residual.result c.in_err-text.field-0.0 _ _ c.from_residual.ensures.1
-    (λ risen. inr (inl (risen_behind g.D.Device _ _ _ (g.met.D.Device.faults_fit c.answer.new.device) c.loop-line.invariant.2 risen)))
+    let faults = g.D.Device.fault_count in
+    let old = c.args.device.now in
+    let mid = c.loop-line.device in
+    let new = c.answer.new.device in
+    err_so c.from_residual.result c.in_err-text.field-0.0 (HasRisen (faults mid) (faults new))
+    (IsBroken c.loop-line.writer.failed (faults old) (faults new) (g.D.Device.contents old)) c.from_residual.ensures.1
+    (λ risen. inr (inl (risen_behind g.D.Device old mid new (g.met.D.Device.faults_fit new) c.loop-line.invariant.2 risen)))
     (c.in_err-text.ensures.stops still before.2.last before.2.stands)
 
 pub returns-in_err-write_all-clause-stops : goal.returns-in_err-write_all-clause-stops
