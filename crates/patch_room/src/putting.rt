@@ -22,9 +22,9 @@ use std::alloc::Allocator;
 /// Puts a value under a key as [`Store::put`] does. Where no extent has room for it one is won back first: of those that may be,
 /// the one with the fewest live bytes. Where none was empty before, a second one is won back.
 ///
-/// Behind a put that was done a few frames, 8 at most, move out of the extent that is won back next, where of 16 extents or more one at
-/// most is empty and the current one has room for all that is live there: so many that it is empty before the current one is full,
-/// if frames are of about equal lengths. Whether they could move isn't told; the put was done.
+/// Behind a put that was done frames move out of the extent that is won back next, where of 16 extents or more one at most is empty, or
+/// of 48 or more two: so many that it is empty before the current one is full, if frames are of about equal lengths, and 8 at most; of 48
+/// extents or more all of them at times, as `ahead` says. Whether they could move isn't told; the put was done.
 ///
 /// Where a reclaim at need is refused for want of numbers, of live patches or of memory, so is the put.
 pub fn put<A: Allocator + Copy>(
