@@ -241,14 +241,15 @@ int32_t fstch_sync(fstch_store *store);
 
 /* Puts a value under a key, in place of the one that it had. `writer` is 0 to 6, or FSTCH_NO_WRITER.
  *
- * Where of 16 extents or more one at most is empty, or of 48 or more two, values of the one with the fewest live bytes move elsewhere
- * behind the put, ahead of the need for its room: eight at most; of 48 extents or more all, where the extent that is written to is soon
- * full, or has no room for them and two are empty. Where no extent has room for the put, that one is won back whole first, and where none
+ * Where of 16 extents or more one at most is empty, or of 48 or more two, values of the one with the fewest live bytes may move elsewhere
+ * behind the put, ahead of the need for its room: eight at most, while the extent that is written to has room for all of them. Of 48
+ * extents or more they move where an eighth of that one is dead, and all at once, where the extent that is written to is soon full, or has
+ * no room for them and two are empty. Where no extent has room for the put, that one is won back whole first, and where none
  * was empty a second one. So a put may take as long as a reclaim. Neither is so in a store that was opened with FSTCH_MANUAL. Where an
  * extent was empty one is so behind the put, unless there was no memory, and then FSTCH_NO_SPACE comes of a full store alone: where
  * fstch_stats tells more live bytes than (extents - 2) * (bytes of an extent - bytes of the value, its key and 16 more), or an extent
- * can't be won back any more. Behind a sync that was cut short none may be empty, most of all of fewer than 48 extents: then it may come
- * of a store that isn't full, until nothing is live any more in some extent. With FSTCH_NO_SPACE, FSTCH_NUMBERS_SPENT, FSTCH_TOO_MANY_LIVE and FSTCH_OUT_OF_MEMORY extents
+ * can't be won back any more. Behind a sync that was cut short none may be empty: then it may come of a store that isn't full, until
+ * nothing is live any more in some extent. With FSTCH_NO_SPACE, FSTCH_NUMBERS_SPENT, FSTCH_TOO_MANY_LIVE and FSTCH_OUT_OF_MEMORY extents
  * may have been won back; each key has the value that it had.
  *
  * FSTCH_BAD_WRITER, FSTCH_KEY_LENGTH, FSTCH_VALUE_LENGTH, FSTCH_INDEX_FULL, FSTCH_NO_SPACE, FSTCH_NUMBERS_SPENT, FSTCH_TOO_MANY_LIVE,

@@ -232,13 +232,15 @@ class Store(Opened, MutableMapping[bytes, bytes]):
     def __setitem__(self, key: bytes, value: bytes) -> None:
         """Puts a value under a key, in place of the one that it had.
 
-        Where of 16 extents or more one at most is empty, or of 48 or more two, values of the one with the fewest live bytes move elsewhere
-        behind the put, ahead of the need for its room: eight at most; of 48 extents or more all, where the extent that is written to is
+        Where of 16 extents or more one at most is empty, or of 48 or more two, values of the one with the fewest live bytes may move
+        elsewhere behind the put, ahead of the need for its room: eight at most, while the extent that is written to has room for all of
+        them. Of 48 extents or more they move where an eighth of that one is dead, and all at once, where the extent that is written to is
         soon full, or has no room for them and two are empty. Where no extent has room for the put, that one is won back whole first, and
         where none was empty a second one. So a put may take as long as a reclaim. Neither is so in a store that was opened with `manual`.
         Where an extent was empty one is so behind the put, unless there was no memory, and then `NoSpace` comes of a full store alone:
-        where `statistics` tells more live bytes than (extents - 2) * (bytes of an extent - bytes of the value, its key and 16 more), or an extent can't be won back any more. With
-        `NoSpace`, `NumbersSpent`, `TooManyLive` and `OutOfMemory` extents may have been won back; each key has the value that it had.
+        where `statistics` tells more live bytes than (extents - 2) * (bytes of an extent - bytes of the value, its key and 16 more), or
+        an extent can't be won back any more. With `NoSpace`, `NumbersSpent`, `TooManyLive` and `OutOfMemory` extents may have been won
+        back; each key has the value that it had.
 
         Raises `KeyLength`, `ValueLength`, `IndexFull`, `NoSpace`, `NumbersSpent`, `TooManyLive` and `OutOfMemory`.
         """
